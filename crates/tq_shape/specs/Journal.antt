@@ -1,0 +1,42 @@
+-- Journals of a part, generic in the part's step: what it replies to an ask under a number, and what it is afterwards.
+use Rattle.std.specs.Prelude.{◌≡◌, ◌==◌, ℕ, ◌+◌, suc, cond, List, [], ◌∷◌, length, Option, Some, None, ◌⊎◌}
+use Rattle.tq_shape.specs.declared.entry.Entry.{Entry}
+
+abbrev pub entry : {A R : Type 0} → A → R → Entry A R
+entry ask reply = record { ask = ask; reply = reply }
+
+-- ---- a journal as it is kept, the oldest entry first
+
+-- the part after these entries, of which the first has the number n
+abbrev pub state_from : {S A R : Type 0} → (S → ℕ → A → S) → S → ℕ → List (Entry A R) → S
+state_from after s n [] = s
+state_from after s n (e ∷ es) = state_from after (after s n e.ask) (n + 1) es
+
+module _ {S A R : Type 0} (reply : S → ℕ → A → R) (after : S → ℕ → A → S) where
+  -- each reply is the one that the part gives there
+  abbrev pub IsLegalFrom : S → ℕ → List (Entry A R) → Type 0
+  IsLegalFrom s n [] = Unit {0}
+  IsLegalFrom s n (e ∷ es) = (e.reply ≡ reply s n e.ask) × IsLegalFrom (after s n e.ask) (n + 1) es
+
+-- ---- the same, the newest entry first, as laws about 'the entries before' read it
+
+-- the part after these entries
+abbrev pub state_after : {S A R : Type 0} → (S → ℕ → A → S) → S → List (Entry A R) → S
+state_after after s [] = s
+state_after after s (e ∷ earlier) = after (state_after after s earlier) (suc (length earlier)) e.ask
+
+-- each reply is the one that the part gives after the entries before it
+abbrev pub IsLegal : {S A R : Type 0} → (S → ℕ → A → R) → (S → ℕ → A → S) → S → List (Entry A R) → Type 0
+IsLegal reply after s [] = Unit {0}
+IsLegal reply after s (e ∷ earlier) =
+    (e.reply ≡ reply (state_after after s earlier) (suc (length earlier)) e.ask) × IsLegal reply after s earlier
+
+-- the entry of a number: its place from the oldest, from 1
+abbrev pub entry_at : {E : Type 0} → List E → ℕ → Option E
+entry_at [] number = None
+entry_at (e ∷ earlier) number = cond (number == suc (length earlier)) (Some e) (entry_at earlier number)
+
+-- the list has the value
+abbrev pub Has : {A : Type 0} → List A → A → Type 0
+Has [] x = ⊥
+Has (y ∷ ys) x = (y ≡ x) ⊎ Has ys x

@@ -1,0 +1,4 @@
+pub mod Tree
+pub mod Depth
+pub mod Limits
+pub mod Journal

@@ -1,0 +1,6 @@
+/// An ask of a part with the part's reply.
+#[derive(Clone, Debug, Drop)]
+pub struct Entry<A, R> {
+    pub ask: A,
+    pub reply: R,
+}

@@ -1,0 +1,23 @@
+//! The words that every other crate speaks in: the shape of a complete binary tree of servers, the parts of a system and
+//! their journals' entries, the limits, and a list that contracts see as a list.
+#![tactic(auto)]
+
+mod entry;
+mod level;
+mod limits;
+mod list;
+mod part;
+mod server;
+
+pub use entry::Entry;
+pub use level::{Levels, MOST_LEVELS};
+pub use limits::{Limits, MOST_ENTRIES, MOST_FILES, MOST_OPS};
+pub use list::{ExactClone, Seq};
+pub use part::Part;
+pub use server::{ServerId, Sides};
+
+/// What a call answers where memory is refused.
+pub type Memory = std::alloc::AllocError;
+
+#[cfg(test)]
+mod tests;

@@ -1,0 +1,159 @@
+ghost use Rattle.std.specs.Prelude.{◌≡◌, ℕ, ◌+◌, ◌-◌, ◌*◌, ◌/◌, ◌^◌, ◌<◌, ◌≤◌, ◌↔◌, suc, IfSome, IfNone, IsTrue};
+ghost use Rattle.std.specs.Option.{SomeIff};
+ghost use Rattle.tq_shape.specs.Tree.{IsAtOrAbove, IsServer, IsSideTowards, left_of, right_of};
+ghost use Rattle.tq_shape.specs.Depth.{depth_of, height_of};
+
+use crate::level::Levels;
+use std::marker::Model;
+
+/// A server of a tree.
+#[derive(Clone, Copy, Debug, PartialEq, Eq)]
+pub struct ServerId {
+    levels: Levels,
+    number: u64,
+}
+
+/// The two sides of a server that is no leaf.
+#[derive(Clone, Copy, Debug, PartialEq, Eq)]
+pub struct Sides {
+    pub left: ServerId,
+    pub right: ServerId,
+}
+
+impl Model for ServerId {
+    ghost use Rattle.tq_shape.specs.Tree.{Server, IsServer};
+
+    ghost Value = { Server };
+
+    ghost view = { λ id. record { number = id.number; levels = id.levels } };
+
+    ghost invariant = { λ id. IsServer id.levels id.number };
+
+    ghost inverse = { λ server. record { levels = server.levels; number = server.number } };
+}
+
+impl Levels {
+    /// The server of that number, if the tree has it.
+    pub fn server(self, number: u64) -> Option<ServerId>
+        ensures { SomeIff result (IsServer self number) (record { number = number; levels = self }) }
+    {
+        if 1 <= number && number <= self.servers() {
+            Some(ServerId {
+                levels: self,
+                number,
+            })
+        } else {
+            None
+        }
+    }
+
+    /// Server 1, over which no other stands.
+    pub fn root(self) -> ServerId
+        ensures value { result ≡ record { number = 1; levels = self } }
+        ensures levels { 1 ≤ self }
+    {
+        let _ = &self.count;
+        ServerId::new(self, 1)
+    }
+}
+
+impl ServerId {
+    /// The server of a number that the tree has.
+    pub fn new(levels: Levels, number: u64) -> ServerId
+        requires { IsServer levels number }
+        ensures { result ≡ record { number = number; levels = levels } }
+    {
+        ServerId { levels, number }
+    }
+
+    pub fn number(self) -> u64
+        ensures value { result ≡ self.number }
+        ensures within { IsServer self.levels result }
+    {
+        self.number
+    }
+
+    /// The levels of the server's tree.
+    pub fn levels(self) -> Levels
+        ensures { result ≡ self.levels }
+    {
+        self.levels
+    }
+
+    /// The left side; a leaf has none.
+    pub fn left(self) -> Option<ServerId>
+        ensures { SomeIff result (IsServer self.levels (left_of self.number)) (record { number = left_of self.number; levels = self.levels }) }
+    {
+        self.levels.server(2 * self.number)
+    }
+
+    /// The right side; a leaf has none.
+    pub fn right(self) -> Option<ServerId>
+        ensures { SomeIff result (IsServer self.levels (right_of self.number)) (record { number = right_of self.number; levels = self.levels }) }
+    {
+        self.levels.server(2 * self.number + 1)
+    }
+
+    /// Both sides; a leaf has none.
+    pub fn sides(self) -> Option<Sides>
+        ensures leaf { IfNone result (height_of self.levels self.number ≡ 0) }
+        ensures left_height { IfSome result (λ sides. height_of self.levels self.number ≡ suc (height_of sides.left.levels sides.left.number)) }
+        ensures right_height { IfSome result (λ sides. height_of self.levels self.number ≡ suc (height_of sides.right.levels sides.right.number)) }
+        ensures value { SomeIff result (IsServer self.levels (left_of self.number)) (record { left = record { number = left_of self.number; levels = self.levels }; right = record { number = right_of self.number; levels = self.levels } }) }
+    {
+        let number = self.number();
+        if self.is_leaf() {
+            return None;
+        }
+        let levels = self.levels();
+        let left = ServerId::new(levels, 2 * number);
+        let right = ServerId::new(levels, 2 * number + 1);
+        Some(Sides { left, right })
+    }
+
+    /// Whether the server has no sides.
+    pub fn is_leaf(self) -> bool
+        ensures { IsTrue result ↔ (2 ^ self.levels ≤ left_of self.number) }
+    {
+        self.levels.servers() < 2 * self.number
+    }
+
+    /// The server of which this one is a side; server 1 has none.
+    pub fn parent(self) -> Option<ServerId>
+        ensures { SomeIff result (1 < self.number) (record { number = self.number / 2; levels = self.levels }) }
+    {
+        self.levels.server(self.number / 2)
+    }
+
+    /// The side of this server that is the given server or stands above it: `None` where neither does. Both are of one tree.
+    pub fn side_towards(self, below: ServerId) -> Option<ServerId>
+        requires { below.levels ≡ self.levels }
+        ensures side { IfSome result (λ side. IsSideTowards self side below.number) }
+        ensures none { IfNone result ((¬ IsAtOrAbove (left_of self.number) below.number) × (¬ IsAtOrAbove (right_of self.number) below.number)) }
+    {
+        match below.parent() {
+            None => None,
+            Some(above) if above.number() == self.number() => Some(below),
+            Some(above) => self.side_towards(above),
+        }
+    }
+
+    /// How many steps to the parent lead to server 1.
+    pub fn depth(self) -> u32
+        ensures { result ≡ depth_of self.number }
+    {
+        self.number.ilog2()
+    }
+}
+
+/// The one server of a tree of one level, as fills the unused places of a list.
+impl Default for ServerId {
+    ghost is_default = { λ server. (server.number ≡ 1) × (server.levels ≡ 1) };
+
+    fn default() -> ServerId {
+        ServerId {
+            levels: Levels::default(),
+            number: 1,
+        }
+    }
+}
