@@ -1,3 +1,5 @@
 pub mod Depth
 pub mod Tree
 pub mod Towards
+pub mod Joined
+pub mod Places
