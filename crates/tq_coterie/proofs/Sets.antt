@@ -1,0 +1,193 @@
+-- Sets of servers as ascending lists.
+use Rattle.std.proofs.Common.{◌≡◌, ℕ, ◌+◌, ◌<◌, ◌≤◌, List, [], ◌∷◌, Bool, true, false, ◌||◌, ◌&&◌, eqb, refl, sym, inl, inr, arith, ap, ◌∙◌, subst, sum_by}
+use Rattle.std.proofs.lemmas.Bool.{cases_lt, cases_order, cases_Bool, lt-ltb, le-ltb, eq-eqb, ne_eqb, eqb-true, eqb-false, false≢true, or_parts, or_left, or_right, or_from}
+use Rattle.std.proofs.lemmas.List.Sums.{sum_by-cons}
+use Rattle.std.specs.List.{list_all}
+use Rattle.tq_coterie.specs.Coterie.{with_server, joined, has}
+use Rattle.tq_coterie.specs.Coterie.{Ascends}
+
+pub or_swap : (a b c : Bool) → (a || (b || c)) ≡ (b || (a || c))
+or_swap true true c = refl
+or_swap true false c = refl
+or_swap false true c = refl
+or_swap false false c = refl
+
+pub or_assoc : (a b c : Bool) → ((a || b) || c) ≡ (a || (b || c))
+or_assoc true b c = refl
+or_assoc false b c = refl
+
+pub and_swap : (a b c : Bool) → (a && (b && c)) ≡ (b && (a && c))
+and_swap true true c = refl
+and_swap true false c = refl
+and_swap false true c = refl
+and_swap false false c = refl
+
+pub and_assoc : (a b c : Bool) → ((a && b) && c) ≡ (a && (b && c))
+and_assoc true b c = refl
+and_assoc false b c = refl
+
+pub Ascends-from : (low high : ℕ) (xs : List ℕ) → low ≤ high → Ascends high xs → Ascends low xs
+Ascends-from low high [] le up = tt
+Ascends-from low high (x ∷ xs) le up = (omega (arith, up.0), up.1)
+
+-- a set has no server at or below its bound
+pub has-below : (low server : ℕ) (xs : List ℕ) → Ascends low xs → server ≤ low → has xs server ≡ false
+has-below low server [] up le = refl
+has-below low server (x ∷ xs) up le =
+    let other : eqb x server ≡ false = ne_eqb x server (λ e. omega (arith, up.0, e)) in
+    rw other (has-below x server xs up.1 (omega (arith, up.0)))
+
+-- what two sets have above their common first server
+same_rest : (first : ℕ) (xs ys : List ℕ) → Ascends first xs → Ascends first ys → ((s : ℕ) → (eqb first s || has xs s) ≡ (eqb first s || has ys s)) → (s : ℕ) → has xs s ≡ has ys s
+same_rest first xs ys up vp same s =
+    elim (cases_Bool (eqb first s)) [
+      | inl equal ↦
+          let le : s ≤ first = omega (arith, eqb-true first s equal) in
+          has-below first s xs up le ∙ sym (has-below first s ys vp le)
+      | inr other ↦ rw other at (same s)
+    ]
+
+-- two sets with the same servers are one list
+pub same_set : (low : ℕ) (xs ys : List ℕ) → Ascends low xs → Ascends low ys → ((s : ℕ) → has xs s ≡ has ys s) → xs ≡ ys
+same_set low [] [] up vp same = refl
+same_set low [] (y ∷ ys) up vp same =
+    let here : has (y ∷ ys) y ≡ true = rw (eq-eqb y y refl) refl in
+    absurd (false≢true (same y ∙ here))
+same_set low (x ∷ xs) [] up vp same =
+    let here : has (x ∷ xs) x ≡ true = rw (eq-eqb x x refl) refl in
+    absurd (false≢true (sym (same x) ∙ here))
+same_set low (x ∷ xs) (y ∷ ys) up vp same =
+    elim (cases_order x y) [
+      | inl e ↦
+          let vp' : Ascends x ys = rw e vp.1 in
+          let P : ℕ → Type 0 = λ z. (s : ℕ) → (eqb x s || has xs s) ≡ (eqb z s || has ys s) in
+          let rest : xs ≡ ys = same_set x xs ys up.1 vp' (same_rest x xs ys up.1 vp' (subst P (sym e) same)) in
+          rw (e, rest) refl
+      | inr (inl less) ↦
+          let here : has (x ∷ xs) x ≡ true = rw (eq-eqb x x refl) refl in
+          let there : has (y ∷ ys) x ≡ false = has-below x x (y ∷ ys) (less, vp.1) (omega arith) in
+          absurd (false≢true (sym there ∙ (sym (same x) ∙ here)))
+      | inr (inr more) ↦
+          let here : has (y ∷ ys) y ≡ true = rw (eq-eqb y y refl) refl in
+          let there : has (x ∷ xs) y ≡ false = has-below y y (x ∷ xs) (more, up.1) (omega arith) in
+          absurd (false≢true (sym there ∙ (same y ∙ here)))
+    ]
+
+-- joining: what has-joined, Ascends-joined, and so on say of `with_server`, they say of `joined`
+pub has-with_server : (server s : ℕ) (xs : List ℕ) → has (with_server server xs) s ≡ (eqb server s || has xs s)
+has-with_server server s [] = refl
+has-with_server server s (x ∷ xs) =
+    elim (cases_lt server x) [
+      | inl less ↦ rw (lt-ltb server x less) refl
+      | inr more ↦
+          rw (le-ltb server x more, has-with_server server s xs) (or_swap (eqb x s) (eqb server s) (has xs s))
+    ]
+
+pub has-joined : (xs ys : List ℕ) (s : ℕ) → has (joined xs ys) s ≡ (has xs s || has ys s)
+has-joined [] ys s = refl
+has-joined (x ∷ xs) ys s =
+    has-with_server x s (joined xs ys) ∙ (ap (λ b. eqb x s || b) (has-joined xs ys s) ∙ sym (or_assoc (eqb x s) (has xs s) (has ys s)))
+
+Ascends-with_server : (low server : ℕ) (xs : List ℕ) → Ascends low xs → low < server → has xs server ≡ false → Ascends low (with_server server xs)
+Ascends-with_server low server [] up above new = (above, tt)
+Ascends-with_server low server (x ∷ xs) up above new =
+    let parts = or_parts (eqb x server) (has xs server) new in
+    elim (cases_lt server x) [
+      | inl less ↦ rw (lt-ltb server x less) (above, (less, up.1))
+      | inr more ↦
+          let apart : x < server = omega (arith, eqb-false x server parts.0) in
+          rw (le-ltb server x more) (up.0, Ascends-with_server x server xs up.1 apart parts.1)
+    ]
+
+-- two sets that have no server in common
+abbrev pub AreApart : List ℕ → List ℕ → Type 0
+AreApart xs ys = (s : ℕ) → has xs s ≡ true → has ys s ≡ false
+
+pub Ascends-joined : (low : ℕ) (xs ys : List ℕ) → Ascends low xs → Ascends low ys → AreApart xs ys → Ascends low (joined xs ys)
+Ascends-joined low [] ys up vp apart = vp
+Ascends-joined low (x ∷ xs) ys up vp apart =
+    let rest : Ascends low (joined xs ys) =
+    Ascends-joined low xs ys (Ascends-from low x xs (omega (arith, up.0)) up.1) vp (λ s h. apart s (or_right (eqb x s) (has xs s) h)) in
+    let not_later : has xs x ≡ false = has-below x x xs up.1 (omega arith) in
+    let not_there : has ys x ≡ false = apart x (or_left (eqb x x) (has xs x) (eq-eqb x x refl)) in
+    let new : has (joined xs ys) x ≡ false = has-joined xs ys x ∙ or_from (has xs x) (has ys x) not_later not_there in
+    Ascends-with_server low x (joined xs ys) rest up.0 new
+
+-- sums and tests over a joined set
+sum_by-with_server : (f : ℕ → ℕ) (server : ℕ) (xs : List ℕ) → sum_by f (with_server server xs) ≡ f server + sum_by f xs
+sum_by-with_server f server [] = omega arith
+sum_by-with_server f server (x ∷ xs) =
+    elim (cases_lt server x) [
+      | inl less ↦ rw (lt-ltb server x less) (sum_by-cons f server (x ∷ xs))
+      | inr more ↦
+          let head = sum_by-cons f x (with_server server xs) in
+          let tail = sum_by-cons f x xs in
+          let rest = sum_by-with_server f server xs in
+          rw (le-ltb server x more) (omega arith)
+    ]
+
+pub sum_by-joined : (f : ℕ → ℕ) (xs ys : List ℕ) → sum_by f (joined xs ys) ≡ sum_by f xs + sum_by f ys
+sum_by-joined f [] ys = omega arith
+sum_by-joined f (x ∷ xs) ys =
+    let head = sum_by-with_server f x (joined xs ys) in
+    let tail = sum_by-cons f x xs in
+    let rest = sum_by-joined f xs ys in
+    omega arith
+
+list_all-with_server : (p : ℕ → Bool) (server : ℕ) (xs : List ℕ) → list_all p (with_server server xs) ≡ (p server && list_all p xs)
+list_all-with_server p server [] = refl
+list_all-with_server p server (x ∷ xs) =
+    elim (cases_lt server x) [
+      | inl less ↦ rw (lt-ltb server x less) refl
+      | inr more ↦
+          rw (le-ltb server x more, list_all-with_server p server xs) (and_swap (p x) (p server) (list_all p xs))
+    ]
+
+pub list_all-joined : (p : ℕ → Bool) (xs ys : List ℕ) → list_all p (joined xs ys) ≡ (list_all p xs && list_all p ys)
+list_all-joined p [] ys = refl
+list_all-joined p (x ∷ xs) ys =
+    list_all-with_server p x (joined xs ys) ∙ (ap (λ b. p x && b) (list_all-joined p xs ys) ∙ sym (and_assoc (p x) (list_all p xs) (list_all p ys)))
+
+pub joined-nil : (low : ℕ) (xs : List ℕ) → Ascends low xs → joined xs [] ≡ xs
+joined-nil low [] up = refl
+joined-nil low (x ∷ xs) up = rw (joined-nil x xs up.1) (with_server-first x xs up.1)
+  where
+    with_server-first : (x : ℕ) (xs : List ℕ) → Ascends x xs → with_server x xs ≡ x ∷ xs
+    with_server-first x [] up = refl
+    with_server-first x (y ∷ ys) up = rw (lt-ltb x y up.0) refl
+
+-- ---- joining is associative
+
+with_server_comm : (a b : ℕ) (xs : List ℕ) → a < b → with_server a (with_server b xs) ≡ with_server b (with_server a xs)
+with_server_comm a b [] less = rw (lt-ltb a b less, le-ltb b a (omega arith)) refl
+with_server_comm a b (x ∷ xs) less =
+    elim (cases_lt b x) [
+      | inl b_x ↦
+          let a_x : a < x = omega arith in
+          rw (lt-ltb b x b_x, lt-ltb a x a_x, lt-ltb a b less, le-ltb b a (omega arith), lt-ltb b x b_x) refl
+      | inr x_b ↦
+          elim (cases_lt a x) [
+            | inl a_x ↦ rw (le-ltb b x x_b, lt-ltb a x a_x, le-ltb b a (omega arith), le-ltb b x x_b) refl
+            | inr x_a ↦ rw (le-ltb b x x_b, le-ltb a x x_a, le-ltb b x x_b, with_server_comm a b xs less) refl
+          ]
+    ]
+
+pub with_server_swap : (a b : ℕ) (xs : List ℕ) → with_server a (with_server b xs) ≡ with_server b (with_server a xs)
+with_server_swap a b xs =
+    elim (cases_order a b) [
+      | inl e ↦ rw e refl
+      | inr (inl less) ↦ with_server_comm a b xs less
+      | inr (inr more) ↦ sym (with_server_comm b a xs more)
+    ]
+
+pub joined-with_server : (a : ℕ) (xs ys : List ℕ) → joined (with_server a xs) ys ≡ with_server a (joined xs ys)
+joined-with_server a [] ys = refl
+joined-with_server a (x ∷ xs) ys =
+    elim (cases_lt a x) [
+      | inl less ↦ rw (lt-ltb a x less) refl
+      | inr more ↦ rw (le-ltb a x more, joined-with_server a xs ys) (with_server_swap x a (joined xs ys))
+    ]
+
+pub joined_assoc : (xs ys zs : List ℕ) → joined (joined xs ys) zs ≡ joined xs (joined ys zs)
+joined_assoc [] ys zs = refl
+joined_assoc (x ∷ xs) ys zs = joined-with_server x (joined xs ys) zs ∙ ap (with_server x) (joined_assoc xs ys zs)

@@ -1,0 +1,19 @@
+-- How a set of servers stands to a subtree, decided from the two sides.
+use Rattle.std.specs.Prelude.{ℕ, zero, suc, Bool, true, false, cond, List}
+use Rattle.tq_shape.specs.Tree.{left_of, right_of}
+use Rattle.tq_coterie.specs.Coterie.{has}
+use Rattle.tq_coterie.specs.declared.part.Part.{Part}
+use Rattle.tq_coterie.specs.declared.part.Part.TheVariants.{Empty, Member, Neither}
+
+-- from whether the top is in the set, and the parts of the sides
+abbrev pub part_from_sides : Bool → Part → Part → Part
+part_from_sides true Member Empty = Member
+part_from_sides true Empty Member = Member
+part_from_sides false Member Member = Member
+part_from_sides false Empty Empty = Empty
+part_from_sides top left right = Neither
+
+unfoldable pub part_of : ℕ → ℕ → List ℕ → Part
+part_of zero top servers = cond (has servers top) Member Empty
+part_of (suc height) top servers =
+    part_from_sides (has servers top) (part_of height (left_of top) servers) (part_of height (right_of top) servers)

@@ -1,0 +1,37 @@
+ghost use Rattle.std.specs.Prelude.{◌≡◌, not};
+ghost use Rattle.tq_shape.specs.Depth.{height_of};
+ghost use Rattle.tq_coterie.specs.Coterie.{has, members, holds_member, two_of, holds_quorum};
+ghost use Rattle.tq_coterie.specs.Coterie as spec;
+
+use tq_shape::{Levels, ServerId};
+
+/// Whether a quorum has all its servers among these numbers, which may stand in any order: exactly where no quorum
+/// has all its servers among the others. It takes no memory.
+pub fn holds_quorum(levels: Levels, numbers: &[u64]) -> bool
+    ensures held { result ≡ spec.holds_quorum levels (has numbers.now) }
+    ensures complement { result ≡ not (spec.holds_quorum levels (λ server. not (has numbers.now server))) }
+{
+    holds_member_under(levels.root(), numbers)
+}
+
+/// Whether a member of the subtree over `top` has all its servers among the numbers.
+fn holds_member_under(top: ServerId, numbers: &[u64]) -> bool
+    ensures { result ≡ holds_member (has numbers.now) (members (height_of top.levels top.number) top.number) }
+{
+    let chosen = numbers.contains(&top.number());
+    match top.sides() {
+        Some(sides) => two_of(
+            chosen,
+            holds_member_under(sides.left, numbers),
+            holds_member_under(sides.right, numbers),
+        ),
+        None => chosen,
+    }
+}
+
+/// Whether at least two of the three hold.
+fn two_of(top: bool, left: bool, right: bool) -> bool
+    ensures { result ≡ spec.two_of top left right }
+{
+    (top && (left || right)) || (left && right)
+}

@@ -1,0 +1,26 @@
+//! The coterie of a tree of servers: which sets of servers are quorums.
+//!
+//! A leaf's only member is the leaf. Any other server's members are, in this order, the server with each member of
+//! its left side, the server with each member of its right side, and each member of the left side with each of the
+//! right side. The quorums of a tree are the members of server 1. Any two of them have a server in common.
+//!
+//! Nothing here lists the members: a tree of six levels has over four billion.
+#![tactic(auto)]
+
+mod blocker;
+mod holding;
+mod meeting;
+mod member;
+mod membership;
+mod part;
+mod quorum;
+
+pub use blocker::Blocker;
+pub use holding::holds_quorum;
+pub use meeting::meet;
+pub use member::ServerIds;
+pub use membership::is_quorum;
+pub use quorum::Quorum;
+
+#[cfg(test)]
+mod tests;

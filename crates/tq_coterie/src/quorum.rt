@@ -1,0 +1,68 @@
+ghost use Rattle.std.specs.Prelude.{◌≡◌, IfOk, OnSome, Contains};
+ghost use Rattle.std.specs.Option.{SomeIff};
+ghost use Rattle.tq_coterie.specs.Coterie.{coterie, numbers_of, Ascends, IsMemberList};
+
+use crate::member::{Member, ServerIds};
+use std::alloc::Global;
+use std::marker::Model;
+use tq_shape::{ExactClone, Levels, Memory, ServerId};
+
+/// A quorum of a tree: a set of servers that has one in common with every other quorum of the tree.
+#[derive(Clone, Debug, Drop, PartialEq)]
+pub struct Quorum {
+    member: Member,
+}
+
+impl Model for Quorum {
+    ghost use Rattle.tq_coterie.specs.Coterie.{ServerList};
+
+    ghost Value = { ServerList };
+
+    ghost view = { λ quorum. quorum.member };
+
+    ghost inverse = { λ list. record { member = list } };
+}
+
+impl Quorum {
+    /// The quorum of servers that are known to be a member of the coterie.
+    pub fn new(levels: Levels, servers: ServerIds) -> Quorum
+        requires { IsMemberList levels servers.items }
+        ensures { result ≡ record { servers = numbers_of servers.items; levels = levels } }
+    {
+        Quorum {
+            member: Member::new(levels, servers),
+        }
+    }
+
+    /// The quorum of these servers. It is there exactly where they are ascending and a member of the coterie.
+    pub fn of(alloc: Global, levels: Levels, numbers: &[u64]) -> Result<Option<Quorum>, Memory>
+        ensures exact { IfOk result (λ answer. SomeIff answer (Contains (coterie levels) numbers.now) (record { servers = numbers.now; levels = levels })) }
+        ensures ascending { IfOk result (λ answer. OnSome answer (Ascends 0 numbers.now)) }
+    {
+        match Member::of(alloc, levels, numbers)? {
+            Some(member) => Ok(Some(Quorum { member })),
+            None => Ok(None),
+        }
+    }
+
+    /// The servers, ascending.
+    pub fn servers(&self) -> &[ServerId]
+        ensures numbers { numbers_of result.now ≡ self.now.servers }
+        ensures member { IsMemberList self.now.levels result.now }
+    {
+        self.member.servers()
+    }
+
+    /// The levels of the tree.
+    pub fn levels(&self) -> Levels
+        ensures { result ≡ self.now.levels }
+    {
+        self.member.levels()
+    }
+}
+
+impl ExactClone for Quorum {
+    ghost use Rattle.std.proofs.Common.{rules};
+
+    ghost clones = { Prim.search rules };
+}
