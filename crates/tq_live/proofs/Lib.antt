@@ -1,0 +1,9 @@
+pub mod Pick
+pub mod LeastMembers
+pub mod Weights
+pub mod Places
+pub mod Forms
+pub mod Found
+pub mod FirstLeast
+pub mod Journal
+pub mod Either

@@ -1,0 +1,11 @@
+pub use Rattle.tq_shape.specs.Tree
+pub use Rattle.tq_shape.specs.Depth
+pub use Rattle.tq_coterie.specs.Coterie
+pub mod Least
+pub mod Weights
+pub mod Live
+pub mod Sought
+pub mod Choice
+pub mod Form
+pub mod View
+pub mod BestOf

@@ -1,0 +1,20 @@
+//! Least-cost quorums of a tree whose servers have costs and marks, and the view that keeps them by asks and replies.
+#![tactic(auto)]
+
+mod choice;
+mod cost;
+mod least;
+mod order;
+mod sought;
+mod tree;
+mod view;
+mod weight;
+
+pub use choice::Choice;
+pub use cost::{BadCost, is_cost};
+pub use least::Least;
+pub use tree::LiveTree;
+pub use view::{View, ViewAsk, ViewRefusal, ViewReply};
+
+#[cfg(test)]
+mod tests;
