@@ -100,7 +100,10 @@ fn best_listed(members: &[u64], costs: &[(u64, u64)], down: u64) -> (u64, Option
     if best.1.is_some() {
         return best;
     }
-    let blocker = members.iter().copied().find(|member| *member & down == *member);
+    let blocker = members
+        .iter()
+        .copied()
+        .find(|member| *member & down == *member);
     (blocker.unwrap_or(0), None)
 }
 

@@ -161,7 +161,14 @@ impl LiveTree {
     }
 
     /// The form of the first least member of the server's subtree.
-    fn form(&self, sought: Sought, weights: &Weights, server: ServerId, left: ServerId, right: ServerId) -> Form
+    fn form(
+        &self,
+        sought: Sought,
+        weights: &Weights,
+        server: ServerId,
+        left: ServerId,
+        right: ServerId,
+    ) -> Form
         requires server { server.levels ≡ self.now.levels }
         requires left { left.levels ≡ self.now.levels }
         requires right { right.levels ≡ self.now.levels }
@@ -175,7 +182,13 @@ impl LiveTree {
     }
 
     /// Puts the first least member of the server's subtree, where there is one, into the list.
-    fn gather(&self, sought: Sought, weights: &Weights, server: ServerId, ids: &mut ServerIds) -> Result<(), Memory>
+    fn gather(
+        &self,
+        sought: Sought,
+        weights: &Weights,
+        server: ServerId,
+        ids: &mut ServerIds,
+    ) -> Result<(), Memory>
         requires tree { server.levels ≡ self.now.levels }
         requires weights { AreWeights self.now sought 1 weights.now }
         ensures numbers { OnOk result ((set : List ℕ) → found self.now sought server.number ≡ Some set → numbers_of ids.new.items ≡ joined set (numbers_of ids.old.items)) }
@@ -205,7 +218,13 @@ impl LiveTree {
     }
 
     /// What is looked for in the server's subtree, where it is there.
-    fn gathered(&self, alloc: Global, sought: Sought, weights: &Weights, server: ServerId) -> Result<ServerIds, Memory>
+    fn gathered(
+        &self,
+        alloc: Global,
+        sought: Sought,
+        weights: &Weights,
+        server: ServerId,
+    ) -> Result<ServerIds, Memory>
         requires tree { server.levels ≡ self.now.levels }
         requires there { IsSome (found self.now sought server.number) }
         requires weights { AreWeights self.now sought 1 weights.now }

@@ -1,9 +1,8 @@
-use Rattle.std.proofs.Common.{◌≡◌, List, ℕ, Some, ap, sym, ◌∙◌}
+use Rattle.std.proofs.Common.{◌≡◌, Some, ap, sym, ◌∙◌}
 use Rattle.std.specs.List.{All}
 use Rattle.std.proofs.lemmas.List.Elements.{All-nil}
 use Rattle.tq_shape.specs.Tree.{Server}
 use Rattle.tq_shape.specs.Depth.{height_of}
-use Rattle.tq_coterie.specs.Coterie.{numbers_of}
 use Rattle.tq_live.specs.Sought.{cost_for, allowed_for, found}
 use Rattle.tq_live.proofs.Found.{some_is, least_member-in, joined_member, servers_of-numbers_of}
 use Rattle.tq_live.proofs.tree.LiveTree.gathered.Goals as goal

@@ -1,4 +1,4 @@
-use Rattle.std.proofs.Common.{◌+◌, ◌^◌, ◌<◌}
+use Rattle.std.proofs.Common.{◌+◌}
 use Rattle.tq_live.specs.Sought.{AreWeights}
 use Rattle.tq_live.proofs.tree.LiveTree.weights.Given as goal
 
