@@ -1,0 +1,116 @@
+-- What a search through a finite map's entries finds, and what a look-up says of them.
+use Rattle.std.proofs.Common.{◌≡◌, Bool, true, false, cond, ◌&&◌, List, [], ◌∷◌, Some, None, refl, ap, sym, subst, ◌∙◌, ◌⊎◌, inl, inr, unwrap_or}
+use lib.Dec.{T}
+use mathlib.Core.Bool.{true≢false}
+use Rattle.std.specs.Cmp.{IsTotalOrder}
+use Rattle.std.specs.FinMap as fin
+use Rattle.std.specs.FinMap.{FinMap, is_sorted, IsAntisymmetric}
+use Rattle.std.specs.FinMap.Entries.{below_all}
+use Rattle.std.specs.List.{find}
+use Rattle.std.specs.Option.{is_none}
+use Rattle.std.specs.Ordering.{is_lt, is_eq, ordering_reverse}
+use Rattle.std.specs.declared.cmp.Ordering.{Ordering}
+use Rattle.std.specs.declared.cmp.Ordering.TheVariants.{Less, Equal, Greater}
+use Rattle.tq_shape.specs.Journal.{Has}
+
+pub some_same : {A : Type 0} (x y : A) → Some x ≡ Some y → x ≡ y
+some_same x y e = ap (λ o. unwrap_or o x) e
+
+pub none_some : {A : Type 0} (x : A) → None ≡ Some x → ⊥
+none_some x e = absurd (true≢false (ap is_none e))
+
+first : (a b : Bool) → T (a && b) → T a
+first true b h = tt
+first false b h = absurd h
+
+second : (a b : Bool) → T (a && b) → T b
+second true b h = h
+second false b h = absurd h
+
+less : (r : Ordering) → T (is_lt r) → r ≡ Less
+less Less h = refl
+less Equal h = absurd h
+less Greater h = absurd h
+
+equal : (r : Ordering) → is_eq r ≡ true → r ≡ Equal
+equal Less h = absurd (true≢false (sym h))
+equal Equal h = refl
+equal Greater h = absurd (true≢false (sym h))
+
+itself : (r : Ordering) → r ≡ ordering_reverse r → is_eq r ≡ true
+itself Less h = absurd (true≢false (ap is_lt h))
+itself Equal h = refl
+itself Greater h = absurd (true≢false (sym (ap is_lt h)))
+
+-- ---- a search finds the first that passes
+
+module _ {A : Type 0} (p : A → Bool) where
+  found_step : (x : A) (xs : List A) (e : A) (b : Bool) → p x ≡ b → cond b (Some x) (find p xs) ≡ Some e → (find p xs ≡ Some e → Has xs e × (p e ≡ true)) → Has (x ∷ xs) e × (p e ≡ true)
+  found_step x xs e true t f next = (inl (some_same x e f), ap p (sym (some_same x e f)) ∙ t)
+  found_step x xs e false t f next = (inr (next f).0, (next f).1)
+
+  pub found : (xs : List A) (e : A) → find p xs ≡ Some e → Has xs e × (p e ≡ true)
+  found [] e f = absurd (none_some e f)
+  found (x ∷ xs) e f = found_step x xs e (p x) refl f (found xs e)
+
+  none_step : (x : A) (xs : List A) (y : A) (b : Bool) → p x ≡ b → cond b (Some x) (find p xs) ≡ None → (find p xs ≡ None → Has xs y → p y ≡ false) → Has (x ∷ xs) y → p y ≡ false
+  none_step x xs y true t f next h = absurd (none_some x (sym f))
+  none_step x xs y false t f next (inl e) = ap p (sym e) ∙ t
+  none_step x xs y false t f next (inr h) = next f h
+
+  -- where nothing is found, nothing passes
+  pub none_passes : (xs : List A) (y : A) → find p xs ≡ None → Has xs y → p y ≡ false
+  none_passes [] y f h = absurd h
+  none_passes (x ∷ xs) y f h = none_step x xs y (p x) refl f (none_passes xs y) h
+
+not_tied : (r s : Ordering) → r ≡ Less → s ≡ ordering_reverse r → is_eq s ≡ false
+not_tied r s e f = ap is_eq (f ∙ ap ordering_reverse e)
+
+-- ---- entries and look-ups
+
+module _ {K X : Type 0} {R : K → K → Ordering} (o : IsTotalOrder R) (same : IsAntisymmetric R) where
+  looked_step : (x : K × X) (es : List (K × X)) (q : K) (v : X) (b : Bool) → is_eq (R q x.0) ≡ b → cond b (Some x.1) (fin.find R q es) ≡ Some v → (fin.find R q es ≡ Some v → Has es (q, v)) → Has (x ∷ es) (q, v)
+  looked_step x es q v true t f next = inl (λ i. (sym (same q x.0 (equal (R q x.0) t)) i, some_same x.1 v f i))
+  looked_step x es q v false t f next = inr (next f)
+
+  -- what a look-up finds is an entry
+  pub Has-looked_up : (es : List (K × X)) (q : K) (v : X) → fin.find R q es ≡ Some v → Has es (q, v)
+  Has-looked_up [] q v f = absurd (none_some v f)
+  Has-looked_up (x ∷ es) q v f = looked_step x es q v (is_eq (R q x.0)) refl f (Has-looked_up es q v)
+
+  -- a key below all others is below each
+  pub below_each : (k : K) (es : List (K × X)) (x : K × X) → T (below_all R k es) → Has es x → R k x.0 ≡ Less
+  below_each k [] x t h = absurd h
+  below_each k (e ∷ es) x t (inl s) = ap (λ (y : K × X). R k y.0) (sym s) ∙ less (R k e.0) (first (is_lt (R k e.0)) (below_all R k es) t)
+  below_each k (e ∷ es) x t (inr h) = below_each k es x (second (is_lt (R k e.0)) (below_all R k es) t) h
+
+  -- a look-up finds an entry of a list that rises
+  pub looked_up : (es : List (K × X)) (x : K × X) → T (is_sorted R es) → Has es x → fin.find R x.0 es ≡ Some x.1
+  looked_up [] x t h = absurd h
+  looked_up (e ∷ es) x t (inl s) =
+      subst (λ (y : K × X). fin.find R y.0 (e ∷ es) ≡ Some y.1) s (ap (λ b. cond b (Some e.1) (fin.find R e.0 es)) (itself (R e.0 e.0) (o.antisymm e.0 e.0)))
+  looked_up (e ∷ es) x t (inr h) =
+      ap (λ b. cond b (Some e.1) (fin.find R x.0 es)) (not_tied (R e.0 x.0) (R x.0 e.0) (below_each e.0 es x (first (below_all R e.0 es) (is_sorted R es) t) h) (o.antisymm x.0 e.0))
+      ∙ looked_up es x (second (below_all R e.0 es) (is_sorted R es) t) h
+
+  -- the first entry that passes is below each other that passes
+  abbrev pub IsFirst : K × X → K × X → Type 0
+  IsFirst e x = (e ≡ x) ⊎ (R e.0 x.0 ≡ Less)
+
+  first_step : (p : K × X → Bool) (y : K × X) (es : List (K × X)) (e x : K × X) (b : Bool) → p y ≡ b → T (below_all R y.0 es) → cond b (Some y) (find p es) ≡ Some e → Has (y ∷ es) x → p x ≡ true → (find p es ≡ Some e → Has es x → IsFirst e x) → IsFirst e x
+  first_step p y es e x true t below f (inl s) px next = inl (sym (some_same y e f) ∙ s)
+  first_step p y es e x true t below f (inr h) px next = inr (ap (λ (z : K × X). R z.0 x.0) (sym (some_same y e f)) ∙ below_each y.0 es x below h)
+  first_step p y es e x false t below f (inl s) px next = absurd (true≢false (sym px ∙ ap p (sym s) ∙ t))
+  first_step p y es e x false t below f (inr h) px next = next f h
+
+  pub first_passes : (p : K × X → Bool) (es : List (K × X)) (e x : K × X) → T (is_sorted R es) → find p es ≡ Some e → Has es x → p x ≡ true → IsFirst e x
+  first_passes p [] e x t f h px = absurd h
+  first_passes p (y ∷ es) e x t f h px =
+      first_step p y es e x (p y) refl (first (below_all R y.0 es) (is_sorted R es) t) f h px (λ g k. first_passes p es e x (second (below_all R y.0 es) (is_sorted R es) t) g k px)
+
+  -- the same of a finite map
+  pub entry_of : (m : FinMap R X) (q : K) (v : X) → fin.get m q ≡ Some v → Has (fin.entries m) (q, v)
+  entry_of m q v f = Has-looked_up (fin.entries m) q v (sym (fin.get-entries m q) ∙ f)
+
+  pub get-entry_of : (m : FinMap R X) (x : K × X) → Has (fin.entries m) x → fin.get m x.0 ≡ Some x.1
+  get-entry_of m x h = fin.get-entries m x.0 ∙ looked_up (fin.entries m) x (fin.entries_sorted m) h

@@ -1,0 +1,5 @@
+pub mod Ordered
+pub mod LockMaps
+pub mod Retained
+pub mod Found
+pub mod Locked

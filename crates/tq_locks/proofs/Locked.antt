@@ -1,0 +1,226 @@
+-- What the table has at a file and a transaction after each change, and that no two of its locks are in conflict.
+use Rattle.std.proofs.Common.{◌≡◌, ◌≢◌, ◌≤◌, ◌<◌, ◌==◌, ◌&&◌, ℕ, Bool, true, false, cond, not, List, [], ◌∷◌, map, Option, Some, None, refl, ap, sym, ◌∙◌, ◌⊎◌, inl, inr, arith, nat_eq, IfSome}
+use mathlib.Core.Bool.{true≢false}
+use Rattle.std.proofs.lemmas.Bool.Decides.{nat_tests}
+use Rattle.std.proofs.lemmas.Cmp.{ranked, tied_itself}
+use Rattle.std.specs.Cmp.Lexicographic.{pointwise, same_text, nat_list_cmp_total, nat_list_eq_equiv}
+use Rattle.std.specs.FinMap as fin
+use Rattle.std.specs.List as lists
+use Rattle.std.specs.Option.{option_map, option_map_or}
+use Rattle.std.specs.Ordering.{nat_cmp, is_eq, eq_by_cmp, ordering_then}
+use Rattle.std.specs.declared.cmp.Ordering.{Ordering}
+use Rattle.std.specs.declared.cmp.Ordering.TheVariants.{Less, Equal, Greater}
+use Rattle.tq_locks.specs.Locks.{LockKey, Locks, lock_cmp, conflicts, stronger, blocks, Blocks, IsFree, IsLeastBlocker, IsTold, outcome, blocker, lock_after, granted, released, only_stable, stabilised, kept, HasNoConflict}
+use Rattle.tq_locks.specs.declared.mode.Mode.{Mode}
+use Rattle.tq_locks.specs.declared.mode.Mode.TheVariants.{Shared, Exclusive}
+use Rattle.tq_locks.specs.declared.mode.Lock.{Lock}
+use Rattle.tq_locks.proofs.Found.{some_same, none_some, found, none_passes, first_passes, entry_of, get-entry_of}
+use Rattle.tq_locks.proofs.LockMaps.{locks_total, locks_same}
+use Rattle.tq_shape.specs.Journal.{Has}
+
+is_eq-Equal : (r : Ordering) → is_eq r ≡ true → r ≡ Equal
+is_eq-Equal Less h = absurd (true≢false (sym h))
+is_eq-Equal Equal h = refl
+is_eq-Equal Greater h = absurd (true≢false (sym h))
+
+abbrev key : List ℕ → ℕ → LockKey
+key file txn = (file, txn)
+
+-- keys that compare alike are one
+pub same_key : (a b : LockKey) → eq_by_cmp lock_cmp a b ≡ true → a ≡ b
+same_key a b h = locks_same a b (is_eq-Equal (lock_cmp a b) h)
+
+-- ---- what the table has after each change
+
+pub get-granted : (locks : Locks) (file : List ℕ) (txn : ℕ) (mode : Mode) (number version : ℕ) (q : LockKey) → fin.get (granted locks file txn mode number version) q ≡ cond (eq_by_cmp lock_cmp q (file, txn)) (Some (lock_after (fin.get locks (file, txn)) mode number version)) (fin.get locks q)
+get-granted locks file txn mode number version q = fin.get-insert locks_total locks (file, txn) (lock_after (fin.get locks (file, txn)) mode number version) q
+
+pub get-released : (locks : Locks) (txn : ℕ) (q : LockKey) → fin.get (released locks txn) q ≡ cond (not (q.1 == txn)) (fin.get locks q) None
+get-released locks txn q = fin.get-retain_keys locks (λ key. not (key.1 == txn)) q (λ k t. ap (λ (key : LockKey). not (key.1 == txn)) (sym (locks_same q k t)))
+
+is_stable : Option Lock → Bool
+is_stable o = option_map_or (λ lock. lock.stable) o false
+
+pub get-only_stable : (locks : Locks) (q : LockKey) → fin.get (only_stable locks) q ≡ cond (option_map_or (λ lock. lock.stable) (fin.get locks q) false) (fin.get locks q) None
+get-only_stable locks q = fin.get-retain_keys locks (λ key. option_map_or (λ lock. lock.stable) (fin.get locks key) false) q (λ k t. ap (λ (key : LockKey). option_map_or (λ lock. lock.stable) (fin.get locks key) false) (sym (locks_same q k t)))
+
+kept_step : (txn : ℕ) (q : LockKey) (e : LockKey × Lock) (rest : List (LockKey × Lock)) (b : Bool) → eq_by_cmp lock_cmp q e.0 ≡ b
+    → fin.find lock_cmp q (map (stabilised txn) rest) ≡ option_map (λ lock. (stabilised txn (q, lock)).1) (fin.find lock_cmp q rest)
+    → cond b (Some (stabilised txn e).1) (fin.find lock_cmp q (map (stabilised txn) rest)) ≡ option_map (λ lock. (stabilised txn (q, lock)).1) (cond b (Some e.1) (fin.find lock_cmp q rest))
+kept_step txn q e rest true t next = ap (λ (key : LockKey). Some (stabilised txn (key, e.1)).1) (sym (same_key q e.0 t))
+kept_step txn q e rest false t next = next
+
+find-stabilised : (txn : ℕ) (q : LockKey) (es : List (LockKey × Lock)) → fin.find lock_cmp q (map (stabilised txn) es) ≡ option_map (λ lock. (stabilised txn (q, lock)).1) (fin.find lock_cmp q es)
+find-stabilised txn q [] = refl
+find-stabilised txn q (e ∷ es) = kept_step txn q e es (eq_by_cmp lock_cmp q e.0) refl (find-stabilised txn q es)
+
+pub get-kept : (locks : Locks) (txn : ℕ) (q : LockKey) → fin.get (kept locks txn) q ≡ option_map (λ lock. (stabilised txn (q, lock)).1) (fin.get locks q)
+get-kept locks txn q =
+    fin.get-from_entries locks_total (map (stabilised txn) (fin.entries locks)) q
+    ∙ find-stabilised txn q (fin.entries locks)
+    ∙ ap (option_map (λ lock. (stabilised txn (q, lock)).1)) (sym (fin.get-entries locks q))
+
+-- ---- what blocks a request
+
+parts : (a b c : Bool) → (a && not b && c) ≡ true → (a ≡ true) × (b ≡ false) × (c ≡ true)
+parts true false true h = (refl, refl, refl)
+parts true false false h = absurd (true≢false (sym h))
+parts true true c h = absurd (true≢false (sym h))
+parts false b c h = absurd (true≢false (sym h))
+
+unlike : (s t : ℕ) → (t == s) ≡ false → s ≢ t
+unlike s t h = grind (arith, nat_tests, h)
+
+other_than : (s t : ℕ) → s ≢ t → (t == s) ≡ false
+other_than s t h = grind (arith, nat_tests, h)
+
+-- an entry that passes the test blocks
+Blocks-entry : (locks : Locks) (file : List ℕ) (txn : ℕ) (mode : Mode) (e : LockKey × Lock) → Has (fin.entries locks) e → blocks file txn mode e ≡ true → Blocks locks file txn mode e.0.1 × (file ≡ e.0.0)
+Blocks-entry locks file txn mode e h t =
+    let p = parts (pointwise nat_eq file e.0.0) (txn == e.0.1) (conflicts mode e.1.mode) t in
+    let name : file ≡ e.0.0 = same_text file e.0.0 (sym p.0) in (
+      record {
+        other = unlike e.0.1 txn p.1;
+        lock = e.1;
+        is_there = ap (λ (f : List ℕ). fin.get locks (f, e.0.1)) name ∙ get-entry_of locks_total locks_same locks e h;
+        conflict = p.2;
+      },
+      name,
+    )
+
+-- what blocks passes the test
+passes : (locks : Locks) (file : List ℕ) (txn : ℕ) (mode : Mode) (by : ℕ) (b : Blocks locks file txn mode by) → blocks file txn mode ((file, by), b.lock) ≡ true
+passes locks file txn mode by b = λ i. nat_list_eq_equiv.refl file i && not (other_than by txn b.other i) && b.conflict i
+
+at_least : (by other : ℕ) (r : Ordering) → nat_cmp by other ≡ r → r ≡ Less → by ≤ other
+at_least by other r c h = told by other Less (ranked by other Less (sym (c ∙ h)))
+  where
+    told : (a b : ℕ) (s : Ordering) → a < b → a ≤ b
+    told a b s l = omega (arith, l)
+
+then_le : (by other : ℕ) (file : List ℕ) → lock_cmp (file, by) (file, other) ≡ Less → by ≤ other
+then_le by other file h = at_least by other (nat_cmp by other) refl (ap (λ r. ordering_then r (nat_cmp by other)) (sym (tied_itself nat_list_cmp_total file)) ∙ h)
+
+pub IsLeastBlocker-blocker : (locks : Locks) (file : List ℕ) (txn : ℕ) (mode : Mode) (e : LockKey × Lock) → lists.find (blocks file txn mode) (fin.entries locks) ≡ Some e → IsLeastBlocker locks file txn mode e.0.1
+IsLeastBlocker-blocker locks file txn mode e f =
+    let at = found (blocks file txn mode) (fin.entries locks) e f in
+    let b = Blocks-entry locks file txn mode e at.0 at.1 in
+    record {
+      blocks = b.0;
+      least = λ other c. by_place other c.lock
+          (first_passes locks_total locks_same (blocks file txn mode) (fin.entries locks) e ((file, other), c.lock) (fin.entries_sorted locks) f
+          (entry_of locks_total locks_same locks (file, other) c.lock c.is_there) (passes locks file txn mode other c)) b.1;
+    }
+  where
+    by_place : (other : ℕ) (l : Lock) → (e ≡ ((file, other), l)) ⊎ (lock_cmp e.0 (file, other) ≡ Less) → file ≡ e.0.0 → e.0.1 ≤ other
+    by_place other l (inl s) name = same_le (ap (λ (x : LockKey × Lock). x.0.1) s)
+      where
+        same_le : e.0.1 ≡ other → e.0.1 ≤ other
+        same_le s = omega (arith, s)
+    by_place other l (inr h) name = then_le e.0.1 other file (ap (λ (f : List ℕ). lock_cmp (f, e.0.1) (file, other)) name ∙ h)
+
+pub IsFree-blocker : (locks : Locks) (file : List ℕ) (txn : ℕ) (mode : Mode) → lists.find (blocks file txn mode) (fin.entries locks) ≡ None → IsFree locks file txn mode
+IsFree-blocker locks file txn mode f by b =
+    absurd (true≢false (sym (passes locks file txn mode by b) ∙ none_passes (blocks file txn mode) (fin.entries locks) ((file, by), b.lock) f (entry_of locks_total locks_same locks (file, by) b.lock b.is_there)))
+
+-- the same, by what `blocker` says
+pub least_blocker : (locks : Locks) (file : List ℕ) (txn : ℕ) (mode : Mode) → IfSome (blocker locks file txn mode) (IsLeastBlocker locks file txn mode)
+least_blocker locks file txn mode = by_found (lists.find (blocks file txn mode) (fin.entries locks)) (λ e f. IsLeastBlocker-blocker locks file txn mode e f) refl
+  where
+    by_found : (o : Option (LockKey × Lock)) → ((e : LockKey × Lock) → lists.find (blocks file txn mode) (fin.entries locks) ≡ Some e → IsLeastBlocker locks file txn mode e.0.1) → lists.find (blocks file txn mode) (fin.entries locks) ≡ o → IfSome (option_map (λ entry. entry.0.1) o) (IsLeastBlocker locks file txn mode)
+    by_found None g f = tt
+    by_found (Some e) g f = g e f
+
+pub no_blocker : (locks : Locks) (file : List ℕ) (txn : ℕ) (mode : Mode) → blocker locks file txn mode ≡ None → IsFree locks file txn mode
+no_blocker locks file txn mode h = IsFree-blocker locks file txn mode (nothing (lists.find (blocks file txn mode) (fin.entries locks)) h)
+  where
+    nothing : (o : Option (LockKey × Lock)) → option_map (λ entry. entry.0.1) o ≡ None → o ≡ None
+    nothing None h = refl
+    nothing (Some e) h = absurd (none_some e.0.1 (sym h))
+
+pub IsTold-outcome : (locks : Locks) (file : List ℕ) (txn : ℕ) (mode : Mode) → IsTold locks file txn mode (outcome (blocker locks file txn mode))
+IsTold-outcome locks file txn mode = by_blocker (blocker locks file txn mode) (least_blocker locks file txn mode) (no_blocker locks file txn mode)
+  where
+    by_blocker : (o : Option ℕ) → IfSome o (IsLeastBlocker locks file txn mode) → (o ≡ None → IsFree locks file txn mode) → IsTold locks file txn mode (outcome o)
+    by_blocker None l f = f refl
+    by_blocker (Some by) l f = l
+
+-- ---- no two locks are in conflict
+
+conflicts-swapped : (a b : Mode) → conflicts a b ≡ conflicts b a
+conflicts-swapped Shared Shared = refl
+conflicts-swapped Shared Exclusive = refl
+conflicts-swapped Exclusive Shared = refl
+conflicts-swapped Exclusive Exclusive = refl
+
+stronger_agrees : (had mode other : Mode) → conflicts had other ≡ false → conflicts mode other ≡ false → conflicts (stronger had mode) other ≡ false
+stronger_agrees Shared mode other h k = k
+stronger_agrees Exclusive mode other h k = h
+
+pub HasNoConflict-empty : HasNoConflict fin.empty
+HasNoConflict-empty file s t a b h f g = absurd (none_some a (sym (fin.get-empty lock_cmp (key file s)) ∙ f))
+
+-- the table has a lock of this mode there
+abbrev pub HasMode : Locks → LockKey → Mode → Type 0
+HasMode locks q mode = (lock : Lock) × (fin.get locks q ≡ Some lock) × (lock.mode ≡ mode)
+
+-- a table whose locks were there before, of the same modes
+pub HasNoConflict-fewer : (old new : Locks) → ((q : LockKey) (a : Lock) → fin.get new q ≡ Some a → HasMode old q a.mode) → HasNoConflict old → HasNoConflict new
+HasNoConflict-fewer old new from h file s t a b other f g =
+    let x = from (file, s) a f in
+    let y = from (file, t) b g in
+    (λ i. conflicts (sym x.2 i) (sym y.2 i)) ∙ h file s t x.0 y.0 other x.1 y.1
+
+left_over : (b : Bool) (o : Option Lock) (a : Lock) → cond b o None ≡ Some a → o ≡ Some a
+left_over true o a h = h
+left_over false o a h = absurd (none_some a h)
+
+pub HasNoConflict-released : (locks : Locks) (txn : ℕ) → HasNoConflict locks → HasNoConflict (released locks txn)
+HasNoConflict-released locks txn = HasNoConflict-fewer locks (released locks txn) (λ q a f. (a, left_over (not (q.1 == txn)) (fin.get locks q) a (sym (get-released locks txn q) ∙ f), refl))
+
+pub HasNoConflict-only_stable : (locks : Locks) → HasNoConflict locks → HasNoConflict (only_stable locks)
+HasNoConflict-only_stable locks = HasNoConflict-fewer locks (only_stable locks) (λ q a f. (a, left_over (option_map_or (λ lock. lock.stable) (fin.get locks q) false) (fin.get locks q) a (sym (get-only_stable locks q) ∙ f), refl))
+
+marked : (txn : ℕ) (q : LockKey) (o : Option Lock) (a : Lock) → option_map (λ lock. (stabilised txn (q, lock)).1) o ≡ Some a → (lock : Lock) × (o ≡ Some lock) × (lock.mode ≡ a.mode)
+marked txn q None a h = absurd (none_some a h)
+marked txn q (Some lock) a h = (lock, refl, ap (λ (l : Lock). l.mode) (some_same (stabilised txn (q, lock)).1 a h))
+
+pub HasNoConflict-kept : (locks : Locks) (txn : ℕ) → HasNoConflict locks → HasNoConflict (kept locks txn)
+HasNoConflict-kept locks txn = HasNoConflict-fewer locks (kept locks txn) (λ q a f. marked txn q (fin.get locks q) a (sym (get-kept locks txn q) ∙ f))
+
+module _ (locks : Locks) (file : List ℕ) (txn : ℕ) (mode : Mode) (number version : ℕ) (free : IsFree locks file txn mode) (h : HasNoConflict locks) where
+  agrees : (by : ℕ) (b : Lock) → by ≢ txn → fin.get locks (file, by) ≡ Some b → conflicts mode b.mode ≡ false
+  agrees by b other f = by_test (conflicts mode b.mode) refl
+    where
+      by_test : (c : Bool) → conflicts mode b.mode ≡ c → c ≡ false
+      by_test true e = absurd (free by (record { other = other; lock = b; is_there = f; conflict = e }))
+      by_test false e = refl
+
+  new_agrees : (had : Option Lock) (by : ℕ) (b : Lock) → fin.get locks (file, txn) ≡ had → by ≢ txn → fin.get locks (file, by) ≡ Some b → conflicts (lock_after had mode number version).mode b.mode ≡ false
+  new_agrees None by b e other f = agrees by b other f
+  new_agrees (Some had) by b e other f = stronger_agrees had.mode mode b.mode (h file txn by had b (λ s. other (sym s)) e f) (agrees by b other f)
+
+  -- a key of the table after the grant: the one that was granted, or one that was there
+  abbrev IsAt : LockKey → Lock → Type 0
+  IsAt q a = ((q ≡ key file txn) × (lock_after (fin.get locks (file, txn)) mode number version ≡ a)) ⊎ (fin.get locks q ≡ Some a)
+
+  at : (q : LockKey) (a : Lock) → fin.get (granted locks file txn mode number version) q ≡ Some a → IsAt q a
+  at q a f = by_test (eq_by_cmp lock_cmp q (file, txn)) refl (sym (get-granted locks file txn mode number version q) ∙ f)
+    where
+      by_test : (b : Bool) → eq_by_cmp lock_cmp q (file, txn) ≡ b → cond b (Some (lock_after (fin.get locks (file, txn)) mode number version)) (fin.get locks q) ≡ Some a → IsAt q a
+      by_test true e g = inl (same_key q (file, txn) e, some_same (lock_after (fin.get locks (file, txn)) mode number version) a g)
+      by_test false e g = inr g
+
+  one_new : (f : List ℕ) (s t : ℕ) (a b : Lock) → s ≢ t → key f s ≡ key file txn → lock_after (fin.get locks (file, txn)) mode number version ≡ a → fin.get locks (f, t) ≡ Some b → conflicts a.mode b.mode ≡ false
+  one_new f s t a b other e is_new g =
+      ap (λ (l : Lock). conflicts l.mode b.mode) (sym is_new)
+      ∙ new_agrees (fin.get locks (file, txn)) t b refl (λ d. other (ap (λ (k : LockKey). k.1) e ∙ sym d)) (ap (λ (k : LockKey). fin.get locks (k.0, t)) (sym e) ∙ g)
+
+  both_at : (f : List ℕ) (s t : ℕ) (a b : Lock) → s ≢ t → IsAt (f, s) a → IsAt (f, t) b → conflicts a.mode b.mode ≡ false
+  both_at f s t a b other (inl x) (inl y) = absurd (other (ap (λ (k : LockKey). k.1) (x.0 ∙ sym y.0)))
+  both_at f s t a b other (inl x) (inr y) = one_new f s t a b other x.0 x.1 y
+  both_at f s t a b other (inr x) (inl y) = conflicts-swapped a.mode b.mode ∙ one_new f t s b a (λ e. other (sym e)) y.0 y.1 x
+  both_at f s t a b other (inr x) (inr y) = h f s t a b other x y
+
+  pub HasNoConflict-granted : HasNoConflict (granted locks file txn mode number version)
+  HasNoConflict-granted f s t a b other x y = both_at f s t a b other (at (f, s) a x) (at (f, t) b y)

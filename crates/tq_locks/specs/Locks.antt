@@ -1,0 +1,133 @@
+-- The locks of a server, a finite map from a file and a transaction to a lock.
+use Rattle.std.specs.Prelude.{◌≡◌, ◌≢◌, ◌≤◌, ℕ, Bool, true, false, not, ◌&&◌, ◌||◌, ◌==◌, List, [], ◌∷◌, map, filter, Option, Some, None, if◌then◌else◌, refl}
+use Rattle.std.specs.Coded.{Coded, code_by, coded×, coded_list, coded_ℕ, coded_bool}
+use Rattle.std.specs.Cmp.Lexicographic.{pointwise}
+use Rattle.std.specs.FinMap as fin
+use Rattle.std.specs.List.{find}
+use Rattle.std.specs.Option.{option_map, option_map_or}
+use Rattle.std.specs.Ordering.{nat_cmp, ordering_then}
+use Rattle.std.specs.declared.cmp.Ordering.{Ordering}
+use Rattle.tq_store.specs.Copies.{name_cmp}
+use Rattle.tq_locks.specs.declared.mode.Mode.{Mode}
+use Rattle.tq_locks.specs.declared.mode.Mode.TheVariants.{Shared, Exclusive}
+use Rattle.tq_locks.specs.declared.mode.Lock.{Lock}
+use Rattle.tq_locks.specs.declared.table.LockOutcome.{LockOutcome}
+use Rattle.tq_locks.specs.declared.table.LockOutcome.TheVariants.{Granted, Held}
+
+-- a file and a transaction
+abbrev pub LockKey : Type 0
+LockKey = List ℕ × ℕ
+
+-- by file, and then by transaction
+abbrev pub lock_cmp : LockKey → LockKey → Ordering
+lock_cmp a b = ordering_then (name_cmp a.0 b.0) (nat_cmp a.1 b.1)
+
+-- the set of locks: at most one for a file and a transaction
+abbrev pub Locks : Type 0
+Locks = fin.FinMap lock_cmp Lock
+
+-- shared agrees with shared only
+abbrev pub conflicts : Mode → Mode → Bool
+conflicts Shared Shared = false
+conflicts Shared Exclusive = true
+conflicts Exclusive other = true
+
+abbrev pub stronger : Mode → Mode → Mode
+stronger Exclusive other = Exclusive
+stronger Shared other = other
+
+abbrev pub is_exclusive : Mode → Bool
+is_exclusive Exclusive = true
+is_exclusive Shared = false
+
+-- another transaction's lock on the file that conflicts with the mode
+abbrev pub blocks : List ℕ → ℕ → Mode → LockKey × Lock → Bool
+blocks file txn mode entry = pointwise (◌==◌) file entry.0.0 && not (txn == entry.0.1) && conflicts mode entry.1.mode
+
+-- the least transaction with a lock that conflicts: the entries of a file rise by transaction
+abbrev pub blocker : Locks → List ℕ → ℕ → Mode → Option ℕ
+blocker locks file txn mode = option_map (λ entry. entry.0.1) (find (blocks file txn mode) (fin.entries locks))
+
+-- another transaction has a lock on the file that conflicts with the mode
+pub record Blocks (locks : Locks) (file : List ℕ) (txn : ℕ) (mode : Mode) (by : ℕ) : Type 0 where
+  pub other : by ≢ txn
+  pub lock : Lock
+  pub is_there : fin.get locks (file, by) ≡ Some lock
+  pub conflict : conflicts mode lock.mode ≡ true
+
+-- it blocks the request, and no transaction of a smaller number does
+pub record IsLeastBlocker (locks : Locks) (file : List ℕ) (txn : ℕ) (mode : Mode) (by : ℕ) : Type 0 where
+  pub blocks : Blocks locks file txn mode by
+  pub least : (other : ℕ) → Blocks locks file txn mode other → by ≤ other
+
+-- no transaction blocks the request
+abbrev pub IsFree : Locks → List ℕ → ℕ → Mode → Type 0
+IsFree locks file txn mode = (by : ℕ) → ¬ Blocks locks file txn mode by
+
+-- the lock after a grant: one that is held keeps `since`, and the stronger mode
+abbrev pub lock_after : Option Lock → Mode → ℕ → ℕ → Lock
+lock_after None mode number version = record { mode = mode; since = number; version = version; stable = false }
+lock_after (Some lock) mode number version = record { mode = stronger lock.mode mode; since = lock.since; version = lock.version; stable = lock.stable }
+
+abbrev pub granted : Locks → List ℕ → ℕ → Mode → ℕ → ℕ → Locks
+granted locks file txn mode number version = fin.insert locks (file, txn) (lock_after (fin.get locks (file, txn)) mode number version)
+
+-- what a request for a lock gets, by the transaction that blocks it
+abbrev pub outcome : Option ℕ → LockOutcome
+outcome None = Granted
+outcome (Some by) = Held by
+
+-- granted where nothing blocks the request, and else the least that blocks it is named
+abbrev pub IsTold : Locks → List ℕ → ℕ → Mode → LockOutcome → Type 0
+IsTold locks file txn mode Granted = IsFree locks file txn mode
+IsTold locks file txn mode (Held by) = IsLeastBlocker locks file txn mode by
+
+-- the locks after a request
+abbrev pub asked_at : Option ℕ → Locks → Locks → Locks
+asked_at None old new = new
+asked_at (Some by) old new = old
+
+abbrev pub asked : Locks → List ℕ → ℕ → Mode → ℕ → ℕ → Locks
+asked locks file txn mode number version = asked_at (blocker locks file txn mode) locks (granted locks file txn mode number version)
+
+-- the locks of a transaction, ascending by file
+abbrev pub held_of : Locks → ℕ → List (LockKey × Lock)
+held_of locks txn = filter (λ entry. entry.0.1 == txn) (fin.entries locks)
+
+abbrev pub is_empty : {A : Type 0} → List A → Bool
+is_empty [] = true
+is_empty (x ∷ xs) = false
+
+-- the transaction holds no lock
+abbrev pub holds_nothing : Locks → ℕ → Bool
+holds_nothing locks txn = is_empty (held_of locks txn)
+
+-- without the locks of a transaction
+abbrev pub released : Locks → ℕ → Locks
+released locks txn = fin.retain_keys locks (λ key. not (key.1 == txn))
+
+-- without the locks that aren't stable
+abbrev pub only_stable : Locks → Locks
+only_stable locks = fin.retain_keys locks (λ key. option_map_or (λ lock. lock.stable) (fin.get locks key) false)
+
+-- stable from now on, where it is the transaction's
+abbrev pub stabilised : ℕ → LockKey × Lock → LockKey × Lock
+stabilised txn entry = (entry.0, record { mode = entry.1.mode; since = entry.1.since; version = entry.1.version; stable = entry.1.stable || entry.0.1 == txn })
+
+-- with the locks of a transaction stable
+abbrev pub kept : Locks → ℕ → Locks
+kept locks txn = fin.from_entries (map (stabilised txn) (fin.entries locks))
+
+-- no two locks of the set are in conflict
+abbrev pub HasNoConflict : Locks → Type 0
+HasNoConflict locks = (file : List ℕ) (s t : ℕ) (a b : Lock) → s ≢ t → fin.get locks (file, s) ≡ Some a → fin.get locks (file, t) ≡ Some b → conflicts a.mode b.mode ≡ false
+
+-- codes, by which a proof tells values apart
+abbrev pub mode_code : Coded Mode
+mode_code = code_by Bool coded_bool is_exclusive (λ b. if b then Exclusive else Shared) (λ mode. elim mode as (λ m. (if is_exclusive m then Exclusive else Shared) ≡ m) [ Shared ↦ refl | Exclusive ↦ refl ])
+
+abbrev pub lock_code : Coded Lock
+lock_code = code_by (Mode × (ℕ × (ℕ × Bool))) (coded× mode_code (coded× coded_ℕ (coded× coded_ℕ coded_bool))) (λ l. (l.mode, (l.since, (l.version, l.stable)))) (λ p. record { mode = p.0; since = p.1.0; version = p.1.1.0; stable = p.1.1.1 }) (λ _. refl)
+
+abbrev pub locks_code : Coded Locks
+locks_code = fin.code (coded× (coded_list coded_ℕ) coded_ℕ) lock_code

@@ -1,0 +1,104 @@
+ghost use Rattle.std.specs.Prelude.{◌≡◌, ◌+◌, ◌<◌, ◌≤◌, OnOk, IfOk, IsOk, length};
+ghost use Rattle.std.specs.FinMap as map;
+
+use crate::{Content, FileName, Write};
+use indexmap::IndexMap;
+use std::alloc::{AllocError, Global};
+use std::marker::Model;
+use tq_shape::{ExactClone, Seq};
+
+/// A copy of a file: the version that was installed last, and its content.
+#[derive(Debug, Drop, Clone, PartialEq)]
+pub struct FileCopy {
+    pub version: u64,
+    pub content: Content,
+}
+
+/// A server's copies, a map whose versions only rise.
+#[derive(Drop)]
+pub struct Copies {
+    files: IndexMap<FileName, FileCopy>,
+    never_written: FileCopy,
+}
+
+impl Model for Copies {
+    ghost use Rattle.std.specs.Prelude.{◌≡◌, []};
+    ghost use Rattle.std.specs.FinMap as map;
+    ghost use Rattle.indexmap.specs.IndexMap.{spare};
+    ghost use Rattle.tq_store.specs.Copies.{CopiesView, copies_code};
+
+    ghost Value = { CopiesView };
+
+    ghost coded = { copies_code };
+
+    ghost view = { λ a. record { files = map.from_entries a.files.entries; room = spare a.files } };
+
+    ghost invariant = { λ a. (a.never_written.version ≡ 0) × (a.never_written.content ≡ []) };
+}
+
+impl Copies {
+    ghost use Rattle.tq_store.specs.Copies.{Installs, OnlyRises, copy_of, installed, installed_all};
+
+    /// No file was written.
+    pub fn new(alloc: Global) -> Copies
+        ensures { result.files ≡ map.empty }
+    {
+        Copies {
+            files: IndexMap::new(alloc),
+            never_written: FileCopy {
+                version: 0,
+                content: Content::empty(alloc),
+            },
+        }
+    }
+
+    /// The copy of a file, of version 0 and empty where it was never written.
+    pub fn get(&self, name: &FileName) -> &FileCopy
+        ensures { result.now ≡ copy_of self.now.files name.now }
+    {
+        match self.files.get(name) {
+            Some(copy) => copy,
+            None => &self.never_written,
+        }
+    }
+
+    /// Makes room for this many calls of `install`. The copies stay as they are.
+    pub fn reserve(&mut self, _alloc: Global, additional: usize) -> Result<(), AllocError>
+        ensures files { self.new.files ≡ self.old.files }
+        ensures room { OnOk result (additional ≤ self.new.room) }
+    {
+        self.files.reserve(additional)
+    }
+
+    /// Keeps the greater version, at equal ones the copy that is there. It takes no memory.
+    pub fn install(&mut self, name: FileName, version: u64, content: Content)
+        requires { 0 < self.old.room }
+        ensures files { self.new.files ≡ installed self.old.files name (record { version = version; content = content }) }
+        ensures installs { Installs self.old.files self.new.files name (record { version = version; content = content }) }
+        ensures rises { OnlyRises self.old.files self.new.files }
+        ensures room { self.old.room ≤ self.new.room + 1 }
+    {
+        let copy = FileCopy { version, content };
+        if self.get(&name).version < copy.version {
+            let _replaced = self.files.insert(name, copy).unwrap();
+        }
+    }
+
+    /// Installs writes, one after another, in the room that was made for them. It takes no memory.
+    pub fn install_all(&mut self, writes: Seq<Write>)
+        requires { length writes ≤ self.old.room }
+        ensures files { self.new.files ≡ installed_all self.old.files writes }
+        ensures rises { OnlyRises self.old.files self.new.files }
+        ensures room { self.old.room ≤ self.new.room + length writes }
+    {
+        for write in writes.into_vec() {
+            self.install(write.file, write.version, write.content);
+        }
+    }
+}
+
+impl ExactClone for FileCopy {
+    ghost use Rattle.std.proofs.Common.{rules};
+
+    ghost clones = { Prim.search rules };
+}
