@@ -1,0 +1,6 @@
+pub mod CopyPush
+pub mod CopiesPush
+pub mod Votes
+pub mod Gathered
+pub mod KeptLocks
+pub mod NewestCopies

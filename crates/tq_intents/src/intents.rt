@@ -1,0 +1,329 @@
+ghost use Rattle.std.specs.Prelude.{◌≡◌, ◌+◌, ◌<◌, ◌≤◌, ◌++◌, [], ◌∷◌, OnOk, OnErr, IfOk, IsTrue, ◌↔◌};
+ghost use Rattle.std.specs.Option.{option_copied};
+ghost use Rattle.std.specs.FinMap as fin;
+ghost use Rattle.std.specs.Option.{IfSome, is_some};
+ghost use Rattle.std.specs.Prelude.{map, length, IsSome};
+ghost use Rattle.std.specs.Prelude.{ℕ, nat_eq};
+ghost use Rattle.std.specs.List.{list_any, filter_map};
+ghost use Rattle.std.specs.Map.{lookup};
+ghost use Rattle.tq_store.specs.Copies.{copy_in, installed, installed_all};
+ghost use Rattle.tq_intents.specs.Kept as spec;
+ghost use Rattle.tq_intents.specs.Kept.{HasOneVoteEach, HoldsVotesLocks, IsAbove, KeepsNewest, kept_copies, kept_votes, vote_at, vote_records};
+
+use crate::{KeptLock, OpenVote, Record};
+use indexmap::IndexMap;
+use std::alloc::{AllocError, Global};
+use std::marker::Model;
+use tq_shape::Seq;
+use tq_store::{Copies, Write};
+
+/// The stable records of a server, and an index of the open votes that they stand for.
+#[derive(Drop)]
+pub struct Intents {
+    records: Vec<Record>,
+    open_votes: IndexMap<u64, OpenVote>,
+}
+
+impl Model for Intents {
+    ghost use Rattle.std.specs.Prelude.{List, vec_capacity, vec_len, ◌-◌};
+    ghost use Rattle.tq_intents.specs.Index.{IsIndex, LogView, log_code};
+    ghost use Rattle.tq_intents.specs.contracts.record.Record as record_type;
+
+    ghost Value = { LogView };
+
+    ghost coded = { log_code record_type.the_row.coded };
+
+    ghost view = { λ a. record { records = a.records.items; room = vec_capacity a.records - vec_len a.records } };
+
+    ghost invariant = { λ a. IsIndex a.records.items a.open_votes.entries };
+}
+
+impl Intents {
+    pub fn new(alloc: Global) -> Intents
+        ensures { result.records ≡ [] }
+    {
+        Intents {
+            records: Vec::new(alloc),
+            open_votes: IndexMap::new(alloc),
+        }
+    }
+
+    /// What a list of stable records stands for.
+    pub fn recover(alloc: Global, records: &[Record]) -> Result<Intents, AllocError>
+        requires { HasOneVoteEach records.now }
+        ensures { IfOk result (λ intents. intents.records ≡ records.now) }
+    {
+        let open_votes = index(alloc, records)?;
+        let mut kept = Vec::new(alloc);
+        for record in records {
+            kept.push(record.clone()?)?;
+        }
+        Ok(Intents {
+            records: kept,
+            open_votes,
+        })
+    }
+
+    /// The stable records, in the order in which they were written.
+    pub fn stable(&self) -> &[Record]
+        ensures list { result.now ≡ self.now.records }
+        ensures one_each { HasOneVoteEach self.now.records }
+        ensures locks { HoldsVotesLocks self.now.records }
+    {
+        let _ = &self.open_votes;
+        self.records.as_slice()
+    }
+
+    /// The copies that the stable records keep.
+    pub fn copies(&self, alloc: Global) -> Result<Copies, AllocError>
+        ensures copies { IfOk result (λ copies. copies.files ≡ kept_copies self.now.records) }
+        ensures newest { KeepsNewest self.now.records }
+    {
+        copies_of(alloc, self.records.as_slice())
+    }
+
+    /// The open vote of a transaction.
+    pub fn of(&self, txn: u64) -> Option<&OpenVote>
+        ensures { option_copied result ≡ fin.get (kept_votes self.now.records) txn }
+    {
+        self.open_votes.get(&txn)
+    }
+
+    /// Makes room for this many records.
+    pub fn reserve(&mut self, additional: usize) -> Result<(), AllocError>
+        ensures records { self.new.records ≡ self.old.records }
+        ensures room { OnOk result (additional ≤ self.new.room) }
+    {
+        self.records.reserve(additional)
+    }
+
+    /// Writes that a copy was installed, in the room that was made for it.
+    pub fn push_copy(&mut self, write: Write)
+        requires { 0 < self.old.room }
+        ensures records { self.new.records ≡ self.old.records ++ Record.Copy write ∷ [] }
+        ensures votes { kept_votes self.new.records ≡ kept_votes self.old.records }
+        ensures copies { kept_copies self.new.records ≡ installed (kept_copies self.old.records) write.file (copy_in write) }
+        ensures room { self.old.room ≤ self.new.room + 1 }
+    {
+        self.records.push_reserved(Record::Copy(write));
+    }
+
+    /// Writes that copies were installed, in the room that was made for it.
+    pub fn push_copies(&mut self, writes: Seq<Write>)
+        requires { length writes ≤ self.old.room }
+        ensures records { self.new.records ≡ self.old.records ++ map Record.Copy writes }
+        ensures votes { kept_votes self.new.records ≡ kept_votes self.old.records }
+        ensures copies { kept_copies self.new.records ≡ installed_all (kept_copies self.old.records) writes }
+        ensures room { self.old.room ≤ self.new.room + length writes }
+    {
+        for write in writes.into_vec() {
+            self.push_copy(write);
+        }
+    }
+
+    /// Gives a vote: writes its records and opens it. All memory is asked for before the first change.
+    pub fn prepare(
+        &mut self,
+        alloc: Global,
+        txn: u64,
+        number: u64,
+        writes: Seq<Write>,
+        locks: Seq<KeptLock>,
+    ) -> Result<(), AllocError>
+        requires closed { fin.get (kept_votes self.old.records) txn ≡ None }
+        requires newest { IsAbove number self.old.records }
+        ensures records { OnOk result (self.new.records ≡ self.old.records ++ vote_records txn number writes locks) }
+        ensures votes { OnOk result (kept_votes self.new.records ≡ fin.insert (kept_votes self.old.records) txn (record { number = number; writes = writes; locks = locks })) }
+        ensures copies { OnOk result (kept_copies self.new.records ≡ kept_copies self.old.records) }
+        ensures err { OnErr result (self.new.records ≡ self.old.records) }
+    {
+        let mut added = vote_records(alloc, txn, number, writes.as_slice(), locks.as_slice())?;
+        self.open_votes.reserve(1)?;
+        self.records.append(&mut added)?;
+        let vote = OpenVote { number, writes, locks };
+        let _replaced = self.open_votes.insert(txn, vote).unwrap();
+        Ok(())
+    }
+
+    /// Ends the open vote of a transaction, in the room that was made for it.
+    pub fn finish(&mut self, txn: u64)
+        requires open { IsSome (fin.get (kept_votes self.old.records) txn) }
+        requires room { 0 < self.old.room }
+        ensures records { self.new.records ≡ self.old.records ++ Record.Gone txn (vote_at (kept_votes self.old.records) txn).number ∷ [] }
+        ensures votes { kept_votes self.new.records ≡ fin.remove (kept_votes self.old.records) txn }
+        ensures copies { kept_copies self.new.records ≡ kept_copies self.old.records }
+    {
+        let vote = self.open_votes.swap_remove(&txn).unwrap();
+        let number = vote.number;
+        self.records.push_reserved(Record::Gone { txn, number });
+    }
+}
+
+/// The copies that a list of records keeps.
+fn copies_of(alloc: Global, records: &[Record]) -> Result<Copies, AllocError>
+    ensures { IfOk result (λ copies. copies.files ≡ kept_copies records.now) }
+{
+    let mut copies = Copies::new(alloc);
+    for written in records {
+        install_record(alloc, &mut copies, written)?;
+    }
+    Ok(copies)
+}
+
+/// Installs the copy of a `Copy` record; the others have none.
+fn install_record(alloc: Global, copies: &mut Copies, written: &Record) -> Result<(), AllocError>
+    ensures { OnOk result (copies.new.files ≡ spec.with_record copies.old.files written.now) }
+{
+    match written {
+        Record::Copy(write) => {
+            let content = write.content.clone()?;
+            copies.reserve(alloc, 1)?;
+            copies.install(write.file, write.version, content);
+            Ok(())
+        }
+        _ => Ok(()),
+    }
+}
+
+/// The records of a vote, in order.
+fn vote_records(
+    alloc: Global,
+    txn: u64,
+    number: u64,
+    writes: &[Write],
+    locks: &[KeptLock],
+) -> Result<Vec<Record>, AllocError>
+    ensures { IfOk result (λ records. records.items ≡ vote_records txn number writes.now locks.now) }
+{
+    let mut records = Vec::new(alloc);
+    for write in writes {
+        let write = write.clone()?;
+        records.push(Record::Intent { txn, number, write })?;
+    }
+    for lock in locks {
+        let lock = *lock;
+        records.push(Record::Keep { txn, number, lock })?;
+    }
+    records.push(Record::Prepared { txn, number })?;
+    Ok(records)
+}
+
+/// The open votes of a list of records, by transaction.
+fn index(alloc: Global, records: &[Record]) -> Result<IndexMap<u64, OpenVote>, AllocError>
+    ensures { IfOk result (λ index. (txn : ℕ) → lookup (nat_eq txn) index.entries ≡ fin.get (kept_votes records.now) txn) }
+{
+    let mut index = IndexMap::new(alloc);
+    let mut left = records.len();
+    while left > 0 {
+        left -= 1;
+        if let Some(entry) = opened(alloc, records, &records[left])? {
+            index.insert(entry.0, entry.1)?;
+        }
+    }
+    Ok(index)
+}
+
+/// The vote that a record opens, where it has not ended.
+fn opened(
+    alloc: Global,
+    records: &[Record],
+    written: &Record,
+) -> Result<Option<(u64, OpenVote)>, AllocError>
+    ensures { IfOk result (λ entry. entry ≡ spec.opened records.now written.now) }
+{
+    match written {
+        Record::Prepared { txn, number } => {
+            if is_ended(records, *txn, *number) {
+                return Ok(None);
+            }
+            let writes = writes_of(alloc, records, *txn, *number)?;
+            let locks = locks_of(alloc, records, *txn, *number)?;
+            let vote = OpenVote {
+                number: *number,
+                writes,
+                locks,
+            };
+            Ok(Some((*txn, vote)))
+        }
+        _ => Ok(None),
+    }
+}
+
+fn ends_vote(written: &Record, txn: u64, number: u64) -> bool
+    ensures { result ≡ spec.ends_vote txn number written.now }
+{
+    match written {
+        Record::Gone { txn: t, number: n } => txn == *t && number == *n,
+        _ => false,
+    }
+}
+
+fn is_ended(records: &[Record], txn: u64, number: u64) -> bool
+    ensures { result ≡ list_any (spec.ends_vote txn number) records.now }
+{
+    records.iter().any(|record| ends_vote(record, txn, number))
+}
+
+fn write_of(written: &Record, txn: u64, number: u64) -> Option<&Write>
+    ensures { option_copied result ≡ spec.write_of txn number written.now }
+{
+    match written {
+        Record::Intent { txn: t, number: n, write } => {
+            if txn == *t && number == *n {
+                Some(write)
+            } else {
+                None
+            }
+        }
+        _ => None,
+    }
+}
+
+fn lock_of(written: &Record, txn: u64, number: u64) -> Option<KeptLock>
+    ensures { result ≡ spec.lock_of txn number written.now }
+{
+    match written {
+        Record::Keep { txn: t, number: n, lock } => {
+            if txn == *t && number == *n {
+                Some(*lock)
+            } else {
+                None
+            }
+        }
+        _ => None,
+    }
+}
+
+fn writes_of(
+    alloc: Global,
+    records: &[Record],
+    txn: u64,
+    number: u64,
+) -> Result<Seq<Write>, AllocError>
+    ensures { IfOk result (λ writes. writes ≡ filter_map (spec.write_of txn number) records.now) }
+{
+    let mut writes = Vec::new(alloc);
+    for record in records {
+        if let Some(write) = write_of(record, txn, number) {
+            writes.push(write.clone()?)?;
+        }
+    }
+    Ok(Seq::from_vec(writes))
+}
+
+fn locks_of(
+    alloc: Global,
+    records: &[Record],
+    txn: u64,
+    number: u64,
+) -> Result<Seq<KeptLock>, AllocError>
+    ensures { IfOk result (λ locks. locks ≡ filter_map (spec.lock_of txn number) records.now) }
+{
+    let mut locks = Vec::new(alloc);
+    for record in records {
+        if let Some(lock) = lock_of(record, txn, number) {
+            locks.push(lock)?;
+        }
+    }
+    Ok(Seq::from_vec(locks))
+}

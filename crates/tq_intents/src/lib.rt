@@ -1,0 +1,10 @@
+//! What a server keeps through a crash: its stable records, and what they stand for.
+#![tactic(auto)]
+
+mod intents;
+mod record;
+#[cfg(test)]
+mod tests;
+
+pub use intents::Intents;
+pub use record::{KeptLock, OpenVote, Record};
