@@ -49,6 +49,14 @@ impl LockTable {
         }
     }
 
+    /// An equal table, with memory of its own.
+    pub fn copy(&self, _alloc: Global) -> Result<LockTable, AllocError>
+        ensures { IfOk result (λ copy. copy ≡ self.now) }
+    {
+        let locks = self.locks.clone()?;
+        Ok(LockTable { locks })
+    }
+
     /// The least transaction, other than this one, whose lock on the file conflicts with the mode.
     pub fn blocker(&self, txn: u64, file: FileName, mode: Mode) -> Option<u64>
         ensures value { result ≡ blocker self.now file txn mode }

@@ -52,6 +52,21 @@ impl Copies {
         }
     }
 
+    /// The same copies, with memory of their own.
+    pub fn copy(&self, alloc: Global) -> Result<Copies, AllocError>
+        ensures { IfOk result (λ copy. copy.files ≡ self.now.files) }
+    {
+        let files = self.files.clone()?;
+        let never_written = FileCopy {
+            version: 0,
+            content: Content::empty(alloc),
+        };
+        Ok(Copies {
+            files,
+            never_written,
+        })
+    }
+
     /// The copy of a file, of version 0 and empty where it was never written.
     pub fn get(&self, name: &FileName) -> &FileCopy
         ensures { result.now ≡ copy_of self.now.files name.now }

@@ -1,0 +1,77 @@
+//! The program `tq`: the shell of a tree of servers over the standard streams.
+#![tactic(auto)]
+
+use std::process::ExitCode;
+use std::{env, io};
+use tq_shape::Levels;
+use tq_shell::{Reading, RunFault, Words, WordsFault, Writing, run};
+
+/// The status of a run that ended by a fault.
+const FAULT: u8 = 1;
+
+/// The status of words that are refused.
+const REFUSED: u8 = 2;
+
+/// Does what the words ask for, and ends with the status of that.
+fn main(rt: HostRuntime) -> io::Result<ExitCode> {
+    let words = match words_given(&rt) {
+        Ok(words) => words,
+        Err(error) => return refuse_unread(&rt, error),
+    };
+    match Words::read(rt.alloc(), words.as_slice()) {
+        Ok(words) => obey(&rt, words),
+        Err(fault) => refuse(&rt, fault),
+    }
+}
+
+fn words_given(rt: &HostRuntime) -> io::Result<Vec<String>> {
+    let mut words = Vec::new(rt.alloc());
+    for word in env::args(rt)? {
+        words.push(word)?;
+    }
+    Ok(words)
+}
+
+/// Memory was refused, or a word is no text.
+fn refuse_unread(rt: &HostRuntime, error: io::Error) -> io::Result<ExitCode> {
+    if error.kind() == io::ErrorKind::OutOfMemory {
+        return Ok(say_fault(rt, RunFault::Memory));
+    }
+    println!(rt; "error: the words cannot be read: {error}")?;
+    Ok(ExitCode::from(REFUSED))
+}
+
+fn obey(rt: &HostRuntime, words: Words) -> io::Result<ExitCode> {
+    match words {
+        Words::Shell { levels } => shell(rt, levels),
+    }
+}
+
+fn shell(rt: &HostRuntime, levels: Levels) -> io::Result<ExitCode> {
+    let mut reader = Reading::new(rt.reader());
+    let mut writer = Writing::new(io::writer(rt));
+    match run(rt.alloc(), levels, &mut reader, &mut writer) {
+        Ok(()) => Ok(ExitCode::SUCCESS),
+        Err(fault) => Ok(say_fault(rt, fault)),
+    }
+}
+
+/// Shows what clap answers to the words: why they are refused, or what they ask to be shown.
+fn refuse(rt: &HostRuntime, fault: WordsFault) -> io::Result<ExitCode> {
+    match fault {
+        WordsFault::Memory => Ok(say_fault(rt, RunFault::Memory)),
+        WordsFault::Refused(error) => {
+            print!(rt; "{error}")?;
+            if error.use_stderr() {
+                return Ok(ExitCode::from(REFUSED));
+            }
+            Ok(ExitCode::SUCCESS)
+        }
+    }
+}
+
+/// Where the fault cannot be printed, the status alone tells of it.
+fn say_fault(rt: &HostRuntime, fault: RunFault) -> ExitCode {
+    let _printed = println!(rt; "{fault}");
+    ExitCode::from(FAULT)
+}

@@ -1,0 +1,149 @@
+-- The journal of the desk, newest entry first: what is legal, and what its entries say.
+use Rattle.std.specs.Prelude.{◌≡◌, ◌+◌, ◌==◌, ◌&&◌, ◌⊎◌, ℕ, suc, Bool, true, cond, List, [], ◌∷◌, Option, Some, None, if◌then◌else◌}
+use Rattle.std.specs.FinMap as fin
+use Rattle.std.specs.List.{find}
+use Rattle.tq_shape.specs.Journal.{entry_at, Has, IsLegal, state_after}
+use Rattle.tq_shape.specs.Limits.{LimitsView}
+use Rattle.tq_shape.specs.declared.entry.Entry.{Entry}
+use Rattle.tq_node.specs.declared.ask.Verdict.{Verdict}
+use Rattle.tq_node.specs.declared.ask.Verdict.TheVariants as verdicts
+use Rattle.tq_desk.specs.declared.ask.DeskAsk.{DeskAsk}
+use Rattle.tq_desk.specs.declared.ask.DeskAsk.TheVariants as asks
+use Rattle.tq_desk.specs.declared.ask.DeskRefusal.TheVariants as refusals
+use Rattle.tq_desk.specs.declared.ask.DeskReply.{DeskReply}
+use Rattle.tq_desk.specs.declared.ask.DeskReply.TheVariants as replies
+use Rattle.tq_desk.specs.declared.ask.Op.{Op}
+use Rattle.tq_desk.specs.declared.ask.Vote.{Vote}
+use Rattle.tq_desk.specs.Evidence.{is_write, same_name}
+use Rattle.tq_desk.specs.Log.{DeskView, FileSet, cited, desk_after, desk_reply, opening, with_files}
+
+-- what bounds a desk: the levels of its tree and its limits
+pub record DeskBounds : Type 0 where
+  pub levels : ℕ
+  pub limits : LimitsView
+
+abbrev pub DeskEntry : Type 0
+DeskEntry = Entry DeskAsk DeskReply
+
+-- ---- legal journals: each reply is that of the desk's step after the entries before it
+
+abbrev pub opened : DeskBounds → DeskView
+opened bounds = opening bounds.levels bounds.limits
+
+-- the step takes no notice of the entry's number
+abbrev pub step_reply : DeskView → ℕ → DeskAsk → DeskReply
+step_reply old number ask = desk_reply old ask
+
+abbrev pub step_after : DeskView → ℕ → DeskAsk → DeskView
+step_after old number ask = desk_after old ask
+
+abbrev pub desk_state : DeskBounds → List DeskEntry → DeskView
+desk_state bounds journal = state_after step_after (opened bounds) journal
+
+abbrev pub IsLegalDesk : DeskBounds → List DeskEntry → Type 0
+IsLegalDesk bounds journal = IsLegal step_reply step_after (opened bounds) journal
+
+-- ---- the decision log, of the entries alone
+
+abbrev pub begun_with : DeskReply → ℕ → ℕ
+begun_with (replies.Txn txn) earlier = earlier + 1
+begun_with reply earlier = earlier
+
+-- how many transactions were begun: the replies to Begin
+abbrev pub begun : List DeskEntry → ℕ
+begun [] = 0
+begun (e ∷ earlier) = begun_with e.reply (begun earlier)
+
+-- the end that an entry records for the transaction: Commit with the votes of a commit that was answered so,
+-- Abort where a verdict was asked for and told
+abbrev pub ending : DeskAsk → DeskReply → ℕ → Option Verdict
+ending (asks.Commit txn ops votes) (replies.Committed serial) t = if t == txn then Some (verdicts.Commit (cited votes)) else None
+ending (asks.Resolve txn) (replies.Verdict verdict) t = if t == txn then Some verdicts.Abort else None
+ending ask reply t = None
+
+abbrev pub first_of : Option Verdict → Option Verdict → Option Verdict
+first_of None later = later
+first_of (Some verdict) later = Some verdict
+
+-- how the transaction ended, if it has: the first end that is recorded for it
+abbrev pub final : List DeskEntry → ℕ → Option Verdict
+final [] t = None
+final (e ∷ earlier) t = first_of (final earlier t) (ending e.ask e.reply t)
+
+-- a commit as it was asked
+pub record Commit : Type 0 where
+  pub txn : ℕ
+  pub ops : List Op
+  pub votes : List Vote
+
+abbrev pub with_commit : DeskAsk → DeskReply → List Commit → List Commit
+with_commit (asks.Commit txn ops votes) (replies.Committed serial) earlier = record { txn = txn; ops = ops; votes = votes } ∷ earlier
+with_commit ask reply earlier = earlier
+
+-- the commits that were answered so, the newest first; the serial of one is its place from the oldest, from 1
+abbrev pub commits : List DeskEntry → List Commit
+commits [] = []
+commits (e ∷ earlier) = with_commit e.ask e.reply (commits earlier)
+
+-- the files that the commits wrote
+abbrev pub written : List Commit → FileSet
+written [] = fin.empty
+written (c ∷ earlier) = with_files (written earlier) c.ops
+
+-- ---- what an entry tells
+
+-- what an entry says of a transaction's end
+abbrev pub gives_verdict : DeskEntry → ℕ → Verdict → Type 0
+gives_verdict entry txn verdict =
+    ((ops : List Op) × (votes : List Vote) × (serial : ℕ) × (entry ≡ record { ask = asks.Commit txn ops votes; reply = replies.Committed serial }) × (verdict ≡ verdicts.Commit (cited votes)))
+    ⊎ ((entry ≡ record { ask = asks.Resolve txn; reply = replies.Verdict verdict })
+    ⊎ ((ops : List Op) × (votes : List Vote) × (entry ≡ record { ask = asks.Commit txn ops votes; reply = replies.Refused (refusals.Decided verdict) })))
+
+-- the entry of that number tells that the transaction ended so
+pub record VerdictAt (journal : List DeskEntry) (number txn : ℕ) (verdict : Verdict) : Type 0 where
+  pub entry : DeskEntry
+  pub is_there : entry_at journal number ≡ Some entry
+  pub gives : gives_verdict entry txn verdict
+
+-- ---- what is read and written, over the list of the commits alone
+
+-- the op writes the file
+abbrev pub writes_file : List ℕ → Op → Bool
+writes_file file op = is_write op && same_name op.file file
+
+abbrev pub count_one : Option Op → ℕ → ℕ
+count_one None earlier = earlier
+count_one (Some op) earlier = suc earlier
+
+-- how many of the commits write the file
+abbrev pub count : List ℕ → List Commit → ℕ
+count file [] = 0
+count file (c ∷ earlier) = count_one (find (writes_file file) c.ops) (count file earlier)
+
+abbrev pub last_one : Option Op → List ℕ → List ℕ
+last_one None earlier = earlier
+last_one (Some op) earlier = op.content
+
+-- the content that the last commit which writes the file writes, empty where there is none
+abbrev pub last_write : List ℕ → List Commit → List ℕ
+last_write file [] = []
+last_write file (c ∷ earlier) = last_one (find (writes_file file) c.ops) (last_write file earlier)
+
+-- a read is of the last write and has its number, a write has the next number
+abbrev pub IsNumbered : List Commit → Op → Type 0
+IsNumbered earlier op = cond (is_write op) (op.version ≡ suc (count op.file earlier)) ((op.version ≡ count op.file earlier) × (op.content ≡ last_write op.file earlier))
+
+abbrev pub AreNumbered : List Commit → Type 0
+AreNumbered [] = Unit {0}
+AreNumbered (c ∷ earlier) = ((op : Op) → Has c.ops op → IsNumbered earlier op) × AreNumbered earlier
+
+-- some commit has a write op of this file, version and content
+pub record IsWritten (list : List Commit) (file : List ℕ) (version : ℕ) (content : List ℕ) : Type 0 where
+  pub commit : Commit
+  pub is_there : Has list commit
+  pub op : Op
+  pub has_op : Has commit.ops op
+  pub writes : is_write op ≡ true
+  pub on_file : op.file ≡ file
+  pub of_version : op.version ≡ version
+  pub of_content : op.content ≡ content

@@ -1,0 +1,39 @@
+-- The locks that a vote lists, put in a table by file: for each file the least number that it is held since.
+use Rattle.std.specs.Prelude.{ℕ, Bool, false, nat_le, min, List, fold, Option, Some, None, refl}
+use Rattle.std.specs.Coded.{Coded, code_by, coded×, coded_list, coded_ℕ}
+use Rattle.std.specs.FinMap as fin
+use Rattle.tq_store.specs.Copies.{name_cmp}
+use Rattle.tq_node.specs.declared.ask.HeldLock.{HeldLock}
+
+abbrev pub LeastSince : Type 0
+LeastSince = fin.FinMap name_cmp ℕ
+
+-- the table, and how many more files fit with no memory asked for
+pub record HeldView : Type 0 where
+  pub least : LeastSince
+  pub room : ℕ
+
+abbrev pub least_code : Coded LeastSince
+least_code = fin.code (coded_list coded_ℕ) coded_ℕ
+
+abbrev pub held_view_code : Coded HeldView
+held_view_code = code_by (LeastSince × ℕ) (coded× least_code coded_ℕ) (λ v. (v.least, v.room)) (λ p. record { least = p.0; room = p.1 }) (λ _. refl)
+
+-- the least of a number known and one more
+abbrev pub lesser : Option ℕ → ℕ → ℕ
+lesser None since = since
+lesser (Some known) since = min since known
+
+abbrev pub noted : LeastSince → List ℕ → ℕ → LeastSince
+noted least file since = fin.insert least file (lesser (fin.get least file) since)
+
+abbrev pub noted_all : LeastSince → List HeldLock → LeastSince
+noted_all least held = fold (λ sofar lock. noted sofar lock.file lock.since) least held
+
+abbrev pub least_since : List HeldLock → LeastSince
+least_since held = noted_all fin.empty held
+
+-- there is a number, and it is no later than that one
+abbrev pub is_since : Option ℕ → ℕ → Bool
+is_since None number = false
+is_since (Some since) number = nat_le since number

@@ -1,0 +1,321 @@
+ghost use Rattle.std.specs.Prelude.{◌≡◌, ◌+◌, ◌<◌, ◌≤◌, ◌^◌, IfOk, List, OnOk, OnErr, None, [], true, map, nat_lt};
+ghost use Rattle.std.specs.FinMap as fin;
+ghost use Rattle.tq_desk.specs.DeskJournal as log;
+ghost use Rattle.tq_desk.specs.DeskJournal.{DeskBounds, DeskEntry, IsLegalDesk, desk_state};
+ghost use Rattle.tq_desk.specs.DeskLog.{AnswersByLog};
+ghost use Rattle.tq_desk.specs.Evidence.{ops_rise};
+ghost use Rattle.tq_desk.specs.Log as spec;
+
+use crate::evidence::failed_rule;
+use crate::files::WrittenFiles;
+use crate::finals::Finals;
+use crate::{DeskAsk, DeskRefusal, DeskReply, Op, Vote};
+use std::alloc::Global;
+use std::marker::Model;
+use tq_node::{CitedVote, Verdict};
+use tq_shape::{Levels, Limits, Memory, Seq};
+
+/// The desk: it begins transactions and keeps how each ended.
+#[derive(Drop)]
+pub struct Desk {
+    levels: Levels,
+    limits: Limits,
+    begun: u64,
+    finals: Finals,
+    commits: u64,
+    files: WrittenFiles,
+}
+
+impl Model for Desk {
+    ghost use Rattle.std.specs.Prelude.{◌≤◌};
+    ghost use Rattle.std.specs.FinMap as map;
+    ghost use Rattle.tq_desk.specs.Log.{DeskView};
+    ghost use Rattle.tq_desk.specs.Views.{desk_code};
+    ghost use Rattle.tq_node.specs.contracts.ask.Verdict as verdict_type;
+
+    ghost Value = { DeskView };
+
+    ghost coded = { desk_code verdict_type.the_row.coded };
+
+    ghost view = { λ a. record {
+      levels = a.levels;
+      limits = a.limits;
+      begun = a.begun;
+      finals = a.finals.finals;
+      commits = a.commits;
+      files = a.files.files;
+    } };
+
+    ghost invariant = { λ a. a.commits ≤ map.len a.finals.finals };
+}
+
+impl Desk {
+    /// A desk that was asked nothing. It takes no memory yet.
+    pub fn new(alloc: Global, levels: Levels, limits: Limits) -> Desk
+        ensures value { result ≡ spec.opening levels limits }
+        ensures journal { result ≡ desk_state (record { levels = levels; limits = limits }) [] }
+    {
+        Desk {
+            levels,
+            limits,
+            begun: 0,
+            finals: Finals::new(alloc),
+            commits: 0,
+            files: WrittenFiles::new(alloc),
+        }
+    }
+
+    /// How many transactions were begun, which is the number of the last.
+    pub fn begun(&self) -> u64
+        ensures value { result ≡ self.now.begun }
+        ensures journal { (bounds : DeskBounds) (journal : List DeskEntry) → IsLegalDesk bounds journal → self.now ≡ desk_state bounds journal → result ≡ log.begun journal }
+    {
+        self.begun // numbers go up from 1
+    }
+
+    /// Answers an ask. A desk that stands where a legal journal leaves it answers what the journal says, and then stands
+    /// where the journal with this ask and reply leaves it. Out of memory leaves the desk as it was.
+    pub fn answer(&mut self, alloc: Global, ask: &DeskAsk) -> Result<DeskReply, Memory>
+        requires { self.old.begun + 1 < 2 ^ 64 }
+        ensures reply { IfOk result (λ reply. reply ≡ spec.desk_reply self.old ask.now) }
+        ensures after { OnOk result (self.new ≡ spec.desk_after self.old ask.now) }
+        ensures err { OnErr result (self.new ≡ self.old) }
+        ensures journal { IfOk result (λ reply. (bounds : DeskBounds) (journal : List DeskEntry) → IsLegalDesk bounds journal → self.old ≡ desk_state bounds journal
+            → AnswersByLog self.old self.new ask.now reply bounds journal) }
+    {
+        self.step(alloc, ask)
+    }
+
+    /// What the desk would answer to the ask now. Nothing changes.
+    pub fn foresee(&self, alloc: Global, ask: &DeskAsk) -> Result<DeskReply, Memory>
+        requires { self.now.begun + 1 < 2 ^ 64 }
+        ensures { IfOk result (λ reply. reply ≡ spec.desk_reply self.now ask.now) }
+    {
+        match ask {
+            DeskAsk::Begin => Ok(DeskReply::Txn(self.begun + 1)),
+            DeskAsk::Commit { txn, ops, votes } => self.foresee_commit(
+                alloc,
+                *txn,
+                ops.as_slice(),
+                votes.as_slice(),
+            ),
+            DeskAsk::Resolve { txn } => self.foresee_resolve(*txn),
+        }
+    }
+
+    /// A desk equal to this one, with memory of its own.
+    pub fn copy(&self, _alloc: Global) -> Result<Desk, Memory>
+        ensures { IfOk result (λ copy. copy ≡ self.now) }
+    {
+        let finals = self.finals.copy()?;
+        let files = self.files.copy()?;
+        Ok(Desk {
+            levels: self.levels,
+            limits: self.limits,
+            begun: self.begun,
+            finals,
+            commits: self.commits,
+            files,
+        })
+    }
+
+    fn foresee_resolve(&self, txn: u64) -> Result<DeskReply, Memory>
+        ensures { IfOk result (λ reply. reply ≡ spec.desk_reply self.now (DeskAsk.Resolve txn)) }
+    {
+        if !self.is_begun(txn) {
+            return Ok(DeskReply::Refused(DeskRefusal::NoSuchTxn));
+        }
+        match self.ended(txn)? {
+            None => Ok(DeskReply::Verdict(Verdict::Abort)),
+            Some(recorded) => Ok(DeskReply::Verdict(recorded)),
+        }
+    }
+
+    fn foresee_commit(
+        &self,
+        alloc: Global,
+        txn: u64,
+        ops: &[Op],
+        votes: &[Vote],
+    ) -> Result<DeskReply, Memory>
+        ensures { IfOk result (λ reply. reply ≡ spec.commit_reply self.now txn ops.now votes.now) }
+    {
+        match self.commit_refusal(alloc, txn, ops, votes)? {
+            Some(reason) => Ok(DeskReply::Refused(reason)),
+            None => {
+                let _ended = self.finals.len();
+                Ok(DeskReply::Committed {
+                    serial: self.commits + 1,
+                })
+            }
+        }
+    }
+
+    fn step(&mut self, alloc: Global, ask: &DeskAsk) -> Result<DeskReply, Memory>
+        requires { self.old.begun + 1 < 2 ^ 64 }
+        ensures reply { IfOk result (λ reply. reply ≡ spec.desk_reply self.old ask.now) }
+        ensures after { OnOk result (self.new ≡ spec.desk_after self.old ask.now) }
+        ensures err { OnErr result (self.new ≡ self.old) }
+    {
+        match ask {
+            DeskAsk::Begin => Ok(self.begin()),
+            DeskAsk::Commit { txn, ops, votes } => self.commit(
+                alloc,
+                *txn,
+                ops.as_slice(),
+                votes.as_slice(),
+            ),
+            DeskAsk::Resolve { txn } => self.resolve(*txn),
+        }
+    }
+
+    fn begin(&mut self) -> DeskReply
+        requires { self.old.begun + 1 < 2 ^ 64 }
+        ensures reply { result ≡ spec.desk_reply self.old DeskAsk.Begin }
+        ensures after { self.new ≡ spec.desk_after self.old DeskAsk.Begin }
+    {
+        self.begun += 1;
+        DeskReply::Txn(self.begun)
+    }
+
+    fn is_begun(&self, txn: u64) -> bool
+        ensures { result ≡ spec.is_begun self.now txn }
+    {
+        1 <= txn && txn <= self.begun
+    }
+
+    /// How a transaction ended; one that has not yet aborts.
+    fn resolve(&mut self, txn: u64) -> Result<DeskReply, Memory>
+        ensures reply { IfOk result (λ reply. reply ≡ spec.desk_reply self.old (DeskAsk.Resolve txn)) }
+        ensures after { OnOk result (self.new ≡ spec.desk_after self.old (DeskAsk.Resolve txn)) }
+        ensures err { OnErr result (self.new ≡ self.old) }
+    {
+        if !self.is_begun(txn) {
+            return Ok(DeskReply::Refused(DeskRefusal::NoSuchTxn));
+        }
+        match self.ended(txn)? {
+            Some(verdict) => Ok(DeskReply::Verdict(verdict)),
+            None => {
+                self.abort(txn)?;
+                Ok(DeskReply::Verdict(Verdict::Abort))
+            }
+        }
+    }
+
+    /// How a transaction ended, if it has.
+    fn ended(&self, txn: u64) -> Result<Option<Verdict>, Memory>
+        ensures { IfOk result (λ verdict. verdict ≡ fin.get self.now.finals txn) }
+    {
+        match self.finals.get(txn) {
+            Some(verdict) => Ok(Some(verdict.clone()?)),
+            None => Ok(None),
+        }
+    }
+
+    /// Records that a transaction aborted that had not ended.
+    fn abort(&mut self, txn: u64) -> Result<(), Memory>
+        requires { fin.get self.old.finals txn ≡ None }
+        ensures after { OnOk result (self.new ≡ spec.aborted self.old txn) }
+        ensures err { OnErr result (self.new ≡ self.old) }
+    {
+        self.finals.reserve(1)?;
+        self.finals.keep(txn, Verdict::Abort);
+        Ok(())
+    }
+
+    fn commit(
+        &mut self,
+        alloc: Global,
+        txn: u64,
+        ops: &[Op],
+        votes: &[Vote],
+    ) -> Result<DeskReply, Memory>
+        ensures reply { IfOk result (λ reply. reply ≡ spec.commit_reply self.old txn ops.now votes.now) }
+        ensures after { OnOk result (self.new ≡ spec.commit_after self.old txn ops.now votes.now) }
+        ensures err { OnErr result (self.new ≡ self.old) }
+    {
+        match self.commit_refusal(alloc, txn, ops, votes)? {
+            Some(reason) => Ok(DeskReply::Refused(reason)),
+            None => {
+                self.accept(alloc, txn, ops, votes)?;
+                Ok(DeskReply::Committed {
+                    serial: self.commits,
+                })
+            }
+        }
+    }
+
+    /// What a commit is refused for: the first reason that holds.
+    fn commit_refusal(
+        &self,
+        alloc: Global,
+        txn: u64,
+        ops: &[Op],
+        votes: &[Vote],
+    ) -> Result<Option<DeskRefusal>, Memory>
+        ensures { IfOk result (λ reason. reason ≡ spec.commit_refusal self.now txn ops.now votes.now) }
+    {
+        if !self.is_begun(txn) {
+            return Ok(Some(DeskRefusal::NoSuchTxn));
+        }
+        if let Some(verdict) = self.ended(txn)? {
+            return Ok(Some(DeskRefusal::Decided(verdict)));
+        }
+        if ops.len() > self.limits.ops() as usize {
+            return Ok(Some(DeskRefusal::TooManyOps));
+        }
+        if let Some(rule) = failed_rule(alloc, self.levels, ops, votes)? {
+            return Ok(Some(DeskRefusal::BadEvidence { rule }));
+        }
+        if self.writes_too_many_files(ops) {
+            return Ok(Some(DeskRefusal::TooManyFiles));
+        }
+        Ok(None)
+    }
+
+    /// Whether the commits would have written more files than the limit.
+    fn writes_too_many_files(&self, ops: &[Op]) -> bool
+        requires { ops_rise ops.now ≡ true }
+        ensures { result ≡ nat_lt self.now.limits.files (fin.len (spec.with_files self.now.files ops.now)) }
+    {
+        self.files.len() + self.files.count_new(ops) > self.limits.files() as usize
+    }
+
+    /// Records the commit of a transaction that had not ended.
+    fn accept(&mut self, alloc: Global, txn: u64, ops: &[Op], votes: &[Vote]) -> Result<(), Memory>
+        requires { fin.get self.old.finals txn ≡ None }
+        ensures after { OnOk result (self.new ≡ spec.committed self.old txn ops.now votes.now) }
+        ensures err { OnErr result (self.new ≡ self.old) }
+    {
+        let votes = cited(alloc, votes)?;
+        self.finals.reserve(1)?;
+        self.files.reserve(ops.len())?;
+        let _ended = self.finals.len();
+        self.commits += 1;
+        self.finals.keep(txn, Verdict::Commit { votes });
+        self.files.add_written(ops);
+        Ok(())
+    }
+}
+
+/// The votes as a commit's record cites them.
+fn cited(alloc: Global, votes: &[Vote]) -> Result<Seq<CitedVote>, Memory>
+    ensures { IfOk result (λ list. list ≡ spec.cited votes.now) }
+{
+    Ok(Seq::from_vec(citations(alloc, votes)?))
+}
+
+fn citations(alloc: Global, votes: &[Vote]) -> Result<Vec<CitedVote>, Memory>
+    ensures { IfOk result (λ list. list.items ≡ spec.cited votes.now) }
+{
+    votes.iter().map(|vote| citation(vote)).collect(alloc)
+}
+
+fn citation(vote: &Vote) -> CitedVote
+    ensures { result ≡ spec.citation vote.now }
+{
+    CitedVote {
+        server: vote.server,
+        number: vote.number,
+    }
+}

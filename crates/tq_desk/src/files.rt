@@ -1,0 +1,102 @@
+ghost use Rattle.std.specs.Prelude.{◌≡◌, ◌+◌, ◌<◌, ◌≤◌, IfOk, OnOk, is_some, length};
+ghost use Rattle.std.specs.FinMap as fin;
+ghost use Rattle.tq_desk.specs.Log as spec;
+
+use crate::Op;
+use crate::evidence::is_write;
+use indexmap::IndexMap;
+use std::alloc::Global;
+use std::marker::Model;
+use tq_shape::Memory;
+use tq_store::FileName;
+
+/// The files that commits wrote.
+#[derive(Drop)]
+pub(crate) struct WrittenFiles {
+    names: IndexMap<FileName, ()>,
+}
+
+impl Model for WrittenFiles {
+    ghost use Rattle.std.specs.FinMap as map;
+    ghost use Rattle.indexmap.specs.IndexMap.{spare};
+    ghost use Rattle.tq_desk.specs.Views.{FilesView, files_view_code};
+
+    ghost Value = { FilesView };
+
+    ghost coded = { files_view_code };
+
+    ghost view = { λ a. record { files = map.from_entries a.names.entries; room = spare a.names } };
+}
+
+impl WrittenFiles {
+    pub(crate) fn new(alloc: Global) -> WrittenFiles
+        ensures { result.files ≡ fin.empty }
+    {
+        WrittenFiles {
+            names: IndexMap::new(alloc),
+        }
+    }
+
+    /// The same files, in memory of their own.
+    pub(crate) fn copy(&self) -> Result<WrittenFiles, Memory>
+        ensures { IfOk result (λ copy. copy.files ≡ self.now.files) }
+    {
+        let names = self.names.clone()?;
+        Ok(WrittenFiles { names })
+    }
+
+    pub(crate) fn contains(&self, name: FileName) -> bool
+        ensures { result ≡ is_some (fin.get self.now.files name) }
+    {
+        self.names.contains_key(&name)
+    }
+
+    pub(crate) fn len(&self) -> usize
+        ensures value { result ≡ fin.len self.now.files }
+        ensures small { result < 9223372036854775808 }
+    {
+        self.names.len()
+    }
+
+    /// Makes room for this many calls of `add`.
+    pub(crate) fn reserve(&mut self, additional: usize) -> Result<(), Memory>
+        ensures files { self.new.files ≡ self.old.files }
+        ensures room { OnOk result (additional ≤ self.new.room) }
+    {
+        self.names.reserve(additional)
+    }
+
+    pub(crate) fn add(&mut self, name: FileName)
+        requires { 0 < self.old.room }
+        ensures files { self.new.files ≡ spec.with_file self.old.files name }
+        ensures room { self.old.room ≤ self.new.room + 1 }
+    {
+        let _replaced = self.names.insert(name, ()).unwrap();
+    }
+
+    /// Adds the files that the ops write.
+    pub(crate) fn add_written(&mut self, ops: &[Op])
+        requires { length ops.now ≤ self.old.room }
+        ensures { self.new.files ≡ spec.with_files self.old.files ops.now }
+    {
+        for op in ops {
+            if is_write(op) {
+                self.add(op.file);
+            }
+        }
+    }
+
+    /// How many of the ops write a file that is not among these.
+    pub(crate) fn count_new(&self, ops: &[Op]) -> usize
+        ensures value { result ≡ spec.count_new self.now.files ops.now }
+        ensures most { result ≤ length ops.now }
+    {
+        ops.iter().filter(|op| self.is_new(op)).count()
+    }
+
+    fn is_new(&self, op: &Op) -> bool
+        ensures { result ≡ spec.is_new self.now.files op.now }
+    {
+        is_write(op) && !self.contains(op.file)
+    }
+}

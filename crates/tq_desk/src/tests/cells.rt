@@ -1,0 +1,165 @@
+//! Evidence as a row of numbers, so that a change is a place in it and a new number.
+
+ghost use Rattle.std.specs.Prelude.{◌<◌};
+
+use super::{content, name};
+use crate::{Grant, Op, OpKind, Vote};
+use std::alloc::Global;
+use std::test::Fail;
+use tq_locks::Mode;
+use tq_node::HeldLock;
+use tq_shape::Seq;
+use tq_store::{Content, FileName, Write};
+
+/// Good evidence at two levels: a read of `a` and a write of `b`, each by servers 1 and 2.
+///
+/// An op: file, 1 for a write, version, content, and twice a grant: server, number, 1 for exclusive, version, content.
+/// A vote: server, number, twice a lock: file, since; and a write: file, version, content.
+/// A grant or a vote of server 0, an op, a lock or a write of file 0 is left out.
+pub(super) const GOOD: [u64; 46] = [
+    1, 0, 3, 5, 1, 3, 0, 3, 5, 2, 3, 0, 2, 4, //
+    2, 1, 2, 6, 1, 4, 1, 1, 0, 2, 4, 1, 0, 0, //
+    1, 7, 1, 2, 2, 4, 2, 2, 6, //
+    2, 8, 1, 3, 2, 4, 2, 2, 6,
+];
+
+/// The same with the ops out of order, which breaks the rule of versions alone: a read of `b`, then a write of `a`.
+pub(super) const OUT_OF_ORDER: [u64; 46] = [
+    2, 0, 3, 5, 1, 3, 0, 3, 5, 2, 3, 0, 2, 4, //
+    1, 1, 2, 6, 1, 4, 1, 1, 0, 2, 4, 1, 0, 0, //
+    1, 7, 2, 2, 1, 4, 1, 2, 6, //
+    2, 8, 2, 3, 1, 4, 1, 2, 6,
+];
+
+fn cell(cells: &[u64], at: usize) -> u64 {
+    cells.get(at).copied().unwrap_or(0)
+}
+
+pub(super) fn set(cells: &mut [u64], at: usize, value: u64) {
+    if at < cells.len() {
+        cells[at] = value;
+    }
+}
+
+fn file(number: u64) -> Result<FileName, Fail> {
+    match number {
+        1 => name("a"),
+        2 => name("b"),
+        _ => name("c"),
+    }
+}
+
+fn text(alloc: Global, number: u64) -> Result<Content, Fail> {
+    let text = match number {
+        0 => "",
+        1 => "p",
+        2 => "q",
+        3 => "r",
+        4 => "s",
+        5 => "t",
+        _ => "u",
+    };
+    content(alloc, text)
+}
+
+fn mode(number: u64) -> Mode {
+    if number == 1 {
+        Mode::Exclusive
+    } else {
+        Mode::Shared
+    }
+}
+
+fn grant(alloc: Global, cells: &[u64], at: usize) -> Result<Grant, Fail>
+    requires { at < 100 }
+{
+    Ok(Grant {
+        server: cell(cells, at),
+        number: cell(cells, at + 1),
+        mode: mode(cell(cells, at + 2)),
+        version: cell(cells, at + 3),
+        content: text(alloc, cell(cells, at + 4))?,
+    })
+}
+
+fn op(alloc: Global, cells: &[u64], at: usize) -> Result<Op, Fail>
+    requires { at < 50 }
+{
+    let mut grants = Vec::new(alloc);
+    if cell(cells, at + 4) != 0 {
+        grants.push(grant(alloc, cells, at + 4)?)?;
+    }
+    if cell(cells, at + 9) != 0 {
+        grants.push(grant(alloc, cells, at + 9)?)?;
+    }
+    let kind = if cell(cells, at + 1) == 1 {
+        OpKind::Write
+    } else {
+        OpKind::Read
+    };
+    Ok(Op {
+        file: file(cell(cells, at))?,
+        kind,
+        version: cell(cells, at + 2),
+        content: text(alloc, cell(cells, at + 3))?,
+        grants: Seq::from_vec(grants),
+    })
+}
+
+pub(super) fn ops(alloc: Global, cells: &[u64]) -> Result<Vec<Op>, Fail> {
+    let mut list = Vec::new(alloc);
+    if cell(cells, 0) != 0 {
+        list.push(op(alloc, cells, 0)?)?;
+    }
+    if cell(cells, 14) != 0 {
+        list.push(op(alloc, cells, 14)?)?;
+    }
+    Ok(list)
+}
+
+fn lock(cells: &[u64], at: usize) -> Result<HeldLock, Fail>
+    requires { at < 100 }
+{
+    Ok(HeldLock {
+        file: file(cell(cells, at))?,
+        mode: Mode::Exclusive,
+        since: cell(cells, at + 1),
+    })
+}
+
+fn vote(alloc: Global, cells: &[u64], at: usize) -> Result<Vote, Fail>
+    requires { at < 50 }
+{
+    let mut held = Vec::new(alloc);
+    if cell(cells, at + 2) != 0 {
+        held.push(lock(cells, at + 2)?)?;
+    }
+    if cell(cells, at + 4) != 0 {
+        held.push(lock(cells, at + 4)?)?;
+    }
+    let mut writes = Vec::new(alloc);
+    if cell(cells, at + 6) != 0 {
+        writes.push(Write {
+            file: file(cell(cells, at + 6))?,
+            version: cell(cells, at + 7),
+            content: text(alloc, cell(cells, at + 8))?,
+        })?;
+    }
+    Ok(Vote {
+        server: cell(cells, at),
+        number: cell(cells, at + 1),
+        held: Seq::from_vec(held),
+        writes: Seq::from_vec(writes),
+    })
+}
+
+pub(super) fn votes(alloc: Global, cells: &[u64]) -> Result<Vec<Vote>, Fail> {
+    let mut list = Vec::new(alloc);
+    if cell(cells, 28) != 0 {
+        list.push(vote(alloc, cells, 28)?)?;
+    }
+    if cell(cells, 37) != 0 {
+        list.push(vote(alloc, cells, 37)?)?;
+    }
+    Ok(list)
+}

@@ -1,0 +1,79 @@
+-- The numbers in a server's records aren't above that of the last ask answered.
+use Rattle.std.proofs.Common.{◌≡◌, ◌<◌, ◌≤◌, ◌+◌, ℕ, Bool, true, false, cond, List, [], ◌∷◌, ◌++◌, map, Option, Some, None, refl, ap, sym, subst, ◌∙◌, arith}
+use mathlib.Core.Bool.{true≢false}
+use Rattle.std.specs.FinMap as fin
+use Rattle.std.specs.Cmp.{nat_cmp_total}
+use Rattle.std.specs.List.{list_any, filter_map, cons_option}
+use Rattle.std.specs.Option.{is_none, option_map_or}
+use Rattle.std.specs.Ordering.{nat_cmp, eq_by_cmp}
+use Rattle.tq_store.specs.declared.write.Write.{Write}
+use Rattle.tq_intents.specs.Kept.{ends_vote, vote_of, opened, open_votes, kept_votes, IsAbove, IsBelow, vote_at, vote_records}
+use Rattle.tq_intents.specs.declared.record.KeptLock.{KeptLock}
+use Rattle.tq_intents.specs.declared.record.OpenVote.{OpenVote}
+use Rattle.tq_intents.specs.declared.record.Record.{Record}
+use Rattle.tq_intents.specs.declared.record.Record.TheVariants.{Copy, Intent, Keep, Prepared, Gone}
+
+pub above_append : (n : ℕ) (xs ys : List Record) → IsAbove n xs → IsAbove n ys → IsAbove n (xs ++ ys)
+above_append n [] ys h k = k
+above_append n (x ∷ xs) ys h k = (h.0, above_append n xs ys h.1 k)
+
+below_greater : (m n : ℕ) (r : Record) → m ≤ n → IsBelow m r → IsBelow n r
+below_greater m n (Copy write) e h = tt
+below_greater m n (Intent t k write) e h = omega (arith, e, h)
+below_greater m n (Keep t k lock) e h = omega (arith, e, h)
+below_greater m n (Prepared t k) e h = omega (arith, e, h)
+below_greater m n (Gone t k) e h = omega (arith, e, h)
+
+pub above_greater : (m n : ℕ) (list : List Record) → m ≤ n → IsAbove m list → IsAbove n list
+above_greater m n [] e h = tt
+above_greater m n (r ∷ rest) e h = (below_greater m n r e h.0, above_greater m n rest e h.1)
+
+above_map : {X : Type 0} (n : ℕ) (f : X → Record) (xs : List X) → ((x : X) → IsBelow n (f x)) → IsAbove n (map f xs)
+above_map n f [] h = tt
+above_map n f (x ∷ xs) h = (h x, above_map n f xs h)
+
+pub above_copies : (n : ℕ) (writes : List Write) → IsAbove n (map Copy writes)
+above_copies n writes = above_map n Copy writes (λ write. tt)
+
+pub above_vote : (t n : ℕ) (writes : List Write) (locks : List KeptLock) → IsAbove (n + 1) (vote_records t n writes locks)
+above_vote t n writes locks =
+    let less : n < n + 1 = omega arith in
+    above_append (n + 1) (map (Intent t n) writes) (map (Keep t n) locks ++ Prepared t n ∷ []) (above_map (n + 1) (Intent t n) writes (λ x. less))
+    (above_append (n + 1) (map (Keep t n) locks) (Prepared t n ∷ []) (above_map (n + 1) (Keep t n) locks (λ x. less)) (less, tt))
+
+number_of : Option OpenVote → ℕ
+number_of None = 0
+number_of (Some vote) = vote.number
+
+some_number : (a b : OpenVote) → Some a ≡ Some b → a.number ≡ b.number
+unfolding number_of
+some_number a b e = ap number_of e
+
+none_some : {X : Type 0} {x : X} → None ≡ Some x → ⊥
+none_some e = absurd (true≢false (ap is_none e))
+
+found_entry : (t k s : ℕ) (v w : OpenVote) (test : Bool) (later : Option OpenVote) → (later ≡ Some v → v.number < k) → w.number < k → cond test (Some w) later ≡ Some v → v.number < k
+found_entry t k s v w true later f less e = subst (λ n. n < k) (some_number w v e) less
+found_entry t k s v w false later f less e = f e
+
+found_opened : (t k s : ℕ) (v w : OpenVote) (b : Bool) (es : List (ℕ × OpenVote)) → (fin.find nat_cmp t es ≡ Some v → v.number < k) → w.number < k → fin.find nat_cmp t (cons_option (cond {A = Option (ℕ × OpenVote)} b None (Some (s, w))) es) ≡ Some v → v.number < k
+found_opened t k s v w true es f less e = f e
+found_opened t k s v w false es f less e = found_entry t k s v w (eq_by_cmp nat_cmp t s) (fin.find nat_cmp t es) f less e
+
+vote_found : (whole : List Record) (t k : ℕ) (v : OpenVote) (rest : List Record) → IsAbove k rest → fin.find nat_cmp t (filter_map (opened whole) rest) ≡ Some v → v.number < k
+vote_found whole t k v [] h e = absurd (none_some e)
+vote_found whole t k v (Copy write ∷ rest) h e = vote_found whole t k v rest h.1 e
+vote_found whole t k v (Intent s m write ∷ rest) h e = vote_found whole t k v rest h.1 e
+vote_found whole t k v (Keep s m lock ∷ rest) h e = vote_found whole t k v rest h.1 e
+vote_found whole t k v (Gone s m ∷ rest) h e = vote_found whole t k v rest h.1 e
+vote_found whole t k v (Prepared s m ∷ rest) h e = found_opened t k s v (vote_of whole s m) (list_any (ends_vote s m) whole) (filter_map (opened whole) rest) (vote_found whole t k v rest h.1) h.0 e
+
+pub vote_below : (list : List Record) (t k : ℕ) (v : OpenVote) → IsAbove k list → fin.get (kept_votes list) t ≡ Some v → v.number < k
+vote_below list t k v h e = vote_found list t k v list h (sym (fin.get-from_entries nat_cmp_total (open_votes list) t) ∙ e)
+
+at_below : (votes : Option OpenVote) (last : ℕ) → ((v : OpenVote) → votes ≡ Some v → v.number < last + 1) → (option_map_or (λ vote. vote) votes (record { number = 0; writes = []; locks = [] })).number < last + 1
+at_below None last f = omega arith
+at_below (Some v) last f = f v refl
+
+pub above_ended : (list : List Record) (t last : ℕ) → IsAbove (last + 1) list → IsAbove (last + 1) (list ++ Gone t (vote_at (kept_votes list) t).number ∷ [])
+above_ended list t last h = above_append (last + 1) list (Gone t (vote_at (kept_votes list) t).number ∷ []) h (at_below (fin.get (kept_votes list) t) last (λ v e. vote_below list t (last + 1) v h e), tt)

@@ -1,0 +1,133 @@
+-- What a server's type promises stays true as its copies, locks and records change; and by it the records keep the copies, the votes and their locks.
+use Rattle.std.proofs.Common.{◌≡◌, ℕ, ◌+◌, ◌<◌, ◌≤◌, Bool, true, List, [], ◌∷◌, ◌++◌, map, Option, Some, None, IsSome, refl, sym, ap, subst, ◌∙◌, arith, append_assoc, filter}
+use Rattle.std.proofs.lemmas.Bool.{false≢true}
+use Rattle.std.proofs.lemmas.List.{append-nil}
+use Rattle.std.specs.FinMap as fin
+use Rattle.std.specs.List.{AllByRecursion}
+use Rattle.std.specs.Option.{option_map_or}
+use Rattle.tq_store.specs.Copies.{Files, installed_all, is_newer}
+use Rattle.tq_store.specs.declared.write.Write.{Write}
+use Rattle.tq_locks.specs.Locks.{Locks, held_of, granted, released, only_stable, kept}
+use Rattle.tq_locks.specs.declared.mode.Mode.{Mode}
+use Rattle.tq_intents.specs.Kept.{HasOneVoteEach, IsAbove, Votes, kept_copies, kept_votes, open_votes, vote_at, vote_records}
+use Rattle.tq_intents.specs.declared.record.OpenVote.{OpenVote}
+use Rattle.tq_intents.specs.declared.record.Record.{Record}
+use Rattle.tq_intents.specs.declared.record.Record.TheVariants.{Copy, Gone}
+use Rattle.tq_intents.proofs.CopiesPush.{installed_all-newer, kept_copies-others, kept_copies-push_copy, kept_copies-vote}
+use Rattle.tq_intents.proofs.CopyPush.{open_votes-push_copy}
+use Rattle.tq_intents.proofs.Votes.{HasOneVoteEach-ended, HasOneVoteEach-given, kept_votes-ended, kept_votes-given}
+use Rattle.tq_node.specs.Node.{IsKept, IsSound, LocksIn}
+use Rattle.tq_node.specs.Records.{kept_lock}
+use Rattle.tq_node.proofs.KeptLocks.{kept_locks-is, locks-crashed, locks-decided, locks-granted, locks-none, locks-prepared, locks-released}
+use Rattle.tq_node.proofs.Numbers.{above_append, above_copies, above_ended, above_greater, above_vote}
+
+-- ---- the lists
+
+pub open_votes-copies : (writes : List Write) (list : List Record) → open_votes (list ++ map Copy writes) ≡ open_votes list
+open_votes-copies [] list = ap open_votes (append-nil list)
+open_votes-copies (write ∷ writes) list =
+    ap open_votes (sym (append_assoc list (Copy write ∷ []) (map Copy writes)))
+    ∙ open_votes-copies writes (list ++ Copy write ∷ [])
+    ∙ open_votes-push_copy list write
+
+pub kept_copies-all : (writes : List Write) (list : List Record) → kept_copies (list ++ map Copy writes) ≡ installed_all (kept_copies list) writes
+kept_copies-all [] list = ap kept_copies (append-nil list)
+kept_copies-all (write ∷ writes) list =
+    ap kept_copies (sym (append_assoc list (Copy write ∷ []) (map Copy writes)))
+    ∙ kept_copies-all writes (list ++ Copy write ∷ [])
+    ∙ ap (λ (files : Files). installed_all files writes) (kept_copies-push_copy list write)
+
+vote_at-is : (votes : Votes) (t : ℕ) (vote : OpenVote) → fin.get votes t ≡ Some vote → vote_at votes t ≡ vote
+vote_at-is votes t vote h = ap (λ (o : Option OpenVote). option_map_or (λ vote. vote) o (record { number = 0; writes = []; locks = [] })) h
+
+some_is : {A : Type 0} (o : Option A) → IsSome o → (x : A) × (o ≡ Some x)
+some_is None h = absurd (false≢true h)
+some_is (Some x) h = (x, refl)
+
+-- ---- the changes
+
+module _ (list : List Record) (last : ℕ) (files : Files) (locks : Locks) (sound : IsSound list last files locks) where
+  pub sound-later : (n : ℕ) → last ≤ n → IsSound list n files locks
+  sound-later n e =
+      record {
+        numbers = above_greater (last + 1) (n + 1) list (omega (arith, e)) sound.numbers;
+        one_each = sound.one_each;
+        copies = sound.copies;
+        locks = sound.locks;
+      }
+
+  pub sound-table : (table : Locks) → LocksIn table (kept_votes list) → IsSound list last files table
+  sound-table table h = record { numbers = sound.numbers; one_each = sound.one_each; copies = sound.copies; locks = h }
+
+  pub sound-granted : (f : List ℕ) (t : ℕ) (m : Mode) (n v : ℕ) → fin.get (kept_votes list) t ≡ None → IsSound list last files (granted locks f t m n v)
+  sound-granted f t m n v none = sound-table (granted locks f t m n v) (locks-granted locks (kept_votes list) f t m n v none sound.locks)
+
+  pub sound-released : (t : ℕ) → fin.get (kept_votes list) t ≡ None → IsSound list last files (released locks t)
+  sound-released t none = sound-table (released locks t) (locks-released locks (kept_votes list) t none sound.locks)
+
+  pub sound-crashed : IsSound list last files (only_stable locks)
+  sound-crashed = sound-table (only_stable locks) (locks-crashed locks (kept_votes list) sound.locks)
+
+  pub sound-copies : (writes : List Write) → IsSound (list ++ map Copy writes) last (installed_all files writes) locks
+  sound-copies writes =
+      let same = open_votes-copies writes list in
+      record {
+        numbers = above_append (last + 1) list (map Copy writes) sound.numbers (above_copies (last + 1) writes);
+        one_each = subst (λ (es : List (ℕ × OpenVote)). AllByRecursion (λ entry. fin.get {R = Rattle.std.specs.Ordering.nat_cmp} (fin.from_entries es) entry.0 ≡ Some entry.1) es) (sym same) sound.one_each;
+        copies = kept_copies-all writes list ∙ ap (λ (f : Files). installed_all f writes) sound.copies;
+        locks = subst (λ (es : List (ℕ × OpenVote)). LocksIn locks (fin.from_entries es)) (sym same) sound.locks;
+      }
+
+  pub sound-newer : (writes : List Write) → IsSound (list ++ map Copy (filter (is_newer files) writes)) last (installed_all files writes) locks
+  sound-newer writes =
+      subst (λ (f : Files). IsSound (list ++ map Copy (filter (is_newer files) writes)) last f locks) (installed_all-newer files writes) (sound-copies (filter (is_newer files) writes))
+
+  pub sound-prepared : (t n : ℕ) (writes : List Write) → last < n → fin.get (kept_votes list) t ≡ None → IsSound (list ++ vote_records t n writes (map kept_lock (held_of locks t))) n files (kept locks t)
+  sound-prepared t n writes rises none =
+      let kept_there = map kept_lock (held_of locks t) in
+      let below : IsAbove n list = above_greater (last + 1) n list (omega (arith, rises)) sound.numbers in
+      record {
+        numbers = above_append (n + 1) list (vote_records t n writes kept_there) (above_greater n (n + 1) list (omega arith) below) (above_vote t n writes kept_there);
+        one_each = HasOneVoteEach-given list t n writes kept_there below none sound.one_each;
+        copies = kept_copies-others list (vote_records t n writes kept_there) (kept_copies-vote t n writes kept_there) ∙ sound.copies;
+        locks = subst (λ (votes : Votes). LocksIn (kept locks t) votes) (sym (kept_votes-given list t n writes kept_there below none sound.one_each)) (locks-prepared locks (kept_votes list) t n writes none sound.locks);
+      }
+
+  sound-ended_vote : (t : ℕ) (vote : OpenVote) → fin.get (kept_votes list) t ≡ Some vote → IsSound (list ++ Gone t (vote_at (kept_votes list) t).number ∷ []) last files (released locks t)
+  sound-ended_vote t vote g =
+      let is = vote_at-is (kept_votes list) t vote g in
+      let named : list ++ Gone t vote.number ∷ [] ≡ list ++ Gone t (vote_at (kept_votes list) t).number ∷ [] = ap (λ (v : OpenVote). list ++ Gone t v.number ∷ []) (sym is) in
+      record {
+        numbers = above_ended list t last sound.numbers;
+        one_each = subst HasOneVoteEach named (HasOneVoteEach-ended list t vote g sound.one_each);
+        copies = kept_copies-others list (Gone t (vote_at (kept_votes list) t).number ∷ []) refl ∙ sound.copies;
+        locks = subst (λ (votes : Votes). LocksIn (released locks t) votes) (sym (kept_votes-ended list t vote g sound.one_each) ∙ ap kept_votes named) (locks-decided locks (kept_votes list) t sound.locks);
+      }
+
+  pub sound-ended : (t : ℕ) → IsSome (fin.get (kept_votes list) t) → IsSound (list ++ Gone t (vote_at (kept_votes list) t).number ∷ []) last files (released locks t)
+  sound-ended t some = let v = some_is (fin.get (kept_votes list) t) some in sound-ended_vote t v.0 v.1
+
+  -- ---- what the records keep
+
+  pub kept_is : (down : Bool) → IsKept (record { records = record { copies = files; locks = locks; votes = kept_votes list; down = down }; stable = list })
+  kept_is down =
+      let l = kept_locks-is list locks sound.one_each sound.locks in
+      let c = sound.copies in
+      λ i. record { copies = c i; locks = l i; votes = kept_votes list; down = true }
+
+pub sound-opening : IsSound [] 0 fin.empty fin.empty
+sound-opening = record { numbers = tt; one_each = tt; copies = refl; locks = locks-none }
+
+-- the same of equal values
+pub sound-as : {list more : List Record} {last : ℕ} {files found : Files} {table after : Locks} → IsSound list last files table → more ≡ list → found ≡ files → after ≡ table → IsSound more last found after
+sound-as {list = list} {more = more} {last = last} {files = files} {found = found} {table = table} {after = after} h l f t =
+    subst (λ (x : List Record). IsSound x last found after) (sym l)
+    (subst (λ (x : Files). IsSound list last x after) (sym f)
+    (subst (λ (x : Locks). IsSound list last files x) (sym t) h))
+
+pub sound-installed : (list : List Record) (last : ℕ) (files : Files) (locks : Locks) → IsSound list last files locks → (t : ℕ) (writes : List Write) → IsSome (fin.get (kept_votes list) t)
+    → IsSound ((list ++ map Copy (filter (is_newer files) writes)) ++ Gone t (vote_at (kept_votes (list ++ map Copy (filter (is_newer files) writes))) t).number ∷ []) last (installed_all files writes) (released locks t)
+sound-installed list last files locks sound t writes some =
+    let newer = filter (is_newer files) writes in
+    sound-ended (list ++ map Copy newer) last (installed_all files writes) locks (sound-newer list last files locks sound writes) t
+    (subst (λ (es : List (ℕ × OpenVote)). IsSome (fin.get {R = Rattle.std.specs.Ordering.nat_cmp} (fin.from_entries es) t)) (sym (open_votes-copies newer list)) some)

@@ -1,0 +1,16 @@
+use Rattle.std.proofs.Common.{◌<◌, ◌++◌, map, refl, ap, ◌∙◌, arith}
+use Rattle.std.specs.FinMap as fin
+use Rattle.tq_intents.specs.Kept.{vote_records}
+use Rattle.tq_node.specs.Records.{kept_lock}
+use Rattle.tq_node.proofs.Sound.{sound-as, sound-prepared}
+use Rattle.tq_node.proofs.node.Node.prepare.Goals as goal
+
+pub invariant_of-self-2 : goal.invariant_of-self-2
+invariant_of-self-2 c =
+    let inside = c.self.inside in
+    let rises : inside.last < c.args.number = grind (arith, c.requires.rises, c.self.view_is) in
+    let is_kept = c.in_ok-kept.ensures ∙ ap (map kept_lock) (c.as_slice-2.ensures.value ∙ c.in_ok-entries.ensures) in
+    sound-as (sound-prepared inside.intents.records inside.last inside.copies.files inside.locks c.self.invariant c.args.txn c.args.number c.in_ok-written.written rises
+    (ap (λ v. fin.get v.state.records.votes c.args.txn) c.self.view_is ∙ c.requires.closed))
+    (c.in_ok-prepare.ensures.records ∙ (λ i. inside.intents.records ++ vote_records c.args.txn c.args.number c.in_ok-written.written (is_kept i)))
+    refl c.keep.ensures

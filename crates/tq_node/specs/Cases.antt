@@ -1,0 +1,95 @@
+-- The step of a server as a relation by cases, one for each refusal and each answer.
+use Rattle.std.specs.Prelude.{◌≡◌, ◌≢◌, ◌≤◌, ◌<◌, ℕ, true, false, List, [], ◌∷◌, ◌++◌, map, Some, None, IsSome}
+use Rattle.std.specs.FinMap as fin
+use Rattle.std.specs.List.{AllByRecursion}
+use Rattle.tq_shape.specs.Journal.{Has}
+use Rattle.tq_store.specs.Copies.{copy_of, installed, installed_all}
+use Rattle.tq_store.specs.declared.write.Write.{Write}
+use Rattle.tq_locks.specs.Locks.{conflicts, granted, held_of, released, only_stable, kept}
+use Rattle.tq_locks.specs.declared.mode.Lock.{Lock}
+use Rattle.tq_locks.specs.declared.mode.Mode.{Mode}
+use Rattle.tq_locks.specs.declared.mode.Mode.TheVariants.{Exclusive}
+use Rattle.tq_intents.specs.declared.record.OpenVote.{OpenVote}
+use Rattle.tq_node.specs.declared.ask.NodeAsk.{NodeAsk}
+use Rattle.tq_node.specs.declared.ask.NodeAsk.TheVariants.{Work, Crash, Return}
+use Rattle.tq_node.specs.declared.ask.NodeRefusal.{NodeRefusal}
+use Rattle.tq_node.specs.declared.ask.NodeRefusal.TheVariants.{Down, AlreadyUp, AlreadyDown, Held, Prepared, NotLocked, BadWrites, NotNewer, NothingHere}
+use Rattle.tq_node.specs.declared.ask.NodeReply.{NodeReply}
+use Rattle.tq_node.specs.declared.ask.NodeReply.TheVariants.{Granted, Yes, Installed, Discarded, Released, Copy, Refreshed, Crashed, Returned, Refused}
+use Rattle.tq_node.specs.declared.ask.Verdict.{Verdict}
+use Rattle.tq_node.specs.declared.ask.Verdict.TheVariants.{Abort, Commit}
+use Rattle.tq_node.specs.declared.ask.WorkAsk.TheVariants.{Lock as LockAsk, Prepare, Decide, Release, Peek, Refresh}
+use Rattle.tq_node.specs.Records.{Records, held_lock, kept_lock, are_good_writes}
+
+-- no vote of the set is the transaction's
+abbrev pub HasNoVote : Records → ℕ → Type 0
+HasNoVote old txn = fin.get old.votes txn ≡ None
+
+-- some lock of the set is the transaction's, on the file, in this mode
+abbrev pub Holds : Records → ℕ → List ℕ → Mode → Type 0
+Holds old txn file mode = (lock : Lock) × (fin.get old.locks (file, txn) ≡ Some lock) × (lock.mode ≡ mode)
+
+-- some lock of the set is another transaction's, on the file, and conflicts
+pub record Blocks (old : Records) (txn : ℕ) (file : List ℕ) (mode : Mode) (by : ℕ) : Type 0 where
+  pub other : by ≢ txn
+  pub lock : Lock
+  pub is_there : fin.get old.locks (file, by) ≡ Some lock
+  pub conflict : conflicts mode lock.mode ≡ true
+
+abbrev pub HoldsNothing : Records → ℕ → Type 0
+HoldsNothing old txn = held_of old.locks txn ≡ []
+
+abbrev pub IsUp : Records → Type 0
+IsUp old = old.down ≡ false
+
+-- the ask is refused for this reason, and for none that stands before it
+abbrev pub IsRefused : Records → NodeAsk → NodeRefusal → Type 0
+IsRefused old (Work ask) Down = old.down ≡ true
+IsRefused old (Work (LockAsk txn file mode)) Prepared = IsUp old × IsSome (fin.get old.votes txn)
+IsRefused old (Work (LockAsk txn file mode)) (Held by) = IsUp old × HasNoVote old txn × Blocks old txn file mode by × ((t : ℕ) → Blocks old txn file mode t → by ≤ t)
+IsRefused old (Work (Prepare txn writes)) Prepared = IsUp old × IsSome (fin.get old.votes txn)
+IsRefused old (Work (Prepare txn writes)) BadWrites = IsUp old × HasNoVote old txn × (are_good_writes writes ≡ false)
+IsRefused old (Work (Prepare txn writes)) (NotLocked file) = IsUp old × HasNoVote old txn × (are_good_writes writes ≡ true)
+    × ((before : List Write) × (write : Write) × (after : List Write) × (writes ≡ before ++ write ∷ after) × (write.file ≡ file) × AllByRecursion (λ w. Holds old txn w.file Exclusive) before × ¬ Holds old txn file Exclusive)
+IsRefused old (Work (Prepare txn writes)) NothingHere = IsUp old × HasNoVote old txn × (are_good_writes writes ≡ true) × AllByRecursion (λ w. Holds old txn w.file Exclusive) writes × HoldsNothing old txn
+IsRefused old (Work (Decide txn verdict cite)) NothingHere = IsUp old × HasNoVote old txn
+IsRefused old (Work (Release txn)) Prepared = IsUp old × IsSome (fin.get old.votes txn)
+IsRefused old (Work (Release txn)) NothingHere = IsUp old × HasNoVote old txn × HoldsNothing old txn
+IsRefused old (Work (Refresh file version content from)) NotNewer = IsUp old × (version ≤ (copy_of old.copies file).version)
+IsRefused old Crash AlreadyDown = old.down ≡ true
+IsRefused old Return AlreadyUp = old.down ≡ false
+IsRefused old ask reason = ⊥
+
+-- the verdict is Commit and cites the vote
+abbrev pub Cites : Verdict → ℕ → ℕ → Type 0
+Cites Abort server number = ⊥
+Cites (Commit votes) server number = Has votes (record { server = server; number = number })
+
+-- a server's step: records, number, ask, reply and the records after
+abbrev pub IsStep : ℕ → Records → ℕ → NodeAsk → NodeReply → Records → Type 0
+IsStep server old number ask (Refused reason) new = IsRefused old ask reason × (new ≡ old)
+IsStep server old number (Work (LockAsk txn file mode)) (Granted version content) new =
+    IsUp old × HasNoVote old txn × ((t : ℕ) → ¬ Blocks old txn file mode t)
+    × (copy_of old.copies file ≡ record { version = version; content = content })
+    × (new ≡ record old { locks = granted old.locks file txn mode number version })
+IsStep server old number (Work (Prepare txn writes)) (Yes held answered) new =
+    IsUp old × HasNoVote old txn × (are_good_writes writes ≡ true) × AllByRecursion (λ w. Holds old txn w.file Exclusive) writes × ¬ HoldsNothing old txn
+    × (held ≡ map held_lock (held_of old.locks txn)) × (answered ≡ writes)
+    × (new ≡ record old { locks = kept old.locks txn; votes = fin.insert old.votes txn (record { number = number; writes = writes; locks = map kept_lock (held_of old.locks txn) }) })
+IsStep server old number (Work (Decide txn verdict cite)) Installed new =
+    IsUp old × ((vote : OpenVote) × (fin.get old.votes txn ≡ Some vote) × Cites verdict server vote.number
+    × (new ≡ record old { copies = installed_all old.copies vote.writes; locks = released old.locks txn; votes = fin.remove old.votes txn }))
+IsStep server old number (Work (Decide txn verdict cite)) Discarded new =
+    IsUp old × ((vote : OpenVote) × (fin.get old.votes txn ≡ Some vote) × ¬ Cites verdict server vote.number
+    × (new ≡ record old { locks = released old.locks txn; votes = fin.remove old.votes txn }))
+IsStep server old number (Work (Release txn)) Released new = IsUp old × HasNoVote old txn × ¬ HoldsNothing old txn × (new ≡ record old { locks = released old.locks txn })
+IsStep server old number (Work (Peek file)) (Copy version content) new = IsUp old × (copy_of old.copies file ≡ record { version = version; content = content }) × (new ≡ old)
+IsStep server old number (Work (Refresh file version content from)) Refreshed new =
+    IsUp old × ((copy_of old.copies file).version < version) × (new ≡ record old { copies = installed old.copies file (record { version = version; content = content }) })
+IsStep server old number Crash Crashed new = IsUp old × (new ≡ record old { locks = only_stable old.locks; down = true })
+IsStep server old number Return Returned new = (old.down ≡ true) × (new ≡ record old { down = false })
+IsStep server old number ask reply new = ⊥
+
+-- the cases leave nothing open: a step from these records by this ask gives this reply and these records
+abbrev pub IsOnlyStep : ℕ → Records → ℕ → NodeAsk → NodeReply → Records → Type 0
+IsOnlyStep server old number ask reply new = (other : NodeReply) (after : Records) → IsStep server old number ask other after → (other ≡ reply) × (after ≡ new)

@@ -1,0 +1,5 @@
+pub mod Records
+pub mod Node
+pub mod Cases
+pub mod NodeJournal
+pub mod NodeLaws

@@ -1,0 +1,123 @@
+-- What contracts see of a server.
+use Rattle.std.specs.Prelude.{◌≡◌, ℕ, Bool, true, false, List, [], ◌∷◌, Some, map, filter, ◌+◌, ◌++◌, take, refl}
+use Rattle.std.specs.Coded.{Coded, code_by, coded×, coded_list, coded_ℕ, coded_bool}
+use Rattle.std.specs.FinMap as fin
+use Rattle.tq_shape.specs.Journal.{Has}
+use Rattle.tq_store.specs.Copies.{Files, files_code, installed_all, is_newer}
+use Rattle.tq_locks.specs.Locks.{Locks, locks_code, only_stable, released}
+use Rattle.tq_locks.specs.declared.mode.Lock.{Lock}
+use Rattle.tq_intents.specs.Kept.{Votes, HasOneVoteEach, IsAbove, kept_copies, kept_votes, stable_lock}
+use Rattle.tq_intents.specs.declared.record.KeptLock.{KeptLock}
+use Rattle.tq_intents.specs.declared.record.OpenVote.{OpenVote}
+use Rattle.tq_intents.specs.declared.record.Record.{Record}
+use Rattle.tq_intents.specs.declared.record.Record.TheVariants as stable
+use Rattle.tq_node.specs.Records.{Records, NodeState, open_vote, work_after, work_writes, records_after, node_after, kept_records, work_refusal, state_at}
+use Rattle.tq_node.specs.declared.ask.NodeAsk.{NodeAsk}
+use Rattle.tq_node.specs.declared.ask.WorkAsk.{WorkAsk}
+
+pub record NodeView : Type 0 where
+  -- the levels of its tree, and its number there
+  pub levels : ℕ
+  pub server : ℕ
+  pub state : NodeState
+  -- the number of the last ask answered
+  pub last : ℕ
+
+abbrev pub records_code : Coded OpenVote → Coded Records
+records_code vote_code = code_by (Files × (Locks × (Votes × Bool))) (coded× files_code (coded× locks_code (coded× (fin.code coded_ℕ vote_code) coded_bool)))
+    (λ r. (r.copies, (r.locks, (r.votes, r.down)))) (λ p. record { copies = p.0; locks = p.1.0; votes = p.1.1.0; down = p.1.1.1 }) (λ _. refl)
+
+abbrev pub state_code : Coded Record → Coded OpenVote → Coded NodeState
+state_code record_code vote_code = code_by (Records × List Record) (coded× (records_code vote_code) (coded_list record_code)) (λ s. (s.records, s.stable)) (λ p. record { records = p.0; stable = p.1 }) (λ _. refl)
+
+abbrev pub node_code : Coded Record → Coded OpenVote → Coded NodeView
+node_code record_code vote_code = code_by (ℕ × (ℕ × (NodeState × ℕ))) (coded× coded_ℕ (coded× coded_ℕ (coded× (state_code record_code vote_code) coded_ℕ))) (λ n. (n.levels, (n.server, (n.state, n.last)))) (λ p. record { levels = p.0; server = p.1.0; state = p.1.1.0; last = p.1.1.1 }) (λ _. refl)
+
+-- the same server, where the last ask answered has this number
+abbrev pub numbered : ℕ → NodeView → NodeView
+numbered number old = record { levels = old.levels; server = old.server; state = old.state; last = number }
+
+-- the server after an ask that it doesn't refuse, its number not noted yet
+abbrev pub worked : NodeView → ℕ → WorkAsk → NodeView
+worked old number ask =
+    record {
+      levels = old.levels;
+      server = old.server;
+      state = record {
+        records = work_after old.server old.state.records number ask;
+        stable = old.state.stable ++ work_writes old.server old.state.records number ask;
+      };
+      last = old.last;
+    }
+
+-- the server after a crash or a return, where that isn't refused, its number not noted yet
+abbrev pub turned : NodeView → ℕ → NodeAsk → NodeView
+turned old number ask =
+    record {
+      levels = old.levels;
+      server = old.server;
+      state = record { records = records_after old.server old.state.records number ask; stable = old.state.stable };
+      last = old.last;
+    }
+
+-- a server that is up and has stored nothing
+abbrev pub opening : ℕ → ℕ → NodeView
+opening levels server = record { levels = levels; server = server; state = record { records = record { copies = fin.empty; locks = fin.empty; votes = fin.empty; down = false }; stable = [] }; last = 0 }
+
+-- the server after a vote ends, with nothing installed
+abbrev pub ended : NodeView → ℕ → NodeView
+ended old txn =
+    record {
+      levels = old.levels;
+      server = old.server;
+      state = record {
+        records = record old.state.records { locks = released old.state.records.locks txn; votes = fin.remove old.state.records.votes txn };
+        stable = old.state.stable ++ stable.Gone txn (open_vote old.state.records txn).number ∷ [];
+      };
+      last = old.last;
+    }
+
+-- the server after a vote ends, with its writes installed
+abbrev pub ended_installed : NodeView → ℕ → NodeView
+ended_installed old txn =
+    record {
+      levels = old.levels;
+      server = old.server;
+      state = record {
+        records = record old.state.records {
+          copies = installed_all old.state.records.copies (open_vote old.state.records txn).writes;
+          locks = released old.state.records.locks txn;
+          votes = fin.remove old.state.records.votes txn;
+        };
+        stable = old.state.stable ++ (map stable.Copy (filter (is_newer old.state.records.copies) (open_vote old.state.records txn).writes) ++ stable.Gone txn (open_vote old.state.records txn).number ∷ []);
+      };
+      last = old.last;
+    }
+
+-- the server after an ask
+abbrev pub answered : NodeView → ℕ → NodeAsk → NodeView
+answered old number ask = record { levels = old.levels; server = old.server; state = node_after old.server old.state number ask; last = number }
+
+-- the stable list stands for the copies, the open votes and their locks
+abbrev pub IsKept : NodeState → Type 0
+IsKept state = kept_records state.stable ≡ record { copies = state.records.copies; locks = only_stable state.records.locks; votes = state.records.votes; down = true }
+
+-- the stable locks of a table are the locks of the open votes
+pub record LocksIn (locks : Locks) (votes : Votes) : Type 0 where
+  pub stable_of : (file : List ℕ) (txn : ℕ) (lock : Lock) → fin.get locks (file, txn) ≡ Some lock → lock.stable ≡ true
+      → (vote : OpenVote) × (fin.get votes txn ≡ Some vote) × ((kept : KeptLock) × Has vote.locks kept × (stable_lock txn kept ≡ ((file, txn), lock)))
+  pub of_vote : (txn : ℕ) (vote : OpenVote) → fin.get votes txn ≡ Some vote → (kept : KeptLock) → Has vote.locks kept → fin.get locks (kept.file, txn) ≡ Some (stable_lock txn kept).1
+
+-- what a server's type promises: the numbers in its records aren't above that of the last ask answered,
+-- each open vote that they stand for is the one of its transaction, and the copies and the stable locks are those that they keep
+pub record IsSound (stable : List Record) (last : ℕ) (files : Files) (table : Locks) : Type 0 where
+  pub numbers : IsAbove (last + 1) stable
+  pub one_each : HasOneVoteEach stable
+  pub copies : kept_copies stable ≡ files
+  pub locks : LocksIn table (kept_votes stable)
+
+-- a stop after the first `after` records that the ask would write, none where it would be refused
+abbrev pub stopped : ℕ → NodeState → ℕ → WorkAsk → ℕ → NodeState
+stopped server old number ask after =
+    let list = old.stable ++ take after (state_at (work_refusal old.records ask) [] (work_writes server old.records number ask)) in
+    record { records = kept_records list; stable = list }

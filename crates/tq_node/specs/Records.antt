@@ -1,0 +1,197 @@
+-- What a server answers, and what it keeps.
+use Rattle.std.specs.Prelude.{ℕ, Bool, true, false, not, ◌&&◌, ◌==◌, nat_le, List, [], ◌∷◌, ◌++◌, map, filter, length, Option, Some, None, if◌then◌else◌}
+use Rattle.std.specs.FinMap as fin
+use Rattle.std.specs.List.{list_any, find}
+use Rattle.std.specs.Option.{option_map, option_map_or}
+use Rattle.std.specs.Ordering.{is_lt}
+use Rattle.tq_store.specs.Copies.{Files, name_cmp, copy_of, installed, installed_all, is_newer}
+use Rattle.tq_store.specs.declared.write.Write.{Write}
+use Rattle.tq_locks.specs.Locks.{Locks, LockKey, is_exclusive, blocker, granted, held_of, holds_nothing, released, only_stable, kept as stabilised_locks}
+use Rattle.tq_locks.specs.declared.mode.Lock.{Lock}
+use Rattle.tq_locks.specs.declared.mode.Mode.{Mode}
+use Rattle.tq_intents.specs.Kept.{Votes, kept_copies, kept_votes, kept_locks, vote_at, vote_records}
+use Rattle.tq_intents.specs.declared.record.KeptLock.{KeptLock}
+use Rattle.tq_intents.specs.declared.record.OpenVote.{OpenVote}
+use Rattle.tq_intents.specs.declared.record.Record.{Record}
+use Rattle.tq_intents.specs.declared.record.Record.TheVariants as stable
+use Rattle.tq_node.specs.declared.ask.CitedVote.{CitedVote}
+use Rattle.tq_node.specs.declared.ask.HeldLock.{HeldLock}
+use Rattle.tq_node.specs.declared.ask.NodeAsk.{NodeAsk}
+use Rattle.tq_node.specs.declared.ask.NodeAsk.TheVariants.{Work, Crash, Return}
+use Rattle.tq_node.specs.declared.ask.NodeRefusal.{NodeRefusal}
+use Rattle.tq_node.specs.declared.ask.NodeRefusal.TheVariants.{Down, AlreadyUp, AlreadyDown, Held, Prepared, NotLocked, BadWrites, NotNewer, NothingHere}
+use Rattle.tq_node.specs.declared.ask.NodeReply.{NodeReply}
+use Rattle.tq_node.specs.declared.ask.NodeReply.TheVariants.{Granted, Yes, Installed, Discarded, Released, Copy, Refreshed, Crashed, Returned, Refused}
+use Rattle.tq_node.specs.declared.ask.Verdict.{Verdict}
+use Rattle.tq_node.specs.declared.ask.Verdict.TheVariants.{Abort, Commit}
+use Rattle.tq_node.specs.declared.ask.WorkAsk.{WorkAsk}
+use Rattle.tq_node.specs.declared.ask.WorkAsk.TheVariants.{Lock as LockAsk, Prepare, Decide, Release, Peek, Refresh}
+
+-- the raw records of a server: copies, at most one of a file; locks; open votes; down or not
+pub record Records : Type 0 where
+  pub copies : Files
+  pub locks : Locks
+  pub votes : Votes
+  pub down : Bool
+
+-- what a list of stable records stands for, in a server that is down
+abbrev pub kept_records : List Record → Records
+kept_records list = record { copies = kept_copies list; locks = kept_locks list; votes = kept_votes list; down = true }
+
+-- ---- the words of the refusals
+
+abbrev pub has_vote : Records → ℕ → Bool
+has_vote old txn = fin.contains_key old.votes txn
+
+abbrev pub holds_exclusively : Records → ℕ → List ℕ → Bool
+holds_exclusively old txn file = option_map_or (λ lock. is_exclusive lock.mode) (fin.get old.locks (file, txn)) false
+
+-- the first write whose file the transaction doesn't hold exclusively
+abbrev pub not_locked : Records → ℕ → List Write → Option (List ℕ)
+not_locked old txn writes = option_map (λ write. write.file) (find (λ write. not (holds_exclusively old txn write.file)) writes)
+
+abbrev pub files_rise : List Write → Bool
+files_rise [] = true
+files_rise (first ∷ []) = true
+files_rise (first ∷ second ∷ rest) = is_lt (name_cmp first.file second.file) && files_rise (second ∷ rest)
+
+abbrev pub are_good_writes : List Write → Bool
+are_good_writes writes = nat_le (length writes) 64 && files_rise writes
+
+-- ---- the refusals, in order
+
+-- the refusal where the test holds, and else the next
+abbrev pub refuse : Bool → NodeRefusal → Option NodeRefusal → Option NodeRefusal
+refuse test reason next = if test then Some reason else next
+
+-- the refusal for the value, where there is one, and else the next
+abbrev pub refuse_for : {A : Type 0} → Option A → (A → NodeRefusal) → Option NodeRefusal → Option NodeRefusal
+refuse_for None reason next = next
+refuse_for (Some x) reason next = Some (reason x)
+
+abbrev pub lock_refusal : Records → ℕ → List ℕ → Mode → Option NodeRefusal
+lock_refusal old txn file mode = refuse (has_vote old txn) Prepared (refuse_for (blocker old.locks file txn mode) Held None)
+
+abbrev pub prepare_refusal : Records → ℕ → List Write → Option NodeRefusal
+prepare_refusal old txn writes =
+    refuse (has_vote old txn) Prepared
+    (refuse (not (are_good_writes writes)) BadWrites
+    (refuse_for (not_locked old txn writes) NotLocked
+    (refuse (holds_nothing old.locks txn) NothingHere None)))
+
+abbrev pub release_refusal : Records → ℕ → Option NodeRefusal
+release_refusal old txn = refuse (has_vote old txn) Prepared (refuse (holds_nothing old.locks txn) NothingHere None)
+
+abbrev pub work_refusal : Records → WorkAsk → Option NodeRefusal
+work_refusal old (LockAsk txn file mode) = refuse old.down Down (lock_refusal old txn file mode)
+work_refusal old (Prepare txn writes) = refuse old.down Down (prepare_refusal old txn writes)
+work_refusal old (Decide txn verdict cite) = refuse old.down Down (refuse (not (has_vote old txn)) NothingHere None)
+work_refusal old (Release txn) = refuse old.down Down (release_refusal old txn)
+work_refusal old (Peek file) = refuse old.down Down None
+work_refusal old (Refresh file version content from) = refuse old.down Down (refuse (nat_le version (copy_of old.copies file).version) NotNewer None)
+
+abbrev pub refusal : Records → NodeAsk → Option NodeRefusal
+refusal old (Work ask) = work_refusal old ask
+refusal old Crash = refuse old.down AlreadyDown None
+refusal old Return = refuse (not old.down) AlreadyUp None
+
+-- ---- the answers
+
+-- the votes cited have this one
+abbrev pub are_citing : List CitedVote → ℕ → ℕ → Bool
+are_citing votes server number = list_any (λ vote. vote.server == server && vote.number == number) votes
+
+-- the verdict is Commit, and cites this vote
+abbrev pub cites_vote : Verdict → ℕ → ℕ → Bool
+cites_vote Abort server number = false
+cites_vote (Commit votes) server number = are_citing votes server number
+
+abbrev pub open_vote : Records → ℕ → OpenVote
+open_vote old txn = vote_at old.votes txn
+
+-- the writes that the verdict installs
+abbrev pub installs : ℕ → Records → ℕ → Verdict → Bool
+installs server old txn verdict = cites_vote verdict server (open_vote old txn).number
+
+abbrev pub held_lock : LockKey × Lock → HeldLock
+held_lock entry = record { file = entry.0.0; mode = entry.1.mode; since = entry.1.since }
+
+abbrev pub kept_lock : LockKey × Lock → KeptLock
+kept_lock entry = record { file = entry.0.0; mode = entry.1.mode; since = entry.1.since; version = entry.1.version }
+
+abbrev pub work_reply : ℕ → Records → WorkAsk → NodeReply
+work_reply server old (LockAsk txn file mode) = Granted (copy_of old.copies file).version (copy_of old.copies file).content
+work_reply server old (Prepare txn writes) = Yes (map held_lock (held_of old.locks txn)) writes
+work_reply server old (Decide txn verdict cite) = if installs server old txn verdict then Installed else Discarded
+work_reply server old (Release txn) = Released
+work_reply server old (Peek file) = Copy (copy_of old.copies file).version (copy_of old.copies file).content
+work_reply server old (Refresh file version content from) = Refreshed
+
+abbrev pub reply_of : ℕ → Records → NodeAsk → NodeReply
+reply_of server old (Work ask) = work_reply server old ask
+reply_of server old Crash = Crashed
+reply_of server old Return = Returned
+
+-- ---- the records after
+
+abbrev pub work_after : ℕ → Records → ℕ → WorkAsk → Records
+work_after server old number (LockAsk txn file mode) = record old { locks = granted old.locks file txn mode number (copy_of old.copies file).version }
+work_after server old number (Prepare txn writes) =
+    record old {
+      locks = stabilised_locks old.locks txn;
+      votes = fin.insert old.votes txn (record { number = number; writes = writes; locks = map kept_lock (held_of old.locks txn) });
+    }
+work_after server old number (Decide txn verdict cite) =
+    record old {
+      copies = if installs server old txn verdict then installed_all old.copies (open_vote old txn).writes else old.copies;
+      locks = released old.locks txn;
+      votes = fin.remove old.votes txn;
+    }
+work_after server old number (Release txn) = record old { locks = released old.locks txn }
+work_after server old number (Peek file) = old
+work_after server old number (Refresh file version content from) = record old { copies = installed old.copies file (record { version = version; content = content }) }
+
+abbrev pub records_after : ℕ → Records → ℕ → NodeAsk → Records
+records_after server old number (Work ask) = work_after server old number ask
+records_after server old number Crash = record old { locks = only_stable old.locks; down = true }
+records_after server old number Return = record old { down = false }
+
+-- ---- the stable records that an ask writes, in order
+
+abbrev pub work_writes : ℕ → Records → ℕ → WorkAsk → List Record
+work_writes server old number (Prepare txn writes) =
+    vote_records txn number writes (map kept_lock (held_of old.locks txn))
+work_writes server old number (Decide txn verdict cite) =
+    (if installs server old txn verdict then map stable.Copy (filter (is_newer old.copies) (open_vote old txn).writes) else [])
+    ++ stable.Gone txn (open_vote old txn).number ∷ []
+work_writes server old number (Refresh file version content from) = stable.Copy (record { file = file; version = version; content = content }) ∷ []
+work_writes server old number other = []
+
+abbrev pub writes_of : ℕ → Records → ℕ → NodeAsk → List Record
+writes_of server old number (Work ask) = work_writes server old number ask
+writes_of server old number other = []
+
+-- ---- the step
+
+-- a server's records with its stable list
+pub record NodeState : Type 0 where
+  pub records : Records
+  pub stable : List Record
+
+abbrev pub answer_at : Option NodeRefusal → NodeReply → NodeReply
+answer_at None reply = reply
+answer_at (Some reason) reply = Refused reason
+
+abbrev pub state_at : {S : Type 0} → Option NodeRefusal → S → S → S
+state_at None old new = new
+state_at (Some reason) old new = old
+
+abbrev pub node_reply : ℕ → NodeState → NodeAsk → NodeReply
+node_reply server old ask = answer_at (refusal old.records ask) (reply_of server old.records ask)
+
+abbrev pub node_after : ℕ → NodeState → ℕ → NodeAsk → NodeState
+node_after server old number ask =
+    state_at (refusal old.records ask) old (record {
+      records = records_after server old.records number ask;
+      stable = old.stable ++ writes_of server old.records number ask;
+    })

@@ -1,0 +1,588 @@
+ghost use Rattle.std.specs.Prelude.{◌≡◌, if◌then◌else◌, ◌<◌, ◌≤◌, OnOk, OnErr, IfOk, None, Ok, Some};
+ghost use Rattle.std.specs.Prelude.{IsSome, [], map, filter};
+ghost use Rattle.std.specs.FinMap as fin;
+ghost use Rattle.tq_locks.specs.Locks.{LockKey, blocker};
+ghost use Rattle.tq_store.specs.Copies.{copy_of, is_newer};
+ghost use Rattle.tq_node.specs.Records as spec;
+ghost use Rattle.tq_node.specs.Node as node;
+ghost use Rattle.tq_node.specs.Node.{IsKept};
+ghost use Rattle.tq_node.specs.Cases.{IsOnlyStep, IsStep};
+
+use crate::{CitedVote, HeldLock, NodeAsk, NodeRefusal, NodeReply, Verdict, WorkAsk};
+use std::alloc::Global;
+use std::marker::Model;
+use tq_intents::{Intents, KeptLock, Record};
+use tq_locks::{LockEntry, LockTable, Mode};
+use tq_shape::{Levels, Memory, Seq, ServerId};
+use tq_store::{Content, Copies, FileName, Write};
+
+/// A server.
+#[derive(Drop)]
+pub struct Node {
+    server: ServerId,
+    copies: Copies,
+    locks: LockTable,
+    intents: Intents,
+    down: bool,
+    last: u64,
+}
+
+impl Model for Node {
+    ghost use Rattle.tq_intents.specs.Kept.{kept_votes};
+    ghost use Rattle.tq_node.specs.Node.{IsSound, NodeView, node_code};
+    ghost use Rattle.tq_intents.specs.contracts.record.Record as record_type;
+    ghost use Rattle.tq_intents.specs.contracts.record.OpenVote as vote_type;
+
+    ghost Value = { NodeView };
+
+    ghost coded = { node_code record_type.the_row.coded vote_type.the_row.coded };
+
+    ghost view = { λ a. record {
+      levels = a.server.levels;
+      server = a.server.number;
+      state = record {
+        records = record { copies = a.copies.files; locks = a.locks; votes = kept_votes a.intents.records; down = a.down };
+        stable = a.intents.records;
+      };
+      last = a.last;
+    } };
+
+    ghost invariant = { λ a. IsSound a.intents.records a.last a.copies.files a.locks };
+}
+
+impl Node {
+    /// A server of the tree that is up and has stored nothing.
+    pub fn new(alloc: Global, levels: Levels, server: ServerId) -> Node
+        requires { server.levels ≡ levels }
+        ensures { result ≡ node.opening levels server.number }
+    {
+        Node {
+            server,
+            copies: Copies::new(alloc),
+            locks: LockTable::new(alloc),
+            intents: Intents::new(alloc),
+            down: false,
+            last: 0,
+        }
+    }
+
+    /// The stable records, in the order in which they were written.
+    pub fn stable(&self) -> &[Record]
+        ensures list { result.now ≡ self.now.state.stable }
+        ensures kept { IsKept self.now.state }
+    {
+        self.intents.stable()
+    }
+
+    /// The number of the last ask answered, 0 at first.
+    pub fn last(&self) -> u64
+        ensures { result ≡ self.now.last }
+    {
+        self.last
+    }
+
+    /// An equal server, with memory of its own.
+    pub fn copy(&self, alloc: Global) -> Result<Node, Memory>
+        ensures { IfOk result (λ copy. copy ≡ self.now) }
+    {
+        let copies = self.copies.copy(alloc)?;
+        let locks = self.locks.copy(alloc)?;
+        let intents = Intents::recover(alloc, self.intents.stable())?;
+        Ok(Node {
+            server: self.server,
+            copies,
+            locks,
+            intents,
+            down: self.down,
+            last: self.last,
+        })
+    }
+
+    /// What `answer` would reply to the ask. It changes nothing.
+    pub fn foresee(&self, alloc: Global, number: u64, ask: &NodeAsk) -> Result<NodeReply, Memory>
+        requires { self.now.last < number }
+        ensures { IfOk result (λ reply. reply ≡ spec.node_reply self.now.server self.now.state ask.now) }
+    {
+        if let Some(reason) = self.refusal(ask) {
+            return Ok(NodeReply::Refused(reason));
+        }
+        match ask {
+            NodeAsk::Work(work) => self.work_reply(alloc, work),
+            NodeAsk::Crash => Ok(NodeReply::Crashed),
+            NodeAsk::Return => Ok(NodeReply::Returned),
+        }
+    }
+
+    /// What the server replies to an ask that it doesn't refuse.
+    fn work_reply(&self, alloc: Global, ask: &WorkAsk) -> Result<NodeReply, Memory>
+        ensures { IfOk result (λ reply. reply ≡ spec.work_reply self.now.server self.now.state.records ask.now) }
+    {
+        match ask {
+            WorkAsk::Lock { file, .. } => self.grant_of(*file),
+            WorkAsk::Prepare { txn, writes } => self.yes_of(alloc, *txn, writes),
+            WorkAsk::Decide { txn, verdict, .. } => Ok(self.ending_of(*txn, verdict)),
+            WorkAsk::Release { .. } => Ok(NodeReply::Released),
+            WorkAsk::Peek { file } => self.peek(*file),
+            WorkAsk::Refresh { .. } => Ok(NodeReply::Refreshed),
+        }
+    }
+
+    fn grant_of(&self, file: FileName) -> Result<NodeReply, Memory>
+        ensures { IfOk result (λ reply. reply ≡ NodeReply.Granted (copy_of self.now.state.records.copies file).version (copy_of self.now.state.records.copies file).content) }
+    {
+        let copy = self.copies.get(&file);
+        Ok(NodeReply::Granted {
+            version: copy.version,
+            content: copy.content.clone()?,
+        })
+    }
+
+    fn yes_of(&self, alloc: Global, txn: u64, writes: &Seq<Write>) -> Result<NodeReply, Memory>
+        ensures { IfOk result (λ reply. reply ≡ spec.work_reply self.now.server self.now.state.records (WorkAsk.Prepare txn writes.now)) }
+    {
+        let entries = self.locks.held(alloc, txn)?;
+        let held = held_locks(alloc, entries.as_slice())?;
+        Ok(NodeReply::Yes {
+            held,
+            writes: writes.clone()?,
+        })
+    }
+
+    fn ending_of(&self, txn: u64, verdict: &Verdict) -> NodeReply
+        ensures { result ≡ (if spec.installs self.now.server self.now.state.records txn verdict.now then NodeReply.Installed else NodeReply.Discarded) }
+    {
+        let installs = self.installs(txn, verdict);
+        if installs {
+            NodeReply::Installed
+        } else {
+            NodeReply::Discarded
+        }
+    }
+
+    /// What the server refuses the ask for.
+    fn refusal(&self, ask: &NodeAsk) -> Option<NodeRefusal>
+        ensures { result ≡ spec.refusal self.now.state.records ask.now }
+    {
+        match ask {
+            NodeAsk::Work(work) => self.work_refusal(work),
+            NodeAsk::Crash if self.down => Some(NodeRefusal::AlreadyDown),
+            NodeAsk::Return if !self.down => Some(NodeRefusal::AlreadyUp),
+            _ => None,
+        }
+    }
+
+    fn work_refusal(&self, ask: &WorkAsk) -> Option<NodeRefusal>
+        ensures { result ≡ spec.work_refusal self.now.state.records ask.now }
+    {
+        if self.down {
+            return Some(NodeRefusal::Down);
+        }
+        match ask {
+            WorkAsk::Lock { txn, file, mode } => self.lock_refusal(*txn, *file, *mode),
+            WorkAsk::Prepare { txn, writes } => self.prepare_refusal(*txn, writes.as_slice()),
+            WorkAsk::Decide { txn, .. } => match self.intents.of(*txn) {
+                Some(_) => None,
+                None => Some(NodeRefusal::NothingHere),
+            },
+            WorkAsk::Release { txn } => self.release_refusal(*txn),
+            WorkAsk::Peek { .. } => None,
+            WorkAsk::Refresh { file, version, .. } => {
+                if *version <= self.copies.get(file).version {
+                    Some(NodeRefusal::NotNewer)
+                } else {
+                    None
+                }
+            }
+        }
+    }
+
+    fn lock_refusal(&self, txn: u64, file: FileName, mode: Mode) -> Option<NodeRefusal>
+        ensures { result ≡ spec.lock_refusal self.now.state.records txn file mode }
+    {
+        if self.intents.of(txn).is_some() {
+            return Some(NodeRefusal::Prepared);
+        }
+        match self.locks.blocker(txn, file, mode) {
+            Some(by) => Some(NodeRefusal::Held { by }),
+            None => None,
+        }
+    }
+
+    fn release_refusal(&self, txn: u64) -> Option<NodeRefusal>
+        ensures { result ≡ spec.release_refusal self.now.state.records txn }
+    {
+        if self.intents.of(txn).is_some() {
+            return Some(NodeRefusal::Prepared);
+        }
+        if self.locks.holds_nothing(txn) {
+            return Some(NodeRefusal::NothingHere);
+        }
+        None
+    }
+
+    fn holds_exclusively(&self, txn: u64, file: FileName) -> bool
+        ensures { result ≡ spec.holds_exclusively self.now.state.records txn file }
+    {
+        match self.locks.get(txn, file) {
+            Some(lock) => lock.mode == Mode::Exclusive,
+            None => false,
+        }
+    }
+
+    /// The first write whose file the transaction doesn't hold exclusively.
+    fn not_locked(&self, txn: u64, writes: &[Write]) -> Option<FileName>
+        ensures { result ≡ spec.not_locked self.now.state.records txn writes.now }
+    {
+        writes
+            .iter()
+            .find(|write| !self.holds_exclusively(txn, write.file))
+            .map(|write| write.file)
+    }
+
+    fn prepare_refusal(&self, txn: u64, writes: &[Write]) -> Option<NodeRefusal>
+        ensures { result ≡ spec.prepare_refusal self.now.state.records txn writes.now }
+    {
+        if self.intents.of(txn).is_some() {
+            return Some(NodeRefusal::Prepared);
+        }
+        if !are_good_writes(writes) {
+            return Some(NodeRefusal::BadWrites);
+        }
+        if let Some(file) = self.not_locked(txn, writes) {
+            return Some(NodeRefusal::NotLocked { file });
+        }
+        if self.locks.holds_nothing(txn) {
+            return Some(NodeRefusal::NothingHere);
+        }
+        None
+    }
+
+    fn lock(
+        &mut self,
+        number: u64,
+        txn: u64,
+        file: FileName,
+        mode: Mode,
+    ) -> Result<NodeReply, Memory>
+        requires closed { fin.get self.old.state.records.votes txn ≡ None }
+        requires free { blocker self.old.state.records.locks file txn mode ≡ None }
+        ensures reply { IfOk result (λ reply. reply ≡ spec.work_reply self.old.server self.old.state.records (WorkAsk.Lock txn file mode)) }
+        ensures after { OnOk result (self.new ≡ node.worked self.old number (WorkAsk.Lock txn file mode)) }
+        ensures err { OnErr result (self.new ≡ self.old) }
+    {
+        let copy = self.copies.get(&file);
+        let version = copy.version;
+        let content = copy.content.clone()?;
+        self.locks.grant(txn, file, mode, number, version)?;
+        Ok(NodeReply::Granted { version, content })
+    }
+
+    fn peek(&self, file: FileName) -> Result<NodeReply, Memory>
+        ensures reply { IfOk result (λ reply. reply ≡ spec.work_reply self.now.server self.now.state.records (WorkAsk.Peek file)) }
+    {
+        let copy = self.copies.get(&file);
+        Ok(NodeReply::Copy {
+            version: copy.version,
+            content: copy.content.clone()?,
+        })
+    }
+
+    fn release(&mut self, number: u64, txn: u64) -> NodeReply
+        requires { fin.get self.old.state.records.votes txn ≡ None }
+        ensures reply { result ≡ spec.work_reply self.old.server self.old.state.records (WorkAsk.Release txn) }
+        ensures after { self.new ≡ node.worked self.old number (WorkAsk.Release txn) }
+    {
+        self.locks.release(txn);
+        NodeReply::Released
+    }
+
+    /// Installs a newer copy. All memory is asked for before the first change.
+    fn refresh(
+        &mut self,
+        alloc: Global,
+        number: u64,
+        file: FileName,
+        version: u64,
+        content: &Content,
+        from: CitedVote,
+    ) -> Result<NodeReply, Memory>
+        ensures reply { IfOk result (λ reply. reply ≡ NodeReply.Refreshed) }
+        ensures after { OnOk result (self.new ≡ node.worked self.old number (WorkAsk.Refresh file version content.now from)) }
+        ensures err { OnErr result (self.new ≡ self.old) }
+    {
+        let kept = content.clone()?;
+        let write = Write {
+            file,
+            version,
+            content: content.clone()?,
+        };
+        self.copies.reserve(alloc, 1)?;
+        self.intents.reserve(1)?;
+        self.copies.install(file, version, kept);
+        self.intents.push_copy(write);
+        Ok(NodeReply::Refreshed)
+    }
+
+    /// Gives a vote. All memory is asked for before the first change.
+    fn prepare(
+        &mut self,
+        alloc: Global,
+        number: u64,
+        txn: u64,
+        writes: &Seq<Write>,
+    ) -> Result<NodeReply, Memory>
+        requires rises { self.old.last < number }
+        requires closed { fin.get self.old.state.records.votes txn ≡ None }
+        ensures reply { IfOk result (λ reply. reply ≡ spec.work_reply self.old.server self.old.state.records (WorkAsk.Prepare txn writes.now)) }
+        ensures after { OnOk result (self.new ≡ node.numbered number (node.worked self.old number (WorkAsk.Prepare txn writes.now))) }
+        ensures err { OnErr result (self.new ≡ self.old) }
+    {
+        let entries = self.locks.held(alloc, txn)?;
+        let held = held_locks(alloc, entries.as_slice())?;
+        let kept = kept_locks(alloc, entries.as_slice())?;
+        let answered = writes.clone()?;
+        let written = writes.clone()?;
+        self.intents.prepare(alloc, txn, number, written, kept)?;
+        self.locks.keep(txn);
+        self.last = number;
+        Ok(NodeReply::Yes {
+            held,
+            writes: answered,
+        })
+    }
+
+    /// The number of a transaction's open vote, 0 where there is none.
+    fn vote_number(&self, txn: u64) -> u64
+        ensures { result ≡ (spec.open_vote self.now.state.records txn).number }
+    {
+        match self.intents.of(txn) {
+            Some(vote) => vote.number,
+            None => 0,
+        }
+    }
+
+    /// Whether the verdict is Commit and cites the open vote.
+    fn installs(&self, txn: u64, verdict: &Verdict) -> bool
+        ensures { result ≡ spec.installs self.now.server self.now.state.records txn verdict.now }
+    {
+        match verdict {
+            Verdict::Abort => false,
+            Verdict::Commit { votes } => cites(
+                votes.as_slice(),
+                self.server.number(),
+                self.vote_number(txn),
+            ),
+        }
+    }
+
+    /// The writes that are above the copies here.
+    fn newer(&self, alloc: Global, writes: &[Write]) -> Result<Seq<Write>, Memory>
+        ensures { IfOk result (λ newer. newer ≡ filter (is_newer self.now.state.records.copies) writes.now) }
+    {
+        let mut newer = Vec::new(alloc);
+        for write in writes {
+            if self.copies.get(&write.file).version < write.version {
+                newer.push(write.clone()?)?;
+            }
+        }
+        Ok(Seq::from_vec(newer))
+    }
+
+    /// Ends a vote, and installs nothing.
+    fn discard(&mut self, txn: u64) -> Result<(), Memory>
+        requires { IsSome (fin.get self.old.state.records.votes txn) }
+        ensures after { OnOk result (self.new ≡ node.ended self.old txn) }
+        ensures err { OnErr result (self.new ≡ self.old) }
+    {
+        self.intents.reserve(1)?;
+        self.intents.finish(txn);
+        self.locks.release(txn);
+        Ok(())
+    }
+
+    /// Installs a vote's writes and ends it. All memory is asked for before the first change.
+    fn install(&mut self, alloc: Global, txn: u64) -> Result<(), Memory>
+        requires { IsSome (fin.get self.old.state.records.votes txn) }
+        ensures after { OnOk result (self.new ≡ node.ended_installed self.old txn) }
+        ensures err { OnErr result (self.new ≡ self.old) }
+    {
+        let writes = self.intents.of(txn).unwrap().writes.clone()?;
+        let newer = self.newer(alloc, writes.as_slice())?;
+        self.copies.reserve(alloc, writes.len())?;
+        self.intents.reserve(newer.len() + 1)?;
+        self.copies.install_all(writes);
+        self.intents.push_copies(newer);
+        self.intents.finish(txn);
+        self.locks.release(txn);
+        Ok(())
+    }
+
+    fn decide(
+        &mut self,
+        alloc: Global,
+        number: u64,
+        txn: u64,
+        verdict: &Verdict,
+        cite: u64,
+    ) -> Result<NodeReply, Memory>
+        requires { IsSome (fin.get self.old.state.records.votes txn) }
+        ensures reply { IfOk result (λ reply. reply ≡ spec.work_reply self.old.server self.old.state.records (WorkAsk.Decide txn verdict.now cite)) }
+        ensures after { OnOk result (self.new ≡ node.worked self.old number (WorkAsk.Decide txn verdict.now cite)) }
+        ensures err { OnErr result (self.new ≡ self.old) }
+    {
+        if self.installs(txn, verdict) {
+            self.install(alloc, txn)?;
+            Ok(NodeReply::Installed)
+        } else {
+            self.discard(txn)?;
+            Ok(NodeReply::Discarded)
+        }
+    }
+
+    fn work(&mut self, alloc: Global, number: u64, ask: &WorkAsk) -> Result<NodeReply, Memory>
+        requires rises { self.old.last < number }
+        requires answered { spec.work_refusal self.old.state.records ask.now ≡ None }
+        ensures reply { IfOk result (λ reply. reply ≡ spec.work_reply self.old.server self.old.state.records ask.now) }
+        ensures after { OnOk result (node.numbered number self.new ≡ node.numbered number (node.worked self.old number ask.now)) }
+        ensures last { self.new.last ≤ number }
+        ensures err { OnErr result (self.new ≡ self.old) }
+    {
+        match ask {
+            WorkAsk::Lock { txn, file, mode } => self.lock(number, *txn, *file, *mode),
+            WorkAsk::Prepare { txn, writes } => self.prepare(alloc, number, *txn, writes),
+            WorkAsk::Decide { txn, verdict, cite } => self.decide(
+                alloc, number, *txn, verdict, *cite,
+            ),
+            WorkAsk::Release { txn } => Ok(self.release(number, *txn)),
+            WorkAsk::Peek { file } => self.peek(*file),
+            WorkAsk::Refresh {
+                file,
+                version,
+                content,
+                from,
+            } => self.refresh(alloc, number, *file, *version, content, *from),
+        }
+    }
+
+    fn crash(&mut self, number: u64) -> NodeReply
+        ensures reply { result ≡ NodeReply.Crashed }
+        ensures after { self.new ≡ node.turned self.old number NodeAsk.Crash }
+    {
+        self.locks.drop_unstable();
+        self.down = true;
+        NodeReply::Crashed
+    }
+
+    fn come_back(&mut self, number: u64) -> NodeReply
+        ensures reply { result ≡ NodeReply.Returned }
+        ensures after { self.new ≡ node.turned self.old number NodeAsk.Return }
+    {
+        self.down = false;
+        NodeReply::Returned
+    }
+
+    /// Notes the number of the ask that is being answered.
+    fn note(&mut self, last: u64)
+        requires { self.old.last ≤ last }
+        ensures { self.new ≡ node.numbered last self.old }
+    {
+        self.last = last;
+    }
+
+    /// The step: the refusal where there is one, and else the answer.
+    fn respond(&mut self, alloc: Global, number: u64, ask: &NodeAsk) -> Result<NodeReply, Memory>
+        requires { self.old.last < number }
+        ensures reply { IfOk result (λ reply. reply ≡ spec.node_reply self.old.server self.old.state ask.now) }
+        ensures after { OnOk result (self.new ≡ node.answered self.old number ask.now) }
+        ensures err { OnErr result (self.new ≡ self.old) }
+    {
+        if let Some(reason) = self.refusal(ask) {
+            self.note(number);
+            return Ok(NodeReply::Refused(reason));
+        }
+        let reply = match ask {
+            NodeAsk::Work(work) => self.work(alloc, number, work)?,
+            NodeAsk::Crash => self.crash(number),
+            NodeAsk::Return => self.come_back(number),
+        };
+        self.note(number);
+        Ok(reply)
+    }
+
+    /// Answers an ask, of a number above that of the last one answered.
+    /// Where memory is wanting the server is as it was, and the ask may be put again.
+    pub fn answer(&mut self, alloc: Global, number: u64, ask: &NodeAsk) -> Result<NodeReply, Memory>
+        requires { self.old.last < number }
+        ensures reply { IfOk result (λ reply. reply ≡ spec.node_reply self.old.server self.old.state ask.now) }
+        ensures after { OnOk result (self.new ≡ node.answered self.old number ask.now) }
+        ensures err { OnErr result (self.new ≡ self.old) }
+
+        // The same as a relation, one case for each refusal and each answer; no other reply and no other records are in it.
+        ensures by_cases { IfOk result (λ reply. IsStep self.old.server self.old.state.records number ask.now reply self.new.state.records) }
+        ensures only { IfOk result (λ reply. IsOnlyStep self.old.server self.old.state.records number ask.now reply self.new.state.records) }
+
+        // The stable records keep the copies, the open votes and their locks; after a crash they are all there is.
+        ensures kept { IsKept self.new.state }
+        ensures crashed { result ≡ Ok NodeReply.Crashed → self.new.state.records ≡ spec.kept_records self.new.state.stable }
+    {
+        let told = self.respond(alloc, number, ask);
+        let _ = &self.last;
+        told
+    }
+}
+
+/// Whether the vote of this server with this number is among those cited.
+fn cites(votes: &[CitedVote], server: u64, number: u64) -> bool
+    ensures { result ≡ spec.are_citing votes.now server number }
+{
+    votes
+        .iter()
+        .any(|vote| vote.server == server && vote.number == number)
+}
+
+/// Locks, as a vote lists them.
+fn held_locks(alloc: Global, entries: &[LockEntry]) -> Result<Seq<HeldLock>, Memory>
+    ensures { IfOk result (λ held. held ≡ map spec.held_lock entries.now) }
+{
+    let mut held = Vec::new(alloc);
+    for (key, lock) in entries {
+        held.push(HeldLock {
+            file: key.0,
+            mode: lock.mode,
+            since: lock.since,
+        })?;
+    }
+    Ok(Seq::from_vec(held))
+}
+
+/// Locks, as a vote keeps them.
+fn kept_locks(alloc: Global, entries: &[LockEntry]) -> Result<Seq<KeptLock>, Memory>
+    ensures { IfOk result (λ kept. kept ≡ map spec.kept_lock entries.now) }
+{
+    let mut kept = Vec::new(alloc);
+    for (key, lock) in entries {
+        kept.push(KeptLock {
+            file: key.0,
+            mode: lock.mode,
+            since: lock.since,
+            version: lock.version,
+        })?;
+    }
+    Ok(Seq::from_vec(kept))
+}
+
+fn files_rise(writes: &[Write]) -> bool
+    ensures { result ≡ spec.files_rise writes.now }
+{
+    match writes {
+        [] => true,
+        [_] => true,
+        [first, second, ..] => { first.file.cmp(&second.file).is_lt() && files_rise(&writes[1..]) }
+    }
+}
+
+fn are_good_writes(writes: &[Write]) -> bool
+    ensures { result ≡ spec.are_good_writes writes.now }
+{
+    writes.len() <= 64 && files_rise(writes)
+}

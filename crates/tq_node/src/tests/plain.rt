@@ -1,0 +1,373 @@
+//! A server as its definition says it: plain lists, searched from end to end.
+use super::*;
+
+#[derive(Clone, Copy)]
+struct PlainLock {
+    file: FileName,
+    txn: u64,
+    mode: Mode,
+    since: u64,
+    version: u64,
+    stable: bool,
+}
+
+#[derive(Drop)]
+struct PlainVote {
+    txn: u64,
+    number: u64,
+    writes: Seq<Write>,
+}
+
+#[derive(Drop)]
+pub struct Plain {
+    alloc: Global,
+    server: u64,
+    files: Vec<FileName>,
+    down: bool,
+    copies: Vec<Write>,
+    locks: Vec<PlainLock>,
+    votes: Vec<PlainVote>,
+    pub stable: Vec<Record>,
+}
+
+impl Plain {
+    /// A server that knows these files, ascending.
+    pub fn new(alloc: Global, server: u64, files: Vec<FileName>) -> Plain {
+        Plain {
+            alloc,
+            server,
+            files,
+            down: false,
+            copies: Vec::new(alloc),
+            locks: Vec::new(alloc),
+            votes: Vec::new(alloc),
+            stable: Vec::new(alloc),
+        }
+    }
+
+    /// The number of the open vote of a transaction.
+    pub fn vote_number(&self, txn: u64) -> Option<u64> {
+        for vote in &self.votes {
+            if vote.txn == txn {
+                return Some(vote.number);
+            }
+        }
+        None
+    }
+
+    fn vote_writes(&self, txn: u64) -> Result<Seq<Write>, Fail> {
+        for vote in &self.votes {
+            if vote.txn == txn {
+                return Ok(vote.writes.clone()?);
+            }
+        }
+        Ok(Seq::from_vec(Vec::new(self.alloc)))
+    }
+
+    fn version(&self, file: FileName) -> u64 {
+        for copy in &self.copies {
+            if copy.file == file {
+                return copy.version;
+            }
+        }
+        0
+    }
+
+    fn content(&self, file: FileName) -> Result<Content, Fail> {
+        for copy in &self.copies {
+            if copy.file == file {
+                return Ok(copy.content.clone()?);
+            }
+        }
+        Ok(Content::empty(self.alloc))
+    }
+
+    fn lock(&self, txn: u64, file: FileName) -> Option<PlainLock> {
+        for lock in &self.locks {
+            if lock.txn == txn && lock.file == file {
+                return Some(*lock);
+            }
+        }
+        None
+    }
+
+    fn has_lock(&self, txn: u64) -> bool {
+        for lock in &self.locks {
+            if lock.txn == txn {
+                return true;
+            }
+        }
+        false
+    }
+
+    fn conflict(&self, txn: u64, file: FileName, mode: Mode) -> Option<u64> {
+        let mut least = None;
+        for lock in &self.locks {
+            let agrees = mode == Mode::Shared && lock.mode == Mode::Shared;
+            if lock.file == file && lock.txn != txn && !agrees {
+                least = match least {
+                    Some(by) if by < lock.txn => Some(by),
+                    _ => Some(lock.txn),
+                };
+            }
+        }
+        least
+    }
+
+    /// The first of the writes whose file the transaction doesn't hold exclusively.
+    fn not_locked(&self, txn: u64, writes: &[Write]) -> Option<FileName> {
+        for write in writes {
+            match self.lock(txn, write.file) {
+                Some(lock) if lock.mode == Mode::Exclusive => {}
+                _ => return Some(write.file),
+            }
+        }
+        None
+    }
+
+    fn lock_refusal(&self, txn: u64, file: FileName, mode: Mode) -> Option<NodeRefusal> {
+        if self.vote_number(txn).is_some() {
+            return Some(NodeRefusal::Prepared);
+        }
+        match self.conflict(txn, file, mode) {
+            Some(by) => Some(NodeRefusal::Held { by }),
+            None => None,
+        }
+    }
+
+    fn prepare_refusal(&self, txn: u64, writes: &[Write]) -> Option<NodeRefusal> {
+        if self.vote_number(txn).is_some() {
+            return Some(NodeRefusal::Prepared);
+        }
+        if writes.len() > 64 || !rise(writes) {
+            return Some(NodeRefusal::BadWrites);
+        }
+        if let Some(file) = self.not_locked(txn, writes) {
+            return Some(NodeRefusal::NotLocked { file });
+        }
+        if !self.has_lock(txn) {
+            return Some(NodeRefusal::NothingHere);
+        }
+        None
+    }
+
+    fn work_refusal(&self, ask: &WorkAsk) -> Option<NodeRefusal> {
+        match ask {
+            WorkAsk::Lock { txn, file, mode } => self.lock_refusal(*txn, *file, *mode),
+            WorkAsk::Prepare { txn, writes } => self.prepare_refusal(*txn, writes.as_slice()),
+            WorkAsk::Decide { txn, .. } if self.vote_number(*txn).is_none() => Some(
+                NodeRefusal::NothingHere,
+            ),
+            WorkAsk::Release { txn } if self.vote_number(*txn).is_some() => Some(
+                NodeRefusal::Prepared,
+            ),
+            WorkAsk::Release { txn } if !self.has_lock(*txn) => Some(NodeRefusal::NothingHere),
+            WorkAsk::Refresh { file, version, .. } if *version <= self.version(*file) => Some(
+                NodeRefusal::NotNewer,
+            ),
+            _ => None,
+        }
+    }
+
+    fn refusal(&self, ask: &NodeAsk) -> Option<NodeRefusal> {
+        match ask {
+            NodeAsk::Work(_) if self.down => Some(NodeRefusal::Down),
+            NodeAsk::Work(work) => self.work_refusal(work),
+            NodeAsk::Crash if self.down => Some(NodeRefusal::AlreadyDown),
+            NodeAsk::Return if !self.down => Some(NodeRefusal::AlreadyUp),
+            _ => None,
+        }
+    }
+
+    /// Installs a write that is newer than the copy here, and writes it down.
+    fn install(&mut self, write: Write) -> Result<(), Fail> {
+        if self.version(write.file) < write.version {
+            let file = write.file;
+            self.copies.retain(|copy| copy.file != file);
+            self.copies.push(write.clone()?)?;
+            self.stable.push(Record::Copy(write))?;
+        }
+        Ok(())
+    }
+
+    fn grant(
+        &mut self,
+        number: u64,
+        txn: u64,
+        file: FileName,
+        mode: Mode,
+    ) -> Result<NodeReply, Fail> {
+        let version = self.version(file);
+        let lock = match self.lock(txn, file) {
+            Some(lock) if lock.mode == Mode::Exclusive => lock,
+            Some(lock) => PlainLock {
+                file,
+                txn,
+                mode,
+                since: lock.since,
+                version: lock.version,
+                stable: lock.stable,
+            },
+            None => PlainLock {
+                file,
+                txn,
+                mode,
+                since: number,
+                version,
+                stable: false,
+            },
+        };
+        self.locks
+            .retain(|lock| !(lock.txn == txn && lock.file == file));
+        self.locks.push(lock)?;
+        let content = self.content(file)?;
+        Ok(NodeReply::Granted { version, content })
+    }
+
+    /// The locks of a transaction, ascending by file.
+    fn held(&self, txn: u64) -> Result<Vec<PlainLock>, Fail> {
+        let mut held = Vec::new(self.alloc);
+        for file in &self.files {
+            if let Some(lock) = self.lock(txn, *file) {
+                held.push(lock)?;
+            }
+        }
+        Ok(held)
+    }
+
+    /// Writes the locks of a transaction into the stable list, and names them.
+    fn keep(&mut self, number: u64, txn: u64) -> Result<Seq<HeldLock>, Fail> {
+        let mut named = Vec::new(self.alloc);
+        for held in &self.held(txn)? {
+            let lock = KeptLock {
+                file: held.file,
+                mode: held.mode,
+                since: held.since,
+                version: held.version,
+            };
+            self.stable.push(Record::Keep { txn, number, lock })?;
+            named.push(HeldLock {
+                file: held.file,
+                mode: held.mode,
+                since: held.since,
+            })?;
+        }
+        for lock in &mut self.locks {
+            lock.stable = lock.stable || lock.txn == txn;
+        }
+        Ok(Seq::from_vec(named))
+    }
+
+    fn prepare(&mut self, number: u64, txn: u64, writes: &Seq<Write>) -> Result<NodeReply, Fail> {
+        for write in writes.as_slice() {
+            let write = write.clone()?;
+            self.stable.push(Record::Intent { txn, number, write })?;
+        }
+        let held = self.keep(number, txn)?;
+        self.stable.push(Record::Prepared { txn, number })?;
+        self.votes.push(PlainVote {
+            txn,
+            number,
+            writes: writes.clone()?,
+        })?;
+        Ok(NodeReply::Yes {
+            held,
+            writes: writes.clone()?,
+        })
+    }
+
+    fn is_cited(&self, number: u64, verdict: &Verdict) -> bool {
+        match verdict {
+            Verdict::Abort => false,
+            Verdict::Commit { votes } => {
+                for vote in votes.as_slice() {
+                    if vote.server == self.server && vote.number == number {
+                        return true;
+                    }
+                }
+                false
+            }
+        }
+    }
+
+    fn end(&mut self, number: u64, txn: u64) -> Result<(), Fail> {
+        self.stable.push(Record::Gone { txn, number })?;
+        self.votes.retain(|vote| vote.txn != txn);
+        self.locks.retain(|lock| lock.txn != txn);
+        Ok(())
+    }
+
+    fn decide(&mut self, txn: u64, verdict: &Verdict) -> Result<NodeReply, Fail> {
+        let number = self.vote_number(txn).ok_or("no vote")?;
+        if !self.is_cited(number, verdict) {
+            self.end(number, txn)?;
+            return Ok(NodeReply::Discarded);
+        }
+        for write in self.vote_writes(txn)?.into_vec() {
+            self.install(write)?;
+        }
+        self.end(number, txn)?;
+        Ok(NodeReply::Installed)
+    }
+
+    fn work(&mut self, number: u64, ask: &WorkAsk) -> Result<NodeReply, Fail> {
+        match ask {
+            WorkAsk::Lock { txn, file, mode } => self.grant(number, *txn, *file, *mode),
+            WorkAsk::Prepare { txn, writes } => self.prepare(number, *txn, writes),
+            WorkAsk::Decide { txn, verdict, .. } => self.decide(*txn, verdict),
+            WorkAsk::Release { txn } => {
+                let txn = *txn;
+                self.locks.retain(|lock| lock.txn != txn);
+                Ok(NodeReply::Released)
+            }
+            WorkAsk::Peek { file } => Ok(NodeReply::Copy {
+                version: self.version(*file),
+                content: self.content(*file)?,
+            }),
+            WorkAsk::Refresh {
+                file,
+                version,
+                content,
+                ..
+            } => {
+                self.install(Write {
+                    file: *file,
+                    version: *version,
+                    content: content.clone()?,
+                })?;
+                Ok(NodeReply::Refreshed)
+            }
+        }
+    }
+
+    pub fn answer(&mut self, number: u64, ask: &NodeAsk) -> Result<NodeReply, Fail> {
+        if let Some(reason) = self.refusal(ask) {
+            return Ok(NodeReply::Refused(reason));
+        }
+        match ask {
+            NodeAsk::Work(work) => self.work(number, work),
+            NodeAsk::Crash => {
+                self.locks.retain(|lock| lock.stable);
+                self.down = true;
+                Ok(NodeReply::Crashed)
+            }
+            NodeAsk::Return => {
+                self.down = false;
+                Ok(NodeReply::Returned)
+            }
+        }
+    }
+}
+
+fn rise(writes: &[Write]) -> bool {
+    let mut last: Option<FileName> = None;
+    for write in writes {
+        if let Some(file) = last {
+            if write.file <= file {
+                return false;
+            }
+        }
+        last = Some(write.file);
+    }
+    true
+}

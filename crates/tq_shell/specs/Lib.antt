@@ -1,0 +1,11 @@
+pub mod Devices
+pub mod Word
+pub mod Line
+pub mod Print
+pub mod Answer
+pub mod Text
+pub mod Stream
+pub use Rattle.tq_live.specs.Live
+pub use Rattle.tq_live.specs.View
+pub mod Run
+pub mod Command

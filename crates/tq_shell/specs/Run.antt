@@ -1,0 +1,43 @@
+-- What a run has written for the bytes that it has read, by the way that it ended.
+use Rattle.std.specs.Prelude.{◌≡◌, ℕ, ◌+◌, ◌<◌, ◌≤◌, List, ◌++◌, Option, Result, Ok, Err, length, take}
+use Rattle.std.specs.Io.KnownBytes.{Appends}
+use Rattle.tq_shell.specs.Text.{text_of, whole_text}
+use Rattle.tq_shell.specs.Stream.{Heard, silence, heard_all, said_all}
+use Rattle.tq_shell.specs.declared.runner.TheConstants.{INPUT_LIMIT}
+use Rattle.tq_shell.specs.declared.runner.RunFault.{RunFault}
+use Rattle.tq_shell.specs.declared.runner.RunFault.TheVariants.{Memory, Read, Write, TooLong}
+
+-- levels, bytes read, text written
+abbrev pub IsRunText : {T : Type 0} → Result T RunFault → ℕ → List ℕ → List ℕ → Type 0
+IsRunText (Ok done) levels bytes text = (length bytes ≤ INPUT_LIMIT) × (text ≡ text_of levels bytes)
+-- the text of some first lines, each whole
+IsRunText (Err Memory) levels bytes text = (count : ℕ) × (text ≡ whole_text levels (take count bytes))
+IsRunText (Err Read) levels bytes text = text ≡ whole_text levels bytes
+-- a prefix of the text
+IsRunText (Err Write) levels bytes text = (rest : List ℕ) × (text ++ rest ≡ text_of levels bytes)
+IsRunText (Err TooLong) levels bytes text = (INPUT_LIMIT < length bytes) × (text ≡ whole_text levels (take INPUT_LIMIT bytes))
+
+-- failures of the source before and after, and of the sink
+abbrev pub IsRunCount : {T : Type 0} → Result T RunFault → ℕ → ℕ → ℕ → ℕ → Type 0
+IsRunCount (Ok done) reads reads_after writes writes_after = (reads_after ≡ reads) × (writes_after ≡ writes)
+IsRunCount (Err Memory) reads reads_after writes writes_after = (reads_after ≡ reads) × (writes_after ≡ writes)
+IsRunCount (Err Read) reads reads_after writes writes_after = (reads_after ≡ reads + 1) × (writes_after ≡ writes)
+IsRunCount (Err Write) reads reads_after writes writes_after = (reads_after ≡ reads) × (writes_after ≡ writes + 1)
+IsRunCount (Err TooLong) reads reads_after writes writes_after = (reads_after ≡ reads) × (writes_after ≡ writes)
+
+-- all the bytes are written, or a front of them and the sink failed
+abbrev pub IsWritten : {T : Type 0} → Result T RunFault → List ℕ → Option (List ℕ) → Option (List ℕ) → ℕ → ℕ → Type 0
+IsWritten (Ok done) bytes taken taken_after failed failed_after = Appends taken taken_after bytes × (failed_after ≡ failed)
+IsWritten (Err Write) bytes taken taken_after failed failed_after =
+    (count : ℕ) × Appends taken taken_after (take count bytes) × (failed_after ≡ failed + 1)
+IsWritten (Err Memory) bytes taken taken_after failed failed_after = ⊥
+IsWritten (Err Read) bytes taken taken_after failed failed_after = ⊥
+IsWritten (Err TooLong) bytes taken taken_after failed failed_after = ⊥
+
+-- where a run stands before a read: what the source has given is heard, and what that says is written
+pub record IsGoing (levels : ℕ) (given given_now taken taken_now : Option (List ℕ)) (heard : Heard) (left : ℕ) : Type 0 where
+  pub bytes : List ℕ
+  pub read : Appends given given_now bytes
+  pub wrote : Appends taken taken_now (said_all (silence levels) bytes)
+  pub heard_is : heard ≡ heard_all (silence levels) bytes
+  pub room : length bytes + left ≡ INPUT_LIMIT

@@ -1,0 +1,158 @@
+ghost use Rattle.std.specs.Prelude.{◌≡◌, IfOk, false, codes};
+ghost use Rattle.clap.specs.Words.{app_of, found_of, rows_of, rule_of};
+ghost use Rattle.clap.specs.declared.builder.command.Command.TheViews.{out-Command};
+ghost use Rattle.tq_shell.specs.Command.{HasNumber, IsGiven, levels_rule, shell_app, tq_app};
+
+use clap::error::ErrorKind;
+use clap::{Arg, ArgAction, ArgMatches, Command, Error};
+use std::alloc::{AllocError, Global};
+use tq_shape::Levels;
+
+/// What the words of the command line ask for.
+#[derive(Clone, Copy, Debug, PartialEq, Eq)]
+pub enum Words {
+    /// Lines are answered, over a tree of so many levels.
+    Shell { levels: Levels },
+}
+
+/// Why words ask for nothing.
+#[derive(Debug, Drop, thiserror::Error)]
+pub enum WordsFault {
+    /// Memory was refused.
+    #[error("fault memory")]
+    Memory,
+    /// The words are no such call, or ask for help or the version. The error has the text to be shown.
+    #[error(transparent)]
+    Refused(Error),
+}
+
+impl From<AllocError> for WordsFault {
+    ghost use Rattle.std.specs.Prelude.{◌≡◌};
+    ghost use Rattle.tq_shell.specs.declared.command.WordsFault.TheVariants as variants;
+
+    ghost from_gives = { λ _ fault. fault ≡ variants.Memory };
+
+    fn from(_error: AllocError) -> WordsFault {
+        WordsFault::Memory
+    }
+}
+
+impl From<Error> for WordsFault {
+    ghost use Rattle.std.specs.Prelude.{◌≡◌};
+    ghost use Rattle.tq_shell.specs.Command.{fault_for};
+
+    ghost from_gives = { λ error fault. fault ≡ fault_for error };
+
+    fn from(error: Error) -> WordsFault {
+        match error.kind() {
+            ErrorKind::OutOfMemory => WordsFault::Memory,
+            _ => WordsFault::Refused(error),
+        }
+    }
+}
+
+impl Words {
+    ghost use Rattle.std.specs.Prelude.{IfOk, IfErr};
+    ghost use Rattle.clap.specs.Words.{subcommand_rows_of};
+    ghost use Rattle.tq_shell.specs.Command.{AsksFor, CanAsk, IsRead, IsRefused, texts_of};
+
+    /// Reads the words, of which the first is the name of the program.
+    pub fn read(alloc: Global, words: &[String]) -> Result<Words, WordsFault>
+        ensures read { IfOk result (IsRead (texts_of words.now)) }
+        ensures refused { IfErr result (IsRefused (texts_of words.now)) }
+    {
+        let command = tq_command(alloc)?;
+        let matches = command.try_get_matches_from(words)?;
+        Ok(Words::of(&matches))
+    }
+
+    /// What the subcommand that was found asks for.
+    fn of(matches: &ArgMatches) -> Words
+        requires { CanAsk (subcommand_rows_of matches.now) }
+        ensures { AsksFor (subcommand_rows_of matches.now) result }
+    {
+        match matches.subcommand_matches("shell") {
+            Some(shell) => Words::Shell {
+                levels: levels_of(shell),
+            },
+            None => unreachable!(),
+        }
+    }
+}
+
+/// The levels that a subcommand was given.
+fn levels_of(matches: &ArgMatches) -> Levels
+    requires { HasNumber (codes "levels") 1 6 (rows_of (found_of matches.now)) }
+    ensures { IsGiven (codes "levels") (rows_of (found_of matches.now)) result }
+{
+    let Some(count) = matches.get_one::<u32>("levels") else {
+        unreachable!()
+    };
+    match Levels::new(count) {
+        Some(levels) => levels,
+        None => unreachable!(),
+    }
+}
+
+/// The program's words.
+fn tq_command<'a>(alloc: Global) -> Result<Command<'a>, AllocError>
+    ensures { IfOk result (λ command. app_of command ≡ tq_app) }
+{
+    let shell = shell_command(alloc)?;
+    Command::new(alloc, "tq")
+        .about(ABOUT)
+        .after_help(LINES)
+        .version("0.1.0")
+        .subcommand_required(true)
+        .disable_help_subcommand(true)
+        .subcommand(shell)
+}
+
+/// `shell --levels N`.
+fn shell_command<'a>(alloc: Global) -> Result<Command<'a>, AllocError>
+    ensures app { IfOk result (λ command. app_of command ≡ shell_app) }
+    ensures local { IfOk result (λ command. (out-Command command).has_globals ≡ false) }
+{
+    Command::new(alloc, "shell")
+        .about("Reads lines from standard input and answers each")
+        .after_help(LINES)
+        .arg(levels_argument(alloc))
+}
+
+fn levels_argument<'a>(alloc: Global) -> Arg<'a>
+    ensures rule { rule_of result ≡ levels_rule }
+    ensures local { result.global ≡ false }
+{
+    Arg::new(alloc, "levels")
+        .long("levels")
+        .value_name("N")
+        .help("The levels of the tree, 1 to 6")
+        .required(true)
+        .action(ArgAction::Set)
+        .value_parser(clap::value_parser!(u32).range(1..=6))
+}
+
+const ABOUT: &str = "\
+Keeps the costs and marks of a tree of servers, and answers its least-cost quorums.
+
+A tree of N levels has the servers 1 to 2^N - 1, and under server S the servers 2S and 2S + 1.
+A quorum is a server with a quorum of one of its sides, or a quorum of each side without it;
+a server with no sides is a quorum by itself. Any two quorums have a server in common.";
+
+const LINES: &str = "\
+Lines of the shell, each answered by one line:
+  choose      the quorum of least cost among the servers that are up, with its cost, or, where
+              no quorum is up, the servers that block every one
+  cost S C    server S costs C from now on, 1 to 1000000 (at first 1)
+  down S      server S is down
+  up S        server S is up (as it is at first)
+
+Example:
+  printf 'choose\\ndown 1\\nchoose\\n' | tq shell --levels 3
+prints
+  quorum 1 2 4 cost 3
+  down 1
+  quorum 2 3 4 6 cost 4
+
+Status: 0 at the end of the input, 1 after a fault (want of memory, a failed read or write, more
+than 16777216 bytes), 2 where the words are refused.";

@@ -1,0 +1,25 @@
+//! Lines in, answers out: the shell of a tree of servers.
+#![tactic(auto)]
+
+mod command;
+mod device;
+mod line;
+mod listener;
+mod memory;
+mod print;
+mod runner;
+mod shell;
+mod standard;
+mod word;
+
+pub use command::{Words, WordsFault};
+pub use device::{Failed, Sink, Source};
+pub use line::{LINE_LIMIT, Line};
+pub use memory::{MemorySink, MemorySource};
+pub use runner::{INPUT_LIMIT, RunFault, run};
+pub use shell::Shell;
+pub use standard::{Reading, Writing};
+pub use word::numbers_are_read_again;
+
+#[cfg(test)]
+mod tests;

@@ -1,0 +1,94 @@
+ghost use Rattle.std.specs.Prelude.{◌≡◌, ◌+◌, ◌-◌, ◌^◌, ◌<◌, ◌≤◌, ◌++◌, ℕ, List, IsTrue, OnOk, OnErr, length, take};
+ghost use Rattle.std.specs.Io.KnownBytes.{Appends};
+ghost use Rattle.tq_shell.specs.Run.{IsRunText, IsRunCount, IsWritten};
+
+use crate::device::{Failed, Sink, Source};
+use crate::listener::Listener;
+use std::alloc::{AllocError, Global};
+use thiserror::Error;
+use tq_shape::Levels;
+
+/// Why a run ended before its source did.
+#[derive(Clone, Copy, Debug, PartialEq, Eq, Error)]
+pub enum RunFault {
+    /// Memory was refused.
+    #[error("fault memory")]
+    Memory,
+    /// The source failed.
+    #[error("fault read")]
+    Read,
+    /// The sink failed.
+    #[error("fault write")]
+    Write,
+    /// The source gave more bytes than a run takes.
+    #[error("fault too long")]
+    TooLong,
+}
+
+impl From<AllocError> for RunFault {
+    ghost use Rattle.std.specs.Prelude.{◌≡◌};
+    ghost use Rattle.tq_shell.specs.declared.runner.RunFault.TheVariants as variants;
+
+    ghost from_gives = { λ _ fault. fault ≡ variants.Memory };
+
+    fn from(_error: AllocError) -> RunFault {
+        RunFault::Memory
+    }
+}
+
+/// The most bytes that a run takes.
+pub const INPUT_LIMIT: usize = 16_777_216;
+
+/// How many bytes are read at a time.
+const PIECE: usize = 4_096;
+
+/// Answers the lines of the source, and writes the answers to each piece of it before it reads the next.
+pub fn run<R: Source, W: Sink>(
+    alloc: Global,
+    levels: Levels,
+    reader: &mut R,
+    writer: &mut W,
+) -> Result<(), RunFault>
+    requires reads { R.failed reader.old < 2 ^ 64 - 1 }
+    requires writes { W.failed writer.old < 2 ^ 64 - 1 }
+    ensures text { (bytes : List ℕ) × (text : List ℕ) × Appends (R.given reader.old) (R.given reader.new) bytes
+        × Appends (W.taken writer.old) (W.taken writer.new) text × IsRunText result levels bytes text }
+    ensures end { OnOk result (IsTrue (R.is_ended reader.new)) }
+    ensures counts { IsRunCount result (R.failed reader.old) (R.failed reader.new) (W.failed writer.old) (W.failed writer.new) }
+{
+    let mut listener = Listener::new(alloc, levels)?;
+    let mut buffer = [0; PIECE];
+    let mut text = Vec::new(alloc);
+    let mut left = INPUT_LIMIT;
+    loop {
+        let Ok(count) = reader.read(&mut buffer) else {
+            return Err(RunFault::Read);
+        };
+        if count == 0 {
+            listener.finish(alloc, &mut text)?;
+            return write_out(writer, text.as_slice());
+        }
+        listener.hear(alloc, &buffer[..count.min(left)], &mut text)?;
+        write_out(writer, text.as_slice())?;
+        if count > left {
+            return Err(RunFault::TooLong);
+        }
+        text.clear();
+        left -= count;
+    }
+}
+
+/// Writes all the bytes, or a front of them where the sink fails.
+fn write_out<W: Sink>(writer: &mut W, bytes: &[u8]) -> Result<(), RunFault>
+    requires { W.failed writer.old < 2 ^ 64 - 1 }
+    ensures { IsWritten result bytes.now (W.taken writer.old) (W.taken writer.new) (W.failed writer.old) (W.failed writer.new) }
+{
+    let mut rest = bytes;
+    while !rest.is_empty() {
+        match writer.write(rest) {
+            Ok(count) => rest = &rest[count..],
+            Err(Failed) => return Err(RunFault::Write),
+        }
+    }
+    Ok(())
+}

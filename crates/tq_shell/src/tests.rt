@@ -1,0 +1,26 @@
+//! What no clause says: worked rows, printed texts and devices that fail.
+
+mod devices;
+mod faults;
+mod odd_lines;
+mod rows;
+mod words;
+
+use crate::{MemorySink, MemorySource, run};
+use std::alloc::Global;
+use std::test::Fail;
+use tq_shape::Levels;
+
+/// Whether the lines, read in pieces of one byte, of seven and of all, are answered so.
+fn is_answered(alloc: Global, count: u32, lines: &[u8], wanted: &[u8]) -> Result<bool, Fail> {
+    let levels = Levels::new(count).ok_or("levels")?;
+    for piece in [1, 7, usize::MAX] {
+        let mut source = MemorySource::new(lines, piece, None);
+        let mut sink = MemorySink::new(alloc, piece, None);
+        run(alloc, levels, &mut source, &mut sink).map_err(|_| "run")?;
+        if sink.bytes() != wanted {
+            return Ok(false);
+        }
+    }
+    Ok(true)
+}
