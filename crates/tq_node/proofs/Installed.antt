@@ -1,12 +1,11 @@
 -- The copy of a file after writes are installed.
 use Rattle.std.specs.Prelude.{nat_lt}
-use Rattle.std.proofs.Common.{◌≡◌, ◌≢◌, ℕ, ◌≤◌, ◌<◌, Bool, true, false, List, [], ◌∷◌, refl, sym, ap, subst, ◌∙◌, ◌⊎◌, inl, inr, arith}
-use Rattle.std.proofs.lemmas.Bool.{cases_Bool, cond-true, cond-false, ltb-true, ltb-false}
+use Rattle.std.proofs.Common.{◌≡◌, ℕ, ◌≤◌, ◌<◌, List, [], ◌∷◌, refl, sym, ap, subst, ◌∙◌, ◌⊎◌, inl, inr, arith}
+use Rattle.std.proofs.lemmas.Bool.{cases_Bool, ltb-true, ltb-false}
 use Rattle.std.proofs.lemmas.Cmp.{nat_list_cmp_total}
-use Rattle.std.specs.FinMap as fin
 use Rattle.std.specs.FinMap.{IsAntisymmetric, nat_cmp-IsAntisymmetric, slice_cmp-IsAntisymmetric}
 use Rattle.tq_shape.specs.Journal.{Has}
-use Rattle.tq_store.specs.Copies.{Files, name_cmp, copy_of, copy_at, copy_in, installed, installed_all}
+use Rattle.tq_store.specs.Copies.{Files, name_cmp, copy_of, copy_in, installed, installed_all}
 use Rattle.tq_store.specs.declared.copies.FileCopy.{FileCopy}
 use Rattle.tq_store.specs.declared.write.Write.{Write}
 use Rattle.tq_store.proofs.Installed.{Installs-installed, rises-installed, rises-installed_all}
@@ -22,9 +21,9 @@ pub installed-cases : (files : Files) (name : List ℕ) (copy : FileCopy) (f : L
 installed-cases files name copy f =
     let comes = Installs-installed files name copy in
     elim (key_cases nat_list_cmp_total name_same f name) [
-      inl p ↦
+      | inl p ↦
           elim (cases_Bool (nat_lt (copy_of files name).version copy.version)) [
-            inl t ↦
+            | inl t ↦
                 let less = ltb-true (copy_of files name).version copy.version t in
                 inr (p.0, ap (copy_of (installed files name copy)) p.0 ∙ comes.newer less, subst (λ (x : List ℕ). (copy_of files x).version < copy.version) (sym p.0) less)
             | inr e ↦
@@ -38,7 +37,7 @@ installed-low : (files : Files) (name : List ℕ) (copy : FileCopy) → copy.ver
 installed-low files name copy =
     let comes = Installs-installed files name copy in
     elim (cases_Bool (nat_lt (copy_of files name).version copy.version)) [
-      inl t ↦ let v = ap (λ (x : FileCopy). x.version) (comes.newer (ltb-true (copy_of files name).version copy.version t)) in omega arith
+      | inl t ↦ let v = ap (λ (x : FileCopy). x.version) (comes.newer (ltb-true (copy_of files name).version copy.version t)) in omega arith
       | inr e ↦
           let more = ltb-false (copy_of files name).version copy.version e in
           let v = ap (λ (x : FileCopy). x.version) (comes.no_newer more) in

@@ -1,5 +1,5 @@
 -- What each ask of a server does to its records: the frames hold of its step.
-use Rattle.std.specs.Prelude.{◌==◌, not, ◌||◌}
+use Rattle.std.specs.Prelude.{◌==◌, not}
 use Rattle.std.proofs.Common.{◌≡◌, ◌≢◌, ℕ, suc, ◌≤◌, ◌<◌, Bool, true, false, cond, List, [], ◌∷◌, length, map, Option, Some, None, refl, sym, ap, subst, ◌∙◌, ◌⊎◌, inl, inr, arith}
 use Rattle.std.proofs.lemmas.Bool.{cases_Bool, cond-true, cond-false, false≢true, true≢false, and_parts, and_from, or_right, eqb-true, ne_eqb, eq-eqb, leb-false}
 use Rattle.std.specs.Cmp.{nat_cmp_total}
@@ -10,7 +10,7 @@ use Rattle.std.specs.Option.{option_map, option_map_or, is_some}
 use Rattle.tq_store.specs.Copies.{Files, copy_of, installed_all}
 use Rattle.tq_store.specs.declared.copies.FileCopy.{FileCopy}
 use Rattle.tq_store.specs.declared.write.Write.{Write}
-use Rattle.tq_locks.specs.Locks.{Locks, LockKey, conflicts, is_exclusive, lock_after, blocks, blocker, granted, held_of, holds_nothing, released, only_stable, stabilised, kept}
+use Rattle.tq_locks.specs.Locks.{Locks, LockKey, conflicts, is_exclusive, lock_after, blocks, blocker, granted, held_of, holds_nothing, released, stabilised, kept}
 use Rattle.tq_locks.specs.declared.mode.Lock.{Lock}
 use Rattle.tq_locks.specs.declared.mode.Mode.{Mode}
 use Rattle.tq_locks.specs.declared.mode.Mode.TheVariants.{Shared, Exclusive}
@@ -33,9 +33,9 @@ use Rattle.tq_node.specs.declared.ask.WorkAsk.TheVariants as work
 use Rattle.tq_shape.specs.Journal.{Has}
 use Rattle.tq_node.specs.NodeJournal.{NodeEntry, node_state, IsLegalNode, IsCited, HasWrite}
 use Rattle.tq_node.specs.NodeLaws.{IsOwner, held_kept}
-use Rattle.tq_shape.proofs.Places.{Some-same, none-Has, Has-map, map-Has}
+use Rattle.tq_shape.proofs.Places.{none-Has, Has-map, map-Has}
 use Rattle.tq_node.proofs.Frames.{AreAmong, IsYes, IsRaised, Tells, Frame}
-use Rattle.tq_node.proofs.Maps.{insert-same, insert-other, insert-cases, remove-other, remove-cases, retain-in, retain-from, get-Has, Has-get, get-kept}
+use Rattle.tq_node.proofs.Maps.{insert-same, insert-other, insert-cases, remove-other, remove-cases, retain-from, get-Has, Has-get, get-kept}
 use Rattle.tq_node.proofs.KeptLocks.{map-some, filter-Has, Has-filter, stabled, stabled-own, stabled-other, get-own, released-other, only_stable-in}
 use Rattle.tq_node.proofs.Installed.{installed-cases, all-low, all-cases}
 

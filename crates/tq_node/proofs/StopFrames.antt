@@ -1,12 +1,12 @@
 -- What a server leaves that stops in the midst of an ask, after some of its records: a later stage gives it an ask of its own.
-use Rattle.std.specs.Prelude.{◌==◌, take}
-use Rattle.std.proofs.Common.{◌≡◌, ℕ, suc, zero, ◌+◌, ◌≤◌, ◌<◌, Bool, true, false, cond, List, [], ◌∷◌, ◌++◌, length, map, filter, Option, Some, None, refl, sym, ap, subst, ◌∙◌, ◌⊎◌, inl, inr, arith, append_assoc}
+use Rattle.std.specs.Prelude.{take}
+use Rattle.std.proofs.Common.{◌≡◌, ℕ, suc, zero, ◌+◌, Bool, true, false, cond, List, [], ◌∷◌, ◌++◌, map, filter, Option, Some, None, refl, sym, ap, subst, ◌∙◌, ◌⊎◌, inl, inr, arith, append_assoc}
 use Rattle.std.proofs.lemmas.Bool.{true≢false, eq-eqb}
 use Rattle.std.specs.FinMap as fin
 use Rattle.std.specs.Option.{option_map_or}
 use Rattle.tq_shape.specs.Journal.{Has}
 use Rattle.tq_shape.proofs.Places.{Has-map, Has-append}
-use Rattle.tq_store.specs.Copies.{Files, copy_of, installed_all, is_newer}
+use Rattle.tq_store.specs.Copies.{copy_of, installed_all, is_newer}
 use Rattle.tq_store.specs.declared.write.Write.{Write}
 use Rattle.tq_locks.specs.Locks.{Locks, LockKey, held_of, only_stable}
 use Rattle.tq_locks.specs.declared.mode.Lock.{Lock}
@@ -31,7 +31,7 @@ use Rattle.tq_node.proofs.Numbers.{above_greater}
 use Rattle.tq_node.proofs.Sound.{sound-crashed}
 use Rattle.tq_node.proofs.Frames.{IsRaised, Frame}
 use Rattle.tq_node.proofs.StepFrames.{work_frame, calm_frame, owner_stays, left_retained, among_retained, is_prepare, is_telling, no_yes, no_tell}
-use Rattle.tq_node.proofs.Recorded.{IsRecorded, recorded_kept, recorded_same, recorded_copies, work_recorded, the_vote}
+use Rattle.tq_node.proofs.Recorded.{IsRecorded, recorded_kept, recorded_copies, work_recorded, the_vote}
 use Rattle.tq_node.proofs.DeadRecords.{is_dead, AreDead, sound-dead, kept_votes-dead}
 
 abbrev pub is_lock : WorkAsk → Bool
@@ -151,7 +151,7 @@ take-push zero xs x = inr refl
 take-push (suc k) [] x = inl (ap (λ (r : List _). x ∷ r) (take-empty k))
 take-push (suc k) (y ∷ xs) x =
     elim (take-push k xs x) [
-      inl e ↦ inl (ap (λ (r : List _). y ∷ r) e)
+      | inl e ↦ inl (ap (λ (r : List _). y ∷ r) e)
       | inr e ↦ inr (ap (λ (r : List _). y ∷ r) e)
     ]
 
@@ -204,16 +204,17 @@ mid_part s last st t verdict cite k true e h is_open =
   where
     part : List Write
     part = take k (filter (is_newer st.records.copies) (open_vote st.records t).writes)
+
     of_vote : (write : Write) → Has (take k (filter (is_newer st.records.copies) (open_vote st.records t).writes)) write → Has (open_vote st.records t).writes write
     of_vote write has =
         (filter-Has (is_newer st.records.copies) (open_vote st.records t).writes write
-          (Has-take k (filter (is_newer st.records.copies) (open_vote st.records t).writes) write has)).0
+        (Has-take k (filter (is_newer st.records.copies) (open_vote st.records t).writes) write has)).0
 
 -- the intents and locks of a vote
 both_dead : (t n : ℕ) (w : List Write) (ks : List KeptLock) → AreDead n (map (Intent t n) w ++ map (Keep t n) ks)
 both_dead t n w ks r h =
     elim (Has-append (map (Intent t n) w) (map (Keep t n) ks) r h) [
-      inl k ↦ let x = Has-map (Intent t n) w r k in subst (λ (z : Record). is_dead n z ≡ true) x.2 (eq-eqb n n refl)
+      | inl k ↦ let x = Has-map (Intent t n) w r k in subst (λ (z : Record). is_dead n z ≡ true) x.2 (eq-eqb n n refl)
       | inr k ↦ let x = Has-map (Keep t n) ks r k in subst (λ (z : Record). is_dead n z ≡ true) x.2 (eq-eqb n n refl)
     ]
 
@@ -223,7 +224,7 @@ mid_work s last st (work.Release t) k h none = mid_moved s last st _ _ [] (take-
 mid_work s last st (work.Peek f) k h none = mid_moved s last st _ _ [] (take-empty k) (mid_same s last st _ h)
 mid_work s last st (work.Refresh f v c from) k h none =
     elim (take-push k [] (Copy (record { file = f; version = v; content = c }))) [
-      inl e ↦ mid_moved s last st _ _ _ e (mid_all s last st (work.Refresh f v c from) h none refl)
+      | inl e ↦ mid_moved s last st _ _ _ e (mid_all s last st (work.Refresh f v c from) h none refl)
       | inr e ↦ mid_moved s last st _ _ [] (e ∙ take-empty k) (mid_same s last st _ h)
     ]
 mid_work s last st (work.Prepare t w) k h none =
@@ -232,12 +233,12 @@ mid_work s last st (work.Prepare t w) k h none =
     let B : List Record = map (Keep t (suc last)) ks in
     let all : (A ++ B) ++ Prepared t (suc last) ∷ [] ≡ A ++ (B ++ Prepared t (suc last) ∷ []) = append_assoc A B (Prepared t (suc last) ∷ []) in
     elim (take-push k (A ++ B) (Prepared t (suc last))) [
-      inl e ↦ mid_moved s last st _ _ _ (ap (take k) (sym all) ∙ e ∙ all) (mid_all s last st (work.Prepare t w) h none refl)
+      | inl e ↦ mid_moved s last st _ _ _ (ap (take k) (sym all) ∙ e ∙ all) (mid_all s last st (work.Prepare t w) h none refl)
       | inr e ↦ mid_moved s last st _ _ _ (ap (take k) (sym all) ∙ e) (mid_dead s last st (work.Prepare t w) (take k (A ++ B)) h (λ r x. both_dead t (suc last) w ks r (Has-take k (A ++ B) r x)))
     ]
 mid_work s last st (work.Decide t verdict cite) k h none =
     elim (take-push k (cond (installs s st.records t verdict) (map Copy (filter (is_newer st.records.copies) (open_vote st.records t).writes)) []) (Gone t (open_vote st.records t).number)) [
-      inl e ↦ mid_moved s last st _ _ _ e (mid_all s last st (work.Decide t verdict cite) h none refl)
+      | inl e ↦ mid_moved s last st _ _ _ e (mid_all s last st (work.Decide t verdict cite) h none refl)
       | inr e ↦ mid_moved s last st _ _ _ e (mid_part s last st t verdict cite k (installs s st.records t verdict) refl h (the_vote st.records t none))
     ]
 
@@ -258,10 +259,10 @@ stop_is s last st a k h =
     let m = mid_of s last st a k h in
     let is = recorded_kept (suc last) _ m.recorded in
     elim m.outcome [
-      inl e ↦ inl (is ∙ ap crashed e)
+      | inl e ↦ inl (is ∙ ap crashed e)
       | inr o ↦
           elim o [
-            inl e ↦ inr (inl (e.0, e.1, is ∙ ap crashed e.2))
+            | inl e ↦ inr (inl (e.0, e.1, is ∙ ap crashed e.2))
             | inr e ↦ inr (inr (e.0, e.1, is ∙ ap crashed e.2))
           ]
     ]

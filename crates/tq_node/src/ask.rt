@@ -13,6 +13,7 @@ pub struct CitedVote {
 #[derive(Debug, Drop, Clone, PartialEq)]
 pub enum Verdict {
     Abort,
+    /// With the votes that the desk saw, in the order of their servers.
     Commit { votes: Seq<CitedVote> },
 }
 
@@ -21,34 +22,39 @@ pub enum Verdict {
 pub struct HeldLock {
     pub file: FileName,
     pub mode: Mode,
+    /// The number of the first grant without a break.
     pub since: u64,
 }
 
 /// What clients and workers ask of a server.
 #[derive(Debug, Drop, Clone, PartialEq)]
 pub enum WorkAsk {
+    /// To lock a file and be told its copy.
     Lock {
         txn: u64,
         file: FileName,
         mode: Mode,
     },
+    /// To vote for the writes of a transaction.
     Prepare {
         txn: u64,
         writes: Seq<Write>,
     },
-    /// `cite` is the number of the desk's entry with the verdict.
+    /// To end a vote; `cite` is the number of the desk's entry with the verdict.
     Decide {
         txn: u64,
         verdict: Verdict,
         cite: u64,
     },
+    /// To end the locks of a transaction that has no vote here.
     Release {
         txn: u64,
     },
+    /// To be told a copy.
     Peek {
         file: FileName,
     },
-    /// `from` is the entry of another server where the copy was seen.
+    /// To take a newer copy; `from` is the entry of another server where it was seen.
     Refresh {
         file: FileName,
         version: u64,
@@ -57,37 +63,51 @@ pub enum WorkAsk {
     },
 }
 
+/// What a server is asked: work, to go down, or to come back.
 #[derive(Debug, Drop, Clone, PartialEq)]
 pub enum NodeAsk {
     Work(WorkAsk),
+    /// What isn't stable is lost.
     Crash,
     Return,
 }
 
+/// Why a server refuses an ask. A refusal changes nothing.
 #[derive(Debug, Clone, Copy, PartialEq)]
 pub enum NodeRefusal {
     Down,
     AlreadyUp,
     AlreadyDown,
+    /// By the least transaction whose lock conflicts.
     Held { by: u64 },
+    /// The transaction has an open vote here.
     Prepared,
+    /// The first write whose file the transaction doesn't hold exclusively here.
     NotLocked { file: FileName },
+    /// More than 64, or their files don't ascend.
     BadWrites,
+    /// The version isn't above that of the copy here.
     NotNewer,
+    /// The transaction has no vote to end, or no lock here.
     NothingHere,
 }
 
+/// What a server replies.
 #[derive(Debug, Drop, Clone, PartialEq)]
 pub enum NodeReply {
+    /// The lock is held; the copy of its file.
     Granted {
         version: u64,
         content: Content,
     },
+    /// A vote, with the locks that it keeps, ascending by file.
     Yes {
         held: Seq<HeldLock>,
         writes: Seq<Write>,
     },
+    /// The vote ended, and its writes came.
     Installed,
+    /// The vote ended, and nothing came of it.
     Discarded,
     Released,
     Copy {

@@ -16,7 +16,7 @@ use tq_locks::{LockEntry, LockTable, Mode};
 use tq_shape::{Levels, Memory, Seq, ServerId};
 use tq_store::{Content, Copies, FileName, Write};
 
-/// A server.
+/// A server: its copies, locks and open votes, the stable records that keep them, and whether it is down.
 #[derive(Drop)]
 pub struct Node {
     server: ServerId,

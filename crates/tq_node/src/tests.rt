@@ -34,6 +34,12 @@ impl Numbered {
         }
     }
 
+    fn copied(&self) -> Result<Numbered, Fail> {
+        let alloc = self.alloc;
+        let node = self.node.copy(alloc)?;
+        Ok(Numbered { alloc, node })
+    }
+
     fn foresees(&self, ask: &NodeAsk, wanted: &NodeReply) -> Result<(), Fail> {
         let number = self.node.last().checked_add(1).ok_or("numbers")?;
         let reply = match self.node.foresee(self.alloc, number, ask) {
@@ -424,7 +430,8 @@ fn copies_after(server: &mut Numbered, files: &Files) -> Result<(), Fail> {
     )
 }
 
-fn written(alloc: Global, files: &Files) -> Result<Vec<Record>, Fail> {
+/// What a refresh, a vote and its end with one newer write write.
+fn installed(alloc: Global, files: &Files) -> Result<Vec<Record>, Fail> {
     let lock_a = KeptLock {
         file: files.a,
         mode: Mode::Exclusive,
@@ -437,13 +444,7 @@ fn written(alloc: Global, files: &Files) -> Result<Vec<Record>, Fail> {
         since: 3,
         version: 0,
     };
-    let lock_d = KeptLock {
-        file: files.d,
-        mode: Mode::Shared,
-        since: 8,
-        version: 0,
-    };
-    Ok(vec![in alloc;
+    let mut list = vec![in alloc;
         Record::Copy(write(alloc, files.a, 3, b'r')?),
         Record::Intent {
             txn: 1,
@@ -455,27 +456,39 @@ fn written(alloc: Global, files: &Files) -> Result<Vec<Record>, Fail> {
             number: 4,
             write: write(alloc, files.b, 1, b'y')?
         },
-        Record::Keep {
-            txn: 1,
-            number: 4,
-            lock: lock_a
-        },
-        Record::Keep {
-            txn: 1,
-            number: 4,
-            lock: lock_b
-        },
-        Record::Prepared { txn: 1, number: 4 },
-        Record::Copy(write(alloc, files.b, 1, b'y')?),
-        Record::Gone { txn: 1, number: 4 },
-        Record::Keep {
-            txn: 2,
-            number: 9,
-            lock: lock_d
-        },
-        Record::Prepared { txn: 2, number: 9 },
-        Record::Gone { txn: 2, number: 9 },
-    ]?)
+    ]?;
+    list.push(Record::Keep {
+        txn: 1,
+        number: 4,
+        lock: lock_a,
+    })?;
+    list.push(Record::Keep {
+        txn: 1,
+        number: 4,
+        lock: lock_b,
+    })?;
+    list.push(Record::Prepared { txn: 1, number: 4 })?;
+    list.push(Record::Copy(write(alloc, files.b, 1, b'y')?))?;
+    list.push(Record::Gone { txn: 1, number: 4 })?;
+    Ok(list)
+}
+
+fn written(alloc: Global, files: &Files) -> Result<Vec<Record>, Fail> {
+    let mut list = installed(alloc, files)?;
+    let lock = KeptLock {
+        file: files.d,
+        mode: Mode::Shared,
+        since: 8,
+        version: 0,
+    };
+    list.push(Record::Keep {
+        txn: 2,
+        number: 9,
+        lock,
+    })?;
+    list.push(Record::Prepared { txn: 2, number: 9 })?;
+    list.push(Record::Gone { txn: 2, number: 9 })?;
+    Ok(list)
 }
 
 #[test]
@@ -488,4 +501,16 @@ fn each_ask_writes_its_records(rt: HostRuntime) -> Result<(), Fail> {
     copies_after(&mut server, &files)?;
     let list = written(alloc, &files)?;
     server.keeps(list.as_slice())
+}
+
+#[test]
+fn a_copy_goes_on_alone(rt: HostRuntime) -> Result<(), Fail> {
+    let files = four_files()?;
+    let mut server = Numbered::new(rt.alloc(), 2)?;
+    votes_for_two(&mut server, &files)?;
+    let mut copy = server.copied()?;
+    copies_after(&mut copy, &files)?;
+    check(server.node.last() == 5, "the server's number")?;
+    check(copy.node.last() == 7, "the copy's number")?;
+    copy.keeps(server.node.stable())
 }

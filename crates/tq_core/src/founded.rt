@@ -1,0 +1,134 @@
+//! Tests of what an entry says.
+ghost use Rattle.std.specs.Prelude.{◌≡◌, ◌==◌, ◌&&◌};
+ghost use Rattle.std.specs.Cmp.Lexicographic.{pointwise};
+ghost use Rattle.tq_core.specs.Founded as spec;
+
+use tq_desk::{DeskAsk, DeskRefusal, DeskReply, Grant, Vote};
+use tq_locks::Mode;
+use tq_node::{CitedVote, HeldLock, NodeAsk, NodeReply, Verdict, WorkAsk};
+use tq_store::{Content, FileName, Write};
+use tq_tables::{DeskEntry, NodeEntry};
+
+/// Whether the entry granted the lock, as the grant has it.
+pub(crate) fn is_granted(entry: &NodeEntry, txn: u64, file: FileName, grant: &Grant) -> bool
+    ensures { result ≡ spec.is_granted txn file grant.now entry.now.ask entry.now.reply }
+{
+    match &entry.ask {
+        NodeAsk::Work(
+            WorkAsk::Lock {
+                txn: asked,
+                file: locked,
+                mode,
+            },
+        ) => match &entry.reply {
+            NodeReply::Granted { version, content } => {
+                *asked == txn
+                    && *locked == file
+                    && is_same_mode(*mode, grant.mode)
+                    && *version == grant.version
+                    && *content == grant.content
+            }
+            _ => false,
+        },
+        _ => false,
+    }
+}
+
+fn is_same_mode(one: Mode, other: Mode) -> bool
+    ensures { result ≡ spec.same_mode one other }
+{
+    match one {
+        Mode::Shared => other == Mode::Shared,
+        Mode::Exclusive => other == Mode::Exclusive,
+    }
+}
+
+/// Whether the entry gave the vote.
+pub(crate) fn is_voted(entry: &NodeEntry, txn: u64, vote: &Vote) -> bool
+    ensures { result ≡ spec.is_voted txn vote.now entry.now.ask entry.now.reply }
+{
+    match &entry.ask {
+        NodeAsk::Work(WorkAsk::Prepare { txn: asked, .. }) => match &entry.reply {
+            NodeReply::Yes { held, writes } => *asked == txn
+                && *held == vote.held
+                && *writes == vote.writes,
+            _ => false,
+        },
+        _ => false,
+    }
+}
+
+/// Whether the entry told this copy to a peek.
+pub(crate) fn is_peeked(entry: &NodeEntry, file: FileName, version: u64, content: &Content) -> bool
+    ensures { result ≡ spec.is_peeked file version content.now entry.now.ask entry.now.reply }
+{
+    match &entry.ask {
+        NodeAsk::Work(WorkAsk::Peek { file: peeked }) => match &entry.reply {
+            NodeReply::Copy {
+                version: told,
+                content: copy,
+            } => *peeked == file && *told == version && *copy == *content,
+            _ => false,
+        },
+        _ => false,
+    }
+}
+
+/// Whether the entry says that the transaction ended so.
+pub(crate) fn is_ended(entry: &DeskEntry, txn: u64, verdict: &Verdict) -> bool
+    ensures { result ≡ spec.is_ended txn verdict.now entry.now.ask entry.now.reply }
+{
+    match &entry.ask {
+        DeskAsk::Commit {
+            txn: asked,
+            votes,
+            ..
+        } => match &entry.reply {
+            DeskReply::Committed { .. } => *asked == txn && cites_votes(verdict, votes.as_slice()),
+            DeskReply::Refused(DeskRefusal::Decided(told)) => *asked == txn
+                && is_same_verdict(told, verdict),
+            _ => false,
+        },
+        DeskAsk::Resolve { txn: asked } => match &entry.reply {
+            DeskReply::Verdict(told) => *asked == txn && is_same_verdict(told, verdict),
+            _ => false,
+        },
+        DeskAsk::Begin => false,
+    }
+}
+
+fn is_same_verdict(one: &Verdict, other: &Verdict) -> bool
+    ensures { result ≡ spec.same_verdict one.now other.now }
+{
+    match one {
+        Verdict::Abort => matches!(other, Verdict::Abort),
+        Verdict::Commit { votes } => match other {
+            Verdict::Abort => false,
+            Verdict::Commit { votes: others } => *votes == *others,
+        },
+    }
+}
+
+fn cites_votes(verdict: &Verdict, votes: &[Vote]) -> bool
+    ensures { result ≡ spec.cites_votes verdict.now votes.now }
+{
+    match verdict {
+        Verdict::Abort => false,
+        Verdict::Commit { votes: cited } => are_cited(cited.as_slice(), votes),
+    }
+}
+
+/// Whether the citations are those of the votes, in their order.
+fn are_cited(cited: &[CitedVote], votes: &[Vote]) -> bool
+    ensures { result ≡ pointwise spec.cites cited.now votes.now }
+{
+    match cited {
+        [] => votes.is_empty(),
+        [first, ..] => match votes {
+            [] => false,
+            [vote, ..] => first.server == vote.server
+                && first.number == vote.number
+                && are_cited(&cited[1..], &votes[1..]),
+        },
+    }
+}

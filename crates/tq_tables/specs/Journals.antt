@@ -1,0 +1,46 @@
+-- The journals of a system, one for each part.
+use Rattle.std.specs.Prelude.{◌≡◌, ◌≤◌, ◌+◌, ◌^◌, ℕ, List, length, ⊤}
+use Rattle.std.specs.List.{All}
+use Rattle.tq_shape.specs.Limits.{LimitsView}
+use Rattle.tq_shape.specs.declared.entry.Entry.{Entry}
+use Rattle.tq_node.specs.declared.ask.NodeAsk.{NodeAsk}
+use Rattle.tq_node.specs.declared.ask.NodeReply.{NodeReply}
+use Rattle.tq_desk.specs.declared.ask.DeskAsk.{DeskAsk}
+use Rattle.tq_desk.specs.declared.ask.DeskReply.{DeskReply}
+use Rattle.tq_live.specs.declared.view.ViewAsk.{ViewAsk}
+use Rattle.tq_live.specs.declared.view.ViewReply.{ViewReply}
+use Rattle.tq_live.specs.declared.view.ViewReply.TheVariants.{Chosen, Refused}
+use Rattle.tq_live.specs.declared.view.ViewRefusal.TheVariants.{Blocked}
+
+-- an entry of a server's journal, of the desk's and of the view's
+abbrev pub ServerEntry : Type 0
+ServerEntry = Entry NodeAsk NodeReply
+
+abbrev pub EntryOfDesk : Type 0
+EntryOfDesk = Entry DeskAsk DeskReply
+
+abbrev pub EntryOfView : Type 0
+EntryOfView = Entry ViewAsk ViewReply
+
+-- what callers see of the journals: how many levels the tree has, the limits, and the entries of each server upwards
+-- from server 1, of the desk and of the view, each the oldest first
+pub record JournalsView : Type 0 where
+  pub levels : ℕ
+  pub limits : LimitsView
+  pub servers : List (List ServerEntry)
+  pub desk : List EntryOfDesk
+  pub view : List EntryOfView
+
+-- the reply names no quorum and no blocker of a tree of other levels
+abbrev pub IsOfTree : ℕ → ViewReply → Type 0
+IsOfTree levels (Chosen quorum cost) = quorum.levels ≡ levels
+IsOfTree levels (Refused (Blocked blocker)) = blocker.levels ≡ levels
+IsOfTree levels other = ⊤
+
+-- there is one journal for each server, none has more entries than the limit, and each quorum and blocker is of the tree
+pub record AreJournals (journals : JournalsView) : Type 0 where
+  pub one_each : length journals.servers + 1 ≡ 2 ^ journals.levels
+  pub servers_fit : All (λ entries. length entries ≤ journals.limits.entries) journals.servers
+  pub desk_fits : length journals.desk ≤ journals.limits.entries
+  pub view_fits : length journals.view ≤ journals.limits.entries
+  pub of_tree : All (λ entry. IsOfTree journals.levels entry.reply) journals.view

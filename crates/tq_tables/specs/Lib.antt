@@ -1,0 +1,2 @@
+pub use Rattle.tq_shape.specs.Journal
+pub mod Journals
