@@ -110,7 +110,7 @@ newer_from : (start now : Files) (writes : List Write) → OnlyRises start now �
 newer_from start now [] r = refl
 newer_from start now (write ∷ rest) r =
     newer_step start now write rest (is_newer start write) refl r
-      (newer_from start (installed now write.file (copy_in write)) rest (λ q. rises_then _ _ _ (r q) (rises-installed now write.file (copy_in write) q)))
+    (newer_from start (installed now write.file (copy_in write)) rest (λ q. rises_then _ _ _ (r q) (rises-installed now write.file (copy_in write) q)))
 
 pub installed_all-newer : (files : Files) (writes : List Write) → installed_all files (filter (is_newer files) writes) ≡ installed_all files writes
 installed_all-newer files writes = newer_from files files writes (λ q. omega arith)

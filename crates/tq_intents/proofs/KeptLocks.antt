@@ -36,9 +36,9 @@ first_of_two (Some lock) other = Some lock
 find-append : (q : LockKey) (xs ys : List Held) → fin.find lock_cmp q (xs ++ ys) ≡ first_of_two (fin.find lock_cmp q xs) (fin.find lock_cmp q ys)
 find-append q [] ys = refl
 find-append q (x ∷ xs) ys = elim (eq_by_cmp lock_cmp q x.0) as (λ b. cond b (Some x.1) (fin.find lock_cmp q (xs ++ ys)) ≡ first_of_two (cond b (Some x.1) (fin.find lock_cmp q xs)) (fin.find lock_cmp q ys)) [
-    | true ↦ refl
-    | false ↦ find-append q xs ys
-  ]
+  | true ↦ refl
+  | false ↦ find-append q xs ys
+]
 
 -- keys tie where the files and the transactions do
 both_tie : (a b : Ordering) → is_eq (ordering_then a b) ≡ (is_eq a && is_eq b)
@@ -62,20 +62,20 @@ find-own : (file : List ℕ) (txn t : ℕ) (locks : List KeptLock) → (txn == t
 find-own file txn t [] e = refl
 find-own file txn t (lock ∷ locks) e =
     ap (λ b. cond b (Some (as_lock lock)) (fin.find lock_cmp (key file txn) (map (stable_lock t) locks)))
-      (key_test file lock.file txn t ∙ ap (λ b. pointwise (◌==◌) file lock.file && b) e ∙ and_true (pointwise (◌==◌) file lock.file))
+    (key_test file lock.file txn t ∙ ap (λ b. pointwise (◌==◌) file lock.file && b) e ∙ and_true (pointwise (◌==◌) file lock.file))
     ∙ by_test (pointwise (◌==◌) file lock.file) (find-own file txn t locks e)
   where
-  by_test : (b : Bool) → fin.find lock_cmp (key file txn) (map (stable_lock t) locks) ≡ option_map as_lock (find (λ lock. pointwise (◌==◌) file lock.file) locks)
-    → cond b (Some (as_lock lock)) (fin.find lock_cmp (key file txn) (map (stable_lock t) locks)) ≡ option_map as_lock (cond b (Some lock) (find (λ lock. pointwise (◌==◌) file lock.file) locks))
-  by_test true h = refl
-  by_test false h = h
+    by_test : (b : Bool) → fin.find lock_cmp (key file txn) (map (stable_lock t) locks) ≡ option_map as_lock (find (λ lock. pointwise (◌==◌) file lock.file) locks)
+        → cond b (Some (as_lock lock)) (fin.find lock_cmp (key file txn) (map (stable_lock t) locks)) ≡ option_map as_lock (cond b (Some lock) (find (λ lock. pointwise (◌==◌) file lock.file) locks))
+    by_test true h = refl
+    by_test false h = h
 
 -- in the locks of another's vote
 find-other : (file : List ℕ) (txn t : ℕ) (locks : List KeptLock) → (txn == t) ≡ false → fin.find lock_cmp (key file txn) (map (stable_lock t) locks) ≡ None
 find-other file txn t [] e = refl
 find-other file txn t (lock ∷ locks) e =
     ap (λ b. cond b (Some (as_lock lock)) (fin.find lock_cmp (key file txn) (map (stable_lock t) locks)))
-      (key_test file lock.file txn t ∙ ap (λ b. pointwise (◌==◌) file lock.file && b) e ∙ and_false (pointwise (◌==◌) file lock.file))
+    (key_test file lock.file txn t ∙ ap (λ b. pointwise (◌==◌) file lock.file && b) e ∙ and_false (pointwise (◌==◌) file lock.file))
     ∙ find-other file txn t locks e
 
 -- the locks of these votes
@@ -99,17 +99,17 @@ module _ (votes : Votes) (file : List ℕ) (txn : ℕ) where
   found_vote [] vote h f = absurd (none_some vote f)
   found_vote (e ∷ es) vote h f = by_test (eq_by_cmp nat_cmp txn e.0) refl f (λ g. found_vote es vote h.1 g)
     where
-    by_test : (b : Bool) → eq_by_cmp nat_cmp txn e.0 ≡ b → cond b (Some e.1) (fin.find nat_cmp txn es) ≡ Some vote → (fin.find nat_cmp txn es ≡ Some vote → fin.get votes txn ≡ Some vote) → fin.get votes txn ≡ Some vote
-    by_test true t g next = own_vote e h.0 t ∙ g
-    by_test false t g next = next g
+      by_test : (b : Bool) → eq_by_cmp nat_cmp txn e.0 ≡ b → cond b (Some e.1) (fin.find nat_cmp txn es) ≡ Some vote → (fin.find nat_cmp txn es ≡ Some vote → fin.get votes txn ≡ Some vote) → fin.get votes txn ≡ Some vote
+      by_test true t g next = own_vote e h.0 t ∙ g
+      by_test false t g next = next g
 
   -- a later vote of the transaction is the same, so that it has no other lock of the file
   no_later : (es : List Entry) (vote : OpenVote) → AllByRecursion IsItsVote es → fin.get votes txn ≡ Some vote → lock_in file vote ≡ None → option_and_then (lock_in file) (fin.find nat_cmp txn es) ≡ None
   no_later es vote h v none = by_later (fin.find nat_cmp txn es) refl
     where
-    by_later : (o : Option OpenVote) → fin.find nat_cmp txn es ≡ o → option_and_then (lock_in file) o ≡ None
-    by_later None f = refl
-    by_later (Some later) f = ap (lock_in file) (some_same later vote (sym (found_vote es later h f) ∙ v)) ∙ none
+      by_later : (o : Option OpenVote) → fin.find nat_cmp txn es ≡ o → option_and_then (lock_in file) o ≡ None
+      by_later None f = refl
+      by_later (Some later) f = ap (lock_in file) (some_same later vote (sym (found_vote es later h f) ∙ v)) ∙ none
 
   one_vote : (e : Entry) (es : List Entry) → AllByRecursion IsItsVote es → fin.get votes txn ≡ Some e.1 → (o : Option Lock) → lock_in file e.1 ≡ o → first_of_two o (option_and_then (lock_in file) (fin.find nat_cmp txn es)) ≡ o
   one_vote e es h v None f = no_later es e.1 h v f
@@ -122,14 +122,14 @@ module _ (votes : Votes) (file : List ℕ) (txn : ℕ) where
       ∙ ap (first_of_two (fin.find lock_cmp (key file txn) (map (stable_lock e.0) e.1.locks))) (find-locks_in es h.1)
       ∙ by_test (txn == e.0) refl
     where
-    by_test : (b : Bool) → (txn == e.0) ≡ b → first_of_two (fin.find lock_cmp (key file txn) (map (stable_lock e.0) e.1.locks)) (option_and_then (lock_in file) (fin.find nat_cmp txn es)) ≡ option_and_then (lock_in file) (cond (eq_by_cmp nat_cmp txn e.0) (Some e.1) (fin.find nat_cmp txn es))
-    by_test true t =
-        ap (λ o. first_of_two o (option_and_then (lock_in file) (fin.find nat_cmp txn es))) (find-own file txn e.0 e.1.locks t)
-        ∙ one_vote e es h.1 (own_vote e h.0 (unsigned_tied txn e.0 ∙ t)) (lock_in file e.1) refl
-        ∙ ap (λ b. option_and_then (lock_in file) (cond b (Some e.1) (fin.find nat_cmp txn es))) (sym (unsigned_tied txn e.0 ∙ t))
-    by_test false t =
-        ap (λ o. first_of_two o (option_and_then (lock_in file) (fin.find nat_cmp txn es))) (find-other file txn e.0 e.1.locks t)
-        ∙ ap (λ b. option_and_then (lock_in file) (cond b (Some e.1) (fin.find nat_cmp txn es))) (sym (unsigned_tied txn e.0 ∙ t))
+      by_test : (b : Bool) → (txn == e.0) ≡ b → first_of_two (fin.find lock_cmp (key file txn) (map (stable_lock e.0) e.1.locks)) (option_and_then (lock_in file) (fin.find nat_cmp txn es)) ≡ option_and_then (lock_in file) (cond (eq_by_cmp nat_cmp txn e.0) (Some e.1) (fin.find nat_cmp txn es))
+      by_test true t =
+          ap (λ o. first_of_two o (option_and_then (lock_in file) (fin.find nat_cmp txn es))) (find-own file txn e.0 e.1.locks t)
+          ∙ one_vote e es h.1 (own_vote e h.0 (unsigned_tied txn e.0 ∙ t)) (lock_in file e.1) refl
+          ∙ ap (λ b. option_and_then (lock_in file) (cond b (Some e.1) (fin.find nat_cmp txn es))) (sym (unsigned_tied txn e.0 ∙ t))
+      by_test false t =
+          ap (λ o. first_of_two o (option_and_then (lock_in file) (fin.find nat_cmp txn es))) (find-other file txn e.0 e.1.locks t)
+          ∙ ap (λ b. option_and_then (lock_in file) (cond b (Some e.1) (fin.find nat_cmp txn es))) (sym (unsigned_tied txn e.0 ∙ t))
 
 -- the lock kept at a file and a transaction is that of the file in the transaction's open vote
 pub get-kept_locks : (list : List Record) (file : List ℕ) (txn : ℕ) → HasOneVoteEach list → fin.get (kept_locks list) (file, txn) ≡ lock_of_votes (kept_votes list) file txn

@@ -36,24 +36,24 @@ newest_at most writes = find (λ write. nat_lt 0 write.version && write.version 
 
 one_more : (had : Option FileCopy) (write : Write) (writes : List Write) (b : Bool) → (nat_lt 0 write.version && nat_le (greatest_version writes) write.version) ≡ b → IsNewest had writes → IsNewest (cond b (Some (copy_in write)) had) (write ∷ writes)
 one_more had write writes true t h = record {
-    copy = sym (ap (option_map copy_in)
+  copy = sym (ap (option_map copy_in)
       (ap (λ most. newest_at most (write ∷ writes)) (greater write.version (greatest_version writes) t)
       ∙ ap (λ (b : Bool). cond b (Some write) (newest_at write.version writes)) (greater_test write.version (greatest_version writes) t)));
-    version = sym (greater write.version (greatest_version writes) t);
-  }
+  version = sym (greater write.version (greatest_version writes) t);
+}
 one_more had write writes false t h = record {
-    copy = h.copy ∙ sym (ap (option_map copy_in)
+  copy = h.copy ∙ sym (ap (option_map copy_in)
       (ap (λ most. newest_at most (write ∷ writes)) (lesser write.version (greatest_version writes) t)
       ∙ ap (λ (b : Bool). cond b (Some write) (newest_at (greatest_version writes) writes)) (lesser_test write.version (greatest_version writes) t)));
-    version = h.version ∙ sym (lesser write.version (greatest_version writes) t);
-  }
+  version = h.version ∙ sym (lesser write.version (greatest_version writes) t);
+}
 
 -- a record in front, of the file or of another
 fronted_newest : (write : Write) (had : Option FileCopy) (writes : List Write) (b : Bool) → IsNewest had writes → IsNewest (cond b (fronted (copy_in write) had) had) (cons_option (cond b (Some write) None) writes)
 fronted_newest write had writes false h = h
 fronted_newest write had writes true h =
     subst (λ (n : ℕ). IsNewest (cond (nat_lt 0 write.version && nat_le n write.version) (Some (copy_in write)) had) (write ∷ writes)) (sym h.version)
-      (one_more had write writes (nat_lt 0 write.version && nat_le (greatest_version writes) write.version) refl h)
+    (one_more had write writes (nat_lt 0 write.version && nat_le (greatest_version writes) write.version) refl h)
 
 IsNewest-get : (list : List Record) (file : List ℕ) → IsNewest (fin.get (kept_copies list) file) (filter_map (copy_to file) list)
 IsNewest-get [] file = record { copy = fin.get-empty name_cmp file; version = ap (λ had. (copy_at had).version) (fin.get-empty name_cmp file) }
@@ -61,8 +61,8 @@ IsNewest-get (Copy write ∷ later) file =
     let had = fin.get (kept_copies later) file in
     let writes = filter_map (copy_to file) later in
     subst (λ (o : Option FileCopy). IsNewest o (filter_map (copy_to file) (Copy write ∷ later)))
-      (sym (get-with_copy write (kept_copies later) file ∙ ap (λ b. cond b (fronted (copy_in write) had) had) (sym (texts_ties file write.file))))
-      (fronted_newest write had writes (pointwise (◌==◌) file write.file) (IsNewest-get later file))
+    (sym (get-with_copy write (kept_copies later) file ∙ ap (λ b. cond b (fronted (copy_in write) had) had) (sym (texts_ties file write.file))))
+    (fronted_newest write had writes (pointwise (◌==◌) file write.file) (IsNewest-get later file))
 IsNewest-get (Intent t n write ∷ later) file = IsNewest-get later file
 IsNewest-get (Keep t n lock ∷ later) file = IsNewest-get later file
 IsNewest-get (Prepared t n ∷ later) file = IsNewest-get later file

@@ -140,7 +140,11 @@ impl Intents {
         let mut added = vote_records(alloc, txn, number, writes.as_slice(), locks.as_slice())?;
         self.open_votes.reserve(1)?;
         self.records.append(&mut added)?;
-        let vote = OpenVote { number, writes, locks };
+        let vote = OpenVote {
+            number,
+            writes,
+            locks,
+        };
         let _replaced = self.open_votes.insert(txn, vote).unwrap();
         Ok(())
     }
@@ -268,7 +272,11 @@ fn write_of(written: &Record, txn: u64, number: u64) -> Option<&Write>
     ensures { option_copied result ≡ spec.write_of txn number written.now }
 {
     match written {
-        Record::Intent { txn: t, number: n, write } => {
+        Record::Intent {
+            txn: t,
+            number: n,
+            write,
+        } => {
             if txn == *t && number == *n {
                 Some(write)
             } else {
@@ -283,7 +291,11 @@ fn lock_of(written: &Record, txn: u64, number: u64) -> Option<KeptLock>
     ensures { result ≡ spec.lock_of txn number written.now }
 {
     match written {
-        Record::Keep { txn: t, number: n, lock } => {
+        Record::Keep {
+            txn: t,
+            number: n,
+            lock,
+        } => {
             if txn == *t && number == *n {
                 Some(*lock)
             } else {

@@ -25,10 +25,24 @@ pub struct OpenVote {
 #[derive(Debug, Drop, Clone, PartialEq)]
 pub enum Record {
     Copy(Write),
-    Intent { txn: u64, number: u64, write: Write },
-    Keep { txn: u64, number: u64, lock: KeptLock },
-    Prepared { txn: u64, number: u64 },
-    Gone { txn: u64, number: u64 },
+    Intent {
+        txn: u64,
+        number: u64,
+        write: Write,
+    },
+    Keep {
+        txn: u64,
+        number: u64,
+        lock: KeptLock,
+    },
+    Prepared {
+        txn: u64,
+        number: u64,
+    },
+    Gone {
+        txn: u64,
+        number: u64,
+    },
 }
 
 impl ExactClone for KeptLock {

@@ -75,7 +75,10 @@ fn intent_alone(rt: HostRuntime) -> Result<(), Fail> {
 fn ended_vote(rt: HostRuntime) -> Result<(), Fail> {
     let alloc = rt.alloc();
     let (txn, number) = (7, 6);
-    let list = vec![in alloc; Record::Prepared { txn, number }, Record::Gone { txn, number }]?;
+    let list = vec![in alloc;
+        Record::Prepared { txn, number },
+        Record::Gone { txn, number },
+    ]?;
     let intents = Intents::recover(alloc, list.as_slice())?;
     assert!(rt; intents.of(7).is_none());
     Ok(())
