@@ -1,4 +1,4 @@
-//! What no clause says: worked rows, printed texts and devices that fail.
+//! What no clause says: worked examples, printed texts and devices that fail.
 
 mod devices;
 mod faults;
