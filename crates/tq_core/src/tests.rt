@@ -1,3 +1,6 @@
+mod plain;
+mod walk;
+
 use super::*;
 use std::alloc::Global;
 use std::test::*;

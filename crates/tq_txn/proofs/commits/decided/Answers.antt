@@ -1,0 +1,10 @@
+use Rattle.std.proofs.Common.{subst}
+use Rattle.tq_txn.specs.Commits.{IsUndecided}
+use Rattle.tq_txn.specs.Voting.{VotingView}
+use Rattle.tq_txn.proofs.CommitLaws.{undecided_decision}
+use Rattle.tq_txn.proofs.commits.decided.Goals as goal
+
+pub returns-clause-decision : goal.returns-clause-decision
+returns-clause-decision c =
+    let P : VotingView → Type 0 = λ v. IsUndecided v c.args.told.reply c.in-Err.back.1 c.undecided.result.answer c.undecided.result.txn in
+    undecided_decision c.args.ready c.args.told c.in-Err.back.1 c.undecided.result.answer c.undecided.result.txn c.in-Err.ensures.fault.1 (subst P c.in-Err.ensures.fault.0 c.undecided.ensures.undecided)

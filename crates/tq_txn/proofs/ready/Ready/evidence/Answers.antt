@@ -1,0 +1,19 @@
+use Rattle.std.proofs.Common.{subst}
+use Rattle.tq_txn.specs.Open.{OpenView, IsOpen}
+use Rattle.tq_txn.proofs.GoodEvidence.{good_evidence}
+use Rattle.tq_txn.proofs.ready.Ready.evidence.Goals as goal
+
+pub returns-in_err-ops-clause-good : goal.returns-in_err-ops-clause-good
+returns-in_err-ops-clause-good c =
+    let P : OpenView → Type 0 = λ v. IsOpen v in
+    rw (← c.self.view_is) (good_evidence c.self.inside.voting (subst P c.txn-txn.ensures c.ops-ops.ensures.good) c.votes-votes.ensures.good c.self.invariant)
+
+pub returns-in_err-votes-clause-good : goal.returns-in_err-votes-clause-good
+returns-in_err-votes-clause-good c =
+    let P : OpenView → Type 0 = λ v. IsOpen v in
+    rw (← c.self.view_is) (good_evidence c.self.inside.voting (subst P c.txn-txn.ensures c.ops-ops.ensures.good) c.votes-votes.ensures.good c.self.invariant)
+
+pub returns-clause-good : goal.returns-clause-good
+returns-clause-good c =
+    let P : OpenView → Type 0 = λ v. IsOpen v in
+    rw (← c.self.view_is) (good_evidence c.self.inside.voting (subst P c.txn-txn.ensures c.ops-ops.ensures.good) c.votes-votes.ensures.good c.self.invariant)

@@ -1,0 +1,66 @@
+-- The line that aborts a transaction.
+use Rattle.std.specs.Prelude.{ℕ, Bool, true, false, if◌then◌else◌, Option, Some, None, Result, Err}
+use Rattle.tq_shape.specs.declared.part.Part.TheVariants as parts
+use Rattle.tq_node.specs.declared.ask.Verdict.TheVariants as verdicts
+use Rattle.tq_desk.specs.declared.ask.DeskAsk.TheVariants as asks
+use Rattle.tq_desk.specs.declared.ask.DeskReply.{DeskReply}
+use Rattle.tq_desk.specs.declared.ask.DeskReply.TheVariants as replies
+use Rattle.tq_desk.specs.declared.ask.DeskRefusal.TheVariants.{Decided}
+use Rattle.tq_txn.specs.declared.fault.LineFault.{LineFault}
+use Rattle.tq_txn.specs.declared.fault.LineFault.TheVariants as faults
+use Rattle.tq_txn.specs.Line.{Line, LineEnd, done, and_then, desk_line}
+use Rattle.tq_txn.specs.Lines.{answers, ending_line}
+use Rattle.tq_node.specs.declared.ask.Verdict.{Verdict}
+use Rattle.tq_txn.specs.declared.told.DeskTold.{DeskTold}
+use Rattle.tq_txn.specs.declared.txn.Txn.{Txn}
+use Rattle.tq_txn.specs.declared.txn.Txn.TheVariants as states
+use Rattle.tq_txn.specs.Ended.{EndedView, verdict_in, ended_with}
+use Rattle.tq_txn.specs.Open.{OpenView}
+
+abbrev pub number_of : Txn → ℕ
+number_of (states.Open old) = old.txn
+number_of (states.Voting old) = old.txn.txn
+number_of (states.Ended old) = old.txn
+
+-- the levels of the tree whose servers the transaction asks
+abbrev pub levels_of : Txn → ℕ
+levels_of (states.Open old) = old.levels
+levels_of (states.Voting old) = old.txn.levels
+levels_of (states.Ended old) = old.levels
+
+-- a verdict ends the transaction; with none it is as before
+abbrev pub resolved_by : Txn → OpenView → ℕ → Option Verdict → Txn
+resolved_by before old cite None = before
+resolved_by before old cite (Some verdict) = states.Ended (ended_with old cite verdict)
+
+-- one that has ended keeps its verdict
+abbrev pub resolved : Txn → DeskTold → Txn
+resolved (states.Open old) told = resolved_by (states.Open old) old told.number (verdict_in old.txn told)
+resolved (states.Voting old) told = resolved_by (states.Voting old) old.txn told.number (verdict_in old.txn.txn told)
+resolved (states.Ended old) told = states.Ended old
+
+-- an answer that is no abort
+abbrev pub aborted : DeskReply → Result (Unit {0}) LineFault
+aborted (replies.Verdict verdict) = Err (faults.Desk (Decided verdict))
+aborted (replies.Refused refusal) = Err (faults.Desk refusal)
+aborted reply = Err (faults.WrongReply parts.Desk)
+
+abbrev pub is_abort : DeskReply → Bool
+is_abort (replies.Verdict verdicts.Abort) = true
+is_abort reply = false
+
+abbrev pub ending_of : EndedView → Line (LineEnd (Unit {0}) Txn)
+ending_of ended = and_then (ending_line ended ended.servers) (λ none. states.Ended ended) (λ all none. done tt (states.Ended ended))
+
+abbrev pub end_aborted : DeskReply → Txn → Line (LineEnd (Unit {0}) Txn)
+end_aborted reply (states.Ended ended) = ending_of ended
+end_aborted reply txn = answers (aborted reply) txn
+
+-- after an abort, the ending; a transaction that committed has none
+abbrev pub abort_end : DeskReply → Txn → Line (LineEnd (Unit {0}) Txn)
+abort_end reply txn = if is_abort reply then end_aborted reply txn else answers (aborted reply) txn
+
+-- the desk's verdict, and then the ending
+abbrev pub abort_line : Txn → Line (LineEnd (Unit {0}) Txn)
+abort_line old =
+    and_then (desk_line (asks.Resolve (number_of old))) (λ none. old) (λ told none. abort_end told.reply (resolved old told))

@@ -1,0 +1,70 @@
+-- The lines that end a transaction: decide and commit.
+use Rattle.std.specs.Prelude.{◌≡◌, ℕ, List, [], ◌∷◌, Option, Some, None, Result, Ok, Err, if◌then◌else◌}
+use Rattle.tq_shape.specs.declared.part.Part.TheVariants as parts
+use Rattle.tq_node.specs.declared.ask.Verdict.{Verdict}
+use Rattle.tq_desk.specs.declared.ask.DeskReply.{DeskReply}
+use Rattle.tq_desk.specs.declared.ask.DeskReply.TheVariants as replies
+use Rattle.tq_txn.specs.declared.fault.LineFault.{LineFault}
+use Rattle.tq_txn.specs.declared.fault.LineFault.TheVariants as faults
+use Rattle.tq_txn.specs.declared.fault.TxnFault.{TxnFault}
+use Rattle.tq_txn.specs.declared.fault.TxnFault.TheVariants as txn_faults
+use Rattle.tq_txn.specs.declared.told.DeskTold.{DeskTold}
+use Rattle.tq_txn.specs.declared.txn.Txn.{Txn}
+use Rattle.tq_txn.specs.declared.txn.Txn.TheVariants as states
+use Rattle.tq_txn.specs.Ended.{verdict_in, ended_with}
+use Rattle.tq_txn.specs.Line.{Line, LineEnd, done, failed, and_then, desk_line}
+use Rattle.tq_txn.specs.Lines.{answers, prepare_line, ending_line}
+use Rattle.tq_txn.specs.Voting.{VotingView, has_votes, evidence_of}
+
+-- the votes of the servers, in their order; one that is there is not asked for
+abbrev pub prepares_line : List ℕ → VotingView → Line (LineEnd (Unit {0}) VotingView)
+prepares_line [] old = done tt old
+prepares_line (server ∷ servers) old = and_then (prepare_line old server) (λ new. new) (λ all new. prepares_line servers new)
+
+abbrev pub committed : DeskReply → Result ℕ LineFault
+committed (replies.Committed serial) = Ok serial
+committed (replies.Refused refusal) = Err (faults.Desk refusal)
+committed reply = Err (faults.WrongReply parts.Desk)
+
+-- an answer that tells how the transaction ended ends it
+abbrev pub decided_by : VotingView → ℕ → Option Verdict → Txn
+decided_by old cite None = states.Voting old
+decided_by old cite (Some verdict) = states.Ended (ended_with old.txn cite verdict)
+
+abbrev pub decided : VotingView → DeskTold → Txn
+decided old told = decided_by old told.number (verdict_in old.txn.txn told)
+
+-- the commit at the desk
+abbrev pub ready_line : VotingView → Line (LineEnd ℕ Txn)
+ready_line old = and_then (desk_line (evidence_of old)) (λ none. states.Voting old) (λ told none. answers (committed told.reply) (decided old told))
+
+-- the commit, where each voter's vote is there
+abbrev pub decide_line : VotingView → Line (LineEnd ℕ Txn)
+decide_line old = if has_votes old then ready_line old else failed (faults.Txn txn_faults.VotesMissing) (states.Voting old)
+
+-- what a call makes of the desk's answer, unless memory runs out
+abbrev pub IsDecision : VotingView → DeskTold → Result ℕ LineFault → Txn → Type 0
+IsDecision old told (Err faults.Memory) after = Unit {0}
+IsDecision old told answer after = (answer ≡ committed told.reply) × (after ≡ decided old told)
+
+abbrev pub IsUndecided : VotingView → DeskReply → TxnFault → Result ℕ LineFault → Txn → Type 0
+IsUndecided old reply txn_faults.Memory answer after = (answer ≡ Err faults.Memory) × (after ≡ states.Voting old)
+IsUndecided old reply fault answer after = (answer ≡ committed reply) × (after ≡ states.Voting old)
+
+-- after the commit, the ending
+abbrev pub commit_end : ℕ → Txn → Line (LineEnd ℕ Txn)
+commit_end serial (states.Ended ended) = and_then (ending_line ended ended.servers) (λ none. states.Ended ended) (λ all none. done serial (states.Ended ended))
+commit_end serial txn = done serial txn
+
+abbrev pub decide_and_end_line : VotingView → Line (LineEnd ℕ Txn)
+decide_and_end_line old = and_then (decide_line old) (λ txn. txn) (λ serial txn. commit_end serial txn)
+
+-- the votes still missing, the commit at the desk, and then the ending
+abbrev pub commit_line : VotingView → Line (LineEnd ℕ Txn)
+commit_line old = and_then (prepares_line old.txn.voters old) (λ new. states.Voting new) (λ all new. decide_and_end_line new)
+
+-- the transaction asks servers of a tree of these levels
+abbrev pub IsOfTree : Txn → ℕ → Type 0
+IsOfTree (states.Open old) levels = old.levels ≡ levels
+IsOfTree (states.Voting old) levels = old.txn.levels ≡ levels
+IsOfTree (states.Ended old) levels = old.levels ≡ levels

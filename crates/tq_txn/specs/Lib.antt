@@ -1,0 +1,9 @@
+pub mod Sets
+pub mod Places
+pub mod Open
+pub mod Voting
+pub mod Ended
+pub mod Line
+pub mod Lines
+pub mod Commits
+pub mod Aborts

@@ -1,0 +1,197 @@
+-- The lines of a client: what each asks, in order, each as the answers before demand, and what it answers of them.
+use Rattle.std.specs.Prelude.{◌==◌, ◌+◌, ℕ, Bool, true, false, List, [], ◌∷◌, ◌++◌, Option, Some, None, Result, Ok, Err, if◌then◌else◌}
+use Rattle.tq_shape.specs.declared.part.Part.TheVariants as parts
+use Rattle.tq_store.specs.declared.copies.FileCopy.{FileCopy}
+use Rattle.tq_locks.specs.declared.mode.Mode.{Mode}
+use Rattle.tq_locks.specs.declared.mode.Mode.TheVariants.{Shared, Exclusive}
+use Rattle.tq_node.specs.declared.ask.NodeAsk.{NodeAsk}
+use Rattle.tq_node.specs.declared.ask.NodeAsk.TheVariants.{Work}
+use Rattle.tq_node.specs.declared.ask.NodeRefusal.{NodeRefusal}
+use Rattle.tq_node.specs.declared.ask.NodeRefusal.TheVariants.{NothingHere}
+use Rattle.tq_coterie.specs.Coterie.{ServerList}
+use Rattle.tq_node.specs.declared.ask.NodeReply.{NodeReply}
+use Rattle.tq_node.specs.declared.ask.NodeReply.TheVariants as replies
+use Rattle.tq_node.specs.declared.ask.Verdict.{Verdict}
+use Rattle.tq_node.specs.declared.ask.WorkAsk.TheVariants.{Lock, Decide, Release}
+use Rattle.tq_desk.specs.declared.ask.Op.{Op}
+use Rattle.tq_desk.specs.declared.ask.OpKind.TheVariants as kinds
+use Rattle.tq_desk.specs.Evidence.{greatest}
+use Rattle.tq_live.specs.declared.view.ViewAsk.TheVariants.{Choose}
+use Rattle.tq_live.specs.declared.view.ViewReply.{ViewReply}
+use Rattle.tq_live.specs.declared.view.ViewReply.TheVariants as view_replies
+use Rattle.tq_txn.specs.declared.asker.Told.{Told}
+use Rattle.tq_txn.specs.declared.asker.Told.TheVariants.{Answer}
+use Rattle.tq_txn.specs.declared.fault.LineFault.{LineFault}
+use Rattle.tq_txn.specs.declared.fault.LineFault.TheVariants as faults
+use Rattle.tq_txn.specs.declared.fault.TxnFault.TheVariants.{NotAMember, TooManyOps}
+use Rattle.tq_txn.specs.declared.told.NodeTold.{NodeTold}
+use Rattle.tq_txn.specs.declared.reading.Reading.{Reading}
+use Rattle.tq_txn.specs.declared.reading.Reading.TheVariants.{Pending, Copy}
+use Rattle.tq_txn.specs.declared.applying.Applied.{Applied}
+use Rattle.tq_txn.specs.declared.applying.Applied.TheVariants.{Installed, Discarded}
+use Rattle.tq_txn.specs.Ended.{EndedView, decide_ask}
+use Rattle.tq_txn.specs.Line.{Line, LineEnd, Ends, AsksNode, done, failed, and_then, unless, node_line, view_line}
+use Rattle.tq_txn.specs.Open.{OpenView, pending, seen, written, has_all_ops, read_fault, read_copy, read_after, write_fault, write_after, grants_of, touched_by, rewritten}
+use Rattle.tq_txn.specs.Voting.{VotingView, has_vote, ask_fault, prepare_ask, vote_fault, vote_after}
+
+-- what a function of the answer says ends the line
+abbrev pub answers : {A S : Type 0} → Result A LineFault → S → Line (LineEnd A S)
+answers result after = Ends (record { answer = result; after = after })
+
+-- ---- a quorum from the view
+
+-- the servers of the quorum chosen, which has to be of the transaction's tree
+abbrev pub chosen : ℕ → ViewReply → Result (List ℕ) LineFault
+chosen levels (view_replies.Chosen quorum cost) = if quorum.levels == levels then Ok quorum.servers else Err (faults.Txn NotAMember)
+chosen levels (view_replies.Refused refusal) = Err (faults.View refusal)
+chosen levels reply = Err (faults.WrongReply parts.View)
+
+abbrev pub servers_of : Result ServerList LineFault → Result (List ℕ) LineFault
+servers_of (Ok quorum) = Ok quorum.servers
+servers_of (Err fault) = Err fault
+
+abbrev pub choose_line : ℕ → Line (LineEnd (List ℕ) (Unit {0}))
+choose_line levels = and_then (view_line Choose) (λ none. none) (λ told none. answers (chosen levels told.reply) none)
+
+-- ---- locks at its servers
+
+abbrev pub lock_ask : ℕ → List ℕ → Mode → NodeAsk
+lock_ask txn file mode = Work (Lock txn file mode)
+
+abbrev pub granted : NodeTold → NodeReply → Result NodeTold LineFault
+granted told (replies.Granted version content) = Ok told
+granted told (replies.Refused refusal) = Err (faults.Server told.server refusal)
+granted told reply = Err (faults.WrongReply (parts.Server told.server))
+
+abbrev pub lock_line : ℕ → List ℕ → Mode → ℕ → Line (LineEnd NodeTold (Unit {0}))
+lock_line txn file mode server = and_then (node_line server (lock_ask txn file mode)) (λ none. none) (λ told none. answers (granted told told.reply) none)
+
+-- the answers of the servers asked so far, and the transaction, which notes each server that granted a lock
+pub record LocksView : Type 0 where
+  pub answers : List NodeTold
+  pub txn : OpenView
+
+-- a lock at one more server
+abbrev pub next_lock : List ℕ → Mode → ℕ → LocksView → Line (LineEnd (Unit {0}) LocksView)
+next_lock file mode server old =
+    and_then (lock_line old.txn.txn file mode server) (λ none. old)
+    (λ told none. done tt (record { answers = old.answers ++ told ∷ []; txn = touched_by old.txn server }))
+
+-- a lock at each of the servers, in their order; the first refusal ends it, and locks granted before it stay
+abbrev pub locks_line : List ℕ → Mode → List ℕ → LocksView → Line (LineEnd (Unit {0}) LocksView)
+locks_line file mode [] old = done tt old
+locks_line file mode (server ∷ servers) old = and_then (next_lock file mode server old) (λ new. new) (λ all new. locks_line file mode servers new)
+
+-- a quorum from the view, and a lock at each of its servers: their answers
+abbrev pub quorum_line : List ℕ → Mode → OpenView → Line (LineEnd (List NodeTold) OpenView)
+quorum_line file mode old =
+    and_then (choose_line old.levels) (λ none. old)
+    (λ servers none. and_then (locks_line file mode servers (record { answers = []; txn = old })) (λ new. new.txn) (λ all new. done new.answers new.txn))
+
+-- ---- read
+
+abbrev pub read_end : List ℕ → List NodeTold → OpenView → Line (LineEnd Reading OpenView)
+read_end file told old =
+    unless (read_fault old file told) old (done (Copy (read_copy (grants_of kinds.Read old.txn file told))) (read_after old file told))
+
+-- shared locks at a quorum
+abbrev pub quorum_read : OpenView → List ℕ → Line (LineEnd Reading OpenView)
+quorum_read old file = and_then (quorum_line file Shared old) (λ new. new) (λ told new. read_end file told new)
+
+abbrev pub first_read : OpenView → List ℕ → Line (LineEnd Reading OpenView)
+first_read old file = if has_all_ops old then failed (faults.Txn TooManyOps) old else quorum_read old file
+
+abbrev pub copy_read : Op → FileCopy
+copy_read op = record { version = op.version; content = op.content }
+
+-- what the transaction has written or read is answered again, with no ask
+abbrev pub read_again : Option (List ℕ) → Option Op → OpenView → Line (LineEnd Reading OpenView) → Line (LineEnd Reading OpenView)
+read_again (Some content) op old first = done (Pending content) old
+read_again None (Some op) old first = done (Copy (copy_read op)) old
+read_again None None old first = first
+
+abbrev pub read_line : OpenView → List ℕ → Line (LineEnd Reading OpenView)
+read_line old file = read_again (pending old file) (seen old file) old (first_read old file)
+
+-- ---- write
+
+abbrev pub write_end : List ℕ → List ℕ → List NodeTold → OpenView → Line (LineEnd ℕ OpenView)
+write_end file content told old =
+    unless (write_fault old file told) old (done (greatest (grants_of kinds.Write old.txn file told) + 1) (write_after old file content told))
+
+-- exclusive locks at a quorum
+abbrev pub quorum_write : OpenView → List ℕ → List ℕ → Line (LineEnd ℕ OpenView)
+quorum_write old file content = and_then (quorum_line file Exclusive old) (λ new. new) (λ told new. write_end file content told new)
+
+abbrev pub first_write : OpenView → List ℕ → List ℕ → Line (LineEnd ℕ OpenView)
+first_write old file content = if has_all_ops old then failed (faults.Txn TooManyOps) old else quorum_write old file content
+
+-- what is written again is replaced, with no ask and the same version
+abbrev pub written_again : Option Op → OpenView → Line (LineEnd ℕ OpenView) → Line (LineEnd ℕ OpenView)
+written_again None new first = first
+written_again (Some op) new first = done op.version new
+
+abbrev pub write_line : OpenView → List ℕ → List ℕ → Line (LineEnd ℕ OpenView)
+write_line old file content = written_again (written old file) (rewritten old file content) (first_write old file content)
+
+-- ---- prepare
+
+abbrev pub refusal_in : NodeReply → Option NodeRefusal
+refusal_in (replies.Refused refusal) = Some refusal
+refusal_in reply = None
+
+abbrev pub refused_at : {A S : Type 0} → ℕ → Option NodeRefusal → S → Line (LineEnd A S) → Line (LineEnd A S)
+refused_at server None after line = line
+refused_at server (Some refusal) after line = failed (faults.Server server refusal) after
+
+abbrev pub voted : VotingView → NodeTold → Line (LineEnd (Unit {0}) VotingView)
+voted old told = refused_at told.server (refusal_in told.reply) old (unless (vote_fault old told) old (done tt (vote_after old told)))
+
+abbrev pub first_prepare : VotingView → ℕ → Line (LineEnd (Unit {0}) VotingView)
+first_prepare old server =
+    unless (ask_fault old.txn server) old
+    (and_then (node_line server (prepare_ask old.txn server)) (λ none. old) (λ told none. voted old told))
+
+-- a vote that is there is answered with no ask
+abbrev pub prepare_line : VotingView → ℕ → Line (LineEnd (Unit {0}) VotingView)
+prepare_line old server = if has_vote old.votes server then done tt old else first_prepare old server
+
+-- ---- the ending
+
+-- an ask of which any answer is taken
+abbrev pub reply_in : Told NodeReply → Option NodeReply
+reply_in (Answer number reply) = Some reply
+reply_in other = None
+
+abbrev pub any_line : ℕ → NodeAsk → Line (LineEnd (Option NodeReply) (Unit {0}))
+any_line server ask = AsksNode server ask (λ answer. done (reply_in answer) tt)
+
+abbrev pub is_nothing_here : Option NodeReply → Bool
+is_nothing_here (Some (replies.Refused NothingHere)) = true
+is_nothing_here reply = false
+
+-- the release of the locks, where nothing is prepared
+abbrev pub release_line : ℕ → ℕ → Bool → Line (LineEnd (Unit {0}) (Unit {0}))
+release_line txn server true = and_then (any_line server (Work (Release txn))) (λ none. none) (λ reply none. done tt none)
+release_line txn server false = done tt tt
+
+-- the verdict, and where nothing is prepared there, the release of the locks; whatever is answered
+abbrev pub end_line : EndedView → ℕ → Line (LineEnd (Unit {0}) (Unit {0}))
+end_line old server = and_then (any_line server (decide_ask old)) (λ none. none) (λ reply none. release_line old.txn server (is_nothing_here reply))
+
+-- at each of the servers, in their order
+abbrev pub ending_line : EndedView → List ℕ → Line (LineEnd (Unit {0}) (Unit {0}))
+ending_line old [] = done tt tt
+ending_line old (server ∷ servers) = and_then (end_line old server) (λ none. none) (λ all none. ending_line old servers)
+
+-- ---- apply
+
+abbrev pub applied : ℕ → NodeReply → Result Applied LineFault
+applied server replies.Installed = Ok Installed
+applied server replies.Discarded = Ok Discarded
+applied server (replies.Refused refusal) = Err (faults.Server server refusal)
+applied server reply = Err (faults.WrongReply (parts.Server server))
+
+abbrev pub apply_line : ℕ → Verdict → ℕ → ℕ → Line (LineEnd Applied (Unit {0}))
+apply_line txn verdict cite server =
+    and_then (node_line server (Work (Decide txn verdict cite))) (λ none. none) (λ told none. answers (applied told.server told.reply) none)

@@ -1,0 +1,189 @@
+ghost use Rattle.std.specs.Prelude.{◌≡◌, ◌==◌, true, Some, None, IfOk};
+ghost use Rattle.std.specs.List.{list_all};
+ghost use Rattle.tq_coterie.specs.Coterie.{numbers_of};
+ghost use Rattle.tq_txn.specs.Line as line;
+ghost use Rattle.tq_txn.specs.Lines as spec;
+
+use crate::asks::ask_node;
+use crate::{Applied, AskFault, Asker, Ended, LineFault, Voting};
+use std::alloc::Global;
+use tq_node::{NodeAsk, NodeRefusal, NodeReply, Verdict, WorkAsk};
+use tq_shape::{Part, ServerId};
+
+/// The refusal, where the reply is one.
+fn refusal_in(reply: &NodeReply) -> Option<NodeRefusal>
+    ensures { result ≡ spec.refusal_in reply.now }
+{
+    match reply {
+        NodeReply::Refused(refusal) => Some(*refusal),
+        _ => None,
+    }
+}
+
+/// A voter's vote; one that is there is answered with no ask. After a fault the transaction is as it was.
+pub fn prepare_at<A: Asker>(
+    asker: &mut A,
+    alloc: Global,
+    voting: &mut Voting,
+    server: ServerId,
+) -> Result<(), LineFault>
+    requires { server.levels ≡ A.levels asker.old }
+    ensures asks { line.Went (spec.prepare_line voting.old server.number) (A.told asker.old) (A.told asker.new) (line.ended_by result voting.new) }
+    ensures txn { voting.new.txn ≡ voting.old.txn }
+    ensures tree { A.levels asker.new ≡ A.levels asker.old }
+{
+    if voting.has_vote(server) {
+        return Ok(());
+    }
+    let ask = match voting.ask(alloc, server) {
+        Ok(ask) => ask,
+        Err(fault) => return Err(LineFault::from(fault)),
+    };
+    let told = match ask_node(asker, alloc, server, ask) {
+        Ok(told) => told,
+        Err(fault) => return Err(fault),
+    };
+    if let Some(refusal) = refusal_in(&told.reply) {
+        return Err(LineFault::Server {
+            server: told.server,
+            refusal,
+        });
+    }
+    if let Err(fault) = voting.vote(alloc, &told) {
+        return Err(LineFault::from(fault));
+    }
+    Ok(())
+}
+
+/// One ask of a server, of which any answer is taken.
+fn ask_any<A: Asker>(
+    asker: &mut A,
+    alloc: Global,
+    server: ServerId,
+    ask: NodeAsk,
+) -> Result<Option<NodeReply>, LineFault>
+    requires { server.levels ≡ A.levels asker.old }
+    ensures asks { line.Went (spec.any_line server.number ask) (A.told asker.old) (A.told asker.new) (line.ended_by result tt) }
+    ensures tree { A.levels asker.new ≡ A.levels asker.old }
+{
+    match asker.node(alloc, server, ask) {
+        Ok(told) => Ok(Some(told.reply)),
+        Err(AskFault::Memory) => Err(LineFault::Memory),
+        Err(AskFault::JournalFull { .. }) => Ok(None),
+        Err(AskFault::Unfounded { .. }) => Ok(None),
+    }
+}
+
+fn is_nothing_here(reply: &Option<NodeReply>) -> bool
+    ensures { result ≡ spec.is_nothing_here reply.now }
+{
+    match reply {
+        Some(NodeReply::Refused(NodeRefusal::NothingHere)) => true,
+        _ => false,
+    }
+}
+
+/// The release of a transaction's locks at a server, where it is wanted.
+fn release_at<A: Asker>(
+    asker: &mut A,
+    alloc: Global,
+    txn: u64,
+    server: ServerId,
+    wanted: bool,
+) -> Result<(), LineFault>
+    requires { server.levels ≡ A.levels asker.old }
+    ensures asks { line.Went (spec.release_line txn server.number wanted) (A.told asker.old) (A.told asker.new) (line.ended_by result tt) }
+    ensures tree { A.levels asker.new ≡ A.levels asker.old }
+{
+    if !wanted {
+        return Ok(());
+    }
+    match ask_any(
+        asker,
+        alloc,
+        server,
+        NodeAsk::Work(WorkAsk::Release { txn }),
+    ) {
+        Ok(_) => Ok(()),
+        Err(fault) => Err(fault),
+    }
+}
+
+/// Tells a server the verdict; where nothing is prepared there, the locks are released.
+fn end_at<A: Asker>(
+    asker: &mut A,
+    alloc: Global,
+    ended: &Ended,
+    server: ServerId,
+) -> Result<(), LineFault>
+    requires { server.levels ≡ A.levels asker.old }
+    ensures asks { line.Went (spec.end_line ended.now server.number) (A.told asker.old) (A.told asker.new) (line.ended_by result tt) }
+    ensures tree { A.levels asker.new ≡ A.levels asker.old }
+{
+    let ask = ended.decide(alloc)?;
+    match ask_any(asker, alloc, server, ask) {
+        Ok(reply) => release_at(asker, alloc, ended.txn(), server, is_nothing_here(&reply)),
+        Err(fault) => Err(fault),
+    }
+}
+
+/// Tells each of the servers the verdict, in their order.
+pub(crate) fn end_at_each<A: Asker>(
+    asker: &mut A,
+    alloc: Global,
+    ended: &Ended,
+    servers: &[ServerId],
+) -> Result<(), LineFault>
+    requires { list_all (λ id. id.levels == A.levels asker.old) servers.now ≡ true }
+    ensures asks { line.Went (spec.ending_line ended.now (numbers_of servers.now)) (A.told asker.old) (A.told asker.new) (line.ended_by result tt) }
+    ensures tree { A.levels asker.new ≡ A.levels asker.old }
+{
+    match servers {
+        [] => Ok(()),
+        [server, ..] => match end_at(asker, alloc, ended, *server) {
+            Ok(()) => end_at_each(asker, alloc, ended, &servers[1..]),
+            Err(fault) => Err(fault),
+        },
+    }
+}
+
+/// What a server did with the verdict.
+fn applied(server: u64, reply: &NodeReply) -> Result<Applied, LineFault>
+    ensures { result ≡ spec.applied server reply.now }
+{
+    match reply {
+        NodeReply::Installed => Ok(Applied::Installed),
+        NodeReply::Discarded => Ok(Applied::Discarded),
+        NodeReply::Refused(refusal) => Err(LineFault::Server {
+            server,
+            refusal: *refusal,
+        }),
+        _ => Err(LineFault::WrongReply {
+            part: Part::Server(server),
+        }),
+    }
+}
+
+/// Tells a server a verdict on a transaction, which the desk's entry `cite` told.
+pub fn apply_at<A: Asker>(
+    asker: &mut A,
+    alloc: Global,
+    txn: u64,
+    verdict: Verdict,
+    cite: u64,
+    server: ServerId,
+) -> Result<Applied, LineFault>
+    requires { server.levels ≡ A.levels asker.old }
+    ensures asks { line.Went (spec.apply_line txn verdict cite server.number) (A.told asker.old) (A.told asker.new) (line.ended_by result tt) }
+    ensures tree { A.levels asker.new ≡ A.levels asker.old }
+{
+    match ask_node(
+        asker,
+        alloc,
+        server,
+        NodeAsk::Work(WorkAsk::Decide { txn, verdict, cite }),
+    ) {
+        Ok(told) => applied(told.server, &told.reply),
+        Err(fault) => Err(fault),
+    }
+}

@@ -1,0 +1,286 @@
+ghost use Rattle.std.specs.Prelude.{◌≡◌, ◌==◌, ◌++◌, [], true, IfOk};
+ghost use Rattle.std.specs.List.{list_all};
+ghost use Rattle.tq_coterie.specs.Coterie.{numbers_of};
+ghost use Rattle.tq_txn.specs.Line as line;
+ghost use Rattle.tq_txn.specs.Lines as spec;
+
+use crate::asks::{ask_node, ask_view};
+use crate::{Asker, LineFault, NodeTold, Open, Reading, TxnFault};
+use std::alloc::Global;
+use tq_coterie::Quorum;
+use tq_live::{ViewAsk, ViewReply};
+use tq_locks::Mode;
+use tq_node::{NodeAsk, NodeReply, WorkAsk};
+use tq_shape::{Levels, Part, Seq, ServerId};
+use tq_store::{Content, FileCopy, FileName};
+
+/// Whether the servers are of a tree of these levels.
+fn are_of(levels: Levels, servers: &[ServerId]) -> bool
+    ensures { result ≡ list_all (λ id. id.levels == levels) servers.now }
+{
+    servers
+        .iter()
+        .all(|id| id.levels().count() == levels.count())
+}
+
+/// The quorum that the view chose.
+fn chosen(levels: Levels, reply: ViewReply) -> Result<Quorum, LineFault>
+    ensures value { spec.servers_of result ≡ spec.chosen levels reply }
+    ensures tree { IfOk result (λ quorum. quorum.levels ≡ levels) }
+{
+    match reply {
+        ViewReply::Chosen { quorum, .. } => {
+            if !are_of(levels, quorum.servers()) {
+                return Err(LineFault::Txn(TxnFault::NotAMember));
+            }
+            Ok(quorum)
+        }
+        ViewReply::Refused(refusal) => Err(LineFault::View(refusal)),
+        _ => Err(LineFault::WrongReply { part: Part::View }),
+    }
+}
+
+/// A quorum from the view.
+fn choose<A: Asker>(asker: &mut A, alloc: Global, levels: Levels) -> Result<Quorum, LineFault>
+    ensures asks { line.Went (spec.choose_line levels) (A.told asker.old) (A.told asker.new) (line.ended_by (spec.servers_of result) tt) }
+    ensures quorum { IfOk result (λ quorum. quorum.levels ≡ levels) }
+    ensures tree { A.levels asker.new ≡ A.levels asker.old }
+{
+    match ask_view(asker, alloc, ViewAsk::Choose) {
+        Ok(told) => chosen(levels, told.reply),
+        Err(fault) => Err(fault),
+    }
+}
+
+/// The answer, where it grants a lock.
+fn granted(told: NodeTold) -> Result<NodeTold, LineFault>
+    ensures { result ≡ spec.granted told told.reply }
+{
+    match &told.reply {
+        NodeReply::Granted { .. } => Ok(told),
+        NodeReply::Refused(refusal) => Err(LineFault::Server {
+            server: told.server,
+            refusal: *refusal,
+        }),
+        _ => Err(LineFault::WrongReply {
+            part: Part::Server(told.server),
+        }),
+    }
+}
+
+/// A lock at a server.
+fn lock_at<A: Asker>(
+    asker: &mut A,
+    alloc: Global,
+    open: &Open,
+    file: &FileName,
+    mode: Mode,
+    server: ServerId,
+) -> Result<NodeTold, LineFault>
+    requires { server.levels ≡ A.levels asker.old }
+    ensures asks { line.Went (spec.lock_line open.now.txn file.now mode server.number) (A.told asker.old) (A.told asker.new) (line.ended_by result tt) }
+    ensures tree { A.levels asker.new ≡ A.levels asker.old }
+{
+    match ask_node(
+        asker,
+        alloc,
+        server,
+        NodeAsk::Work(WorkAsk::Lock {
+            txn: open.txn(),
+            file: *file,
+            mode,
+        }),
+    ) {
+        Ok(told) => granted(told),
+        Err(fault) => Err(fault),
+    }
+}
+
+/// A lock at one more server. The transaction notes the server if it granted it.
+fn lock_next<A: Asker>(
+    asker: &mut A,
+    alloc: Global,
+    open: &mut Open,
+    file: &FileName,
+    mode: Mode,
+    server: ServerId,
+    answers: &mut Vec<NodeTold>,
+) -> Result<(), LineFault>
+    requires same { open.old.levels ≡ A.levels asker.old }
+    requires of_tree { server.levels ≡ A.levels asker.old }
+    ensures asks { line.Went (spec.next_lock file.now mode server.number (record { answers = answers.old.items; txn = open.old })) (A.told asker.old) (A.told asker.new)
+        (line.ended_by result (record { answers = answers.new.items; txn = open.new })) }
+    ensures levels { open.new.levels ≡ open.old.levels }
+    ensures tree { A.levels asker.new ≡ A.levels asker.old }
+{
+    match answers.reserve(1) {
+        Ok(()) => {}
+        Err(_) => return Err(LineFault::Memory),
+    }
+    let told = match lock_at(asker, alloc, open, file, mode, server) {
+        Ok(told) => told,
+        Err(fault) => return Err(fault),
+    };
+    match open.touch(alloc, server) {
+        Ok(()) => {}
+        Err(_) => return Err(LineFault::Memory),
+    }
+    answers.push_reserved(told);
+    Ok(())
+}
+
+/// A lock at each of the servers, in their order. The transaction notes each that granted one.
+fn lock_each<A: Asker>(
+    asker: &mut A,
+    alloc: Global,
+    open: &mut Open,
+    file: &FileName,
+    mode: Mode,
+    servers: &[ServerId],
+    answers: &mut Vec<NodeTold>,
+) -> Result<(), LineFault>
+    requires same { open.old.levels ≡ A.levels asker.old }
+    requires of_tree { list_all (λ id. id.levels == A.levels asker.old) servers.now ≡ true }
+    ensures asks { line.Went (spec.locks_line file.now mode (numbers_of servers.now) (record { answers = answers.old.items; txn = open.old })) (A.told asker.old) (A.told asker.new)
+        (line.ended_by result (record { answers = answers.new.items; txn = open.new })) }
+    ensures levels { open.new.levels ≡ open.old.levels }
+    ensures tree { A.levels asker.new ≡ A.levels asker.old }
+{
+    match servers {
+        [] => Ok(()),
+        [server, ..] => match lock_next(asker, alloc, open, file, mode, *server, answers) {
+            Ok(()) => lock_each(asker, alloc, open, file, mode, &servers[1..], answers),
+            Err(fault) => Err(fault),
+        },
+    }
+}
+
+/// A quorum from the view, and a lock at each of its servers: their answers.
+fn lock_quorum<A: Asker>(
+    asker: &mut A,
+    alloc: Global,
+    open: &mut Open,
+    file: &FileName,
+    mode: Mode,
+) -> Result<Seq<NodeTold>, LineFault>
+    requires { open.old.levels ≡ A.levels asker.old }
+    ensures asks { line.Went (spec.quorum_line file.now mode open.old) (A.told asker.old) (A.told asker.new) (line.ended_by result open.new) }
+    ensures levels { open.new.levels ≡ open.old.levels }
+    ensures tree { A.levels asker.new ≡ A.levels asker.old }
+{
+    let quorum = match choose(asker, alloc, open.levels()) {
+        Ok(quorum) => quorum,
+        Err(fault) => return Err(fault),
+    };
+    let mut answers = Vec::new(alloc);
+    match lock_each(
+        asker,
+        alloc,
+        open,
+        file,
+        mode,
+        quorum.servers(),
+        &mut answers,
+    ) {
+        Ok(()) => Ok(Seq::from_vec(answers)),
+        Err(fault) => Err(fault),
+    }
+}
+
+/// Reads a file: what the transaction has written or read already, or else the copy that a quorum of servers with
+/// shared locks answers. After a fault, locks granted before it stay, and the transaction notes their servers.
+pub fn read_file<A: Asker>(
+    asker: &mut A,
+    alloc: Global,
+    open: &mut Open,
+    file: &FileName,
+) -> Result<Reading, LineFault>
+    requires { open.old.levels ≡ A.levels asker.old }
+    ensures asks { line.Went (spec.read_line open.old file.now) (A.told asker.old) (A.told asker.new) (line.ended_by result open.new) }
+    ensures levels { open.new.levels ≡ open.old.levels }
+    ensures tree { A.levels asker.new ≡ A.levels asker.old }
+{
+    if let Some(content) = open.pending(file) {
+        return Ok(Reading::Pending(content.clone()?));
+    }
+    if let Some(op) = open.seen(file) {
+        return Ok(Reading::Copy(FileCopy {
+            version: op.version,
+            content: op.content.clone()?,
+        }));
+    }
+    if open.is_full() {
+        return Err(LineFault::Txn(TxnFault::TooManyOps));
+    }
+    read_at_quorum(asker, alloc, open, file)
+}
+
+/// Reads a file at a quorum of servers.
+fn read_at_quorum<A: Asker>(
+    asker: &mut A,
+    alloc: Global,
+    open: &mut Open,
+    file: &FileName,
+) -> Result<Reading, LineFault>
+    requires { open.old.levels ≡ A.levels asker.old }
+    ensures asks { line.Went (spec.quorum_read open.old file.now) (A.told asker.old) (A.told asker.new) (line.ended_by result open.new) }
+    ensures levels { open.new.levels ≡ open.old.levels }
+    ensures tree { A.levels asker.new ≡ A.levels asker.old }
+{
+    let answers = match lock_quorum(asker, alloc, open, file, Mode::Shared) {
+        Ok(answers) => answers,
+        Err(fault) => return Err(fault),
+    };
+    match open.read(alloc, file, answers.as_slice()) {
+        Ok(copy) => Ok(Reading::Copy(copy)),
+        Err(fault) => Err(LineFault::from(fault)),
+    }
+}
+
+/// Writes a file at a quorum of servers with exclusive locks, and answers the version; what is written again is
+/// replaced, with no ask. After a fault, locks granted before it stay, and the transaction notes their servers.
+pub fn write_file<A: Asker>(
+    asker: &mut A,
+    alloc: Global,
+    open: &mut Open,
+    file: &FileName,
+    content: Content,
+) -> Result<u64, LineFault>
+    requires { open.old.levels ≡ A.levels asker.old }
+    ensures asks { line.Went (spec.write_line open.old file.now content) (A.told asker.old) (A.told asker.new) (line.ended_by result open.new) }
+    ensures levels { open.new.levels ≡ open.old.levels }
+    ensures tree { A.levels asker.new ≡ A.levels asker.old }
+{
+    if let Some(op) = open.written(file) {
+        let version = op.version;
+        open.rewrite(file, content);
+        return Ok(version);
+    }
+    if open.is_full() {
+        return Err(LineFault::Txn(TxnFault::TooManyOps));
+    }
+    write_at_quorum(asker, alloc, open, file, content)
+}
+
+/// Writes a file at a quorum of servers.
+fn write_at_quorum<A: Asker>(
+    asker: &mut A,
+    alloc: Global,
+    open: &mut Open,
+    file: &FileName,
+    content: Content,
+) -> Result<u64, LineFault>
+    requires { open.old.levels ≡ A.levels asker.old }
+    ensures asks { line.Went (spec.quorum_write open.old file.now content) (A.told asker.old) (A.told asker.new) (line.ended_by result open.new) }
+    ensures levels { open.new.levels ≡ open.old.levels }
+    ensures tree { A.levels asker.new ≡ A.levels asker.old }
+{
+    let answers = match lock_quorum(asker, alloc, open, file, Mode::Exclusive) {
+        Ok(answers) => answers,
+        Err(fault) => return Err(fault),
+    };
+    match open.write(alloc, file, content, answers.as_slice()) {
+        Ok(version) => Ok(version),
+        Err(fault) => Err(LineFault::from(fault)),
+    }
+}

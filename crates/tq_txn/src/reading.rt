@@ -1,0 +1,9 @@
+use tq_store::{Content, FileCopy};
+
+/// What a read of a file answers.
+#[derive(Debug, Drop)]
+pub enum Reading {
+    /// What the transaction itself has written, which nobody else sees yet.
+    Pending(Content),
+    Copy(FileCopy),
+}

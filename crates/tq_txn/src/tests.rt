@@ -1,0 +1,299 @@
+use super::*;
+use std::alloc::Global;
+use std::test::Fail;
+use tq_desk::{DeskAsk, DeskReply};
+use tq_locks::Mode;
+use tq_node::{HeldLock, NodeAsk, NodeReply, Verdict, WorkAsk};
+use tq_shape::{Levels, Limits, Seq, ServerId};
+use tq_store::{Content, FileName, Write};
+
+fn name(text: &str) -> Result<FileName, Fail> {
+    Ok(FileName::new(text.as_bytes()).ok_or("name")?)
+}
+
+fn content(alloc: Global, text: &str) -> Result<Content, Fail> {
+    Ok(Content::new(text.as_bytes().to_vec(alloc)?).ok_or("content")?)
+}
+
+fn only<T: Drop>(alloc: Global, item: T) -> Result<Vec<T>, Fail> {
+    let mut list = Vec::new(alloc);
+    list.push(item)?;
+    Ok(list)
+}
+
+/// Transaction 1 over a tree of one server.
+fn begun(alloc: Global, ops: u32) -> Result<Open, Fail> {
+    let levels = Levels::new(1).ok_or("levels")?;
+    let limits = Limits::new(10, ops, 10).ok_or("limits")?;
+    Ok(Open::new(alloc, levels, limits, 1))
+}
+
+fn server(number: u64) -> Result<ServerId, Fail> {
+    Ok(
+        Levels::new(2)
+            .ok_or("levels")?
+            .server(number)
+            .ok_or("server")?,
+    )
+}
+
+/// A lock of a transaction that server 1 granted as its entry 1.
+fn granted(
+    alloc: Global,
+    txn: u64,
+    file: &str,
+    mode: Mode,
+    version: u64,
+) -> Result<Vec<NodeTold>, Fail> {
+    let reply = NodeReply::Granted {
+        version,
+        content: content(alloc, "old")?,
+    };
+    let ask = NodeAsk::Work(WorkAsk::Lock {
+        txn,
+        file: name(file)?,
+        mode,
+    });
+    only(
+        alloc,
+        NodeTold {
+            server: 1,
+            number: 1,
+            ask,
+            reply,
+        },
+    )
+}
+
+/// A vote of server 1, its entry 2, for a transaction that reads `a`.
+fn voted(alloc: Global, txn: u64, since: u64) -> Result<NodeTold, Fail> {
+    let writes: Vec<Write> = Vec::new(alloc);
+    let asked: Vec<Write> = Vec::new(alloc);
+    let held = only(
+        alloc,
+        HeldLock {
+            file: name("a")?,
+            mode: Mode::Shared,
+            since,
+        },
+    )?;
+    Ok(NodeTold {
+        server: 1,
+        number: 2,
+        ask: NodeAsk::Work(WorkAsk::Prepare {
+            txn,
+            writes: Seq::from_vec(asked),
+        }),
+        reply: NodeReply::Yes {
+            held: Seq::from_vec(held),
+            writes: Seq::from_vec(writes),
+        },
+    })
+}
+
+/// Transaction 1 after a read of `a`.
+fn reader(alloc: Global) -> Result<Open, Fail> {
+    let mut open = begun(alloc, 4)?;
+    let answers = granted(alloc, 1, "a", Mode::Shared, 7)?;
+    let _ = open
+        .read(alloc, &name("a")?, answers.as_slice())
+        .map_err(|_| "read")?;
+    Ok(open)
+}
+
+fn closed(alloc: Global) -> Result<Voting, Fail> {
+    match reader(alloc)?.close() {
+        Ok(voting) => Ok(voting),
+        Err(_) => Err("closed")?,
+    }
+}
+
+/// What a read of `a` by transaction 1 is refused for.
+fn refused(open: &mut Open, alloc: Global, answers: &[NodeTold]) -> Result<TxnFault, Fail> {
+    let file = name("a")?;
+    let fault = open.read(alloc, &file, answers).err().ok_or("refused")?;
+    Ok(fault)
+}
+
+/// What a vote for a read of `a` is refused for.
+fn unfit(alloc: Global, told: &NodeTold) -> Result<TxnFault, Fail> {
+    match closed(alloc)?.vote(alloc, told) {
+        Ok(()) => Err("refused")?,
+        Err(fault) => Ok(fault),
+    }
+}
+
+#[test]
+fn reads_the_copy_granted(rt: HostRuntime) -> Result<(), Fail> {
+    let alloc = rt.alloc();
+    let mut open = begun(alloc, 4)?;
+    let answers = granted(alloc, 1, "a", Mode::Shared, 7)?;
+    let copy = open
+        .read(alloc, &name("a")?, answers.as_slice())
+        .map_err(|_| "read")?;
+    assert!(rt; copy.version == 7);
+    assert!(rt; copy.content == content(alloc, "old")?);
+    Ok(())
+}
+
+#[test]
+fn writes_one_above(rt: HostRuntime) -> Result<(), Fail> {
+    let alloc = rt.alloc();
+    let mut open = begun(alloc, 4)?;
+    let answers = granted(alloc, 1, "a", Mode::Exclusive, 7)?;
+    let version = open
+        .write(alloc, &name("a")?, content(alloc, "x")?, answers.as_slice())
+        .map_err(|_| "write")?;
+    assert!(rt; version == 8);
+    Ok(())
+}
+
+#[test]
+fn not_a_member(rt: HostRuntime) -> Result<(), Fail> {
+    let alloc = rt.alloc();
+    let none: Vec<NodeTold> = Vec::new(alloc);
+    let fault = refused(&mut begun(alloc, 4)?, alloc, none.as_slice())?;
+    assert!(rt; fault == TxnFault::NotAMember);
+    Ok(())
+}
+
+#[test]
+fn not_a_grant(rt: HostRuntime) -> Result<(), Fail> {
+    let alloc = rt.alloc();
+    let answers = granted(alloc, 2, "a", Mode::Shared, 0)?;
+    let fault = refused(&mut begun(alloc, 4)?, alloc, answers.as_slice())?;
+    assert!(rt; fault == TxnFault::NotAGrant { server: 1 });
+    Ok(())
+}
+
+#[test]
+fn already_there(rt: HostRuntime) -> Result<(), Fail> {
+    let alloc = rt.alloc();
+    let answers = granted(alloc, 1, "a", Mode::Shared, 7)?;
+    let fault = refused(&mut reader(alloc)?, alloc, answers.as_slice())?;
+    assert!(rt; fault == TxnFault::AlreadyThere);
+    Ok(())
+}
+
+#[test]
+fn too_many_operations(rt: HostRuntime) -> Result<(), Fail> {
+    let alloc = rt.alloc();
+    let mut open = begun(alloc, 1)?;
+    let others = granted(alloc, 1, "b", Mode::Shared, 7)?;
+    let _ = open
+        .read(alloc, &name("b")?, others.as_slice())
+        .map_err(|_| "read")?;
+    let answers = granted(alloc, 1, "a", Mode::Shared, 7)?;
+    let fault = refused(&mut open, alloc, answers.as_slice())?;
+    assert!(rt; fault == TxnFault::TooManyOps);
+    Ok(())
+}
+
+#[test]
+fn version_full(rt: HostRuntime) -> Result<(), Fail> {
+    let alloc = rt.alloc();
+    let mut open = begun(alloc, 4)?;
+    let answers = granted(alloc, 1, "a", Mode::Exclusive, u64::MAX)?;
+    let fault = open
+        .write(alloc, &name("a")?, content(alloc, "x")?, answers.as_slice())
+        .err()
+        .ok_or("refused")?;
+    assert!(rt; fault == TxnFault::VersionFull);
+    Ok(())
+}
+
+#[test]
+fn no_operations(rt: HostRuntime) -> Result<(), Fail> {
+    let alloc = rt.alloc();
+    let Err(back) = begun(alloc, 4)?.close() else {
+        return Err("refused")?;
+    };
+    assert!(rt; back.1 == TxnFault::NoOps);
+    Ok(())
+}
+
+#[test]
+fn not_a_voter(rt: HostRuntime) -> Result<(), Fail> {
+    let alloc = rt.alloc();
+    let fault = closed(alloc)?
+        .ask(alloc, server(2)?)
+        .err()
+        .ok_or("refused")?;
+    assert!(rt; fault == TxnFault::NotAVoter);
+    Ok(())
+}
+
+#[test]
+fn lost_lock(rt: HostRuntime) -> Result<(), Fail> {
+    let alloc = rt.alloc();
+    let fault = unfit(alloc, &voted(alloc, 1, 2)?)?;
+    assert!(rt; fault == TxnFault::LostLock { file: name("a")? });
+    Ok(())
+}
+
+#[test]
+fn not_my_vote(rt: HostRuntime) -> Result<(), Fail> {
+    let alloc = rt.alloc();
+    let fault = unfit(alloc, &voted(alloc, 2, 1)?)?;
+    assert!(rt; fault == TxnFault::NotMyVote);
+    Ok(())
+}
+
+#[test]
+fn votes_missing(rt: HostRuntime) -> Result<(), Fail> {
+    let alloc = rt.alloc();
+    let Err(back) = closed(alloc)?.ready() else {
+        return Err("refused")?;
+    };
+    assert!(rt; back.1 == TxnFault::VotesMissing);
+    Ok(())
+}
+
+#[test]
+fn not_my_verdict(rt: HostRuntime) -> Result<(), Fail> {
+    let alloc = rt.alloc();
+    let told = DeskTold {
+        number: 3,
+        ask: DeskAsk::Resolve { txn: 2 },
+        reply: DeskReply::Verdict(Verdict::Abort),
+    };
+    let Err(back) = closed(alloc)?.end(alloc, &told) else {
+        return Err("refused")?;
+    };
+    assert!(rt; back.1 == TxnFault::NotMyVerdict);
+    Ok(())
+}
+
+#[test]
+fn aborted(rt: HostRuntime) -> Result<(), Fail> {
+    let alloc = rt.alloc();
+    let told = DeskTold {
+        number: 3,
+        ask: DeskAsk::Resolve { txn: 1 },
+        reply: DeskReply::Verdict(Verdict::Abort),
+    };
+    let Ok(ended) = reader(alloc)?.end(alloc, &told) else {
+        return Err("ended")?;
+    };
+    assert!(rt; *ended.verdict() == Verdict::Abort);
+    assert!(rt; ended.servers().len() == 1);
+    Ok(())
+}
+
+#[test]
+fn evidence_of_a_read(rt: HostRuntime) -> Result<(), Fail> {
+    let alloc = rt.alloc();
+    let mut voting = closed(alloc)?;
+    voting
+        .vote(alloc, &voted(alloc, 1, 1)?)
+        .map_err(|_| "vote")?;
+    let Ok(ready) = voting.ready() else {
+        return Err("ready")?;
+    };
+    let DeskAsk::Commit { txn, ops, votes } = ready.evidence(alloc)? else {
+        return Err("commit")?;
+    };
+    assert!(rt; txn == 1);
+    assert!(rt; ops.len() == 1 && votes.len() == 1);
+    Ok(())
+}
