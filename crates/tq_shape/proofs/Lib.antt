@@ -3,3 +3,4 @@ pub mod Tree
 pub mod Towards
 pub mod Joined
 pub mod Places
+pub mod Marks

@@ -8,6 +8,7 @@ mod limits;
 mod list;
 mod part;
 mod server;
+mod server_set;
 
 pub use entry::Entry;
 pub use level::{Levels, MOST_LEVELS};
@@ -15,6 +16,7 @@ pub use limits::{Limits, MOST_ENTRIES, MOST_FILES, MOST_OPS};
 pub use list::{ExactClone, Seq};
 pub use part::Part;
 pub use server::{ServerId, Sides};
+pub use server_set::{ServerSet, ServerSetIter};
 
 /// What a call answers where memory is refused.
 pub type Memory = std::alloc::AllocError;

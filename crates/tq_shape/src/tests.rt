@@ -1,4 +1,4 @@
-use crate::{Levels, Limits, MOST_ENTRIES, MOST_FILES, MOST_OPS, Seq, ServerId};
+use crate::{Levels, Limits, MOST_ENTRIES, MOST_FILES, MOST_OPS, Seq, ServerId, ServerSet};
 
 /// The number of the side of one server towards another, in the tree of that many levels.
 fn side_number(levels: u32, top: u64, below: u64) -> Option<u64> {
@@ -82,4 +82,52 @@ fn a_list_and_its_clone_hold_the_same_values(rt: HostRuntime) {
     let copy = list.clone().expect(&rt, "room for three more");
     assert!(rt; list == copy);
     assert!(rt; copy.len() == 3 && !copy.is_empty());
+}
+
+/// The numbers of the set as the digits of one number, the least server's first.
+fn digits_of(set: &ServerSet) -> u64 {
+    let mut digits = 0;
+    for server in set.iter() {
+        digits = u64::wrapping_add(u64::wrapping_mul(digits, 10), server.number());
+    }
+    digits
+}
+
+#[test]
+fn a_set_is_walked_upwards_and_has_each_server_once(rt: HostRuntime) {
+    let levels = Levels::new(3).unwrap();
+    let mut set = ServerSet::new(rt.alloc(), levels).expect(&rt, "room for seven marks");
+    assert!(rt; set.is_empty() && set.first().is_none());
+    for (number, is_new, digits) in [
+        (5, true, 5),
+        (2, true, 25),
+        (7, true, 257),
+        (2, false, 257),
+        (1, true, 1257),
+    ] {
+        let server = set
+            .levels()
+            .server(number)
+            .expect(&rt, "a server of the tree");
+        assert!(rt; set.insert(server) == is_new);
+        assert!(rt; set.contains(server));
+        assert!(rt; digits_of(&set) == digits);
+    }
+    let absent = set.levels().server(3).expect(&rt, "server 3");
+    assert!(rt; !set.contains(absent));
+    assert!(rt; number_of(set.first()) == 1);
+}
+
+#[test]
+fn what_is_taken_out_of_a_set_is_gone(rt: HostRuntime) {
+    let levels = Levels::new(2).unwrap();
+    let mut set = ServerSet::new(rt.alloc(), levels).expect(&rt, "room for three marks");
+    set.insert(levels.root());
+    set.insert(ServerId::new(levels, 3));
+    let copy = set.clone().expect(&rt, "room for three more");
+    assert!(rt; set.remove(levels.root()));
+    assert!(rt; !set.remove(levels.root()));
+    assert!(rt; digits_of(&set) == 3);
+    assert!(rt; digits_of(&copy) == 13);
+    assert!(rt; copy.levels() == levels);
 }

@@ -1,0 +1,106 @@
+-- The numbers that are marked, as one mark changes.
+use Rattle.std.proofs.Common.{◌≡◌, ℕ, ◌+◌, ◌<◌, ◌≤◌, ◌^◌, subst, zero, suc, Bool, true, false, List, [], ◌∷◌, ◌++◌, length, replicate, get_or, refl, sym, ap, ◌∙◌, arith}
+use Rattle.std.specs.Prelude.{slice_set, slice_index_or}
+use Rattle.std.specs.List.{All}
+use Rattle.std.proofs.lemmas.Bool.{lt-ltb, le-ltb, eq-eqb, ne_eqb}
+use Rattle.std.proofs.lemmas.List.Elements.{All-cons, All-head, All-tail}
+use Rattle.std.proofs.lemmas.List.{get_or_default}
+use Rattle.tq_shape.specs.ServerSet.{has_number, with_number, without_number, marked}
+
+-- no number is below the first
+pub marked-above : (low first : ℕ) (marks : List Bool) → low < first → All (λ number. low < number) (marked first marks)
+marked-above low first [] less = λ k d h. absurd (omega (arith, h))
+marked-above low first (true ∷ marks) less = All-cons (λ number. low < number) first (marked (first + 1) marks) less (marked-above low (first + 1) marks (omega (arith, less)))
+marked-above low first (false ∷ marks) less = marked-above low (first + 1) marks (omega (arith, less))
+
+-- none is marked twice
+not-marked : (low first : ℕ) (marks : List Bool) → low < first → has_number (marked first marks) low ≡ false
+not-marked low first [] less = refl
+not-marked low first (true ∷ marks) less =
+    rw (ne_eqb first low (λ same. absurd (omega (arith, less, same)))) (not-marked low (first + 1) marks (omega (arith, less)))
+not-marked low first (false ∷ marks) less = not-marked low (first + 1) marks (omega (arith, less))
+
+-- a mark says whether its number is there
+pub has_number-marked : (first : ℕ) (marks : List Bool) (place : ℕ) → has_number (marked first marks) (first + place) ≡ slice_index_or marks place false
+has_number-marked first [] place = refl
+has_number-marked first (true ∷ marks) zero = rw (eq-eqb first (first + zero) (omega arith)) refl
+has_number-marked first (false ∷ marks) zero = not-marked (first + zero) (first + 1) marks (omega arith)
+has_number-marked first (true ∷ marks) (suc place) =
+    rw (ne_eqb first (first + suc place) (λ same. absurd (omega (arith, same))))
+    (ap (has_number (marked (first + 1) marks)) (omega arith) ∙ has_number-marked (first + 1) marks place)
+has_number-marked first (false ∷ marks) (suc place) =
+    ap (has_number (marked (first + 1) marks)) (omega arith) ∙ has_number-marked (first + 1) marks place
+
+with_number-first : (number first : ℕ) (marks : List Bool) → number < first → with_number number (marked first marks) ≡ number ∷ marked first marks
+with_number-first number first [] less = refl
+with_number-first number first (true ∷ marks) less = rw (lt-ltb number first less) refl
+with_number-first number first (false ∷ marks) less = with_number-first number (first + 1) marks (omega (arith, less))
+
+with_number-later : (number first : ℕ) (rest : List ℕ) → first < number → with_number number (first ∷ rest) ≡ first ∷ with_number number rest
+with_number-later number first rest less = rw (le-ltb number first (omega (arith, less)), ne_eqb number first (λ same. absurd (omega (arith, less, same)))) refl
+
+with_number-there : (number first : ℕ) (rest : List ℕ) → number ≡ first → with_number number (first ∷ rest) ≡ first ∷ rest
+with_number-there number first rest same = rw (le-ltb number first (omega (arith, same)), eq-eqb number first same) refl
+
+-- one more mark is one more number
+pub marked-with : (first : ℕ) (marks : List Bool) (place : ℕ) → place < length marks → marked first (slice_set marks place true) ≡ with_number (first + place) (marked first marks)
+marked-with first [] place less = absurd (omega (arith, less))
+marked-with first (true ∷ marks) zero less = sym (with_number-there (first + zero) first (marked (first + 1) marks) (omega arith))
+marked-with first (false ∷ marks) zero less = sym (ap (λ number. with_number number (marked (first + 1) marks)) (omega arith) ∙ with_number-first first (first + 1) marks (omega arith))
+marked-with first (true ∷ marks) (suc place) less =
+    ap (λ numbers. first ∷ numbers) (marked-with (first + 1) marks place (omega (arith, less)) ∙ ap (λ number. with_number number (marked (first + 1) marks)) (omega arith))
+    ∙ sym (with_number-later (first + suc place) first (marked (first + 1) marks) (omega arith))
+marked-with first (false ∷ marks) (suc place) less =
+    marked-with (first + 1) marks place (omega (arith, less)) ∙ ap (λ number. with_number number (marked (first + 1) marks)) (omega arith)
+
+without_number-first : (number first : ℕ) (marks : List Bool) → number < first → without_number number (marked first marks) ≡ marked first marks
+without_number-first number first [] less = refl
+without_number-first number first (true ∷ marks) less =
+    rw (ne_eqb first number (λ same. absurd (omega (arith, less, same)))) (ap (λ numbers. first ∷ numbers) (without_number-first number (first + 1) marks (omega (arith, less))))
+without_number-first number first (false ∷ marks) less = without_number-first number (first + 1) marks (omega (arith, less))
+
+-- one mark less is one number less
+pub marked-without : (first : ℕ) (marks : List Bool) (place : ℕ) → place < length marks → marked first (slice_set marks place false) ≡ without_number (first + place) (marked first marks)
+marked-without first [] place less = absurd (omega (arith, less))
+marked-without first (true ∷ marks) zero less =
+    rw (eq-eqb first (first + zero) (omega arith)) (sym (without_number-first (first + zero) (first + 1) marks (omega arith)))
+marked-without first (false ∷ marks) zero less = sym (without_number-first (first + zero) (first + 1) marks (omega arith))
+marked-without first (true ∷ marks) (suc place) less =
+    rw (ne_eqb first (first + suc place) (λ same. absurd (omega (arith, same))))
+    (ap (λ numbers. first ∷ numbers) (marked-without (first + 1) marks place (omega (arith, less)) ∙ ap (λ number. without_number number (marked (first + 1) marks)) (omega arith)))
+marked-without first (false ∷ marks) (suc place) less =
+    marked-without (first + 1) marks place (omega (arith, less)) ∙ ap (λ number. without_number number (marked (first + 1) marks)) (omega arith)
+
+-- a number above all others stands last
+pub with_number-last : (number : ℕ) (numbers : List ℕ) → All (λ other. other < number) numbers → with_number number numbers ≡ numbers ++ number ∷ []
+with_number-last number [] all = refl
+with_number-last number (first ∷ rest) all =
+    with_number-later number first rest (All-head (λ other. other < number) first rest all)
+    ∙ ap (λ numbers. first ∷ numbers) (with_number-last number rest (All-tail (λ other. other < number) first rest all))
+
+-- with no mark there is no number
+pub marked-none : (first count : ℕ) → marked first (replicate count false) ≡ []
+marked-none first zero = refl
+marked-none first (suc count) = marked-none (first + 1) count
+
+-- ---- a tree's marks begin at server 1
+
+-- the place of a server of the tree is that of a mark
+pub place-within : (place number levels own count : ℕ) → place + 1 ≡ number → number < 2 ^ levels → levels ≡ own → count + 1 ≡ 2 ^ own → place < count
+place-within place number levels own count is less same all = let lower : number < 2 ^ own = subst (λ l. number < 2 ^ l) same less in omega (arith, is, lower, all)
+
+module _ (marks : List Bool) (place number : ℕ) (within : place < length marks) (is : place + 1 ≡ number) where
+  pub mark-says : (mark : Bool) → mark ≡ get_or marks place mark → mark ≡ has_number (marked 1 marks) number
+  mark-says mark read = read ∙ get_or_default marks place mark false within ∙ sym (ap (has_number (marked 1 marks)) (omega (arith, is)) ∙ has_number-marked 1 marks place)
+
+  pub mark-put : marked 1 (slice_set marks place true) ≡ with_number number (marked 1 marks)
+  mark-put = marked-with 1 marks place within ∙ ap (λ n. with_number n (marked 1 marks)) (omega (arith, is))
+
+  pub mark-taken : marked 1 (slice_set marks place false) ≡ without_number number (marked 1 marks)
+  mark-taken = marked-without 1 marks place within ∙ ap (λ n. without_number n (marked 1 marks)) (omega (arith, is))
+
+pub marked-within : (first past : ℕ) (marks : List Bool) → 0 < first → first + length marks ≤ past → All (λ number. (0 < number) × (number < past)) (marked first marks)
+marked-within first past [] positive fits = λ k d h. absurd (omega (arith, h))
+marked-within first past (true ∷ marks) positive fits =
+    All-cons (λ number. (0 < number) × (number < past)) first (marked (first + 1) marks) (positive, omega (arith, fits)) (marked-within (first + 1) past marks (omega arith) (omega (arith, fits)))
+marked-within first past (false ∷ marks) positive fits = marked-within (first + 1) past marks (omega arith) (omega (arith, fits))
