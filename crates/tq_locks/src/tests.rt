@@ -1,4 +1,8 @@
+ghost use Rattle.std.specs.Prelude.{◌≡◌, IfOk, map};
+ghost use Rattle.std.specs.FinMap as fin;
+
 use crate::{LockOutcome, LockTable, Mode};
+use std::alloc::{AllocError, Global};
 use std::test::Fail;
 use tq_store::FileName;
 
@@ -95,4 +99,15 @@ fn released(rt: HostRuntime) -> Result<(), Fail> {
     locks.release(8);
     assert!(rt; locks.holds_nothing(8) && !locks.holds_nothing(7));
     Ok(())
+}
+
+/// The `since` of each lock, in the table's order.
+fn starts(alloc: Global, locks: &LockTable) -> Result<Vec<u64>, AllocError>
+    ensures { IfOk result (λ starts. starts.items ≡ map (λ entry. entry.1.since) (fin.entries locks.now)) }
+{
+    let mut starts = Vec::new(alloc);
+    for (_, lock) in locks.iter() {
+        starts.push(lock.since)?;
+    }
+    Ok(starts)
 }
