@@ -1,5 +1,6 @@
 ghost use Rattle.std.specs.Prelude.{◌≡◌, ◌+◌, ◌<◌, ◌≤◌, ◌^◌, IfOk, List, OnOk, OnErr, None, [], true, map, nat_lt};
 ghost use Rattle.std.specs.FinMap as fin;
+ghost use Rattle.std.specs.Option.{option_copied};
 ghost use Rattle.tq_desk.specs.DeskJournal as log;
 ghost use Rattle.tq_desk.specs.DeskJournal.{DeskBounds, DeskEntry, IsLegalDesk, desk_state};
 ghost use Rattle.tq_desk.specs.DeskLog.{AnswersByLog};
@@ -71,6 +72,15 @@ impl Desk {
         ensures journal { (bounds : DeskBounds) (journal : List DeskEntry) → IsLegalDesk bounds journal → self.now ≡ desk_state bounds journal → result ≡ log.begun journal }
     {
         self.begun // numbers go up from 1
+    }
+
+    /// How a transaction ended: `None` where it has not, or was not begun.
+    pub fn verdict(&self, txn: u64) -> Option<&Verdict>
+        ensures value { option_copied result ≡ fin.get self.now.finals txn }
+        ensures journal { (bounds : DeskBounds) (journal : List DeskEntry) → IsLegalDesk bounds journal → self.now ≡ desk_state bounds journal → option_copied result ≡ log.final journal txn }
+    {
+        let _ended = &self.commits;
+        self.finals.get(txn)
     }
 
     /// Answers an ask. A desk that stands where a legal journal leaves it answers what the journal says, and then stands
@@ -206,7 +216,7 @@ impl Desk {
     fn ended(&self, txn: u64) -> Result<Option<Verdict>, Memory>
         ensures { IfOk result (λ verdict. verdict ≡ fin.get self.now.finals txn) }
     {
-        match self.finals.get(txn) {
+        match self.verdict(txn) {
             Some(verdict) => Ok(Some(verdict.clone()?)),
             None => Ok(None),
         }

@@ -1,15 +1,14 @@
 -- The copies that a list keeps, each as the first of the file's records with the greatest version.
-use Rattle.std.proofs.Common.{◌≡◌, ◌==◌, ◌≤◌, ℕ, Bool, true, false, cond, ◌&&◌, List, [], ◌∷◌, Option, Some, None, nat_lt, nat_le, max, refl, ap, sym, subst, ◌∙◌, arith}
+use Rattle.std.proofs.Common.{◌≡◌, ◌==◌, ℕ, Bool, true, false, cond, ◌&&◌, List, [], ◌∷◌, Option, Some, None, nat_lt, nat_le, max, refl, ap, sym, subst, ◌∙◌, arith}
 use Rattle.std.proofs.lemmas.Bool.Decides.{nat_tests}
 use Rattle.std.specs.Cmp.Lexicographic.{pointwise, texts_ties}
 use Rattle.std.specs.FinMap as fin
 use Rattle.std.specs.List.{find, filter_map, cons_option}
 use Rattle.std.specs.Option.{option_map}
-use Rattle.std.specs.Ordering.{eq_by_cmp}
 use Rattle.tq_store.specs.declared.copies.FileCopy.{FileCopy}
 use Rattle.tq_store.specs.declared.write.Write.{Write}
-use Rattle.tq_store.specs.Copies.{Files, name_cmp, copy_at, copy_in, copy_of}
-use Rattle.tq_intents.specs.Kept.{KeepsNewest, copy_to, greatest_version, newest, kept_copies, with_copy}
+use Rattle.tq_store.specs.Copies.{name_cmp, copy_at, copy_in}
+use Rattle.tq_intents.specs.Kept.{KeepsNewest, copy_to, greatest_version, newest, kept_copies}
 use Rattle.tq_intents.specs.declared.record.Record.{Record}
 use Rattle.tq_intents.specs.declared.record.Record.TheVariants.{Copy, Intent, Keep, Prepared, Gone}
 use Rattle.tq_intents.proofs.CopiesPush.{fronted, get-with_copy}

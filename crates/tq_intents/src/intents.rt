@@ -3,7 +3,9 @@ ghost use Rattle.std.specs.Option.{option_copied};
 ghost use Rattle.std.specs.FinMap as fin;
 ghost use Rattle.std.specs.Option.{IfSome, is_some};
 ghost use Rattle.std.specs.Prelude.{map, length, IsSome};
-ghost use Rattle.std.specs.Prelude.{ℕ, nat_eq};
+ghost use Rattle.std.specs.Prelude.{ℕ};
+ghost use Rattle.std.specs.BTreeMap.{is_at};
+ghost use Rattle.std.specs.Ordering.{nat_cmp};
 ghost use Rattle.std.specs.List.{list_any, filter_map};
 ghost use Rattle.std.specs.Map.{lookup};
 ghost use Rattle.tq_store.specs.Copies.{copy_in, installed, installed_all};
@@ -11,8 +13,9 @@ ghost use Rattle.tq_intents.specs.Kept as spec;
 ghost use Rattle.tq_intents.specs.Kept.{HasOneVoteEach, HoldsVotesLocks, IsAbove, KeepsNewest, kept_copies, kept_votes, vote_at, vote_records};
 
 use crate::{KeptLock, OpenVote, Record};
-use indexmap::IndexMap;
 use std::alloc::{AllocError, Global};
+use std::collections::BTreeMap;
+use std::collections::btree_map::Iter;
 use std::marker::Model;
 use tq_shape::Seq;
 use tq_store::{Copies, Write};
@@ -21,7 +24,7 @@ use tq_store::{Copies, Write};
 #[derive(Drop)]
 pub struct Intents {
     records: Vec<Record>,
-    open_votes: IndexMap<u64, OpenVote>,
+    open_votes: BTreeMap<u64, OpenVote>,
 }
 
 impl Model for Intents {
@@ -44,7 +47,7 @@ impl Intents {
     {
         Intents {
             records: Vec::new(alloc),
-            open_votes: IndexMap::new(alloc),
+            open_votes: BTreeMap::new(alloc),
         }
     }
 
@@ -87,6 +90,13 @@ impl Intents {
         ensures { option_copied result ≡ fin.get (kept_votes self.now.records) txn }
     {
         self.open_votes.get(&txn)
+    }
+
+    /// The open votes, ascending by transaction.
+    pub fn votes(&self) -> Iter<'_, u64, OpenVote>
+        ensures { result ≡ fin.entries (kept_votes self.now.records) }
+    {
+        self.open_votes.iter()
     }
 
     /// Makes room for this many records.
@@ -138,14 +148,14 @@ impl Intents {
         ensures err { OnErr result (self.new.records ≡ self.old.records) }
     {
         let mut added = vote_records(alloc, txn, number, writes.as_slice(), locks.as_slice())?;
-        self.open_votes.reserve(1)?;
-        self.records.append(&mut added)?;
+        self.records.reserve(added.len())?;
         let vote = OpenVote {
             number,
             writes,
             locks,
         };
-        let _replaced = self.open_votes.insert(txn, vote).unwrap();
+        let _replaced = self.open_votes.insert(txn, vote)?;
+        self.records.append(&mut added).unwrap();
         Ok(())
     }
 
@@ -157,7 +167,7 @@ impl Intents {
         ensures votes { kept_votes self.new.records ≡ fin.remove (kept_votes self.old.records) txn }
         ensures copies { kept_copies self.new.records ≡ kept_copies self.old.records }
     {
-        let vote = self.open_votes.swap_remove(&txn).unwrap();
+        let vote = self.open_votes.remove(&txn).unwrap();
         let number = vote.number;
         self.records.push_reserved(Record::Gone { txn, number });
     }
@@ -213,10 +223,10 @@ fn vote_records(
 }
 
 /// The open votes of a list of records, by transaction.
-fn index(alloc: Global, records: &[Record]) -> Result<IndexMap<u64, OpenVote>, AllocError>
-    ensures { IfOk result (λ index. (txn : ℕ) → lookup (nat_eq txn) index.entries ≡ fin.get (kept_votes records.now) txn) }
+fn index(alloc: Global, records: &[Record]) -> Result<BTreeMap<u64, OpenVote>, AllocError>
+    ensures { IfOk result (λ index. (txn : ℕ) → lookup (is_at (nat_cmp txn)) index.entries ≡ fin.get (kept_votes records.now) txn) }
 {
-    let mut index = IndexMap::new(alloc);
+    let mut index = BTreeMap::new(alloc);
     let mut left = records.len();
     while left > 0 {
         left -= 1;

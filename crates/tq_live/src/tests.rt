@@ -204,6 +204,8 @@ fn each_subtree_has_its_least_cost(rt: HostRuntime) -> Result<(), Fail> {
     assert_eq!(rt; tree.set_cost(second, 1_000_001), Err(BadCost));
     tree.set_cost(second, 5).map_err(|_| "second")?;
     tree.set_mark(fifth, false);
+    assert_eq!(rt; (tree.cost(second), tree.cost(fifth)), (5, 1));
+    assert!(rt; tree.is_up(second) && !tree.is_up(fifth));
     assert_eq!(rt; tree.best_cost(second), Some(6));
     assert_eq!(rt; tree.best_cost(fifth), None);
     let best = tree.best(rt.alloc(), second)?.ok_or("best")?;
@@ -226,6 +228,18 @@ fn a_reply_is_foreseen(rt: HostRuntime) -> Result<(), Fail> {
     let copy = view.copy(rt.alloc())?;
     let offer = copy.foresee(rt.alloc(), &ViewAsk::Choose)?;
     assert_eq!(rt; summary(&offer), (bits(&[2, 3]), Some(2)));
+    Ok(())
+}
+
+#[test]
+fn a_view_shows_its_tree(rt: HostRuntime) -> Result<(), Fail> {
+    let levels = Levels::new(2).ok_or("levels")?;
+    let mut view = View::new(rt.alloc(), levels)?;
+    view.answer(rt.alloc(), &ViewAsk::SetCost { server: 3, cost: 9 })?;
+    let tree = view.tree();
+    let third = tree.levels().server(3).ok_or("third")?;
+    assert_eq!(rt; tree.levels(), levels);
+    assert_eq!(rt; tree.cost(third), 9);
     Ok(())
 }
 

@@ -42,7 +42,7 @@ impl LiveTree {
     ghost use Rattle.std.specs.Prelude.{◌≡◌, ℕ, ◌+◌, ◌-◌, ◌*◌, ◌^◌, ◌<◌, ◌≤◌, ◌↔◌, IsOk, IfOk, IfSome, IsSome, OnOk, OnErr, slice_set, true, replicate, Some, List, All};
     ghost use Rattle.tq_shape.specs.Depth.{height_of};
     ghost use Rattle.tq_coterie.specs.Coterie.{coterie, servers_of, numbers_of, joined, with_server, IsMemberList};
-    ghost use Rattle.tq_live.specs.Live.{best, best_cost, blocker, HasQuorumOrBlocker};
+    ghost use Rattle.tq_live.specs.Live.{best, best_cost, blocker, cost_of, is_up, HasQuorumOrBlocker};
     ghost use Rattle.tq_live.specs.Sought.{weight_for, found, found_weight, AreWeights};
     ghost use Rattle.tq_live.specs.Choice.{IsChoice, IsFirstChoice};
     ghost use Rattle.tq_live.specs.BestOf.{IsBestOf};
@@ -66,6 +66,31 @@ impl LiveTree {
         let costs = Vec::from_slice(alloc, self.costs.as_slice())?;
         let up = Vec::from_slice(alloc, self.up.as_slice())?;
         Ok(LiveTree { levels, costs, up })
+    }
+
+    /// How many levels the tree has.
+    pub fn levels(&self) -> Levels
+        ensures { result ≡ self.now.levels }
+    {
+        self.levels
+    }
+
+    /// The cost of a server of this tree.
+    pub fn cost(&self, server: ServerId) -> u64
+        requires { server.levels ≡ self.now.levels }
+        ensures { result ≡ cost_of self.now server.number }
+    {
+        let place = (server.number() - 1) as usize;
+        self.costs[place]
+    }
+
+    /// Whether a server of this tree is marked up.
+    pub fn is_up(&self, server: ServerId) -> bool
+        requires { server.levels ≡ self.now.levels }
+        ensures { result ≡ is_up self.now server.number }
+    {
+        let place = (server.number() - 1) as usize;
+        self.up[place]
     }
 
     /// Sets the cost of a server of this tree. A cost that is not from 1 to 1,000,000 is refused, and nothing

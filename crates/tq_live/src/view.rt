@@ -93,6 +93,14 @@ impl View {
         Ok(View { levels, tree })
     }
 
+    /// The costs and marks as they stand.
+    pub fn tree(&self) -> &LiveTree
+        ensures { result.now ≡ self.now }
+    {
+        let _ = &self.levels;
+        &self.tree
+    }
+
     /// Answers one ask. A view that stands where a journal leaves it stands, after the answer, where the journal
     /// with this ask and reply leaves it.
     pub fn answer(&mut self, alloc: Global, ask: &ViewAsk) -> Result<ViewReply, Memory>

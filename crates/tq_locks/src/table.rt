@@ -4,6 +4,7 @@ ghost use Rattle.std.specs.FinMap as fin;
 use crate::{Lock, Mode};
 use std::alloc::{AllocError, Global};
 use std::collections::BTreeMap;
+use std::collections::btree_map::Iter;
 use std::marker::Model;
 use tq_store::FileName;
 
@@ -55,6 +56,13 @@ impl LockTable {
     {
         let locks = self.locks.clone()?;
         Ok(LockTable { locks })
+    }
+
+    /// All locks, ascending by file and then by transaction.
+    pub fn iter(&self) -> Iter<'_, (FileName, u64), Lock>
+        ensures { result ≡ fin.entries self.now }
+    {
+        self.locks.iter()
     }
 
     /// The least transaction, other than this one, whose lock on the file conflicts with the mode.

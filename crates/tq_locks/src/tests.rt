@@ -1,9 +1,24 @@
+ghost use Rattle.std.specs.Prelude.{◌≡◌, IfOk, map};
+ghost use Rattle.std.specs.FinMap as fin;
+
 use crate::{LockOutcome, LockTable, Mode};
+use std::alloc::{AllocError, Global};
 use std::test::Fail;
 use tq_store::FileName;
 
 fn name(byte: u8) -> Option<FileName> {
     FileName::new([byte].as_slice())
+}
+
+/// The `since` of each lock, in the table's order.
+fn starts(alloc: Global, locks: &LockTable) -> Result<Vec<u64>, AllocError>
+    ensures { IfOk result (λ starts. starts.items ≡ map (λ entry. entry.1.since) (fin.entries locks.now)) }
+{
+    let mut starts = Vec::new(alloc);
+    for (_, lock) in locks.iter() {
+        starts.push(lock.since)?;
+    }
+    Ok(starts)
 }
 
 /// Shared agrees with shared; of two that conflict with a request the least is named.
@@ -94,5 +109,19 @@ fn released(rt: HostRuntime) -> Result<(), Fail> {
     locks.ask(alloc, 8, &a, Mode::Shared, 2, 0)?;
     locks.release(8);
     assert!(rt; locks.holds_nothing(8) && !locks.holds_nothing(7));
+    Ok(())
+}
+
+/// All locks come by file, and those of a file by transaction.
+#[test]
+fn locks_of_a_table(rt: HostRuntime) -> Result<(), Fail> {
+    let a = name(b'a').ok_or("a")?;
+    let b = name(b'b').ok_or("b")?;
+    let alloc = rt.alloc();
+    let mut locks = LockTable::new(alloc);
+    locks.ask(alloc, 7, &b, Mode::Shared, 1, 0)?;
+    locks.ask(alloc, 8, &a, Mode::Shared, 2, 0)?;
+    locks.ask(alloc, 7, &a, Mode::Shared, 3, 0)?;
+    assert!(rt; starts(alloc, &locks)?.as_slice() == [3, 2, 1].as_slice());
     Ok(())
 }

@@ -10,8 +10,9 @@ ghost use Rattle.tq_node.specs.Cases.{IsOnlyStep, IsStep};
 
 use crate::{CitedVote, HeldLock, NodeAsk, NodeRefusal, NodeReply, Verdict, WorkAsk};
 use std::alloc::Global;
+use std::collections::btree_map::Iter;
 use std::marker::Model;
-use tq_intents::{Intents, KeptLock, Record};
+use tq_intents::{Intents, KeptLock, OpenVote, Record};
 use tq_locks::{LockEntry, LockTable, Mode};
 use tq_shape::{Levels, Memory, Seq, ServerId};
 use tq_store::{Content, Copies, FileName, Write};
@@ -72,6 +73,42 @@ impl Node {
         ensures kept { IsKept self.now.state }
     {
         self.intents.stable()
+    }
+
+    /// The server of the tree that it is.
+    pub fn server(&self) -> ServerId
+        ensures levels { result.levels ≡ self.now.levels }
+        ensures number { result.number ≡ self.now.server }
+    {
+        self.server
+    }
+
+    /// Whether it is down.
+    pub fn is_down(&self) -> bool
+        ensures { result ≡ self.now.state.records.down }
+    {
+        self.down
+    }
+
+    /// Its copies, which go through a crash.
+    pub fn copies(&self) -> &Copies
+        ensures { result.now.files ≡ self.now.state.records.copies }
+    {
+        &self.copies
+    }
+
+    /// The locks held at it.
+    pub fn locks(&self) -> &LockTable
+        ensures { result.now ≡ self.now.state.records.locks }
+    {
+        &self.locks
+    }
+
+    /// The open votes, ascending by transaction.
+    pub fn votes(&self) -> Iter<'_, u64, OpenVote>
+        ensures { result ≡ fin.entries self.now.state.records.votes }
+    {
+        self.intents.votes()
     }
 
     /// The number of the last ask answered, 0 at first.

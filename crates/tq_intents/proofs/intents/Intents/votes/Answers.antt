@@ -1,0 +1,16 @@
+use Rattle.std.proofs.Common.{ap, sym, ◌∙◌}
+use Rattle.std.specs.Cmp.{nat_cmp_total}
+use Rattle.std.specs.FinMap as fin
+use Rattle.std.specs.FinMap.{nat_cmp-IsAntisymmetric, same_map}
+use Rattle.std.specs.Ordering.{nat_cmp}
+use Rattle.tq_locks.proofs.Ordered.{entries-from_ordered, get_entry}
+use Rattle.tq_intents.specs.Kept.{kept_votes}
+use Rattle.tq_intents.proofs.intents.Intents.votes.Goals as goal
+
+pub returns : goal.returns
+returns c =
+    let entries = c.self.inside.open_votes.entries in
+    c.iter.ensures.rest
+    ∙ sym (entries-from_ordered nat_cmp_total nat_cmp-IsAntisymmetric entries c.iter.ensures.ordered)
+    ∙ ap fin.entries (same_map nat_cmp_total nat_cmp-IsAntisymmetric (fin.from_entries {R = nat_cmp} entries) (kept_votes c.self.inside.records.items) (λ q. get_entry nat_cmp_total entries q ∙ c.self.invariant.each q))
+    ∙ ap (λ v. fin.entries (kept_votes v.records)) c.self.view_is
