@@ -7,10 +7,11 @@ use Rattle.tq_txn.specs.declared.asker.Heard.{Heard}
 use Rattle.tq_txn.specs.declared.fault.LineFault.{LineFault}
 use Rattle.tq_txn.specs.declared.txn.Txn.{Txn}
 use Rattle.tq_txn.specs.declared.txn.Txn.TheVariants as states
-use Rattle.tq_txn.specs.Aborts.{number_of, resolved, ending_of, abort_end, abort_line}
+use Rattle.tq_txn.specs.Aborts.{resolved, ending_of, abort_end, abort_line}
 use Rattle.tq_txn.specs.Ended.{EndedView}
 use Rattle.tq_txn.specs.Line.{Went, done, ended_by, desk_line}
 use Rattle.tq_txn.specs.Lines.{ending_line}
+use Rattle.tq_txn.specs.States.{number_of}
 use Rattle.tq_txn.proofs.LineLaws.{went_end, went_on, went_off}
 
 module _ (ended : EndedView) (ids : List Server) (numbers : numbers_of ids ≡ ended.servers) (told after : List Heard) where

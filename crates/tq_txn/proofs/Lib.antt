@@ -5,6 +5,7 @@ pub mod GoodGrants
 pub mod GoodOps
 pub mod GoodVotes
 pub mod GoodEvidence
+pub mod CitedLaws
 pub mod LineLaws
 pub mod CommitLaws
 pub mod AbortLaws

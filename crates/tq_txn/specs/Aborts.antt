@@ -16,17 +16,7 @@ use Rattle.tq_txn.specs.declared.txn.Txn.{Txn}
 use Rattle.tq_txn.specs.declared.txn.Txn.TheVariants as states
 use Rattle.tq_txn.specs.Ended.{EndedView, verdict_in, ended_with}
 use Rattle.tq_txn.specs.Open.{OpenView}
-
-abbrev pub number_of : Txn → ℕ
-number_of (states.Open old) = old.txn
-number_of (states.Voting old) = old.txn.txn
-number_of (states.Ended old) = old.txn
-
--- the levels of the tree whose servers the transaction asks
-abbrev pub levels_of : Txn → ℕ
-levels_of (states.Open old) = old.levels
-levels_of (states.Voting old) = old.txn.levels
-levels_of (states.Ended old) = old.levels
+use Rattle.tq_txn.specs.States.{number_of}
 
 -- a verdict ends the transaction; with none it is as before
 abbrev pub resolved_by : Txn → OpenView → ℕ → Option Verdict → Txn

@@ -62,9 +62,3 @@ decide_and_end_line old = and_then (decide_line old) (λ txn. txn) (λ serial tx
 -- the votes still missing, the commit at the desk, and then the ending
 abbrev pub commit_line : VotingView → Line (LineEnd ℕ Txn)
 commit_line old = and_then (prepares_line old.txn.voters old) (λ new. states.Voting new) (λ all new. decide_and_end_line new)
-
--- the transaction asks servers of a tree of these levels
-abbrev pub IsOfTree : Txn → ℕ → Type 0
-IsOfTree (states.Open old) levels = old.levels ≡ levels
-IsOfTree (states.Voting old) levels = old.txn.levels ≡ levels
-IsOfTree (states.Ended old) levels = old.levels ≡ levels

@@ -38,17 +38,17 @@ pub record OpenView : Type 0 where
 abbrev pub opening : ℕ → LimitsView → ℕ → OpenView
 opening levels limits txn = record { levels = levels; limits = limits; txn = txn; ops = []; voters = []; touched = [] }
 
+-- the servers of the operations are the voters, and no other
+abbrev pub HasVoters : OpenView → Type 0
+HasVoters old = (server : ℕ) → has old.voters server ≡ is_server_of old.ops server
+
 -- what an open transaction keeps: operations that are good evidence as far as they go
 pub record IsOpen (open_txn : OpenView) : Type 0 where
   pub rise : ops_rise open_txn.ops ≡ true
   pub quorums : are_quorums open_txn.levels open_txn.ops ≡ true
   pub exclusive : are_exclusive open_txn.ops ≡ true
   pub versions : are_versions open_txn.ops ≡ true
-  pub voters : (server : ℕ) → has open_txn.voters server ≡ is_server_of open_txn.ops server
-
--- the servers of the operations are the voters, and no other
-abbrev pub HasVoters : OpenView → Type 0
-HasVoters old = (server : ℕ) → has old.voters server ≡ is_server_of old.ops server
+  pub voters : HasVoters open_txn
 
 abbrev pub has_all_ops : OpenView → Bool
 has_all_ops old = nat_le old.limits.ops (length old.ops)

@@ -1,6 +1,7 @@
 ghost use Rattle.std.specs.Prelude.{◌≡◌, IfOk, IfErr};
 ghost use Rattle.tq_txn.specs.Aborts as spec;
 ghost use Rattle.tq_txn.specs.Line as line;
+ghost use Rattle.tq_txn.specs.States as states;
 
 use crate::asks::ask_desk;
 use crate::endings::end_at_each;
@@ -10,21 +11,10 @@ use tq_desk::{DeskAsk, DeskRefusal, DeskReply};
 use tq_node::Verdict;
 use tq_shape::Part;
 
-/// The number of a transaction.
-fn number_of(txn: &Txn) -> u64
-    ensures { result ≡ spec.number_of txn.now }
-{
-    match txn {
-        Txn::Open(open) => open.txn(),
-        Txn::Voting(voting) => voting.txn().txn(),
-        Txn::Ended(ended) => ended.txn(),
-    }
-}
-
 /// The open transaction after the desk's answer. Out of memory hands it back.
 fn resolved_open(alloc: Global, txn: Open, told: &DeskTold) -> Result<Txn, Txn>
     ensures ok { IfOk result (λ new. new ≡ spec.resolved (Txn.Open txn) told.now) }
-    ensures tree { IfOk result (λ new. spec.levels_of new ≡ txn.levels) }
+    ensures tree { IfOk result (λ new. states.levels_of new ≡ txn.levels) }
     ensures err { IfErr result (λ new. new ≡ Txn.Open txn) }
 {
     match txn.end(alloc, told) {
@@ -39,7 +29,7 @@ fn resolved_open(alloc: Global, txn: Open, told: &DeskTold) -> Result<Txn, Txn>
 /// The transaction that gathers votes after the desk's answer. Out of memory hands it back.
 fn resolved_voting(alloc: Global, voting: Voting, told: &DeskTold) -> Result<Txn, Txn>
     ensures ok { IfOk result (λ txn. txn ≡ spec.resolved (Txn.Voting voting) told.now) }
-    ensures tree { IfOk result (λ new. spec.levels_of new ≡ voting.txn.levels) }
+    ensures tree { IfOk result (λ new. states.levels_of new ≡ voting.txn.levels) }
     ensures err { IfErr result (λ txn. txn ≡ Txn.Voting voting) }
 {
     match voting.end(alloc, told) {
@@ -54,7 +44,7 @@ fn resolved_voting(alloc: Global, voting: Voting, told: &DeskTold) -> Result<Txn
 /// The transaction after the desk's answer. Out of memory hands it back.
 fn resolved(alloc: Global, txn: Txn, told: &DeskTold) -> Result<Txn, Txn>
     ensures ok { IfOk result (λ new. new ≡ spec.resolved txn told.now) }
-    ensures tree { IfOk result (λ new. spec.levels_of new ≡ spec.levels_of txn) }
+    ensures tree { IfOk result (λ new. states.levels_of new ≡ states.levels_of txn) }
     ensures err { IfErr result (λ new. new ≡ txn) }
 {
     match txn {
@@ -95,7 +85,7 @@ fn end_aborted<A: Asker>(asker: &mut A, alloc: Global, ended: Ended) -> Abortion
 
 /// The ending, where the desk's answer is an abort.
 fn end_where_aborted<A: Asker>(asker: &mut A, alloc: Global, reply: DeskReply, txn: Txn) -> Abortion
-    requires { spec.levels_of txn ≡ A.levels asker.old }
+    requires { states.levels_of txn ≡ A.levels asker.old }
     ensures asks { line.Went (spec.abort_end reply txn) (A.told asker.old) (A.told asker.new) (line.ended_by result.answer result.txn) }
     ensures tree { A.levels asker.new ≡ A.levels asker.old }
 {
@@ -130,11 +120,11 @@ fn is_abort(reply: &DeskReply) -> bool
 /// Aborts a transaction at the desk, and then ends it at the servers that granted it a lock. One that committed is
 /// answered with its verdict, and has no ending.
 pub fn abort<A: Asker>(asker: &mut A, alloc: Global, txn: Txn) -> Abortion
-    requires { spec.levels_of txn ≡ A.levels asker.old }
+    requires { states.levels_of txn ≡ A.levels asker.old }
     ensures asks { line.Went (spec.abort_line txn) (A.told asker.old) (A.told asker.new) (line.ended_by result.answer result.txn) }
     ensures tree { A.levels asker.new ≡ A.levels asker.old }
 {
-    let number = number_of(&txn);
+    let number = txn.number();
     match ask_desk(asker, alloc, DeskAsk::Resolve { txn: number }) {
         Ok(told) => resolve_and_end(asker, alloc, txn, told),
         Err(fault) => Abortion {
@@ -146,7 +136,7 @@ pub fn abort<A: Asker>(asker: &mut A, alloc: Global, txn: Txn) -> Abortion
 
 /// The transaction after the desk's answer, and the ending, where that is an abort.
 fn resolve_and_end<A: Asker>(asker: &mut A, alloc: Global, txn: Txn, told: DeskTold) -> Abortion
-    requires { spec.levels_of txn ≡ A.levels asker.old }
+    requires { states.levels_of txn ≡ A.levels asker.old }
     ensures asks { line.Went (spec.abort_end told.reply (spec.resolved txn told)) (A.told asker.old) (A.told asker.new) (line.ended_by result.answer result.txn) }
     ensures tree { A.levels asker.new ≡ A.levels asker.old }
 {

@@ -2,6 +2,7 @@ ghost use Rattle.std.specs.Prelude.{◌≡◌, ◌++◌, IfOk};
 
 use crate::{DeskTold, NodeTold};
 use std::alloc::Global;
+use thiserror::Error;
 use tq_desk::{DeskAsk, DeskReply};
 use tq_live::{ViewAsk, ViewReply};
 use tq_node::{NodeAsk, NodeReply};
@@ -16,12 +17,15 @@ pub struct ViewTold {
 }
 
 /// Why an ask has no answer.
-#[derive(Clone, Copy, Debug, PartialEq, Eq)]
+#[derive(Clone, Copy, Debug, PartialEq, Eq, Error)]
 pub enum AskFault {
+    #[error("out of memory")]
     Memory,
     /// The part's journal has as many entries as it may.
+    #[error("the journal is full: {part:?}")]
     JournalFull { part: Part },
     /// The ask cites an entry that does not stand there.
+    #[error("there is no such entry {number}: {part:?}")]
     Unfounded { part: Part, number: u64 },
 }
 

@@ -3,6 +3,7 @@ ghost use Rattle.std.specs.List.{list_all};
 ghost use Rattle.tq_coterie.specs.Coterie.{numbers_of};
 ghost use Rattle.tq_txn.specs.Commits as spec;
 ghost use Rattle.tq_txn.specs.Line as line;
+ghost use Rattle.tq_txn.specs.States as states;
 
 use crate::asks::ask_desk;
 use crate::endings::{end_at_each, prepare_at};
@@ -46,7 +47,7 @@ fn committed(reply: DeskReply) -> Result<u64, LineFault>
 /// The transaction after the desk's answer to its commit.
 fn decided(alloc: Global, ready: Ready, told: DeskTold) -> Decision
     ensures decision { spec.IsDecision ready told result.answer result.txn }
-    ensures levels { spec.IsOfTree result.txn ready.txn.levels }
+    ensures levels { states.levels_of result.txn ≡ ready.txn.levels }
 {
     match ready.end(alloc, &told) {
         Ok(ended) => Decision {
@@ -76,7 +77,7 @@ fn undecided(reply: DeskReply, ready: Ready, fault: TxnFault) -> Decision
 /// where the desk said how it ended before.
 pub fn decide<A: Asker>(asker: &mut A, alloc: Global, voting: Voting) -> Decision
     ensures asks { line.Went (spec.decide_line voting) (A.told asker.old) (A.told asker.new) (line.ended_by result.answer result.txn) }
-    ensures levels { spec.IsOfTree result.txn voting.txn.levels }
+    ensures levels { states.levels_of result.txn ≡ voting.txn.levels }
     ensures tree { A.levels asker.new ≡ A.levels asker.old }
 {
     match voting.ready() {
@@ -91,7 +92,7 @@ pub fn decide<A: Asker>(asker: &mut A, alloc: Global, voting: Voting) -> Decisio
 /// Asks the desk for the commit.
 fn decide_ready<A: Asker>(asker: &mut A, alloc: Global, ready: Ready) -> Decision
     ensures asks { line.Went (spec.ready_line ready) (A.told asker.old) (A.told asker.new) (line.ended_by result.answer result.txn) }
-    ensures levels { spec.IsOfTree result.txn ready.txn.levels }
+    ensures levels { states.levels_of result.txn ≡ ready.txn.levels }
     ensures tree { A.levels asker.new ≡ A.levels asker.old }
 {
     let ask = match ready.evidence(alloc) {
@@ -161,7 +162,7 @@ fn decide_and_end<A: Asker>(asker: &mut A, alloc: Global, voting: Voting) -> Dec
 
 /// The ending of a transaction that committed.
 fn end_committed<A: Asker>(asker: &mut A, alloc: Global, serial: u64, txn: Txn) -> Decision
-    requires { spec.IsOfTree txn (A.levels asker.old) }
+    requires { states.levels_of txn ≡ A.levels asker.old }
     ensures asks { line.Went (spec.commit_end serial txn) (A.told asker.old) (A.told asker.new) (line.ended_by result.answer result.txn) }
     ensures tree { A.levels asker.new ≡ A.levels asker.old }
 {

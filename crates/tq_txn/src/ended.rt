@@ -52,6 +52,13 @@ impl Ended {
         }
     }
 
+    /// The levels of the tree whose servers it asked.
+    pub fn levels(&self) -> Levels
+        ensures { result ≡ self.now.levels }
+    {
+        self.levels
+    }
+
     /// The number of the transaction.
     pub fn txn(&self) -> u64
         ensures { result ≡ self.now.txn }

@@ -58,16 +58,24 @@ impl<T: Drop> From<AllocFailed<T>> for TxnFault {
 }
 
 /// Why a line ended before its end.
-#[derive(Drop)]
+#[derive(Debug, Drop, PartialEq, Error)]
 pub enum LineFault {
+    #[error("out of memory")]
     Memory,
+    #[error("the journal is full: {part:?}")]
     JournalFull { part: Part },
+    #[error("there is no such entry {number}: {part:?}")]
     Unfounded { part: Part, number: u64 },
+    #[error("{0}")]
     Txn(TxnFault),
+    #[error("server {server} refused: {refusal:?}")]
     Server { server: u64, refusal: NodeRefusal },
+    #[error("the desk refused: {0:?}")]
     Desk(DeskRefusal),
+    #[error("the view refused: {0:?}")]
     View(ViewRefusal),
     /// The part gave a reply of another kind than the ask has.
+    #[error("a reply of another kind than the ask has: {part:?}")]
     WrongReply { part: Part },
 }
 

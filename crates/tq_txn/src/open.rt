@@ -1,4 +1,4 @@
-ghost use Rattle.std.specs.Prelude.{◌≡◌, ◌+◌, ◌<◌, ◌≤◌, [], None, Some, true, length, position, IfOk, IfErr, IfSome, IsSome, OnOk, OnErr, MatchOption, false};
+ghost use Rattle.std.specs.Prelude.{◌≡◌, ◌+◌, ◌<◌, ◌≤◌, ◌++◌, List, [], None, Some, true, length, position, IfOk, IfErr, IfSome, IsSome, OnOk, OnErr, MatchOption, false};
 ghost use Rattle.std.specs.List.{find};
 ghost use Rattle.std.specs.Option.{option_copied};
 ghost use Rattle.std.specs.Ordering.{is_lt};
@@ -7,6 +7,7 @@ ghost use Rattle.tq_coterie.specs.Coterie.{numbers_of};
 ghost use Rattle.tq_desk.specs.Evidence as evidence;
 ghost use Rattle.tq_txn.specs.Places.{place_before};
 ghost use Rattle.tq_txn.specs.Sets as sets;
+ghost use Rattle.tq_txn.specs.Cited.{KeepsOnly, VotesOnly};
 ghost use Rattle.tq_txn.specs.Ended as ending;
 ghost use Rattle.tq_txn.specs.Open as spec;
 ghost use Rattle.tq_txn.specs.Voting as voting;
@@ -67,7 +68,8 @@ struct Granted {
 impl Open {
     /// A transaction that did nothing yet. It takes no memory yet.
     pub fn new(alloc: Global, levels: Levels, limits: Limits, txn: u64) -> Open
-        ensures { result ≡ spec.opening levels limits txn }
+        ensures value { result ≡ spec.opening levels limits txn }
+        ensures cited { KeepsOnly [] result }
     {
         Open {
             levels,
@@ -153,6 +155,7 @@ impl Open {
     pub fn touch(&mut self, _alloc: Global, server: ServerId) -> Result<(), Memory>
         requires { server.levels ≡ self.old.levels }
         ensures ok { OnOk result (self.new ≡ spec.touched_by self.old server.number) }
+        ensures cited { (told : List NodeTold) → KeepsOnly told self.old → KeepsOnly told self.new }
         ensures levels { self.new.levels ≡ self.old.levels }
         ensures err { OnErr result (self.new ≡ self.old) }
     {
@@ -170,6 +173,7 @@ impl Open {
         ensures succeeds { IfOk result (λ copy. spec.read_fault self.old file.now answers.now ≡ None) }
         ensures value { IfOk result (λ copy. copy ≡ spec.read_copy (spec.grants_of OpKind.Read self.old.txn file.now answers.now)) }
         ensures after { OnOk result (self.new ≡ spec.read_after self.old file.now answers.now) }
+        ensures cited { OnOk result ((told : List NodeTold) → KeepsOnly told self.old → KeepsOnly (told ++ answers.now) self.new) }
         ensures fault { IfErr result (λ fault. spec.ComesOf (spec.read_fault self.old file.now answers.now) fault) }
         ensures err { OnErr result (self.new ≡ self.old) }
     {
@@ -202,6 +206,7 @@ impl Open {
         ensures succeeds { IfOk result (λ version. spec.write_fault self.old file.now answers.now ≡ None) }
         ensures value { IfOk result (λ version. version ≡ evidence.greatest (spec.grants_of OpKind.Write self.old.txn file.now answers.now) + 1) }
         ensures after { OnOk result (self.new ≡ spec.write_after self.old file.now content answers.now) }
+        ensures cited { OnOk result ((told : List NodeTold) → KeepsOnly told self.old → KeepsOnly (told ++ answers.now) self.new) }
         ensures fault { IfErr result (λ fault. spec.ComesOf (spec.write_fault self.old file.now answers.now) fault) }
         ensures err { OnErr result (self.new ≡ self.old) }
     {
@@ -226,7 +231,8 @@ impl Open {
     /// Replaces the content that the transaction writes to a file. It takes no memory.
     pub fn rewrite(&mut self, file: &FileName, content: Content)
         requires { IsSome (spec.written self.old file.now) }
-        ensures { self.new ≡ spec.rewritten self.old file.now content }
+        ensures after { self.new ≡ spec.rewritten self.old file.now content }
+        ensures cited { (told : List NodeTold) → KeepsOnly told self.old → KeepsOnly told self.new }
     {
         rewrite_in(&mut self.ops, file, content);
     }
@@ -234,6 +240,7 @@ impl Open {
     /// Ends the reading and writing, if there was any. It takes no memory.
     pub fn close(self) -> Result<Voting, (Open, TxnFault)>
         ensures succeeds { IfOk result (λ open_votes. (spec.close_fault self ≡ None) × (open_votes ≡ voting.closed self)) }
+        ensures cited { IfOk result (λ closed. (told : List NodeTold) → KeepsOnly told self → VotesOnly told closed) }
         ensures fault { IfErr result (λ back. (back.0 ≡ self) × (spec.close_fault self ≡ Some back.1)) }
     {
         if self.ops.is_empty() {
@@ -339,7 +346,8 @@ fn quorum_of(alloc: Global, levels: Levels, grants: &[Grant]) -> Result<Option<Q
     Ok(found)
 }
 
-fn is_write(op: &Op) -> bool
+/// Whether the operation is a write.
+pub(crate) fn is_write(op: &Op) -> bool
     ensures { result ≡ evidence.is_write op.now }
 {
     match op.kind {

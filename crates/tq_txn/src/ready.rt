@@ -1,10 +1,11 @@
-ghost use Rattle.std.specs.Prelude.{◌≡◌, IfOk, IfErr, None, true};
+ghost use Rattle.std.specs.Prelude.{◌≡◌, List, IfOk, IfErr, None, true};
 ghost use Rattle.tq_desk.specs.Evidence as evidence;
+ghost use Rattle.tq_txn.specs.Cited.{CitesOnly, VotesOnly};
 ghost use Rattle.tq_txn.specs.Ended as ending;
 ghost use Rattle.tq_txn.specs.Open as open_spec;
 ghost use Rattle.tq_txn.specs.Voting as spec;
 
-use crate::{DeskTold, Ended, TxnFault, Voting};
+use crate::{DeskTold, Ended, NodeTold, TxnFault, Voting};
 use std::alloc::Global;
 use std::marker::Model;
 use tq_desk::DeskAsk;
@@ -53,6 +54,7 @@ impl Ready {
     /// The commit to ask the desk for: its evidence is good, and cites only what the transaction was told.
     pub fn evidence(&self, _alloc: Global) -> Result<DeskAsk, Memory>
         ensures value { IfOk result (λ ask. ask ≡ spec.evidence_of self.now) }
+        ensures cited { IfOk result (λ ask. (told : List NodeTold) → VotesOnly told self.now → CitesOnly told ask) }
         ensures good { evidence.IsGood self.now.txn.levels self.now.txn.ops self.now.votes }
     {
         let txn = self.voting.txn();

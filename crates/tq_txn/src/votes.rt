@@ -7,8 +7,9 @@ ghost use Rattle.tq_txn.specs.Places as places;
 ghost use Rattle.tq_txn.specs.Voting as spec;
 
 use crate::NodeTold;
+use crate::open::is_write;
 use std::alloc::Global;
-use tq_desk::{Grant, Op, OpKind, Vote};
+use tq_desk::{Grant, Op, Vote};
 use tq_node::{NodeAsk, NodeReply, WorkAsk};
 use tq_shape::{Memory, Seq, ServerId};
 use tq_store::{FileName, Write};
@@ -35,15 +36,6 @@ pub(crate) fn vote_of(txn: u64, told: &NodeTold) -> Result<Option<Vote>, Memory>
         held,
         writes,
     }))
-}
-
-fn is_write(op: &Op) -> bool
-    ensures { result ≡ evidence.is_write op.now }
-{
-    match op.kind {
-        OpKind::Read => false,
-        OpKind::Write => true,
-    }
 }
 
 /// Whether a server granted a lock to the operation.

@@ -1,6 +1,7 @@
-ghost use Rattle.std.specs.Prelude.{◌≡◌, ◌<◌, true, None, Some, IfOk, IfErr, OnOk, OnErr};
+ghost use Rattle.std.specs.Prelude.{◌≡◌, ◌<◌, ◌++◌, List, [], ◌∷◌, true, None, Some, IfOk, IfErr, OnOk, OnErr};
 ghost use Rattle.tq_coterie.specs.Coterie.{numbers_of};
 ghost use Rattle.tq_desk.specs.Evidence as evidence;
+ghost use Rattle.tq_txn.specs.Cited.{VotesOnly};
 ghost use Rattle.tq_txn.specs.Ended as ending;
 ghost use Rattle.tq_txn.specs.Open as open_spec;
 ghost use Rattle.tq_txn.specs.Sets as sets;
@@ -96,6 +97,7 @@ impl Voting {
     pub fn vote(&mut self, _alloc: Global, told: &NodeTold) -> Result<(), TxnFault>
         ensures succeeds { IfOk result (λ done. spec.vote_fault self.old told.now ≡ None) }
         ensures after { OnOk result (self.new ≡ spec.vote_after self.old told.now) }
+        ensures cited { OnOk result ((before : List NodeTold) → VotesOnly before self.old → VotesOnly (before ++ told.now ∷ []) self.new) }
         ensures txn { self.new.txn ≡ self.old.txn }
         ensures fault { IfErr result (λ fault. open_spec.ComesOf (spec.vote_fault self.old told.now) fault) }
         ensures err { OnErr result (self.new ≡ self.old) }

@@ -1,5 +1,6 @@
-use Rattle.std.proofs.Common.{subst}
+use Rattle.std.proofs.Common.{subst, ◌∙◌, ap}
 use Rattle.tq_txn.specs.Open.{OpenView, IsOpen}
+use Rattle.tq_txn.proofs.CitedLaws.{evidence_cited}
 use Rattle.tq_txn.proofs.GoodEvidence.{good_evidence}
 use Rattle.tq_txn.proofs.ready.Ready.evidence.Goals as goal
 
@@ -17,3 +18,8 @@ pub returns-clause-good : goal.returns-clause-good
 returns-clause-good c =
     let P : OpenView → Type 0 = λ v. IsOpen v in
     rw (← c.self.view_is) (good_evidence c.self.inside.voting (subst P c.txn-txn.ensures c.ops-ops.ensures.good) c.votes-votes.ensures.good c.self.invariant)
+
+pub returns-clause-cited : goal.returns-clause-cited
+returns-clause-cited c =
+    rw (← c.self.view_is)
+    (evidence_cited c.self.inside.voting c.txn.result c.in_ok-ops.ops c.in_ok-votes.votes (c.txn.ensures ∙ ap (λ (v : OpenView). v.txn) c.txn-txn.ensures) (c.in_ok-ops.ensures ∙ ap (λ (v : OpenView). v.ops) c.txn-txn.ensures) c.in_ok-votes.ensures)
