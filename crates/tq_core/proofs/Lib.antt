@@ -10,3 +10,4 @@ pub mod Contents
 pub mod Journaled
 pub mod ReadsOfRun
 pub mod Offers
+pub mod Legal

@@ -30,6 +30,7 @@ use Rattle.tq_live.specs.declared.view.ViewAsk.TheVariants.{SetCost, Mark, Choos
 use Rattle.tq_live.specs.declared.view.ViewReply.TheVariants.{CostSet, Marked, Refused}
 use Rattle.tq_live.specs.declared.view.ViewRefusal.TheVariants.{NoSuchServer, BadCost}
 use Rattle.tq_live.proofs.Journal.{journal_step}
+use Rattle.tq_tables.proofs.Replayed.{nodes_at-push, answered-push, begun-bound, desk-push}
 use Rattle.tq_tables.specs.Journals.{JournalsView, IsOfTree, ServerEntry, EntryOfDesk, EntryOfView}
 use Rattle.tq_core.specs.declared.answer.Answer.{Answer}
 use Rattle.tq_core.specs.declared.answer.Reply.TheVariants as replies
@@ -101,14 +102,6 @@ nodes_at-set levels first (x ∷ servers) (suc place) entries =
     ap (λ (n : ℕ). node_after_all levels first x ∷ set (nodes_at levels (first + 1) servers) place (node_after_all levels n entries)) (omega arith)
     ∙ ap (λ rest. node_after_all levels first x ∷ rest) (nodes_at-set levels (first + 1) servers place entries)
 
-pub nodes_at-push : (levels first : ℕ) (servers : List (List ServerEntry)) (entries : List ServerEntry)
-    → nodes_at levels first (servers ++ entries ∷ []) ≡ nodes_at levels first servers ++ node_after_all levels (first + length servers) entries ∷ []
-nodes_at-push levels first [] entries = ap (λ (n : ℕ). node_after_all levels n entries ∷ []) (omega arith)
-nodes_at-push levels first (x ∷ servers) entries =
-    ap (λ rest. node_after_all levels first x ∷ rest)
-    (nodes_at-push levels (first + 1) servers entries
-    ∙ ap (λ (n : ℕ). nodes_at levels (first + 1) servers ++ node_after_all levels n entries ∷ []) (omega arith))
-
 pub length-nodes_at : (levels first : ℕ) (servers : List (List ServerEntry)) → length (nodes_at levels first servers) ≡ length servers
 length-nodes_at levels first [] = refl
 length-nodes_at levels first (x ∷ servers) = ap (λ (n : ℕ). suc n) (length-nodes_at levels (first + 1) servers)
@@ -121,38 +114,6 @@ slice_get-nodes_at levels first (x ∷ servers) zero entries is =
     ap (λ e. Some (node_after_all levels first e)) same ∙ ap (λ (n : ℕ). Some (node_after_all levels n entries)) (omega arith)
 slice_get-nodes_at levels first (x ∷ servers) (suc place) entries is =
     slice_get-nodes_at levels (first + 1) servers place entries is ∙ ap (λ (n : ℕ). Some (node_after_all levels n entries)) (omega arith)
-
--- a server after one entry more
-answered-push : (levels server : ℕ) (entries : List ServerEntry) (e : ServerEntry)
-    → answered (node_after_all levels server entries) (suc (length entries)) e.ask ≡ node_after_all levels server (entries ++ e ∷ [])
-answered-push levels server entries e =
-    let state : node_at server (entries ++ e ∷ []) ≡ node_after server (node_at server entries) (suc (length entries)) e.ask =
-    state-push (λ old number ask. node_reply server old ask) (node_after server) (node.opening 0 server).state entries e in
-    let count : length (entries ++ e ∷ []) ≡ suc (length entries) = length_push entries e ∙ omega arith in
-    ap (λ (s : NodeState). let v : NodeView = record { levels = levels; server = server; state = s; last = suc (length entries) } in v) (sym state)
-    ∙ ap (λ (n : ℕ). let v : NodeView = record { levels = levels; server = server; state = node_at server (entries ++ e ∷ []); last = n } in v) (sym count)
-
--- ---- the desk
-
-begun_step : (refused : Option DeskRefusal) (old : DeskView) (ask : DeskAsk) → (state_at refused old (desk_answered old ask)).begun ≤ old.begun + 1
-begun_step None old desk_asks.Begin = omega arith
-begun_step None old (desk_asks.Resolve txn) = omega arith
-begun_step None old (desk_asks.Commit txn ops votes) = omega arith
-begun_step (Some reason) old ask = omega arith
-
-begun_from : (s : DeskView) (n : ℕ) (entries : List EntryOfDesk) → (state_from (λ old number ask. desk_after old ask) s n entries).begun ≤ s.begun + length entries
-begun_from s n [] = omega arith
-begun_from s n (e ∷ entries) =
-    let one = begun_step (desk_refusal s e.ask) s e.ask in
-    let rest = begun_from (desk_after s e.ask) (n + 1) entries in
-    omega arith
-
--- there are no more transactions than entries
-pub begun-bound : (levels : ℕ) (limits : LimitsView) (entries : List EntryOfDesk) → (desk_at levels limits entries).begun ≤ length entries
-begun-bound levels limits entries = let b = begun_from (desk.opening levels limits) 1 entries in omega arith
-
-desk-push : (levels : ℕ) (limits : LimitsView) (entries : List EntryOfDesk) (e : EntryOfDesk) → desk_at levels limits (entries ++ e ∷ []) ≡ desk_after (desk_at levels limits entries) e.ask
-desk-push levels limits entries e = state-push (λ old number ask. desk_reply old ask) (λ old number ask. desk_after old ask) (desk.opening levels limits) entries e
 
 -- ---- the view
 

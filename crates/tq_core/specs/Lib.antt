@@ -7,3 +7,4 @@ pub mod Service
 pub mod CommittedReads
 pub mod JournalOf
 pub mod Offered
+pub mod Headline

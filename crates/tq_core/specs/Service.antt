@@ -1,20 +1,13 @@
 -- What a service keeps: journals, and each part where its journal leaves it.
-use Rattle.std.specs.Prelude.{◌≡◌, ◌+◌, ℕ, List, [], ◌∷◌, length}
+use Rattle.std.specs.Prelude.{◌≡◌, List}
 use Rattle.tq_node.specs.Node.{NodeView}
 use Rattle.tq_desk.specs.Log.{DeskView}
 use Rattle.tq_live.specs.Live.{Live}
-use Rattle.tq_tables.specs.Journals.{JournalsView, AreJournals, ServerEntry}
+use Rattle.tq_tables.specs.Journals.{JournalsView, AreJournals}
+pub use Rattle.tq_tables.specs.Parts.{node_after_all, nodes_at}
 use Rattle.tq_core.specs.declared.answer.Step.{Step}
-use Rattle.tq_core.specs.World.{node_at, desk_at, view_at}
+use Rattle.tq_core.specs.World.{desk_at, view_at}
 use Rattle.tq_core.specs.Steps.{run}
-
-abbrev pub node_after_all : ℕ → ℕ → List ServerEntry → NodeView
-node_after_all levels server entries = record { levels = levels; server = server; state = node_at server entries; last = length entries }
-
--- the servers of a tree after their journals, upwards from the first
-abbrev pub nodes_at : ℕ → ℕ → List (List ServerEntry) → List NodeView
-nodes_at levels first [] = []
-nodes_at levels first (entries ∷ rest) = node_after_all levels first entries ∷ nodes_at levels (first + 1) rest
 
 -- the journals are those of a list of steps
 abbrev pub IsOfRun : JournalsView → Type 0

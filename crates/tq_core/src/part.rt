@@ -14,6 +14,17 @@ use tq_node::{Node, NodeAsk};
 use tq_shape::{Entry, Memory};
 use tq_tables::{DeskEntry, NodeEntry, ViewEntry};
 
+/// Servers equal to these, with memory of their own.
+pub(crate) fn copy_nodes(alloc: Global, nodes: &[Node]) -> Result<Vec<Node>, Memory>
+    ensures { IfOk result (λ copies. copies.items ≡ nodes.now) }
+{
+    let mut copies = Vec::new(alloc);
+    for node in nodes {
+        copies.push(node.copy(alloc)?)?;
+    }
+    Ok(copies)
+}
+
 /// Asks a server, and enters the ask with its reply.
 pub(crate) fn ask_node(
     alloc: Global,

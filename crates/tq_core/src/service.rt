@@ -1,7 +1,7 @@
 ghost use Rattle.std.specs.Prelude.{◌≡◌, nat_le, IfOk, OnOk, OnErr};
 ghost use Rattle.std.specs.Option.{option_copied, option_map};
 
-use crate::part::{ask_desk, ask_node, ask_view};
+use crate::part::{ask_desk, ask_node, ask_view, copy_nodes};
 use crate::unfounded::{item_at, refuse_unfounded};
 use crate::{Answer, Journal, Refusal, Step};
 use std::alloc::Global;
@@ -10,7 +10,7 @@ use tq_desk::{Desk, DeskAsk};
 use tq_live::{View, ViewAsk};
 use tq_node::{Node, NodeAsk};
 use tq_shape::{Levels, Limits, Memory, Part, ServerId};
-use tq_tables::{DeskEntry, Journals, NodeEntry, ViewEntry};
+use tq_tables::{DeskEntry, Journals, NodeEntry, Tables, ViewEntry};
 
 /// All parts of a system: its servers, its desk and its view. Each ask that a part answers is entered into the part's
 /// journal with the reply.
@@ -56,6 +56,9 @@ impl Service {
     ghost use Rattle.tq_core.specs.JournalOf as part_journals;
     ghost use Rattle.tq_core.specs.CommittedReads.{HasCommittedReads};
     ghost use Rattle.tq_core.specs.Offered.{OffersBest};
+    ghost use Rattle.tq_core.specs.Headline.{AreOffered, Headline};
+    ghost use Rattle.tq_tables.specs.Parts.{AreLegal};
+    ghost use Rattle.tq_tables.specs.Tables.{tables_of};
 
     /// A service that was asked nothing: each server is up and has stored nothing.
     pub fn new(alloc: Global, levels: Levels, limits: Limits) -> Result<Service, Memory>
@@ -88,9 +91,23 @@ impl Service {
         &self.view
     }
 
+    /// The tables, as all journals leave them.
+    pub fn tables(&self, alloc: Global) -> Result<Tables, Memory>
+        ensures value { IfOk result (λ tables. tables ≡ tables_of self.now) }
+        ensures headline { IfOk result (λ tables. Headline self.now tables) }
+    {
+        let _ = &self.levels;
+        let nodes = copy_nodes(alloc, self.nodes.as_slice())?;
+        let desk = self.desk.copy(alloc)?;
+        let view = self.view.copy(alloc)?;
+        let tables = Tables::over(alloc, nodes, desk, view, self.desk_entries.as_slice())?;
+        Ok(tables)
+    }
+
     /// The journals. It takes no memory.
     pub fn into_journals(self) -> Journals
         ensures value { result ≡ self }
+        ensures legal { AreLegal result }
         ensures committed_reads { HasCommittedReads result }
     {
         Journals::new(
@@ -245,6 +262,7 @@ impl Service {
         ensures offered { IfOk result (λ answered. OffersBest self.old step answered) }
         ensures err { OnErr result (self.new ≡ self.old) }
         ensures committed_reads { HasCommittedReads self.new }
+        ensures headline { Headline self.new (tables_of self.new) }
     {
         let _ = &self.levels;
         match step {
@@ -256,6 +274,23 @@ impl Service {
 
     /// Takes the steps, one after another. Out of memory here, no step was taken.
     pub fn run(
+        &mut self,
+        alloc: Global,
+        steps: Vec<Step>,
+    ) -> Result<Vec<Result<Answer, Refusal>>, Memory>
+        ensures told { IfOk result (λ results. spec.AreTold self.old steps.items results.items) }
+        ensures after { IfOk result (λ results. self.new ≡ spec.run_from self.old (spec.taken steps.items results.items)) }
+        ensures err { OnErr result (self.new ≡ self.old) }
+        ensures offered { IfOk result (λ results. AreOffered self.old steps.items results.items) }
+        ensures committed_reads { HasCommittedReads self.new }
+        ensures headline { Headline self.new (tables_of self.new) }
+    {
+        let _ = &self.levels;
+        let results = self.take(alloc, steps)?;
+        Ok(results)
+    }
+
+    fn take(
         &mut self,
         alloc: Global,
         steps: Vec<Step>,

@@ -1,0 +1,5 @@
+pub mod Names
+pub mod Counting
+pub mod RowLaws
+pub mod Replayed
+pub mod Whole

@@ -1,7 +1,23 @@
-//! The journals of a system: what each server, the desk and the view were asked and what they answered.
+//! The journals of a system: what each server, the desk and the view were asked and what they answered; and the tables
+//! that say how the system stands after them.
 #![tactic(auto)]
 
+mod file_names;
+mod file_row;
+mod file_rows;
+mod intent_row;
+mod intent_rows;
 mod journals;
+mod lock_row;
+mod lock_rows;
+mod quorum_rows;
+mod replay;
+mod tables;
+mod write_counts;
 
+pub use file_row::FileRow;
+pub use intent_row::{FileVersion, IntentRow, IntentState};
 pub use journals::{DeskEntry, Journals, NodeEntry, ViewEntry};
+pub use lock_row::LockRow;
+pub use tables::Tables;
 pub use tq_shape::Entry;

@@ -1,6 +1,10 @@
 use Rattle.std.proofs.Common.{sym}
+use Rattle.tq_core.proofs.Legal.{legal_run}
 use Rattle.tq_core.proofs.ReadsOfRun.{reads_of_run, seen_run}
 use Rattle.tq_core.proofs.service.Service.into_journals.Goals as goal
 
 pub returns-clause-committed_reads : goal.returns-clause-committed_reads
 returns-clause-committed_reads c = reads_of_run _ (seen_run _ _ (sym c.new.ensures) c.self.invariant.ran)
+
+pub returns-clause-legal : goal.returns-clause-legal
+returns-clause-legal c = legal_run _ (seen_run _ _ (sym c.new.ensures) c.self.invariant.ran)

@@ -1,0 +1,136 @@
+-- Rows as they are gathered, one after another.
+use Rattle.std.specs.Prelude.{reverse, sum_by, nat_le}
+use Rattle.std.proofs.Common.{◌≡◌, ℕ, zero, suc, ◌+◌, ◌≤◌, ◌<◌, Bool, true, false, cond, List, [], ◌∷◌, ◌++◌, length, map, filter, take, get_or, Option, Some, None, refl, ap, sym, subst, ◌∙◌, arith}
+use Rattle.std.specs.List.{All, flat_map}
+use Rattle.std.specs.Option.{option_map}
+use Rattle.std.proofs.lemmas.List.{append-nil, append_assoc, take_more, map-append}
+use Rattle.std.proofs.lemmas.List.Elements.{All-cons, filter-append}
+use Rattle.tq_shape.specs.ServerSet.{Servers}
+use Rattle.tq_shape.specs.Tree.{Server}
+use Rattle.tq_shape.proofs.Joined.{reverse-push}
+use Rattle.tq_coterie.specs.Coterie.{servers_of}
+use Rattle.tq_desk.specs.DeskJournal.{commits, with_commit}
+use Rattle.tq_live.specs.BestOf.{IsBestOf}
+use Rattle.tq_live.specs.Live.{Live, cost_of}
+use Rattle.tq_live.specs.View.{upwards}
+use Rattle.tq_live.specs.declared.least.Least.{Least}
+use Rattle.tq_node.specs.Node.{NodeView}
+use Rattle.tq_tables.specs.Journals.{EntryOfDesk}
+use Rattle.tq_tables.specs.Parts.{AreOfTree}
+use Rattle.tq_tables.specs.Rows.{quorum_row, row_at, servers_where}
+
+-- ---- lists
+
+pub take-next : {X : Type 0} (xs : List X) (i : ℕ) (x : X) → i < length xs → x ≡ get_or xs i x → take (i + 1) xs ≡ take i xs ++ x ∷ []
+take-next xs i x less is = take_more xs i x less ∙ ap (λ y. take i xs ++ y ∷ []) (sym is)
+
+pub flat_map-append : {X Y : Type 0} (f : X → List Y) (xs ys : List X) → flat_map f (xs ++ ys) ≡ flat_map f xs ++ flat_map f ys
+flat_map-append f [] ys = refl
+flat_map-append f (x ∷ xs) ys = ap (λ rest. f x ++ rest) (flat_map-append f xs ys) ∙ sym (append_assoc (f x) (flat_map f xs) (flat_map f ys))
+
+pub flat_map-next : {X Y : Type 0} (f : X → List Y) (xs : List X) (i : ℕ) (x : X) → i < length xs → x ≡ get_or xs i x → flat_map f (take i xs) ++ f x ≡ flat_map f (take (i + 1) xs)
+flat_map-next f xs i x less is =
+    ap (λ rest. flat_map f (take i xs) ++ rest) (sym (append-nil (f x)))
+    ∙ sym (flat_map-append f (take i xs) (x ∷ []))
+    ∙ ap (flat_map f) (sym (take-next xs i x less is))
+
+pub map-next : {X Y : Type 0} (f : X → Y) (xs : List X) (i : ℕ) (x : X) → i < length xs → x ≡ get_or xs i x → map f (take i xs) ++ f x ∷ [] ≡ map f (take (i + 1) xs)
+map-next f xs i x less is = sym (map-append f (take i xs) (x ∷ [])) ∙ ap (map f) (sym (take-next xs i x less is))
+
+-- ---- quorums
+
+pub upwards-push : (first count : ℕ) → upwards first (count + 1) ≡ upwards first count ++ (first + count) ∷ []
+upwards-push first count = ap (upwards first) (one count) ∙ by first count
+  where
+    one : (k : ℕ) → k + 1 ≡ suc k
+    one k = omega arith
+
+    by : (first count : ℕ) → upwards first (suc count) ≡ upwards first count ++ (first + count) ∷ []
+    by first zero = ap (λ (n : ℕ). n ∷ []) (omega arith)
+    by first (suc count) = ap (λ rest. first ∷ rest) (by (first + 1) count ∙ ap (λ (n : ℕ). upwards (first + 1) count ++ n ∷ []) (omega arith))
+
+pub quorum_row-is : (live : Live) (server : ℕ) (told : Option Least) → IsBestOf live server told → told ≡ quorum_row live server
+quorum_row-is live server None is = sym (ap (option_map (λ servers. record { cost = sum_by (cost_of live) servers; servers = servers_of live.levels servers })) is)
+quorum_row-is live server (Some least) is =
+    (λ i. Some (record { cost = is.2 i; servers = is.1 i }))
+    ∙ sym (ap (option_map (λ servers. record { cost = sum_by (cost_of live) servers; servers = servers_of live.levels servers })) is.0)
+
+-- ---- files
+
+-- the commits with one entry more
+pub commits-next : (entries : List EntryOfDesk) (i : ℕ) (e : EntryOfDesk) → i < length entries → e ≡ get_or entries i e
+    → with_commit e.ask e.reply (commits (reverse (take i entries))) ≡ commits (reverse (take (i + 1) entries))
+commits-next entries i e less is = ap commits (sym (ap reverse (take-next entries i e less is) ∙ reverse-push (take i entries) e))
+
+-- a server of a tree stands at its place
+pub at-place : (levels first : ℕ) (nodes : List NodeView) → AreOfTree levels first nodes → (i : ℕ) (node : NodeView) → i < length nodes → node ≡ get_or nodes i node
+    → (node.levels ≡ levels) × (node.server ≡ first + i)
+at-place levels first [] of_tree i node less is = absurd (omega (arith, less))
+at-place levels first (n ∷ nodes) of_tree zero node less is = (ap (λ (v : NodeView). v.levels) is ∙ of_tree.0.0, ap (λ (v : NodeView). v.server) is ∙ of_tree.0.1 ∙ omega arith)
+at-place levels first (n ∷ nodes) of_tree (suc i) node less is =
+    let rest = at-place levels (first + 1) nodes of_tree.1 i node (omega (arith, less)) is in
+    (rest.0, rest.1 ∙ omega arith)
+
+-- those before a place have smaller numbers
+pub below-place : (levels first bound : ℕ) (test : NodeView → Bool) (nodes : List NodeView) → AreOfTree levels first nodes → (i : ℕ) → first + i ≤ bound
+    → All (λ number. number < bound) (map (λ node. node.server) (filter test (take i nodes)))
+below-place levels first bound test [] of_tree zero within = λ k d h. absurd (omega (arith, h))
+below-place levels first bound test [] of_tree (suc i) within = λ k d h. absurd (omega (arith, h))
+below-place levels first bound test (n ∷ nodes) of_tree zero within = λ k d h. absurd (omega (arith, h))
+below-place levels first bound test (n ∷ nodes) of_tree (suc i) within = by (test n) (below-place levels (first + 1) bound test nodes of_tree.1 i (omega (arith, within)))
+  where
+    here : n.server < bound
+    here = let is = of_tree.0.1 in omega (arith, within, is)
+
+    by : (b : Bool) → All (λ number. number < bound) (map (λ node. node.server) (filter test (take i nodes)))
+        → All (λ number. number < bound) (map (λ node. node.server) (cond b (n ∷ filter test (take i nodes)) (filter test (take i nodes))))
+    by false rest = rest
+    by true rest = All-cons (λ number. number < bound) n.server (map (λ node. node.server) (filter test (take i nodes))) here rest
+
+servers_where-cases : (levels : ℕ) (test : NodeView → Bool) (nodes : List NodeView) (i : ℕ) (node : NodeView) → i < length nodes → node ≡ get_or nodes i node → (b : Bool) → test node ≡ b
+    → servers_where levels test (take (i + 1) nodes) ≡ record { levels = levels; numbers = map (λ n. n.server) (filter test (take i nodes)) ++ map (λ n. n.server) (cond b (node ∷ []) []) }
+servers_where-cases levels test nodes i node less is b passes =
+    ap (servers_where levels test) (take-next nodes i node less is)
+    ∙ ap (λ (list : List NodeView). let s : Servers = record { levels = levels; numbers = map (λ n. n.server) list } in s)
+    (filter-append test (take i nodes) (node ∷ []) ∙ ap (λ c. filter test (take i nodes) ++ cond c (node ∷ []) []) passes)
+    ∙ ap (λ (list : List ℕ). let s : Servers = record { levels = levels; numbers = list } in s) (map-append (λ n. n.server) (filter test (take i nodes)) (cond b (node ∷ []) []))
+
+-- one server more that passes, or that does not
+pub servers_where-in : (levels : ℕ) (test : NodeView → Bool) (nodes : List NodeView) (i : ℕ) (node : NodeView) → i < length nodes → node ≡ get_or nodes i node → test node ≡ true
+    → servers_where levels test (take (i + 1) nodes) ≡ record { levels = levels; numbers = map (λ n. n.server) (filter test (take i nodes)) ++ node.server ∷ [] }
+servers_where-in levels test nodes i node less is passes = servers_where-cases levels test nodes i node less is true passes
+
+pub servers_where-out : (levels : ℕ) (test : NodeView → Bool) (nodes : List NodeView) (i : ℕ) (node : NodeView) → i < length nodes → node ≡ get_or nodes i node → test node ≡ false
+    → servers_where levels test (take (i + 1) nodes) ≡ servers_where levels test (take i nodes)
+servers_where-out levels test nodes i node less is fails =
+    servers_where-cases levels test nodes i node less is false fails
+    ∙ ap (λ (list : List ℕ). let s : Servers = record { levels = levels; numbers = list } in s) (append-nil (map (λ n. n.server) (filter test (take i nodes))))
+
+-- a set of servers, as one more is put in
+module _ (levels : ℕ) (test : NodeView → Bool) (nodes : List NodeView) (i : ℕ) (node : NodeView) (less : i < length nodes) (is : node ≡ get_or nodes i node) (old new : Servers) (so_far : old ≡ servers_where levels test (take i nodes)) where
+  pub one-in : AreOfTree levels 1 nodes → test node ≡ true → (server : Server) → server.number ≡ node.server
+      → (All (λ number. number < server.number) old.numbers → new ≡ record { levels = old.levels; numbers = old.numbers ++ server.number ∷ [] })
+      → new ≡ servers_where levels test (take (i + 1) nodes)
+  one-in of_tree passes server same put =
+      let place = at-place levels 1 nodes of_tree i node less is in
+      let number : server.number ≡ 1 + i = same ∙ place.1 in
+      let below : All (λ number. number < server.number) old.numbers =
+      subst (λ (s : Servers). All (λ number. number < server.number) s.numbers) (sym so_far) (below-place levels 1 server.number test nodes of_tree i (omega (arith, number))) in
+      put below
+      ∙ (λ j. record { levels = (so_far j).levels; numbers = (so_far j).numbers ++ same j ∷ [] })
+      ∙ sym (servers_where-in levels test nodes i node less is passes)
+
+  pub none-in : test node ≡ false → new ≡ old → new ≡ servers_where levels test (take (i + 1) nodes)
+  none-in fails stays = stays ∙ so_far ∙ sym (servers_where-out levels test nodes i node less is fails)
+
+pub le-true : (a b : ℕ) → a ≤ b → nat_le a b ≡ true
+le-true a b h = grind (arith, h)
+
+pub le-false : (a b : ℕ) → b < a → nat_le a b ≡ false
+le-false a b h = grind (arith, h)
+
+-- the rows of files that are counted
+pub rows-counted : (levels : ℕ) (nodes : List NodeView) (n : List ℕ → ℕ) (files : List (List ℕ))
+    → map (λ (entry : List ℕ × ℕ). row_at levels nodes entry.0 entry.1) (map (λ file. (file, n file)) files) ≡ map (λ file. row_at levels nodes file (n file)) files
+rows-counted levels nodes n [] = refl
+rows-counted levels nodes n (file ∷ files) = ap (λ rows. row_at levels nodes file (n file) ∷ rows) (rows-counted levels nodes n files)

@@ -1,0 +1,126 @@
+-- The rows of the tables, over the raw records of the servers, the costs and marks, and the log of the desk.
+use Rattle.std.specs.Prelude.{ℕ, ◌-◌, ◌^◌, Bool, not, cond, nat_le, List, [], ◌∷◌, ◌++◌, map, filter, Option, Some, None, sum_by}
+use Rattle.std.specs.FinMap as fin
+use Rattle.std.specs.List.{flat_map}
+use Rattle.std.specs.Option.{option_map}
+use Rattle.tq_shape.specs.Tree.{Server}
+use Rattle.tq_shape.specs.ServerSet.{Servers}
+use Rattle.tq_coterie.specs.Coterie.{servers_of}
+use Rattle.tq_store.specs.Copies.{copy_of}
+use Rattle.tq_store.specs.declared.write.Write.{Write}
+use Rattle.tq_locks.specs.Locks.{LockKey}
+use Rattle.tq_locks.specs.declared.mode.Lock.{Lock}
+use Rattle.tq_intents.specs.declared.record.OpenVote.{OpenVote}
+use Rattle.tq_node.specs.Node.{NodeView}
+use Rattle.tq_node.specs.Records.{cites_vote}
+use Rattle.tq_node.specs.declared.ask.Verdict.{Verdict}
+use Rattle.tq_node.specs.declared.ask.Verdict.TheVariants as verdicts
+use Rattle.tq_desk.specs.Log.{with_files}
+use Rattle.tq_desk.specs.DeskJournal.{Commit, DeskEntry, count, final}
+use Rattle.tq_desk.specs.DeskLog.{is_txn, is_written}
+use Rattle.tq_live.specs.Live.{Live, best, cost_of}
+use Rattle.tq_live.specs.View.{upwards}
+use Rattle.tq_live.specs.declared.least.Least.{Least}
+use Rattle.tq_tables.specs.declared.file_row.FileRow.{FileRow}
+use Rattle.tq_tables.specs.declared.lock_row.LockRow.{LockRow}
+use Rattle.tq_tables.specs.declared.intent_row.FileVersion.{FileVersion}
+use Rattle.tq_tables.specs.declared.intent_row.IntentRow.{IntentRow}
+use Rattle.tq_tables.specs.declared.intent_row.IntentState.{IntentState}
+use Rattle.tq_tables.specs.declared.intent_row.IntentState.TheVariants.{Unknown, Undecided, Abort, Install, Discard}
+
+-- a server as the tree has it
+abbrev pub server_of : NodeView → Server
+server_of node = record { number = node.server; levels = node.levels }
+
+-- ---- the least quorums
+
+-- the best of the server's subtree, as cost and servers; none where there is none
+abbrev pub quorum_row : Live → ℕ → Option Least
+quorum_row live server = option_map (λ servers. record { cost = sum_by (cost_of live) servers; servers = servers_of live.levels servers }) (best live server)
+
+-- for each server upwards
+abbrev pub quorum_rows : Live → List (Option Least)
+quorum_rows live = map (quorum_row live) (upwards 1 (2 ^ live.levels - 1))
+
+-- ---- the files that commits write (a list of commits has the newest first)
+
+-- the files that a commit writes, ascending by name
+abbrev pub files_of : Commit → List (List ℕ)
+files_of commit = fin.keys (with_files fin.empty commit.ops)
+
+-- the files that commits write: those of the earlier commits, and then those of the newest that no earlier one writes
+abbrev pub files_in : List Commit → List (List ℕ)
+files_in [] = []
+files_in (commit ∷ earlier) = files_in earlier ++ filter (λ file. not (is_written earlier file)) (files_of commit)
+
+-- the server's copy of the file is of that version or a later one
+abbrev pub has_version : List ℕ → ℕ → NodeView → Bool
+has_version file version node = nat_le version (copy_of node.state.records.copies file).version
+
+-- those of the servers that pass a test
+abbrev pub servers_where : ℕ → (NodeView → Bool) → List NodeView → Servers
+servers_where levels test nodes = record { levels = levels; numbers = map (λ node. node.server) (filter test nodes) }
+
+-- a file of this version: the servers whose copy is of that version or later, and all others
+abbrev pub row_at : ℕ → List NodeView → List ℕ → ℕ → FileRow
+row_at levels nodes file version =
+    record {
+      file = file;
+      version = version;
+      current = servers_where levels (has_version file version) nodes;
+      stale = servers_where levels (λ node. not (has_version file version node)) nodes;
+    }
+
+-- a file's version is the number of commits that write it
+abbrev pub file_row : ℕ → List NodeView → List Commit → List ℕ → FileRow
+file_row levels nodes commits file = row_at levels nodes file (count file commits)
+
+abbrev pub file_rows : ℕ → List NodeView → List Commit → List FileRow
+file_rows levels nodes commits = map (file_row levels nodes commits) (files_in commits)
+
+-- ---- the locks
+
+abbrev pub lock_row : NodeView → LockKey × Lock → LockRow
+lock_row node entry =
+    record {
+      server = server_of node;
+      file = entry.0.0;
+      txn = entry.0.1;
+      mode = entry.1.mode;
+      since = entry.1.since;
+      version = entry.1.version;
+    }
+
+-- those of each server upwards, ascending by file and then by transaction
+abbrev pub lock_rows : List NodeView → List LockRow
+lock_rows nodes = flat_map (λ node. map (lock_row node) (fin.entries node.state.records.locks)) nodes
+
+-- ---- the open intentions
+
+-- what the end of its transaction says of the vote that an entry of a server gave
+abbrev pub state_by : Option Verdict → ℕ → ℕ → IntentState
+state_by None server number = Undecided
+state_by (Some verdicts.Abort) server number = Abort
+state_by (Some (verdicts.Commit votes)) server number = cond (cites_vote (verdicts.Commit votes) server number) Install Discard
+
+-- unknown where the transaction was never begun; or else as its end in the log, the newest entry first
+abbrev pub intent_state : List DeskEntry → ℕ → ℕ → ℕ → IntentState
+intent_state log server txn number = cond (is_txn log txn) (state_by (final log txn) server number) Unknown
+
+abbrev pub file_version : Write → FileVersion
+file_version write = record { file = write.file; version = write.version }
+
+-- an open vote, where its state is given by its server, its transaction and its number
+abbrev pub intent_row : (ℕ → ℕ → ℕ → IntentState) → NodeView → ℕ × OpenVote → IntentRow
+intent_row state node entry =
+    record {
+      server = server_of node;
+      txn = entry.0;
+      number = entry.1.number;
+      writes = map file_version entry.1.writes;
+      state = state node.server entry.0 entry.1.number;
+    }
+
+-- the open votes of each server upwards, ascending by transaction
+abbrev pub intent_rows : (ℕ → ℕ → ℕ → IntentState) → List NodeView → List IntentRow
+intent_rows state nodes = flat_map (λ node. map (intent_row state node) (fin.entries node.state.records.votes)) nodes

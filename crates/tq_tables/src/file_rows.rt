@@ -1,0 +1,59 @@
+ghost use Rattle.std.specs.Prelude.{◌≡◌, ◌++◌, ◌∷◌, [], ◌+◌, map, not, All, IfOk, reverse};
+ghost use Rattle.std.specs.List.{filter};
+ghost use Rattle.tq_desk.specs.DeskJournal as log;
+ghost use Rattle.tq_tables.specs.Parts.{AreOfTree};
+ghost use Rattle.tq_tables.specs.Rows as spec;
+
+use crate::write_counts::WriteCounts;
+use crate::{DeskEntry, FileRow};
+use std::alloc::Global;
+use tq_node::Node;
+use tq_shape::{Levels, Memory, ServerSet};
+use tq_store::FileName;
+
+/// A row for each file that the commits among the desk's entries write.
+pub(crate) fn file_rows(
+    alloc: Global,
+    levels: Levels,
+    nodes: &[Node],
+    entries: &[DeskEntry],
+) -> Result<Vec<FileRow>, Memory>
+    requires { AreOfTree levels 1 nodes.now }
+    ensures { IfOk result (λ rows. rows.items ≡ spec.file_rows levels nodes.now (log.commits (reverse entries.now))) }
+{
+    let counts = WriteCounts::of(alloc, entries)?;
+    let mut rows = Vec::new(alloc);
+    for (file, version) in counts.iter() {
+        rows.push(file_row(alloc, levels, nodes, *file, *version)?)?;
+    }
+    Ok(rows)
+}
+
+/// The row of a file that this many commits write.
+fn file_row(
+    alloc: Global,
+    levels: Levels,
+    nodes: &[Node],
+    file: FileName,
+    version: u64,
+) -> Result<FileRow, Memory>
+    requires { AreOfTree levels 1 nodes.now }
+    ensures { IfOk result (λ row. row ≡ spec.row_at levels nodes.now file version) }
+{
+    let mut current = ServerSet::new(alloc, levels)?;
+    let mut stale = ServerSet::new(alloc, levels)?;
+    for node in nodes {
+        let server = node.server();
+        if node.copies().get(&file).version >= version {
+            current.insert(server);
+        } else {
+            stale.insert(server);
+        }
+    }
+    Ok(FileRow {
+        file,
+        version,
+        current,
+        stale,
+    })
+}

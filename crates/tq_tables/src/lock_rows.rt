@@ -1,0 +1,37 @@
+ghost use Rattle.std.specs.Prelude.{◌≡◌, ◌++◌, map, IfOk, OnOk};
+ghost use Rattle.std.specs.FinMap as fin;
+ghost use Rattle.tq_tables.specs.Rows as spec;
+
+use crate::LockRow;
+use std::alloc::Global;
+use tq_node::Node;
+use tq_shape::Memory;
+
+/// The locks that are held at the servers.
+pub(crate) fn lock_rows(alloc: Global, nodes: &[Node]) -> Result<Vec<LockRow>, Memory>
+    ensures { IfOk result (λ rows. rows.items ≡ spec.lock_rows nodes.now) }
+{
+    let mut rows = Vec::new(alloc);
+    for node in nodes {
+        push_locks(&mut rows, node)?;
+    }
+    Ok(rows)
+}
+
+/// Puts the locks of a server at the end.
+fn push_locks(rows: &mut Vec<LockRow>, node: &Node) -> Result<(), Memory>
+    ensures { OnOk result (rows.new.items ≡ rows.old.items ++ map (spec.lock_row node.now) (fin.entries node.now.state.records.locks)) }
+{
+    let server = node.server();
+    for (key, lock) in node.locks().iter() {
+        rows.push(LockRow {
+            server,
+            file: key.0,
+            txn: key.1,
+            mode: lock.mode,
+            since: lock.since,
+            version: lock.version,
+        })?;
+    }
+    Ok(())
+}

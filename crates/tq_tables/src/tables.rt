@@ -1,0 +1,177 @@
+ghost use Rattle.std.specs.Prelude.{◌≡◌, ◌+◌, ◌^◌, length, reverse, IfOk};
+ghost use Rattle.std.specs.List.{All};
+ghost use Rattle.tq_desk.specs.DeskJournal.{IsLegalDesk, desk_state};
+
+use crate::file_rows::file_rows;
+use crate::intent_rows::intent_rows;
+use crate::lock_rows::lock_rows;
+use crate::quorum_rows::quorum_rows;
+use crate::replay::{replay_desk, replay_nodes, replay_view};
+use crate::{DeskEntry, FileRow, IntentRow, Journals, LockRow};
+use std::alloc::Global;
+use std::marker::Model;
+use tq_desk::Desk;
+use tq_live::{Least, View};
+use tq_node::Node;
+use tq_shape::{Levels, Memory};
+
+/// The servers, the desk and the view that the tables follow, and rows that say how these stand: the least quorum of
+/// each subtree, the files that commits wrote, the locks that are held, and the votes that are open.
+#[derive(Drop)]
+pub struct Tables {
+    levels: Levels,
+    nodes: Vec<Node>,
+    desk: Desk,
+    view: View,
+    quorums: Vec<Option<Least>>,
+    files: Vec<FileRow>,
+    locks: Vec<LockRow>,
+    intentions: Vec<IntentRow>,
+}
+
+impl Model for Tables {
+    ghost use Rattle.tq_intents.specs.contracts.record.Record as record_type;
+    ghost use Rattle.tq_intents.specs.contracts.record.OpenVote as vote_type;
+    ghost use Rattle.tq_node.specs.contracts.ask.Verdict as verdict_type;
+    ghost use Rattle.tq_live.specs.contracts.least.Least as least_type;
+    ghost use Rattle.tq_tables.specs.contracts.file_row.FileRow as file_type;
+    ghost use Rattle.tq_tables.specs.contracts.lock_row.LockRow as lock_type;
+    ghost use Rattle.tq_tables.specs.contracts.intent_row.IntentRow as intent_type;
+    ghost use Rattle.tq_tables.specs.Tables.{AreTables, TablesView, tables_code};
+
+    ghost Value = { TablesView };
+
+    ghost coded = { tables_code record_type.the_row.coded vote_type.the_row.coded verdict_type.the_row.coded least_type.the_row.coded file_type.the_row.coded lock_type.the_row.coded intent_type.the_row.coded };
+
+    ghost view = { λ a. record {
+      levels = a.levels;
+      nodes = a.nodes.items;
+      desk = a.desk;
+      view = a.view;
+      quorums = a.quorums.items;
+      files = a.files.items;
+      locks = a.locks.items;
+      intentions = a.intentions.items;
+    } };
+
+    ghost invariant = { λ a. AreTables (record {
+      levels = a.levels;
+      nodes = a.nodes.items;
+      desk = a.desk;
+      view = a.view;
+      quorums = a.quorums.items;
+      files = a.files.items;
+      locks = a.locks.items;
+      intentions = a.intentions.items;
+    }) };
+}
+
+impl Tables {
+    ghost use Rattle.tq_tables.specs.Parts.{AreLegal, AreOfTree, bounds_of};
+    ghost use Rattle.tq_tables.specs.Tables.{tables_of, tables_over};
+
+    /// The tables of these journals, which are legal: each reply is the one that its part gives there.
+    pub fn of(alloc: Global, journals: &Journals) -> Result<Tables, Memory>
+        requires { AreLegal journals.now }
+        ensures { IfOk result (λ tables. tables ≡ tables_of journals.now) }
+    {
+        let levels = journals.levels();
+        let nodes = replay_nodes(alloc, levels, journals.servers())?;
+        let desk = replay_desk(alloc, levels, journals.limits(), journals.desk())?;
+        let view = replay_view(alloc, levels, journals.view())?;
+        let tables = Tables::over(alloc, nodes, desk, view, journals.desk())?;
+        Ok(tables)
+    }
+
+    /// The tables over these parts: the servers of the view's tree, upwards from server 1, the desk as a legal journal
+    /// with these entries leaves it, and the view.
+    pub fn over(
+        alloc: Global,
+        nodes: Vec<Node>,
+        desk: Desk,
+        view: View,
+        entries: &[DeskEntry],
+    ) -> Result<Tables, Memory>
+        requires of_tree { AreOfTree view.levels 1 nodes.items }
+        requires legal { IsLegalDesk (bounds_of desk.levels desk.limits) (reverse entries.now) }
+        requires stands { desk ≡ desk_state (bounds_of desk.levels desk.limits) (reverse entries.now) }
+        ensures { IfOk result (λ tables. tables ≡ tables_over nodes.items desk view entries.now) }
+    {
+        let levels = view.tree().levels();
+        let quorums = quorum_rows(alloc, view.tree())?;
+        let files = file_rows(alloc, levels, nodes.as_slice(), entries)?;
+        let locks = lock_rows(alloc, nodes.as_slice())?;
+        let intentions = intent_rows(alloc, nodes.as_slice(), &desk)?;
+        Ok(Tables {
+            levels,
+            nodes,
+            desk,
+            view,
+            quorums,
+            files,
+            locks,
+            intentions,
+        })
+    }
+
+    /// How many levels the tree of servers has.
+    pub fn levels(&self) -> Levels
+        ensures value { result ≡ self.now.levels }
+        ensures followed { self.now.view.levels ≡ result }
+    {
+        self.levels
+    }
+
+    /// The servers that the tables follow, upwards from server 1.
+    pub fn nodes(&self) -> &[Node]
+        ensures { result.now ≡ self.now.nodes }
+    {
+        self.nodes.as_slice()
+    }
+
+    /// The desk that the tables follow.
+    pub fn desk(&self) -> &Desk
+        ensures { result.now ≡ self.now.desk }
+    {
+        &self.desk
+    }
+
+    /// The view that the tables follow.
+    pub fn view(&self) -> &View
+        ensures value { result.now ≡ self.now.view }
+        ensures followed { result.now.levels ≡ self.now.levels }
+    {
+        &self.view
+    }
+
+    /// For each server, upwards from server 1, the first quorum of least cost of its subtree among those that are up;
+    /// none where none is.
+    pub fn quorums(&self) -> &[Option<Least>]
+        ensures value { result.now ≡ self.now.quorums }
+        ensures one_each { length result.now + 1 ≡ 2 ^ self.now.levels }
+    {
+        self.quorums.as_slice()
+    }
+
+    /// The files that commits wrote, in the order of the first such commit, and within one commit ascending by name.
+    pub fn files(&self) -> &[FileRow]
+        ensures value { result.now ≡ self.now.files }
+        ensures of_tree { All (λ row. (row.current.levels ≡ self.now.levels) × (row.stale.levels ≡ self.now.levels)) result.now }
+    {
+        self.files.as_slice()
+    }
+
+    /// The locks that are held, ascending by server, file and transaction.
+    pub fn locks(&self) -> &[LockRow]
+        ensures { result.now ≡ self.now.locks }
+    {
+        self.locks.as_slice()
+    }
+
+    /// The votes that are open, ascending by server and transaction.
+    pub fn intentions(&self) -> &[IntentRow]
+        ensures { result.now ≡ self.now.intentions }
+    {
+        self.intentions.as_slice()
+    }
+}
