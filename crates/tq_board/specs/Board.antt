@@ -1,0 +1,102 @@
+-- The text of the board: what an operator sees of the tables, beside the costs and marks of a view.
+use Rattle.std.specs.Prelude.{ℕ, ◌-◌, ◌^◌, Bool, true, false, List, [], ◌∷◌, ◌++◌, map, Option, Some, None, codes, slice_index_or}
+use Rattle.std.specs.List.{flat_map}
+use Rattle.std.specs.Fmt.{decimal}
+use Rattle.tq_coterie.specs.Coterie.{numbers_of}
+use Rattle.tq_locks.specs.declared.mode.Mode.{Mode}
+use Rattle.tq_locks.specs.declared.mode.Mode.TheVariants.{Shared, Exclusive}
+use Rattle.tq_live.specs.Live.{Live, cost_of, is_up}
+use Rattle.tq_live.specs.View.{upwards}
+use Rattle.tq_live.specs.declared.least.Least.{Least}
+use Rattle.tq_tables.specs.Tables.{TablesView}
+use Rattle.tq_tables.specs.declared.file_row.FileRow.{FileRow}
+use Rattle.tq_tables.specs.declared.lock_row.LockRow.{LockRow}
+use Rattle.tq_tables.specs.declared.intent_row.FileVersion.{FileVersion}
+use Rattle.tq_tables.specs.declared.intent_row.IntentRow.{IntentRow}
+use Rattle.tq_tables.specs.declared.intent_row.IntentState.{IntentState}
+use Rattle.tq_tables.specs.declared.intent_row.IntentState.TheVariants.{Unknown, Undecided, Abort, Install, Discard}
+
+-- a line ends with a line feed
+abbrev pub as_line : List ℕ → List ℕ
+as_line text = text ++ 10 ∷ []
+
+-- ---- lists of words
+
+-- each word after a space
+abbrev pub spaced : List (List ℕ) → List ℕ
+spaced words = flat_map (λ word. 32 ∷ word) words
+
+-- the same, and a single `-` where there is no word
+abbrev pub listed : List (List ℕ) → List ℕ
+listed [] = spaced (codes "-" ∷ [])
+listed (first ∷ rest) = spaced (first ∷ rest)
+
+-- servers by their numbers
+abbrev pub servers_text : List ℕ → List ℕ
+servers_text numbers = listed (map decimal numbers)
+
+-- a file and the version that a write makes of it
+abbrev pub write_text : FileVersion → List ℕ
+write_text write = write.file ++ codes ":" ++ decimal write.version
+
+-- ---- words for marks, modes and states
+
+abbrev pub mark_text : Bool → List ℕ
+mark_text true = codes "up"
+mark_text false = codes "down"
+
+abbrev pub mode_text : Mode → List ℕ
+mode_text Shared = codes "shared"
+mode_text Exclusive = codes "exclusive"
+
+abbrev pub state_text : IntentState → List ℕ
+state_text Unknown = codes "unknown"
+state_text Undecided = codes "undecided"
+state_text Abort = codes "abort"
+state_text Install = codes "install"
+state_text Discard = codes "discard"
+
+-- ---- the lines
+
+-- the cost and the servers of the least quorum of a subtree, where there is one
+abbrev pub least_text : Option Least → List ℕ
+least_text None = codes "none"
+least_text (Some least) = decimal least.cost ++ codes " by" ++ servers_text (numbers_of least.servers)
+
+-- a server: its cost and mark in the view, and the least quorum of its subtree
+abbrev pub server_text : Live → Option Least → ℕ → List ℕ
+server_text view least server =
+    codes "server " ++ decimal server ++ codes " cost " ++ decimal (cost_of view server) ++ codes " " ++ mark_text (is_up view server) ++ codes " least " ++ least_text least
+
+abbrev pub file_text : FileRow → List ℕ
+file_text row =
+    codes "file " ++ row.file ++ codes " version " ++ decimal row.version ++ codes " current" ++ servers_text row.current.numbers ++ codes " stale" ++ servers_text row.stale.numbers
+
+abbrev pub lock_text : LockRow → List ℕ
+lock_text row =
+    codes "lock " ++ decimal row.server.number ++ codes " " ++ row.file ++ codes " " ++ decimal row.txn ++ codes " " ++ mode_text row.mode ++ codes " since " ++ decimal row.since ++ codes " version " ++ decimal row.version
+
+abbrev pub intent_text : IntentRow → List ℕ
+intent_text row =
+    codes "intent " ++ decimal row.server.number ++ codes " " ++ decimal row.txn ++ codes " number " ++ decimal row.number ++ codes " " ++ state_text row.state ++ listed (map write_text row.writes)
+
+-- ---- the board
+
+-- the line of a server, with the row of the quorums' table at its place
+abbrev pub server_line : TablesView → Live → ℕ → List ℕ
+server_line tables view server = as_line (server_text view (slice_index_or tables.quorums (server - 1) None) server)
+
+-- a line for each server upwards
+abbrev pub server_lines : TablesView → Live → List ℕ
+server_lines tables view = flat_map (server_line tables view) (upwards 1 (2 ^ tables.levels - 1))
+
+-- a line for each file, for each lock and for each open intention
+abbrev pub row_lines : TablesView → List ℕ
+row_lines tables =
+    flat_map (λ row. as_line (file_text row)) tables.files
+    ++ flat_map (λ row. as_line (lock_text row)) tables.locks
+    ++ flat_map (λ row. as_line (intent_text row)) tables.intentions
+
+-- the head, a line for each server, a line for each row, and the end
+abbrev pub board_text : TablesView → Live → List ℕ
+board_text tables view = as_line (codes "board levels " ++ decimal tables.levels) ++ server_lines tables view ++ row_lines tables ++ as_line (codes "end")

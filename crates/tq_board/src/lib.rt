@@ -1,0 +1,11 @@
+//! The board: the tables of a system as text, a line for each row, for the operators who watch it.
+#![tactic(auto)]
+
+mod board;
+mod line;
+mod word;
+
+pub use board::render;
+
+#[cfg(test)]
+mod tests;
