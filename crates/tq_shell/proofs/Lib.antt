@@ -5,3 +5,7 @@ pub mod RunLaws
 pub mod NumberLaws
 pub mod ParseLaws
 pub mod CommandLaws
+pub mod Leading
+pub mod Recording
+pub mod TreeLevels
+pub mod Learned

@@ -1,5 +1,7 @@
 -- Words and numbers of a line.
-use Rattle.std.proofs.Common.{◌≡◌, ℕ, suc, ◌-◌, ◌<◌, ◌≤◌, ◌==◌, nat_lt, false, List, [], ◌∷◌, Some, None, Option, length, get_or, drop, take, refl, ap, ◌∙◌, arith, drop-cons}
+use Rattle.std.proofs.Common.{◌≡◌, ℕ, suc, ◌-◌, ◌<◌, ◌≤◌, ◌==◌, nat_lt, false, List, [], ◌∷◌, Some, None, Option, length, get_or, drop, take, refl, ap, ◌∙◌, arith, drop-cons, ◌^◌, ◌&&◌, Bool, true}
+use Rattle.tq_shape.specs.Tree.{IsServer}
+use Rattle.tq_live.specs.View.{is_server}
 use Rattle.tq_shell.specs.Word.{digits_then, digit_after, word_of, rest_of}
 use Rattle.tq_shell.specs.Line.{line_of, line_by}
 use Rattle.tq_shell.specs.Text.{without_return}
@@ -46,3 +48,15 @@ line_of-some [] few some = absurd (grind arith)
 line_of-some (byte ∷ bytes) few some =
     let short : nat_lt 1200 (suc (length bytes)) ≡ false = grind arith in
     rw short refl
+
+less_by : (a b : ℕ) → nat_lt a b ≡ true → a < b
+less_by a b is = grind (arith, is)
+
+-- a number of no server
+pub off_tree : (levels server : ℕ) → (IsServer levels server → ⊥) → is_server levels server ≡ false
+off_tree levels server off = by (nat_lt 0 server) (nat_lt server (2 ^ levels)) refl refl
+  where
+    by : (above below : Bool) → nat_lt 0 server ≡ above → nat_lt server (2 ^ levels) ≡ below → (above && below) ≡ false
+    by true true a b = absurd (off (less_by 0 server a, less_by server (2 ^ levels) b))
+    by true false a b = refl
+    by false below a b = refl

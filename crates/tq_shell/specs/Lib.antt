@@ -2,7 +2,14 @@ pub mod Devices
 pub mod Word
 pub mod Line
 pub mod Print
+pub mod Refusals
+pub mod Asking
+pub mod Recorded
+pub mod Known
+pub mod Asked
+pub mod States
 pub mod Answer
+pub mod History
 pub mod Text
 pub mod Stream
 pub use Rattle.tq_live.specs.Live

@@ -1,10 +1,18 @@
 -- How answers are printed.
-use Rattle.std.specs.Prelude.{ℕ, Bool, cond, List, [], ◌∷◌, ◌++◌, codes}
+use Rattle.std.specs.Prelude.{ℕ, Bool, cond, List, [], ◌∷◌, ◌++◌, codes, Option, Some, None}
 use Rattle.std.specs.List.{flat_map}
 use Rattle.std.specs.Fmt.{decimal}
+use Rattle.tq_node.specs.declared.ask.Verdict.{Verdict}
+use Rattle.tq_node.specs.declared.ask.Verdict.TheVariants as verdicts
+use Rattle.tq_desk.specs.declared.ask.Op.{Op}
+use Rattle.tq_desk.specs.Evidence.{servers_of}
 use Rattle.tq_live.specs.declared.view.ViewReply.{ViewReply}
 use Rattle.tq_live.specs.declared.view.ViewReply.TheVariants as replies
 use Rattle.tq_live.specs.declared.view.ViewRefusal.TheVariants as refusals
+use Rattle.tq_txn.specs.declared.applying.Applied.{Applied}
+use Rattle.tq_txn.specs.declared.applying.Applied.TheVariants.{Installed, Discarded}
+use Rattle.tq_txn.specs.declared.reading.Reading.{Reading}
+use Rattle.tq_txn.specs.declared.reading.Reading.TheVariants.{Pending, Copy}
 
 -- a printed line
 abbrev pub printed : List ℕ → List ℕ
@@ -22,3 +30,31 @@ choice_text _ = []
 
 abbrev pub mark_word : Bool → List ℕ
 mark_word up = cond up (codes "up ") (codes "down ")
+
+-- the servers that an operation rests on
+abbrev pub op_servers : Option Op → List ℕ
+op_servers None = []
+op_servers (Some op) = servers_of op
+
+abbrev pub bracketed : List ℕ → List ℕ
+bracketed content = codes " [" ++ content ++ codes "]"
+
+abbrev pub version_text : List ℕ → ℕ → List ℕ
+version_text file version = file ++ codes " version " ++ decimal version
+
+-- a file as the transaction reads it; the operation is its read of the file
+abbrev pub reading_text : List ℕ → Option Op → Reading → List ℕ
+reading_text file op (Pending content) = file ++ codes " pending [" ++ content ++ codes "]"
+reading_text file op (Copy copy) = version_text file copy.version ++ codes " from" ++ numbers_text (op_servers op) ++ bracketed copy.content
+
+-- the version that the transaction makes of a file; the operation is its write to the file
+abbrev pub writing_text : List ℕ → Option Op → ℕ → List ℕ
+writing_text file op version = codes "write " ++ version_text file version ++ codes " at" ++ numbers_text (op_servers op)
+
+abbrev pub applied_text : ℕ → Applied → List ℕ
+applied_text server Installed = codes "installed " ++ decimal server
+applied_text server Discarded = codes "discarded " ++ decimal server
+
+abbrev pub verdict_text : Verdict → List ℕ
+verdict_text verdicts.Abort = codes "verdict abort"
+verdict_text (verdicts.Commit votes) = codes "verdict commit"

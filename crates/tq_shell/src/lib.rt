@@ -3,18 +3,26 @@
 
 mod command;
 mod device;
+mod endings;
+mod kept;
 mod line;
 mod listener;
 mod memory;
+mod operands;
+mod operations;
 mod print;
+mod recorder;
+mod refusals;
 mod runner;
 mod shell;
 mod standard;
+mod states;
 mod word;
 
 pub use command::{Words, WordsFault};
 pub use device::{Failed, Sink, Source};
-pub use line::{LINE_LIMIT, Line};
+pub use kept::{Ending, Kept};
+pub use line::{LINE_LIMIT, Line, TxnLine};
 pub use memory::{MemorySink, MemorySource};
 pub use runner::{INPUT_LIMIT, RunFault, run};
 pub use shell::Shell;

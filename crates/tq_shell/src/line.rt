@@ -1,10 +1,16 @@
 ghost use Rattle.std.specs.Str.{bytes_eq};
-ghost use Rattle.std.specs.Prelude.{◌≡◌};
+ghost use Rattle.std.specs.Prelude.{◌≡◌, IfOk};
+ghost use Rattle.tq_shell.specs.Line as spec;
+ghost use Rattle.tq_shell.specs.Word.{options_now};
 
-use crate::word::{first_word, number_of};
+use crate::operands::{one_number, target_of, text_of, two_numbers};
+use crate::word::first_word;
+use std::alloc::Global;
+use tq_shape::Memory;
+use tq_store::{Content, FileName};
 
 /// What a line asks for.
-#[derive(Clone, Copy, Debug, PartialEq, Eq)]
+#[derive(Debug, Drop)]
 pub enum Line {
     /// Nothing stands in the line.
     Empty,
@@ -13,81 +19,97 @@ pub enum Line {
     Cost { server: u64, cost: u64 },
     Mark { server: u64, up: bool },
     Choose,
+    Begin,
+    /// A line of a transaction.
+    Txn { number: u64, line: TxnLine },
+}
+
+/// What a line asks of a transaction.
+#[derive(Debug, Drop)]
+pub enum TxnLine {
+    Read { file: FileName },
+    Write { file: FileName, content: Content },
+    Prepare { server: u64 },
+    Decide,
+    Apply { server: u64 },
+    Commit,
+    Abort,
+    Resolve,
 }
 
 /// The most bytes of a line that is no bad line.
 pub const LINE_LIMIT: usize = 1_200;
 
 impl Line {
-    ghost use Rattle.tq_shell.specs.Word.{options_now};
-    ghost use Rattle.std.specs.Prelude.{◌≡◌, ℕ, length};
-    ghost use Rattle.tq_shell.specs.Line.{line_of, line_by, cost_line, mark_line};
-
     /// The line that the bytes spell.
-    pub fn of(bytes: &[u8]) -> Line
-        ensures { result ≡ line_of bytes.now }
+    pub fn of(alloc: Global, bytes: &[u8]) -> Result<Line, Memory>
+        ensures { IfOk result (λ line. line ≡ spec.line_of bytes.now) }
     {
         if bytes.len() > LINE_LIMIT {
-            return Line::Bad;
+            return Ok(Line::Bad);
         }
         if bytes.is_empty() {
-            return Line::Empty;
+            return Ok(Line::Empty);
         }
         let (verb, rest) = first_word(bytes);
-        Line::by(verb, rest)
+        Ok(Line::by(alloc, verb, rest)?)
     }
 
-    fn by(verb: &[u8], rest: Option<&[u8]>) -> Line
-        ensures { result ≡ line_by verb.now (options_now rest.entry) }
+    fn by(alloc: Global, verb: &[u8], rest: Option<&[u8]>) -> Result<Line, Memory>
+        ensures { IfOk result (λ line. line ≡ spec.line_by verb.now (options_now rest.entry)) }
     {
         if is_same(verb, b"choose") {
-            return if rest.is_none() {
-                Line::Choose
-            } else {
-                Line::Bad
-            };
+            return Ok(alone(rest, Line::Choose));
+        }
+        if is_same(verb, b"begin") {
+            return Ok(alone(rest, Line::Begin));
         }
         if is_same(verb, b"cost") {
-            return Line::cost(rest);
+            return Ok(cost(rest));
         }
         if is_same(verb, b"down") {
-            return Line::mark(rest, false);
+            return Ok(mark(rest, false));
         }
         if is_same(verb, b"up") {
-            return Line::mark(rest, true);
+            return Ok(mark(rest, true));
+        }
+        Ok(Line::txn_by(alloc, verb, rest)?)
+    }
+
+    fn txn_by(alloc: Global, verb: &[u8], rest: Option<&[u8]>) -> Result<Line, Memory>
+        ensures { IfOk result (λ line. line ≡ spec.txn_by verb.now (options_now rest.entry)) }
+    {
+        if is_same(verb, b"read") {
+            return Ok(read(rest));
+        }
+        if is_same(verb, b"write") {
+            return Ok(write(alloc, rest)?);
+        }
+        if is_same(verb, b"prepare") {
+            return Ok(prepare(rest));
+        }
+        if is_same(verb, b"apply") {
+            return Ok(apply(rest));
+        }
+        Ok(Line::end_by(verb, rest))
+    }
+
+    fn end_by(verb: &[u8], rest: Option<&[u8]>) -> Line
+        ensures { result ≡ spec.end_by verb.now (options_now rest.entry) }
+    {
+        if is_same(verb, b"decide") {
+            return of_number(rest, TxnLine::Decide);
+        }
+        if is_same(verb, b"commit") {
+            return of_number(rest, TxnLine::Commit);
+        }
+        if is_same(verb, b"abort") {
+            return of_number(rest, TxnLine::Abort);
+        }
+        if is_same(verb, b"resolve") {
+            return of_number(rest, TxnLine::Resolve);
         }
         Line::Bad
-    }
-
-    fn mark(rest: Option<&[u8]>, up: bool) -> Line
-        ensures { result ≡ mark_line up (options_now rest.entry) }
-    {
-        match rest {
-            None => Line::Bad,
-            Some(word) => match number_of(word) {
-                None => Line::Bad,
-                Some(server) => Line::Mark { server, up },
-            },
-        }
-    }
-
-    fn cost(rest: Option<&[u8]>) -> Line
-        ensures { result ≡ cost_line (options_now rest.entry) }
-    {
-        let Some(words) = rest else {
-            return Line::Bad;
-        };
-        let (first, other) = first_word(words);
-        let Some(second) = other else {
-            return Line::Bad;
-        };
-        let Some(server) = number_of(first) else {
-            return Line::Bad;
-        };
-        match number_of(second) {
-            None => Line::Bad,
-            Some(cost) => Line::Cost { server, cost },
-        }
     }
 }
 
@@ -95,4 +117,116 @@ fn is_same(word: &[u8], text: &[u8]) -> bool
     ensures { result ≡ bytes_eq word.now text.now }
 {
     word == text
+}
+
+fn alone(rest: Option<&[u8]>, line: Line) -> Line
+    ensures { result ≡ spec.alone line (options_now rest.entry) }
+{
+    match rest {
+        None => line,
+        Some(_) => Line::Bad,
+    }
+}
+
+fn of_number(rest: Option<&[u8]>, line: TxnLine) -> Line
+    ensures { result ≡ spec.with_number (λ txn. Line.Txn txn line) (spec.one_number (options_now rest.entry)) }
+{
+    match one_number(rest) {
+        None => Line::Bad,
+        Some(number) => Line::Txn { number, line },
+    }
+}
+
+fn mark(rest: Option<&[u8]>, up: bool) -> Line
+    ensures { result ≡ spec.with_number (λ server. Line.Mark server up) (spec.one_number (options_now rest.entry)) }
+{
+    match one_number(rest) {
+        None => Line::Bad,
+        Some(server) => Line::Mark { server, up },
+    }
+}
+
+fn cost(rest: Option<&[u8]>) -> Line
+    ensures { result ≡ spec.with_numbers Line.Cost (spec.two_numbers (options_now rest.entry)) }
+{
+    match two_numbers(rest) {
+        None => Line::Bad,
+        Some(numbers) => Line::Cost {
+            server: numbers.first,
+            cost: numbers.second,
+        },
+    }
+}
+
+fn prepare(rest: Option<&[u8]>) -> Line
+    ensures { result ≡ spec.with_numbers (λ txn server. Line.Txn txn (TxnLine.Prepare server)) (spec.two_numbers (options_now rest.entry)) }
+{
+    match two_numbers(rest) {
+        None => Line::Bad,
+        Some(numbers) => Line::Txn {
+            number: numbers.first,
+            line: TxnLine::Prepare {
+                server: numbers.second,
+            },
+        },
+    }
+}
+
+fn apply(rest: Option<&[u8]>) -> Line
+    ensures { result ≡ spec.with_numbers (λ txn server. Line.Txn txn (TxnLine.Apply server)) (spec.two_numbers (options_now rest.entry)) }
+{
+    match two_numbers(rest) {
+        None => Line::Bad,
+        Some(numbers) => Line::Txn {
+            number: numbers.first,
+            line: TxnLine::Apply {
+                server: numbers.second,
+            },
+        },
+    }
+}
+
+fn read(rest: Option<&[u8]>) -> Line
+    ensures { result ≡ spec.read_line (options_now rest.entry) }
+{
+    let Some(words) = rest else {
+        return Line::Bad;
+    };
+    let (first, more) = first_word(words);
+    let Some(file) = more else {
+        return Line::Bad;
+    };
+    match target_of(first, file) {
+        None => Line::Bad,
+        Some(target) => Line::Txn {
+            number: target.txn,
+            line: TxnLine::Read { file: target.file },
+        },
+    }
+}
+
+fn write(alloc: Global, rest: Option<&[u8]>) -> Result<Line, Memory>
+    ensures { IfOk result (λ line. line ≡ spec.write_line (options_now rest.entry)) }
+{
+    let Some(words) = rest else {
+        return Ok(Line::Bad);
+    };
+    let (first, more) = first_word(words);
+    let Some(others) = more else {
+        return Ok(Line::Bad);
+    };
+    let (second, text) = first_word(others);
+    let Some(target) = target_of(first, second) else {
+        return Ok(Line::Bad);
+    };
+    match text_of(alloc, text)? {
+        None => Ok(Line::Bad),
+        Some(content) => Ok(Line::Txn {
+            number: target.txn,
+            line: TxnLine::Write {
+                file: target.file,
+                content,
+            },
+        }),
+    }
 }

@@ -62,7 +62,7 @@ impl Listener {
         ensures after { OnOk result (self.new ≡ heard_byte self.old byte) }
     {
         if byte == b'\n' {
-            let line = Line::of(without_return(self.line.as_slice()));
+            let line = Line::of(alloc, without_return(self.line.as_slice()))?;
             self.shell.answer(alloc, line, text)?;
             self.line.clear();
             return Ok(());
@@ -77,7 +77,7 @@ impl Listener {
     pub(crate) fn finish(&mut self, alloc: Global, text: &mut Vec<u8>) -> Result<(), Memory>
         ensures { OnOk result (text.new.items ≡ text.old.items ++ said_last self.old) }
     {
-        let line = Line::of(self.line.as_slice());
+        let line = Line::of(alloc, self.line.as_slice())?;
         self.shell.answer(alloc, line, text)?;
         Ok(())
     }

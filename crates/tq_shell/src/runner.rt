@@ -1,6 +1,9 @@
 ghost use Rattle.std.specs.Prelude.{◌≡◌, ◌+◌, ◌-◌, ◌^◌, ◌<◌, ◌≤◌, ◌++◌, ℕ, List, IsTrue, OnOk, OnErr, length, take};
 ghost use Rattle.std.specs.Io.KnownBytes.{Appends};
+ghost use Rattle.tq_shell.specs.Answer.{opening};
+ghost use Rattle.tq_shell.specs.History.{IsLearned};
 ghost use Rattle.tq_shell.specs.Run.{IsRunText, IsRunCount, IsWritten};
+ghost use Rattle.tq_shell.specs.declared.line.Line.{Line};
 
 use crate::device::{Failed, Sink, Source};
 use crate::listener::Listener;
@@ -44,6 +47,23 @@ const PIECE: usize = 4_096;
 
 /// Answers the lines of the source, and writes the answers to each piece of it before it reads the next.
 pub fn run<R: Source, W: Sink>(
+    alloc: Global,
+    levels: Levels,
+    reader: &mut R,
+    writer: &mut W,
+) -> Result<(), RunFault>
+    requires reads { R.failed reader.old < 2 ^ 64 - 1 }
+    requires writes { W.failed writer.old < 2 ^ 64 - 1 }
+    ensures text { (bytes : List ℕ) × (text : List ℕ) × Appends (R.given reader.old) (R.given reader.new) bytes
+        × Appends (W.taken writer.old) (W.taken writer.new) text × IsRunText result levels bytes text }
+    ensures end { OnOk result (IsTrue (R.is_ended reader.new)) }
+    ensures counts { IsRunCount result (R.failed reader.old) (R.failed reader.new) (W.failed writer.old) (W.failed writer.new) }
+    ensures learned { (lines : List Line) → IsLearned (opening levels) lines }
+{
+    answer_lines(alloc, levels, reader, writer)
+}
+
+fn answer_lines<R: Source, W: Sink>(
     alloc: Global,
     levels: Levels,
     reader: &mut R,

@@ -1,41 +1,70 @@
-ghost use Rattle.std.specs.Prelude.{◌≡◌};
+ghost use Rattle.std.specs.Prelude.{◌≡◌, ◌++◌, ◌<◌, ◌+◌, [], false, length, None, IfOk, OnOk, IfSome, IsNone};
 ghost use Rattle.tq_live.specs.View.{is_cost};
+ghost use Rattle.tq_txn.specs.States.{levels_of};
+ghost use Rattle.std.specs.Fmt.{decimal};
+ghost use Rattle.tq_shell.specs.Asked as asked;
+ghost use Rattle.tq_shell.specs.Known as known;
+ghost use Rattle.tq_shell.specs.Print.{printed, mark_word};
 
-use crate::line::Line;
+use crate::endings::{abort_txn, apply, commit_txn, decide_txn, prepare, resolve};
+use crate::kept::Kept;
+use crate::line::{Line, TxnLine};
+use crate::operations::{read, write};
 use crate::print::{say_choice, say_line, say_number};
+use crate::recorder::Recorder;
+use crate::refusals::{push_desk_refusal, say_fault};
 use std::alloc::Global;
 use std::marker::Model;
-use tq_live::{View, ViewAsk};
-use tq_shape::{Levels, Memory};
+use std::mem;
+use tq_desk::{DeskAsk, DeskReply};
+use tq_live::ViewAsk;
+use tq_node::NodeAsk;
+use tq_shape::{Levels, Limits, Memory, ServerId};
+use tq_txn::{DeskTold, LineFault, Open, Txn, ViewTold};
 
-/// The parts that lines are asked of.
+/// A service that lines are asked of, and what is known of the transactions.
 #[derive(Drop)]
 pub struct Shell {
     levels: Levels,
-    view: View,
+    limits: Limits,
+    recorder: Recorder,
+    txns: Vec<Kept>,
 }
 
 impl Model for Shell {
     ghost use Rattle.std.specs.Prelude.{◌≡◌};
+    ghost use Rattle.std.specs.List.{All};
+    ghost use Rattle.tq_txn.specs.States.{levels_of};
     ghost use Rattle.tq_shell.specs.Answer.{World};
 
     ghost Value = { World };
 
-    ghost view = { λ shell. record { view = shell.view } };
+    ghost view = { λ shell. record {
+      journals = shell.recorder.journals;
+      known = record { levels = shell.levels; limits = shell.limits; txns = shell.txns.items };
+    } };
 
-    ghost invariant = { λ shell. shell.view.levels ≡ shell.levels };
+    ghost invariant = { λ shell. (shell.recorder.journals.levels ≡ shell.levels) × All (λ kept. levels_of kept.txn ≡ shell.levels) shell.txns.items };
 }
 
 impl Shell {
     ghost use Rattle.std.specs.Prelude.{◌≡◌, ◌++◌, IfOk, OnOk};
-    ghost use Rattle.tq_shell.specs.Answer.{opening, answer};
+    ghost use Rattle.tq_core.specs.World.{item_at};
+    ghost use Rattle.tq_shell.specs.Answer.{opening, answer, answered};
+    ghost use Rattle.tq_shell.specs.Asking.{run_line};
 
-    /// Every server at cost 1 and up.
+    /// Every server at cost 1 and up, nothing stored, and no transaction.
     pub fn new(alloc: Global, levels: Levels) -> Result<Shell, Memory>
         ensures { IfOk result (λ shell. shell ≡ opening levels) }
     {
-        let view = View::new(alloc, levels)?;
-        Ok(Shell { levels, view })
+        let limits = Limits::full();
+        let recorder = Recorder::new(alloc, levels)?;
+        Ok(Shell {
+            levels,
+            limits,
+            recorder,
+            txns: Vec::new(alloc),
+        })
     }
 
     /// Answers one line, and puts the answer behind the text.
@@ -49,6 +78,8 @@ impl Shell {
             Line::Cost { server, cost } => self.cost(alloc, server, cost, text),
             Line::Mark { server, up } => self.mark(alloc, server, up, text),
             Line::Choose => self.choose(alloc, text),
+            Line::Begin => self.begin(alloc, text),
+            Line::Txn { number, line } => self.txn(alloc, number, line, text),
         }
     }
 
@@ -68,8 +99,26 @@ impl Shell {
         if !is_cost(cost) {
             return say_number(text, b"bad cost ", cost);
         }
-        let _reply = self.view.answer(alloc, &ViewAsk::SetCost { server, cost })?;
-        say_line(text, b"ok")
+        self.set_cost(alloc, server, cost, text)
+    }
+
+    fn set_cost(
+        &mut self,
+        alloc: Global,
+        server: u64,
+        cost: u64,
+        text: &mut Vec<u8>,
+    ) -> Result<(), Memory>
+        ensures text { OnOk result (text.new.items ≡ text.old.items ++ (answered (run_line self.old.journals (asked.cost_asked self.old.known server cost))).text) }
+        ensures after { OnOk result (self.new ≡ (answered (run_line self.old.journals (asked.cost_asked self.old.known server cost))).after) }
+    {
+        self.recorder.led();
+        let answer = self
+            .recorder
+            .ask_view(alloc, ViewAsk::SetCost { server, cost });
+        self.recorder.led();
+        say_ok(text, answer)?;
+        Ok(())
     }
 
     fn mark(
@@ -82,23 +131,290 @@ impl Shell {
         ensures text { OnOk result (text.new.items ≡ text.old.items ++ (answer self.old (Line.Mark server up)).text) }
         ensures after { OnOk result (self.new ≡ (answer self.old (Line.Mark server up)).after) }
     {
-        if self.levels.server(server).is_none() {
+        let Some(id) = self.levels.server(server) else {
             return say_number(text, b"no such server ", server);
-        }
-        let _reply = self.view.answer(alloc, &ViewAsk::Mark { server, up })?;
-        if up {
-            say_number(text, b"up ", server)
-        } else {
-            say_number(text, b"down ", server)
-        }
+        };
+        self.set_mark(alloc, id, up, text)
+    }
+
+    fn set_mark(
+        &mut self,
+        alloc: Global,
+        id: ServerId,
+        up: bool,
+        text: &mut Vec<u8>,
+    ) -> Result<(), Memory>
+        requires { id.levels ≡ self.old.journals.levels }
+        ensures text { OnOk result (text.new.items ≡ text.old.items ++ (answered (run_line self.old.journals (asked.mark_asked self.old.known id.number up))).text) }
+        ensures after { OnOk result (self.new ≡ (answered (run_line self.old.journals (asked.mark_asked self.old.known id.number up))).after) }
+    {
+        let server = id.number();
+        let ask = mark_ask(up);
+        self.recorder.led();
+        let reply = self.recorder.ask_any(alloc, id, ask)?;
+        let _ = &reply;
+        let answer = self.recorder.ask_view(alloc, ViewAsk::Mark { server, up });
+        self.recorder.led();
+        say_marked(text, server, up, answer)?;
+        Ok(())
     }
 
     fn choose(&mut self, alloc: Global, text: &mut Vec<u8>) -> Result<(), Memory>
         ensures text { OnOk result (text.new.items ≡ text.old.items ++ (answer self.old Line.Choose).text) }
         ensures after { OnOk result (self.new ≡ (answer self.old Line.Choose).after) }
     {
-        let reply = self.view.answer(alloc, &ViewAsk::Choose)?;
-        say_choice(text, &reply)
+        self.recorder.led();
+        let answer = self.recorder.ask_view(alloc, ViewAsk::Choose);
+        self.recorder.led();
+        say_chosen(text, answer)?;
+        Ok(())
+    }
+
+    fn begin(&mut self, alloc: Global, text: &mut Vec<u8>) -> Result<(), Memory>
+        ensures text { OnOk result (text.new.items ≡ text.old.items ++ (answer self.old Line.Begin).text) }
+        ensures after { OnOk result (self.new ≡ (answer self.old Line.Begin).after) }
+    {
+        self.recorder.led();
+        let answer = self.recorder.ask_desk(alloc, DeskAsk::Begin);
+        self.recorder.led();
+        self.begin_end(alloc, answer, text)?;
+        Ok(())
+    }
+
+    fn begin_end(
+        &mut self,
+        alloc: Global,
+        answer: Result<DeskTold, LineFault>,
+        text: &mut Vec<u8>,
+    ) -> Result<(), Memory>
+        ensures text { OnOk result (text.new.items ≡ text.old.items ++ (asked.begin_end self.old.known answer).text) }
+        ensures known { OnOk result (self.new.known ≡ (asked.begin_end self.old.known answer).known) }
+        ensures journals { self.new.journals ≡ self.old.journals }
+        ensures memory { OnOk result (asked.is_refused_memory answer ≡ false) }
+    {
+        match answer {
+            Ok(told) => self.begun(alloc, told.reply, text)?,
+            Err(fault) => say_fault(text, &[], fault)?,
+        }
+        Ok(())
+    }
+
+    /// Keeps the transaction that the desk began.
+    fn begun(&mut self, alloc: Global, reply: DeskReply, text: &mut Vec<u8>) -> Result<(), Memory>
+        ensures text { OnOk result (text.new.items ≡ text.old.items ++ (asked.begun self.old.known reply).text) }
+        ensures known { OnOk result (self.new.known ≡ (asked.begun self.old.known reply).known) }
+        ensures journals { self.new.journals ≡ self.old.journals }
+    {
+        match reply {
+            DeskReply::Txn(number) => {
+                self.txns
+                    .push(fresh(alloc, self.levels, self.limits, number))?;
+                say_number(text, b"begun ", number)
+            }
+            DeskReply::Refused(refusal) => {
+                push_desk_refusal(text, &refusal)?;
+                say_line(text, b"")
+            }
+            _ => say_line(text, b"bad answer"),
+        }
+    }
+
+    /// Where the transaction of that number is kept.
+    fn place_of(&self, number: u64) -> Option<usize>
+        ensures some { IfSome result (λ place. (number ≡ place + 1) × (place < length self.now.known.txns)) }
+        ensures none { IsNone result → item_at self.now.known.txns number ≡ None }
+    {
+        if number == 0 || number > self.txns.len() as u64 {
+            return None;
+        }
+        Some((number - 1) as usize)
+    }
+
+    fn txn(
+        &mut self,
+        alloc: Global,
+        number: u64,
+        line: TxnLine,
+        text: &mut Vec<u8>,
+    ) -> Result<(), Memory>
+        ensures text { OnOk result (text.new.items ≡ text.old.items ++ (answer self.old (Line.Txn number line)).text) }
+        ensures after { OnOk result (self.new ≡ (answer self.old (Line.Txn number line)).after) }
+    {
+        match self.place_of(number) {
+            None => say_number(text, b"no such transaction ", number),
+            Some(place) => self.txn_at(alloc, number, place, line, text),
+        }
+    }
+
+    /// Answers a line of the transaction that is kept there.
+    fn txn_at(
+        &mut self,
+        alloc: Global,
+        number: u64,
+        place: usize,
+        line: TxnLine,
+        text: &mut Vec<u8>,
+    ) -> Result<(), Memory>
+        requires { (number ≡ place + 1) × (place < length self.old.known.txns) }
+        ensures text { OnOk result (text.new.items ≡ text.old.items ++ (answer self.old (Line.Txn number line)).text) }
+        ensures after { OnOk result (self.new ≡ (answer self.old (Line.Txn number line)).after) }
+    {
+        let levels = self.levels;
+        let vacant = fresh(alloc, levels, self.limits, number);
+        let kept = mem::replace(&mut self.txns[place], vacant);
+        let kept = speak(&mut self.recorder, alloc, levels, number, kept, line, text)?;
+        self.txns[place] = kept;
+        Ok(())
+    }
+}
+
+/// A transaction that did nothing yet.
+fn fresh(alloc: Global, levels: Levels, limits: Limits, number: u64) -> Kept
+    ensures { result ≡ known.fresh levels limits number }
+{
+    Kept {
+        txn: Txn::Open(Open::new(alloc, levels, limits, number)),
+        told: None,
+    }
+}
+
+/// Answers a line of a transaction.
+fn speak(
+    recorder: &mut Recorder,
+    alloc: Global,
+    levels: Levels,
+    number: u64,
+    kept: Kept,
+    line: TxnLine,
+    text: &mut Vec<u8>,
+) -> Result<Kept, Memory>
+    requires txn { levels_of kept.txn ≡ recorder.old.journals.levels }
+    requires levels { levels ≡ recorder.old.journals.levels }
+    ensures spoken { IfOk result (λ new. asked.IsSpoken (asked.line_asked levels line number kept) recorder.old.journals recorder.new.journals text.old.items text.new.items new) }
+    ensures levels { IfOk result (λ new. levels_of new.txn ≡ levels_of kept.txn) }
+    ensures tree { recorder.new.journals.levels ≡ recorder.old.journals.levels }
+{
+    match line {
+        TxnLine::Read { file } => Ok(read(recorder, alloc, number, kept, &file, text)?),
+        TxnLine::Write { file, content } => {
+            Ok(write(recorder, alloc, number, kept, &file, content, text)?)
+        }
+        TxnLine::Prepare { server } => {
+            Ok(prepare_at_server(recorder, alloc, levels, kept, server, text)?)
+        }
+        TxnLine::Decide => Ok(decide_txn(recorder, alloc, kept, text)?),
+        TxnLine::Apply { server } => Ok(apply_at_server(
+            recorder, alloc, levels, number, kept, server, text,
+        )?),
+        TxnLine::Commit => Ok(commit_txn(recorder, alloc, kept, text)?),
+        TxnLine::Abort => Ok(abort_txn(recorder, alloc, kept, text)?),
+        TxnLine::Resolve => Ok(resolve(recorder, alloc, number, kept, text)?),
+    }
+}
+
+fn prepare_at_server(
+    recorder: &mut Recorder,
+    alloc: Global,
+    levels: Levels,
+    kept: Kept,
+    server: u64,
+    text: &mut Vec<u8>,
+) -> Result<Kept, Memory>
+    requires txn { levels_of kept.txn ≡ recorder.old.journals.levels }
+    requires levels { levels ≡ recorder.old.journals.levels }
+    ensures spoken { IfOk result (λ new. asked.IsSpoken (asked.server_asked levels server (asked.prepare_asked server) 0 kept) recorder.old.journals recorder.new.journals text.old.items text.new.items new) }
+    ensures levels { IfOk result (λ new. levels_of new.txn ≡ levels_of kept.txn) }
+    ensures tree { recorder.new.journals.levels ≡ recorder.old.journals.levels }
+{
+    match levels.server(server) {
+        None => {
+            say_number(text, b"no such server ", server)?;
+            Ok(kept)
+        }
+        Some(id) => Ok(prepare(recorder, alloc, kept, id, text)?),
+    }
+}
+
+fn apply_at_server(
+    recorder: &mut Recorder,
+    alloc: Global,
+    levels: Levels,
+    number: u64,
+    kept: Kept,
+    server: u64,
+    text: &mut Vec<u8>,
+) -> Result<Kept, Memory>
+    requires txn { levels_of kept.txn ≡ recorder.old.journals.levels }
+    requires levels { levels ≡ recorder.old.journals.levels }
+    ensures spoken { IfOk result (λ new. asked.IsSpoken (asked.server_asked levels server (asked.apply_asked server) number kept) recorder.old.journals recorder.new.journals text.old.items text.new.items new) }
+    ensures levels { IfOk result (λ new. levels_of new.txn ≡ levels_of kept.txn) }
+    ensures tree { recorder.new.journals.levels ≡ recorder.old.journals.levels }
+{
+    match levels.server(server) {
+        None => {
+            say_number(text, b"no such server ", server)?;
+            Ok(kept)
+        }
+        Some(id) => Ok(apply(recorder, alloc, number, kept, id, text)?),
+    }
+}
+
+/// What a server is asked that is to be marked.
+fn mark_ask(up: bool) -> NodeAsk
+    ensures { result ≡ asked.mark_ask up }
+{
+    if up { NodeAsk::Return } else { NodeAsk::Crash }
+}
+
+/// Puts that a cost was set behind the text, as a line, or why it was not.
+fn say_ok(text: &mut Vec<u8>, answer: Result<ViewTold, LineFault>) -> Result<(), Memory>
+    ensures text { OnOk result (text.new.items ≡ text.old.items ++ printed (asked.result_text [] asked.ok_text answer)) }
+    ensures memory { OnOk result (asked.is_refused_memory answer ≡ false) }
+{
+    match answer {
+        Ok(_told) => say_line(text, b"ok")?,
+        Err(fault) => say_fault(text, &[], fault)?,
+    }
+    Ok(())
+}
+
+/// Puts what the view chose behind the text, as a line, or why it did not.
+fn say_chosen(text: &mut Vec<u8>, answer: Result<ViewTold, LineFault>) -> Result<(), Memory>
+    ensures text { OnOk result (text.new.items ≡ text.old.items ++ printed (asked.result_text [] asked.chosen_text answer)) }
+    ensures memory { OnOk result (asked.is_refused_memory answer ≡ false) }
+{
+    match answer {
+        Ok(told) => say_choice(text, &told.reply)?,
+        Err(fault) => say_fault(text, &[], fault)?,
+    }
+    Ok(())
+}
+
+/// Puts a server's new mark behind the text, as a line, or why it has none.
+fn say_marked(
+    text: &mut Vec<u8>,
+    server: u64,
+    up: bool,
+    answer: Result<ViewTold, LineFault>,
+) -> Result<(), Memory>
+    ensures text { OnOk result (text.new.items ≡ text.old.items ++ printed (asked.result_text [] (asked.marked_text server up) answer)) }
+    ensures memory { OnOk result (asked.is_refused_memory answer ≡ false) }
+{
+    match answer {
+        Ok(_told) => say_mark(text, server, up)?,
+        Err(fault) => say_fault(text, &[], fault)?,
+    }
+    Ok(())
+}
+
+/// Puts a server's new mark behind the text, as a line.
+fn say_mark(text: &mut Vec<u8>, server: u64, up: bool) -> Result<(), Memory>
+    ensures { OnOk result (text.new.items ≡ text.old.items ++ printed (mark_word up ++ decimal server)) }
+{
+    if up {
+        say_number(text, b"up ", server)
+    } else {
+        say_number(text, b"down ", server)
     }
 }
 

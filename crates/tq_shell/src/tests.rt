@@ -3,7 +3,9 @@
 mod devices;
 mod faults;
 mod odd_lines;
+mod refusals;
 mod rows;
+mod states;
 mod words;
 
 use crate::{MemorySink, MemorySource, run};
@@ -23,4 +25,13 @@ fn is_answered(alloc: Global, count: u32, lines: &[u8], wanted: &[u8]) -> Result
         }
     }
     Ok(true)
+}
+
+/// Whether the lines, read at once, are answered so.
+fn is_session(alloc: Global, count: u32, lines: &[u8], wanted: &[u8]) -> Result<bool, Fail> {
+    let levels = Levels::new(count).ok_or("levels")?;
+    let mut source = MemorySource::new(lines, usize::MAX, None);
+    let mut sink = MemorySink::new(alloc, usize::MAX, None);
+    run(alloc, levels, &mut source, &mut sink).map_err(|_| "run")?;
+    Ok(sink.bytes() == wanted)
 }

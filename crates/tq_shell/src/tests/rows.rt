@@ -3,7 +3,7 @@ use std::alloc::Global;
 use std::test::Fail;
 
 /// The levels, the lines and their answers.
-static ROWS: [(u32, &str, &str); 10] = [
+static ROWS: [(u32, &str, &str); 15] = [
     (1, "", ""),
     (
         1,
@@ -39,7 +39,32 @@ static ROWS: [(u32, &str, &str); 10] = [
     (
         1,
         "down 2\ncost 1 0\ncost 1 1000000\nchoose\nChoose\nread 1 a\n",
-        "no such server 2\nbad cost 0\nok\nquorum 1 cost 1000000\nbad line\nbad line\n",
+        "no such server 2\nbad cost 0\nok\nquorum 1 cost 1000000\nbad line\nno such transaction 1\n",
+    ),
+    (
+        2,
+        "begin\nwrite 1 a hello\ncommit 1\ndown 1\nbegin\nread 2 a\n",
+        "begun 1\nwrite a version 1 at 1 2\ncommitted 1\ndown 1\nbegun 2\na version 1 from 2 3 [hello]\n",
+    ),
+    (
+        2,
+        "begin\nread 1 a\nprepare 1 1\nprepare 1 2\ndown 1\nup 1\nbegin\nwrite 2 a x\n",
+        "begun 1\na version 0 from 1 2 []\nyes 1\nyes 2\ndown 1\nup 1\nbegun 2\nheld by 1 at 1\n",
+    ),
+    (
+        2,
+        "begin\nwrite 1 a hello\nprepare 1 1\nprepare 1 2\ndecide 1\napply 1 1\ndown 1\nbegin\nread 2 a\napply 1 2\nread 2 a\n",
+        "begun 1\nwrite a version 1 at 1 2\nyes 1\nyes 2\ncommitted 1\ninstalled 1\ndown 1\nbegun 2\nheld by 1 at 2\ninstalled 2\na version 1 from 2 3 [hello]\n",
+    ),
+    (
+        2,
+        "begin\nwrite 1 a x\nprepare 1 1\nprepare 1 2\nresolve 1\ndecide 1\napply 1 1\n",
+        "begun 1\nwrite a version 1 at 1 2\nyes 1\nyes 2\nverdict abort\ndecided abort\ndiscarded 1\n",
+    ),
+    (
+        1,
+        "begin\nread 1 a\nwrite 1 a x\nread 1 a\nwrite 1 a y\ncommit 1\ncommit 1\nbegin\ncommit 2\n",
+        "begun 1\na version 0 from 1 []\nwrite a version 1 at 1\na pending [x]\nwrite a version 1 at 1\ncommitted 1\ndecided commit\nbegun 2\nnothing to commit\n",
     ),
 ];
 

@@ -1,7 +1,7 @@
 use Rattle.std.proofs.Common.{◌≡◌, ◌++◌, drop}
 use Rattle.tq_coterie.specs.Coterie.{numbers_of}
 use Rattle.tq_shell.specs.Print.{numbers_text}
-use Rattle.tq_shell.proofs.print.say_servers.Given as goal
+use Rattle.tq_shell.proofs.print.push_servers.Given as goal
 
 -- the text so far and the numbers that are left are the whole text
 abbrev pub invariant-loop-server : goal.invariant-loop-server

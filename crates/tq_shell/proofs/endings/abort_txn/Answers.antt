@@ -1,0 +1,21 @@
+use Rattle.std.proofs.Common.{◌≡◌, ◌∙◌, ◌++◌, ◌∷◌, [], refl, sym, ap, codes}
+use Rattle.tq_txn.specs.Aborts.{abort_line}
+use Rattle.tq_txn.specs.States.{levels_of}
+use Rattle.tq_shell.specs.Asked.{no_servers, aborted_text}
+use Rattle.tq_txn.specs.declared.txn.Txn.TheVariants as states
+use Rattle.tq_shell.specs.declared.kept.Kept.{Kept}
+use Rattle.tq_shell.specs.Known.{in_state}
+use Rattle.tq_shell.specs.Print.{printed}
+use Rattle.tq_shell.proofs.Leading.{spoken_by}
+use Rattle.tq_shell.proofs.TreeLevels.{TxnEnds, all_went, all_abort}
+use Rattle.tq_shell.proofs.endings.abort_txn.Goals as goal
+
+pub returns-clause-spoken : goal.returns-clause-spoken
+returns-clause-spoken c =
+    spoken_by (abort_line c.args.kept.txn) (in_state c.args.kept) no_servers aborted_text c.args.recorder.now c.abort-answer.new.asker c.abort-answer.result.answer c.abort-answer.result.txn
+    c.args.text.now.items c.say_aborted.new.text.items (record { txn = c.abort-answer.result.txn; told = c.args.kept.told }) c.led.ensures c.led-2.ensures c.abort-answer.ensures.tree c.abort-answer.ensures.asks c.in_ok-say_aborted.ensures.memory
+    c.in_ok-say_aborted.ensures.text refl
+
+pub returns-clause-levels : goal.returns-clause-levels
+returns-clause-levels c =
+    all_went (TxnEnds (levels_of c.args.kept.txn)) (abort_line c.args.kept.txn) c.args.recorder.now.told c.abort-answer.new.asker.told c.abort-answer.result.answer c.abort-answer.result.txn (all_abort (levels_of c.args.kept.txn) c.args.kept.txn refl) c.abort-answer.ensures.asks c.in_ok-say_aborted.ensures.memory

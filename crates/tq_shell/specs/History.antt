@@ -1,0 +1,45 @@
+-- What is known of the transactions is learned from the lines, their asks and the answers, and from nothing else.
+use Rattle.std.specs.Prelude.{◌≡◌, ℕ, List, [], ◌∷◌, Option, Some, None, fold}
+use Rattle.tq_txn.specs.declared.asker.Heard.{Heard}
+use Rattle.tq_txn.specs.declared.asker.Heard.TheVariants as heard
+use Rattle.tq_txn.specs.Line as asks
+use Rattle.tq_txn.specs.Line.{Ends, AsksNode, AsksDesk, AsksView}
+use Rattle.tq_shell.specs.Answer.{World, answer}
+use Rattle.tq_shell.specs.Asked.{Spoken, asked}
+use Rattle.tq_shell.specs.Known.{Known}
+use Rattle.tq_shell.specs.declared.line.Line.{Line}
+
+-- a line, and what was heard of its asks
+pub record Said : Type 0 where
+  pub line : Line
+  pub heard : List Heard
+
+-- how a line ended, by what was heard of its asks
+abbrev pub end_of : {A : Type 0} → asks.Line A → List Heard → Option A
+end_of (Ends end) told = Some end
+end_of (AsksNode server ask next) (heard.Node asked_server asked_ask answer ∷ rest) = end_of (next answer) rest
+end_of (AsksDesk ask next) (heard.Desk asked_ask answer ∷ rest) = end_of (next answer) rest
+end_of (AsksView ask next) (heard.View asked_ask answer ∷ rest) = end_of (next answer) rest
+end_of line told = None
+
+abbrev pub known_by : Known → Option Spoken → Known
+known_by known None = known
+known_by known (Some end) = end.known
+
+-- what is known after one line more
+abbrev pub learn : Known → Said → Known
+learn known said = known_by known (end_of (asked known said.line) said.heard)
+
+-- the lines of a run, each with what was heard of its asks
+abbrev pub history : World → List Line → List Said
+history world [] = []
+history world (line ∷ lines) = record { line = line; heard = (answer world line).heard } ∷ history (answer world line).after lines
+
+-- the world after these lines
+abbrev pub world_after : World → List Line → World
+world_after world [] = world
+world_after world (line ∷ lines) = world_after (answer world line).after lines
+
+-- what is known after lines is what is learned from them, one after another
+abbrev pub IsLearned : World → List Line → Type 0
+IsLearned world lines = (world_after world lines).known ≡ fold learn world.known (history world lines)

@@ -1,0 +1,16 @@
+use tq_node::Verdict;
+use tq_txn::Txn;
+
+/// How a transaction ended, and the number of the desk's entry that told it.
+#[derive(Drop)]
+pub struct Ending {
+    pub verdict: Verdict,
+    pub cite: u64,
+}
+
+/// What is kept of a transaction: its state, and the verdict that was told last before its end.
+#[derive(Drop)]
+pub struct Kept {
+    pub txn: Txn,
+    pub told: Option<Ending>,
+}
