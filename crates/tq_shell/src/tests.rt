@@ -2,6 +2,7 @@
 
 mod devices;
 mod faults;
+mod limits;
 mod odd_lines;
 mod refusals;
 mod rows;
