@@ -45,24 +45,6 @@ fn a_vote_and_its_end(rt: HostRuntime) -> Result<(), Fail> {
     Ok(())
 }
 
-/// The open votes come by transaction, whatever the order of their numbers.
-#[test]
-fn votes_by_transaction(rt: HostRuntime) -> Result<(), Fail> {
-    let alloc = rt.alloc();
-    let list = vec![in alloc;
-        Record::Prepared { txn: 7, number: 2 },
-        Record::Prepared { txn: 9, number: 4 },
-        Record::Prepared { txn: 8, number: 6 },
-    ]?;
-    let intents = Intents::recover(alloc, list.as_slice())?;
-    let mut votes = Vec::new(alloc);
-    for (txn, vote) in intents.votes() {
-        votes.push((*txn, vote.number))?;
-    }
-    assert!(rt; votes.as_slice() == [(7, 2), (8, 6), (9, 4)].as_slice());
-    Ok(())
-}
-
 /// Copies are written one after another.
 #[test]
 fn copies_written(rt: HostRuntime) -> Result<(), Fail> {
