@@ -2,383 +2,362 @@ mod cells;
 mod judge;
 mod tables;
 
+use self::cells::{GOOD, file, ops, set, text, votes};
 use super::*;
 use std::alloc::Global;
-use std::test::Fail;
 use tq_locks::Mode;
 use tq_node::{CitedVote, HeldLock, Verdict};
 use tq_shape::{Levels, Limits, Memory, Seq};
-use tq_store::{Content, FileName, Write};
+use tq_store::{Content, Write};
 
-fn name(text: &str) -> Result<FileName, Fail> {
-    Ok(FileName::new(text.as_bytes()).ok_or("name")?)
+/// Why a test fails.
+#[derive(Clone, Copy, Debug)]
+enum Wrong {
+    Memory,
+    Reply,
+    Foreseen,
+    Verdict,
+    Begun,
 }
 
-fn content(alloc: Global, text: &str) -> Result<Content, Fail> {
-    Ok(Content::new(text.as_bytes().to_vec(alloc)?).ok_or("content")?)
-}
-
-fn grant(alloc: Global, server: u64, mode: Mode, text: &str) -> Result<Grant, Fail> {
-    Ok(Grant {
-        server,
-        number: 1,
-        mode,
-        version: 0,
-        content: content(alloc, text)?,
-    })
-}
-
-/// Shared grants of servers 1 and 2.
-fn shared(alloc: Global) -> Result<Vec<Grant>, Fail> {
-    let first = grant(alloc, 1, Mode::Shared, "")?;
-    let second = grant(alloc, 2, Mode::Shared, "")?;
-    let mut grants = Vec::new(alloc);
-    grants.push(first)?;
-    grants.push(second)?;
-    Ok(grants)
-}
-
-fn op(
-    file: &str,
-    kind: OpKind,
-    version: u64,
-    content: Content,
-    grants: Vec<Grant>,
-) -> Result<Op, Fail> {
-    Ok(Op {
-        file: name(file)?,
-        kind,
-        version,
-        content,
-        grants: Seq::from_vec(grants),
-    })
-}
-
-fn held(file: &str, mode: Mode) -> Result<HeldLock, Fail> {
-    Ok(HeldLock {
-        file: name(file)?,
-        mode,
-        since: 1,
-    })
-}
-
-/// A vote of a server that holds a shared lock of `a` since entry 1.
-fn vote(alloc: Global, server: u64, number: u64) -> Result<Vote, Fail> {
-    let mut list = Vec::new(alloc);
-    list.push(held("a", Mode::Shared)?)?;
-    Ok(Vote {
-        server,
-        number,
-        held: Seq::from_vec(list),
-        writes: Seq::from_vec(Vec::new(alloc)),
-    })
-}
-
-fn votes(alloc: Global, first: u64, second: u64) -> Result<Vec<Vote>, Fail> {
-    let one = vote(alloc, 1, first)?;
-    let two = vote(alloc, 2, second)?;
-    let mut list = Vec::new(alloc);
-    list.push(one)?;
-    list.push(two)?;
-    Ok(list)
-}
-
-fn only<T: Drop>(alloc: Global, item: T) -> Result<Vec<T>, Memory> {
-    let mut list = Vec::new(alloc);
-    list.push(item)?;
-    Ok(list)
-}
-
-fn commit(txn: u64, ops: Vec<Op>, votes: Vec<Vote>) -> DeskAsk {
-    DeskAsk::Commit {
-        txn,
-        ops: Seq::from_vec(ops),
-        votes: Seq::from_vec(votes),
+impl From<Memory> for Wrong {
+    fn from(_: Memory) -> Wrong {
+        Wrong::Memory
     }
 }
 
-/// What a desk answers to an ask after one Begin.
-fn reply_to(
+fn check(holds: bool, wrong: Wrong) -> Result<(), Wrong> {
+    if holds { Ok(()) } else { Err(wrong) }
+}
+
+/// A desk that is asked. A test hands it on by reference: each exit of the function that owns it is dear to prove.
+#[derive(Drop)]
+struct Asked {
     alloc: Global,
-    levels: Levels,
-    limits: Limits,
-    ask: &DeskAsk,
-) -> Result<DeskReply, Memory> {
-    let mut desk = Desk::new(alloc, levels, limits);
-    let _first = desk.answer(alloc, &DeskAsk::Begin)?;
-    desk.answer(alloc, ask)
+    desk: Desk,
 }
 
-fn at_two_levels(alloc: Global, ask: &DeskAsk) -> Result<DeskReply, Fail> {
-    let levels = Levels::new(2).ok_or("levels")?;
-    Ok(reply_to(alloc, levels, Limits::full(), ask)?)
-}
-
-fn fails(rule: u8) -> DeskReply {
-    DeskReply::Refused(DeskRefusal::BadEvidence { rule })
-}
-
-/// A read of `a` by servers 1 and 2, as they granted it.
-fn read_a(alloc: Global) -> Result<Vec<Op>, Fail> {
-    let read = op("a", OpKind::Read, 0, Content::empty(alloc), shared(alloc)?)?;
-    Ok(only(alloc, read)?)
-}
-
-#[test]
-fn server_left_out(rt: HostRuntime) -> Result<(), Fail> {
-    let alloc = rt.alloc();
-    let grants = only(alloc, grant(alloc, 1, Mode::Shared, "")?)?;
-    let read = op("a", OpKind::Read, 0, Content::empty(alloc), grants)?;
-    let ask = commit(1, only(alloc, read)?, only(alloc, vote(alloc, 1, 2)?)?);
-    assert_eq!(rt; at_two_levels(alloc, &ask)?, fails(1));
-    Ok(())
-}
-
-#[test]
-fn write_by_shared_grants(rt: HostRuntime) -> Result<(), Fail> {
-    let alloc = rt.alloc();
-    let write = op("a", OpKind::Write, 1, Content::empty(alloc), shared(alloc)?)?;
-    let ask = commit(1, only(alloc, write)?, votes(alloc, 2, 2)?);
-    assert_eq!(rt; at_two_levels(alloc, &ask)?, fails(2));
-    Ok(())
-}
-
-#[test]
-fn vote_as_old_as_its_grant(rt: HostRuntime) -> Result<(), Fail> {
-    let alloc = rt.alloc();
-    let ask = commit(1, read_a(alloc)?, votes(alloc, 2, 1)?);
-    assert_eq!(rt; at_two_levels(alloc, &ask)?, fails(3));
-    Ok(())
-}
-
-#[test]
-fn vote_with_a_write_of_no_op(rt: HostRuntime) -> Result<(), Fail> {
-    let alloc = rt.alloc();
-    let write = Write {
-        file: name("a")?,
-        version: 1,
-        content: content(alloc, "x")?,
-    };
-    let Vote {
-        server,
-        number,
-        held,
-        writes: _,
-    } = vote(alloc, 1, 2)?;
-    let first = Vote {
-        server,
-        number,
-        held,
-        writes: Seq::from_vec(only(alloc, write)?),
-    };
-    let mut list = only(alloc, first)?;
-    list.push(vote(alloc, 2, 2)?)?;
-    let ask = commit(1, read_a(alloc)?, list);
-    assert_eq!(rt; at_two_levels(alloc, &ask)?, fails(4));
-    Ok(())
-}
-
-#[test]
-fn read_of_a_version_not_granted(rt: HostRuntime) -> Result<(), Fail> {
-    let alloc = rt.alloc();
-    let read = op("a", OpKind::Read, 1, Content::empty(alloc), shared(alloc)?)?;
-    let ask = commit(1, only(alloc, read)?, votes(alloc, 2, 2)?);
-    assert_eq!(rt; at_two_levels(alloc, &ask)?, fails(5));
-    Ok(())
-}
-
-#[test]
-fn no_ops(rt: HostRuntime) -> Result<(), Fail> {
-    let alloc = rt.alloc();
-    let ask = commit(1, Vec::new(alloc), Vec::new(alloc));
-    assert_eq!(rt; at_two_levels(alloc, &ask)?, fails(6));
-    Ok(())
-}
-
-#[test]
-fn transaction_never_begun(rt: HostRuntime) -> Result<(), Fail> {
-    let alloc = rt.alloc();
-    let ask = commit(2, read_a(alloc)?, votes(alloc, 2, 2)?);
-    assert_eq!(rt;
-        at_two_levels(alloc, &ask)?,
-        DeskReply::Refused(DeskRefusal::NoSuchTxn)
-    );
-    Ok(())
-}
-
-/// The verdict of a commit by the votes of servers 1 and 2, both of entry 2.
-fn committed_by_both(alloc: Global) -> Result<Verdict, Fail> {
-    let mut cited = Vec::new(alloc);
-    cited.push(CitedVote {
-        server: 1,
-        number: 2,
-    })?;
-    cited.push(CitedVote {
-        server: 2,
-        number: 2,
-    })?;
-    Ok(Verdict::Commit {
-        votes: Seq::from_vec(cited),
-    })
-}
-
-/// What a desk answers that has not begun many transactions.
-fn reply_of(alloc: Global, desk: &mut Desk, ask: &DeskAsk) -> Result<DeskReply, Memory> {
-    if desk.begun() > 100 {
-        return Ok(DeskReply::Txn(0));
+impl Asked {
+    fn new(alloc: Global, levels: Levels, limits: Limits) -> Asked {
+        let desk = Desk::new(alloc, levels, limits);
+        Asked { alloc, desk }
     }
-    desk.answer(alloc, ask)
+
+    fn at_two_levels(alloc: Global) -> Asked {
+        Asked::new(alloc, Levels::new(2).unwrap(), Limits::full())
+    }
+
+    fn copied(&self) -> Result<Asked, Memory> {
+        let alloc = self.alloc;
+        let desk = self.desk.copy(alloc)?;
+        Ok(Asked { alloc, desk })
+    }
+
+    /// What the desk answers, where it has not begun many transactions.
+    fn reply(&mut self, ask: &DeskAsk) -> Result<DeskReply, Wrong> {
+        if self.desk.begun() > 100 {
+            return Err(Wrong::Begun);
+        }
+        Ok(self.desk.answer(self.alloc, ask)?)
+    }
+
+    /// Asks, and fails where the reply is another.
+    fn expect(&mut self, ask: DeskAsk, wanted: DeskReply) -> Result<(), Wrong> {
+        let reply = self.reply(&ask)?;
+        check(reply == wanted, Wrong::Reply)
+    }
+
+    /// Begins transaction 1.
+    fn begins(&mut self) -> Result<(), Wrong> {
+        self.expect(DeskAsk::Begin, DeskReply::Txn(1))
+    }
+
+    /// Begins transaction 1 and commits it, by good evidence.
+    fn commits(&mut self) -> Result<(), Wrong> {
+        self.begins()?;
+        let ask = good(self.alloc, 1)?;
+        self.expect(ask, DeskReply::Committed { serial: 1 })
+    }
 }
 
-fn base(alloc: Global) -> Result<DeskAsk, Fail> {
-    Ok(commit(1, read_a(alloc)?, votes(alloc, 2, 2)?))
+/// A commit of the evidence that these numbers stand for.
+fn commit(alloc: Global, txn: u64, cells: &[u64]) -> Result<DeskAsk, Memory> {
+    let ops = Seq::from_vec(ops(alloc, cells)?);
+    let votes = Seq::from_vec(votes(alloc, cells)?);
+    Ok(DeskAsk::Commit { txn, ops, votes })
 }
 
-/// A desk that committed transaction 1.
-fn committed_desk(alloc: Global, ask: &DeskAsk) -> Result<Desk, Fail> {
-    let levels = Levels::new(2).ok_or("levels")?;
-    let mut desk = Desk::new(alloc, levels, Limits::full());
-    let _first = desk.answer(alloc, &DeskAsk::Begin)?;
-    let _committed = reply_of(alloc, &mut desk, ask)?;
-    Ok(desk)
+fn good(alloc: Global, txn: u64) -> Result<DeskAsk, Memory> {
+    commit(alloc, txn, &GOOD)
 }
 
+/// The verdict of a commit by good evidence.
+fn by_both(alloc: Global) -> Result<Verdict, Memory> {
+    let first = CitedVote {
+        server: 1,
+        number: 7,
+    };
+    let second = CitedVote {
+        server: 2,
+        number: 8,
+    };
+    let votes = Seq::from_vec(vec![in alloc; first, second]?);
+    Ok(Verdict::Commit { votes })
+}
+
+// ---- evidence
+
+/// What a desk answers to the first commit, where its evidence fails this rule, and none where that is 0.
+fn told(rule: u8) -> DeskReply {
+    if rule == 0 {
+        DeskReply::Committed { serial: 1 }
+    } else {
+        DeskReply::Refused(DeskRefusal::BadEvidence { rule })
+    }
+}
+
+fn tells(desk: &mut Asked, cells: &[u64], rule: u8) -> Result<(), Wrong> {
+    desk.begins()?;
+    let ask = commit(desk.alloc, 1, cells)?;
+    desk.expect(ask, told(rule))
+}
+
+fn is_told(alloc: Global, cells: &[u64], rule: u8) -> Result<(), Wrong> {
+    let mut desk = Asked::at_two_levels(alloc);
+    tells(&mut desk, cells, rule)
+}
+
+/// Good evidence; a server left out, a write by a shared grant, a vote as old as a grant, a vote with a write of no
+/// op, a read of a version not granted, and one of the later of two grants of equal versions.
 #[test]
-fn commits(rt: HostRuntime) -> Result<(), Fail> {
-    let alloc = rt.alloc();
-    let reply = at_two_levels(alloc, &base(alloc)?)?;
-    assert_eq!(rt; reply, DeskReply::Committed { serial: 1 });
+fn the_rule_that_fails_is_told(rt: HostRuntime) -> Result<(), Wrong> {
+    for (at, value, read, rule) in [
+        (2, 3, 5, 0),
+        (9, 0, 5, 1),
+        (20, 0, 5, 2),
+        (29, 4, 5, 3),
+        (15, 0, 5, 4),
+        (2, 4, 5, 5),
+        (12, 3, 4, 5),
+    ] {
+        let mut cells = GOOD;
+        set(&mut cells, at, value);
+        set(&mut cells, 3, read);
+        is_told(rt.alloc(), &cells, rule)?;
+    }
     Ok(())
 }
 
 #[test]
-fn commits_once(rt: HostRuntime) -> Result<(), Fail> {
-    let alloc = rt.alloc();
-    let ask = base(alloc)?;
-    let mut desk = committed_desk(alloc, &ask)?;
-    let reply = reply_of(alloc, &mut desk, &ask)?;
-    let decided = DeskRefusal::Decided(committed_by_both(alloc)?);
-    assert_eq!(rt; reply, DeskReply::Refused(decided));
-    Ok(())
+fn no_ops(rt: HostRuntime) -> Result<(), Wrong> {
+    is_told(rt.alloc(), &[], 6)
+}
+
+// ---- how a transaction ends
+
+fn refuses_a_stranger(desk: &mut Asked) -> Result<(), Wrong> {
+    desk.begins()?;
+    let ask = good(desk.alloc, 2)?;
+    desk.expect(ask, DeskReply::Refused(DeskRefusal::NoSuchTxn))
 }
 
 #[test]
-fn resolves_to_the_commit(rt: HostRuntime) -> Result<(), Fail> {
-    let alloc = rt.alloc();
-    let mut desk = committed_desk(alloc, &base(alloc)?)?;
-    let reply = reply_of(alloc, &mut desk, &DeskAsk::Resolve { txn: 1 })?;
-    assert_eq!(rt; reply, DeskReply::Verdict(committed_by_both(alloc)?));
-    Ok(())
+fn transaction_never_begun(rt: HostRuntime) -> Result<(), Wrong> {
+    let mut desk = Asked::at_two_levels(rt.alloc());
+    refuses_a_stranger(&mut desk)
+}
+
+fn refuses_a_second(desk: &mut Asked) -> Result<(), Wrong> {
+    desk.commits()?;
+    let decided = DeskRefusal::Decided(by_both(desk.alloc)?);
+    let ask = good(desk.alloc, 1)?;
+    desk.expect(ask, DeskReply::Refused(decided))
 }
 
 #[test]
-fn resolves_to_abort(rt: HostRuntime) -> Result<(), Fail> {
-    let alloc = rt.alloc();
-    let reply = at_two_levels(alloc, &DeskAsk::Resolve { txn: 1 })?;
-    assert_eq!(rt; reply, DeskReply::Verdict(Verdict::Abort));
-    Ok(())
+fn commits_once(rt: HostRuntime) -> Result<(), Wrong> {
+    let mut desk = Asked::at_two_levels(rt.alloc());
+    refuses_a_second(&mut desk)
 }
+
+fn tells_the_commit(desk: &mut Asked) -> Result<(), Wrong> {
+    let verdict = by_both(desk.alloc)?;
+    desk.expect(DeskAsk::Resolve { txn: 1 }, DeskReply::Verdict(verdict))
+}
+
+fn commits_and_tells(desk: &mut Asked) -> Result<(), Wrong> {
+    desk.commits()?;
+    tells_the_commit(desk)
+}
+
+#[test]
+fn resolves_to_the_commit(rt: HostRuntime) -> Result<(), Wrong> {
+    let mut desk = Asked::at_two_levels(rt.alloc());
+    commits_and_tells(&mut desk)
+}
+
+fn aborts(desk: &mut Asked) -> Result<(), Wrong> {
+    desk.begins()?;
+    desk.expect(
+        DeskAsk::Resolve { txn: 1 },
+        DeskReply::Verdict(Verdict::Abort),
+    )
+}
+
+#[test]
+fn resolves_to_abort(rt: HostRuntime) -> Result<(), Wrong> {
+    let mut desk = Asked::at_two_levels(rt.alloc());
+    aborts(&mut desk)
+}
+
+/// Transaction 1 ended so, and of transaction 2 nothing is told.
+fn ended_so(desk: &Desk, wanted: &Verdict) -> Result<(), Wrong> {
+    check(desk.verdict(2).is_none(), Wrong::Verdict)?;
+    match desk.verdict(1) {
+        Some(verdict) => check(*verdict == *wanted, Wrong::Verdict),
+        None => Err(Wrong::Verdict),
+    }
+}
+
+fn shows_the_end(desk: &mut Asked) -> Result<(), Wrong> {
+    desk.commits()?;
+    let wanted = by_both(desk.alloc)?;
+    ended_so(&desk.desk, &wanted)
+}
+
+#[test]
+fn tells_how_a_transaction_ended(rt: HostRuntime) -> Result<(), Wrong> {
+    let mut desk = Asked::at_two_levels(rt.alloc());
+    shows_the_end(&mut desk)
+}
+
+fn copies_itself(desk: &mut Asked) -> Result<(), Wrong> {
+    desk.commits()?;
+    let mut copy = desk.copied()?;
+    tells_the_commit(&mut copy)
+}
+
+#[test]
+fn copies_what_is_recorded(rt: HostRuntime) -> Result<(), Wrong> {
+    let mut desk = Asked::at_two_levels(rt.alloc());
+    copies_itself(&mut desk)
+}
+
+// ---- limits
 
 /// A write of version 1 by server 1 alone.
-fn write_by_one(alloc: Global, file: &str) -> Result<Op, Fail> {
-    let grants = only(alloc, grant(alloc, 1, Mode::Exclusive, "")?)?;
-    op(file, OpKind::Write, 1, content(alloc, "x")?, grants)
-}
-
-fn voted_write(alloc: Global, file: &str) -> Result<Write, Fail> {
-    Ok(Write {
-        file: name(file)?,
+fn write_by_one(alloc: Global, number: u64) -> Result<Op, Memory> {
+    let grant = Grant {
+        server: 1,
+        number: 1,
+        mode: Mode::Exclusive,
+        version: 0,
+        content: Content::empty(alloc),
+    };
+    let grants = Seq::from_vec(vec![in alloc; grant]?);
+    Ok(Op {
+        file: file(number),
+        kind: OpKind::Write,
         version: 1,
-        content: content(alloc, "x")?,
+        content: text(alloc, 1)?,
+        grants,
     })
 }
 
-/// A commit of two writes by the one server of a tree of one level.
-fn two_writes(alloc: Global) -> Result<DeskAsk, Fail> {
-    let mut ops = only(alloc, write_by_one(alloc, "a")?)?;
-    ops.push(write_by_one(alloc, "b")?)?;
-    let mut locks = only(alloc, held("a", Mode::Exclusive)?)?;
-    locks.push(held("b", Mode::Exclusive)?)?;
-    let mut writes = only(alloc, voted_write(alloc, "a")?)?;
-    writes.push(voted_write(alloc, "b")?)?;
-    let vote = Vote {
+fn voted_write(alloc: Global, number: u64) -> Result<Write, Memory> {
+    Ok(Write {
+        file: file(number),
+        version: 1,
+        content: text(alloc, 1)?,
+    })
+}
+
+fn lock(number: u64) -> HeldLock {
+    HeldLock {
+        file: file(number),
+        mode: Mode::Exclusive,
+        since: 1,
+    }
+}
+
+fn two_ops(alloc: Global) -> Result<Vec<Op>, Memory> {
+    let first = write_by_one(alloc, 1)?;
+    let second = write_by_one(alloc, 2)?;
+    Ok(vec![in alloc; first, second]?)
+}
+
+fn two_voted(alloc: Global) -> Result<Vec<Write>, Memory> {
+    let first = voted_write(alloc, 1)?;
+    let second = voted_write(alloc, 2)?;
+    Ok(vec![in alloc; first, second]?)
+}
+
+/// The vote of server 1 for writes of two files.
+fn vote_for_two(alloc: Global) -> Result<Vote, Memory> {
+    let writes = Seq::from_vec(two_voted(alloc)?);
+    let held = Seq::from_vec(vec![in alloc; lock(1), lock(2)]?);
+    Ok(Vote {
         server: 1,
         number: 2,
-        held: Seq::from_vec(locks),
-        writes: Seq::from_vec(writes),
-    };
-    Ok(commit(1, ops, only(alloc, vote)?))
+        held,
+        writes,
+    })
 }
 
-fn at_one_level(alloc: Global, limits: Limits) -> Result<DeskReply, Fail> {
-    let levels = Levels::new(1).ok_or("levels")?;
-    Ok(reply_to(alloc, levels, limits, &two_writes(alloc)?)?)
+/// A commit of writes of two files.
+fn two_writes(alloc: Global) -> Result<DeskAsk, Memory> {
+    let ops = Seq::from_vec(two_ops(alloc)?);
+    let vote = vote_for_two(alloc)?;
+    let votes = Seq::from_vec(vec![in alloc; vote]?);
+    Ok(DeskAsk::Commit { txn: 1, ops, votes })
 }
 
-#[test]
-fn more_files_than_the_limit(rt: HostRuntime) -> Result<(), Fail> {
-    let alloc = rt.alloc();
-    let limits = Limits::new(1, 64, 1_000_000).ok_or("limits")?;
-    assert_eq!(rt;
-        at_one_level(alloc, limits)?,
-        DeskReply::Refused(DeskRefusal::TooManyFiles)
-    );
-    Ok(())
+fn answers_two_writes(desk: &mut Asked, wanted: DeskReply) -> Result<(), Wrong> {
+    desk.begins()?;
+    let ask = two_writes(desk.alloc)?;
+    desk.expect(ask, wanted)
 }
 
 #[test]
-fn more_ops_than_the_limit(rt: HostRuntime) -> Result<(), Fail> {
-    let alloc = rt.alloc();
-    let limits = Limits::new(1, 1, 1_000_000).ok_or("limits")?;
-    assert_eq!(rt;
-        at_one_level(alloc, limits)?,
-        DeskReply::Refused(DeskRefusal::TooManyOps)
-    );
-    Ok(())
+fn more_files_than_the_limit(rt: HostRuntime) -> Result<(), Wrong> {
+    let limits = Limits::new(1, 64, 1_000_000).unwrap();
+    let mut desk = Asked::new(rt.alloc(), Levels::default(), limits);
+    answers_two_writes(&mut desk, DeskReply::Refused(DeskRefusal::TooManyFiles))
 }
 
 #[test]
-fn as_many_files_as_the_limit(rt: HostRuntime) -> Result<(), Fail> {
-    let alloc = rt.alloc();
-    let limits = Limits::new(2, 2, 1).ok_or("limits")?;
-    assert_eq!(rt;
-        at_one_level(alloc, limits)?,
-        DeskReply::Committed { serial: 1 }
-    );
-    Ok(())
+fn more_ops_than_the_limit(rt: HostRuntime) -> Result<(), Wrong> {
+    let limits = Limits::new(1, 1, 1_000_000).unwrap();
+    let mut desk = Asked::new(rt.alloc(), Levels::default(), limits);
+    answers_two_writes(&mut desk, DeskReply::Refused(DeskRefusal::TooManyOps))
 }
 
 #[test]
-fn reads_the_first_of_equal_versions(rt: HostRuntime) -> Result<(), Fail> {
-    let alloc = rt.alloc();
-    let mut grants = only(alloc, grant(alloc, 1, Mode::Shared, "x")?)?;
-    grants.push(grant(alloc, 2, Mode::Shared, "y")?)?;
-    let read = op("a", OpKind::Read, 0, content(alloc, "y")?, grants)?;
-    let ask = commit(1, only(alloc, read)?, votes(alloc, 2, 2)?);
-    assert_eq!(rt; at_two_levels(alloc, &ask)?, fails(5));
-    Ok(())
+fn as_many_files_as_the_limit(rt: HostRuntime) -> Result<(), Wrong> {
+    let limits = Limits::new(2, 2, 1).unwrap();
+    let mut desk = Asked::new(rt.alloc(), Levels::default(), limits);
+    answers_two_writes(&mut desk, DeskReply::Committed { serial: 1 })
+}
+
+// ---- what changes nothing
+
+fn foresees_the_first(desk: &Asked) -> Result<(), Wrong> {
+    if desk.desk.begun() != 0 {
+        return Err(Wrong::Begun);
+    }
+    let reply = desk.desk.foresee(desk.alloc, &DeskAsk::Begin)?;
+    check(reply == DeskReply::Txn(1), Wrong::Foreseen)
+}
+
+fn foresees_and_begins(desk: &mut Asked) -> Result<(), Wrong> {
+    foresees_the_first(desk)?;
+    desk.begins()
 }
 
 #[test]
-fn foresees_with_no_change(rt: HostRuntime) -> Result<(), Fail> {
-    let alloc = rt.alloc();
-    let levels = Levels::new(2).ok_or("levels")?;
-    let desk = Desk::new(alloc, levels, Limits::full());
-    let reply = desk.foresee(alloc, &DeskAsk::Begin)?;
-    assert_eq!(rt; reply, DeskReply::Txn(1));
-    assert_eq!(rt; desk.begun(), 0);
-    Ok(())
-}
-
-#[test]
-fn copies_what_is_recorded(rt: HostRuntime) -> Result<(), Fail> {
-    let alloc = rt.alloc();
-    let desk = committed_desk(alloc, &base(alloc)?)?;
-    let mut copy = desk.copy(alloc)?;
-    assert_eq!(rt; copy.begun(), 1);
-    let reply = reply_of(alloc, &mut copy, &DeskAsk::Resolve { txn: 1 })?;
-    assert_eq!(rt; reply, DeskReply::Verdict(committed_by_both(alloc)?));
-    Ok(())
+fn foresees_with_no_change(rt: HostRuntime) -> Result<(), Wrong> {
+    let mut desk = Asked::at_two_levels(rt.alloc());
+    foresees_and_begins(&mut desk)
 }
 
 #[test]

@@ -2,13 +2,11 @@
 
 ghost use Rattle.std.specs.Prelude.{◌<◌};
 
-use super::{content, name};
 use crate::{Grant, Op, OpKind, Vote};
 use std::alloc::Global;
-use std::test::Fail;
 use tq_locks::Mode;
 use tq_node::HeldLock;
-use tq_shape::Seq;
+use tq_shape::{Memory, Seq};
 use tq_store::{Content, FileName, Write};
 
 /// Good evidence at two levels: a read of `a` and a write of `b`, each by servers 1 and 2.
@@ -41,25 +39,33 @@ pub(super) fn set(cells: &mut [u64], at: usize, value: u64) {
     }
 }
 
-fn file(number: u64) -> Result<FileName, Fail> {
+/// The files of these numbers; all others are that of 3.
+pub(super) fn file(number: u64) -> FileName {
     match number {
-        1 => name("a"),
-        2 => name("b"),
-        _ => name("c"),
+        1 => FileName::new(b"a").unwrap(),
+        2 => FileName::new(b"b").unwrap(),
+        _ => FileName::new(b"c").unwrap(),
     }
 }
 
-fn text(alloc: Global, number: u64) -> Result<Content, Fail> {
-    let text = match number {
-        0 => "",
-        1 => "p",
-        2 => "q",
-        3 => "r",
-        4 => "s",
-        5 => "t",
-        _ => "u",
-    };
-    content(alloc, text)
+fn letter(number: u64) -> u8 {
+    match number {
+        1 => b'p',
+        2 => b'q',
+        3 => b'r',
+        4 => b's',
+        5 => b't',
+        _ => b'u',
+    }
+}
+
+/// A content of one byte, and none for 0.
+pub(super) fn text(alloc: Global, number: u64) -> Result<Content, Memory> {
+    if number == 0 {
+        return Ok(Content::empty(alloc));
+    }
+    let bytes = vec![in alloc; letter(number)]?;
+    Ok(Content::new(bytes).unwrap())
 }
 
 fn mode(number: u64) -> Mode {
@@ -70,7 +76,7 @@ fn mode(number: u64) -> Mode {
     }
 }
 
-fn grant(alloc: Global, cells: &[u64], at: usize) -> Result<Grant, Fail>
+fn grant(alloc: Global, cells: &[u64], at: usize) -> Result<Grant, Memory>
     requires { at < 100 }
 {
     Ok(Grant {
@@ -82,31 +88,40 @@ fn grant(alloc: Global, cells: &[u64], at: usize) -> Result<Grant, Fail>
     })
 }
 
-fn op(alloc: Global, cells: &[u64], at: usize) -> Result<Op, Fail>
-    requires { at < 50 }
+fn grants(alloc: Global, cells: &[u64], at: usize) -> Result<Vec<Grant>, Memory>
+    requires { at < 90 }
 {
     let mut grants = Vec::new(alloc);
-    if cell(cells, at + 4) != 0 {
-        grants.push(grant(alloc, cells, at + 4)?)?;
+    for place in [at, at + 5] {
+        if cell(cells, place) != 0 {
+            grants.push(grant(alloc, cells, place)?)?;
+        }
     }
-    if cell(cells, at + 9) != 0 {
-        grants.push(grant(alloc, cells, at + 9)?)?;
-    }
-    let kind = if cell(cells, at + 1) == 1 {
+    Ok(grants)
+}
+
+fn kind(number: u64) -> OpKind {
+    if number == 1 {
         OpKind::Write
     } else {
         OpKind::Read
-    };
+    }
+}
+
+fn op(alloc: Global, cells: &[u64], at: usize) -> Result<Op, Memory>
+    requires { at < 50 }
+{
+    let grants = grants(alloc, cells, at + 4)?;
     Ok(Op {
-        file: file(cell(cells, at))?,
-        kind,
+        file: file(cell(cells, at)),
+        kind: kind(cell(cells, at + 1)),
         version: cell(cells, at + 2),
         content: text(alloc, cell(cells, at + 3))?,
         grants: Seq::from_vec(grants),
     })
 }
 
-pub(super) fn ops(alloc: Global, cells: &[u64]) -> Result<Vec<Op>, Fail> {
+pub(super) fn ops(alloc: Global, cells: &[u64]) -> Result<Vec<Op>, Memory> {
     let mut list = Vec::new(alloc);
     if cell(cells, 0) != 0 {
         list.push(op(alloc, cells, 0)?)?;
@@ -117,34 +132,47 @@ pub(super) fn ops(alloc: Global, cells: &[u64]) -> Result<Vec<Op>, Fail> {
     Ok(list)
 }
 
-fn lock(cells: &[u64], at: usize) -> Result<HeldLock, Fail>
+fn lock(cells: &[u64], at: usize) -> HeldLock
     requires { at < 100 }
 {
-    Ok(HeldLock {
-        file: file(cell(cells, at))?,
+    HeldLock {
+        file: file(cell(cells, at)),
         mode: Mode::Exclusive,
         since: cell(cells, at + 1),
-    })
+    }
 }
 
-fn vote(alloc: Global, cells: &[u64], at: usize) -> Result<Vote, Fail>
-    requires { at < 50 }
+fn locks(alloc: Global, cells: &[u64], at: usize) -> Result<Vec<HeldLock>, Memory>
+    requires { at < 90 }
 {
     let mut held = Vec::new(alloc);
-    if cell(cells, at + 2) != 0 {
-        held.push(lock(cells, at + 2)?)?;
+    for place in [at, at + 2] {
+        if cell(cells, place) != 0 {
+            held.push(lock(cells, place))?;
+        }
     }
-    if cell(cells, at + 4) != 0 {
-        held.push(lock(cells, at + 4)?)?;
+    Ok(held)
+}
+
+fn writes(alloc: Global, cells: &[u64], at: usize) -> Result<Vec<Write>, Memory>
+    requires { at < 90 }
+{
+    if cell(cells, at) == 0 {
+        return Ok(Vec::new(alloc));
     }
-    let mut writes = Vec::new(alloc);
-    if cell(cells, at + 6) != 0 {
-        writes.push(Write {
-            file: file(cell(cells, at + 6))?,
-            version: cell(cells, at + 7),
-            content: text(alloc, cell(cells, at + 8))?,
-        })?;
-    }
+    let write = Write {
+        file: file(cell(cells, at)),
+        version: cell(cells, at + 1),
+        content: text(alloc, cell(cells, at + 2))?,
+    };
+    Ok(vec![in alloc; write]?)
+}
+
+fn vote(alloc: Global, cells: &[u64], at: usize) -> Result<Vote, Memory>
+    requires { at < 50 }
+{
+    let held = locks(alloc, cells, at + 2)?;
+    let writes = writes(alloc, cells, at + 6)?;
     Ok(Vote {
         server: cell(cells, at),
         number: cell(cells, at + 1),
@@ -153,7 +181,7 @@ fn vote(alloc: Global, cells: &[u64], at: usize) -> Result<Vote, Fail>
     })
 }
 
-pub(super) fn votes(alloc: Global, cells: &[u64]) -> Result<Vec<Vote>, Fail> {
+pub(super) fn votes(alloc: Global, cells: &[u64]) -> Result<Vec<Vote>, Memory> {
     let mut list = Vec::new(alloc);
     if cell(cells, 28) != 0 {
         list.push(vote(alloc, cells, 28)?)?;

@@ -5,7 +5,7 @@ use std::alloc::Global;
 use std::cmp::Ordering;
 use tq_locks::Mode;
 use tq_shape::Memory;
-use tq_store::FileName;
+use tq_store::{FileName, Write};
 
 /// The first rule that fails, 0 where none does.
 pub(super) fn judge(
@@ -70,12 +70,8 @@ fn is_exclusive(op: &Op) -> bool {
 }
 
 fn are_unbroken(ops: &[Op], votes: &[Vote]) -> bool {
-    let mut last = 0;
-    for vote in votes {
-        if vote.server <= last {
-            return false;
-        }
-        last = vote.server;
+    if !rise(votes) {
+        return false;
     }
     if !votes
         .iter()
@@ -83,14 +79,24 @@ fn are_unbroken(ops: &[Op], votes: &[Vote]) -> bool {
     {
         return false;
     }
-    for op in ops {
-        for grant in op.grants.as_slice() {
-            if !votes.iter().any(|vote| is_held(vote, op.file, grant)) {
-                return false;
-            }
+    ops.iter().all(|op| is_unbroken(op, votes))
+}
+
+/// The servers of the votes rise, from 1 at least.
+fn rise(votes: &[Vote]) -> bool {
+    let mut last = 0;
+    for vote in votes {
+        if vote.server <= last {
+            return false;
         }
+        last = vote.server;
     }
     true
+}
+
+/// Each grant of the op is held by a vote.
+fn is_unbroken(op: &Op, votes: &[Vote]) -> bool {
+    op.grants.as_slice().iter().all(|grant| votes.iter().any(|vote| is_held(vote, op.file, grant)))
 }
 
 fn is_held(vote: &Vote, file: FileName, grant: &Grant) -> bool {
@@ -103,26 +109,40 @@ fn is_held(vote: &Vote, file: FileName, grant: &Grant) -> bool {
         .any(|lock| lock.file == file && lock.since <= grant.number)
 }
 
-/// The writes of the vote are those of its server, file by file.
-fn is_voted(alloc: Global, files: &[FileName], ops: &[Op], vote: &Vote) -> Result<bool, Memory> {
+/// The write ops of a server, file by file.
+fn wanted<'a>(
+    alloc: Global,
+    files: &[FileName],
+    ops: &'a [Op],
+    server: u64,
+) -> Result<Vec<&'a Op>, Memory> {
     let mut wanted = Vec::new(alloc);
     for file in files {
         for op in ops {
-            if writes(op) && op.file == *file && is_at(op, vote.server) {
+            if writes(op) && op.file == *file && is_at(op, server) {
                 wanted.push(op)?;
             }
         }
     }
-    let voted = vote.writes.as_slice();
+    Ok(wanted)
+}
+
+fn are_of(voted: &[Write], wanted: &[&Op]) -> bool {
     if voted.len() != wanted.len() {
-        return Ok(false);
+        return false;
     }
     for (write, op) in voted.iter().zip(wanted.iter()) {
         if write.file != op.file || write.version != op.version || write.content != op.content {
-            return Ok(false);
+            return false;
         }
     }
-    Ok(true)
+    true
+}
+
+/// The writes of the vote are those of its server, file by file.
+fn is_voted(alloc: Global, files: &[FileName], ops: &[Op], vote: &Vote) -> Result<bool, Memory> {
+    let wanted = wanted(alloc, files, ops, vote.server)?;
+    Ok(are_of(vote.writes.as_slice(), wanted.as_slice()))
 }
 
 fn are_ordered(ops: &[Op]) -> bool {
@@ -144,25 +164,22 @@ fn are_ordered(ops: &[Op]) -> bool {
     true
 }
 
-fn is_of_version(op: &Op) -> bool {
+/// The first of the grants with the greatest version.
+fn newest(grants: &[Grant]) -> Option<&Grant> {
     let mut newest: Option<&Grant> = None;
-    for grant in op.grants.as_slice() {
+    for grant in grants {
         match newest {
-            None => newest = Some(grant),
-            Some(known) => {
-                if known.version < grant.version {
-                    newest = Some(grant);
-                }
-            }
+            Some(known) if known.version >= grant.version => {}
+            _ => newest = Some(grant),
         }
     }
-    match newest {
+    newest
+}
+
+fn is_of_version(op: &Op) -> bool {
+    match newest(op.grants.as_slice()) {
         None => false,
-        Some(known) => {
-            if writes(op) {
-                return op.version > known.version && op.version - known.version == 1;
-            }
-            op.version == known.version && op.content == known.content
-        }
+        Some(known) if writes(op) => op.version > known.version && op.version - known.version == 1,
+        Some(known) => op.version == known.version && op.content == known.content,
     }
 }

@@ -1,34 +1,30 @@
 //! Tables of changes of good evidence.
 
-use super::cells::{GOOD, OUT_OF_ORDER, ops, set, votes};
+use super::cells::{GOOD, OUT_OF_ORDER, file, ops, set, votes};
 use super::judge::judge;
-use super::name;
 use crate::evidence::failed_rule;
 use std::alloc::Global;
-use std::test::Fail;
-use tq_shape::Levels;
+use tq_shape::{Levels, Memory};
 
 /// The rule that evidence at two levels fails, 0 where it is good.
-fn told(alloc: Global, cells: &[u64]) -> Result<u8, Fail> {
-    let levels = Levels::new(2).ok_or("levels")?;
+fn told(alloc: Global, cells: &[u64]) -> Result<u8, Memory> {
+    let levels = Levels::new(2).unwrap();
     let ops = ops(alloc, cells)?;
     let votes = votes(alloc, cells)?;
-    match failed_rule(alloc, levels, ops.as_slice(), votes.as_slice())? {
-        Some(rule) => Ok(rule),
-        None => Ok(0),
-    }
+    let failed = failed_rule(alloc, levels, ops.as_slice(), votes.as_slice())?;
+    Ok(failed.unwrap_or(0))
 }
 
 /// The same by the plain judge.
-fn judged(alloc: Global, cells: &[u64]) -> Result<u8, Fail> {
-    let files = [name("a")?, name("b")?, name("c")?];
+fn judged(alloc: Global, cells: &[u64]) -> Result<u8, Memory> {
+    let files = [file(1), file(2), file(3)];
     let ops = ops(alloc, cells)?;
     let votes = votes(alloc, cells)?;
-    Ok(judge(alloc, &files, ops.as_slice(), votes.as_slice())?)
+    judge(alloc, &files, ops.as_slice(), votes.as_slice())
 }
 
 #[test]
-fn single_changes(rt: HostRuntime) -> Result<(), Fail> {
+fn single_changes(rt: HostRuntime) -> Result<(), Memory> {
     let alloc = rt.alloc();
     for (at, value, rule) in [
         // a change that changes no rule
@@ -86,7 +82,7 @@ fn single_changes(rt: HostRuntime) -> Result<(), Fail> {
 }
 
 #[test]
-fn good_evidence(rt: HostRuntime) -> Result<(), Fail> {
+fn good_evidence(rt: HostRuntime) -> Result<(), Memory> {
     let alloc = rt.alloc();
     assert_eq!(rt; told(alloc, &GOOD)?, 0);
     assert_eq!(rt; told(alloc, &OUT_OF_ORDER)?, 5);
@@ -94,7 +90,7 @@ fn good_evidence(rt: HostRuntime) -> Result<(), Fail> {
 }
 
 #[test]
-fn no_op_and_no_vote(rt: HostRuntime) -> Result<(), Fail> {
+fn no_op_and_no_vote(rt: HostRuntime) -> Result<(), Memory> {
     let alloc = rt.alloc();
     let mut cells = GOOD;
     for at in [0, 14, 28, 37] {
@@ -106,7 +102,7 @@ fn no_op_and_no_vote(rt: HostRuntime) -> Result<(), Fail> {
 
 /// Up to three numbers changed at random, against the plain judge.
 #[test]
-fn random_changes(rt: HostRuntime) -> Result<(), Fail> {
+fn random_changes(rt: HostRuntime) -> Result<(), Memory> {
     let alloc = rt.alloc();
     let mut seed: u64 = 20261122;
     for round in 0..3000 {

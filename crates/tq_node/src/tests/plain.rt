@@ -55,7 +55,7 @@ impl Plain {
         None
     }
 
-    fn vote_writes(&self, txn: u64) -> Result<Seq<Write>, Fail> {
+    fn vote_writes(&self, txn: u64) -> Result<Seq<Write>, Memory> {
         for vote in &self.votes {
             if vote.txn == txn {
                 return Ok(vote.writes.clone()?);
@@ -73,7 +73,7 @@ impl Plain {
         0
     }
 
-    fn content(&self, file: FileName) -> Result<Content, Fail> {
+    fn content(&self, file: FileName) -> Result<Content, Memory> {
         for copy in &self.copies {
             if copy.file == file {
                 return Ok(copy.content.clone()?);
@@ -180,12 +180,20 @@ impl Plain {
     }
 
     /// Installs a write that is newer than the copy here, and writes it down.
-    fn install(&mut self, write: Write) -> Result<(), Fail> {
+    fn install(&mut self, write: Write) -> Result<(), Memory> {
         if self.version(write.file) < write.version {
             let file = write.file;
             self.copies.retain(|copy| copy.file != file);
             self.copies.push(write.clone()?)?;
             self.stable.push(Record::Copy(write))?;
+        }
+        Ok(())
+    }
+
+    /// Installs the writes of the vote of a transaction.
+    fn install_all(&mut self, txn: u64) -> Result<(), Memory> {
+        for write in self.vote_writes(txn)?.into_vec() {
+            self.install(write)?;
         }
         Ok(())
     }
@@ -196,7 +204,7 @@ impl Plain {
         txn: u64,
         file: FileName,
         mode: Mode,
-    ) -> Result<NodeReply, Fail> {
+    ) -> Result<NodeReply, Memory> {
         let version = self.version(file);
         let lock = match self.lock(txn, file) {
             Some(lock) if lock.mode == Mode::Exclusive => lock,
@@ -225,7 +233,7 @@ impl Plain {
     }
 
     /// The locks of a transaction, ascending by file.
-    fn held(&self, txn: u64) -> Result<Vec<PlainLock>, Fail> {
+    fn held(&self, txn: u64) -> Result<Vec<PlainLock>, Memory> {
         let mut held = Vec::new(self.alloc);
         for file in &self.files {
             if let Some(lock) = self.lock(txn, *file) {
@@ -235,10 +243,9 @@ impl Plain {
         Ok(held)
     }
 
-    /// Writes the locks of a transaction into the stable list, and names them.
-    fn keep(&mut self, number: u64, txn: u64) -> Result<Seq<HeldLock>, Fail> {
-        let mut named = Vec::new(self.alloc);
-        for held in &self.held(txn)? {
+    /// Writes locks into the stable list.
+    fn write_locks(&mut self, number: u64, txn: u64, held: &[PlainLock]) -> Result<(), Memory> {
+        for held in held {
             let lock = KeptLock {
                 file: held.file,
                 mode: held.mode,
@@ -246,23 +253,35 @@ impl Plain {
                 version: held.version,
             };
             self.stable.push(Record::Keep { txn, number, lock })?;
-            named.push(HeldLock {
-                file: held.file,
-                mode: held.mode,
-                since: held.since,
-            })?;
         }
+        Ok(())
+    }
+
+    /// Makes the locks of a transaction stable.
+    fn stabilise(&mut self, txn: u64) {
         for lock in &mut self.locks {
             lock.stable = lock.stable || lock.txn == txn;
         }
-        Ok(Seq::from_vec(named))
     }
 
-    fn prepare(&mut self, number: u64, txn: u64, writes: &Seq<Write>) -> Result<NodeReply, Fail> {
-        for write in writes.as_slice() {
+    /// Keeps the locks of a transaction, and names them.
+    fn keep(&mut self, number: u64, txn: u64) -> Result<Seq<HeldLock>, Memory> {
+        let held = self.held(txn)?;
+        self.write_locks(number, txn, held.as_slice())?;
+        self.stabilise(txn);
+        named(self.alloc, held.as_slice())
+    }
+
+    fn write_intents(&mut self, number: u64, txn: u64, writes: &[Write]) -> Result<(), Memory> {
+        for write in writes {
             let write = write.clone()?;
             self.stable.push(Record::Intent { txn, number, write })?;
         }
+        Ok(())
+    }
+
+    fn prepare(&mut self, number: u64, txn: u64, writes: &Seq<Write>) -> Result<NodeReply, Memory> {
+        self.write_intents(number, txn, writes.as_slice())?;
         let held = self.keep(number, txn)?;
         self.stable.push(Record::Prepared { txn, number })?;
         self.votes.push(PlainVote {
@@ -290,27 +309,28 @@ impl Plain {
         }
     }
 
-    fn end(&mut self, number: u64, txn: u64) -> Result<(), Fail> {
+    fn end(&mut self, number: u64, txn: u64) -> Result<(), Memory> {
         self.stable.push(Record::Gone { txn, number })?;
         self.votes.retain(|vote| vote.txn != txn);
         self.locks.retain(|lock| lock.txn != txn);
         Ok(())
     }
 
-    fn decide(&mut self, txn: u64, verdict: &Verdict) -> Result<NodeReply, Fail> {
-        let number = self.vote_number(txn).ok_or("no vote")?;
-        if !self.is_cited(number, verdict) {
-            self.end(number, txn)?;
-            return Ok(NodeReply::Discarded);
-        }
-        for write in self.vote_writes(txn)?.into_vec() {
-            self.install(write)?;
+    fn decide(&mut self, txn: u64, verdict: &Verdict) -> Result<NodeReply, Memory> {
+        let number = self.vote_number(txn).unwrap_or(0);
+        let installs = self.is_cited(number, verdict);
+        if installs {
+            self.install_all(txn)?;
         }
         self.end(number, txn)?;
-        Ok(NodeReply::Installed)
+        Ok(if installs {
+            NodeReply::Installed
+        } else {
+            NodeReply::Discarded
+        })
     }
 
-    fn work(&mut self, number: u64, ask: &WorkAsk) -> Result<NodeReply, Fail> {
+    fn work(&mut self, number: u64, ask: &WorkAsk) -> Result<NodeReply, Memory> {
         match ask {
             WorkAsk::Lock { txn, file, mode } => self.grant(number, *txn, *file, *mode),
             WorkAsk::Prepare { txn, writes } => self.prepare(number, *txn, writes),
@@ -340,7 +360,7 @@ impl Plain {
         }
     }
 
-    pub fn answer(&mut self, number: u64, ask: &NodeAsk) -> Result<NodeReply, Fail> {
+    pub fn answer(&mut self, number: u64, ask: &NodeAsk) -> Result<NodeReply, Memory> {
         if let Some(reason) = self.refusal(ask) {
             return Ok(NodeReply::Refused(reason));
         }
@@ -357,6 +377,19 @@ impl Plain {
             }
         }
     }
+}
+
+/// Locks, as a vote lists them.
+fn named(alloc: Global, held: &[PlainLock]) -> Result<Seq<HeldLock>, Memory> {
+    let mut named = Vec::new(alloc);
+    for held in held {
+        named.push(HeldLock {
+            file: held.file,
+            mode: held.mode,
+            since: held.since,
+        })?;
+    }
+    Ok(Seq::from_vec(named))
 }
 
 fn rise(writes: &[Write]) -> bool {

@@ -38,24 +38,25 @@ impl Dice {
         }
     }
 
-    fn file(&mut self) -> Result<FileName, Fail> {
+    fn file(&mut self) -> FileName {
+        let files = Files::new();
         match self.roll(3) {
-            0 => file(b'a'),
-            1 => file(b'b'),
-            _ => file(b'c'),
+            0 => files.a,
+            1 => files.b,
+            _ => files.c,
         }
     }
 
-    fn write(&mut self, alloc: Global, file: FileName) -> Result<Write, Fail> {
+    fn write(&mut self, alloc: Global, file: FileName) -> Result<Write, Memory> {
         let version = self.roll(9);
         let byte = self.byte();
         write(alloc, file, version, byte)
     }
 
-    fn writes(&mut self, alloc: Global) -> Result<Seq<Write>, Fail> {
+    fn writes(&mut self, alloc: Global) -> Result<Seq<Write>, Memory> {
         let mut writes = Vec::new(alloc);
         for _ in 0..self.roll(3) {
-            let file = self.file()?;
+            let file = self.file();
             writes.push(self.write(alloc, file)?)?;
         }
         Ok(Seq::from_vec(writes))
@@ -73,11 +74,12 @@ struct Walk {
 }
 
 impl Walk {
-    fn new(alloc: Global) -> Result<Walk, Fail> {
-        let files = vec![in alloc; file(b'a')?, file(b'b')?, file(b'c')?]?;
+    fn new(alloc: Global) -> Result<Walk, Memory> {
+        let files = Files::new();
+        let files = vec![in alloc; files.a, files.b, files.c]?;
         Ok(Walk {
             alloc,
-            server: Numbered::new(alloc, 2)?,
+            server: Numbered::new(alloc),
             plain: Plain::new(alloc, 2, files),
             state: 7,
             installed: false,
@@ -85,7 +87,7 @@ impl Walk {
         })
     }
 
-    fn verdict(&self, dice: &mut Dice, txn: u64) -> Result<Verdict, Fail> {
+    fn verdict(&self, dice: &mut Dice, txn: u64) -> Result<Verdict, Memory> {
         let number = match self.plain.vote_number(txn) {
             Some(number) if dice.roll(3) > 0 => number,
             _ => dice.roll(9),
@@ -103,43 +105,54 @@ impl Walk {
         })
     }
 
-    fn pick(&self, dice: &mut Dice) -> Result<NodeAsk, Fail> {
+    fn pick(&self, dice: &mut Dice) -> Result<NodeAsk, Memory> {
         let alloc = self.alloc;
         let txn = dice.roll(4);
         match dice.roll(40) {
             0 => Ok(NodeAsk::Crash),
             1..=4 => Ok(NodeAsk::Return),
             5..=7 => Ok(release(txn)),
-            8..=9 => Ok(peek(dice.file()?)),
-            10..=12 => refresh(alloc, dice.file()?, dice.roll(9), dice.byte()),
+            8..=9 => Ok(peek(dice.file())),
+            10..=12 => refresh(alloc, dice.file(), dice.roll(9), dice.byte()),
             13..=20 => Ok(prepare(txn, dice.writes(alloc)?)),
             21..=26 => Ok(decide(txn, self.verdict(dice, txn)?)),
-            _ => Ok(lock(txn, dice.file()?, dice.mode())),
+            _ => Ok(lock(txn, dice.file(), dice.mode())),
         }
     }
 
-    fn step(&mut self) -> Result<(), Fail> {
+    /// An ask at random.
+    fn next_ask(&mut self) -> Result<NodeAsk, Memory> {
         let mut dice = Dice { state: self.state };
         let ask = self.pick(&mut dice)?;
         self.state = dice.state;
-        let number = self.server.node.last().checked_add(1).ok_or("numbers")?;
-        let wanted = self.plain.answer(number, &ask)?;
+        Ok(ask)
+    }
+
+    fn wanted(&mut self, ask: &NodeAsk) -> Result<NodeReply, Wrong> {
+        let number = self.server.node.last().checked_add(1).ok_or(Wrong::Number)?;
+        Ok(self.plain.answer(number, ask)?)
+    }
+
+    fn step(&mut self) -> Result<(), Wrong> {
+        let ask = self.next_ask()?;
+        let wanted = self.wanted(&ask)?;
         self.installed = self.installed || matches!(wanted, NodeReply::Installed);
         self.discarded = self.discarded || matches!(wanted, NodeReply::Discarded);
         self.server.expect(ask, wanted)
     }
 
-    fn end(&self) -> Result<(), Fail> {
-        check(self.installed && self.discarded, "no vote was ended")?;
+    /// Answers alike for this many steps, with votes that were ended both ways, and the same records in the end.
+    fn goes(&mut self, steps: u64) -> Result<(), Wrong> {
+        for _ in 0..steps {
+            self.step()?;
+        }
+        check(self.installed && self.discarded, Wrong::Walk)?;
         self.server.keeps(self.plain.stable.as_slice())
     }
 }
 
 #[test]
-fn a_random_walk_answers_as_defined(rt: HostRuntime) -> Result<(), Fail> {
+fn a_random_walk_answers_as_defined(rt: HostRuntime) -> Result<(), Wrong> {
     let mut walk = Walk::new(rt.alloc())?;
-    for _ in 0..3000 {
-        walk.step()?;
-    }
-    walk.end()
+    walk.goes(3000)
 }
