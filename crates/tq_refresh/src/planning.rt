@@ -11,10 +11,11 @@ use tq_tables::{FileRow, Tables};
 
 /// The stale copies that can be mended as the view's marks stand: of each file of the tables in their order, each
 /// stale server that is marked up, upwards, with the least current one that is marked up as source. A file with no
-/// such source has no job. Tables and view are of trees of equal levels.
+/// such source has no job. Tables and view are of trees of equal levels, and so are the servers of the jobs.
 pub fn plan(alloc: Global, tables: &Tables, view: &View) -> Result<Vec<Job>, Memory>
     requires { view.now.levels ≡ tables.now.levels }
-    ensures { IfOk result (λ jobs. jobs.items ≡ plan_of tables.now view.now) }
+    ensures value { IfOk result (λ jobs. jobs.items ≡ plan_of tables.now view.now) }
+    ensures of_tree { IfOk result (λ jobs. All (λ job. (job.server.levels ≡ tables.now.levels) × (job.source.levels ≡ tables.now.levels)) jobs.items) }
 {
     plan_rows(alloc, tables.files(), view.tree())
 }
