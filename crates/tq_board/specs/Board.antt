@@ -66,19 +66,34 @@ least_text (Some least) = decimal least.cost ++ codes " by" ++ servers_text (num
 -- a server: its cost and mark in the view, and the least quorum of its subtree
 abbrev pub server_text : Live → Option Least → ℕ → List ℕ
 server_text view least server =
-    codes "server " ++ decimal server ++ codes " cost " ++ decimal (cost_of view server) ++ codes " " ++ mark_text (is_up view server) ++ codes " least " ++ least_text least
+    codes "server " ++ decimal server
+    ++ codes " cost " ++ decimal (cost_of view server)
+    ++ codes " " ++ mark_text (is_up view server)
+    ++ codes " least " ++ least_text least
 
 abbrev pub file_text : FileRow → List ℕ
 file_text row =
-    codes "file " ++ row.file ++ codes " version " ++ decimal row.version ++ codes " current" ++ servers_text row.current.numbers ++ codes " stale" ++ servers_text row.stale.numbers
+    codes "file " ++ row.file
+    ++ codes " version " ++ decimal row.version
+    ++ codes " current" ++ servers_text row.current.numbers
+    ++ codes " stale" ++ servers_text row.stale.numbers
 
 abbrev pub lock_text : LockRow → List ℕ
 lock_text row =
-    codes "lock " ++ decimal row.server.number ++ codes " " ++ row.file ++ codes " " ++ decimal row.txn ++ codes " " ++ mode_text row.mode ++ codes " since " ++ decimal row.since ++ codes " version " ++ decimal row.version
+    codes "lock " ++ decimal row.server.number
+    ++ codes " " ++ row.file
+    ++ codes " " ++ decimal row.txn
+    ++ codes " " ++ mode_text row.mode
+    ++ codes " since " ++ decimal row.since
+    ++ codes " version " ++ decimal row.version
 
 abbrev pub intent_text : IntentRow → List ℕ
 intent_text row =
-    codes "intent " ++ decimal row.server.number ++ codes " " ++ decimal row.txn ++ codes " number " ++ decimal row.number ++ codes " " ++ state_text row.state ++ listed (map write_text row.writes)
+    codes "intent " ++ decimal row.server.number
+    ++ codes " " ++ decimal row.txn
+    ++ codes " number " ++ decimal row.number
+    ++ codes " " ++ state_text row.state
+    ++ listed (map write_text row.writes)
 
 -- ---- the board
 
@@ -91,12 +106,16 @@ abbrev pub server_lines : TablesView → Live → List ℕ
 server_lines tables view = flat_map (server_line tables view) (upwards 1 (2 ^ tables.levels - 1))
 
 -- a line for each file, for each lock and for each open intention
-abbrev pub row_lines : TablesView → List ℕ
-row_lines tables =
-    flat_map (λ row. as_line (file_text row)) tables.files
-    ++ flat_map (λ row. as_line (lock_text row)) tables.locks
-    ++ flat_map (λ row. as_line (intent_text row)) tables.intentions
+abbrev pub row_lines : List FileRow → List LockRow → List IntentRow → List ℕ
+row_lines files locks intentions =
+    flat_map (λ row. as_line (file_text row)) files
+    ++ flat_map (λ row. as_line (lock_text row)) locks
+    ++ flat_map (λ row. as_line (intent_text row)) intentions
 
 -- the head, a line for each server, a line for each row, and the end
 abbrev pub board_text : TablesView → Live → List ℕ
-board_text tables view = as_line (codes "board levels " ++ decimal tables.levels) ++ server_lines tables view ++ row_lines tables ++ as_line (codes "end")
+board_text tables view =
+    as_line (codes "board levels " ++ decimal tables.levels)
+    ++ server_lines tables view
+    ++ row_lines tables.files tables.locks tables.intentions
+    ++ as_line (codes "end")

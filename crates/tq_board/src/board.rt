@@ -5,7 +5,7 @@ use crate::line::{push_file, push_intent, push_lock, push_server};
 use std::alloc::Global;
 use tq_live::View;
 use tq_shape::{Memory, ServerId};
-use tq_tables::Tables;
+use tq_tables::{FileRow, IntentRow, LockRow, Tables};
 
 /// The text of the board: the head, a line for each server upwards with its cost and mark in the view, a line for each
 /// row of the tables, and the end. The tables and the view are of one tree.
@@ -20,7 +20,12 @@ pub fn render(alloc: Global, tables: &Tables, view: &View) -> Result<String, Mem
     let mut text = String::new(alloc);
     writeln!(text, "board levels {}", tables.levels().count())?;
     push_server_lines(&mut text, tables, view)?;
-    push_rows(&mut text, tables)?;
+    push_rows(
+        &mut text,
+        tables.files(),
+        tables.locks(),
+        tables.intentions(),
+    )?;
     text.push_str("end\n")?;
     Ok(text)
 }
@@ -40,17 +45,22 @@ fn push_server_lines(text: &mut String, tables: &Tables, view: &View) -> Result<
     Ok(())
 }
 
-/// Puts a line for each row of the tables behind the text.
-fn push_rows(text: &mut String, tables: &Tables) -> Result<(), Memory>
-    ensures { OnOk result (string_bytes text.new ≡ string_bytes text.old ++ row_lines tables.now) }
+/// Puts a line for each file, for each lock and for each open intention behind the text.
+pub(crate) fn push_rows(
+    text: &mut String,
+    files: &[FileRow],
+    locks: &[LockRow],
+    intentions: &[IntentRow],
+) -> Result<(), Memory>
+    ensures { OnOk result (string_bytes text.new ≡ string_bytes text.old ++ row_lines files.now locks.now intentions.now) }
 {
-    for row in tables.files() {
+    for row in files {
         push_file(text, row)?;
     }
-    for lock in tables.locks() {
+    for lock in locks {
         push_lock(text, lock)?;
     }
-    for intent in tables.intentions() {
+    for intent in intentions {
         push_intent(text, intent)?;
     }
     Ok(())

@@ -1,5 +1,4 @@
 ghost use Rattle.std.specs.Prelude.{◌≡◌, ◌++◌, OnOk, string_bytes};
-ghost use Rattle.tq_live.specs.Live.{cost_of, is_up};
 ghost use Rattle.tq_board.specs.Board.{as_line, file_text, intent_text, least_text, lock_text, server_text};
 
 use crate::word::{mark_word, mode_word, push_quorum, push_set, push_writes, state_word};

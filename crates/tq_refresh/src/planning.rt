@@ -15,7 +15,8 @@ use tq_tables::{FileRow, Tables};
 pub fn plan(alloc: Global, tables: &Tables, view: &View) -> Result<Vec<Job>, Memory>
     requires { view.now.levels ≡ tables.now.levels }
     ensures value { IfOk result (λ jobs. jobs.items ≡ plan_of tables.now view.now) }
-    ensures of_tree { IfOk result (λ jobs. All (λ job. (job.server.levels ≡ tables.now.levels) × (job.source.levels ≡ tables.now.levels)) jobs.items) }
+    ensures of_tree { IfOk result (λ jobs. All (λ job. (job.server.levels ≡ tables.now.levels)
+        × (job.source.levels ≡ tables.now.levels)) jobs.items) }
 {
     plan_rows(alloc, tables.files(), view.tree())
 }
@@ -26,7 +27,8 @@ pub(crate) fn plan_rows(
     rows: &[FileRow],
     tree: &LiveTree,
 ) -> Result<Vec<Job>, Memory>
-    requires { All (λ row. (row.current.levels ≡ tree.now.levels) × (row.stale.levels ≡ tree.now.levels)) rows.now }
+    requires { All (λ row. (row.current.levels ≡ tree.now.levels)
+        × (row.stale.levels ≡ tree.now.levels)) rows.now }
     ensures { IfOk result (λ jobs. jobs.items ≡ flat_map (jobs_of tree.now) rows.now) }
 {
     let mut jobs = Vec::new(alloc);

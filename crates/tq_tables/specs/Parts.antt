@@ -32,7 +32,7 @@ abbrev pub nodes_at : ℕ → ℕ → List (List ServerEntry) → List NodeView
 nodes_at levels first [] = []
 nodes_at levels first (entries ∷ rest) = node_after_all levels first entries ∷ nodes_at levels (first + 1) rest
 
--- they are the servers of a tree of those levels, upwards from the first
+-- they are servers of a tree of those levels, numbered upwards from the first
 abbrev pub AreOfTree : ℕ → ℕ → List NodeView → Type 0
 AreOfTree levels first [] = Unit {0}
 AreOfTree levels first (node ∷ nodes) = ((node.levels ≡ levels) × (node.server ≡ first)) × AreOfTree levels (first + 1) nodes

@@ -1,5 +1,4 @@
-ghost use Rattle.std.specs.Prelude.{◌≡◌, ◌++◌, ◌∷◌, [], ◌+◌, map, not, All, IfOk, reverse};
-ghost use Rattle.std.specs.List.{filter};
+ghost use Rattle.std.specs.Prelude.{◌≡◌, IfOk, reverse};
 ghost use Rattle.tq_desk.specs.DeskJournal as log;
 ghost use Rattle.tq_tables.specs.Parts.{AreOfTree};
 ghost use Rattle.tq_tables.specs.Rows as spec;

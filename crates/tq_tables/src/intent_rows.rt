@@ -33,7 +33,8 @@ fn push_intents(
     node: &Node,
     desk: &Desk,
 ) -> Result<(), Memory>
-    ensures { OnOk result (rows.new.items ≡ rows.old.items ++ map (spec.intent_row (intent_state_at desk.now) node.now) (fin.entries node.now.state.records.votes)) }
+    ensures { OnOk result (rows.new.items ≡ rows.old.items
+        ++ map (spec.intent_row (intent_state_at desk.now) node.now) (fin.entries node.now.state.records.votes)) }
 {
     let server = node.server();
     for (txn, vote) in node.votes() {

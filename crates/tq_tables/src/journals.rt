@@ -59,8 +59,20 @@ impl Journals {
         desk: Vec<DeskEntry>,
         view: Vec<ViewEntry>,
     ) -> Journals
-        requires { AreJournals (record { levels = levels; limits = limits; servers = map (λ entries. entries.items) servers.items; desk = desk.items; view = view.items }) }
-        ensures { result ≡ record { levels = levels; limits = limits; servers = map (λ entries. entries.items) servers.items; desk = desk.items; view = view.items } }
+        requires { AreJournals (record {
+          levels = levels;
+          limits = limits;
+          servers = map (λ entries. entries.items) servers.items;
+          desk = desk.items;
+          view = view.items;
+        }) }
+        ensures { result ≡ record {
+          levels = levels;
+          limits = limits;
+          servers = map (λ entries. entries.items) servers.items;
+          desk = desk.items;
+          view = view.items;
+        } }
     {
         Journals {
             levels,

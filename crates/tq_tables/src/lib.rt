@@ -21,3 +21,6 @@ pub use journals::{DeskEntry, Journals, NodeEntry, ViewEntry};
 pub use lock_row::LockRow;
 pub use tables::Tables;
 pub use tq_shape::Entry;
+
+#[cfg(test)]
+mod tests;

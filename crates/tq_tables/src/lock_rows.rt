@@ -20,7 +20,8 @@ pub(crate) fn lock_rows(alloc: Global, nodes: &[Node]) -> Result<Vec<LockRow>, M
 
 /// Puts the locks of a server at the end.
 fn push_locks(rows: &mut Vec<LockRow>, node: &Node) -> Result<(), Memory>
-    ensures { OnOk result (rows.new.items ≡ rows.old.items ++ map (spec.lock_row node.now) (fin.entries node.now.state.records.locks)) }
+    ensures { OnOk result (rows.new.items ≡ rows.old.items
+        ++ map (spec.lock_row node.now) (fin.entries node.now.state.records.locks)) }
 {
     let server = node.server();
     for (key, lock) in node.locks().iter() {

@@ -83,8 +83,8 @@ impl Tables {
         Ok(tables)
     }
 
-    /// The tables over these parts: the servers of the view's tree, upwards from server 1, the desk as a legal journal
-    /// with these entries leaves it, and the view.
+    /// The tables over these parts: servers of the view's tree, upwards from server 1, the desk as a legal journal with
+    /// these entries leaves it, and the view. The rows of files, locks and intentions are of these servers alone.
     pub fn over(
         alloc: Global,
         nodes: Vec<Node>,
@@ -156,7 +156,8 @@ impl Tables {
     /// The files that commits wrote, in the order of the first such commit, and within one commit ascending by name.
     pub fn files(&self) -> &[FileRow]
         ensures value { result.now ≡ self.now.files }
-        ensures of_tree { All (λ row. (row.current.levels ≡ self.now.levels) × (row.stale.levels ≡ self.now.levels)) result.now }
+        ensures of_tree { All (λ row. (row.current.levels ≡ self.now.levels)
+            × (row.stale.levels ≡ self.now.levels)) result.now }
     {
         self.files.as_slice()
     }

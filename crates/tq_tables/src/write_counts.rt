@@ -48,7 +48,8 @@ impl WriteCounts {
     /// Counts the entry, if it records a commit.
     fn note(&mut self, alloc: Global, entry: &DeskEntry) -> Result<(), Memory>
         requires { (file : List ℕ) → spec.count_in self.old file + 1 < 2 ^ 64 }
-        ensures { OnOk result ((earlier : List Commit) → self.old ≡ spec.counted earlier → self.new ≡ spec.counted (log.with_commit entry.now.ask entry.now.reply earlier)) }
+        ensures { OnOk result ((earlier : List Commit) → self.old ≡ spec.counted earlier
+            → self.new ≡ spec.counted (log.with_commit entry.now.ask entry.now.reply earlier)) }
     {
         match &entry.ask {
             DeskAsk::Commit { ops, .. } => match &entry.reply {
