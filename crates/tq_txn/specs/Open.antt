@@ -194,6 +194,14 @@ write_after old file content answers = taken old (write_op file content (grants_
 abbrev pub touched_by : OpenView → ℕ → OpenView
 touched_by old server = record old { touched = with_number old.touched server }
 
+-- the transaction afterwards: more servers may have granted it a lock, and all else is as it was
+pub record IsTouched (old after : OpenView) : Type 0 where
+  pub levels : after.levels ≡ old.levels
+  pub limits : after.limits ≡ old.limits
+  pub txn : after.txn ≡ old.txn
+  pub ops : after.ops ≡ old.ops
+  pub voters : after.voters ≡ old.voters
+
 -- the operations with other content to write to the file
 abbrev pub with_content : List ℕ → List ℕ → List Op → List Op
 with_content file content ops = changed (is_write_to file) (λ op. record op { content = content }) ops

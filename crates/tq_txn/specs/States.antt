@@ -1,7 +1,9 @@
 -- A transaction in any of its states.
-use Rattle.std.specs.Prelude.{ℕ}
+use Rattle.std.specs.Prelude.{◌≡◌, ℕ}
 use Rattle.tq_txn.specs.declared.txn.Txn.{Txn}
 use Rattle.tq_txn.specs.declared.txn.Txn.TheVariants as states
+use Rattle.tq_txn.specs.Ended.{EndedView}
+use Rattle.tq_txn.specs.Open.{OpenView}
 
 -- the number that the desk gave it
 abbrev pub number_of : Txn → ℕ
@@ -14,3 +16,21 @@ abbrev pub levels_of : Txn → ℕ
 levels_of (states.Open old) = old.levels
 levels_of (states.Voting old) = old.txn.levels
 levels_of (states.Ended old) = old.levels
+
+-- the transaction ended with what it had read and written, and tells the servers that granted it a lock
+pub record IsEndOf (old : OpenView) (ended : EndedView) : Type 0 where
+  pub levels : ended.levels ≡ old.levels
+  pub txn : ended.txn ≡ old.txn
+  pub servers : ended.servers ≡ old.touched
+
+-- the transaction in a later state, with what it had read and written
+abbrev pub IsOf : OpenView → Txn → Type 0
+IsOf old (states.Open new) = new ≡ old
+IsOf old (states.Voting new) = new.txn ≡ old
+IsOf old (states.Ended new) = IsEndOf old new
+
+-- the same transaction, in the same state or in a later one
+abbrev pub IsStill : Txn → Txn → Type 0
+IsStill (states.Open old) new = IsOf old new
+IsStill (states.Voting old) new = IsOf old.txn new
+IsStill (states.Ended old) new = new ≡ states.Ended old

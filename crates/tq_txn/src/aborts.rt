@@ -15,6 +15,7 @@ use tq_shape::Part;
 fn resolved_open(alloc: Global, txn: Open, told: &DeskTold) -> Result<Txn, Txn>
     ensures ok { IfOk result (λ new. new ≡ spec.resolved (Txn.Open txn) told.now) }
     ensures tree { IfOk result (λ new. states.levels_of new ≡ txn.levels) }
+    ensures still { IfOk result (λ new. states.IsOf txn new) }
     ensures err { IfErr result (λ new. new ≡ Txn.Open txn) }
 {
     match txn.end(alloc, told) {
@@ -30,6 +31,7 @@ fn resolved_open(alloc: Global, txn: Open, told: &DeskTold) -> Result<Txn, Txn>
 fn resolved_voting(alloc: Global, voting: Voting, told: &DeskTold) -> Result<Txn, Txn>
     ensures ok { IfOk result (λ txn. txn ≡ spec.resolved (Txn.Voting voting) told.now) }
     ensures tree { IfOk result (λ new. states.levels_of new ≡ voting.txn.levels) }
+    ensures still { IfOk result (λ new. states.IsOf voting.txn new) }
     ensures err { IfErr result (λ txn. txn ≡ Txn.Voting voting) }
 {
     match voting.end(alloc, told) {
@@ -45,6 +47,7 @@ fn resolved_voting(alloc: Global, voting: Voting, told: &DeskTold) -> Result<Txn
 fn resolved(alloc: Global, txn: Txn, told: &DeskTold) -> Result<Txn, Txn>
     ensures ok { IfOk result (λ new. new ≡ spec.resolved txn told.now) }
     ensures tree { IfOk result (λ new. states.levels_of new ≡ states.levels_of txn) }
+    ensures still { IfOk result (λ new. states.IsStill txn new) }
     ensures err { IfErr result (λ new. new ≡ txn) }
 {
     match txn {
@@ -69,6 +72,7 @@ fn aborted(reply: DeskReply) -> Result<(), LineFault>
 fn end_aborted<A: Asker>(asker: &mut A, alloc: Global, ended: Ended) -> Abortion
     requires { ended.levels ≡ A.levels asker.old }
     ensures asks { line.Went (spec.ending_of ended) (A.told asker.old) (A.told asker.new) (line.ended_by result.answer result.txn) }
+    ensures same { result.txn ≡ Txn.Ended ended }
     ensures tree { A.levels asker.new ≡ A.levels asker.old }
 {
     match end_at_each(asker, alloc, &ended, ended.servers()) {
@@ -87,6 +91,7 @@ fn end_aborted<A: Asker>(asker: &mut A, alloc: Global, ended: Ended) -> Abortion
 fn end_where_aborted<A: Asker>(asker: &mut A, alloc: Global, reply: DeskReply, txn: Txn) -> Abortion
     requires { states.levels_of txn ≡ A.levels asker.old }
     ensures asks { line.Went (spec.abort_end reply txn) (A.told asker.old) (A.told asker.new) (line.ended_by result.answer result.txn) }
+    ensures same { result.txn ≡ txn }
     ensures tree { A.levels asker.new ≡ A.levels asker.old }
 {
     if !is_abort(&reply) {
@@ -119,9 +124,12 @@ fn is_abort(reply: &DeskReply) -> bool
 
 /// Aborts a transaction at the desk, and then ends it at the servers that granted it a lock. One that committed is
 /// answered with its verdict, and has no ending.
+/// After any fault it comes back in its state or in a later one.
 pub fn abort<A: Asker>(asker: &mut A, alloc: Global, txn: Txn) -> Abortion
     requires { states.levels_of txn ≡ A.levels asker.old }
     ensures asks { line.Went (spec.abort_line txn) (A.told asker.old) (A.told asker.new) (line.ended_by result.answer result.txn) }
+    ensures levels { states.levels_of result.txn ≡ states.levels_of txn }
+    ensures still { states.IsStill txn result.txn }
     ensures tree { A.levels asker.new ≡ A.levels asker.old }
 {
     let number = txn.number();
@@ -138,6 +146,8 @@ pub fn abort<A: Asker>(asker: &mut A, alloc: Global, txn: Txn) -> Abortion
 fn resolve_and_end<A: Asker>(asker: &mut A, alloc: Global, txn: Txn, told: DeskTold) -> Abortion
     requires { states.levels_of txn ≡ A.levels asker.old }
     ensures asks { line.Went (spec.abort_end told.reply (spec.resolved txn told)) (A.told asker.old) (A.told asker.new) (line.ended_by result.answer result.txn) }
+    ensures levels { states.levels_of result.txn ≡ states.levels_of txn }
+    ensures still { states.IsStill txn result.txn }
     ensures tree { A.levels asker.new ≡ A.levels asker.old }
 {
     match resolved(alloc, txn, &told) {

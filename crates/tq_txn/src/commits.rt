@@ -48,6 +48,7 @@ fn committed(reply: DeskReply) -> Result<u64, LineFault>
 fn decided(alloc: Global, ready: Ready, told: DeskTold) -> Decision
     ensures decision { spec.IsDecision ready told result.answer result.txn }
     ensures levels { states.levels_of result.txn ≡ ready.txn.levels }
+    ensures still { states.IsOf ready.txn result.txn }
 {
     match ready.end(alloc, &told) {
         Ok(ended) => Decision {
@@ -73,11 +74,12 @@ fn undecided(reply: DeskReply, ready: Ready, fault: TxnFault) -> Decision
     }
 }
 
-/// Asks the desk to commit a transaction whose votes are all there. After a fault the transaction comes back, ended
-/// where the desk said how it ended before.
+/// Asks the desk to commit a transaction whose votes are all there. After a fault the transaction comes back with what
+/// it read and wrote, ended where the desk said how it ended before.
 pub fn decide<A: Asker>(asker: &mut A, alloc: Global, voting: Voting) -> Decision
     ensures asks { line.Went (spec.decide_line voting) (A.told asker.old) (A.told asker.new) (line.ended_by result.answer result.txn) }
     ensures levels { states.levels_of result.txn ≡ voting.txn.levels }
+    ensures still { states.IsOf voting.txn result.txn }
     ensures tree { A.levels asker.new ≡ A.levels asker.old }
 {
     match voting.ready() {
@@ -93,6 +95,7 @@ pub fn decide<A: Asker>(asker: &mut A, alloc: Global, voting: Voting) -> Decisio
 fn decide_ready<A: Asker>(asker: &mut A, alloc: Global, ready: Ready) -> Decision
     ensures asks { line.Went (spec.ready_line ready) (A.told asker.old) (A.told asker.new) (line.ended_by result.answer result.txn) }
     ensures levels { states.levels_of result.txn ≡ ready.txn.levels }
+    ensures still { states.IsOf ready.txn result.txn }
     ensures tree { A.levels asker.new ≡ A.levels asker.old }
 {
     let ask = match ready.evidence(alloc) {
@@ -122,9 +125,12 @@ fn voters_of(alloc: Global, voting: &Voting) -> Result<Vec<ServerId>, Memory>
 
 /// Commits a transaction: the votes still missing, the commit at the desk, and then the ending. A refused vote ends
 /// it before the desk is asked; where the desk refuses, there is no ending.
+/// After any fault it comes back in its state or in a later one.
 pub fn commit<A: Asker>(asker: &mut A, alloc: Global, voting: Voting) -> Decision
     requires { voting.txn.levels ≡ A.levels asker.old }
     ensures asks { line.Went (spec.commit_line voting) (A.told asker.old) (A.told asker.new) (line.ended_by result.answer result.txn) }
+    ensures levels { states.levels_of result.txn ≡ voting.txn.levels }
+    ensures still { states.IsOf voting.txn result.txn }
     ensures tree { A.levels asker.new ≡ A.levels asker.old }
 {
     let mut voting = voting;
@@ -148,6 +154,8 @@ pub fn commit<A: Asker>(asker: &mut A, alloc: Global, voting: Voting) -> Decisio
 fn decide_and_end<A: Asker>(asker: &mut A, alloc: Global, voting: Voting) -> Decision
     requires { voting.txn.levels ≡ A.levels asker.old }
     ensures asks { line.Went (spec.decide_and_end_line voting) (A.told asker.old) (A.told asker.new) (line.ended_by result.answer result.txn) }
+    ensures levels { states.levels_of result.txn ≡ voting.txn.levels }
+    ensures still { states.IsOf voting.txn result.txn }
     ensures tree { A.levels asker.new ≡ A.levels asker.old }
 {
     let Decision { answer, txn } = decide(asker, alloc, voting);
@@ -164,6 +172,7 @@ fn decide_and_end<A: Asker>(asker: &mut A, alloc: Global, voting: Voting) -> Dec
 fn end_committed<A: Asker>(asker: &mut A, alloc: Global, serial: u64, txn: Txn) -> Decision
     requires { states.levels_of txn ≡ A.levels asker.old }
     ensures asks { line.Went (spec.commit_end serial txn) (A.told asker.old) (A.told asker.new) (line.ended_by result.answer result.txn) }
+    ensures same { result.txn ≡ txn }
     ensures tree { A.levels asker.new ≡ A.levels asker.old }
 {
     match txn {

@@ -1,4 +1,4 @@
-ghost use Rattle.std.specs.Prelude.{◌≡◌, ◌==◌, true, Some, None, IfOk};
+ghost use Rattle.std.specs.Prelude.{◌≡◌, ◌==◌, true, Some, None, IfOk, OnErr};
 ghost use Rattle.std.specs.List.{list_all};
 ghost use Rattle.tq_coterie.specs.Coterie.{numbers_of};
 ghost use Rattle.tq_txn.specs.Line as line;
@@ -30,6 +30,7 @@ pub fn prepare_at<A: Asker>(
     requires { server.levels ≡ A.levels asker.old }
     ensures asks { line.Went (spec.prepare_line voting.old server.number) (A.told asker.old) (A.told asker.new) (line.ended_by result voting.new) }
     ensures txn { voting.new.txn ≡ voting.old.txn }
+    ensures err { OnErr result (voting.new ≡ voting.old) }
     ensures tree { A.levels asker.new ≡ A.levels asker.old }
 {
     if voting.has_vote(server) {

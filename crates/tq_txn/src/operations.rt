@@ -1,8 +1,9 @@
-ghost use Rattle.std.specs.Prelude.{◌≡◌, ◌==◌, ◌++◌, [], true, IfOk};
+ghost use Rattle.std.specs.Prelude.{◌≡◌, ◌==◌, ◌++◌, [], true, IfOk, OnErr};
 ghost use Rattle.std.specs.List.{list_all};
 ghost use Rattle.tq_coterie.specs.Coterie.{numbers_of};
 ghost use Rattle.tq_txn.specs.Line as line;
 ghost use Rattle.tq_txn.specs.Lines as spec;
+ghost use Rattle.tq_txn.specs.Open as open_spec;
 
 use crate::asks::{ask_node, ask_view};
 use crate::{Asker, LineFault, NodeTold, Open, Reading, TxnFault};
@@ -111,6 +112,7 @@ fn lock_next<A: Asker>(
     ensures asks { line.Went (spec.next_lock file.now mode server.number (record { answers = answers.old.items; txn = open.old })) (A.told asker.old) (A.told asker.new)
         (line.ended_by result (record { answers = answers.new.items; txn = open.new })) }
     ensures levels { open.new.levels ≡ open.old.levels }
+    ensures kept { open_spec.IsTouched open.old open.new }
     ensures tree { A.levels asker.new ≡ A.levels asker.old }
 {
     match answers.reserve(1) {
@@ -144,6 +146,7 @@ fn lock_each<A: Asker>(
     ensures asks { line.Went (spec.locks_line file.now mode (numbers_of servers.now) (record { answers = answers.old.items; txn = open.old })) (A.told asker.old) (A.told asker.new)
         (line.ended_by result (record { answers = answers.new.items; txn = open.new })) }
     ensures levels { open.new.levels ≡ open.old.levels }
+    ensures kept { open_spec.IsTouched open.old open.new }
     ensures tree { A.levels asker.new ≡ A.levels asker.old }
 {
     match servers {
@@ -166,6 +169,7 @@ fn lock_quorum<A: Asker>(
     requires { open.old.levels ≡ A.levels asker.old }
     ensures asks { line.Went (spec.quorum_line file.now mode open.old) (A.told asker.old) (A.told asker.new) (line.ended_by result open.new) }
     ensures levels { open.new.levels ≡ open.old.levels }
+    ensures kept { open_spec.IsTouched open.old open.new }
     ensures tree { A.levels asker.new ≡ A.levels asker.old }
 {
     let quorum = match choose(asker, alloc, open.levels()) {
@@ -198,6 +202,7 @@ pub fn read_file<A: Asker>(
     requires { open.old.levels ≡ A.levels asker.old }
     ensures asks { line.Went (spec.read_line open.old file.now) (A.told asker.old) (A.told asker.new) (line.ended_by result open.new) }
     ensures levels { open.new.levels ≡ open.old.levels }
+    ensures err { OnErr result (open_spec.IsTouched open.old open.new) }
     ensures tree { A.levels asker.new ≡ A.levels asker.old }
 {
     if let Some(content) = open.pending(file) {
@@ -225,6 +230,7 @@ fn read_at_quorum<A: Asker>(
     requires { open.old.levels ≡ A.levels asker.old }
     ensures asks { line.Went (spec.quorum_read open.old file.now) (A.told asker.old) (A.told asker.new) (line.ended_by result open.new) }
     ensures levels { open.new.levels ≡ open.old.levels }
+    ensures err { OnErr result (open_spec.IsTouched open.old open.new) }
     ensures tree { A.levels asker.new ≡ A.levels asker.old }
 {
     let answers = match lock_quorum(asker, alloc, open, file, Mode::Shared) {
@@ -249,6 +255,7 @@ pub fn write_file<A: Asker>(
     requires { open.old.levels ≡ A.levels asker.old }
     ensures asks { line.Went (spec.write_line open.old file.now content) (A.told asker.old) (A.told asker.new) (line.ended_by result open.new) }
     ensures levels { open.new.levels ≡ open.old.levels }
+    ensures err { OnErr result (open_spec.IsTouched open.old open.new) }
     ensures tree { A.levels asker.new ≡ A.levels asker.old }
 {
     if let Some(op) = open.written(file) {
@@ -273,6 +280,7 @@ fn write_at_quorum<A: Asker>(
     requires { open.old.levels ≡ A.levels asker.old }
     ensures asks { line.Went (spec.quorum_write open.old file.now content) (A.told asker.old) (A.told asker.new) (line.ended_by result open.new) }
     ensures levels { open.new.levels ≡ open.old.levels }
+    ensures err { OnErr result (open_spec.IsTouched open.old open.new) }
     ensures tree { A.levels asker.new ≡ A.levels asker.old }
 {
     let answers = match lock_quorum(asker, alloc, open, file, Mode::Exclusive) {

@@ -1,3 +1,8 @@
+mod client;
+mod lines;
+mod trace;
+mod world;
+
 use super::*;
 use std::alloc::Global;
 use std::test::Fail;
@@ -65,9 +70,14 @@ fn granted(
     )
 }
 
-/// A vote of server 1, its entry 2, for a transaction that reads `a`.
-fn voted(alloc: Global, txn: u64, since: u64) -> Result<NodeTold, Fail> {
-    let writes: Vec<Write> = Vec::new(alloc);
+/// A vote of a server, its entry 2, for a transaction that reads `a`, with these writes.
+fn voted_at(
+    alloc: Global,
+    server: u64,
+    txn: u64,
+    since: u64,
+    writes: Vec<Write>,
+) -> Result<NodeTold, Fail> {
     let asked: Vec<Write> = Vec::new(alloc);
     let held = only(
         alloc,
@@ -78,7 +88,7 @@ fn voted(alloc: Global, txn: u64, since: u64) -> Result<NodeTold, Fail> {
         },
     )?;
     Ok(NodeTold {
-        server: 1,
+        server,
         number: 2,
         ask: NodeAsk::Work(WorkAsk::Prepare {
             txn,
@@ -89,6 +99,11 @@ fn voted(alloc: Global, txn: u64, since: u64) -> Result<NodeTold, Fail> {
             writes: Seq::from_vec(writes),
         },
     })
+}
+
+/// A vote of server 1 for a transaction that reads `a`, with no writes.
+fn voted(alloc: Global, txn: u64, since: u64) -> Result<NodeTold, Fail> {
+    voted_at(alloc, 1, txn, since, Vec::new(alloc))
 }
 
 /// Transaction 1 after a read of `a`.
@@ -113,6 +128,26 @@ fn refused(open: &mut Open, alloc: Global, answers: &[NodeTold]) -> Result<TxnFa
     let file = name("a")?;
     let fault = open.read(alloc, &file, answers).err().ok_or("refused")?;
     Ok(fault)
+}
+
+/// What a write of `x` to `a` by transaction 1 is refused for.
+fn unwritten(open: &mut Open, alloc: Global, answers: &[NodeTold]) -> Result<TxnFault, Fail> {
+    let file = name("a")?;
+    let text = content(alloc, "x")?;
+    match open.write(alloc, &file, text, answers) {
+        Ok(_) => Err("refused")?,
+        Err(fault) => Ok(fault),
+    }
+}
+
+/// A write of `x` to `a` by transaction 1.
+fn writes(open: &mut Open, alloc: Global, answers: &[NodeTold]) -> Result<(), Fail> {
+    let file = name("a")?;
+    let text = content(alloc, "x")?;
+    match open.write(alloc, &file, text, answers) {
+        Ok(_) => Ok(()),
+        Err(_) => Err("written")?,
+    }
 }
 
 /// What a vote for a read of `a` is refused for.
@@ -175,6 +210,43 @@ fn already_there(rt: HostRuntime) -> Result<(), Fail> {
     Ok(())
 }
 
+/// Why a read of `a` after its write is refused, and then another write.
+fn again(open: &mut Open, alloc: Global) -> Result<(TxnFault, TxnFault), Fail> {
+    let answers = granted(alloc, 1, "a", Mode::Exclusive, 7)?;
+    writes(open, alloc, answers.as_slice())?;
+    let read = refused(open, alloc, answers.as_slice())?;
+    let write = unwritten(open, alloc, answers.as_slice())?;
+    Ok((read, write))
+}
+
+#[test]
+fn already_written(rt: HostRuntime) -> Result<(), Fail> {
+    let alloc = rt.alloc();
+    let mut open = begun(alloc, 4)?;
+    let faults = again(&mut open, alloc)?;
+    assert!(rt; faults.0 == TxnFault::AlreadyThere);
+    assert!(rt; faults.1 == TxnFault::AlreadyThere);
+    Ok(())
+}
+
+#[test]
+fn not_a_grant_of_an_exclusive_lock(rt: HostRuntime) -> Result<(), Fail> {
+    let alloc = rt.alloc();
+    let answers = granted(alloc, 1, "a", Mode::Shared, 7)?;
+    let fault = unwritten(&mut begun(alloc, 4)?, alloc, answers.as_slice())?;
+    assert!(rt; fault == TxnFault::NotAGrant { server: 1 });
+    Ok(())
+}
+
+#[test]
+fn not_a_grant_of_the_file(rt: HostRuntime) -> Result<(), Fail> {
+    let alloc = rt.alloc();
+    let answers = granted(alloc, 1, "b", Mode::Shared, 7)?;
+    let fault = refused(&mut begun(alloc, 4)?, alloc, answers.as_slice())?;
+    assert!(rt; fault == TxnFault::NotAGrant { server: 1 });
+    Ok(())
+}
+
 #[test]
 fn too_many_operations(rt: HostRuntime) -> Result<(), Fail> {
     let alloc = rt.alloc();
@@ -192,12 +264,8 @@ fn too_many_operations(rt: HostRuntime) -> Result<(), Fail> {
 #[test]
 fn version_full(rt: HostRuntime) -> Result<(), Fail> {
     let alloc = rt.alloc();
-    let mut open = begun(alloc, 4)?;
     let answers = granted(alloc, 1, "a", Mode::Exclusive, u64::MAX)?;
-    let fault = open
-        .write(alloc, &name("a")?, content(alloc, "x")?, answers.as_slice())
-        .err()
-        .ok_or("refused")?;
+    let fault = unwritten(&mut begun(alloc, 4)?, alloc, answers.as_slice())?;
     assert!(rt; fault == TxnFault::VersionFull);
     Ok(())
 }
@@ -231,6 +299,62 @@ fn lost_lock(rt: HostRuntime) -> Result<(), Fail> {
     Ok(())
 }
 
+/// A read of a file by transaction 1.
+fn reads(alloc: Global, open: &mut Open, text: &str) -> Result<(), Fail> {
+    let file = name(text)?;
+    let answers = granted(alloc, 1, text, Mode::Shared, 7)?;
+    match open.read(alloc, &file, answers.as_slice()) {
+        Ok(_) => Ok(()),
+        Err(_) => Err("read")?,
+    }
+}
+
+/// Transaction 1 reads `a`, `b` and `c`; the vote covers the first alone.
+#[test]
+fn lost_lock_of_the_least_file(rt: HostRuntime) -> Result<(), Fail> {
+    let alloc = rt.alloc();
+    let mut open = begun(alloc, 4)?;
+    reads(alloc, &mut open, "c")?;
+    reads(alloc, &mut open, "a")?;
+    reads(alloc, &mut open, "b")?;
+    let Ok(mut voting) = open.close() else {
+        return Err("closed")?;
+    };
+    let fault = voting
+        .vote(alloc, &voted(alloc, 1, 1)?)
+        .err()
+        .ok_or("refused")?;
+    assert!(rt; fault == TxnFault::LostLock { file: name("b")? });
+    Ok(())
+}
+
+/// A write of `x` to `a`.
+fn a_write(alloc: Global) -> Result<Write, Fail> {
+    Ok(Write {
+        file: name("a")?,
+        version: 8,
+        content: content(alloc, "x")?,
+    })
+}
+
+/// A vote for a write that the transaction has not made.
+#[test]
+fn not_my_writes(rt: HostRuntime) -> Result<(), Fail> {
+    let alloc = rt.alloc();
+    let writes = only(alloc, a_write(alloc)?)?;
+    let fault = unfit(alloc, &voted_at(alloc, 1, 1, 1, writes)?)?;
+    assert!(rt; fault == TxnFault::NotMyVote);
+    Ok(())
+}
+
+#[test]
+fn not_a_voter_that_votes(rt: HostRuntime) -> Result<(), Fail> {
+    let alloc = rt.alloc();
+    let fault = unfit(alloc, &voted_at(alloc, 2, 1, 1, Vec::new(alloc))?)?;
+    assert!(rt; fault == TxnFault::NotAVoter);
+    Ok(())
+}
+
 #[test]
 fn not_my_vote(rt: HostRuntime) -> Result<(), Fail> {
     let alloc = rt.alloc();
@@ -249,18 +373,36 @@ fn votes_missing(rt: HostRuntime) -> Result<(), Fail> {
     Ok(())
 }
 
+/// Why an answer of the desk does not end transaction 1.
+fn unended(alloc: Global, told: &DeskTold) -> Result<TxnFault, Fail> {
+    match closed(alloc)?.end(alloc, told) {
+        Ok(_) => Err("refused")?,
+        Err(back) => Ok(back.1),
+    }
+}
+
 #[test]
 fn not_my_verdict(rt: HostRuntime) -> Result<(), Fail> {
-    let alloc = rt.alloc();
     let told = DeskTold {
         number: 3,
         ask: DeskAsk::Resolve { txn: 2 },
         reply: DeskReply::Verdict(Verdict::Abort),
     };
-    let Err(back) = closed(alloc)?.end(alloc, &told) else {
-        return Err("refused")?;
+    let fault = unended(rt.alloc(), &told)?;
+    assert!(rt; fault == TxnFault::NotMyVerdict);
+    Ok(())
+}
+
+/// What the desk told at a beginning is no verdict.
+#[test]
+fn not_a_verdict(rt: HostRuntime) -> Result<(), Fail> {
+    let told = DeskTold {
+        number: 1,
+        ask: DeskAsk::Begin,
+        reply: DeskReply::Txn(1),
     };
-    assert!(rt; back.1 == TxnFault::NotMyVerdict);
+    let fault = unended(rt.alloc(), &told)?;
+    assert!(rt; fault == TxnFault::NotMyVerdict);
     Ok(())
 }
 
