@@ -18,8 +18,8 @@ end_of_run (AsksNode server ask next) world = end_of_run (next (node_told world 
 end_of_run (AsksDesk ask next) world = end_of_run (next (desk_told world ask)) (core.world_after world (steps.Desk ask))
 end_of_run (AsksView ask next) world = end_of_run (next (view_told world ask)) (core.world_after world (steps.View ask))
 
-learned_once : (world : World) (line : Line) → (answer world line).after.known ≡ learn world.known (record { line = line; heard = (answer world line).heard })
-learned_once world line = λ i. known_by world.known (sym (end_of_run (asked world.known line) world.journals) i)
+learned_once : (world : World) (line : Line) → (answer world line).after.known ≡ learn world.known (record { before = world.journals; line = line; heard = (answer world line).heard })
+learned_once world line = λ i. known_by world.known (sym (end_of_run (asked world.journals world.known line) world.journals) i)
 
 pub is_learned : (world : World) (lines : List Line) → IsLearned world lines
 is_learned world [] = refl

@@ -7,5 +7,5 @@ pub mod ParseLaws
 pub mod CommandLaws
 pub mod Leading
 pub mod Recording
-pub mod TreeLevels
 pub mod Learned
+pub mod Operating

@@ -27,6 +27,6 @@ pub record Answer : Type 0 where
 abbrev pub answered : Ran Spoken → Answer
 answered ran = record { text = ran.end.text; heard = ran.heard; after = record { journals = ran.after; known = ran.end.known } }
 
--- the asks of the line, by what is known, answered by the service
+-- the asks of the line, by the journals before it and by what is known, answered by the service
 abbrev pub answer : World → Line → Answer
-answer world line = answered (run_line world.journals (asked world.known line))
+answer world line = answered (run_line world.journals (asked world.journals world.known line))

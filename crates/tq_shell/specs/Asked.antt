@@ -36,6 +36,7 @@ use Rattle.tq_shell.specs.declared.line.Line.TheVariants as is
 use Rattle.tq_shell.specs.declared.line.TxnLine.{TxnLine}
 use Rattle.tq_shell.specs.declared.line.TxnLine.TheVariants as of
 use Rattle.tq_shell.specs.Asking.{run_line}
+use Rattle.tq_shell.specs.Operators.{refresh_asked, board_of}
 use Rattle.tq_shell.specs.Known.{Known, with_begun, with_kept, in_state, with_told, ending_in}
 use Rattle.tq_shell.specs.Print.{printed, choice_text, mark_word, reading_text, writing_text, applied_text, verdict_text}
 use Rattle.tq_shell.specs.Refusals.{fault_text, is_memory, txn_fault_text, decided_text, desk_refusal_text}
@@ -258,19 +259,33 @@ begin_end known (Err fault) = record { text = printed (fault_text [] fault); kno
 abbrev pub begin_asked : Known → asks.Line Spoken
 begin_asked known = then_line (desk_line desk_asks.Begin) (λ end. Ends (begin_end known end.answer))
 
+-- ---- the lines of operators: what they ask and show rests on the journals as they stand before the line
+
+abbrev pub shown : Known → List ℕ → Spoken
+shown known text = record { text = text; known = known }
+
+abbrev pub refresh_line : JournalsView → Known → asks.Line Spoken
+refresh_line journals known = then_line (refresh_asked journals) (λ text. Ends (shown known text))
+
+-- nobody is asked
+abbrev pub board_line : JournalsView → Known → asks.Line Spoken
+board_line journals known = Ends (shown known (board_of journals))
+
 -- ---- all lines: the transaction is looked at first, then the server, then the state, then the rest
 
-abbrev pub asked : Known → Line → asks.Line Spoken
-asked known is.Empty = Ends (record { text = []; known = known })
-asked known is.Bad = said known (codes "bad line")
-asked known (is.Cost server cost) =
+abbrev pub asked : JournalsView → Known → Line → asks.Line Spoken
+asked journals known is.Empty = Ends (record { text = []; known = known })
+asked journals known is.Bad = said known (codes "bad line")
+asked journals known (is.Cost server cost) =
     cond (is_server known.levels server)
     (cond (is_cost cost) (cost_asked known server cost) (said known (codes "bad cost " ++ decimal cost)))
     (said known (codes "no such server " ++ decimal server))
-asked known (is.Mark server up) = cond (is_server known.levels server) (mark_asked known server up) (said known (codes "no such server " ++ decimal server))
-asked known is.Choose = choose_asked known
-asked known is.Begin = begin_asked known
-asked known (is.Txn number line) = txn_asked known number (line_asked known.levels line)
+asked journals known (is.Mark server up) = cond (is_server known.levels server) (mark_asked known server up) (said known (codes "no such server " ++ decimal server))
+asked journals known is.Choose = choose_asked known
+asked journals known is.Begin = begin_asked known
+asked journals known is.Refresh = refresh_line journals known
+asked journals known is.Board = board_line journals known
+asked journals known (is.Txn number line) = txn_asked known number (line_asked known.levels line)
 
 -- a line of a transaction that was printed so: the text that it adds, the journals and what is kept of the transaction
 pub record IsSpoken (line : asks.Line TxnSpoken) (old new : JournalsView) (before after : List ℕ) (left : Kept) : Type 0 where

@@ -1,5 +1,7 @@
--- What is known of the transactions is learned from the lines, their asks and the answers, and from nothing else.
+-- What is known of the transactions is learned from the lines, their asks and the answers, and from nothing else. (The
+-- journals are the asks before with their answers.)
 use Rattle.std.specs.Prelude.{◌≡◌, ℕ, List, [], ◌∷◌, Option, Some, None, fold}
+use Rattle.tq_tables.specs.Journals.{JournalsView}
 use Rattle.tq_txn.specs.declared.asker.Heard.{Heard}
 use Rattle.tq_txn.specs.declared.asker.Heard.TheVariants as heard
 use Rattle.tq_txn.specs.Line as asks
@@ -9,8 +11,9 @@ use Rattle.tq_shell.specs.Asked.{Spoken, asked}
 use Rattle.tq_shell.specs.Known.{Known}
 use Rattle.tq_shell.specs.declared.line.Line.{Line}
 
--- a line, and what was heard of its asks
+-- a line, the journals before it, and what was heard of its asks
 pub record Said : Type 0 where
+  pub before : JournalsView
   pub line : Line
   pub heard : List Heard
 
@@ -28,12 +31,12 @@ known_by known (Some end) = end.known
 
 -- what is known after one line more
 abbrev pub learn : Known → Said → Known
-learn known said = known_by known (end_of (asked known said.line) said.heard)
+learn known said = known_by known (end_of (asked said.before known said.line) said.heard)
 
--- the lines of a run, each with what was heard of its asks
+-- the lines of a run, each with the journals before it and with what was heard of its asks
 abbrev pub history : World → List Line → List Said
 history world [] = []
-history world (line ∷ lines) = record { line = line; heard = (answer world line).heard } ∷ history (answer world line).after lines
+history world (line ∷ lines) = record { before = world.journals; line = line; heard = (answer world line).heard } ∷ history (answer world line).after lines
 
 -- the world after these lines
 abbrev pub world_after : World → List Line → World

@@ -6,6 +6,7 @@ pub mod Refusals
 pub mod Asking
 pub mod Recorded
 pub mod Known
+pub mod Operators
 pub mod Asked
 pub mod States
 pub mod Answer

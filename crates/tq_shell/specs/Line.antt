@@ -8,7 +8,7 @@ use Rattle.tq_store.specs.declared.content.TheConstants.{MAX_CONTENT}
 use Rattle.tq_shell.specs.Word.{number_of, word_of, rest_of}
 use Rattle.tq_shell.specs.declared.line.TheConstants.{LINE_LIMIT}
 use Rattle.tq_shell.specs.declared.line.Line.{Line}
-use Rattle.tq_shell.specs.declared.line.Line.TheVariants.{Empty, Bad, Cost, Mark, Choose, Begin, Txn}
+use Rattle.tq_shell.specs.declared.line.Line.TheVariants.{Empty, Bad, Cost, Mark, Choose, Begin, Refresh, Board, Txn}
 use Rattle.tq_shell.specs.declared.line.TxnLine.TheVariants.{Read, Write, Prepare, Decide, Apply, Commit, Abort, Resolve}
 use Rattle.tq_shell.specs.declared.operands.Numbers.{Numbers}
 use Rattle.tq_shell.specs.declared.operands.Target.{Target}
@@ -97,13 +97,19 @@ abbrev pub write_line : Option (List ℕ) → Line
 write_line None = Bad
 write_line (Some words) = write_words (word_of words) (rest_of words)
 
+-- the lines of operators
+abbrev pub operator_by : List ℕ → Option (List ℕ) → Line
+operator_by verb rest =
+    cond (bytes_eq verb (codes "refresh")) (alone Refresh rest)
+    (cond (bytes_eq verb (codes "board")) (alone Board rest) Bad)
+
 -- the lines that end a transaction
 abbrev pub end_by : List ℕ → Option (List ℕ) → Line
 end_by verb rest =
     cond (bytes_eq verb (codes "decide")) (with_number (λ txn. Txn txn Decide) (one_number rest))
     (cond (bytes_eq verb (codes "commit")) (with_number (λ txn. Txn txn Commit) (one_number rest))
     (cond (bytes_eq verb (codes "abort")) (with_number (λ txn. Txn txn Abort) (one_number rest))
-    (cond (bytes_eq verb (codes "resolve")) (with_number (λ txn. Txn txn Resolve) (one_number rest)) Bad)))
+    (cond (bytes_eq verb (codes "resolve")) (with_number (λ txn. Txn txn Resolve) (one_number rest)) (operator_by verb rest))))
 
 -- the other lines of a transaction
 abbrev pub txn_by : List ℕ → Option (List ℕ) → Line

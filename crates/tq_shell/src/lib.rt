@@ -10,6 +10,7 @@ mod listener;
 mod memory;
 mod operands;
 mod operations;
+mod operators;
 mod print;
 mod recorder;
 mod refusals;

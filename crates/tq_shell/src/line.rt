@@ -20,6 +20,10 @@ pub enum Line {
     Mark { server: u64, up: bool },
     Choose,
     Begin,
+    /// The stale copies that can be mended now are mended.
+    Refresh,
+    /// The state of the whole service is shown.
+    Board,
     /// A line of a transaction.
     Txn { number: u64, line: TxnLine },
 }
@@ -108,6 +112,18 @@ impl Line {
         }
         if is_same(verb, b"resolve") {
             return of_number(rest, TxnLine::Resolve);
+        }
+        Line::operator_by(verb, rest)
+    }
+
+    fn operator_by(verb: &[u8], rest: Option<&[u8]>) -> Line
+        ensures { result ≡ spec.operator_by verb.now (options_now rest.entry) }
+    {
+        if is_same(verb, b"refresh") {
+            return alone(rest, Line::Refresh);
+        }
+        if is_same(verb, b"board") {
+            return alone(rest, Line::Board);
         }
         Line::Bad
     }

@@ -58,6 +58,13 @@ impl Recorder {
         })
     }
 
+    /// The service that is asked.
+    pub(crate) fn service(&self) -> &Service
+        ensures { result.now ≡ self.now.journals }
+    {
+        &self.service
+    }
+
     /// One ask of a server, of which any answer is taken.
     pub(crate) fn ask_any(
         &mut self,

@@ -45,7 +45,7 @@ pub(crate) fn push_decided(text: &mut Vec<u8>, verdict: &Verdict) -> Result<(), 
 }
 
 /// Puts words and a number behind the text.
-fn push_at(text: &mut Vec<u8>, words: &[u8], number: u64) -> Result<(), Memory>
+pub(crate) fn push_at(text: &mut Vec<u8>, words: &[u8], number: u64) -> Result<(), Memory>
     ensures { OnOk result (text.new.items ≡ text.old.items ++ (words.now ++ decimal number)) }
 {
     text.extend_from_slice(words)?;

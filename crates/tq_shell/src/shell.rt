@@ -10,12 +10,14 @@ use crate::endings::{abort_txn, apply, commit_txn, decide_txn, prepare, resolve}
 use crate::kept::Kept;
 use crate::line::{Line, TxnLine};
 use crate::operations::{read, write};
+use crate::operators::{refresh_all, say_board};
 use crate::print::{say_choice, say_line, say_number};
 use crate::recorder::Recorder;
 use crate::refusals::{push_desk_refusal, say_fault};
 use std::alloc::Global;
 use std::marker::Model;
 use std::mem;
+use tq_core::Service;
 use tq_desk::{DeskAsk, DeskReply};
 use tq_live::ViewAsk;
 use tq_node::NodeAsk;
@@ -67,6 +69,13 @@ impl Shell {
         })
     }
 
+    /// The service that lines are asked of.
+    pub(crate) fn service(&self) -> &Service
+        ensures { result.now ≡ self.now.journals }
+    {
+        self.recorder.service()
+    }
+
     /// Answers one line, and puts the answer behind the text.
     pub fn answer(&mut self, alloc: Global, line: Line, text: &mut Vec<u8>) -> Result<(), Memory>
         ensures text { OnOk result (text.new.items ≡ text.old.items ++ (answer self.old line).text) }
@@ -79,6 +88,8 @@ impl Shell {
             Line::Mark { server, up } => self.mark(alloc, server, up, text),
             Line::Choose => self.choose(alloc, text),
             Line::Begin => self.begin(alloc, text),
+            Line::Refresh => self.refresh(alloc, text),
+            Line::Board => self.board(alloc, text),
             Line::Txn { number, line } => self.txn(alloc, number, line, text),
         }
     }
@@ -217,6 +228,21 @@ impl Shell {
             }
             _ => say_line(text, b"bad answer"),
         }
+    }
+
+    fn refresh(&mut self, alloc: Global, text: &mut Vec<u8>) -> Result<(), Memory>
+        ensures text { OnOk result (text.new.items ≡ text.old.items ++ (answer self.old Line.Refresh).text) }
+        ensures after { OnOk result (self.new ≡ (answer self.old Line.Refresh).after) }
+    {
+        refresh_all(&mut self.recorder, alloc, text)?;
+        Ok(())
+    }
+
+    fn board(&self, alloc: Global, text: &mut Vec<u8>) -> Result<(), Memory>
+        ensures { OnOk result (text.new.items ≡ text.old.items ++ (answer self.now Line.Board).text) }
+    {
+        say_board(self.service(), alloc, text)?;
+        Ok(())
     }
 
     /// Where the transaction of that number is kept.

@@ -4,9 +4,12 @@ mod devices;
 mod faults;
 mod limits;
 mod odd_lines;
+mod operators;
 mod refusals;
 mod rows;
+mod slow_tables;
 mod states;
+mod tables;
 mod words;
 
 use crate::{MemorySink, MemorySource, run};

@@ -7,7 +7,6 @@ use Rattle.tq_shell.specs.declared.kept.Kept.{Kept}
 use Rattle.tq_shell.specs.Known.{in_state}
 use Rattle.tq_shell.specs.Print.{printed}
 use Rattle.tq_shell.proofs.Leading.{spoken_by}
-use Rattle.tq_shell.proofs.TreeLevels.{TxnEnds, all_went, all_abort}
 use Rattle.tq_shell.proofs.endings.abort_txn.Goals as goal
 
 pub returns-clause-spoken : goal.returns-clause-spoken
@@ -17,5 +16,4 @@ returns-clause-spoken c =
     c.in_ok-say_aborted.ensures.text refl
 
 pub returns-clause-levels : goal.returns-clause-levels
-returns-clause-levels c =
-    all_went (TxnEnds (levels_of c.args.kept.txn)) (abort_line c.args.kept.txn) c.args.recorder.now.told c.abort-answer.new.asker.told c.abort-answer.result.answer c.abort-answer.result.txn (all_abort (levels_of c.args.kept.txn) c.args.kept.txn refl) c.abort-answer.ensures.asks c.in_ok-say_aborted.ensures.memory
+returns-clause-levels c = c.abort-answer.ensures.levels

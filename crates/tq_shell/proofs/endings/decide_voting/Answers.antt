@@ -6,7 +6,6 @@ use Rattle.tq_shell.specs.declared.kept.Kept.{Kept}
 use Rattle.tq_shell.specs.Known.{in_state}
 use Rattle.tq_shell.specs.Print.{printed}
 use Rattle.tq_shell.proofs.Leading.{spoken_by}
-use Rattle.tq_shell.proofs.TreeLevels.{TxnEnds, all_went, all_decide}
 use Rattle.tq_shell.proofs.endings.decide_voting.Goals as goal
 
 pub returns-clause-spoken : goal.returns-clause-spoken
@@ -17,5 +16,4 @@ returns-clause-spoken c =
     c.in_ok-say_committed.ensures.text refl
 
 pub returns-clause-levels : goal.returns-clause-levels
-returns-clause-levels c =
-    all_went (TxnEnds c.args.voting.txn.levels) (decide_line c.args.voting) c.args.recorder.now.told c.decide-answer.new.asker.told c.decide-answer.result.answer c.decide-answer.result.txn (all_decide c.args.voting.txn.levels c.args.voting refl) c.decide-answer.ensures.asks c.in_ok-say_committed.ensures.memory
+returns-clause-levels c = c.decide-answer.ensures.levels
