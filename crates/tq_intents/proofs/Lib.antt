@@ -1,3 +1,4 @@
+pub mod Above
 pub mod CopyPush
 pub mod CopiesPush
 pub mod Votes

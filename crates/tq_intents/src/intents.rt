@@ -42,6 +42,7 @@ impl Model for Intents {
 }
 
 impl Intents {
+    /// No record, and so no copy and no open vote.
     pub fn new(alloc: Global) -> Intents
         ensures { result.records ≡ [] }
     {

@@ -1,3 +1,6 @@
+ghost use Rattle.std.specs.Prelude.{◌+◌, OnOk};
+ghost use Rattle.tq_intents.specs.Kept.{IsAbove};
+
 use crate::{Intents, KeptLock, Record};
 use std::alloc::Global;
 use std::test::Fail;
@@ -42,6 +45,45 @@ fn a_vote_and_its_end(rt: HostRuntime) -> Result<(), Fail> {
     intents.finish(7);
     assert!(rt; intents.of(7).is_none());
     assert_eq!(rt; intents.stable().len(), 5);
+    Ok(())
+}
+
+/// Opens a vote of no write and no lock, under a number above all others.
+fn open(alloc: Global, intents: &mut Intents, txn: u64, number: u64) -> Result<(), Fail>
+    requires { IsAbove number intents.old.records }
+    ensures { OnOk result (IsAbove (number + 1) intents.new.records) }
+{
+    if intents.of(txn).is_some() {
+        return Err(Fail::new("a vote is open"));
+    }
+    let writes = Seq::from_vec(Vec::new(alloc));
+    let locks = Seq::from_vec(Vec::new(alloc));
+    intents.prepare(alloc, txn, number, writes, locks)?;
+    Ok(())
+}
+
+/// The transactions of the open votes, in the order of the walk.
+fn voters(alloc: Global, intents: &Intents) -> Result<Vec<u64>, Fail> {
+    let mut voters = Vec::new(alloc);
+    for (txn, _) in intents.votes() {
+        voters.push(*txn)?;
+    }
+    Ok(voters)
+}
+
+/// The open votes come by transaction, whatever the order of their numbers; one that ended is not among them.
+#[test]
+fn votes_by_transaction(rt: HostRuntime) -> Result<(), Fail> {
+    let alloc = rt.alloc();
+    let mut intents = Intents::new(alloc);
+    open(alloc, &mut intents, 7, 1)?;
+    open(alloc, &mut intents, 3, 2)?;
+    open(alloc, &mut intents, 5, 3)?;
+    assert!(rt; voters(alloc, &intents)?.as_slice() == [3, 5, 7].as_slice());
+    intents.reserve(1)?;
+    assert!(rt; intents.of(5).is_some());
+    intents.finish(5);
+    assert!(rt; voters(alloc, &intents)?.as_slice() == [3, 7].as_slice());
     Ok(())
 }
 

@@ -3,6 +3,7 @@ ghost use Rattle.tq_locks.specs.Locks as spec;
 
 use tq_shape::ExactClone;
 
+/// How a lock is held.
 #[derive(Debug, Clone, Copy, PartialEq, Eq)]
 pub enum Mode {
     Shared,
@@ -22,12 +23,14 @@ pub struct Lock {
 }
 
 impl Mode {
+    /// Whether two transactions may not hold these on one file: shared agrees with shared only.
     pub fn conflicts_with(self, other: Mode) -> bool
         ensures { result ≡ spec.conflicts self other }
     {
         !(self == Mode::Shared && other == Mode::Shared)
     }
 
+    /// Exclusive where one of the two is.
     pub fn stronger(self, other: Mode) -> Mode
         ensures { result ≡ spec.stronger self other }
     {
