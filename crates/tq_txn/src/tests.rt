@@ -406,19 +406,27 @@ fn not_a_verdict(rt: HostRuntime) -> Result<(), Fail> {
     Ok(())
 }
 
+/// Transaction 1, which has read `a`, as an answer of the desk ends it.
+fn ended(alloc: Global, told: &DeskTold) -> Result<Ended, Fail> {
+    match reader(alloc)?.end(alloc, told) {
+        Ok(ended) => Ok(ended),
+        Err(_) => Err("ended")?,
+    }
+}
+
+fn is_aborted(ended: &Ended) -> bool {
+    *ended.verdict() == Verdict::Abort && ended.servers().len() == 1
+}
+
 #[test]
 fn aborted(rt: HostRuntime) -> Result<(), Fail> {
-    let alloc = rt.alloc();
     let told = DeskTold {
         number: 3,
         ask: DeskAsk::Resolve { txn: 1 },
         reply: DeskReply::Verdict(Verdict::Abort),
     };
-    let Ok(ended) = reader(alloc)?.end(alloc, &told) else {
-        return Err("ended")?;
-    };
-    assert!(rt; *ended.verdict() == Verdict::Abort);
-    assert!(rt; ended.servers().len() == 1);
+    let ended = ended(rt.alloc(), &told)?;
+    assert!(rt; is_aborted(&ended));
     Ok(())
 }
 
