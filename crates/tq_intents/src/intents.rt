@@ -58,12 +58,21 @@ impl Intents {
         ensures { IfOk result (λ intents. intents.records ≡ records.now) }
     {
         let open_votes = index(alloc, records)?;
-        let mut kept = Vec::new(alloc);
-        for record in records {
-            kept.push(record.clone()?)?;
-        }
+        let kept = copy_of(alloc, records)?;
         Ok(Intents {
             records: kept,
+            open_votes,
+        })
+    }
+
+    /// The same records and open votes, with memory of their own and no room to spare. It looks at each record once.
+    pub fn copy(&self, alloc: Global) -> Result<Intents, AllocError>
+        ensures { IfOk result (λ copy. copy.records ≡ self.now.records) }
+    {
+        let records = copy_of(alloc, self.records.as_slice())?;
+        let open_votes = self.open_votes.clone()?;
+        Ok(Intents {
+            records,
             open_votes,
         })
     }
@@ -172,6 +181,17 @@ impl Intents {
         let number = vote.number;
         self.records.push_reserved(Record::Gone { txn, number });
     }
+}
+
+/// Equal records, with memory of their own.
+fn copy_of(alloc: Global, records: &[Record]) -> Result<Vec<Record>, AllocError>
+    ensures { IfOk result (λ copy. copy.items ≡ records.now) }
+{
+    let mut copy = Vec::new(alloc);
+    for record in records {
+        copy.push(record.clone()?)?;
+    }
+    Ok(copy)
 }
 
 /// The copies that a list of records keeps.

@@ -84,6 +84,9 @@ fn votes_by_transaction(rt: HostRuntime) -> Result<(), Fail> {
     assert!(rt; intents.of(5).is_some());
     intents.finish(5);
     assert!(rt; voters(alloc, &intents)?.as_slice() == [3, 7].as_slice());
+    let copy = intents.copy(alloc)?;
+    assert!(rt; copy.stable() == intents.stable());
+    assert!(rt; voters(alloc, &copy)?.as_slice() == [3, 7].as_slice());
     Ok(())
 }
 

@@ -124,7 +124,7 @@ impl Node {
     {
         let copies = self.copies.copy(alloc)?;
         let locks = self.locks.copy(alloc)?;
-        let intents = Intents::recover(alloc, self.intents.stable())?;
+        let intents = self.intents.copy(alloc)?;
         Ok(Node {
             server: self.server,
             copies,

@@ -1,18 +1,15 @@
-use Rattle.std.proofs.Common.{subst, sym, ◌∙◌}
-use Rattle.tq_intents.specs.Kept.{HasOneVoteEach, kept_votes}
+use Rattle.std.proofs.Common.{◌∙◌}
+use Rattle.tq_intents.specs.Kept.{kept_votes}
 use Rattle.tq_node.proofs.Sound.{sound-as}
 use Rattle.tq_node.proofs.node.Node.copy.Goals as goal
 
-pub recover-requires : goal.recover-requires
-recover-requires c = subst HasOneVoteEach (sym c.stable.ensures.list) c.self.invariant.one_each
-
 pub invariant_of-result : goal.invariant_of-result
-invariant_of-result c = sound-as c.self.invariant (c.in_ok-intents.ensures ∙ c.stable.ensures.list) c.in_ok-copies.ensures c.in_ok-locks.ensures
+invariant_of-result c = sound-as c.self.invariant c.in_ok-intents.ensures c.in_ok-copies.ensures c.in_ok-locks.ensures
 
 pub returns : goal.returns
 returns c =
     let inside = c.self.inside in
-    let list = c.in_ok-intents.ensures ∙ c.stable.ensures.list in
+    let list = c.in_ok-intents.ensures in
     let files = c.in_ok-copies.ensures in
     let table = c.in_ok-locks.ensures in
     (λ i. record {
