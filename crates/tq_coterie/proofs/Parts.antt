@@ -21,7 +21,7 @@ use Rattle.tq_coterie.proofs.Members.{IsSetOf, IsSetOf-leaf, IsSetOf-left, IsSet
 abbrev AgreeIn : ℕ → ℕ → List ℕ → List ℕ → Type 0
 AgreeIn height top xs ys = (s : ℕ) → stands_in height top s ≡ true → has xs s ≡ has ys s
 
-part_of-empty : (height top : ℕ) (servers : List ℕ) → ((s : ℕ) → stands_in height top s ≡ true → has servers s ≡ false) → part_of height top servers ≡ Empty
+pub part_of-empty : (height top : ℕ) (servers : List ℕ) → ((s : ℕ) → stands_in height top s ≡ true → has servers s ≡ false) → part_of height top servers ≡ Empty
 unfolding part_of
 part_of-empty zero top servers none = rw (none top (stands_in-top zero top)) refl
 part_of-empty (suc height) top servers none =

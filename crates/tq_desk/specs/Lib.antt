@@ -6,3 +6,5 @@ pub mod Views
 pub mod DeskJournal
 pub mod DeskLog
 pub mod Laws
+pub mod DeskChanges
+pub mod DeskStep

@@ -4,17 +4,36 @@ ghost use Rattle.std.specs.Option.{option_copied};
 ghost use Rattle.tq_desk.specs.DeskJournal as log;
 ghost use Rattle.tq_desk.specs.DeskJournal.{DeskBounds, DeskEntry, IsLegalDesk, desk_state};
 ghost use Rattle.tq_desk.specs.DeskLog.{AnswersByLog};
+ghost use Rattle.tq_desk.specs.DeskChanges.{desk_change, desk_changed, DeskFits};
 ghost use Rattle.tq_desk.specs.Evidence.{ops_rise};
 ghost use Rattle.tq_desk.specs.Log as spec;
 
 use crate::evidence::failed_rule;
-use crate::files::WrittenFiles;
+use crate::files::{WrittenFiles, written_names};
 use crate::finals::Finals;
 use crate::{DeskAsk, DeskRefusal, DeskReply, Op, Vote};
 use std::alloc::Global;
 use std::marker::Model;
 use tq_node::{CitedVote, Verdict};
+use tq_part::Plan;
 use tq_shape::{Levels, Limits, Memory, Seq};
+use tq_store::FileName;
+
+/// What an ask of the desk changes.
+#[derive(Debug, Drop)]
+pub enum DeskChange {
+    Nothing,
+    /// The transaction begins.
+    Begin { txn: u64 },
+    /// The transaction, which had not ended, aborts.
+    Abort { txn: u64 },
+    /// The transaction, which had not ended, commits on these votes and writes these files.
+    Commit {
+        txn: u64,
+        votes: Seq<CitedVote>,
+        files: Seq<FileName>,
+    },
+}
 
 /// The desk: it begins transactions and keeps how each ended.
 #[derive(Drop)]
@@ -93,7 +112,10 @@ impl Desk {
         ensures journal { IfOk result (λ reply. (bounds : DeskBounds) (journal : List DeskEntry) → IsLegalDesk bounds journal → self.old ≡ desk_state bounds journal
             → AnswersByLog self.old self.new ask.now reply bounds journal) }
     {
-        self.step(alloc, ask)
+        let plan = self.plan(alloc, ask)?;
+        let Plan { reply, change } = plan;
+        self.apply(change)?;
+        Ok(reply)
     }
 
     /// What the desk would answer to the ask now. Nothing changes.
@@ -101,15 +123,48 @@ impl Desk {
         requires { self.now.begun + 1 < 2 ^ 64 }
         ensures { IfOk result (λ reply. reply ≡ spec.desk_reply self.now ask.now) }
     {
+        let plan = self.plan(alloc, ask)?;
+        Ok(plan.reply)
+    }
+
+    /// The reply to an ask, and what it is to change. Nothing changes.
+    pub fn plan(&self, alloc: Global, ask: &DeskAsk) -> Result<Plan<DeskReply, DeskChange>, Memory>
+        requires { self.now.begun + 1 < 2 ^ 64 }
+        ensures reply { IfOk result (λ plan. plan.reply ≡ spec.desk_reply self.now ask.now) }
+        ensures change { IfOk result (λ plan. plan.change ≡ desk_change self.now ask.now) }
+    {
         match ask {
-            DeskAsk::Begin => Ok(DeskReply::Txn(self.begun + 1)),
-            DeskAsk::Commit { txn, ops, votes } => self.foresee_commit(
+            DeskAsk::Begin => {
+                let txn = self.begun + 1;
+                Ok(Plan {
+                    reply: DeskReply::Txn(txn),
+                    change: DeskChange::Begin { txn },
+                })
+            }
+            DeskAsk::Commit { txn, ops, votes } => self.plan_commit(
                 alloc,
                 *txn,
                 ops.as_slice(),
                 votes.as_slice(),
             ),
-            DeskAsk::Resolve { txn } => self.foresee_resolve(*txn),
+            DeskAsk::Resolve { txn } => self.plan_resolve(*txn),
+        }
+    }
+
+    /// Makes a change that was planned. All memory is asked for before the first step of it.
+    pub fn apply(&mut self, change: DeskChange) -> Result<(), Memory>
+        requires { DeskFits self.old change }
+        ensures ok { OnOk result (self.new ≡ desk_changed self.old change) }
+        ensures err { OnErr result (self.new ≡ self.old) }
+    {
+        match change {
+            DeskChange::Nothing => Ok(()),
+            DeskChange::Begin { txn } => {
+                self.begun = txn;
+                Ok(())
+            }
+            DeskChange::Abort { txn } => self.abort(txn),
+            DeskChange::Commit { txn, votes, files } => self.accept(txn, votes, files),
         }
     }
 
@@ -129,87 +184,55 @@ impl Desk {
         })
     }
 
-    fn foresee_resolve(&self, txn: u64) -> Result<DeskReply, Memory>
-        ensures { IfOk result (λ reply. reply ≡ spec.desk_reply self.now (DeskAsk.Resolve txn)) }
+    fn plan_resolve(&self, txn: u64) -> Result<Plan<DeskReply, DeskChange>, Memory>
+        ensures reply { IfOk result (λ plan. plan.reply ≡ spec.desk_reply self.now (DeskAsk.Resolve txn)) }
+        ensures change { IfOk result (λ plan. plan.change ≡ desk_change self.now (DeskAsk.Resolve txn)) }
     {
         if !self.is_begun(txn) {
-            return Ok(DeskReply::Refused(DeskRefusal::NoSuchTxn));
+            return Ok(refusal(DeskRefusal::NoSuchTxn));
         }
         match self.ended(txn)? {
-            None => Ok(DeskReply::Verdict(Verdict::Abort)),
-            Some(recorded) => Ok(DeskReply::Verdict(recorded)),
+            None => Ok(Plan {
+                reply: DeskReply::Verdict(Verdict::Abort),
+                change: DeskChange::Abort { txn },
+            }),
+            Some(recorded) => Ok(Plan {
+                reply: DeskReply::Verdict(recorded),
+                change: DeskChange::Nothing,
+            }),
         }
     }
 
-    fn foresee_commit(
+    fn plan_commit(
         &self,
         alloc: Global,
         txn: u64,
         ops: &[Op],
         votes: &[Vote],
-    ) -> Result<DeskReply, Memory>
-        ensures { IfOk result (λ reply. reply ≡ spec.commit_reply self.now txn ops.now votes.now) }
+    ) -> Result<Plan<DeskReply, DeskChange>, Memory>
+        ensures reply { IfOk result (λ plan. plan.reply ≡ spec.desk_reply self.now (DeskAsk.Commit txn ops.now votes.now)) }
+        ensures change { IfOk result (λ plan. plan.change ≡ desk_change self.now (DeskAsk.Commit txn ops.now votes.now)) }
     {
         match self.commit_refusal(alloc, txn, ops, votes)? {
-            Some(reason) => Ok(DeskReply::Refused(reason)),
+            Some(reason) => Ok(refusal(reason)),
             None => {
                 let _ended = self.finals.len();
-                Ok(DeskReply::Committed {
-                    serial: self.commits + 1,
+                let votes = cited(alloc, votes)?;
+                let files = written_names(alloc, ops)?;
+                Ok(Plan {
+                    reply: DeskReply::Committed {
+                        serial: self.commits + 1,
+                    },
+                    change: DeskChange::Commit { txn, votes, files },
                 })
             }
         }
-    }
-
-    fn step(&mut self, alloc: Global, ask: &DeskAsk) -> Result<DeskReply, Memory>
-        requires { self.old.begun + 1 < 2 ^ 64 }
-        ensures reply { IfOk result (λ reply. reply ≡ spec.desk_reply self.old ask.now) }
-        ensures after { OnOk result (self.new ≡ spec.desk_after self.old ask.now) }
-        ensures err { OnErr result (self.new ≡ self.old) }
-    {
-        match ask {
-            DeskAsk::Begin => Ok(self.begin()),
-            DeskAsk::Commit { txn, ops, votes } => self.commit(
-                alloc,
-                *txn,
-                ops.as_slice(),
-                votes.as_slice(),
-            ),
-            DeskAsk::Resolve { txn } => self.resolve(*txn),
-        }
-    }
-
-    fn begin(&mut self) -> DeskReply
-        requires { self.old.begun + 1 < 2 ^ 64 }
-        ensures reply { result ≡ spec.desk_reply self.old DeskAsk.Begin }
-        ensures after { self.new ≡ spec.desk_after self.old DeskAsk.Begin }
-    {
-        self.begun += 1;
-        DeskReply::Txn(self.begun)
     }
 
     fn is_begun(&self, txn: u64) -> bool
         ensures { result ≡ spec.is_begun self.now txn }
     {
         1 <= txn && txn <= self.begun
-    }
-
-    /// How a transaction ended; one that has not yet aborts.
-    fn resolve(&mut self, txn: u64) -> Result<DeskReply, Memory>
-        ensures reply { IfOk result (λ reply. reply ≡ spec.desk_reply self.old (DeskAsk.Resolve txn)) }
-        ensures after { OnOk result (self.new ≡ spec.desk_after self.old (DeskAsk.Resolve txn)) }
-        ensures err { OnErr result (self.new ≡ self.old) }
-    {
-        if !self.is_begun(txn) {
-            return Ok(DeskReply::Refused(DeskRefusal::NoSuchTxn));
-        }
-        match self.ended(txn)? {
-            Some(verdict) => Ok(DeskReply::Verdict(verdict)),
-            None => {
-                self.abort(txn)?;
-                Ok(DeskReply::Verdict(Verdict::Abort))
-            }
-        }
     }
 
     /// How a transaction ended, if it has.
@@ -231,28 +254,6 @@ impl Desk {
         self.finals.reserve(1)?;
         self.finals.keep(txn, Verdict::Abort);
         Ok(())
-    }
-
-    fn commit(
-        &mut self,
-        alloc: Global,
-        txn: u64,
-        ops: &[Op],
-        votes: &[Vote],
-    ) -> Result<DeskReply, Memory>
-        ensures reply { IfOk result (λ reply. reply ≡ spec.commit_reply self.old txn ops.now votes.now) }
-        ensures after { OnOk result (self.new ≡ spec.commit_after self.old txn ops.now votes.now) }
-        ensures err { OnErr result (self.new ≡ self.old) }
-    {
-        match self.commit_refusal(alloc, txn, ops, votes)? {
-            Some(reason) => Ok(DeskReply::Refused(reason)),
-            None => {
-                self.accept(alloc, txn, ops, votes)?;
-                Ok(DeskReply::Committed {
-                    serial: self.commits,
-                })
-            }
-        }
     }
 
     /// What a commit is refused for: the first reason that holds.
@@ -292,19 +293,33 @@ impl Desk {
     }
 
     /// Records the commit of a transaction that had not ended.
-    fn accept(&mut self, alloc: Global, txn: u64, ops: &[Op], votes: &[Vote]) -> Result<(), Memory>
+    fn accept(
+        &mut self,
+        txn: u64,
+        votes: Seq<CitedVote>,
+        files: Seq<FileName>,
+    ) -> Result<(), Memory>
         requires { fin.get self.old.finals txn ≡ None }
-        ensures after { OnOk result (self.new ≡ spec.committed self.old txn ops.now votes.now) }
+        ensures after { OnOk result (self.new ≡ desk_changed self.old (DeskChange.Commit txn votes files)) }
         ensures err { OnErr result (self.new ≡ self.old) }
     {
-        let votes = cited(alloc, votes)?;
         self.finals.reserve(1)?;
-        self.files.reserve(ops.len())?;
+        self.files.reserve(files.len())?;
         let _ended = self.finals.len();
         self.commits += 1;
         self.finals.keep(txn, Verdict::Commit { votes });
-        self.files.add_written(ops);
+        self.files.add_all(files.as_slice());
         Ok(())
+    }
+}
+
+fn refusal(reason: DeskRefusal) -> Plan<DeskReply, DeskChange>
+    ensures reply { result.reply ≡ DeskReply.Refused reason }
+    ensures change { result.change ≡ DeskChange.Nothing }
+{
+    Plan {
+        reply: DeskReply::Refused(reason),
+        change: DeskChange::Nothing,
     }
 }
 

@@ -1,13 +1,14 @@
 ghost use Rattle.std.specs.Prelude.{◌≡◌, ◌+◌, ◌<◌, ◌≤◌, IfOk, OnOk, is_some, length};
 ghost use Rattle.std.specs.FinMap as fin;
 ghost use Rattle.tq_desk.specs.Log as spec;
+ghost use Rattle.tq_desk.specs.DeskChanges.{names_written, with_names};
 
 use crate::Op;
 use crate::evidence::is_write;
 use indexmap::IndexMap;
 use std::alloc::Global;
 use std::marker::Model;
-use tq_shape::Memory;
+use tq_shape::{Memory, Seq};
 use tq_store::FileName;
 
 /// The files that commits wrote.
@@ -74,15 +75,13 @@ impl WrittenFiles {
         let _replaced = self.names.insert(name, ()).unwrap();
     }
 
-    /// Adds the files that the ops write.
-    pub(crate) fn add_written(&mut self, ops: &[Op])
-        requires { length ops.now ≤ self.old.room }
-        ensures { self.new.files ≡ spec.with_files self.old.files ops.now }
+    /// Adds files.
+    pub(crate) fn add_all(&mut self, names: &[FileName])
+        requires { length names.now ≤ self.old.room }
+        ensures { self.new.files ≡ with_names self.old.files names.now }
     {
-        for op in ops {
-            if is_write(op) {
-                self.add(op.file);
-            }
+        for name in names {
+            self.add(*name);
         }
     }
 
@@ -99,4 +98,23 @@ impl WrittenFiles {
     {
         is_write(op) && !self.contains(op.file)
     }
+}
+
+/// The files that the ops write, one after another.
+pub(crate) fn written_names(alloc: Global, ops: &[Op]) -> Result<Seq<FileName>, Memory>
+    ensures { IfOk result (λ names. names ≡ names_written ops.now) }
+{
+    Ok(Seq::from_vec(written(alloc, ops)?))
+}
+
+fn written(alloc: Global, ops: &[Op]) -> Result<Vec<FileName>, Memory>
+    ensures { IfOk result (λ names. names.items ≡ names_written ops.now) }
+{
+    let mut names = Vec::new(alloc);
+    for op in ops {
+        if is_write(op) {
+            names.push(op.file)?;
+        }
+    }
+    Ok(names)
 }

@@ -1,6 +1,7 @@
 //! The desk: it begins transactions and keeps how each ended.
 #![tactic(auto)]
 
+mod answers;
 mod ask;
 mod desk;
 mod evidence;
@@ -9,7 +10,7 @@ mod finals;
 mod laws;
 
 pub use ask::{DeskAsk, DeskRefusal, DeskReply, Grant, Op, OpKind, Vote};
-pub use desk::Desk;
+pub use desk::{Desk, DeskChange};
 pub use laws::{decision_log, desk_laws};
 
 #[cfg(test)]

@@ -221,7 +221,7 @@ fn install_record(alloc: Global, copies: &mut Copies, written: &Record) -> Resul
 }
 
 /// The records of a vote, in order.
-fn vote_records(
+pub fn vote_records(
     alloc: Global,
     txn: u64,
     number: u64,

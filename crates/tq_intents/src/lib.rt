@@ -6,5 +6,5 @@ mod record;
 #[cfg(test)]
 mod tests;
 
-pub use intents::Intents;
+pub use intents::{Intents, vote_records};
 pub use record::{KeptLock, OpenVote, Record};

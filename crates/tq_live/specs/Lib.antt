@@ -9,3 +9,5 @@ pub mod Choice
 pub mod Form
 pub mod View
 pub mod BestOf
+pub mod ViewChanges
+pub mod ViewLaws

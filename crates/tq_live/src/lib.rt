@@ -1,6 +1,7 @@
 //! Least-cost quorums of a tree whose servers have costs and marks, and the view that keeps them by asks and replies.
 #![tactic(auto)]
 
+mod answers;
 mod choice;
 mod cost;
 mod least;
@@ -14,7 +15,7 @@ pub use choice::Choice;
 pub use cost::{BadCost, is_cost};
 pub use least::Least;
 pub use tree::LiveTree;
-pub use view::{View, ViewAsk, ViewRefusal, ViewReply};
+pub use view::{View, ViewAsk, ViewChange, ViewRefusal, ViewReply};
 
 #[cfg(test)]
 mod tests;

@@ -104,9 +104,18 @@ impl LiveTree {
         if !is_cost(cost) {
             return Err(BadCost);
         }
+        self.put_cost(server, cost);
+        Ok(())
+    }
+
+    /// Sets the cost of a server of this tree to one that a server may have.
+    pub(crate) fn put_cost(&mut self, server: ServerId, cost: u64)
+        requires server { server.levels ≡ self.old.levels }
+        requires cost { cost ≤ 1000000 }
+        ensures { self.new ≡ record self.old { costs = slice_set self.old.costs (server.number - 1) cost } }
+    {
         let place = (server.number() - 1) as usize;
         self.costs[place] = cost;
-        Ok(())
     }
 
     /// Marks a server of this tree up or down. It takes no memory.

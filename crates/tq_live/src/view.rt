@@ -6,7 +6,8 @@ use crate::tree::LiveTree;
 use std::alloc::Global;
 use std::marker::Model;
 use tq_coterie::{Blocker, Quorum};
-use tq_shape::{ExactClone, Levels, Memory};
+use tq_part::Plan;
+use tq_shape::{ExactClone, Levels, Memory, ServerId};
 
 /// What a view is asked.
 #[derive(Clone, Copy, Debug, PartialEq, Eq)]
@@ -41,6 +42,16 @@ pub enum ViewRefusal {
     BadCost,
     /// No quorum is up: these servers, all down, have one in common with every quorum.
     Blocked(Blocker),
+}
+
+/// What an ask of a view changes.
+#[derive(Clone, Copy, Debug, PartialEq)]
+pub enum ViewChange {
+    Nothing,
+    /// The cost of a server.
+    Cost { server: ServerId, cost: u64 },
+    /// The mark of a server.
+    Mark { server: ServerId, up: bool },
 }
 
 impl ExactClone for ViewAsk {
@@ -83,6 +94,7 @@ impl View {
     ghost use Rattle.std.specs.Prelude.{◌≡◌, ◌++◌, ◌∷◌, [], List, ℕ, IfOk, OnOk, OnErr};
     ghost use Rattle.tq_shape.specs.declared.entry.Entry.{Entry};
     ghost use Rattle.tq_live.specs.View.{view_reply, view_after, view_state, ReplaysJournals};
+    ghost use Rattle.tq_live.specs.ViewChanges.{view_change, view_changed, ViewFits};
 
     /// Every server at cost 1 and up. From there, asks and replies lead where their journal says.
     pub fn new(alloc: Global, levels: Levels) -> Result<View, Memory>
@@ -110,21 +122,47 @@ impl View {
         ensures journal { IfOk result (λ reply. (levels : ℕ) → (journal : List (Entry ViewAsk ViewReply)) → self.old ≡ view_state levels journal
             → self.new ≡ view_state levels (journal ++ record { ask = ask.now; reply = reply } ∷ [])) }
     {
-        match *ask {
-            ViewAsk::SetCost { server, cost } => Ok(self.set_cost(server, cost)),
-            ViewAsk::Mark { server, up } => Ok(self.set_mark(server, up)),
-            ViewAsk::Choose => Ok(self.choose(alloc)?),
-        }
+        let plan = self.plan(alloc, ask)?;
+        let Plan { reply, change } = plan;
+        self.apply(change);
+        Ok(reply)
     }
 
     /// The reply that `answer` would give to the ask. Nothing changes.
     pub fn foresee(&self, alloc: Global, ask: &ViewAsk) -> Result<ViewReply, Memory>
         ensures { IfOk result (λ reply. reply ≡ view_reply self.now ask.now) }
     {
+        let plan = self.plan(alloc, ask)?;
+        Ok(plan.reply)
+    }
+
+    /// The reply to an ask, and what it is to change. Nothing changes.
+    pub fn plan(&self, alloc: Global, ask: &ViewAsk) -> Result<Plan<ViewReply, ViewChange>, Memory>
+        ensures reply { IfOk result (λ plan. plan.reply ≡ view_reply self.now ask.now) }
+        ensures change { IfOk result (λ plan. plan.change ≡ view_change self.now ask.now) }
+    {
         match *ask {
-            ViewAsk::SetCost { server, cost } => Ok(self.cost_reply(server, cost)),
-            ViewAsk::Mark { server, up } => Ok(self.mark_reply(server, up)),
-            ViewAsk::Choose => Ok(self.choose(alloc)?),
+            ViewAsk::SetCost { server, cost } => Ok(self.plan_cost(server, cost)),
+            ViewAsk::Mark { server, up } => Ok(self.plan_mark(server, up)),
+            ViewAsk::Choose => {
+                let reply = self.choose(alloc)?;
+                Ok(Plan {
+                    reply,
+                    change: ViewChange::Nothing,
+                })
+            }
+        }
+    }
+
+    /// Makes a change that was planned. It takes no memory.
+    pub fn apply(&mut self, change: ViewChange)
+        requires { ViewFits self.old change }
+        ensures { self.new ≡ view_changed self.old change }
+    {
+        match change {
+            ViewChange::Nothing => (),
+            ViewChange::Cost { server, cost } => self.tree.put_cost(server, cost),
+            ViewChange::Mark { server, up } => self.tree.set_mark(server, up),
         }
     }
 
@@ -137,48 +175,30 @@ impl View {
         Ok(View { levels, tree })
     }
 
-    fn cost_reply(&self, server: u64, cost: u64) -> ViewReply
-        ensures { result ≡ view_reply self.now (ViewAsk.SetCost server cost) }
+    fn plan_cost(&self, server: u64, cost: u64) -> Plan<ViewReply, ViewChange>
+        ensures reply { result.reply ≡ view_reply self.now (ViewAsk.SetCost server cost) }
+        ensures change { result.change ≡ view_change self.now (ViewAsk.SetCost server cost) }
     {
         match self.levels.server(server) {
-            None => ViewReply::Refused(ViewRefusal::NoSuchServer),
-            Some(_) if is_cost(cost) => ViewReply::CostSet,
-            Some(_) => ViewReply::Refused(ViewRefusal::BadCost),
-        }
-    }
-
-    fn mark_reply(&self, server: u64, up: bool) -> ViewReply
-        ensures { result ≡ view_reply self.now (ViewAsk.Mark server up) }
-    {
-        match self.levels.server(server) {
-            None => ViewReply::Refused(ViewRefusal::NoSuchServer),
-            Some(_) => ViewReply::Marked,
-        }
-    }
-
-    fn set_cost(&mut self, server: u64, cost: u64) -> ViewReply
-        ensures reply { result ≡ view_reply self.old (ViewAsk.SetCost server cost) }
-        ensures after { self.new ≡ view_after self.old (ViewAsk.SetCost server cost) }
-    {
-        match self.levels.server(server) {
-            None => ViewReply::Refused(ViewRefusal::NoSuchServer),
-            Some(server) => match self.tree.set_cost(server, cost) {
-                Ok(()) => ViewReply::CostSet,
-                Err(_) => ViewReply::Refused(ViewRefusal::BadCost),
+            None => refusal(ViewRefusal::NoSuchServer),
+            Some(server) if is_cost(cost) => Plan {
+                reply: ViewReply::CostSet,
+                change: ViewChange::Cost { server, cost },
             },
+            Some(_) => refusal(ViewRefusal::BadCost),
         }
     }
 
-    fn set_mark(&mut self, server: u64, up: bool) -> ViewReply
-        ensures reply { result ≡ view_reply self.old (ViewAsk.Mark server up) }
-        ensures after { self.new ≡ view_after self.old (ViewAsk.Mark server up) }
+    fn plan_mark(&self, server: u64, up: bool) -> Plan<ViewReply, ViewChange>
+        ensures reply { result.reply ≡ view_reply self.now (ViewAsk.Mark server up) }
+        ensures change { result.change ≡ view_change self.now (ViewAsk.Mark server up) }
     {
         match self.levels.server(server) {
-            None => ViewReply::Refused(ViewRefusal::NoSuchServer),
-            Some(server) => {
-                self.tree.set_mark(server, up);
-                ViewReply::Marked
-            }
+            None => refusal(ViewRefusal::NoSuchServer),
+            Some(server) => Plan {
+                reply: ViewReply::Marked,
+                change: ViewChange::Mark { server, up },
+            },
         }
     }
 
@@ -189,5 +209,15 @@ impl View {
             Choice::Quorum { quorum, cost } => Ok(ViewReply::Chosen { quorum, cost }),
             Choice::Blocked(blocker) => Ok(ViewReply::Refused(ViewRefusal::Blocked(blocker))),
         }
+    }
+}
+
+fn refusal(reason: ViewRefusal) -> Plan<ViewReply, ViewChange>
+    ensures reply { result.reply ≡ ViewReply.Refused reason }
+    ensures change { result.change ≡ ViewChange.Nothing }
+{
+    Plan {
+        reply: ViewReply::Refused(reason),
+        change: ViewChange::Nothing,
     }
 }

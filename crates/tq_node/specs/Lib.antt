@@ -3,3 +3,5 @@ pub mod Node
 pub mod Cases
 pub mod NodeJournal
 pub mod NodeLaws
+pub mod NodeChanges
+pub mod NodePlans

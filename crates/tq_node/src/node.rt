@@ -1,21 +1,23 @@
 ghost use Rattle.std.specs.Prelude.{◌≡◌, if◌then◌else◌, ◌<◌, ◌≤◌, OnOk, OnErr, IfOk, None, Ok, Some};
 ghost use Rattle.std.specs.Prelude.{IsSome, [], map, filter};
 ghost use Rattle.std.specs.FinMap as fin;
-ghost use Rattle.tq_locks.specs.Locks.{LockKey, blocker};
+ghost use Rattle.tq_locks.specs.Locks.{LockKey, blocker, held_of};
 ghost use Rattle.tq_store.specs.Copies.{copy_of, is_newer};
 ghost use Rattle.tq_node.specs.Records as spec;
 ghost use Rattle.tq_node.specs.Node as node;
 ghost use Rattle.tq_node.specs.Node.{IsKept};
+ghost use Rattle.tq_node.specs.NodeChanges.{node_change, node_changed, stepped, unnoted, work_step, end_step, NodeFits};
 ghost use Rattle.tq_node.specs.Cases.{IsOnlyStep, IsStep};
 
-use crate::{CitedVote, HeldLock, NodeAsk, NodeRefusal, NodeReply, Verdict, WorkAsk};
+use crate::{CitedVote, HeldLock, NodeAsk, NodeChange, NodeRefusal, NodeReply, NodeStep, Verdict, WorkAsk};
 use std::alloc::Global;
 use std::collections::btree_map::Iter;
 use std::marker::Model;
 use tq_intents::{Intents, KeptLock, OpenVote, Record};
 use tq_locks::{LockEntry, LockTable, Mode};
+use tq_part::Plan;
 use tq_shape::{Levels, Memory, Seq, ServerId};
-use tq_store::{Content, Copies, FileName, Write};
+use tq_store::{Copies, FileName, Write};
 
 /// A server: its copies, locks and open votes, the stable records that keep them, and whether it is down.
 #[derive(Drop)]
@@ -140,27 +142,152 @@ impl Node {
         requires { self.now.last < number }
         ensures { IfOk result (λ reply. reply ≡ spec.node_reply self.now.server self.now.state ask.now) }
     {
+        let plan = self.plan(alloc, number, ask)?;
+        Ok(plan.reply)
+    }
+
+    /// The reply to an ask, and what it is to change. Nothing changes.
+    pub fn plan(
+        &self,
+        alloc: Global,
+        number: u64,
+        ask: &NodeAsk,
+    ) -> Result<Plan<NodeReply, NodeChange>, Memory>
+        requires { self.now.last < number }
+        ensures reply { IfOk result (λ plan. plan.reply ≡ spec.node_reply self.now.server self.now.state ask.now) }
+        ensures change { IfOk result (λ plan. plan.change ≡ node_change self.now number ask.now) }
+    {
         if let Some(reason) = self.refusal(ask) {
-            return Ok(NodeReply::Refused(reason));
+            return Ok(planned(number, NodeReply::Refused(reason), NodeStep::Nothing));
         }
         match ask {
-            NodeAsk::Work(work) => self.work_reply(alloc, work),
-            NodeAsk::Crash => Ok(NodeReply::Crashed),
-            NodeAsk::Return => Ok(NodeReply::Returned),
+            NodeAsk::Work(work) => {
+                let plan = self.plan_work(alloc, number, work)?;
+                Ok(planned(number, plan.reply, plan.change))
+            }
+            NodeAsk::Crash => Ok(planned(number, NodeReply::Crashed, NodeStep::Crash)),
+            NodeAsk::Return => Ok(planned(number, NodeReply::Returned, NodeStep::Return)),
         }
     }
 
-    /// What the server replies to an ask that it doesn't refuse.
-    fn work_reply(&self, alloc: Global, ask: &WorkAsk) -> Result<NodeReply, Memory>
-        ensures { IfOk result (λ reply. reply ≡ spec.work_reply self.now.server self.now.state.records ask.now) }
+    /// The reply to an ask that the server doesn't refuse, and its step.
+    fn plan_work(
+        &self,
+        alloc: Global,
+        number: u64,
+        ask: &WorkAsk,
+    ) -> Result<Plan<NodeReply, NodeStep>, Memory>
+        requires { spec.work_refusal self.now.state.records ask.now ≡ None }
+        ensures reply { IfOk result (λ plan. plan.reply ≡ spec.work_reply self.now.server self.now.state.records ask.now) }
+        ensures change { IfOk result (λ plan. plan.change ≡ work_step self.now.server self.now.state.records number ask.now) }
     {
         match ask {
-            WorkAsk::Lock { file, .. } => self.grant_of(*file),
-            WorkAsk::Prepare { txn, writes } => self.yes_of(alloc, *txn, writes),
-            WorkAsk::Decide { txn, verdict, .. } => Ok(self.ending_of(*txn, verdict)),
-            WorkAsk::Release { .. } => Ok(NodeReply::Released),
-            WorkAsk::Peek { file } => self.peek(*file),
-            WorkAsk::Refresh { .. } => Ok(NodeReply::Refreshed),
+            WorkAsk::Lock { txn, file, mode } => {
+                let reply = self.grant_of(*file)?;
+                let version = self.copies.get(file).version;
+                Ok(Plan {
+                    reply,
+                    change: NodeStep::Lock {
+                        txn: *txn,
+                        file: *file,
+                        mode: *mode,
+                        version,
+                    },
+                })
+            }
+            WorkAsk::Prepare { txn, writes } => self.plan_vote(alloc, number, *txn, writes),
+            WorkAsk::Decide { txn, verdict, .. } => self.plan_end(alloc, *txn, verdict),
+            WorkAsk::Release { txn } => Ok(Plan {
+                reply: NodeReply::Released,
+                change: NodeStep::Release { txn: *txn },
+            }),
+            WorkAsk::Peek { file } => {
+                let reply = self.peek(*file)?;
+                Ok(Plan {
+                    reply,
+                    change: NodeStep::Nothing,
+                })
+            }
+            WorkAsk::Refresh {
+                file,
+                version,
+                content,
+                ..
+            } => {
+                let content = content.clone()?;
+                Ok(Plan {
+                    reply: NodeReply::Refreshed,
+                    change: NodeStep::Refresh {
+                        write: Write {
+                            file: *file,
+                            version: *version,
+                            content,
+                        },
+                    },
+                })
+            }
+        }
+    }
+
+    fn plan_vote(
+        &self,
+        alloc: Global,
+        number: u64,
+        txn: u64,
+        writes: &Seq<Write>,
+    ) -> Result<Plan<NodeReply, NodeStep>, Memory>
+        ensures reply { IfOk result (λ plan. plan.reply ≡ spec.work_reply self.now.server self.now.state.records (WorkAsk.Prepare txn writes.now)) }
+        ensures change { IfOk result (λ plan. plan.change ≡ work_step self.now.server self.now.state.records number (WorkAsk.Prepare txn writes.now)) }
+    {
+        let entries = self.locks.held(alloc, txn)?;
+        let held = held_locks(alloc, entries.as_slice())?;
+        let locks = kept_locks(alloc, entries.as_slice())?;
+        let answered = writes.clone()?;
+        let writes = writes.clone()?;
+        Ok(Plan {
+            reply: NodeReply::Yes {
+                held,
+                writes: answered,
+            },
+            change: NodeStep::Vote {
+                txn,
+                vote: OpenVote {
+                    number,
+                    writes,
+                    locks,
+                },
+            },
+        })
+    }
+
+    fn plan_end(
+        &self,
+        alloc: Global,
+        txn: u64,
+        verdict: &Verdict,
+    ) -> Result<Plan<NodeReply, NodeStep>, Memory>
+        requires { IsSome (fin.get self.now.state.records.votes txn) }
+        ensures reply { IfOk result (λ plan. plan.reply ≡ (if spec.installs self.now.server self.now.state.records txn verdict.now then NodeReply.Installed else NodeReply.Discarded)) }
+        ensures change { IfOk result (λ plan. plan.change ≡ end_step self.now.state.records txn (spec.installs self.now.server self.now.state.records txn verdict.now)) }
+    {
+        let number = self.vote_number(txn);
+        if self.installs(txn, verdict) {
+            let writes = self.intents.of(txn).unwrap().writes.clone()?;
+            let newer = self.newer(alloc, writes.as_slice())?;
+            Ok(Plan {
+                reply: NodeReply::Installed,
+                change: NodeStep::Install {
+                    txn,
+                    number,
+                    writes,
+                    newer,
+                },
+            })
+        } else {
+            Ok(Plan {
+                reply: NodeReply::Discarded,
+                change: NodeStep::Discard { txn, number },
+            })
         }
     }
 
@@ -172,28 +299,6 @@ impl Node {
             version: copy.version,
             content: copy.content.clone()?,
         })
-    }
-
-    fn yes_of(&self, alloc: Global, txn: u64, writes: &Seq<Write>) -> Result<NodeReply, Memory>
-        ensures { IfOk result (λ reply. reply ≡ spec.work_reply self.now.server self.now.state.records (WorkAsk.Prepare txn writes.now)) }
-    {
-        let entries = self.locks.held(alloc, txn)?;
-        let held = held_locks(alloc, entries.as_slice())?;
-        Ok(NodeReply::Yes {
-            held,
-            writes: writes.clone()?,
-        })
-    }
-
-    fn ending_of(&self, txn: u64, verdict: &Verdict) -> NodeReply
-        ensures { result ≡ (if spec.installs self.now.server self.now.state.records txn verdict.now then NodeReply.Installed else NodeReply.Discarded) }
-    {
-        let installs = self.installs(txn, verdict);
-        if installs {
-            NodeReply::Installed
-        } else {
-            NodeReply::Discarded
-        }
     }
 
     /// What the server refuses the ask for.
@@ -300,18 +405,15 @@ impl Node {
         txn: u64,
         file: FileName,
         mode: Mode,
-    ) -> Result<NodeReply, Memory>
+        version: u64,
+    ) -> Result<(), Memory>
         requires closed { fin.get self.old.state.records.votes txn ≡ None }
         requires free { blocker self.old.state.records.locks file txn mode ≡ None }
-        ensures reply { IfOk result (λ reply. reply ≡ spec.work_reply self.old.server self.old.state.records (WorkAsk.Lock txn file mode)) }
-        ensures after { OnOk result (self.new ≡ node.worked self.old number (WorkAsk.Lock txn file mode)) }
+        ensures after { OnOk result (self.new ≡ unnoted self.old number (NodeStep.Lock txn file mode version)) }
         ensures err { OnErr result (self.new ≡ self.old) }
     {
-        let copy = self.copies.get(&file);
-        let version = copy.version;
-        let content = copy.content.clone()?;
         self.locks.grant(txn, file, mode, number, version)?;
-        Ok(NodeReply::Granted { version, content })
+        Ok(())
     }
 
     fn peek(&self, file: FileName) -> Result<NodeReply, Memory>
@@ -324,68 +426,45 @@ impl Node {
         })
     }
 
-    fn release(&mut self, number: u64, txn: u64) -> NodeReply
+    fn release(&mut self, number: u64, txn: u64)
         requires { fin.get self.old.state.records.votes txn ≡ None }
-        ensures reply { result ≡ spec.work_reply self.old.server self.old.state.records (WorkAsk.Release txn) }
-        ensures after { self.new ≡ node.worked self.old number (WorkAsk.Release txn) }
+        ensures { self.new ≡ unnoted self.old number (NodeStep.Release txn) }
     {
         self.locks.release(txn);
-        NodeReply::Released
     }
 
     /// Installs a newer copy. All memory is asked for before the first change.
-    fn refresh(
-        &mut self,
-        alloc: Global,
-        number: u64,
-        file: FileName,
-        version: u64,
-        content: &Content,
-        from: CitedVote,
-    ) -> Result<NodeReply, Memory>
-        ensures reply { IfOk result (λ reply. reply ≡ NodeReply.Refreshed) }
-        ensures after { OnOk result (self.new ≡ node.worked self.old number (WorkAsk.Refresh file version content.now from)) }
+    fn refresh(&mut self, alloc: Global, number: u64, write: Write) -> Result<(), Memory>
+        ensures after { OnOk result (self.new ≡ unnoted self.old number (NodeStep.Refresh write)) }
         ensures err { OnErr result (self.new ≡ self.old) }
     {
-        let kept = content.clone()?;
-        let write = Write {
-            file,
-            version,
-            content: content.clone()?,
-        };
+        let kept = write.content.clone()?;
         self.copies.reserve(alloc, 1)?;
         self.intents.reserve(1)?;
-        self.copies.install(file, version, kept);
+        self.copies.install(write.file, write.version, kept);
         self.intents.push_copy(write);
-        Ok(NodeReply::Refreshed)
+        Ok(())
     }
 
     /// Gives a vote. All memory is asked for before the first change.
-    fn prepare(
+    fn vote(
         &mut self,
         alloc: Global,
         number: u64,
         txn: u64,
-        writes: &Seq<Write>,
-    ) -> Result<NodeReply, Memory>
+        writes: Seq<Write>,
+        locks: Seq<KeptLock>,
+    ) -> Result<(), Memory>
         requires rises { self.old.last < number }
         requires closed { fin.get self.old.state.records.votes txn ≡ None }
-        ensures reply { IfOk result (λ reply. reply ≡ spec.work_reply self.old.server self.old.state.records (WorkAsk.Prepare txn writes.now)) }
-        ensures after { OnOk result (self.new ≡ node.numbered number (node.worked self.old number (WorkAsk.Prepare txn writes.now))) }
+        requires locks { locks ≡ map spec.kept_lock (held_of self.old.state.records.locks txn) }
+        ensures after { OnOk result (self.new ≡ node.numbered number (unnoted self.old number (NodeStep.Vote txn (record { number = number; writes = writes; locks = locks })))) }
         ensures err { OnErr result (self.new ≡ self.old) }
     {
-        let entries = self.locks.held(alloc, txn)?;
-        let held = held_locks(alloc, entries.as_slice())?;
-        let kept = kept_locks(alloc, entries.as_slice())?;
-        let answered = writes.clone()?;
-        let written = writes.clone()?;
-        self.intents.prepare(alloc, txn, number, written, kept)?;
+        self.intents.prepare(alloc, txn, number, writes, locks)?;
         self.locks.keep(txn);
         self.last = number;
-        Ok(NodeReply::Yes {
-            held,
-            writes: answered,
-        })
+        Ok(())
     }
 
     /// The number of a transaction's open vote, 0 where there is none.
@@ -426,9 +505,10 @@ impl Node {
     }
 
     /// Ends a vote, and installs nothing.
-    fn discard(&mut self, txn: u64) -> Result<(), Memory>
-        requires { IsSome (fin.get self.old.state.records.votes txn) }
-        ensures after { OnOk result (self.new ≡ node.ended self.old txn) }
+    fn discard(&mut self, number: u64, txn: u64, vote: u64) -> Result<(), Memory>
+        requires open { IsSome (fin.get self.old.state.records.votes txn) }
+        requires vote { vote ≡ (spec.open_vote self.old.state.records txn).number }
+        ensures after { OnOk result (self.new ≡ unnoted self.old number (NodeStep.Discard txn vote)) }
         ensures err { OnErr result (self.new ≡ self.old) }
     {
         self.intents.reserve(1)?;
@@ -438,13 +518,21 @@ impl Node {
     }
 
     /// Installs a vote's writes and ends it. All memory is asked for before the first change.
-    fn install(&mut self, alloc: Global, txn: u64) -> Result<(), Memory>
-        requires { IsSome (fin.get self.old.state.records.votes txn) }
-        ensures after { OnOk result (self.new ≡ node.ended_installed self.old txn) }
+    fn install(
+        &mut self,
+        alloc: Global,
+        number: u64,
+        txn: u64,
+        vote: u64,
+        writes: Seq<Write>,
+        newer: Seq<Write>,
+    ) -> Result<(), Memory>
+        requires open { IsSome (fin.get self.old.state.records.votes txn) }
+        requires vote { vote ≡ (spec.open_vote self.old.state.records txn).number }
+        requires newer { newer ≡ filter (is_newer self.old.state.records.copies) writes }
+        ensures after { OnOk result (self.new ≡ unnoted self.old number (NodeStep.Install txn vote writes newer)) }
         ensures err { OnErr result (self.new ≡ self.old) }
     {
-        let writes = self.intents.of(txn).unwrap().writes.clone()?;
-        let newer = self.newer(alloc, writes.as_slice())?;
         self.copies.reserve(alloc, writes.len())?;
         self.intents.reserve(newer.len() + 1)?;
         self.copies.install_all(writes);
@@ -454,68 +542,74 @@ impl Node {
         Ok(())
     }
 
-    fn decide(
-        &mut self,
-        alloc: Global,
-        number: u64,
-        txn: u64,
-        verdict: &Verdict,
-        cite: u64,
-    ) -> Result<NodeReply, Memory>
-        requires { IsSome (fin.get self.old.state.records.votes txn) }
-        ensures reply { IfOk result (λ reply. reply ≡ spec.work_reply self.old.server self.old.state.records (WorkAsk.Decide txn verdict.now cite)) }
-        ensures after { OnOk result (self.new ≡ node.worked self.old number (WorkAsk.Decide txn verdict.now cite)) }
+    /// Makes a change that was planned. All memory is asked for before the first step of it.
+    pub fn apply(&mut self, alloc: Global, change: NodeChange) -> Result<(), Memory>
+        requires { NodeFits self.old change }
+        ensures ok { OnOk result (self.new ≡ node_changed self.old change) }
         ensures err { OnErr result (self.new ≡ self.old) }
     {
-        if self.installs(txn, verdict) {
-            self.install(alloc, txn)?;
-            Ok(NodeReply::Installed)
-        } else {
-            self.discard(txn)?;
-            Ok(NodeReply::Discarded)
-        }
+        let NodeChange { number, step } = change;
+        self.take(alloc, number, step)?;
+        self.note(number);
+        Ok(())
     }
 
-    fn work(&mut self, alloc: Global, number: u64, ask: &WorkAsk) -> Result<NodeReply, Memory>
-        requires rises { self.old.last < number }
-        requires answered { spec.work_refusal self.old.state.records ask.now ≡ None }
-        ensures reply { IfOk result (λ reply. reply ≡ spec.work_reply self.old.server self.old.state.records ask.now) }
-        ensures after { OnOk result (node.numbered number self.new ≡ node.numbered number (node.worked self.old number ask.now)) }
+    fn take(&mut self, alloc: Global, number: u64, step: NodeStep) -> Result<(), Memory>
+        requires { NodeFits self.old (record { number = number; step = step }) }
+        ensures after { OnOk result (node.numbered number self.new ≡ node.numbered number (unnoted self.old number step)) }
         ensures last { self.new.last ≤ number }
         ensures err { OnErr result (self.new ≡ self.old) }
     {
-        match ask {
-            WorkAsk::Lock { txn, file, mode } => self.lock(number, *txn, *file, *mode),
-            WorkAsk::Prepare { txn, writes } => self.prepare(alloc, number, *txn, writes),
-            WorkAsk::Decide { txn, verdict, cite } => self.decide(
-                alloc, number, *txn, verdict, *cite,
-            ),
-            WorkAsk::Release { txn } => Ok(self.release(number, *txn)),
-            WorkAsk::Peek { file } => self.peek(*file),
-            WorkAsk::Refresh {
+        match step {
+            NodeStep::Nothing => Ok(()),
+            NodeStep::Lock {
+                txn,
                 file,
+                mode,
                 version,
-                content,
-                from,
-            } => self.refresh(alloc, number, *file, *version, content, *from),
+            } => self.lock(number, txn, file, mode, version),
+            NodeStep::Vote { txn, vote } => {
+                let OpenVote {
+                    number: _,
+                    writes,
+                    locks,
+                } = vote;
+                self.vote(alloc, number, txn, writes, locks)
+            }
+            NodeStep::Discard { txn, number: vote } => self.discard(number, txn, vote),
+            NodeStep::Install {
+                txn,
+                number: vote,
+                writes,
+                newer,
+            } => self.install(alloc, number, txn, vote, writes, newer),
+            NodeStep::Release { txn } => {
+                self.release(number, txn);
+                Ok(())
+            }
+            NodeStep::Refresh { write } => self.refresh(alloc, number, write),
+            NodeStep::Crash => {
+                self.crash(number);
+                Ok(())
+            }
+            NodeStep::Return => {
+                self.come_back(number);
+                Ok(())
+            }
         }
     }
 
-    fn crash(&mut self, number: u64) -> NodeReply
-        ensures reply { result ≡ NodeReply.Crashed }
-        ensures after { self.new ≡ node.turned self.old number NodeAsk.Crash }
+    fn crash(&mut self, number: u64)
+        ensures { self.new ≡ unnoted self.old number NodeStep.Crash }
     {
         self.locks.drop_unstable();
         self.down = true;
-        NodeReply::Crashed
     }
 
-    fn come_back(&mut self, number: u64) -> NodeReply
-        ensures reply { result ≡ NodeReply.Returned }
-        ensures after { self.new ≡ node.turned self.old number NodeAsk.Return }
+    fn come_back(&mut self, number: u64)
+        ensures { self.new ≡ unnoted self.old number NodeStep.Return }
     {
         self.down = false;
-        NodeReply::Returned
     }
 
     /// Notes the number of the ask that is being answered.
@@ -533,16 +627,9 @@ impl Node {
         ensures after { OnOk result (self.new ≡ node.answered self.old number ask.now) }
         ensures err { OnErr result (self.new ≡ self.old) }
     {
-        if let Some(reason) = self.refusal(ask) {
-            self.note(number);
-            return Ok(NodeReply::Refused(reason));
-        }
-        let reply = match ask {
-            NodeAsk::Work(work) => self.work(alloc, number, work)?,
-            NodeAsk::Crash => self.crash(number),
-            NodeAsk::Return => self.come_back(number),
-        };
-        self.note(number);
+        let plan = self.plan(alloc, number, ask)?;
+        let Plan { reply, change } = plan;
+        self.apply(alloc, change)?;
         Ok(reply)
     }
 
@@ -565,6 +652,16 @@ impl Node {
         let told = self.respond(alloc, number, ask);
         let _ = &self.last;
         told
+    }
+}
+
+fn planned(number: u64, reply: NodeReply, step: NodeStep) -> Plan<NodeReply, NodeChange>
+    ensures reply { result.reply ≡ reply }
+    ensures change { result.change ≡ record { number = number; step = step } }
+{
+    Plan {
+        reply,
+        change: NodeChange { number, step },
     }
 }
 

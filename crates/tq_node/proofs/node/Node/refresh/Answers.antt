@@ -1,17 +1,15 @@
 use Rattle.std.proofs.Common.{◌≡◌, [], ◌∷◌, ◌++◌, refl, ◌∙◌, rules}
 use Rattle.tq_intents.specs.declared.record.Record.TheVariants.{Copy}
 use Rattle.tq_store.specs.Copies.{installed}
-use Rattle.tq_store.specs.declared.write.Write.{Write}
 use Rattle.tq_node.proofs.Sound.{sound-as, sound-copies}
 use Rattle.tq_node.proofs.node.Node.refresh.Goals as goal
 
 pub invariant_of-self-2 : goal.invariant_of-self-2
 invariant_of-self-2 c =
     let inside = c.self.inside in
-    let write : Write = record { file = c.args.file; version = c.args.version; content = c.args.content.now } in
-    let stored : c.in_ok-kept.kept ≡ c.args.content.now = search rules in
-    let noted : c.in_ok-clone.field-0 ≡ c.args.content.now = search rules in
+    let write = c.args.write in
+    let stored : c.in_ok-kept.kept ≡ c.args.write.content = search rules in
     sound-as (sound-copies inside.intents.records inside.last inside.copies.files inside.locks c.self.invariant (write ∷ []))
-    (c.push_copy.ensures.records ∙ (λ i. c.in_ok-reserve-2.ensures.records i ++ Copy (record { file = c.args.file; version = c.args.version; content = noted i }) ∷ []))
-    (c.install.ensures.files ∙ (λ i. installed (c.in_ok-reserve.ensures.files i) c.args.file (record { version = c.args.version; content = stored i })))
+    (c.push_copy.ensures.records ∙ (λ i. c.in_ok-reserve-2.ensures.records i ++ Copy write ∷ []))
+    (c.install.ensures.files ∙ (λ i. installed (c.in_ok-reserve.ensures.files i) write.file (record { version = write.version; content = stored i })))
     refl

@@ -1,0 +1,57 @@
+-- What an ask of the desk is to change, and the desk with a change made.
+use Rattle.std.specs.Prelude.{◌≡◌, ℕ, ◌+◌, List, Option, Some, None, map, filter, fold}
+use Rattle.std.specs.FinMap as fin
+use Rattle.tq_node.specs.declared.ask.CitedVote.{CitedVote}
+use Rattle.tq_node.specs.declared.ask.Verdict.{Verdict}
+use Rattle.tq_node.specs.declared.ask.Verdict.TheVariants as verdicts
+use Rattle.tq_desk.specs.declared.ask.DeskAsk.{DeskAsk}
+use Rattle.tq_desk.specs.declared.ask.DeskAsk.TheVariants as asks
+use Rattle.tq_desk.specs.declared.ask.DeskRefusal.{DeskRefusal}
+use Rattle.tq_desk.specs.declared.ask.Op.{Op}
+use Rattle.tq_desk.specs.declared.desk.DeskChange.{DeskChange}
+use Rattle.tq_desk.specs.declared.desk.DeskChange.TheVariants.{Nothing, Begin, Abort, Commit}
+use Rattle.tq_desk.specs.Evidence.{is_write}
+use Rattle.tq_desk.specs.Log.{DeskView, FileSet, aborted, cited, desk_refusal, with_file}
+
+-- the files that the ops write, one after another
+abbrev pub names_written : List Op → List (List ℕ)
+names_written ops = map (λ op. op.file) (filter is_write ops)
+
+abbrev pub with_names : FileSet → List (List ℕ) → FileSet
+with_names files names = fold with_file files names
+
+-- the change of an ask that is not refused
+
+abbrev pub abort_unless : Option Verdict → ℕ → DeskChange
+abort_unless None txn = Abort txn
+abort_unless (Some ended) txn = Nothing
+
+abbrev pub change_of : DeskView → DeskAsk → DeskChange
+change_of old asks.Begin = Begin (old.begun + 1)
+change_of old (asks.Resolve txn) = abort_unless (fin.get old.finals txn) txn
+change_of old (asks.Commit txn ops votes) = Commit txn (cited votes) (names_written ops)
+
+abbrev pub change_at : Option DeskRefusal → DeskChange → DeskChange
+change_at None change = change
+change_at (Some reason) change = Nothing
+
+abbrev pub desk_change : DeskView → DeskAsk → DeskChange
+desk_change old ask = change_at (desk_refusal old ask) (change_of old ask)
+
+-- a transaction that is to end has not ended
+abbrev pub DeskFits : DeskView → DeskChange → Type 0
+DeskFits old Nothing = Unit {0}
+DeskFits old (Begin txn) = Unit {0}
+DeskFits old (Abort txn) = fin.get old.finals txn ≡ None
+DeskFits old (Commit txn votes files) = fin.get old.finals txn ≡ None
+
+abbrev pub desk_changed : DeskView → DeskChange → DeskView
+desk_changed old Nothing = old
+desk_changed old (Begin txn) = record old { begun = txn }
+desk_changed old (Abort txn) = aborted old txn
+desk_changed old (Commit txn votes files) =
+    record old {
+      finals = fin.insert old.finals txn (verdicts.Commit votes);
+      commits = old.commits + 1;
+      files = with_names old.files files;
+    }

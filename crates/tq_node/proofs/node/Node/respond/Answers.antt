@@ -1,0 +1,9 @@
+use Rattle.std.proofs.Common.{sym, ap, subst, ◌∙◌}
+use Rattle.tq_node.specs.NodeChanges.{node_changed, NodeFits}
+use Rattle.tq_node.specs.NodePlans.{change_fits, change_leads}
+use Rattle.tq_node.proofs.node.Node.respond.Goals as goal
+
+pub apply-requires : goal.apply-requires
+apply-requires c =
+    let old = c.args.self.now in
+    subst (λ change. NodeFits old change) (sym c.in_ok-plan.ensures.change) (change_fits old c.args.number c.args.ask.now c.requires)

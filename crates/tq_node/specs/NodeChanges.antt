@@ -1,0 +1,90 @@
+-- What an ask of a server is to change, the stable records that this writes, and the server with a change made.
+use Rattle.std.specs.Prelude.{◌≡◌, ◌<◌, ℕ, Bool, true, false, List, [], ◌∷◌, ◌++◌, map, filter, Option, Some, None, IsSome, if◌then◌else◌}
+use Rattle.std.specs.FinMap as fin
+use Rattle.tq_store.specs.Copies.{copy_of, installed, installed_all, is_newer}
+use Rattle.tq_store.specs.declared.write.Write.{Write}
+use Rattle.tq_locks.specs.Locks.{blocker, granted, held_of, released, only_stable, kept as stabilised_locks}
+use Rattle.tq_intents.specs.Kept.{vote_records}
+use Rattle.tq_intents.specs.declared.record.Record.{Record}
+use Rattle.tq_intents.specs.declared.record.Record.TheVariants as stable
+use Rattle.tq_node.specs.declared.ask.NodeAsk.{NodeAsk}
+use Rattle.tq_node.specs.declared.ask.NodeAsk.TheVariants as asks
+use Rattle.tq_node.specs.declared.ask.WorkAsk.{WorkAsk}
+use Rattle.tq_node.specs.declared.ask.WorkAsk.TheVariants as work
+use Rattle.tq_node.specs.declared.change.NodeChange.{NodeChange}
+use Rattle.tq_node.specs.declared.change.NodeStep.{NodeStep}
+use Rattle.tq_node.specs.declared.change.NodeStep.TheVariants.{Nothing, Lock, Vote, Discard, Install, Release, Refresh, Crash, Return}
+use Rattle.tq_node.specs.Records.{Records, NodeState, held_lock, kept_lock, open_vote, installs, refusal, state_at}
+use Rattle.tq_node.specs.Node.{NodeView, numbered}
+
+-- ---- the step of an ask
+
+-- of the end of a vote: whether its writes come
+abbrev pub end_step : Records → ℕ → Bool → NodeStep
+end_step old txn true = Install txn (open_vote old txn).number (open_vote old txn).writes (filter (is_newer old.copies) (open_vote old txn).writes)
+end_step old txn false = Discard txn (open_vote old txn).number
+
+abbrev pub work_step : ℕ → Records → ℕ → WorkAsk → NodeStep
+work_step server old number (work.Lock txn file mode) = Lock txn file mode (copy_of old.copies file).version
+work_step server old number (work.Prepare txn writes) = Vote txn (record { number = number; writes = writes; locks = map kept_lock (held_of old.locks txn) })
+work_step server old number (work.Decide txn verdict cite) = end_step old txn (installs server old txn verdict)
+work_step server old number (work.Release txn) = Release txn
+work_step server old number (work.Peek file) = Nothing
+work_step server old number (work.Refresh file version content from) = Refresh (record { file = file; version = version; content = content })
+
+abbrev pub step_of : ℕ → Records → ℕ → NodeAsk → NodeStep
+step_of server old number (asks.Work ask) = work_step server old number ask
+step_of server old number asks.Crash = Crash
+step_of server old number asks.Return = Return
+
+abbrev pub node_change : NodeView → ℕ → NodeAsk → NodeChange
+node_change old number ask = record { number = number; step = state_at (refusal old.state.records ask) Nothing (step_of old.server old.state.records number ask) }
+
+-- ---- what a step writes, and what it leaves
+
+-- the stable records that it writes, in order
+abbrev pub records_of : NodeStep → List Record
+records_of (Vote txn vote) = vote_records txn vote.number vote.writes vote.locks
+records_of (Discard txn number) = stable.Gone txn number ∷ []
+records_of (Install txn number writes newer) = map stable.Copy newer ++ stable.Gone txn number ∷ []
+records_of (Refresh write) = stable.Copy write ∷ []
+records_of other = []
+
+abbrev pub stepped : Records → ℕ → NodeStep → Records
+stepped old number Nothing = old
+stepped old number (Lock txn file mode version) = record old { locks = granted old.locks file txn mode number version }
+stepped old number (Vote txn vote) = record old { locks = stabilised_locks old.locks txn; votes = fin.insert old.votes txn vote }
+stepped old number (Discard txn vote) = record old { locks = released old.locks txn; votes = fin.remove old.votes txn }
+stepped old number (Install txn vote writes newer) =
+    record old { copies = installed_all old.copies writes; locks = released old.locks txn; votes = fin.remove old.votes txn }
+stepped old number (Release txn) = record old { locks = released old.locks txn }
+stepped old number (Refresh write) = record old { copies = installed old.copies write.file (record { version = write.version; content = write.content }) }
+stepped old number Crash = record old { locks = only_stable old.locks; down = true }
+stepped old number Return = record old { down = false }
+
+-- the server after a step, its number not noted yet
+abbrev pub unnoted : NodeView → ℕ → NodeStep → NodeView
+unnoted old number step =
+    record {
+      levels = old.levels;
+      server = old.server;
+      state = record { records = stepped old.state.records number step; stable = old.state.stable ++ records_of step };
+      last = old.last;
+    }
+
+abbrev pub node_changed : NodeView → NodeChange → NodeView
+node_changed old change = numbered change.number (unnoted old change.number change.step)
+
+-- ---- when a step may be taken
+
+abbrev pub StepFits : Records → ℕ → NodeStep → Type 0
+StepFits old number (Lock txn file mode version) = (fin.get old.votes txn ≡ None) × (blocker old.locks file txn mode ≡ None)
+StepFits old number (Vote txn vote) = (fin.get old.votes txn ≡ None) × ((vote.number ≡ number) × (vote.locks ≡ map kept_lock (held_of old.locks txn)))
+StepFits old number (Discard txn vote) = IsSome (fin.get old.votes txn) × (vote ≡ (open_vote old txn).number)
+StepFits old number (Install txn vote writes newer) =
+    IsSome (fin.get old.votes txn) × ((vote ≡ (open_vote old txn).number) × ((writes ≡ (open_vote old txn).writes) × (newer ≡ filter (is_newer old.copies) writes)))
+StepFits old number (Release txn) = fin.get old.votes txn ≡ None
+StepFits old number other = Unit {0}
+
+abbrev pub NodeFits : NodeView → NodeChange → Type 0
+NodeFits old change = (old.last < change.number) × StepFits old.state.records change.number change.step
