@@ -6,6 +6,9 @@ use std::{env, io};
 use tq_shape::Levels;
 use tq_shell::{Reading, RunFault, Words, WordsFault, Writing, run};
 
+/// The status of what was done.
+const DONE: u8 = 0;
+
 /// The status of a run that ended by a fault.
 const FAULT: u8 = 1;
 
@@ -13,7 +16,7 @@ const FAULT: u8 = 1;
 const REFUSED: u8 = 2;
 
 /// Does what the words ask for, and ends with the status of that.
-fn main(rt: HostRuntime) -> io::Result<ExitCode> {
+fn main(rt: HostRuntime) -> ExitCode {
     let words = match words_given(&rt) {
         Ok(words) => words,
         Err(error) => return refuse_unread(&rt, error),
@@ -33,40 +36,46 @@ fn words_given(rt: &HostRuntime) -> io::Result<Vec<String>> {
 }
 
 /// Memory was refused, or a word is no text.
-fn refuse_unread(rt: &HostRuntime, error: io::Error) -> io::Result<ExitCode> {
+fn refuse_unread(rt: &HostRuntime, error: io::Error) -> ExitCode {
     if error.kind() == io::ErrorKind::OutOfMemory {
-        return Ok(say_fault(rt, RunFault::Memory));
+        return say_fault(rt, RunFault::Memory);
     }
-    println!(rt; "error: the words cannot be read: {error}")?;
-    Ok(ExitCode::from(REFUSED))
+    let printed = println!(rt; "error: the words cannot be read: {error}");
+    ended(rt, printed, REFUSED)
 }
 
-fn obey(rt: &HostRuntime, words: Words) -> io::Result<ExitCode> {
+fn obey(rt: &HostRuntime, words: Words) -> ExitCode {
     match words {
         Words::Shell { levels } => shell(rt, levels),
     }
 }
 
-fn shell(rt: &HostRuntime, levels: Levels) -> io::Result<ExitCode> {
+fn shell(rt: &HostRuntime, levels: Levels) -> ExitCode {
     let mut reader = Reading::new(rt.reader());
     let mut writer = Writing::new(io::writer(rt));
     match run(rt.alloc(), levels, &mut reader, &mut writer) {
-        Ok(()) => Ok(ExitCode::SUCCESS),
-        Err(fault) => Ok(say_fault(rt, fault)),
+        Ok(()) => ExitCode::SUCCESS,
+        Err(fault) => say_fault(rt, fault),
     }
 }
 
 /// Shows what clap answers to the words: why they are refused, or what they ask to be shown.
-fn refuse(rt: &HostRuntime, fault: WordsFault) -> io::Result<ExitCode> {
+fn refuse(rt: &HostRuntime, fault: WordsFault) -> ExitCode {
     match fault {
-        WordsFault::Memory => Ok(say_fault(rt, RunFault::Memory)),
+        WordsFault::Memory => say_fault(rt, RunFault::Memory),
         WordsFault::Refused(error) => {
-            print!(rt; "{error}")?;
-            if error.use_stderr() {
-                return Ok(ExitCode::from(REFUSED));
-            }
-            Ok(ExitCode::SUCCESS)
+            let status = if error.use_stderr() { REFUSED } else { DONE };
+            let printed = print!(rt; "{error}");
+            ended(rt, printed, status)
         }
+    }
+}
+
+/// Ends with this status where the text was printed.
+fn ended(rt: &HostRuntime, printed: io::Result<()>, status: u8) -> ExitCode {
+    match printed {
+        Ok(()) => ExitCode::from(status),
+        Err(_) => say_fault(rt, RunFault::Write),
     }
 }
 
