@@ -21,6 +21,3 @@ pub use meeting::meet;
 pub use member::ServerIds;
 pub use membership::is_quorum;
 pub use quorum::Quorum;
-
-#[cfg(test)]
-mod tests;

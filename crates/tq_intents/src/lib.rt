@@ -3,8 +3,6 @@
 
 mod intents;
 mod record;
-#[cfg(test)]
-mod tests;
 
 pub use intents::{Intents, vote_records};
 pub use record::{KeptLock, OpenVote, Record};

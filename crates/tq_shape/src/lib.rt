@@ -20,6 +20,3 @@ pub use server_set::{ServerSet, ServerSetIter};
 
 /// What a call answers where memory is refused.
 pub type Memory = std::alloc::AllocError;
-
-#[cfg(test)]
-mod tests;

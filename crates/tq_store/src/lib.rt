@@ -4,8 +4,6 @@
 mod content;
 mod copies;
 mod file_name;
-#[cfg(test)]
-mod tests;
 mod write;
 
 pub use content::{Content, MAX_CONTENT};

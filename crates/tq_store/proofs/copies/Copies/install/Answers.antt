@@ -1,4 +1,4 @@
-use Rattle.std.proofs.Common.{ap, sym, ◌∙◌, ◌≡◌, ◌<◌, subst}
+use Rattle.std.proofs.Common.{ap, sym, ◌∙◌, ◌≡◌, ◌<◌, subst, rules}
 use Rattle.std.specs.FinMap as map
 use Rattle.tq_store.specs.Copies.{Files, Installs, OnlyRises, copy_of, installed}
 use Rattle.tq_store.specs.declared.copies.FileCopy.{FileCopy}
@@ -10,7 +10,7 @@ use Rattle.tq_store.proofs.copies.Copies.install.Goals.{in-Some-1, in-None-1}
 pub returns-then-get-copy-clause-files : goal.returns-then-get-copy-clause-files
 returns-then-get-copy-clause-files c =
     let copy : FileCopy = record { version = c.args.version; content = c.args.content } in
-    let greater : (copy_of c.args.self.now.files c.args.name).version < copy.version = subst (λ had. had.version < c.args.version) c.get.ensures c.if-get-copy.true in
+    let greater : (copy_of c.args.self.now.files c.args.name).version < copy.version = search rules in
     let updates = rw c.unwrap-replaced.ensures at c.insert.ensures.updates in
     let put : map.from_entries c.insert.new.self.entries ≡ installed c.args.self.now.files c.args.name copy =
     one_given c.self.inside.files.entries c.insert.new.self.entries c.args.name copy updates.0

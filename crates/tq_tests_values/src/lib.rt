@@ -1,0 +1,13 @@
+//! Tests of the values below the parts: the shape of a tree, its coterie, files, locks, and what a server keeps.
+#![tactic(auto)]
+
+#[cfg(test)]
+mod coterie;
+#[cfg(test)]
+mod intents;
+#[cfg(test)]
+mod locks;
+#[cfg(test)]
+mod shape;
+#[cfg(test)]
+mod store;

@@ -1,0 +1,83 @@
+use std::test::*;
+use tq_shape::Seq;
+use tq_store::{Content, Copies, FileName, MAX_CONTENT, MAX_NAME, Write};
+
+/// A name is 1 to 32 letters, digits, dots, low lines and dashes, and begins with a letter.
+#[test]
+fn names(rt: HostRuntime) -> Result<(), Fail> {
+    let longest = "abcdefghijklmnopqrstuvwxyz012345";
+    assert_eq!(rt; longest.len(), MAX_NAME);
+    for text in ["a", "z9", "a.b_c-d", longest] {
+        let name = FileName::new(text.as_bytes()).ok_or("a name")?;
+        assert_eq!(rt; name.as_str(), text);
+        assert_eq!(rt; name.as_bytes(), text.as_bytes());
+    }
+    Ok(())
+}
+
+#[test]
+fn no_names(rt: HostRuntime) -> Result<(), Fail> {
+    let too_long = "abcdefghijklmnopqrstuvwxyz0123456";
+    for text in ["", "1a", ".a", "A", "aB", "a b", "a/b", "\u{e4}", too_long] {
+        assert!(rt; FileName::new(text.as_bytes()).is_none(), "{text}");
+    }
+    Ok(())
+}
+
+#[test]
+fn text_of_a_name(rt: HostRuntime) -> Result<(), Fail> {
+    let name = FileName::new(b"notes.txt").ok_or("a name")?;
+    assert_eq!(rt; format!(in rt.alloc(); "{name}")?.as_str(), "notes.txt");
+    assert_eq!(rt;
+        format!(in rt.alloc(); "{name:?}")?.as_str(),
+        "\"notes.txt\""
+    );
+    Ok(())
+}
+
+/// A content has any bytes, and as many as the limit.
+#[test]
+fn contents(rt: HostRuntime) -> Result<(), Fail> {
+    let full = Content::new(vec![in rt.alloc(); 255; MAX_CONTENT]?).ok_or("full")?;
+    assert_eq!(rt; full.len(), 1000);
+    assert!(rt; Content::new(vec![in rt.alloc(); 0; MAX_CONTENT + 1]?).is_none());
+    let empty = Content::empty(rt.alloc());
+    assert!(rt; empty.is_empty());
+    assert!(rt; empty.clone()? == empty);
+    assert!(rt; !(full == empty));
+    Ok(())
+}
+
+/// The greater version stays, at equal ones the copy that is there.
+#[test]
+fn copies(rt: HostRuntime) -> Result<(), Fail> {
+    let file = FileName::new(b"a").ok_or("a name")?;
+    let mut copies = Copies::new(rt.alloc());
+    assert_eq!(rt; copies.get(&file).version, 0);
+    for (version, byte, left) in [(2, 20, 2), (1, 10, 2), (2, 21, 2), (3, 30, 3)] {
+        copies.reserve(rt.alloc(), 1)?;
+        let content = Content::new(vec![in rt.alloc(); byte; 1]?).ok_or("a content")?;
+        copies.install(file, version, content);
+        assert_eq!(rt; copies.get(&file).version, left);
+        let copy = copies.get(&file);
+        assert_eq!(rt; copy.content.as_bytes(), [left as u8 * 10].as_slice());
+    }
+    Ok(())
+}
+
+#[test]
+fn writes(rt: HostRuntime) -> Result<(), Fail> {
+    let file = FileName::new(b"a").ok_or("a name")?;
+    let mut copies = Copies::new(rt.alloc());
+    let content = Content::empty(rt.alloc());
+    let write = Write {
+        file,
+        version: 4,
+        content,
+    };
+    let writes = Seq::from_vec(vec![in rt.alloc(); write]?);
+    copies.reserve(rt.alloc(), writes.len())?;
+    copies.install_all(writes);
+    assert_eq!(rt; copies.get(&file).version, 4);
+    Ok(())
+}
