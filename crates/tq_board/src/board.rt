@@ -46,7 +46,7 @@ fn push_server_lines(text: &mut String, tables: &Tables, view: &View) -> Result<
 }
 
 /// Puts a line for each file, for each lock and for each open intention behind the text.
-pub(crate) fn push_rows(
+pub fn push_rows(
     text: &mut String,
     files: &[FileRow],
     locks: &[LockRow],

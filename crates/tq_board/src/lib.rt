@@ -3,9 +3,7 @@
 
 mod board;
 mod line;
+pub mod lines;
 mod word;
 
 pub use board::render;
-
-#[cfg(test)]
-mod tests;

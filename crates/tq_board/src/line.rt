@@ -7,7 +7,7 @@ use tq_shape::{Memory, ServerId};
 use tq_tables::{FileRow, IntentRow, LockRow};
 
 /// Puts the line of a server of the tree behind the text, with the least quorum of its subtree.
-pub(crate) fn push_server(
+pub fn push_server(
     text: &mut String,
     tree: &LiveTree,
     server: ServerId,
@@ -37,7 +37,7 @@ fn push_least(text: &mut String, least: &Option<Least>) -> Result<(), Memory>
 }
 
 /// Puts the line of a file behind the text.
-pub(crate) fn push_file(text: &mut String, row: &FileRow) -> Result<(), Memory>
+pub fn push_file(text: &mut String, row: &FileRow) -> Result<(), Memory>
     ensures { OnOk result (string_bytes text.new ≡ string_bytes text.old ++ as_line (file_text row.now)) }
 {
     write!(text, "file {} version {} current", row.file, row.version)?;
@@ -48,7 +48,7 @@ pub(crate) fn push_file(text: &mut String, row: &FileRow) -> Result<(), Memory>
 }
 
 /// Puts the line of a lock behind the text.
-pub(crate) fn push_lock(text: &mut String, row: &LockRow) -> Result<(), Memory>
+pub fn push_lock(text: &mut String, row: &LockRow) -> Result<(), Memory>
     ensures { OnOk result (string_bytes text.new ≡ string_bytes text.old ++ as_line (lock_text row.now)) }
 {
     let mode = mode_word(row.mode);
@@ -63,7 +63,7 @@ pub(crate) fn push_lock(text: &mut String, row: &LockRow) -> Result<(), Memory>
 }
 
 /// Puts the line of an open intention behind the text.
-pub(crate) fn push_intent(text: &mut String, row: &IntentRow) -> Result<(), Memory>
+pub fn push_intent(text: &mut String, row: &IntentRow) -> Result<(), Memory>
     ensures { OnOk result (string_bytes text.new ≡ string_bytes text.old ++ as_line (intent_text row.now)) }
 {
     let state = state_word(row.state);

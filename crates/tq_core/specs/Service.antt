@@ -5,13 +5,8 @@ use Rattle.tq_desk.specs.Log.{DeskView}
 use Rattle.tq_live.specs.Live.{Live}
 use Rattle.tq_tables.specs.Journals.{JournalsView, AreJournals}
 pub use Rattle.tq_tables.specs.Parts.{node_after_all, nodes_at}
-use Rattle.tq_core.specs.declared.answer.Step.{Step}
-use Rattle.tq_core.specs.World.{desk_at, view_at}
-use Rattle.tq_core.specs.Steps.{run}
-
--- the journals are those of a list of steps
-abbrev pub IsOfRun : JournalsView → Type 0
-IsOfRun world = (steps : List Step) × (world ≡ run world.levels world.limits steps)
+use Rattle.tq_world.specs.World.{desk_at, view_at}
+use Rattle.tq_world.specs.Steps.{IsOfRun}
 
 -- the parts stand where their journals leave them, and the journals are those of a run
 pub record IsService (nodes : List NodeView) (desk : DeskView) (view : Live) (world : JournalsView) : Type 0 where

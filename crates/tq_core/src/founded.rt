@@ -1,7 +1,7 @@
 //! Tests of what an entry says.
 ghost use Rattle.std.specs.Prelude.{◌≡◌, ◌==◌, ◌&&◌};
 ghost use Rattle.std.specs.Cmp.Lexicographic.{pointwise};
-ghost use Rattle.tq_core.specs.Founded as spec;
+ghost use Rattle.tq_world.specs.Founded as spec;
 
 use tq_desk::{DeskAsk, DeskRefusal, DeskReply, Grant, Vote};
 use tq_locks::Mode;

@@ -51,12 +51,12 @@ impl Model for Service {
 }
 
 impl Service {
-    ghost use Rattle.tq_core.specs.World as world;
-    ghost use Rattle.tq_core.specs.Steps as spec;
-    ghost use Rattle.tq_core.specs.JournalOf as part_journals;
-    ghost use Rattle.tq_core.specs.CommittedReads.{HasCommittedReads};
-    ghost use Rattle.tq_core.specs.Offered.{OffersBest};
-    ghost use Rattle.tq_core.specs.Headline.{AreOffered, Headline};
+    ghost use Rattle.tq_world.specs.World as world;
+    ghost use Rattle.tq_world.specs.Steps as spec;
+    ghost use Rattle.tq_world.specs.JournalOf as part_journals;
+    ghost use Rattle.tq_world.specs.CommittedReads.{HasCommittedReads};
+    ghost use Rattle.tq_world.specs.Offered.{OffersBest};
+    ghost use Rattle.tq_world.specs.Headline.{AreOffered, Headline};
     ghost use Rattle.tq_tables.specs.Parts.{AreLegal};
     ghost use Rattle.tq_tables.specs.Tables.{tables_of};
 

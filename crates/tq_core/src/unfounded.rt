@@ -1,11 +1,10 @@
 //! The first citation of an ask that is not founded. Each is one look-up in a journal.
 ghost use Rattle.std.specs.Prelude.{◌≡◌, IfSome, None};
 ghost use Rattle.std.specs.Option.{option_copied};
-ghost use Rattle.tq_core.specs.World as world;
-ghost use Rattle.tq_core.specs.Founded as spec;
-ghost use Rattle.tq_core.specs.Steps as steps;
+ghost use Rattle.tq_world.specs.World as world;
+ghost use Rattle.tq_world.specs.Founded as spec;
+ghost use Rattle.tq_world.specs.Steps as steps;
 
-use crate::citation::Citation;
 use crate::founded::{is_ended, is_granted, is_peeked, is_voted};
 use crate::{Refusal, Service};
 use tq_desk::{DeskAsk, Grant, Op, Vote};
@@ -13,6 +12,7 @@ use tq_node::{CitedVote, NodeAsk, Verdict, WorkAsk};
 use tq_shape::Part;
 use tq_store::{Content, FileName};
 use tq_tables::NodeEntry;
+use tq_world::Citation;
 
 /// The item of a number, from 1.
 pub(crate) fn item_at<T>(items: &[T], number: u64) -> Option<&T>

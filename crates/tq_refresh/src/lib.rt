@@ -5,8 +5,5 @@ mod job;
 mod planning;
 
 pub use job::{Job, copy_ask, peek_ask};
-pub use planning::plan;
+pub use planning::{plan, plan_rows};
 pub use tq_shape::Memory;
-
-#[cfg(test)]
-mod tests;

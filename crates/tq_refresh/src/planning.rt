@@ -22,11 +22,7 @@ pub fn plan(alloc: Global, tables: &Tables, view: &View) -> Result<Vec<Job>, Mem
 }
 
 /// The jobs of these files, in their order.
-pub(crate) fn plan_rows(
-    alloc: Global,
-    rows: &[FileRow],
-    tree: &LiveTree,
-) -> Result<Vec<Job>, Memory>
+pub fn plan_rows(alloc: Global, rows: &[FileRow], tree: &LiveTree) -> Result<Vec<Job>, Memory>
     requires { All (λ row. (row.current.levels ≡ tree.now.levels)
         × (row.stale.levels ≡ tree.now.levels)) rows.now }
     ensures { IfOk result (λ jobs. jobs.items ≡ flat_map (jobs_of tree.now) rows.now) }

@@ -11,7 +11,7 @@ use tq_shape::{Levels, Memory, ServerSet};
 use tq_store::FileName;
 
 /// A row for each file that the commits among the desk's entries write.
-pub(crate) fn file_rows(
+pub fn file_rows(
     alloc: Global,
     levels: Levels,
     nodes: &[Node],

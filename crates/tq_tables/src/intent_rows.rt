@@ -12,11 +12,7 @@ use tq_shape::{Memory, Seq};
 use tq_store::Write;
 
 /// The votes that are open at the servers.
-pub(crate) fn intent_rows(
-    alloc: Global,
-    nodes: &[Node],
-    desk: &Desk,
-) -> Result<Vec<IntentRow>, Memory>
+pub fn intent_rows(alloc: Global, nodes: &[Node], desk: &Desk) -> Result<Vec<IntentRow>, Memory>
     ensures { IfOk result (λ rows. rows.items ≡ spec.intent_rows (intent_state_at desk.now) nodes.now) }
 {
     let mut rows = Vec::new(alloc);

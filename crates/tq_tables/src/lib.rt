@@ -12,6 +12,7 @@ mod lock_row;
 mod lock_rows;
 mod quorum_rows;
 mod replay;
+pub mod rows;
 mod tables;
 mod write_counts;
 
@@ -19,8 +20,6 @@ pub use file_row::FileRow;
 pub use intent_row::{FileVersion, IntentRow, IntentState};
 pub use journals::{DeskEntry, Journals, NodeEntry, ViewEntry};
 pub use lock_row::LockRow;
+pub use replay::{replay_desk, replay_nodes};
 pub use tables::Tables;
 pub use tq_shape::Entry;
-
-#[cfg(test)]
-mod tests;

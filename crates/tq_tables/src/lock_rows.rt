@@ -8,7 +8,7 @@ use tq_node::Node;
 use tq_shape::Memory;
 
 /// The locks that are held at the servers.
-pub(crate) fn lock_rows(alloc: Global, nodes: &[Node]) -> Result<Vec<LockRow>, Memory>
+pub fn lock_rows(alloc: Global, nodes: &[Node]) -> Result<Vec<LockRow>, Memory>
     ensures { IfOk result (λ rows. rows.items ≡ spec.lock_rows nodes.now) }
 {
     let mut rows = Vec::new(alloc);

@@ -6,7 +6,7 @@ use tq_live::{Least, LiveTree};
 use tq_shape::{Memory, ServerId};
 
 /// For each server upwards the best of its subtree, none where there is none.
-pub(crate) fn quorum_rows(alloc: Global, tree: &LiveTree) -> Result<Vec<Option<Least>>, Memory>
+pub fn quorum_rows(alloc: Global, tree: &LiveTree) -> Result<Vec<Option<Least>>, Memory>
     ensures { IfOk result (λ rows. rows.items ≡ spec.quorum_rows tree.now) }
 {
     let levels = tree.levels();

@@ -11,7 +11,7 @@ use tq_node::Node;
 use tq_shape::{Levels, Limits, Memory, ServerId};
 
 /// The servers after their journals.
-pub(crate) fn replay_nodes(
+pub fn replay_nodes(
     alloc: Global,
     levels: Levels,
     servers: &[Vec<NodeEntry>],
@@ -49,7 +49,7 @@ fn replay_node(
 }
 
 /// The desk after its journal.
-pub(crate) fn replay_desk(
+pub fn replay_desk(
     alloc: Global,
     levels: Levels,
     limits: Limits,

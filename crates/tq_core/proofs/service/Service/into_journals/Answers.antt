@@ -1,6 +1,6 @@
 use Rattle.std.proofs.Common.{sym}
-use Rattle.tq_core.proofs.Legal.{legal_run}
-use Rattle.tq_core.proofs.ReadsOfRun.{reads_of_run, seen_run}
+use Rattle.tq_world.proofs.Legal.{legal_run}
+use Rattle.tq_world.proofs.ReadsOfRun.{reads_of_run, seen_run}
 use Rattle.tq_core.proofs.service.Service.into_journals.Goals as goal
 
 pub returns-clause-committed_reads : goal.returns-clause-committed_reads

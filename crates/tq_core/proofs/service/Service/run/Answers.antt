@@ -1,5 +1,5 @@
 use Rattle.std.proofs.Common.{refl}
-use Rattle.tq_core.proofs.Legal.{all_offered, headline}
+use Rattle.tq_world.proofs.Legal.{all_offered, headline}
 use Rattle.tq_core.proofs.service.Service.run.Goals as goal
 
 pub returns-clause-offered : goal.returns-clause-offered

@@ -1,7 +1,7 @@
-use Rattle.tq_core.specs.declared.answer.Step.TheVariants as steps
+use Rattle.tq_world.specs.declared.answer.Step.TheVariants as steps
 use Rattle.std.proofs.Common.{refl}
-use Rattle.tq_core.proofs.Legal.{headline}
-use Rattle.tq_core.proofs.ReadsOfRun.{reads_of_step, seen_run}
+use Rattle.tq_world.proofs.Legal.{headline}
+use Rattle.tq_world.proofs.ReadsOfRun.{reads_of_step, seen_run}
 use Rattle.tq_core.proofs.service.Service.step.Goals as goal
 
 pub returns-in-Node-clause-committed_reads : goal.returns-in-Node-clause-committed_reads

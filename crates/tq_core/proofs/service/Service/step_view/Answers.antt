@@ -1,4 +1,4 @@
-use Rattle.tq_core.proofs.Offers.{view_offers}
+use Rattle.tq_world.proofs.Offers.{view_offers}
 use Rattle.tq_core.proofs.service.Service.step_view.Goals as goal
 
 pub returns-in-Ok-clause-offered : goal.returns-in-Ok-clause-offered

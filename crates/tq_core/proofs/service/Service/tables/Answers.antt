@@ -6,8 +6,8 @@ use Rattle.tq_tables.specs.Journals.{EntryOfDesk}
 use Rattle.tq_tables.specs.Parts.{bounds_of, desk_at, nodes_at, view_at}
 use Rattle.tq_tables.specs.Tables.{tables_of, tables_over}
 use Rattle.tq_tables.proofs.Replayed.{desk-bounds, desk_at-is, of_tree-at}
-use Rattle.tq_core.proofs.Legal.{headline, legal_run}
-use Rattle.tq_core.proofs.ReadsOfRun.{reads_of_run, seen_run}
+use Rattle.tq_world.proofs.Legal.{headline, legal_run}
+use Rattle.tq_world.proofs.ReadsOfRun.{reads_of_run, seen_run}
 use Rattle.tq_core.proofs.service.Service.tables.Goals as goal
 
 pub over-requires-clause-of_tree : goal.over-requires-clause-of_tree

@@ -1,5 +1,5 @@
 use Rattle.std.proofs.Common.{◌≡◌, drop}
-use Rattle.tq_core.specs.Founded as spec
+use Rattle.tq_world.specs.Founded as spec
 use Rattle.tq_core.proofs.service.Service.unfounded_op.Given as goal
 
 -- what the ops that are left cite is what all of them do

@@ -1,0 +1,363 @@
+mod plain;
+mod walk;
+
+use std::alloc::Global;
+use std::test::*;
+use tq_core::{Answer, Journal, Part, Refusal, Reply, Service, Step};
+use tq_desk::{DeskAsk, DeskRefusal, DeskReply, Grant, Op, OpKind, Vote};
+use tq_live::{ViewAsk, ViewReply};
+use tq_locks::Mode;
+use tq_node::{CitedVote, HeldLock, NodeAsk, NodeReply, Verdict, WorkAsk};
+use tq_shape::{Levels, Limits, Seq};
+use tq_store::{Content, FileName, Write};
+
+/// A service that is asked step by step.
+#[derive(Drop)]
+struct Asked {
+    alloc: Global,
+    service: Service,
+}
+
+impl Asked {
+    fn new(alloc: Global, levels: u32, limits: Limits) -> Result<Asked, Fail> {
+        let levels = Levels::new(levels).ok_or("levels")?;
+        let service = Service::new(alloc, levels, limits)?;
+        Ok(Asked { alloc, service })
+    }
+
+    /// Takes a step. Where memory is wanting nothing changes, and the step is taken again.
+    fn step(&mut self, step: Step) -> Result<Result<Answer, Refusal>, Fail> {
+        let again = step.clone()?;
+        match self.service.step(self.alloc, step) {
+            Err(Refusal::Memory) => Ok(self.service.step(self.alloc, again)),
+            told => Ok(told),
+        }
+    }
+
+    /// Takes a step, and fails where it is told another number or reply.
+    fn expect(&mut self, step: Step, number: u64, reply: Reply) -> Result<(), Fail> {
+        match self.step(step)? {
+            Ok(answer) => check(answer == Answer { number, reply }, "another answer"),
+            Err(_) => check(false, "refused"),
+        }
+    }
+
+    fn node(&mut self, ask: WorkAsk, number: u64, reply: NodeReply) -> Result<(), Fail> {
+        let ask = NodeAsk::Work(ask);
+        self.expect(Step::Node { server: 1, ask }, number, Reply::Node(reply))
+    }
+
+    fn desk(&mut self, ask: DeskAsk, number: u64, reply: DeskReply) -> Result<(), Fail> {
+        self.expect(Step::Desk(ask), number, Reply::Desk(reply))
+    }
+
+    fn refuses(&mut self, step: Step, wanted: Refusal) -> Result<(), Fail> {
+        match self.step(step)? {
+            Ok(_) => check(false, "answered"),
+            Err(reason) => check(reason == wanted, "another reason"),
+        }
+    }
+}
+
+fn check(holds: bool, what: &'static str) -> Result<(), Fail> {
+    Ok(if holds { Ok(()) } else { Err(what) }?)
+}
+
+fn file_a() -> Result<FileName, Fail> {
+    Ok(FileName::new(b"a").ok_or("file")?)
+}
+
+fn text(alloc: Global, byte: u8) -> Result<Content, Fail> {
+    let bytes = vec![in alloc; byte]?;
+    Ok(Content::new(bytes).ok_or("content")?)
+}
+
+fn lock(mode: Mode) -> Result<WorkAsk, Fail> {
+    let file = file_a()?;
+    Ok(WorkAsk::Lock { txn: 1, file, mode })
+}
+
+fn writes(alloc: Global, version: u64, byte: u8) -> Result<Seq<Write>, Fail> {
+    let file = file_a()?;
+    let content = text(alloc, byte)?;
+    let write = Write {
+        file,
+        version,
+        content,
+    };
+    Ok(Seq::from_vec(vec![in alloc; write]?))
+}
+
+fn held(alloc: Global, mode: Mode, since: u64) -> Result<Seq<HeldLock>, Fail> {
+    let file = file_a()?;
+    Ok(Seq::from_vec(vec![in alloc; HeldLock { file, mode, since }]?))
+}
+
+/// What a server answers that grants a file that was never written.
+fn granted(alloc: Global) -> NodeReply {
+    let content = Content::empty(alloc);
+    NodeReply::Granted {
+        version: 0,
+        content,
+    }
+}
+
+fn grants(alloc: Global, number: u64, mode: Mode) -> Result<Seq<Grant>, Fail> {
+    let content = Content::empty(alloc);
+    let grant = Grant {
+        server: 1,
+        number,
+        mode,
+        version: 0,
+        content,
+    };
+    Ok(Seq::from_vec(vec![in alloc; grant]?))
+}
+
+// A write of a file, its vote cited once and used twice: the second time it is no vote that the record cites.
+
+/// The commit of the write of `x` by the first transaction.
+fn first_commit(alloc: Global) -> Result<DeskAsk, Fail> {
+    let op = Op {
+        file: file_a()?,
+        kind: OpKind::Write,
+        version: 1,
+        content: text(alloc, b'x')?,
+        grants: grants(alloc, 1, Mode::Exclusive)?,
+    };
+    let vote = Vote {
+        server: 1,
+        number: 2,
+        held: held(alloc, Mode::Exclusive, 1)?,
+        writes: writes(alloc, 1, b'x')?,
+    };
+    let ops = Seq::from_vec(vec![in alloc; op]?);
+    let votes = Seq::from_vec(vec![in alloc; vote]?);
+    Ok(DeskAsk::Commit { txn: 1, ops, votes })
+}
+
+fn commit_first(asked: &mut Asked) -> Result<(), Fail> {
+    let alloc = asked.alloc;
+    asked.desk(DeskAsk::Begin, 1, DeskReply::Txn(1))?;
+    asked.node(lock(Mode::Exclusive)?, 1, granted(alloc))?;
+    let held = held(alloc, Mode::Exclusive, 1)?;
+    let prepare = WorkAsk::Prepare {
+        txn: 1,
+        writes: writes(alloc, 1, b'x')?,
+    };
+    asked.node(
+        prepare,
+        2,
+        NodeReply::Yes {
+            held,
+            writes: writes(alloc, 1, b'x')?,
+        },
+    )?;
+    asked.desk(first_commit(alloc)?, 2, DeskReply::Committed { serial: 1 })
+}
+
+fn decide_first(alloc: Global) -> Result<WorkAsk, Fail> {
+    let votes = Seq::from_vec(vec![in alloc;
+        CitedVote {
+            server: 1,
+            number: 2
+        },
+    ]?);
+    let verdict = Verdict::Commit { votes };
+    Ok(WorkAsk::Decide {
+        txn: 1,
+        verdict,
+        cite: 2,
+    })
+}
+
+fn vote_again(asked: &mut Asked) -> Result<(), Fail> {
+    let alloc = asked.alloc;
+    let content = text(alloc, b'x')?;
+    asked.node(
+        lock(Mode::Exclusive)?,
+        4,
+        NodeReply::Granted {
+            version: 1,
+            content,
+        },
+    )?;
+    let held = held(alloc, Mode::Exclusive, 4)?;
+    let prepare = WorkAsk::Prepare {
+        txn: 1,
+        writes: writes(alloc, 2, b'y')?,
+    };
+    asked.node(
+        prepare,
+        5,
+        NodeReply::Yes {
+            held,
+            writes: writes(alloc, 2, b'y')?,
+        },
+    )
+}
+
+#[test]
+fn a_vote_that_is_not_cited_is_discarded(rt: HostRuntime) -> Result<(), Fail> {
+    let alloc = rt.alloc();
+    let mut asked = Asked::new(alloc, 1, Limits::full())?;
+    commit_first(&mut asked)?;
+    asked.node(decide_first(alloc)?, 3, NodeReply::Installed)?;
+    vote_again(&mut asked)?;
+    asked.node(decide_first(alloc)?, 6, NodeReply::Discarded)?;
+    let content = text(alloc, b'x')?;
+    asked.node(
+        WorkAsk::Peek { file: file_a()? },
+        7,
+        NodeReply::Copy {
+            version: 1,
+            content,
+        },
+    )
+}
+
+// A lock that was released in between does not cover the grant before.
+
+/// A commit of a read, by the grant of that number.
+fn read_commit(alloc: Global, number: u64) -> Result<DeskAsk, Fail> {
+    let op = Op {
+        file: file_a()?,
+        kind: OpKind::Read,
+        version: 0,
+        content: Content::empty(alloc),
+        grants: grants(alloc, number, Mode::Shared)?,
+    };
+    let vote = Vote {
+        server: 1,
+        number: 4,
+        held: held(alloc, Mode::Shared, 3)?,
+        writes: Seq::from_vec(Vec::new(alloc)),
+    };
+    let ops = Seq::from_vec(vec![in alloc; op]?);
+    let votes = Seq::from_vec(vec![in alloc; vote]?);
+    Ok(DeskAsk::Commit { txn: 1, ops, votes })
+}
+
+fn lock_twice(asked: &mut Asked) -> Result<(), Fail> {
+    let alloc = asked.alloc;
+    asked.node(lock(Mode::Shared)?, 1, granted(alloc))?;
+    asked.node(WorkAsk::Release { txn: 1 }, 2, NodeReply::Released)?;
+    asked.node(lock(Mode::Shared)?, 3, granted(alloc))
+}
+
+fn vote_for_nothing(asked: &mut Asked) -> Result<(), Fail> {
+    let alloc = asked.alloc;
+    let held = held(alloc, Mode::Shared, 3)?;
+    let prepare = WorkAsk::Prepare {
+        txn: 1,
+        writes: Seq::from_vec(Vec::new(alloc)),
+    };
+    asked.node(
+        prepare,
+        4,
+        NodeReply::Yes {
+            held,
+            writes: Seq::from_vec(Vec::new(alloc)),
+        },
+    )
+}
+
+#[test]
+fn a_lock_that_was_broken_is_bad_evidence(rt: HostRuntime) -> Result<(), Fail> {
+    let alloc = rt.alloc();
+    let mut asked = Asked::new(alloc, 1, Limits::full())?;
+    asked.desk(DeskAsk::Begin, 1, DeskReply::Txn(1))?;
+    lock_twice(&mut asked)?;
+    vote_for_nothing(&mut asked)?;
+    let bad = DeskReply::Refused(DeskRefusal::BadEvidence { rule: 3 });
+    asked.desk(read_commit(alloc, 1)?, 2, bad)?;
+    asked.desk(
+        read_commit(alloc, 3)?,
+        3,
+        DeskReply::Committed { serial: 1 },
+    )
+}
+
+// Journals of two entries.
+
+fn choose_thrice(asked: &mut Asked) -> Result<(), Fail> {
+    let chosen = asked.step(Step::View(ViewAsk::Choose))?;
+    check(
+        matches!(chosen, Ok(Answer { number: 1, .. })),
+        "not the first",
+    )?;
+    let again = asked.step(Step::View(ViewAsk::Choose))?;
+    check(
+        matches!(
+            again,
+            Ok(Answer {
+                number: 2,
+                reply: Reply::View(ViewReply::Chosen { cost: 1, .. })
+            })
+        ),
+        "not the second",
+    )?;
+    asked.refuses(
+        Step::View(ViewAsk::Choose),
+        Refusal::JournalFull { part: Part::View },
+    )
+}
+
+#[test]
+fn a_full_journal_stops_its_part_alone(rt: HostRuntime) -> Result<(), Fail> {
+    let limits = Limits::new(1000, 64, 2).ok_or("limits")?;
+    let mut asked = Asked::new(rt.alloc(), 1, limits)?;
+    choose_thrice(&mut asked)?;
+    asked.desk(DeskAsk::Begin, 1, DeskReply::Txn(1))?;
+    let ask = NodeAsk::Work(WorkAsk::Decide {
+        txn: 1,
+        verdict: Verdict::Abort,
+        cite: 1,
+    });
+    asked.refuses(
+        Step::Node { server: 1, ask },
+        Refusal::Unfounded {
+            part: Part::Desk,
+            number: 1,
+        },
+    )?;
+    let ask = NodeAsk::Crash;
+    asked.refuses(Step::Node { server: 2, ask }, Refusal::NoSuchServer)
+}
+
+#[test]
+fn a_run_gives_the_journals(rt: HostRuntime) -> Result<(), Fail> {
+    let alloc = rt.alloc();
+    let mut asked = Asked::new(alloc, 2, Limits::full())?;
+    let steps = vec![in alloc;
+        Step::Desk(DeskAsk::Begin),
+        Step::View(ViewAsk::Choose),
+        Step::Node {
+            server: 4,
+            ask: NodeAsk::Crash
+        },
+        Step::Node {
+            server: 3,
+            ask: NodeAsk::Crash
+        },
+    ]?;
+    let results = asked.service.run(alloc, steps)?;
+    check(results.len() == 4, "four results")?;
+    check(
+        matches!(asked.service.journal(Part::Server(4)), None),
+        "no such journal",
+    )?;
+    check(
+        matches!(
+            asked.service.journal(Part::Server(3)),
+            Some(Journal::Server(_))
+        ),
+        "a journal",
+    )?;
+    let journals = asked.service.into_journals();
+    check(journals.servers().len() == 3, "three servers")?;
+    check(
+        journals.desk().len() == 1 && journals.view().len() == 1,
+        "one entry each",
+    )
+}

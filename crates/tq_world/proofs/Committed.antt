@@ -1,0 +1,165 @@
+-- Committed reads: each read of a commit is of the last write before it and has its number, and each write the next number.
+use Rattle.std.specs.Prelude.{◌==◌, ◌&&◌}
+use Rattle.std.proofs.Common.{◌≡◌, ◌≢◌, ℕ, suc, ◌≤◌, Bool, true, false, cond, List, [], ◌∷◌, Option, Some, None, refl, sym, ap, subst, ◌∙◌, inl, inr, arith}
+use Rattle.std.proofs.lemmas.Bool.{and_from, eq-eqb, cases_lt}
+use Rattle.tq_node.specs.declared.ask.CitedVote.{CitedVote}
+use Rattle.tq_node.specs.declared.ask.Verdict.{Verdict}
+use Rattle.tq_node.specs.declared.ask.Verdict.TheVariants as verdicts
+use Rattle.tq_desk.specs.declared.ask.DeskAsk.{DeskAsk}
+use Rattle.tq_desk.specs.declared.ask.DeskAsk.TheVariants as asks
+use Rattle.tq_desk.specs.declared.ask.DeskReply.{DeskReply}
+use Rattle.tq_desk.specs.declared.ask.DeskReply.TheVariants as replies
+use Rattle.tq_desk.specs.declared.ask.Grant.{Grant}
+use Rattle.tq_desk.specs.declared.ask.Op.{Op}
+use Rattle.tq_desk.specs.declared.ask.Vote.{Vote}
+use Rattle.tq_desk.specs.Evidence.{is_write, servers_of}
+use Rattle.tq_desk.specs.Log.{cited}
+use Rattle.tq_shape.specs.Journal.{entry_at, Has}
+use Rattle.tq_node.specs.NodeJournal.{NodeEntry, IsCited, HasHeld}
+use Rattle.tq_desk.specs.DeskJournal.{DeskBounds, DeskEntry, IsLegalDesk, final, Commit, with_commit, commits, count, last_write, IsNumbered, AreNumbered, IsWritten}
+use Rattle.tq_world.proofs.Events.{Event, AtNode, AtDesk, node_journal, desk_journal, IsFoundedCommit, IsFoundedAsk, IsRun, MeetsAll}
+use Rattle.tq_coterie.specs.Coterie.{is_quorum}
+use Rattle.tq_node.specs.NodeLaws.{NodeLaws}
+use Rattle.tq_desk.specs.Laws.{DeskLaws, IsShown, HasTop}
+use Rattle.tq_shape.proofs.Places.{Has-map, map-Has, Has-any, Some-same}
+use Rattle.tq_world.proofs.Numbering.{AreOnce, IsWritten-bound, last-IsWritten, IsWritten-last, none-last_write}
+use Rattle.tq_world.proofs.Worlds.{legal_nodes, legal_desk, founded_commits}
+use Rattle.tq_world.proofs.Told.{IsTold, shown_commits, decided, told}
+
+-- a vote of the list is cited by its record
+vote-cited : (votes : List Vote) (vote : Vote) (s : ℕ) → Has votes vote → vote.server ≡ s → IsCited (verdicts.Commit (cited votes)) s vote.number
+vote-cited votes vote s h e =
+    Has-any (λ (v : CitedVote). v.server == s && v.number == vote.number) (cited votes) (record { server = vote.server; number = vote.number })
+    (map-Has (λ (v : Vote). record { server = v.server; number = v.number }) votes vote h)
+    (and_from _ _ (eq-eqb vote.server s e) (eq-eqb vote.number vote.number refl))
+
+-- the vote of a server that an op has
+record IsVoteAt (votes : List Vote) (file : List ℕ) (s : ℕ) (grant : Grant) (vote : Vote) (since : ℕ) : Type 0 where
+  has_vote : Has votes vote
+  vote_server : vote.server ≡ s
+  grant_server : grant.server ≡ s
+  holds : HasHeld vote.held file since
+  from : since ≤ grant.number
+
+chosen : (b : Bool) (X Y : Type 0) → (b ≡ true → X) → (b ≡ false → Y) → cond b X Y
+chosen true X Y f g = f refl
+chosen false X Y f g = g refl
+
+module _ (bounds : DeskBounds) (nodes : NodeLaws) (desk : DeskLaws bounds) (meets : MeetsAll (is_quorum bounds.levels)) where
+  -- the grant and the vote at a server of an op
+  at_server : (ops : List Op) (votes : List Vote) → IsShown (is_quorum bounds.levels) ops votes → (op : Op) → Has ops op → (s : ℕ) → Has (servers_of op) s
+      → (grant : Grant) × Has op.grants grant × ((vote : Vote) × (since : ℕ) × IsVoteAt votes op.file s grant vote since)
+  at_server ops votes shown op has s h =
+      let g = Has-map (λ (grant : Grant). grant.server) op.grants s h in
+      let v = shown.coverage op has g.0 g.1 in
+      (g.0, g.1, (v.0, v.1, record { has_vote = (v.2).is_there; vote_server = (v.2).at_server ∙ g.2; grant_server = g.2; holds = let covered = v.2 in record { lock = covered.lock; is_there = covered.has_lock; on_file = covered.on_file; from = covered.since_is }; from = (v.2).from }))
+
+  at : (world : List Event) (s r n : ℕ) (e : NodeEntry) → r ≡ s → entry_at (node_journal world r) n ≡ Some e → entry_at (node_journal world s) n ≡ Some e
+  at world s r n e p h = subst (λ (q : ℕ). entry_at (node_journal world q) n ≡ Some e) p h
+
+  -- some grant of the op is at least each write of an earlier commit
+  at_least : (world : List Event) → IsRun bounds world → (t : ℕ) (ops : List Op) (votes : List Vote) → IsFoundedCommit world t ops votes → IsShown (is_quorum bounds.levels) ops votes
+      → final (desk_journal world) t ≡ None → (op : Op) → Has ops op
+      → (c : Commit) → Has (commits (desk_journal world)) c → (w : Op) → Has c.ops w → is_write w ≡ true → w.file ≡ op.file
+      → (grant : Grant) × Has op.grants grant × (w.version ≤ grant.version)
+  at_least world run t ops votes founded shown undecided op has c has_c w has_w writes same_file =
+      let D = desk_journal world in
+      let legal_d = legal_desk bounds world run in
+      let shown_c = shown_commits bounds nodes desk D legal_d c has_c in
+      let founded_c = founded_commits bounds world run c has_c in
+      let stands = desk.stands D c has_c in
+      let final_c = desk.told D legal_d stands.0 c.txn (verdicts.Commit (cited c.votes)) stands.1 in
+      let m = meets (servers_of op) (servers_of w) (shown.members op has) (shown_c.members w has_w) in
+      let s = m.0 in
+      let a = at_server ops votes shown op has s m.1 in
+      let b = at_server c.ops c.votes shown_c w has_w s m.2 in
+      let g = a.0 in
+      let v1 = a.2.0 in
+      let k1 = a.2.2 in
+      let v2 = b.2.0 in
+      let k2 = b.2.2 in
+      let apart : t ≢ c.txn = λ e. let u : Path (Option Verdict) None (Some (verdicts.Commit (cited c.votes))) = sym undecided ∙ ap (λ (x : ℕ). final D x) e ∙ final_c in cc in
+      let y1 = founded.each_vote v1 k1.has_vote in
+      let y2 = founded_c.each_vote v2 k2.has_vote in (
+        g,
+        a.1,
+        nodes.seen s (node_journal world s) (legal_nodes bounds world run s) t c.txn apart
+            op.file v1.number v1.held v1.writes a.2.1 (record { asked = y1.asked; is_there = at world s v1.server v1.number _ k1.vote_server y1.is_there }) k1.holds
+            (λ d verdict decision. let u : Path (Option Verdict) None (Some verdict) = sym undecided ∙ decided bounds nodes desk world run s d t verdict decision in cc)
+            g.number g.mode g.version g.content (at world s g.server g.number _ k1.grant_server (founded.grants op has g a.1)) k1.from
+            v2.number v2.held v2.writes w.version w.content (record { asked = y2.asked; is_there = at world s v2.server v2.number _ k2.vote_server y2.is_there })
+            (record { is_there = subst (λ (f : List ℕ). Has v2.writes (record { file = f; version = w.version; content = w.content })) same_file (shown_c.in_vote v2 k2.has_vote w has_w writes (subst (λ (x : ℕ). Has (servers_of w) x) (sym k2.vote_server) m.2)) })
+            (λ d verdict decision.
+            let e : verdicts.Commit (cited c.votes) ≡ verdict = Some-same (sym final_c ∙ decided bounds nodes desk world run s d c.txn verdict decision) in
+            subst (λ (x : Verdict). IsCited x s v2.number) e (vote-cited c.votes v2 s k2.has_vote k2.vote_server)),
+      )
+
+  pub once_commits : (D : List DeskEntry) → IsLegalDesk bounds D → AreOnce (commits D)
+  once_commits D legal c has = (shown_commits bounds nodes desk D legal c has).once
+
+  -- the newest grant of an op is of the last write
+  top_is : (world : List Event) → IsRun bounds world → (t : ℕ) (ops : List Op) (votes : List Vote) → IsFoundedCommit world t ops votes → IsShown (is_quorum bounds.levels) ops votes
+      → final (desk_journal world) t ≡ None → AreNumbered (commits (desk_journal world)) → (op : Op) → Has ops op → (newest : Grant) → HasTop op newest
+      → (newest.version ≡ count op.file (commits (desk_journal world))) × (newest.content ≡ last_write op.file (commits (desk_journal world)))
+  top_is world run t ops votes founded shown undecided numbered op has newest top =
+      by (told bounds nodes desk world run newest.server newest.number op.file newest.version newest.content (inl (t, newest.mode, founded.grants op has newest top.is_there)))
+    where
+      list : List Commit
+      list = commits (desk_journal world)
+
+      enough : 1 ≤ count op.file (commits (desk_journal world)) → count op.file (commits (desk_journal world)) ≤ newest.version
+      enough some =
+          let l = last-IsWritten (commits (desk_journal world)) op.file numbered some in
+          let g = at_least world run t ops votes founded shown undecided op has l.commit l.is_there l.op l.has_op l.writes l.on_file in
+          let least = g.2 in
+          let most = top.bounds g.0 g.1 in
+          let is = l.of_version in
+          omega arith
+
+      by : IsTold (commits (desk_journal world)) op.file newest.version newest.content
+          → (newest.version ≡ count op.file (commits (desk_journal world))) × (newest.content ≡ last_write op.file (commits (desk_journal world)))
+      by (inl z) =
+          let zero_version = z.0 in
+          let none : count op.file (commits (desk_journal world)) ≡ 0 =
+          elim (cases_lt 0 (count op.file (commits (desk_journal world)))) [
+            | inl some ↦ let e = enough some in absurd (omega arith)
+            | inr few ↦ omega arith
+          ] in
+          (z.0 ∙ sym none, z.1 ∙ sym (none-last_write (commits (desk_journal world)) op.file none))
+      by (inr w) =
+          let b = IsWritten-bound (commits (desk_journal world)) op.file newest.version newest.content numbered w in
+          let low = b.0 in
+          let high = b.1 in
+          let e = enough (omega arith) in
+          let same : newest.version ≡ count op.file (commits (desk_journal world)) = omega arith in (
+            same,
+            IsWritten-last (commits (desk_journal world)) op.file newest.content numbered (once_commits (desk_journal world) (legal_desk bounds world run))
+                (subst (λ (v : ℕ). IsWritten (commits (desk_journal world)) op.file v newest.content) same w),
+          )
+
+  op_numbered : (world : List Event) → IsRun bounds world → (t : ℕ) (ops : List Op) (votes : List Vote) → IsFoundedCommit world t ops votes → IsShown (is_quorum bounds.levels) ops votes
+      → final (desk_journal world) t ≡ None → AreNumbered (commits (desk_journal world)) → (op : Op) → Has ops op → IsNumbered (commits (desk_journal world)) op
+  op_numbered world run t ops votes founded shown undecided numbered op has =
+      chosen (is_write op) _ _
+      (λ w.
+      let m = meets (servers_of op) (servers_of op) (shown.members op has) (shown.members op has) in
+      let g = Has-map (λ (grant : Grant). grant.server) op.grants m.0 m.1 in
+      let n = shown.top op has g.0 g.1 in
+      shown.write_version op has w n.0 n.1 ∙ ap (λ (k : ℕ). suc k) (top_is world run t ops votes founded shown undecided numbered op has n.0 n.1).0)
+      (λ r.
+      let n = shown.read_copy op has r in
+      let is = top_is world run t ops votes founded shown undecided numbered op has n.0 n.1 in
+      (n.2 ∙ is.0, n.3 ∙ is.1))
+
+  step : (world : List Event) → IsRun bounds world → AreNumbered (commits (desk_journal world)) → (a : DeskAsk) (r : DeskReply)
+      → IsLegalDesk bounds (record { ask = a; reply = r } ∷ desk_journal world) → IsFoundedAsk world a → AreNumbered (with_commit a r (commits (desk_journal world)))
+  step world run ih (asks.Commit t ops votes) (replies.Committed i) legal founded =
+      let f = desk.fresh (desk_journal world) t ops votes i legal in
+      (λ op has. op_numbered world run t ops votes founded f.1 f.0 ih op has, ih)
+  step world run ih a r legal founded = ih
+
+  -- the theorem
+  pub committed_reads : (world : List Event) → IsRun bounds world → AreNumbered (commits (desk_journal world))
+  committed_reads [] run = tt
+  committed_reads (AtNode r e ∷ world) run = committed_reads world run.0
+  committed_reads (AtDesk e ∷ world) run = step world run.0 (committed_reads world run.0) e.ask e.reply (legal_desk bounds (AtDesk e ∷ world) run) run.2

@@ -1,0 +1,13 @@
+pub mod Rooms
+pub mod Runs
+pub mod Events
+pub mod Worlds
+pub mod Numbering
+pub mod Told
+pub mod Committed
+pub mod Quorums
+pub mod Contents
+pub mod Journaled
+pub mod ReadsOfRun
+pub mod Offers
+pub mod Legal

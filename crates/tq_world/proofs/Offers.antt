@@ -1,0 +1,45 @@
+-- A Choose is answered with the best quorum that is up, or with a blocker where none is.
+use Rattle.std.proofs.Common.{◌≡◌, ℕ, Bool, true, false, List, [], Option, Some, None, is_some, not, sum_by, refl, sym, ap, subst, ◌∙◌}
+use Rattle.std.specs.Option.{unwrap_or}
+use Rattle.std.proofs.lemmas.Bool.{false≢true}
+use Rattle.tq_live.specs.Live.{Live, cost_of, best, blocker}
+use Rattle.tq_live.specs.Choice.{IsChoice}
+use Rattle.tq_live.specs.declared.choice.Choice.TheVariants as choices
+use Rattle.tq_live.specs.declared.view.ViewAsk.TheVariants as asks
+use Rattle.tq_live.specs.View.{choice_reply, view_reply}
+use Rattle.tq_live.proofs.Either.{has-either, first-choice}
+use Rattle.tq_tables.specs.Journals.{JournalsView}
+use Rattle.tq_world.specs.declared.answer.Answer.{Answer}
+use Rattle.tq_world.specs.declared.answer.Reply.{Reply}
+use Rattle.tq_world.specs.declared.answer.Reply.TheVariants as replies
+use Rattle.tq_world.specs.declared.answer.Step.TheVariants as steps
+use Rattle.tq_world.specs.World.{view_at}
+use Rattle.tq_world.specs.Offered.{IsOffer, OffersBest}
+use Rattle.tq_world.specs.Steps.{answer}
+use Rattle.tq_live.specs.declared.view.ViewAsk.{ViewAsk}
+
+found_one : {A : Type 0} (o : Option A) (d : A) → is_some o ≡ true → o ≡ Some (unwrap_or o d)
+found_one None d is = absurd (false≢true is)
+found_one (Some x) d is = refl
+
+true_from_not : (b : Bool) → false ≡ not b → b ≡ true
+true_from_not true e = refl
+true_from_not false e = absurd (false≢true e)
+
+offer : (live : Live) (least : Option (List ℕ)) → best live 1 ≡ least → IsOffer live (replies.View (choice_reply live least))
+offer live (Some servers) is =
+    let choice : IsChoice live (choices.Quorum (record { servers = servers; levels = live.levels }) (sum_by (cost_of live) servers)) = (is, refl, refl) in
+    (choice, first-choice live (choices.Quorum (record { servers = servers; levels = live.levels }) (sum_by (cost_of live) servers)) choice)
+offer live None is =
+    let blocked : is_some (blocker live) ≡ true = true_from_not (is_some (blocker live)) (sym (ap is_some is) ∙ has-either live) in
+    let choice : IsChoice live (choices.Blocked (record { servers = unwrap_or (blocker live) []; levels = live.levels })) = (is, found_one (blocker live) [] blocked, refl) in
+    (choice, first-choice live (choices.Blocked (record { servers = unwrap_or (blocker live) []; levels = live.levels })) choice)
+
+-- the answer of a view that was asked to choose
+pub choose_offers : (live : Live) (reply : Reply) → reply ≡ replies.View (view_reply live asks.Choose) → IsOffer live reply
+choose_offers live reply is = subst (IsOffer live) (sym is) (offer live (best live 1) refl)
+
+pub view_offers : (world : JournalsView) (ask : ViewAsk) (answered : Answer) → answered ≡ answer world (steps.View ask) → OffersBest world (steps.View ask) answered
+view_offers world asks.Choose answered is = choose_offers (view_at world.levels world.view) answered.reply (ap (λ (a : Answer). a.reply) is)
+view_offers world (asks.SetCost server cost) answered is = tt
+view_offers world (asks.Mark server up) answered is = tt
