@@ -15,7 +15,7 @@ use Rattle.tq_desk.specs.declared.ask.DeskRefusal.{DeskRefusal}
 use Rattle.tq_desk.specs.declared.ask.DeskRefusal.TheVariants as refusals
 use Rattle.tq_desk.specs.declared.ask.DeskReply.{DeskReply}
 use Rattle.tq_desk.specs.declared.ask.DeskReply.TheVariants as replies
-use Rattle.tq_desk.specs.Evidence.{failed_rule}
+use Rattle.tq_evidence.specs.Evidence.{failed_rule}
 use Rattle.tq_desk.specs.Log.{DeskView, Finals, cited, desk_after, desk_answer, desk_answered, desk_refusal, desk_reply, final_or_abort, refuse, refuse_for, reply_at, resolved, state_at, with_files}
 use Rattle.tq_desk.specs.DeskJournal.{DeskBounds, DeskEntry, desk_state, ending, final, first_of, IsLegalDesk}
 use Rattle.tq_desk.specs.DeskLog.{AnswersByLog, EndsStay, IsDeskLog, Keeps, log_reply}

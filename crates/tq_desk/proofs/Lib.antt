@@ -1,14 +1,5 @@
-pub mod SameName
 pub mod Refusals
 pub mod DeskLog
-pub mod WriteOps
-pub mod Shown
-pub mod DeskFinal
 pub mod FinMaps
-pub mod HeldTable
-pub mod Merging
-pub mod Halving
 pub mod NewFiles
-pub mod Sorting
-pub mod StableSort
 pub mod WrittenNames

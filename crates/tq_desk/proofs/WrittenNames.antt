@@ -6,8 +6,8 @@ use Rattle.std.specs.Cmp.Lexicographic.{nat_list_cmp_total, texts_ties}
 use Rattle.std.specs.FinMap as fin
 use Rattle.std.specs.List.{list_any}
 use Rattle.tq_store.specs.Copies.{name_cmp}
-use Rattle.tq_desk.specs.declared.ask.Op.{Op}
-use Rattle.tq_desk.specs.Evidence.{is_write, same_name}
+use Rattle.tq_evidence.specs.declared.op.Op.{Op}
+use Rattle.tq_evidence.specs.Evidence.{is_write, same_name}
 use Rattle.tq_desk.specs.Log.{FileSet, with_file, with_files}
 use Rattle.tq_desk.specs.DeskJournal.{Commit, writes_file, written}
 use Rattle.tq_desk.specs.DeskLog.{is_written}

@@ -7,10 +7,10 @@ use Rattle.tq_node.specs.declared.ask.Verdict.TheVariants as verdicts
 use Rattle.tq_desk.specs.declared.ask.DeskAsk.{DeskAsk}
 use Rattle.tq_desk.specs.declared.ask.DeskAsk.TheVariants as asks
 use Rattle.tq_desk.specs.declared.ask.DeskRefusal.{DeskRefusal}
-use Rattle.tq_desk.specs.declared.ask.Op.{Op}
-use Rattle.tq_desk.specs.declared.desk.DeskChange.{DeskChange}
-use Rattle.tq_desk.specs.declared.desk.DeskChange.TheVariants.{Nothing, Begin, Abort, Commit}
-use Rattle.tq_desk.specs.Evidence.{is_write}
+use Rattle.tq_evidence.specs.declared.op.Op.{Op}
+use Rattle.tq_desk.specs.declared.change.DeskChange.{DeskChange}
+use Rattle.tq_desk.specs.declared.change.DeskChange.TheVariants.{Nothing, Begin, Abort, Commit}
+use Rattle.tq_evidence.specs.Evidence.{is_write}
 use Rattle.tq_desk.specs.Log.{DeskView, FileSet, aborted, cited, desk_refusal, with_file}
 
 -- the files that the ops write, one after another

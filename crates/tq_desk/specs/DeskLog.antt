@@ -10,7 +10,7 @@ use Rattle.tq_desk.specs.declared.ask.DeskRefusal.{DeskRefusal}
 use Rattle.tq_desk.specs.declared.ask.DeskRefusal.TheVariants.{NoSuchTxn, Decided, TooManyOps, BadEvidence, TooManyFiles}
 use Rattle.tq_desk.specs.declared.ask.DeskReply.{DeskReply}
 use Rattle.tq_desk.specs.declared.ask.DeskReply.TheVariants.{Txn, Verdict, Committed}
-use Rattle.tq_desk.specs.Evidence.{failed_rule}
+use Rattle.tq_evidence.specs.Evidence.{failed_rule}
 use Rattle.tq_desk.specs.Log.{DeskView, final_or_abort, refuse, refuse_for, reply_at, with_files}
 use Rattle.tq_desk.specs.DeskJournal as log
 use Rattle.tq_desk.specs.DeskJournal.{DeskBounds, DeskEntry, begun, commits, desk_state, final, IsLegalDesk, written}

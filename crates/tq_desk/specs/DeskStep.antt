@@ -8,11 +8,11 @@ use Rattle.tq_desk.specs.declared.ask.DeskAsk.{DeskAsk}
 use Rattle.tq_desk.specs.declared.ask.DeskAsk.TheVariants as asks
 use Rattle.tq_desk.specs.declared.ask.DeskRefusal.{DeskRefusal}
 use Rattle.tq_desk.specs.declared.ask.DeskRefusal.TheVariants as refusals
-use Rattle.tq_desk.specs.declared.ask.Op.{Op}
-use Rattle.tq_desk.specs.declared.ask.Vote.{Vote}
-use Rattle.tq_desk.specs.declared.desk.DeskChange.{DeskChange}
-use Rattle.tq_desk.specs.declared.desk.DeskChange.TheVariants as changes
-use Rattle.tq_desk.specs.Evidence.{failed_rule, is_write}
+use Rattle.tq_evidence.specs.declared.op.Op.{Op}
+use Rattle.tq_evidence.specs.declared.vote.Vote.{Vote}
+use Rattle.tq_desk.specs.declared.change.DeskChange.{DeskChange}
+use Rattle.tq_desk.specs.declared.change.DeskChange.TheVariants as changes
+use Rattle.tq_evidence.specs.Evidence.{failed_rule, is_write}
 use Rattle.tq_desk.specs.Log.{DeskView, FileSet, committed, desk_after, desk_answered, desk_refusal, is_begun, opening, refuse, refuse_for, resolved, state_at, with_file, with_files}
 use Rattle.tq_desk.specs.DeskChanges.{abort_unless, change_at, change_of, desk_change, desk_changed, names_written, with_names, DeskFits}
 

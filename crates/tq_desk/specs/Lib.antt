@@ -1,10 +1,7 @@
-pub mod Evidence
-pub mod Held
-pub mod InOrder
+pub use Rattle.tq_evidence.specs.Evidence
 pub mod Log
 pub mod Views
 pub mod DeskJournal
 pub mod DeskLog
-pub mod Laws
 pub mod DeskChanges
 pub mod DeskStep

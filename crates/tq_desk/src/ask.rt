@@ -1,49 +1,6 @@
-use tq_locks::Mode;
-use tq_node::{CitedVote, HeldLock, Verdict};
-use tq_shape::{ExactClone, Seq};
-use tq_store::{Content, FileName, Write};
-
-/// What an operation does with its file.
-#[derive(Debug, Clone, Copy, PartialEq, Eq)]
-pub enum OpKind {
-    Read,
-    Write,
-}
-
-/// A lock as a server granted it, with the copy that it answered.
-#[derive(Debug, Drop, Clone, PartialEq)]
-pub struct Grant {
-    pub server: u64,
-    /// The number of the server's entry that granted the lock.
-    pub number: u64,
-    pub mode: Mode,
-    pub version: u64,
-    pub content: Content,
-}
-
-/// A read or a write, with the grants that it rests on. Its servers are those of its grants.
-#[derive(Debug, Drop, Clone, PartialEq)]
-pub struct Op {
-    pub file: FileName,
-    pub kind: OpKind,
-    /// The version read, or that which the write makes.
-    pub version: u64,
-    /// The content read, or that which is written.
-    pub content: Content,
-    pub grants: Seq<Grant>,
-}
-
-/// A server's vote, as it was answered.
-#[derive(Debug, Drop, Clone, PartialEq)]
-pub struct Vote {
-    pub server: u64,
-    /// The number of the server's entry that gave the vote.
-    pub number: u64,
-    /// The locks that the transaction held there.
-    pub held: Seq<HeldLock>,
-    /// The writes that it asked that server to make.
-    pub writes: Seq<Write>,
-}
+use tq_evidence::{Op, Vote};
+use tq_node::Verdict;
+use tq_shape::Seq;
 
 /// What a desk is asked.
 #[derive(Debug, Drop, Clone, PartialEq)]
@@ -87,28 +44,4 @@ pub enum DeskReply {
     /// The commit is recorded, as that many-th, from 1.
     Committed { serial: u64 },
     Refused(DeskRefusal),
-}
-
-impl ExactClone for OpKind {
-    ghost use Rattle.std.proofs.Common.{rules};
-
-    ghost clones = { Prim.search rules };
-}
-
-impl ExactClone for Grant {
-    ghost use Rattle.std.proofs.Common.{rules};
-
-    ghost clones = { Prim.search rules };
-}
-
-impl ExactClone for Op {
-    ghost use Rattle.std.proofs.Common.{rules};
-
-    ghost clones = { Prim.search rules };
-}
-
-impl ExactClone for Vote {
-    ghost use Rattle.std.proofs.Common.{rules};
-
-    ghost clones = { Prim.search rules };
 }

@@ -5,35 +5,19 @@ ghost use Rattle.tq_desk.specs.DeskJournal as log;
 ghost use Rattle.tq_desk.specs.DeskJournal.{DeskBounds, DeskEntry, IsLegalDesk, desk_state};
 ghost use Rattle.tq_desk.specs.DeskLog.{AnswersByLog};
 ghost use Rattle.tq_desk.specs.DeskChanges.{desk_change, desk_changed, DeskFits};
-ghost use Rattle.tq_desk.specs.Evidence.{ops_rise};
+ghost use Rattle.tq_evidence.specs.Evidence.{ops_rise};
 ghost use Rattle.tq_desk.specs.Log as spec;
 
-use crate::evidence::failed_rule;
 use crate::files::{WrittenFiles, written_names};
 use crate::finals::Finals;
-use crate::{DeskAsk, DeskRefusal, DeskReply, Op, Vote};
+use crate::{DeskAsk, DeskChange, DeskRefusal, DeskReply};
 use std::alloc::Global;
 use std::marker::Model;
+use tq_evidence::{Op, Vote, failed_rule};
 use tq_node::{CitedVote, Verdict};
 use tq_part::Plan;
 use tq_shape::{Levels, Limits, Memory, Seq};
 use tq_store::FileName;
-
-/// What an ask of the desk changes.
-#[derive(Debug, Drop)]
-pub enum DeskChange {
-    Nothing,
-    /// The transaction begins.
-    Begin { txn: u64 },
-    /// The transaction, which had not ended, aborts.
-    Abort { txn: u64 },
-    /// The transaction, which had not ended, commits on these votes and writes these files.
-    Commit {
-        txn: u64,
-        votes: Seq<CitedVote>,
-        files: Seq<FileName>,
-    },
-}
 
 /// The desk: it begins transactions and keeps how each ended.
 #[derive(Drop)]
@@ -127,7 +111,7 @@ impl Desk {
         Ok(plan.reply)
     }
 
-    /// The reply to an ask, and what it is to change. Nothing changes.
+    /// The reply to an ask, and what `apply` is to change. Of a commit the evidence is judged here. Nothing changes.
     pub fn plan(&self, alloc: Global, ask: &DeskAsk) -> Result<Plan<DeskReply, DeskChange>, Memory>
         requires { self.now.begun + 1 < 2 ^ 64 }
         ensures reply { IfOk result (λ plan. plan.reply ≡ spec.desk_reply self.now ask.now) }
@@ -151,7 +135,8 @@ impl Desk {
         }
     }
 
-    /// Makes a change that was planned. All memory is asked for before the first step of it.
+    /// Makes a change that was planned, of this desk as it stands. All memory is asked for before the first step of
+    /// it, so that out of memory leaves the desk as it was.
     pub fn apply(&mut self, change: DeskChange) -> Result<(), Memory>
         requires { DeskFits self.old change }
         ensures ok { OnOk result (self.new ≡ desk_changed self.old change) }
@@ -184,12 +169,13 @@ impl Desk {
         })
     }
 
+    /// The plan of a Resolve.
     fn plan_resolve(&self, txn: u64) -> Result<Plan<DeskReply, DeskChange>, Memory>
         ensures reply { IfOk result (λ plan. plan.reply ≡ spec.desk_reply self.now (DeskAsk.Resolve txn)) }
         ensures change { IfOk result (λ plan. plan.change ≡ desk_change self.now (DeskAsk.Resolve txn)) }
     {
         if !self.is_begun(txn) {
-            return Ok(refusal(DeskRefusal::NoSuchTxn));
+            return Ok(refused(DeskRefusal::NoSuchTxn));
         }
         match self.ended(txn)? {
             None => Ok(Plan {
@@ -203,6 +189,7 @@ impl Desk {
         }
     }
 
+    /// The plan of a Commit.
     fn plan_commit(
         &self,
         alloc: Global,
@@ -214,7 +201,7 @@ impl Desk {
         ensures change { IfOk result (λ plan. plan.change ≡ desk_change self.now (DeskAsk.Commit txn ops.now votes.now)) }
     {
         match self.commit_refusal(alloc, txn, ops, votes)? {
-            Some(reason) => Ok(refusal(reason)),
+            Some(reason) => Ok(refused(reason)),
             None => {
                 let _ended = self.finals.len();
                 let votes = cited(alloc, votes)?;
@@ -229,6 +216,7 @@ impl Desk {
         }
     }
 
+    /// Whether the number is that of a transaction begun.
     fn is_begun(&self, txn: u64) -> bool
         ensures { result ≡ spec.is_begun self.now txn }
     {
@@ -313,7 +301,8 @@ impl Desk {
     }
 }
 
-fn refusal(reason: DeskRefusal) -> Plan<DeskReply, DeskChange>
+/// The plan that refuses, and changes nothing.
+fn refused(reason: DeskRefusal) -> Plan<DeskReply, DeskChange>
     ensures reply { result.reply ≡ DeskReply.Refused reason }
     ensures change { result.change ≡ DeskChange.Nothing }
 {

@@ -3,11 +3,10 @@ ghost use Rattle.std.specs.FinMap as fin;
 ghost use Rattle.tq_desk.specs.Log as spec;
 ghost use Rattle.tq_desk.specs.DeskChanges.{names_written, with_names};
 
-use crate::Op;
-use crate::evidence::is_write;
 use indexmap::IndexMap;
 use std::alloc::Global;
 use std::marker::Model;
+use tq_evidence::{Op, is_write};
 use tq_shape::{Memory, Seq};
 use tq_store::FileName;
 

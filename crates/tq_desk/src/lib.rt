@@ -3,15 +3,12 @@
 
 mod answers;
 mod ask;
+mod change;
 mod desk;
-mod evidence;
 mod files;
 mod finals;
-mod laws;
 
-pub use ask::{DeskAsk, DeskRefusal, DeskReply, Grant, Op, OpKind, Vote};
-pub use desk::{Desk, DeskChange};
-pub use laws::{decision_log, desk_laws};
-
-#[cfg(test)]
-mod tests;
+pub use ask::{DeskAsk, DeskRefusal, DeskReply};
+pub use change::DeskChange;
+pub use desk::Desk;
+pub use tq_evidence::{Grant, Op, OpKind, Vote};

@@ -58,10 +58,10 @@ least_weight-fork cost allowed height top =
     ∙ rw (weight_by-with_top cost allowed top left, weight_by-with_top cost allowed top right, weight_by-pair cost left right) refl))
 
 -- the weight that a fork computes from those of its sides
-pub least_weight-from : (cost : ℕ → ℕ) (allowed : ℕ → Bool) (height below other top left_top right_top : ℕ) (here left right one two with_one both result : Option ℕ) → height ≡ suc below → height ≡ suc other → left_top ≡ left_of top → right_top ≡ right_of top → here ≡ top_weight cost allowed top → left ≡ least_weight cost allowed below left_top → right ≡ least_weight cost allowed other right_top → one ≡ plus here left → two ≡ plus here right → with_one ≡ lesser one two → both ≡ plus left right → result ≡ lesser with_one both → result ≡ least_weight cost allowed height top
-least_weight-from cost allowed height below other top left_top right_top here left right one two with_one both result e f is_left is_right g h k l m n o p =
+pub least_weight-from : (cost : ℕ → ℕ) (allowed : ℕ → Bool) (height below other top left_top right_top : ℕ) (here left right result : Option ℕ) → height ≡ suc below → height ≡ suc other → left_top ≡ left_of top → right_top ≡ right_of top → here ≡ top_weight cost allowed top → left ≡ least_weight cost allowed below left_top → right ≡ least_weight cost allowed other right_top → result ≡ lesser (lesser (plus here left) (plus here right)) (plus left right) → result ≡ least_weight cost allowed height top
+least_weight-from cost allowed height below other top left_top right_top here left right result e f is_left is_right g h k p =
     let same : other ≡ below = omega arith in
-    rw (p, n, o, l, m, g, h, k, is_left, is_right, same, e) (sym (least_weight-fork cost allowed below top))
+    rw (p, g, h, k, is_left, is_right, same, e) (sym (least_weight-fork cost allowed below top))
 
 -- ---- bounds
 

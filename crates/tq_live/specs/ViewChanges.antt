@@ -4,8 +4,8 @@ use Rattle.tq_live.specs.Live.{Live}
 use Rattle.tq_live.specs.View.{is_server, is_cost}
 use Rattle.tq_live.specs.declared.view.ViewAsk.{ViewAsk}
 use Rattle.tq_live.specs.declared.view.ViewAsk.TheVariants.{SetCost, Mark, Choose}
-use Rattle.tq_live.specs.declared.view.ViewChange.{ViewChange}
-use Rattle.tq_live.specs.declared.view.ViewChange.TheVariants as changes
+use Rattle.tq_live.specs.declared.change.ViewChange.{ViewChange}
+use Rattle.tq_live.specs.declared.change.ViewChange.TheVariants as changes
 
 abbrev pub view_change : Live → ViewAsk → ViewChange
 view_change live (SetCost server cost) =

@@ -5,7 +5,7 @@ use Rattle.tq_live.specs.View.{is_server, is_cost, view_after, view_state}
 use Rattle.tq_live.specs.ViewChanges.{view_change, view_changed, ViewFits}
 use Rattle.tq_live.specs.declared.view.ViewAsk.{ViewAsk}
 use Rattle.tq_live.specs.declared.view.ViewAsk.TheVariants.{SetCost, Mark, Choose}
-use Rattle.tq_live.specs.declared.view.ViewChange.TheVariants as changes
+use Rattle.tq_live.specs.declared.change.ViewChange.TheVariants as changes
 
 cost_fits : (live : Live) (server cost : ℕ) (there good : Bool) → (good ≡ true → cost ≤ 1000000)
     → ViewFits live (cond there (cond good (changes.Cost (record { number = server; levels = live.levels }) cost) changes.Nothing) changes.Nothing)

@@ -1,4 +1,5 @@
-use crate::view::{View, ViewAsk, ViewChange, ViewReply};
+use crate::change::ViewChange;
+use crate::view::{View, ViewAsk, ViewReply};
 use std::alloc::Global;
 use tq_part::{Answers, Plan};
 use tq_shape::{ExactClone, Memory};

@@ -2,6 +2,7 @@
 #![tactic(auto)]
 
 mod answers;
+mod change;
 mod choice;
 mod cost;
 mod least;
@@ -11,11 +12,9 @@ mod tree;
 mod view;
 mod weight;
 
+pub use change::ViewChange;
 pub use choice::Choice;
-pub use cost::{BadCost, is_cost};
+pub use cost::{BadCost, MOST_COST, is_cost};
 pub use least::Least;
 pub use tree::LiveTree;
-pub use view::{View, ViewAsk, ViewChange, ViewRefusal, ViewReply};
-
-#[cfg(test)]
-mod tests;
+pub use view::{View, ViewAsk, ViewRefusal, ViewReply};

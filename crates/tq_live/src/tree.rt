@@ -8,7 +8,7 @@ use crate::cost::{BadCost, is_cost};
 use crate::least::Least;
 use crate::order::insert_in_order;
 use crate::sought::Sought;
-use crate::weight::{Form, least_form, lighter, together};
+use crate::weight::{Form, least_form, least_weight};
 use std::alloc::Global;
 use std::marker::Model;
 use tq_coterie::{Blocker, Quorum, ServerIds};
@@ -176,8 +176,7 @@ impl LiveTree {
             Some(sides) => {
                 let left = self.known(sought, weights, sides.left);
                 let right = self.known(sought, weights, sides.right);
-                let with_one = lighter(together(weight, left), together(weight, right));
-                lighter(with_one, together(left, right))
+                least_weight(weight, left, right)
             }
             None => weight,
         }

@@ -1,5 +1,6 @@
 ghost use Rattle.std.specs.Prelude.{◌≡◌, ◌++◌, ◌∷◌, [], List, ℕ, IfOk, OnOk, OnErr};
 
+use crate::change::ViewChange;
 use crate::choice::Choice;
 use crate::cost::is_cost;
 use crate::tree::LiveTree;
@@ -7,7 +8,7 @@ use std::alloc::Global;
 use std::marker::Model;
 use tq_coterie::{Blocker, Quorum};
 use tq_part::Plan;
-use tq_shape::{ExactClone, Levels, Memory, ServerId};
+use tq_shape::{ExactClone, Levels, Memory};
 
 /// What a view is asked.
 #[derive(Clone, Copy, Debug, PartialEq, Eq)]
@@ -42,16 +43,6 @@ pub enum ViewRefusal {
     BadCost,
     /// No quorum is up: these servers, all down, have one in common with every quorum.
     Blocked(Blocker),
-}
-
-/// What an ask of a view changes.
-#[derive(Clone, Copy, Debug, PartialEq)]
-pub enum ViewChange {
-    Nothing,
-    /// The cost of a server.
-    Cost { server: ServerId, cost: u64 },
-    /// The mark of a server.
-    Mark { server: ServerId, up: bool },
 }
 
 impl ExactClone for ViewAsk {
@@ -136,7 +127,7 @@ impl View {
         Ok(plan.reply)
     }
 
-    /// The reply to an ask, and what it is to change. Nothing changes.
+    /// The reply to an ask, and what `apply` is to change. Nothing changes.
     pub fn plan(&self, alloc: Global, ask: &ViewAsk) -> Result<Plan<ViewReply, ViewChange>, Memory>
         ensures reply { IfOk result (λ plan. plan.reply ≡ view_reply self.now ask.now) }
         ensures change { IfOk result (λ plan. plan.change ≡ view_change self.now ask.now) }
@@ -154,7 +145,7 @@ impl View {
         }
     }
 
-    /// Makes a change that was planned. It takes no memory.
+    /// Makes a change that was planned, and can then neither fail nor be refused. It takes no memory.
     pub fn apply(&mut self, change: ViewChange)
         requires { ViewFits self.old change }
         ensures { self.new ≡ view_changed self.old change }
@@ -175,26 +166,28 @@ impl View {
         Ok(View { levels, tree })
     }
 
+    /// The plan of a new cost.
     fn plan_cost(&self, server: u64, cost: u64) -> Plan<ViewReply, ViewChange>
         ensures reply { result.reply ≡ view_reply self.now (ViewAsk.SetCost server cost) }
         ensures change { result.change ≡ view_change self.now (ViewAsk.SetCost server cost) }
     {
         match self.levels.server(server) {
-            None => refusal(ViewRefusal::NoSuchServer),
+            None => refused(ViewRefusal::NoSuchServer),
             Some(server) if is_cost(cost) => Plan {
                 reply: ViewReply::CostSet,
                 change: ViewChange::Cost { server, cost },
             },
-            Some(_) => refusal(ViewRefusal::BadCost),
+            Some(_) => refused(ViewRefusal::BadCost),
         }
     }
 
+    /// The plan of a new mark.
     fn plan_mark(&self, server: u64, up: bool) -> Plan<ViewReply, ViewChange>
         ensures reply { result.reply ≡ view_reply self.now (ViewAsk.Mark server up) }
         ensures change { result.change ≡ view_change self.now (ViewAsk.Mark server up) }
     {
         match self.levels.server(server) {
-            None => refusal(ViewRefusal::NoSuchServer),
+            None => refused(ViewRefusal::NoSuchServer),
             Some(server) => Plan {
                 reply: ViewReply::Marked,
                 change: ViewChange::Mark { server, up },
@@ -202,6 +195,7 @@ impl View {
         }
     }
 
+    /// The reply to Choose.
     fn choose(&self, alloc: Global) -> Result<ViewReply, Memory>
         ensures { IfOk result (λ reply. reply ≡ view_reply self.now ViewAsk.Choose) }
     {
@@ -212,7 +206,8 @@ impl View {
     }
 }
 
-fn refusal(reason: ViewRefusal) -> Plan<ViewReply, ViewChange>
+/// The plan that refuses, and changes nothing.
+fn refused(reason: ViewRefusal) -> Plan<ViewReply, ViewChange>
     ensures reply { result.reply ≡ ViewReply.Refused reason }
     ensures change { result.change ≡ ViewChange.Nothing }
 {

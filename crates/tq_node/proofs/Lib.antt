@@ -4,12 +4,3 @@ pub mod Maps
 pub mod KeptLocks
 pub mod Sound
 pub mod OnlyStep
-pub mod Frames
-pub mod Installed
-pub mod ServerLaws
-pub mod StepFrames
-pub mod Holds
-pub mod Recorded
-pub mod DeadRecords
-pub mod StopFrames
-pub mod Lawful

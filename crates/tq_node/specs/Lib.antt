@@ -2,6 +2,5 @@ pub mod Records
 pub mod Node
 pub mod Cases
 pub mod NodeJournal
-pub mod NodeLaws
 pub mod NodeChanges
 pub mod NodePlans

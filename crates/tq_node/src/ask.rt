@@ -2,6 +2,9 @@ use tq_locks::Mode;
 use tq_shape::{ExactClone, Seq};
 use tq_store::{Content, FileName, Write};
 
+/// The most writes that a vote may have.
+pub const MOST_WRITES: usize = 64;
+
 /// A vote by its server and the number of the entry that gave it.
 #[derive(Debug, Clone, Copy, PartialEq, Eq)]
 pub struct CitedVote {

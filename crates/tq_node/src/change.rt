@@ -10,7 +10,9 @@ use tq_store::{FileName, Write};
 /// What an ask changes in a server.
 #[derive(Debug, Drop)]
 pub struct NodeChange {
+    /// The number of the ask, which is that of the last one from then on, also where the ask is refused.
     pub number: u64,
+    /// What changes besides.
     pub step: NodeStep,
 }
 
@@ -19,35 +21,42 @@ pub struct NodeChange {
 pub enum NodeStep {
     /// It is refused, or it only looks.
     Nothing,
+    /// The transaction holds the file, whose copy has this version.
     Lock {
         txn: u64,
         file: FileName,
         mode: Mode,
         version: u64,
     },
+    /// The transaction has this open vote, and its locks last through a crash.
     Vote {
         txn: u64,
         vote: OpenVote,
     },
-    /// The vote of that number ends.
+    /// The transaction's vote, of that number, ends, and its locks with it.
     Discard {
         txn: u64,
         number: u64,
     },
-    /// The vote of that number ends, and its writes come, of which some are newer than the copies.
+    /// The transaction's vote, of that number, ends, and its locks with it. Its writes are installed, of which those
+    /// listed are newer than the copies.
     Install {
         txn: u64,
         number: u64,
         writes: Seq<Write>,
         newer: Seq<Write>,
     },
+    /// The transaction holds nothing any more.
     Release {
         txn: u64,
     },
+    /// The copy of a file is this one, which is newer.
     Refresh {
         write: Write,
     },
+    /// The server is down, and has lost the locks of those that have no open vote.
     Crash,
+    /// The server is up again.
     Return,
 }
 
@@ -68,7 +77,10 @@ impl NodeStep {
                 Ok(records)
             }
             NodeStep::Install {
-                txn, number, newer, ..
+                txn,
+                number,
+                newer,
+                ..
             } => {
                 let records = ending(alloc, *txn, *number, newer.as_slice())?;
                 Ok(records)

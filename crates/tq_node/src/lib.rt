@@ -4,12 +4,10 @@
 mod answers;
 mod ask;
 mod change;
-mod laws;
 mod node;
-#[cfg(test)]
-mod tests;
 
-pub use ask::{CitedVote, HeldLock, NodeAsk, NodeRefusal, NodeReply, Verdict, WorkAsk};
+pub use ask::{
+    CitedVote, HeldLock, MOST_WRITES, NodeAsk, NodeRefusal, NodeReply, Verdict, WorkAsk,
+};
 pub use change::{NodeChange, NodeStep};
-pub use laws::{journals_are_lawful, locks_are_lawful, stable_records_are_kept, votes_are_lawful};
 pub use node::Node;

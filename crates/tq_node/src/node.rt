@@ -9,7 +9,10 @@ ghost use Rattle.tq_node.specs.Node.{IsKept};
 ghost use Rattle.tq_node.specs.NodeChanges.{node_change, node_changed, stepped, unnoted, work_step, end_step, NodeFits};
 ghost use Rattle.tq_node.specs.Cases.{IsOnlyStep, IsStep};
 
-use crate::{CitedVote, HeldLock, NodeAsk, NodeChange, NodeRefusal, NodeReply, NodeStep, Verdict, WorkAsk};
+use crate::{
+    CitedVote, HeldLock, MOST_WRITES, NodeAsk, NodeChange, NodeRefusal, NodeReply, NodeStep,
+    Verdict, WorkAsk,
+};
 use std::alloc::Global;
 use std::collections::btree_map::Iter;
 use std::marker::Model;
@@ -146,7 +149,8 @@ impl Node {
         Ok(plan.reply)
     }
 
-    /// The reply to an ask, and what it is to change. Nothing changes.
+    /// The reply to an ask, of a number above that of the last one answered, and what `apply` is to change. Nothing
+    /// changes.
     pub fn plan(
         &self,
         alloc: Global,
@@ -229,6 +233,7 @@ impl Node {
         }
     }
 
+    /// The plan of a vote that is given.
     fn plan_vote(
         &self,
         alloc: Global,
@@ -260,6 +265,7 @@ impl Node {
         })
     }
 
+    /// The plan of the end of an open vote.
     fn plan_end(
         &self,
         alloc: Global,
@@ -291,6 +297,7 @@ impl Node {
         }
     }
 
+    /// The answer to a lock that is free.
     fn grant_of(&self, file: FileName) -> Result<NodeReply, Memory>
         ensures { IfOk result (λ reply. reply ≡ NodeReply.Granted (copy_of self.now.state.records.copies file).version (copy_of self.now.state.records.copies file).content) }
     {
@@ -542,7 +549,8 @@ impl Node {
         Ok(())
     }
 
-    /// Makes a change that was planned. All memory is asked for before the first step of it.
+    /// Makes a change that was planned, of this server as it stands. All memory is asked for before the first step of
+    /// it, so that out of memory leaves the server as it was.
     pub fn apply(&mut self, alloc: Global, change: NodeChange) -> Result<(), Memory>
         requires { NodeFits self.old change }
         ensures ok { OnOk result (self.new ≡ node_changed self.old change) }
@@ -554,6 +562,7 @@ impl Node {
         Ok(())
     }
 
+    /// Makes the step of a change. Its number need not be noted yet.
     fn take(&mut self, alloc: Global, number: u64, step: NodeStep) -> Result<(), Memory>
         requires { NodeFits self.old (record { number = number; step = step }) }
         ensures after { OnOk result (node.numbered number self.new ≡ node.numbered number (unnoted self.old number step)) }
@@ -599,6 +608,7 @@ impl Node {
         }
     }
 
+    /// Goes down, and keeps the locks of the open votes alone.
     fn crash(&mut self, number: u64)
         ensures { self.new ≡ unnoted self.old number NodeStep.Crash }
     {
@@ -606,6 +616,7 @@ impl Node {
         self.down = true;
     }
 
+    /// Comes up again.
     fn come_back(&mut self, number: u64)
         ensures { self.new ≡ unnoted self.old number NodeStep.Return }
     {
@@ -655,6 +666,7 @@ impl Node {
     }
 }
 
+/// The plan of an ask of that number.
 fn planned(number: u64, reply: NodeReply, step: NodeStep) -> Plan<NodeReply, NodeChange>
     ensures reply { result.reply ≡ reply }
     ensures change { result.change ≡ record { number = number; step = step } }
@@ -718,5 +730,5 @@ fn files_rise(writes: &[Write]) -> bool
 fn are_good_writes(writes: &[Write]) -> bool
     ensures { result ≡ spec.are_good_writes writes.now }
 {
-    writes.len() <= 64 && files_rise(writes)
+    writes.len() <= MOST_WRITES && files_rise(writes)
 }

@@ -1,6 +1,0 @@
-use Rattle.std.proofs.Common.{◌≡◌, ◌++◌, map, drop}
-use Rattle.tq_desk.specs.InOrder.{listed}
-use Rattle.tq_desk.proofs.evidence.coverage.listed_votes.Given as goal
-
-abbrev pub invariant-loop-vote : goal.invariant-loop-vote
-invariant-loop-vote l = l.lists.items ++ map listed (drop l.vote-index l.votes) ≡ map listed l.votes

@@ -1,5 +1,0 @@
-use Rattle.std.proofs.Common.{length}
-use Rattle.tq_desk.proofs.evidence.servers.+is_granted.Given as goal
-
-abbrev pub decreases-is_granted : goal.decreases-is_granted
-decreases-is_granted l = length l.grants.now

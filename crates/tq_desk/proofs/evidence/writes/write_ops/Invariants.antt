@@ -1,6 +1,0 @@
-use Rattle.std.proofs.Common.{◌≡◌, ◌++◌, map, filter, drop}
-use Rattle.tq_desk.specs.Evidence.{is_write}
-use Rattle.tq_desk.proofs.evidence.writes.write_ops.Given as goal
-
-abbrev pub invariant-loop-op : goal.invariant-loop-op
-invariant-loop-op l = map (λ op. op.now) l.writes.items ++ filter is_write (drop l.op-index l.ops) ≡ filter is_write l.ops

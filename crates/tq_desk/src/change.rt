@@ -1,0 +1,24 @@
+use tq_node::CitedVote;
+use tq_shape::Seq;
+use tq_store::FileName;
+
+/// What an ask changes in a desk.
+#[derive(Debug, Drop)]
+pub enum DeskChange {
+    /// The ask is refused, or only looks.
+    Nothing,
+    /// The transaction begins.
+    Begin {
+        txn: u64,
+    },
+    /// The transaction, which had not ended, aborts.
+    Abort {
+        txn: u64,
+    },
+    /// The transaction, which had not ended, commits on these votes and writes these files.
+    Commit {
+        txn: u64,
+        votes: Seq<CitedVote>,
+        files: Seq<FileName>,
+    },
+}

@@ -1,0 +1,7 @@
+pub mod SameName
+pub mod WriteOps
+pub mod HeldTable
+pub mod Merging
+pub mod Halving
+pub mod Sorting
+pub mod StableSort

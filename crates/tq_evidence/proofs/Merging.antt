@@ -1,0 +1,142 @@
+-- Where grants and votes strictly ascend by server, each grant's vote is found by one walk through both.
+use Rattle.std.proofs.Common.{◌≡◌, ℕ, ◌<◌, ◌≤◌, Bool, true, false, ◌&&◌, ◌||◌, cond, List, [], ◌∷◌, map, nat_lt, nat_eq, arith, refl, ap, sym, ◌∙◌}
+use Rattle.std.specs.Cmp.Derive.{both_true}
+use Rattle.tq_coterie.specs.Coterie.{is_quorum}
+use Rattle.std.specs.List.{list_all}
+use Rattle.std.proofs.lemmas.Bool.{and_parts}
+use Rattle.std.proofs.lemmas.Bool.Decides.{nat_tests}
+use Rattle.tq_evidence.specs.declared.grant.Grant.{Grant}
+use Rattle.tq_evidence.specs.declared.op.Op.{Op}
+use Rattle.tq_evidence.specs.declared.vote.Vote.{Vote}
+use Rattle.tq_evidence.specs.Evidence.{are_grants_covered, covers, holds_since, has_quorum, are_quorums, is_grant_covered, rises, servers_of, votes_rise}
+use Rattle.tq_evidence.specs.InOrder.{are_in_order, are_walked, is_listed_for, listed, walk}
+use Rattle.tq_evidence.proofs.HeldTable.{is_since-least_since}
+
+-- the walk over the votes as they are
+abbrev covered_in_order : List ℕ → List Vote → List Grant → Bool
+covered_in_order file [] [] = true
+covered_in_order file [] (grant ∷ grants) = false
+covered_in_order file (vote ∷ votes) [] = true
+covered_in_order file (vote ∷ votes) (grant ∷ grants) =
+    cond (nat_lt vote.server grant.server) (covered_in_order file votes (grant ∷ grants)) (covers file grant vote && covered_in_order file votes grants)
+
+-- the servers are all above a number
+abbrev pub GrantsAbove : ℕ → List Grant → Type 0
+GrantsAbove low [] = Unit {0}
+GrantsAbove low (grant ∷ grants) = (low < grant.server) × GrantsAbove low grants
+
+abbrev VotesAbove : ℕ → List Vote → Type 0
+VotesAbove low [] = Unit {0}
+VotesAbove low (vote ∷ votes) = (low < vote.server) × VotesAbove low votes
+
+pub less : (a b : ℕ) → nat_lt a b ≡ true → a < b
+less a b h = grind (arith, nat_tests)
+
+pub not_less : (a b : ℕ) → nat_lt a b ≡ false → b ≤ a
+not_less a b h = grind (arith, nat_tests)
+
+pub same_number : (a b : ℕ) → nat_eq a b ≡ true → a ≡ b
+same_number a b h = grind (arith, nat_tests)
+
+pub apart : (a b : ℕ) → a < b → nat_eq a b ≡ false
+apart a b h = grind (arith, nat_tests)
+
+pub apart_up : (a b : ℕ) → b < a → nat_eq a b ≡ false
+apart_up a b h = grind (arith, nat_tests)
+
+pub grants_above : (low : ℕ) (grant : Grant) (grants : List Grant) → rises (map (λ g. g.server) (grant ∷ grants)) ≡ true → low ≤ grant.server → GrantsAbove low grants
+grants_above low grant [] rise le = tt
+grants_above low grant (next ∷ grants) rise le =
+    let parts = and_parts (nat_lt grant.server next.server) (rises (map (λ g. g.server) (next ∷ grants))) rise in
+    let up : grant.server < next.server = less grant.server next.server parts.0 in
+    (omega arith, grants_above low next grants parts.1 (omega arith))
+
+votes_above : (low : ℕ) (vote : Vote) (votes : List Vote) → votes_rise (vote ∷ votes) ≡ true → low ≤ vote.server → VotesAbove low votes
+votes_above low vote [] rise le = tt
+votes_above low vote (next ∷ votes) rise le =
+    let parts = and_parts (nat_lt vote.server next.server) (votes_rise (next ∷ votes)) rise in
+    let up : vote.server < next.server = less vote.server next.server parts.0 in
+    (omega arith, votes_above low next votes parts.1 (omega arith))
+
+pub later_grants : (grant : Grant) (grants : List Grant) → rises (map (λ g. g.server) (grant ∷ grants)) ≡ true → rises (map (λ g. g.server) grants) ≡ true
+later_grants grant [] rise = refl
+later_grants grant (next ∷ grants) rise = (and_parts (nat_lt grant.server next.server) (rises (map (λ g. g.server) (next ∷ grants))) rise).1
+
+later_votes : (vote : Vote) (votes : List Vote) → votes_rise (vote ∷ votes) ≡ true → votes_rise votes ≡ true
+later_votes vote [] rise = refl
+later_votes vote (next ∷ votes) rise = (and_parts (nat_lt vote.server next.server) (votes_rise (next ∷ votes)) rise).1
+
+-- a vote of a server below those of the grants covers none of them
+skip_vote : (file : List ℕ) (vote : Vote) (votes : List Vote) (grants : List Grant) → GrantsAbove vote.server grants → list_all (is_grant_covered (vote ∷ votes) file) grants ≡ list_all (is_grant_covered votes file) grants
+skip_vote file vote votes [] up = refl
+skip_vote file vote votes (grant ∷ grants) up =
+    let none = apart vote.server grant.server up.0 in
+    λ i. ((none i && nat_lt grant.number vote.number && holds_since vote file grant.number) || is_grant_covered votes file grant) && skip_vote file vote votes grants up.1 i
+
+-- votes of servers above that of a grant don't cover it
+none_covers : (file : List ℕ) (grant : Grant) (votes : List Vote) → VotesAbove grant.server votes → is_grant_covered votes file grant ≡ false
+none_covers file grant [] up = refl
+none_covers file grant (vote ∷ votes) up =
+    let none = apart_up vote.server grant.server up.0 in
+    λ i. (none i && nat_lt grant.number vote.number && holds_since vote file grant.number) || none_covers file grant votes up.1 i
+
+or_none : (a b : Bool) → b ≡ false → (a || b) ≡ a
+or_none true b h = refl
+or_none false b h = h
+
+-- the first grant's vote is the first vote
+meets_vote : (covered rest skipped : Bool) → (covered ≡ true → rest ≡ skipped) → (covered && rest) ≡ (covered && skipped)
+meets_vote true rest skipped same = same refl
+meets_vote false rest skipped same = refl
+
+same_server : (a b : ℕ) (c d : Bool) → (nat_eq a b && c && d) ≡ true → a ≡ b
+same_server a b c d h = let parts = and_parts (nat_eq a b && c) d h in let first = and_parts (nat_eq a b) c parts.0 in same_number a b first.0
+
+in-order : (file : List ℕ) (votes : List Vote) (grants : List Grant) → votes_rise votes ≡ true → rises (map (λ g. g.server) grants) ≡ true → covered_in_order file votes grants ≡ list_all (is_grant_covered votes file) grants
+in-order file [] [] up rise = refl
+in-order file [] (grant ∷ grants) up rise = refl
+in-order file (vote ∷ votes) [] up rise = refl
+in-order file (vote ∷ votes) (grant ∷ grants) up rise =
+    elim (nat_lt vote.server grant.server) as (λ b. nat_lt vote.server grant.server ≡ b → cond b (covered_in_order file votes (grant ∷ grants)) (covers file grant vote && covered_in_order file votes grants) ≡ list_all (is_grant_covered (vote ∷ votes) file) (grant ∷ grants)) [
+      | true ↦ λ below.
+          let low : vote.server < grant.server = less vote.server grant.server below in
+          in-order file votes (grant ∷ grants) (later_votes vote votes up) rise
+          ∙ sym (skip_vote file vote votes (grant ∷ grants) (low, grants_above vote.server grant grants rise (omega arith)))
+      | false ↦ λ not_below.
+          let high : grant.server ≤ vote.server = not_less vote.server grant.server not_below in
+          meets_vote (covers file grant vote) (covered_in_order file votes grants) (list_all (is_grant_covered (vote ∷ votes) file) grants)
+          (λ at.
+          let same : vote.server ≡ grant.server = same_server vote.server grant.server (nat_lt grant.number vote.number) (holds_since vote file grant.number) at in
+          in-order file votes grants (later_votes vote votes up) (later_grants grant grants rise)
+          ∙ sym (skip_vote file vote votes grants (grants_above vote.server grant grants rise (omega arith))))
+          ∙ sym (ap (λ b. b && list_all (is_grant_covered (vote ∷ votes) file) grants)
+          (or_none (covers file grant vote) (is_grant_covered votes file grant) (none_covers file grant votes (votes_above grant.server vote votes up high))))
+    ] refl
+
+-- ops whose servers are quorums are in order
+pub quorums-in_order : (levels : ℕ) (ops : List Op) → are_quorums levels ops ≡ true → are_in_order ops ≡ true
+quorums-in_order levels [] good = refl
+quorums-in_order levels (op ∷ ops) good =
+    let parts = and_parts (has_quorum levels op) (are_quorums levels ops) good in
+    let first = and_parts (rises (servers_of op)) (is_quorum levels (servers_of op)) parts.0 in
+    both_true first.0 (quorums-in_order levels ops parts.1)
+
+-- ---- the walk over the votes with their tables
+
+listed-covers : (file : List ℕ) (grant : Grant) (vote : Vote) → is_listed_for file grant (listed vote) ≡ covers file grant vote
+listed-covers file grant vote = λ i. nat_eq vote.server grant.server && nat_lt grant.number vote.number && is_since-least_since vote.held file grant.number i
+
+walk-listed : (file : List ℕ) (votes : List Vote) (grants : List Grant) → walk file (map listed votes) grants ≡ covered_in_order file votes grants
+walk-listed file [] [] = refl
+walk-listed file [] (grant ∷ grants) = refl
+walk-listed file (vote ∷ votes) [] = refl
+walk-listed file (vote ∷ votes) (grant ∷ grants) = λ i.
+    cond (nat_lt vote.server grant.server) (walk-listed file votes (grant ∷ grants) i) (listed-covers file grant vote i && walk-listed file votes grants i)
+
+-- where both ascend, the walk finds for each grant whether it is covered
+pub are_walked-listed : (votes : List Vote) (ops : List Op) → votes_rise votes ≡ true → are_in_order ops ≡ true → are_walked (map listed votes) ops ≡ are_grants_covered ops votes
+are_walked-listed votes [] up rise = refl
+are_walked-listed votes (op ∷ ops) up rise =
+    let parts = and_parts (rises (servers_of op)) (are_in_order ops) rise in
+    let first = walk-listed op.file votes op.grants ∙ in-order op.file votes op.grants up parts.0 in
+    λ i. first i && are_walked-listed votes ops up parts.1 i

@@ -1,0 +1,3 @@
+pub mod Evidence
+pub mod Held
+pub mod InOrder

@@ -1,0 +1,62 @@
+//! The evidence of a commit, rule by rule. The work is near linear in the evidence: each rule goes through the grants
+//! and the votes once, and what it looks up (a server in an op, a file in a vote) it finds by halving or by a table.
+
+ghost use Rattle.std.specs.Prelude.{◌≡◌, IfOk};
+ghost use Rattle.tq_evidence.specs.Evidence as spec;
+
+mod coverage;
+mod exclusive;
+mod held;
+mod members;
+mod servers;
+mod versions;
+mod writes;
+
+use crate::{Op, OpKind, Vote};
+use coverage::are_covered;
+use exclusive::are_exclusive;
+use members::are_quorums;
+use std::alloc::Global;
+use tq_shape::{Levels, Memory};
+use versions::have_versions;
+use writes::have_writes;
+
+/// The first rule that the evidence of a commit fails, from 1 to 6; `None` where it is good.
+pub fn failed_rule(
+    alloc: Global,
+    levels: Levels,
+    ops: &[Op],
+    votes: &[Vote],
+) -> Result<Option<u8>, Memory>
+    ensures { IfOk result (λ rule. rule ≡ spec.failed_rule levels ops.now votes.now) }
+{
+    if !are_quorums(alloc, levels, ops)? {
+        return Ok(Some(1));
+    }
+    if !are_exclusive(ops) {
+        return Ok(Some(2));
+    }
+    if !are_covered(alloc, ops, votes)? {
+        return Ok(Some(3));
+    }
+    if !have_writes(alloc, ops, votes)? {
+        return Ok(Some(4));
+    }
+    if !have_versions(ops) {
+        return Ok(Some(5));
+    }
+    if ops.is_empty() {
+        return Ok(Some(6));
+    }
+    Ok(None)
+}
+
+/// Whether the operation writes.
+pub fn is_write(op: &Op) -> bool
+    ensures { result ≡ spec.is_write op.now }
+{
+    match op.kind {
+        OpKind::Read => false,
+        OpKind::Write => true,
+    }
+}

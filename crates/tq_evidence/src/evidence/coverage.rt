@@ -1,0 +1,118 @@
+//! Rule 3: the votes strictly ascend by server, are of the servers of the ops, and cover the grants.
+
+ghost use Rattle.std.specs.Prelude.{◌≡◌, IfOk, map, true};
+ghost use Rattle.tq_evidence.specs.Evidence as spec;
+ghost use Rattle.tq_evidence.specs.InOrder as order;
+
+use crate::evidence::held::HeldSince;
+use crate::evidence::servers::is_server_of;
+use crate::{Grant, Op, Vote};
+use std::alloc::Global;
+use tq_shape::Memory;
+use tq_store::FileName;
+
+/// A vote with the locks that it lists in a table by file.
+#[derive(Drop)]
+pub(crate) struct Listed {
+    server: u64,
+    number: u64,
+    held: HeldSince,
+}
+
+impl Listed {
+    fn of(alloc: Global, vote: &Vote) -> Result<Listed, Memory>
+        ensures { IfOk result (λ list. list ≡ order.listed vote.now) }
+    {
+        let held = HeldSince::of(alloc, vote.held.as_slice())?;
+        Ok(Listed {
+            server: vote.server,
+            number: vote.number,
+            held,
+        })
+    }
+}
+
+pub(crate) fn are_covered(alloc: Global, ops: &[Op], votes: &[Vote]) -> Result<bool, Memory>
+    requires { order.are_in_order ops.now ≡ true }
+    ensures { IfOk result (λ holds. holds ≡ spec.are_covered ops.now votes.now) }
+{
+    if !votes_rise(votes) {
+        return Ok(false);
+    }
+    if !are_of_servers(ops, votes) {
+        return Ok(false);
+    }
+    let lists = listed_votes(alloc, votes)?;
+    Ok(are_grants_covered(ops, lists.as_slice()))
+}
+
+fn votes_rise(votes: &[Vote]) -> bool
+    ensures { result ≡ spec.votes_rise votes.now }
+{
+    match votes {
+        [] => true,
+        [_] => true,
+        [first, second, ..] => first.server < second.server && votes_rise(&votes[1..]),
+    }
+}
+
+fn are_of_servers(ops: &[Op], votes: &[Vote]) -> bool
+    requires { order.are_in_order ops.now ≡ true }
+    ensures { result ≡ spec.are_of_servers ops.now votes.now }
+{
+    match votes {
+        [] => true,
+        [vote, ..] => is_server_of(ops, vote.server) && are_of_servers(ops, &votes[1..]),
+    }
+}
+
+fn listed_votes(alloc: Global, votes: &[Vote]) -> Result<Vec<Listed>, Memory>
+    ensures { IfOk result (λ lists. lists.items ≡ map order.listed votes.now) }
+{
+    let mut lists = Vec::new(alloc);
+    for vote in votes {
+        let list = Listed::of(alloc, vote)?;
+        lists.push(list)?;
+    }
+    Ok(lists)
+}
+
+fn are_grants_covered(ops: &[Op], lists: &[Listed]) -> bool
+    ensures { result ≡ order.are_walked lists.now ops.now }
+{
+    match ops {
+        [] => true,
+        [op, ..] => is_covered(op, lists) && are_grants_covered(&ops[1..], lists),
+    }
+}
+
+fn is_covered(op: &Op, lists: &[Listed]) -> bool
+    ensures { result ≡ order.is_walked lists.now op.now }
+{
+    let grants = op.grants.as_slice();
+    are_covered_in_order(op.file, lists, grants)
+}
+
+/// Whether the votes cover the grants, in one walk through both, which ascend by server.
+fn are_covered_in_order(file: FileName, lists: &[Listed], grants: &[Grant]) -> bool
+    ensures { result ≡ order.walk file lists.now grants.now }
+{
+    match lists {
+        [] => grants.is_empty(),
+        [list, ..] => match grants {
+            [] => true,
+            [grant, ..] => {
+                if list.server < grant.server {
+                    return are_covered_in_order(file, &lists[1..], grants);
+                }
+                covers(file, grant, list) && are_covered_in_order(file, &lists[1..], &grants[1..])
+            }
+        },
+    }
+}
+
+fn covers(file: FileName, grant: &Grant, list: &Listed) -> bool
+    ensures { result ≡ order.is_listed_for file grant.now list.now }
+{
+    list.server == grant.server && grant.number < list.number && list.held.holds(file, grant.number)
+}

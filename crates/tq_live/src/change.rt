@@ -1,0 +1,12 @@
+use tq_shape::ServerId;
+
+/// What an ask changes in a view.
+#[derive(Clone, Copy, Debug, PartialEq)]
+pub enum ViewChange {
+    /// The ask is refused, or only looks.
+    Nothing,
+    /// The server has this cost, which is one that a server may have.
+    Cost { server: ServerId, cost: u64 },
+    /// The server has this mark.
+    Mark { server: ServerId, up: bool },
+}

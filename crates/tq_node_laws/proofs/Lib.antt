@@ -1,0 +1,9 @@
+pub mod Frames
+pub mod Installed
+pub mod ServerLaws
+pub mod StepFrames
+pub mod Holds
+pub mod Recorded
+pub mod DeadRecords
+pub mod StopFrames
+pub mod Lawful

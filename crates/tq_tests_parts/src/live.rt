@@ -1,0 +1,256 @@
+use std::alloc::{AllocError, Global};
+use std::test::Fail;
+use tq_coterie::{Blocker, Quorum};
+use tq_live::{BadCost, Choice, LiveTree, View, ViewAsk, ViewRefusal, ViewReply};
+use tq_shape::{Levels, ServerId};
+
+/// What a choice comes to: the servers as bits, and the cost, or `None` for a blocker.
+fn summary(reply: &ViewReply) -> (u64, Option<u64>) {
+    match reply {
+        ViewReply::Chosen { quorum, cost } => (bits_of(quorum.servers()), Some(*cost)),
+        ViewReply::Refused(ViewRefusal::Blocked(blocker)) => (bits_of(blocker.servers()), None),
+        _ => (0, None),
+    }
+}
+
+fn bits_of(servers: &[ServerId]) -> u64 {
+    servers
+        .iter()
+        .fold(0, |bits, server| bits | bit(server.number()))
+}
+
+/// Servers 1 to 63 have the bits 1 to 63.
+fn bit(number: u64) -> u64 {
+    1u64.wrapping_shl((number % 64) as u32)
+}
+
+fn bits(numbers: &[u64]) -> u64 {
+    numbers.iter().fold(0, |bits, number| bits | bit(*number))
+}
+
+/// What a view offers after these costs, and with these servers marked down.
+fn offered(
+    alloc: Global,
+    levels: Levels,
+    costs: &[(u64, u64)],
+    down: u64,
+) -> Result<(u64, Option<u64>), AllocError> {
+    let mut view = View::new(alloc, levels)?;
+    for (server, cost) in costs {
+        view.answer(
+            alloc,
+            &ViewAsk::SetCost {
+                server: *server,
+                cost: *cost,
+            },
+        )?;
+    }
+    for server in 1..64u64 {
+        let up = down & bit(server) == 0;
+        view.answer(alloc, &ViewAsk::Mark { server, up })?;
+    }
+    let reply = view.answer(alloc, &ViewAsk::Choose)?;
+    Ok(summary(&reply))
+}
+
+/// The members of a subtree by a plain listing, each as bits.
+fn listed(alloc: Global, height: u32, top: u64) -> Result<Vec<u64>, AllocError> {
+    let mut members = Vec::new(alloc);
+    let here = bit(top);
+    if height == 0 {
+        members.push(here)?;
+        return Ok(members);
+    }
+    let lefts = listed(alloc, height - 1, top.wrapping_mul(2))?;
+    let rights = listed(alloc, height - 1, top.wrapping_mul(2).wrapping_add(1))?;
+    for left in lefts.iter() {
+        members.push(here | *left)?;
+    }
+    for right in rights.iter() {
+        members.push(here | *right)?;
+    }
+    for left in lefts.iter() {
+        for right in rights.iter() {
+            members.push(*left | *right)?;
+        }
+    }
+    Ok(members)
+}
+
+/// The cost of the servers with these bits: what is listed for it, or 1.
+fn cost_of(costs: &[(u64, u64)], servers: u64) -> u64 {
+    let mut sum = u64::from(servers.count_ones());
+    for (server, cost) in costs {
+        if servers & bit(*server) != 0 {
+            sum = sum.wrapping_add(cost.wrapping_sub(1));
+        }
+    }
+    sum
+}
+
+/// The first member of least cost without a server that is down, or the first member that is all down.
+fn best_listed(members: &[u64], costs: &[(u64, u64)], down: u64) -> (u64, Option<u64>) {
+    let mut best = (0, None);
+    for member in members {
+        let cost = cost_of(costs, *member);
+        if *member & down == 0 && best.1.is_none_or(|least| cost < least) {
+            best = (*member, Some(cost));
+        }
+    }
+    if best.1.is_some() {
+        return best;
+    }
+    let blocker = members
+        .iter()
+        .copied()
+        .find(|member| *member & down == *member);
+    (blocker.unwrap_or(0), None)
+}
+
+/// For how many sets of servers that are down a view offers something else than the plain listing.
+fn wrong_offers(alloc: Global, levels: Levels, costs: &[(u64, u64)]) -> Result<u64, AllocError> {
+    let members = listed(alloc, levels.count().wrapping_sub(1), 1)?;
+    let sets = 1u64.wrapping_shl(levels.servers() as u32);
+    let mut wrong = 0u64;
+    for set in 0..sets {
+        let down = set.wrapping_mul(2);
+        let offer = offered(alloc, levels, costs, down)?;
+        if offer != best_listed(members.as_slice(), costs, down) {
+            wrong = wrong.wrapping_add(1);
+        }
+    }
+    Ok(wrong)
+}
+
+#[test]
+fn offers_are_those_of_a_plain_listing(rt: HostRuntime) -> Result<(), Fail> {
+    for count in [1, 2, 3] {
+        let levels = Levels::new(count).ok_or("levels")?;
+        let even = wrong_offers(rt.alloc(), levels, &[])?;
+        assert_eq!(rt; even, 0, "at {count} levels and equal costs");
+        let costs = [(1, 3), (2, 1), (3, 2), (4, 2), (5, 1), (6, 4), (7, 1)];
+        let uneven = wrong_offers(rt.alloc(), levels, costs.as_slice())?;
+        assert_eq!(rt; uneven, 0, "at {count} levels and different costs");
+    }
+    Ok(())
+}
+
+#[test]
+fn the_first_of_least_cost_is_offered(rt: HostRuntime) -> Result<(), Fail> {
+    let third = Levels::new(3).ok_or("levels")?;
+    let fourth = Levels::new(4).ok_or("levels")?;
+    for (levels, costs, servers, cost) in [
+        (fourth, [(2, 5), (3, 2)], bits(&[1, 4, 5, 8, 10]), 5),
+        (third, [(1, 10), (1, 10)], bits(&[2, 3, 4, 6]), 4),
+        (third, [(2, 5), (2, 5)], bits(&[1, 4, 5]), 3),
+        (third, [(1, 2), (1, 2)], bits(&[1, 2, 4]), 4),
+    ] {
+        let offer = offered(rt.alloc(), levels, costs.as_slice(), 0)?;
+        assert_eq!(rt; offer, (servers, Some(cost)));
+    }
+    Ok(())
+}
+
+#[test]
+fn servers_that_are_down_are_left_out(rt: HostRuntime) -> Result<(), Fail> {
+    let levels = Levels::new(3).ok_or("levels")?;
+    for (down, servers, cost) in [
+        (bits(&[1]), bits(&[2, 3, 4, 6]), Some(4)),
+        (bits(&[1, 2]), bits(&[3, 4, 5, 6]), Some(4)),
+        (bits(&[1, 2, 4]), bits(&[1, 2, 4]), None),
+    ] {
+        let offer = offered(rt.alloc(), levels, &[], down)?;
+        assert_eq!(rt; offer, (servers, cost));
+    }
+    Ok(())
+}
+
+#[test]
+fn the_largest_tree_at_the_greatest_costs(rt: HostRuntime) -> Result<(), Fail> {
+    let levels = Levels::new(6).ok_or("levels")?;
+    let mut costs = Vec::new(rt.alloc());
+    for server in 1..64u64 {
+        costs.push((server, 1_000_000))?;
+    }
+    let offer = offered(rt.alloc(), levels, costs.as_slice(), 0)?;
+    assert_eq!(rt; offer, (bits(&[1, 2, 4, 8, 16, 32]), Some(6_000_000)));
+    let leaves = offered(rt.alloc(), levels, costs.as_slice(), 0xFFFF_FFFE)?;
+    assert_eq!(rt; leaves, (0xFFFF_FFFF_0000_0000, Some(32_000_000)));
+    Ok(())
+}
+
+#[test]
+fn refusals_change_nothing(rt: HostRuntime) -> Result<(), Fail> {
+    let levels = Levels::new(1).ok_or("levels")?;
+    let mut view = View::new(rt.alloc(), levels)?;
+    let bad_cost = ViewReply::Refused(ViewRefusal::BadCost);
+    let no_server = ViewReply::Refused(ViewRefusal::NoSuchServer);
+    let free = view.answer(rt.alloc(), &ViewAsk::SetCost { server: 1, cost: 0 })?;
+    assert!(rt; free == bad_cost);
+    let absent = view.answer(rt.alloc(), &ViewAsk::SetCost { server: 2, cost: 0 })?;
+    assert!(rt; absent == no_server);
+    let chosen = view.answer(rt.alloc(), &ViewAsk::Choose)?;
+    assert_eq!(rt; summary(&chosen), (2, Some(1)));
+    assert!(rt; chosen.clone()? == chosen);
+    Ok(())
+}
+
+#[test]
+fn each_subtree_has_its_least_cost(rt: HostRuntime) -> Result<(), Fail> {
+    let levels = Levels::new(3).ok_or("levels")?;
+    let second = levels.server(2).ok_or("second")?;
+    let fifth = levels.server(5).ok_or("fifth")?;
+    let mut tree = LiveTree::new(rt.alloc(), levels)?;
+    assert_eq!(rt; tree.set_cost(second, 1_000_001), Err(BadCost));
+    tree.set_cost(second, 5).map_err(|_| "second")?;
+    tree.set_mark(fifth, false);
+    assert_eq!(rt; (tree.cost(second), tree.cost(fifth)), (5, 1));
+    assert!(rt; tree.is_up(second) && !tree.is_up(fifth));
+    assert_eq!(rt; tree.best_cost(second), Some(6));
+    assert_eq!(rt; tree.best_cost(fifth), None);
+    let best = tree.best(rt.alloc(), second)?.ok_or("best")?;
+    assert_eq!(rt; best.cost, 6);
+    assert_eq!(rt; bits_of(best.servers.as_slice()), bits(&[2, 4]));
+    assert!(rt; tree.best(rt.alloc(), fifth)?.is_none());
+    Ok(())
+}
+
+#[test]
+fn a_reply_is_foreseen(rt: HostRuntime) -> Result<(), Fail> {
+    let levels = Levels::new(2).ok_or("levels")?;
+    let mut view = View::new(rt.alloc(), levels)?;
+    let ask = ViewAsk::Mark {
+        server: 1,
+        up: false,
+    };
+    let foreseen = view.foresee(rt.alloc(), &ask)?;
+    assert!(rt; view.answer(rt.alloc(), &ask)? == foreseen);
+    let copy = view.copy(rt.alloc())?;
+    let offer = copy.foresee(rt.alloc(), &ViewAsk::Choose)?;
+    assert_eq!(rt; summary(&offer), (bits(&[2, 3]), Some(2)));
+    Ok(())
+}
+
+#[test]
+fn a_view_shows_its_tree(rt: HostRuntime) -> Result<(), Fail> {
+    let levels = Levels::new(2).ok_or("levels")?;
+    let mut view = View::new(rt.alloc(), levels)?;
+    view.answer(rt.alloc(), &ViewAsk::SetCost { server: 3, cost: 9 })?;
+    let tree = view.tree();
+    let third = tree.levels().server(3).ok_or("third")?;
+    assert_eq!(rt; tree.levels(), levels);
+    assert_eq!(rt; tree.cost(third), 9);
+    Ok(())
+}
+
+#[test]
+fn a_tree_offers_a_quorum_or_a_blocker(rt: HostRuntime) -> Result<(), Fail> {
+    let levels = Levels::new(1).ok_or("levels")?;
+    let mut tree = LiveTree::new(rt.alloc(), levels)?;
+    let quorum = Quorum::of(rt.alloc(), levels, &[1])?.ok_or("quorum")?;
+    assert!(rt; tree.choose(rt.alloc())? == Choice::Quorum { quorum, cost: 1 });
+    tree.set_mark(levels.root(), false);
+    let blocker = Blocker::of(rt.alloc(), levels, &[1])?.ok_or("blocker")?;
+    assert!(rt; tree.choose(rt.alloc())? == Choice::Blocked(blocker));
+    Ok(())
+}
