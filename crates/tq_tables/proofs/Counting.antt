@@ -11,16 +11,16 @@ use Rattle.std.proofs.lemmas.List.{append-nil, append_assoc}
 use Rattle.std.proofs.lemmas.List.Folds.{list_any-append}
 use Rattle.indexmap.specs.IndexMap.{insert_entry}
 use Rattle.tq_store.specs.Copies.{name_cmp}
-use Rattle.tq_desk.specs.declared.ask.Op.{Op}
+use Rattle.tq_evidence.specs.declared.op.Op.{Op}
 use Rattle.tq_desk.specs.declared.ask.DeskAsk.{DeskAsk}
 use Rattle.tq_desk.specs.declared.ask.DeskAsk.TheVariants as asks
 use Rattle.tq_desk.specs.declared.ask.DeskReply.{DeskReply}
 use Rattle.tq_desk.specs.declared.ask.DeskReply.TheVariants as replies
-use Rattle.tq_desk.specs.Evidence.{same_name}
+use Rattle.tq_evidence.specs.Evidence.{same_name}
 use Rattle.tq_desk.specs.Log.{with_files}
 use Rattle.tq_desk.specs.DeskJournal.{Commit, DeskEntry, commits, count, count_one, with_commit, writes_file}
 use Rattle.tq_desk.specs.DeskLog.{is_written}
-use Rattle.tq_desk.proofs.SameName.{same_name-is}
+use Rattle.tq_evidence.proofs.SameName.{same_name-is}
 use Rattle.tq_desk.proofs.WrittenNames.{written-is}
 use Rattle.tq_tables.specs.Rows.{files_in, files_of}
 use Rattle.tq_tables.specs.Counted.{counted, count_in, names_of, with_one, with_each}

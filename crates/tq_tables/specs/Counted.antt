@@ -5,7 +5,7 @@ use Rattle.std.specs.FinMap as fin
 use Rattle.std.specs.Map.{lookup}
 use Rattle.std.specs.Option.{unwrap_or}
 use Rattle.indexmap.specs.IndexMap.{insert_entry}
-use Rattle.tq_desk.specs.declared.ask.Op.{Op}
+use Rattle.tq_evidence.specs.declared.op.Op.{Op}
 use Rattle.tq_desk.specs.Log.{with_files}
 use Rattle.tq_desk.specs.DeskJournal.{Commit, count}
 use Rattle.tq_tables.specs.Rows.{files_in}

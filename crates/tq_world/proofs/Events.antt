@@ -9,9 +9,9 @@ use Rattle.tq_node.specs.Records.{node_reply}
 use Rattle.tq_node.specs.NodeJournal.{NodeEntry, node_state, inner, GrantAt, PeekAt, YesAt}
 use Rattle.tq_desk.specs.declared.ask.DeskAsk.{DeskAsk}
 use Rattle.tq_desk.specs.declared.ask.DeskAsk.TheVariants as asks
-use Rattle.tq_desk.specs.declared.ask.Grant.{Grant}
-use Rattle.tq_desk.specs.declared.ask.Op.{Op}
-use Rattle.tq_desk.specs.declared.ask.Vote.{Vote}
+use Rattle.tq_evidence.specs.declared.grant.Grant.{Grant}
+use Rattle.tq_evidence.specs.declared.op.Op.{Op}
+use Rattle.tq_evidence.specs.declared.vote.Vote.{Vote}
 use Rattle.tq_desk.specs.Log.{desk_reply}
 use Rattle.tq_desk.specs.DeskJournal.{DeskBounds, DeskEntry, desk_state, VerdictAt}
 

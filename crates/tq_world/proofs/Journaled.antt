@@ -18,9 +18,9 @@ use Rattle.tq_node.specs.Records.{NodeState, node_reply, node_after}
 use Rattle.tq_node.specs.NodeJournal.{nothing_stored, node_state, inner}
 use Rattle.tq_desk.specs.declared.ask.DeskAsk.{DeskAsk}
 use Rattle.tq_desk.specs.declared.ask.DeskAsk.TheVariants as desk_asks
-use Rattle.tq_desk.specs.declared.ask.Grant.{Grant}
-use Rattle.tq_desk.specs.declared.ask.Op.{Op}
-use Rattle.tq_desk.specs.declared.ask.Vote.{Vote}
+use Rattle.tq_evidence.specs.declared.grant.Grant.{Grant}
+use Rattle.tq_evidence.specs.declared.op.Op.{Op}
+use Rattle.tq_evidence.specs.declared.vote.Vote.{Vote}
 use Rattle.tq_desk.specs.Log.{DeskView, desk_reply}
 use Rattle.tq_desk.specs.DeskJournal.{DeskBounds, desk_state, opened, step_reply, step_after, VerdictAt}
 use Rattle.tq_tables.specs.Journals.{JournalsView, ServerEntry, EntryOfDesk}

@@ -3,8 +3,8 @@ use Rattle.std.proofs.Common.{◌≡◌, ℕ, suc, ◌≤◌, Bool, true, false,
 use Rattle.std.specs.List.{find}
 use Rattle.std.specs.Cmp.Lexicographic.{same_text}
 use Rattle.std.proofs.lemmas.Bool.{and_parts, and_from, eq-eqb}
-use Rattle.tq_desk.specs.declared.ask.Op.{Op}
-use Rattle.tq_desk.specs.Evidence.{is_write, same_name}
+use Rattle.tq_evidence.specs.declared.op.Op.{Op}
+use Rattle.tq_evidence.specs.Evidence.{is_write, same_name}
 use Rattle.tq_shape.specs.Journal.{Has}
 use Rattle.tq_desk.specs.DeskJournal.{Commit, writes_file, count_one, count, last_one, last_write, IsNumbered, AreNumbered, IsWritten}
 use Rattle.tq_shape.proofs.Places.{find-Has, none-Has}

@@ -13,18 +13,18 @@ use Rattle.tq_desk.specs.declared.ask.DeskAsk.{DeskAsk}
 use Rattle.tq_desk.specs.declared.ask.DeskAsk.TheVariants as asks
 use Rattle.tq_desk.specs.declared.ask.DeskReply.{DeskReply}
 use Rattle.tq_desk.specs.declared.ask.DeskReply.TheVariants as replies
-use Rattle.tq_desk.specs.declared.ask.Op.{Op}
-use Rattle.tq_desk.specs.declared.ask.Vote.{Vote}
-use Rattle.tq_desk.specs.Evidence.{is_write}
+use Rattle.tq_evidence.specs.declared.op.Op.{Op}
+use Rattle.tq_evidence.specs.declared.vote.Vote.{Vote}
+use Rattle.tq_evidence.specs.Evidence.{is_write}
 use Rattle.tq_desk.specs.Log.{cited}
 use Rattle.tq_shape.specs.Journal.{Has}
 use Rattle.tq_node.specs.NodeJournal.{NodeEntry, IsLegalNode, IsCited, inner, TellsAt, YesAt, InnerAt, DecisionAt, HasWrite}
 use Rattle.tq_desk.specs.DeskJournal.{DeskBounds, DeskEntry, IsLegalDesk, final, Commit, with_commit, commits, IsWritten}
 use Rattle.tq_world.proofs.Events.{Event, AtNode, AtDesk, node_journal, desk_journal, IsRun}
 use Rattle.tq_coterie.specs.Coterie.{is_quorum}
-use Rattle.tq_node.specs.NodeLaws.{NodeLaws, HasOrigin}
-use Rattle.tq_desk.specs.Laws.{DeskLaws, IsShown}
-use Rattle.tq_desk.proofs.DeskFinal.{commit-cases, commit-old}
+use Rattle.tq_node_laws.specs.NodeLaws.{NodeLaws, HasOrigin}
+use Rattle.tq_desk_laws.specs.Laws.{DeskLaws, IsShown}
+use Rattle.tq_desk_laws.proofs.DeskFinal.{commit-cases, commit-old}
 use Rattle.tq_shape.proofs.Places.{at-before, at-bound, at-old, at-same, any-Has, Has-map}
 use Rattle.tq_world.proofs.Worlds.{legal_nodes, legal_desk, founded_inner, founded_decision, founded_commits}
 

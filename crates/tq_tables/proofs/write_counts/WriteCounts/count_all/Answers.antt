@@ -3,7 +3,7 @@ use Rattle.std.proofs.Common.{◌+◌, ◌<◌, ◌^◌, ℕ, map, refl, ap, sym
 use Rattle.std.proofs.lemmas.Map.Iter.{rest_more}
 use Rattle.std.specs.FinMap as fin
 use Rattle.std.specs.Map.Iter.{deref_pair}
-use Rattle.tq_desk.specs.Evidence.{same_name}
+use Rattle.tq_evidence.specs.Evidence.{same_name}
 use Rattle.tq_tables.specs.Counted as spec
 use Rattle.tq_tables.proofs.Counting.{count_in-other}
 use Rattle.tq_tables.proofs.Names.{Apart, Apart-keys, differ, is_in, or_true, same_name-refl}
