@@ -8,7 +8,7 @@ use Rattle.tq_txn.specs.declared.fault.LineFault.{LineFault}
 use Rattle.tq_txn.specs.declared.txn.Txn.{Txn}
 use Rattle.tq_txn.specs.declared.txn.Txn.TheVariants as states
 use Rattle.tq_txn.specs.Aborts.{resolved, ending_of, abort_end, abort_line}
-use Rattle.tq_txn.specs.Ended.{EndedView}
+use Rattle.tq_states.specs.Ended.{EndedView}
 use Rattle.tq_txn.specs.Line.{Went, done, ended_by, desk_line}
 use Rattle.tq_txn.specs.Lines.{ending_line}
 use Rattle.tq_txn.specs.States.{number_of}

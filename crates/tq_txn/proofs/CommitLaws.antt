@@ -7,17 +7,17 @@ use Rattle.tq_desk.specs.declared.ask.DeskAsk.{DeskAsk}
 use Rattle.tq_txn.specs.declared.asker.Heard.{Heard}
 use Rattle.tq_txn.specs.declared.fault.LineFault.{LineFault}
 use Rattle.tq_txn.specs.declared.fault.LineFault.TheVariants as faults
-use Rattle.tq_txn.specs.declared.fault.TxnFault.{TxnFault}
-use Rattle.tq_txn.specs.declared.fault.TxnFault.TheVariants as txn_faults
-use Rattle.tq_txn.specs.declared.told.DeskTold.{DeskTold}
+use Rattle.tq_states.specs.declared.fault.TxnFault.{TxnFault}
+use Rattle.tq_states.specs.declared.fault.TxnFault.TheVariants as txn_faults
+use Rattle.tq_states.specs.declared.told.DeskTold.{DeskTold}
 use Rattle.tq_txn.specs.declared.txn.Txn.{Txn}
 use Rattle.tq_txn.specs.declared.txn.Txn.TheVariants as states
 use Rattle.tq_txn.specs.Commits.{prepares_line, committed, decided_by, decided, ready_line, decide_line, commit_end, decide_and_end_line, commit_line, IsDecision, IsUndecided}
-use Rattle.tq_txn.specs.Ended.{EndedView, IsEnd, end_fault, fault_without, verdict_in, ended_with}
+use Rattle.tq_states.specs.Ended.{EndedView, IsEnd, end_fault, fault_without, verdict_in, ended_with}
 use Rattle.tq_txn.specs.Line.{Line, LineEnd, Went, done, ended_by, fault_of_txn, desk_line}
 use Rattle.tq_txn.specs.Lines.{answers, prepare_line, ending_line}
-use Rattle.tq_txn.specs.Open.{ComesOf}
-use Rattle.tq_txn.specs.Voting.{VotingView, has_votes, ready_fault, evidence_of}
+use Rattle.tq_states.specs.Open.{ComesOf}
+use Rattle.tq_states.specs.Voting.{VotingView, has_votes, ready_fault, evidence_of}
 use Rattle.tq_txn.proofs.LineLaws.{went_memory, went_end, went_answer, went_on, went_off}
 
 module _ (servers rest : List Server) (server : Server) (old new : VotingView) (is : servers ≡ server ∷ rest) where

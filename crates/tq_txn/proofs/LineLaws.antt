@@ -15,21 +15,21 @@ use Rattle.tq_txn.specs.declared.asker.Told.TheVariants.{Answer, Full, NotFounde
 use Rattle.tq_txn.specs.declared.asker.ViewTold.{ViewTold}
 use Rattle.tq_txn.specs.declared.fault.LineFault.{LineFault}
 use Rattle.tq_txn.specs.declared.fault.LineFault.TheVariants as faults
-use Rattle.tq_txn.specs.declared.fault.TxnFault.{TxnFault}
-use Rattle.tq_txn.specs.declared.fault.TxnFault.TheVariants as txn_faults
-use Rattle.tq_txn.specs.declared.told.DeskTold.{DeskTold}
-use Rattle.tq_txn.specs.declared.told.NodeTold.{NodeTold}
+use Rattle.tq_states.specs.declared.fault.TxnFault.{TxnFault}
+use Rattle.tq_states.specs.declared.fault.TxnFault.TheVariants as txn_faults
+use Rattle.tq_states.specs.declared.told.DeskTold.{DeskTold}
+use Rattle.tq_states.specs.declared.told.NodeTold.{NodeTold}
 use Rattle.tq_locks.specs.declared.mode.Mode.{Mode}
 use Rattle.tq_shape.specs.Tree.{Server}
 use Rattle.tq_coterie.specs.Coterie.{numbers_of}
-use Rattle.tq_txn.specs.Ended.{EndedView}
+use Rattle.tq_states.specs.Ended.{EndedView}
 use Rattle.tq_txn.specs.Lines.{LocksView, choose_line, next_lock, locks_line, quorum_line, read_end, write_end, refusal_in, voted, prepare_line, end_line, ending_line}
 use Rattle.tq_store.specs.declared.copies.FileCopy.{FileCopy}
 use Rattle.tq_desk.specs.declared.ask.OpKind.TheVariants as kinds
 use Rattle.tq_desk.specs.Evidence.{greatest}
 use Rattle.tq_txn.specs.declared.reading.Reading.TheVariants.{Copy}
-use Rattle.tq_txn.specs.Voting.{VotingView, has_vote, ask_fault, prepare_ask, vote_fault, vote_after}
-use Rattle.tq_txn.specs.Open.{OpenView, ComesOf, read_fault, read_copy, read_after, write_fault, write_after, grants_of}
+use Rattle.tq_states.specs.Voting.{VotingView, has_vote, ask_fault, prepare_ask, vote_fault, vote_after}
+use Rattle.tq_states.specs.Open.{OpenView, ComesOf, read_fault, read_copy, read_after, write_fault, write_after, grants_of}
 use Rattle.tq_txn.specs.Line.{Line, Ends, AsksNode, AsksDesk, AsksView, Makes, Begins, Went, then_line, LineEnd, done, go_on, and_then, unless, ended_by, fault_of_ask, fault_of_txn, heard_node, heard_desk, heard_view, node_line, desk_line, view_line}
 
 begins_none : {A : Type 0} (line : Line A) → Begins line []

@@ -11,11 +11,11 @@ use Rattle.tq_txn.specs.declared.fault.LineFault.TheVariants as faults
 use Rattle.tq_txn.specs.Line.{Line, LineEnd, done, and_then, desk_line}
 use Rattle.tq_txn.specs.Lines.{answers, ending_line}
 use Rattle.tq_node.specs.declared.ask.Verdict.{Verdict}
-use Rattle.tq_txn.specs.declared.told.DeskTold.{DeskTold}
+use Rattle.tq_states.specs.declared.told.DeskTold.{DeskTold}
 use Rattle.tq_txn.specs.declared.txn.Txn.{Txn}
 use Rattle.tq_txn.specs.declared.txn.Txn.TheVariants as states
-use Rattle.tq_txn.specs.Ended.{EndedView, verdict_in, ended_with}
-use Rattle.tq_txn.specs.Open.{OpenView}
+use Rattle.tq_states.specs.Ended.{EndedView, verdict_in, ended_with}
+use Rattle.tq_states.specs.Open.{OpenView}
 use Rattle.tq_txn.specs.States.{number_of}
 
 -- a verdict ends the transaction; with none it is as before

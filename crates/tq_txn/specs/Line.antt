@@ -15,10 +15,10 @@ use Rattle.tq_txn.specs.declared.asker.Told.TheVariants.{Answer, Full, NotFounde
 use Rattle.tq_txn.specs.declared.asker.ViewTold.{ViewTold}
 use Rattle.tq_txn.specs.declared.fault.LineFault.{LineFault}
 use Rattle.tq_txn.specs.declared.fault.LineFault.TheVariants as faults
-use Rattle.tq_txn.specs.declared.fault.TxnFault.{TxnFault}
-use Rattle.tq_txn.specs.declared.fault.TxnFault.TheVariants as txn_faults
-use Rattle.tq_txn.specs.declared.told.DeskTold.{DeskTold}
-use Rattle.tq_txn.specs.declared.told.NodeTold.{NodeTold}
+use Rattle.tq_states.specs.declared.fault.TxnFault.{TxnFault}
+use Rattle.tq_states.specs.declared.fault.TxnFault.TheVariants as txn_faults
+use Rattle.tq_states.specs.declared.told.DeskTold.{DeskTold}
+use Rattle.tq_states.specs.declared.told.NodeTold.{NodeTold}
 
 pub data Line (A : Type 0) : Type 0 where
   Ends : A → Line A

@@ -2,8 +2,8 @@
 use Rattle.std.specs.Prelude.{◌≡◌, ℕ}
 use Rattle.tq_txn.specs.declared.txn.Txn.{Txn}
 use Rattle.tq_txn.specs.declared.txn.Txn.TheVariants as states
-use Rattle.tq_txn.specs.Ended.{EndedView}
-use Rattle.tq_txn.specs.Open.{OpenView}
+use Rattle.tq_states.specs.Ended.{EndedView}
+use Rattle.tq_states.specs.Open.{OpenView}
 
 -- the number that the desk gave it
 abbrev pub number_of : Txn → ℕ
@@ -34,3 +34,11 @@ abbrev pub IsStill : Txn → Txn → Type 0
 IsStill (states.Open old) new = IsOf old new
 IsStill (states.Voting old) new = IsOf old.txn new
 IsStill (states.Ended old) new = new ≡ states.Ended old
+
+-- the transaction afterwards: more servers may have granted it a lock, and all else is as it was
+pub record IsTouched (old after : OpenView) : Type 0 where
+  pub levels : after.levels ≡ old.levels
+  pub limits : after.limits ≡ old.limits
+  pub txn : after.txn ≡ old.txn
+  pub ops : after.ops ≡ old.ops
+  pub voters : after.voters ≡ old.voters

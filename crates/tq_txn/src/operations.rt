@@ -3,7 +3,7 @@ ghost use Rattle.std.specs.List.{list_all};
 ghost use Rattle.tq_coterie.specs.Coterie.{numbers_of};
 ghost use Rattle.tq_txn.specs.Line as line;
 ghost use Rattle.tq_txn.specs.Lines as spec;
-ghost use Rattle.tq_txn.specs.Open as open_spec;
+ghost use Rattle.tq_txn.specs.States as open_spec;
 
 use crate::asks::{ask_node, ask_view};
 use crate::{Asker, LineFault, NodeTold, Open, Reading, TxnFault};

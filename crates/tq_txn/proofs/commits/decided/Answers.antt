@@ -1,6 +1,6 @@
 use Rattle.std.proofs.Common.{subst}
 use Rattle.tq_txn.specs.Commits.{IsUndecided}
-use Rattle.tq_txn.specs.Voting.{VotingView}
+use Rattle.tq_states.specs.Voting.{VotingView}
 use Rattle.tq_txn.proofs.CommitLaws.{undecided_decision}
 use Rattle.tq_txn.proofs.commits.decided.Goals as goal
 

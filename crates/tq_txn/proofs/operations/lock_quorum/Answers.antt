@@ -1,10 +1,10 @@
 use Rattle.std.proofs.Common.{◌≡◌, ◌==◌, ◌∙◌, ℕ, List, true, sym, subst, Some, Ok}
 use Rattle.std.specs.List.{list_all}
-use Rattle.tq_txn.specs.declared.told.NodeTold.{NodeTold}
+use Rattle.tq_states.specs.declared.told.NodeTold.{NodeTold}
 use Rattle.tq_txn.specs.Line.{Went}
 use Rattle.tq_txn.specs.Lines.{quorum_line}
 use Rattle.tq_txn.proofs.LineLaws.{quorum_off, quorum_stopped, quorum_locked}
-use Rattle.tq_txn.proofs.Tested.{of_tree}
+use Rattle.tq_states.proofs.Tested.{of_tree}
 use Rattle.tq_txn.proofs.operations.lock_quorum.Goals as goal
 
 pub returns-in-Err-clause-asks : goal.returns-in-Err-clause-asks

@@ -1,0 +1,9 @@
+use Rattle.std.proofs.Common.{◌≡◌, ◌++◌, drop}
+use Rattle.tq_states.specs.Open.{grants_of, not_a_grant}
+use Rattle.tq_states.proofs.grants.grants_of.Given as goal
+
+abbrev pub invariant-loop-told : goal.invariant-loop-told
+invariant-loop-told l = record {
+  so_far : l.grants.items ++ grants_of l.kind l.txn l.file (drop l.told-index l.answers) ≡ grants_of l.kind l.txn l.file l.answers;
+  fault : not_a_grant l.kind l.txn l.file (drop l.told-index l.answers) ≡ not_a_grant l.kind l.txn l.file l.answers;
+}

@@ -1,0 +1,15 @@
+use Rattle.std.proofs.Common.{◌∙◌, ap}
+use Rattle.std.specs.List.{insert}
+use Rattle.std.specs.Ordering.{is_lt}
+use Rattle.tq_store.specs.Copies.{name_cmp}
+use Rattle.tq_desk.specs.declared.ask.Op.{Op}
+use Rattle.tq_states.specs.Places.{place_before}
+use Rattle.tq_states.proofs.Puts.{insert_before}
+use Rattle.tq_states.proofs.open.put_in_order.Goals as goal
+
+pub returns-clause-ok : goal.returns-clause-ok
+returns-clause-ok c =
+    let later = λ (other : Op). is_lt (name_cmp c.args.op.file other.file) in
+    c.in_ok-insert.ensures.items
+    ∙ ap (λ place. insert c.args.ops.now.items place c.args.op) (c.place_of-place.ensures.value ∙ ap (place_before later) c.as_slice.ensures.value)
+    ∙ insert_before later c.args.op c.args.ops.now.items

@@ -1,0 +1,7 @@
+use Rattle.tq_states.proofs.GoodVotes.{IsVoting-with_vote}
+use Rattle.tq_states.proofs.voting.Voting.put.Goals as goal
+
+pub invariant_of-self-2 : goal.invariant_of-self-2
+invariant_of-self-2 c =
+    let good = rw (← c.self.view_is) at c.requires in
+    rw c.in_ok-put_vote.ensures.ok (IsVoting-with_vote record { txn = c.self.inside.txn; votes = c.self.inside.votes.items } c.args.vote good c.self.invariant)

@@ -1,0 +1,128 @@
+ghost use Rattle.std.specs.Prelude.{◌≡◌, ◌+◌, ◌==◌, IfOk, IfErr, None, Some, map};
+ghost use Rattle.std.specs.Option.{option_copied};
+ghost use Rattle.tq_desk.specs.Evidence as evidence;
+ghost use Rattle.tq_states.specs.Open as spec;
+
+use crate::{NodeTold, TxnFault};
+use std::alloc::Global;
+use tq_desk::{Grant, OpKind};
+use tq_locks::Mode;
+use tq_node::{NodeAsk, NodeReply, WorkAsk};
+use tq_shape::Memory;
+use tq_store::{Content, FileCopy, FileName};
+
+/// The grants that the answers tell of: locks of the transaction on the file, of a mode that fits.
+pub(crate) fn grants_of(
+    alloc: Global,
+    kind: OpKind,
+    txn: u64,
+    file: &FileName,
+    answers: &[NodeTold],
+) -> Result<Vec<Grant>, TxnFault>
+    ensures granted { IfOk result (λ grants. spec.not_a_grant kind txn file.now answers.now ≡ None) }
+    ensures value { IfOk result (λ grants. grants.items ≡ spec.grants_of kind txn file.now answers.now) }
+    ensures fault { IfErr result (λ fault. spec.ComesOf (spec.refuse_for (spec.not_a_grant kind txn file.now answers.now) TxnFault.NotAGrant None) fault) }
+{
+    let mut grants = Vec::new(alloc);
+    for told in answers {
+        match grant_of(kind, txn, file, told)? {
+            Some(grant) => grants.push(grant)?,
+            None => return Err(TxnFault::NotAGrant {
+                server: told.server,
+            }),
+        }
+    }
+    Ok(grants)
+}
+
+/// The grant that an answer tells of.
+fn grant_of(
+    kind: OpKind,
+    txn: u64,
+    file: &FileName,
+    told: &NodeTold,
+) -> Result<Option<Grant>, Memory>
+    ensures { IfOk result (λ grant. grant ≡ spec.grant_of kind txn file.now told.now) }
+{
+    let NodeAsk::Work(
+        WorkAsk::Lock {
+            txn: locker,
+            file: locked,
+            mode,
+        },
+    ) = &told.ask
+    else {
+        return Ok(None);
+    };
+    let NodeReply::Granted { version, content } = &told.reply else {
+        return Ok(None);
+    };
+    if *locker == txn && *locked == *file && fits(kind, *mode) {
+        let content = content.clone()?;
+        return Ok(Some(Grant {
+            server: told.server,
+            number: told.number,
+            mode: *mode,
+            version: *version,
+            content,
+        }));
+    }
+    Ok(None)
+}
+
+/// A read rests on locks of either mode, a write on exclusive ones.
+fn fits(kind: OpKind, mode: Mode) -> bool
+    ensures { result ≡ spec.fits kind mode }
+{
+    match kind {
+        OpKind::Read => true,
+        OpKind::Write => mode == Mode::Exclusive,
+    }
+}
+
+/// The servers of the grants, in their order.
+pub(crate) fn servers_in(alloc: Global, grants: &[Grant]) -> Result<Vec<u64>, Memory>
+    ensures { IfOk result (λ servers. servers.items ≡ spec.servers_in grants.now) }
+{
+    grants.iter().map(|grant| grant.server).collect(alloc)
+}
+
+pub(crate) fn rises(numbers: &[u64]) -> bool
+    ensures { result ≡ evidence.rises numbers.now }
+{
+    match numbers {
+        [] => true,
+        [_] => true,
+        [first, second, ..] => *first < *second && rises(&numbers[1..]),
+    }
+}
+
+/// The copy of the first grant of the greatest version.
+pub(crate) fn read_copy(alloc: Global, grants: &[Grant]) -> Result<FileCopy, Memory>
+    ensures { IfOk result (λ copy. copy ≡ spec.read_copy grants.now) }
+{
+    match newest(grants) {
+        Some(grant) => Ok(FileCopy {
+            version: grant.version,
+            content: grant.content.clone()?,
+        }),
+        None => Ok(FileCopy {
+            version: 0,
+            content: Content::empty(alloc),
+        }),
+    }
+}
+
+/// The first grant of the greatest version.
+fn newest(grants: &[Grant]) -> Option<&Grant>
+    ensures { option_copied result ≡ evidence.newest grants.now }
+{
+    let greatest = greatest_version(grants);
+    grants.iter().find(|grant| grant.version == greatest)
+}
+
+pub(crate) fn greatest_version(grants: &[Grant]) -> u64
+    ensures { result ≡ evidence.greatest grants.now }
+{
+    grants.iter().fold(0, |most, grant| most.max(grant.version))
+}

@@ -1,0 +1,432 @@
+ghost use Rattle.std.specs.Prelude.{◌≡◌, ◌+◌, ◌<◌, ◌≤◌, ◌++◌, List, [], None, Some, true, length, position, IfOk, IfErr, IfSome, IsSome, OnOk, OnErr, MatchOption, false};
+ghost use Rattle.std.specs.List.{find};
+ghost use Rattle.std.specs.Option.{option_copied};
+ghost use Rattle.std.specs.Ordering.{is_lt};
+ghost use Rattle.tq_store.specs.Copies.{name_cmp};
+ghost use Rattle.tq_coterie.specs.Coterie.{numbers_of};
+ghost use Rattle.tq_desk.specs.Evidence as evidence;
+ghost use Rattle.tq_states.specs.Places.{place_before};
+ghost use Rattle.tq_states.specs.Sets as sets;
+ghost use Rattle.tq_states.specs.Cited.{KeepsOnly, VotesOnly};
+ghost use Rattle.tq_states.specs.Ended as ending;
+ghost use Rattle.tq_states.specs.Open as spec;
+ghost use Rattle.tq_states.specs.Voting as voting;
+
+use crate::grants::{grants_of, greatest_version, read_copy, rises, servers_in};
+use crate::servers::Servers;
+use crate::{DeskTold, Ended, NodeTold, TxnFault, Voting};
+use std::alloc::Global;
+use std::marker::Model;
+use tq_coterie::Quorum;
+use tq_desk::{Grant, Op, OpKind};
+use tq_shape::{ExactClone, Levels, Limits, Memory, Seq, ServerId};
+use tq_store::{Content, FileCopy, FileName};
+
+/// A transaction that may read and write.
+#[derive(Drop)]
+pub struct Open {
+    levels: Levels,
+    limits: Limits,
+    txn: u64,
+    ops: Vec<Op>,
+    voters: Servers,
+    touched: Servers,
+}
+
+impl Model for Open {
+    ghost use Rattle.std.specs.Prelude.{◌≡◌};
+    ghost use Rattle.tq_states.specs.Open.{OpenView, IsOpen};
+
+    ghost Value = { OpenView };
+
+    ghost view = { λ a. record {
+      levels = a.levels;
+      limits = a.limits;
+      txn = a.txn;
+      ops = a.ops.items;
+      voters = a.voters.servers;
+      touched = a.touched.servers;
+    } };
+
+    ghost invariant = { λ a. IsOpen (record {
+      levels = a.levels;
+      limits = a.limits;
+      txn = a.txn;
+      ops = a.ops.items;
+      voters = a.voters.servers;
+      touched = a.touched.servers;
+    }) × ((a.voters.levels ≡ a.levels) × (a.touched.levels ≡ a.levels)) };
+}
+
+/// The grants of an operation, and the quorum of their servers.
+#[derive(Drop)]
+struct Granted {
+    grants: Seq<Grant>,
+    quorum: Quorum,
+}
+
+impl Open {
+    /// A transaction that did nothing yet. It takes no memory yet.
+    pub fn new(alloc: Global, levels: Levels, limits: Limits, txn: u64) -> Open
+        ensures value { result ≡ spec.opening levels limits txn }
+        ensures cited { KeepsOnly [] result }
+    {
+        Open {
+            levels,
+            limits,
+            txn,
+            ops: Vec::new(alloc),
+            voters: Servers::new(alloc, levels),
+            touched: Servers::new(alloc, levels),
+        }
+    }
+
+    /// The number of the transaction.
+    pub fn txn(&self) -> u64
+        ensures { result ≡ self.now.txn }
+    {
+        self.txn
+    }
+
+    /// The levels of the tree whose servers it asks.
+    pub fn levels(&self) -> Levels
+        ensures { result ≡ self.now.levels }
+    {
+        self.levels
+    }
+
+    /// Its operations, ascending by file, a read before a write. They are good evidence as far as they go.
+    pub fn ops(&self) -> &[Op]
+        ensures value { result.now ≡ self.now.ops }
+        ensures good { spec.IsOpen self.now }
+    {
+        self.ops.as_slice()
+    }
+
+    /// Whether it has as many operations as it may.
+    pub fn is_full(&self) -> bool
+        ensures { result ≡ spec.has_all_ops self.now }
+    {
+        self.ops.len() >= self.limits.ops() as usize
+    }
+
+    /// The transaction's read of a file.
+    pub fn seen(&self, file: &FileName) -> Option<&Op>
+        ensures { option_copied result ≡ spec.seen self.now file.now }
+    {
+        self.ops.iter().find(|op| is_read_of(file, op))
+    }
+
+    /// The transaction's write to a file.
+    pub fn written(&self, file: &FileName) -> Option<&Op>
+        ensures { option_copied result ≡ spec.written self.now file.now }
+    {
+        self.ops.iter().find(|op| is_write_to(file, op))
+    }
+
+    /// The content that the transaction writes to a file.
+    pub fn pending(&self, file: &FileName) -> Option<&Content>
+        ensures { option_copied result ≡ spec.pending self.now file.now }
+    {
+        match self.written(file) {
+            Some(op) => Some(&op.content),
+            None => None,
+        }
+    }
+
+    /// The servers of the quorums of its operations, ascending.
+    pub fn voters(&self) -> &[ServerId]
+        ensures numbers { numbers_of result.now ≡ self.now.voters }
+        ensures set { sets.IsServerSet self.now.levels result.now }
+        ensures exact { spec.HasVoters self.now }
+    {
+        self.voters.as_slice()
+    }
+
+    /// The servers that granted it a lock, as far as it was handed them, ascending.
+    pub fn servers(&self) -> &[ServerId]
+        ensures numbers { numbers_of result.now ≡ self.now.touched }
+        ensures set { sets.IsServerSet self.now.levels result.now }
+    {
+        self.touched.as_slice()
+    }
+
+    /// Notes that a server granted it a lock. Out of memory leaves it as it was.
+    pub fn touch(&mut self, _alloc: Global, server: ServerId) -> Result<(), Memory>
+        requires { server.levels ≡ self.old.levels }
+        ensures ok { OnOk result (self.new ≡ spec.touched_by self.old server.number) }
+        ensures cited { (told : List NodeTold) → KeepsOnly told self.old → KeepsOnly told self.new }
+        ensures levels { self.new.levels ≡ self.old.levels }
+        ensures err { OnErr result (self.new ≡ self.old) }
+    {
+        self.touched.insert(server)
+    }
+
+    /// Reads a file by the answers of a quorum: the first copy of the greatest version granted. A fault leaves the
+    /// transaction as it was.
+    pub fn read(
+        &mut self,
+        alloc: Global,
+        file: &FileName,
+        answers: &[NodeTold],
+    ) -> Result<FileCopy, TxnFault>
+        ensures succeeds { IfOk result (λ copy. spec.read_fault self.old file.now answers.now ≡ None) }
+        ensures value { IfOk result (λ copy. copy ≡ spec.read_copy (spec.grants_of OpKind.Read self.old.txn file.now answers.now)) }
+        ensures after { OnOk result (self.new ≡ spec.read_after self.old file.now answers.now) }
+        ensures cited { OnOk result ((told : List NodeTold) → KeepsOnly told self.old → KeepsOnly (told ++ answers.now) self.new) }
+        ensures fault { IfErr result (λ fault. spec.ComesOf (spec.read_fault self.old file.now answers.now) fault) }
+        ensures err { OnErr result (self.new ≡ self.old) }
+    {
+        if self.is_used(file) {
+            return Err(TxnFault::AlreadyThere);
+        }
+        let Granted { grants, quorum } = self.admit(alloc, OpKind::Read, file, answers)?;
+        let given = read_copy(alloc, grants.as_slice())?;
+        let kept = given.content.clone()?;
+        let op = Op {
+            file: *file,
+            kind: OpKind::Read,
+            version: given.version,
+            content: kept,
+            grants,
+        };
+        self.take(op, &quorum)?;
+        Ok(given)
+    }
+
+    /// Writes a file by the answers of a quorum: the version is one above the greatest granted. A fault leaves the
+    /// transaction as it was.
+    pub fn write(
+        &mut self,
+        alloc: Global,
+        file: &FileName,
+        content: Content,
+        answers: &[NodeTold],
+    ) -> Result<u64, TxnFault>
+        ensures succeeds { IfOk result (λ version. spec.write_fault self.old file.now answers.now ≡ None) }
+        ensures value { IfOk result (λ version. version ≡ evidence.greatest (spec.grants_of OpKind.Write self.old.txn file.now answers.now) + 1) }
+        ensures after { OnOk result (self.new ≡ spec.write_after self.old file.now content answers.now) }
+        ensures cited { OnOk result ((told : List NodeTold) → KeepsOnly told self.old → KeepsOnly (told ++ answers.now) self.new) }
+        ensures fault { IfErr result (λ fault. spec.ComesOf (spec.write_fault self.old file.now answers.now) fault) }
+        ensures err { OnErr result (self.new ≡ self.old) }
+    {
+        if self.is_written(file) {
+            return Err(TxnFault::AlreadyThere);
+        }
+        let Granted { grants, quorum } = self.admit(alloc, OpKind::Write, file, answers)?;
+        let Some(version) = greatest_version(grants.as_slice()).checked_add(1) else {
+            return Err(TxnFault::VersionFull);
+        };
+        let op = Op {
+            file: *file,
+            kind: OpKind::Write,
+            version,
+            content,
+            grants,
+        };
+        self.take(op, &quorum)?;
+        Ok(version)
+    }
+
+    /// Replaces the content that the transaction writes to a file. It takes no memory.
+    pub fn rewrite(&mut self, file: &FileName, content: Content)
+        requires { IsSome (spec.written self.old file.now) }
+        ensures after { self.new ≡ spec.rewritten self.old file.now content }
+        ensures cited { (told : List NodeTold) → KeepsOnly told self.old → KeepsOnly told self.new }
+    {
+        rewrite_in(&mut self.ops, file, content);
+    }
+
+    /// Ends the reading and writing, if there was any. It takes no memory.
+    pub fn close(self) -> Result<Voting, (Open, TxnFault)>
+        ensures succeeds { IfOk result (λ open_votes. (spec.close_fault self ≡ None) × (open_votes ≡ voting.closed self)) }
+        ensures cited { IfOk result (λ closed. (told : List NodeTold) → KeepsOnly told self → VotesOnly told closed) }
+        ensures fault { IfErr result (λ back. (back.0 ≡ self) × (spec.close_fault self ≡ Some back.1)) }
+    {
+        if self.ops.is_empty() {
+            return Err((self, TxnFault::NoOps));
+        }
+        Ok(Voting::new(self))
+    }
+
+    /// Ends the transaction by the desk's verdict on it, and hands it back after a fault.
+    pub fn end(self, alloc: Global, told: &DeskTold) -> Result<Ended, (Open, TxnFault)>
+        ensures value { IfOk result (λ ended. ending.IsEnd self told.now ended) }
+        ensures fault { IfErr result (λ back. (back.0 ≡ self) × spec.ComesOf (ending.end_fault self told.now) back.1) }
+    {
+        match Ended::of(alloc, &self, told) {
+            Ok(ended) => Ok(ended),
+            Err(fault) => Err((self, fault)),
+        }
+    }
+
+    pub(crate) fn allocator(&self) -> Global {
+        *self.ops.allocator()
+    }
+
+    /// A copy of the set of the servers that granted it a lock.
+    pub(crate) fn touched(&self) -> Result<Servers, Memory>
+        ensures { IfOk result (λ servers. servers ≡ record { servers = self.now.touched; levels = self.now.levels }) }
+    {
+        self.touched.copy()
+    }
+
+    pub(crate) fn copy_ops(&self) -> Result<Seq<Op>, Memory>
+        ensures { IfOk result (λ ops. ops ≡ self.now.ops) }
+    {
+        copy_of(&self.ops)
+    }
+
+    fn is_used(&self, file: &FileName) -> bool
+        ensures { result ≡ spec.is_used self.now.ops file.now }
+    {
+        self.ops.iter().any(|op| op.file == *file)
+    }
+
+    fn is_written(&self, file: &FileName) -> bool
+        ensures { result ≡ spec.is_written self.now.ops file.now }
+    {
+        self.ops.iter().any(|op| is_write_to(file, op))
+    }
+
+    /// The grants that the answers tell of, where a further operation may rest on them.
+    fn admit(
+        &self,
+        alloc: Global,
+        kind: OpKind,
+        file: &FileName,
+        answers: &[NodeTold],
+    ) -> Result<Granted, TxnFault>
+        ensures succeeds { IfOk result (λ granted. spec.grants_fault kind self.now file.now answers.now ≡ None) }
+        ensures grants { IfOk result (λ granted. granted.grants ≡ spec.grants_of kind self.now.txn file.now answers.now) }
+        ensures quorum { IfOk result (λ granted. granted.quorum ≡ record { servers = spec.servers_in granted.grants; levels = self.now.levels }) }
+        ensures member { IfOk result (λ granted. spec.is_member self.now.levels granted.grants ≡ true) }
+        ensures few { IfOk result (λ granted. length self.now.ops < self.now.limits.ops) }
+        ensures fault { IfErr result (λ fault. spec.ComesOf (spec.grants_fault kind self.now file.now answers.now) fault) }
+    {
+        if self.is_full() {
+            return Err(TxnFault::TooManyOps);
+        }
+        let grants = grants_of(alloc, kind, self.txn, file, answers)?;
+        match quorum_of(alloc, self.levels, grants.as_slice())? {
+            Some(quorum) => Ok(Granted {
+                grants: Seq::from_vec(grants),
+                quorum,
+            }),
+            None => Err(TxnFault::NotAMember),
+        }
+    }
+
+    /// Takes an operation. Out of memory leaves the transaction as it was.
+    fn take(&mut self, op: Op, quorum: &Quorum) -> Result<(), Memory>
+        requires quorum { quorum.now ≡ record { servers = evidence.servers_of op; levels = self.old.levels } }
+        requires good { spec.IsGoodOp self.old op }
+        ensures after { OnOk result (self.new ≡ spec.taken self.old op) }
+        ensures err { OnErr result (self.new ≡ self.old) }
+    {
+        let voters = self.voters.with(quorum.servers())?;
+        let touched = self.touched.with(quorum.servers())?;
+        put_in_order(&mut self.ops, op)?;
+        self.voters = voters;
+        self.touched = touched;
+        Ok(())
+    }
+}
+
+/// The quorum of the servers of the grants, if they are one in their order.
+fn quorum_of(alloc: Global, levels: Levels, grants: &[Grant]) -> Result<Option<Quorum>, Memory>
+    ensures { IfOk result (λ found. MatchOption found (spec.is_member levels grants.now ≡ false)
+        (λ quorum. (spec.is_member levels grants.now ≡ true) × (quorum ≡ record { servers = spec.servers_in grants.now; levels = levels }))) }
+{
+    let numbers = servers_in(alloc, grants)?;
+    if !rises(numbers.as_slice()) {
+        return Ok(None);
+    }
+    let found = Quorum::of(alloc, levels, numbers.as_slice())?;
+    Ok(found)
+}
+
+/// Whether the operation is a write.
+pub(crate) fn is_write(op: &Op) -> bool
+    ensures { result ≡ evidence.is_write op.now }
+{
+    match op.kind {
+        OpKind::Read => false,
+        OpKind::Write => true,
+    }
+}
+
+fn is_write_to(file: &FileName, op: &Op) -> bool
+    ensures { result ≡ spec.is_write_to file.now op.now }
+{
+    is_write(op) && op.file == *file
+}
+
+fn is_read_of(file: &FileName, op: &Op) -> bool
+    ensures { result ≡ spec.is_read_of file.now op.now }
+{
+    !is_write(op) && op.file == *file
+}
+
+/// Replaces the content that is written to a file.
+fn rewrite_in(ops: &mut Vec<Op>, file: &FileName, content: Content)
+    requires { IsSome (find (spec.is_write_to file.now) ops.old.items) }
+    ensures { ops.new.items ≡ spec.with_content file.now content ops.old.items }
+{
+    let place = match write_place(ops.as_slice(), file) {
+        Some(place) => place,
+        None => unreachable!(),
+    };
+    let op = &mut ops[place];
+    op.content = content;
+}
+
+/// Where the write to a file stands.
+fn write_place(ops: &[Op], file: &FileName) -> Option<usize>
+    ensures value { result ≡ position (spec.is_write_to file.now) ops.now }
+    ensures within { IfSome result (λ place. place < length ops.now) }
+{
+    ops.iter().position(|op| is_write_to(file, op))
+}
+
+/// Puts the operation before those of later files.
+fn put_in_order(ops: &mut Vec<Op>, op: Op) -> Result<(), Memory>
+    ensures ok { OnOk result (ops.new.items ≡ spec.with_op ops.old.items op) }
+    ensures err { OnErr result (ops.new.items ≡ ops.old.items) }
+{
+    let place = place_of(ops.as_slice(), &op.file);
+    ops.insert(place, op)?;
+    Ok(())
+}
+
+/// The place of the first operation on a later file, or the end.
+fn place_of(ops: &[Op], file: &FileName) -> usize
+    ensures value { result ≡ place_before (λ op. is_lt (name_cmp file.now op.file)) ops.now }
+    ensures within { result ≤ length ops.now }
+{
+    match first_later(ops, file) {
+        Some(place) => place,
+        None => ops.len(),
+    }
+}
+
+/// Where the first operation on a later file stands.
+fn first_later(ops: &[Op], file: &FileName) -> Option<usize>
+    ensures value { result ≡ position (λ op. is_lt (name_cmp file.now op.file)) ops.now }
+    ensures within { IfSome result (λ place. place < length ops.now) }
+{
+    ops.iter().position(|op| is_later(file, op))
+}
+
+fn is_later(file: &FileName, op: &Op) -> bool
+    ensures { result ≡ is_lt (name_cmp file.now op.now.file) }
+{
+    file.cmp(&op.file).is_lt()
+}
+
+/// The list that a vector holds, once more.
+pub(crate) fn copy_of<T: ExactClone>(items: &Vec<T>) -> Result<Seq<T>, Memory>
+    ensures { IfOk result (λ list. list ≡ items.now.items) }
+{
+    Ok(Seq::from_vec(items.clone()?))
+}

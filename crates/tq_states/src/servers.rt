@@ -1,0 +1,114 @@
+ghost use Rattle.std.specs.Prelude.{◌≡◌, ◌==◌, ◌<◌, ◌≤◌, [], true, length, nat_lt, position, IfOk, IfSome, OnOk, OnErr};
+ghost use Rattle.std.specs.List.{list_all, list_any};
+ghost use Rattle.tq_coterie.specs.Coterie.{has, numbers_of};
+ghost use Rattle.tq_states.specs.Sets.{IsServerSet, put, with_number, with_numbers};
+ghost use Rattle.tq_states.specs.Places.{place_before};
+
+use std::alloc::Global;
+use std::marker::Model;
+use tq_shape::{Levels, Memory, ServerId};
+
+/// A set of servers of one tree, ascending.
+#[derive(Drop)]
+pub(crate) struct Servers {
+    levels: Levels,
+    ids: Vec<ServerId>,
+}
+
+impl Model for Servers {
+    ghost use Rattle.tq_coterie.specs.Coterie.{ServerList, numbers_of};
+    ghost use Rattle.tq_states.specs.Sets.{IsServerSet};
+
+    ghost Value = { ServerList };
+
+    ghost view = { λ a. record { servers = numbers_of a.ids.items; levels = a.levels } };
+
+    ghost invariant = { λ a. IsServerSet a.levels a.ids.items };
+}
+
+impl Servers {
+    pub(crate) fn new(alloc: Global, levels: Levels) -> Servers
+        ensures { result ≡ record { servers = []; levels = levels } }
+    {
+        Servers {
+            levels,
+            ids: Vec::new(alloc),
+        }
+    }
+
+    pub(crate) fn as_slice(&self) -> &[ServerId]
+        ensures numbers { numbers_of result.now ≡ self.now.servers }
+        ensures set { IsServerSet self.now.levels result.now }
+    {
+        self.ids.as_slice()
+    }
+
+    /// Puts a server at its place, if it is not there.
+    pub(crate) fn insert(&mut self, server: ServerId) -> Result<(), Memory>
+        requires { server.levels ≡ self.old.levels }
+        ensures ok { OnOk result (self.new ≡ record self.old { servers = with_number self.old.servers server.number }) }
+        ensures err { OnErr result (self.new ≡ self.old) }
+    {
+        if has_number(self.ids.as_slice(), server.number()) {
+            return Ok(());
+        }
+        put_in_order(&mut self.ids, server)?;
+        Ok(())
+    }
+
+    pub(crate) fn copy(&self) -> Result<Servers, Memory>
+        ensures { IfOk result (λ servers. servers ≡ self.now) }
+    {
+        Ok(Servers {
+            levels: self.levels,
+            ids: self.ids.clone()?,
+        })
+    }
+
+    /// The set with other servers of its tree.
+    pub(crate) fn with(&self, others: &[ServerId]) -> Result<Servers, Memory>
+        requires { list_all (λ id. id.levels == self.now.levels) others.now ≡ true }
+        ensures { IfOk result (λ all. all ≡ record { servers = with_numbers self.now.servers (numbers_of others.now); levels = self.now.levels }) }
+    {
+        let mut all = self.copy()?;
+        for id in others {
+            all.insert(*id)?;
+        }
+        Ok(all)
+    }
+}
+
+fn has_number(ids: &[ServerId], number: u64) -> bool
+    ensures { result ≡ list_any (λ id. id.number == number) ids.now }
+{
+    ids.iter().any(|id| id.number() == number)
+}
+
+/// Puts the server before the first above it.
+fn put_in_order(ids: &mut Vec<ServerId>, server: ServerId) -> Result<(), Memory>
+    ensures ok { OnOk result (ids.new.items ≡ put (λ id. nat_lt server.number id.number) server ids.old.items) }
+    ensures err { OnErr result (ids.new.items ≡ ids.old.items) }
+{
+    let place = place_of(ids.as_slice(), server);
+    ids.insert(place, server)?;
+    Ok(())
+}
+
+/// The place of the first server above this one, or the end.
+fn place_of(ids: &[ServerId], server: ServerId) -> usize
+    ensures value { result ≡ place_before (λ id. nat_lt server.number id.number) ids.now }
+    ensures within { result ≤ length ids.now }
+{
+    match first_above(ids, server) {
+        Some(place) => place,
+        None => ids.len(),
+    }
+}
+
+/// Where the first server above this one stands.
+fn first_above(ids: &[ServerId], server: ServerId) -> Option<usize>
+    ensures value { result ≡ position (λ id. nat_lt server.number id.number) ids.now }
+    ensures within { IfSome result (λ place. place < length ids.now) }
+{
+    ids.iter().position(|id| server.number() < id.number())
+}

@@ -1,0 +1,196 @@
+ghost use Rattle.std.specs.Prelude.{◌≡◌, ◌<◌, ◌≤◌, length, nat_lt, position, IfOk, IfSome, OnOk, OnErr};
+ghost use Rattle.std.specs.List.{list_all};
+ghost use Rattle.std.specs.Option.{option_copied};
+ghost use Rattle.tq_desk.specs.Evidence as evidence;
+ghost use Rattle.tq_states.specs.Open as open_spec;
+ghost use Rattle.tq_states.specs.Places as places;
+ghost use Rattle.tq_states.specs.Voting as spec;
+
+use crate::NodeTold;
+use crate::open::is_write;
+use std::alloc::Global;
+use tq_desk::{Grant, Op, Vote};
+use tq_node::{NodeAsk, NodeReply, WorkAsk};
+use tq_shape::{Memory, Seq, ServerId};
+use tq_store::{FileName, Write};
+
+/// The vote for the transaction that an answer tells of.
+pub(crate) fn vote_of(txn: u64, told: &NodeTold) -> Result<Option<Vote>, Memory>
+    ensures value { IfOk result (λ vote. vote ≡ spec.vote_of txn told.now) }
+    ensures server { IfOk result (λ vote. IfSome vote (λ v. v.server ≡ told.now.server)) }
+{
+    let NodeAsk::Work(WorkAsk::Prepare { txn: voter, .. }) = &told.ask else {
+        return Ok(None);
+    };
+    let NodeReply::Yes { held, writes } = &told.reply else {
+        return Ok(None);
+    };
+    if *voter != txn {
+        return Ok(None);
+    }
+    let held = held.clone()?;
+    let writes = writes.clone()?;
+    Ok(Some(Vote {
+        server: told.server,
+        number: told.number,
+        held,
+        writes,
+    }))
+}
+
+/// Whether a server granted a lock to the operation.
+pub(crate) fn has_server(op: &Op, server: u64) -> bool
+    ensures { result ≡ evidence.has_server op.now server }
+{
+    let grants = op.grants.as_slice();
+    grants.iter().any(|grant| grant.server == server)
+}
+
+pub(crate) fn is_server_of(ops: &[Op], server: u64) -> bool
+    ensures { result ≡ evidence.is_server_of ops.now server }
+{
+    ops.iter().any(|op| has_server(op, server))
+}
+
+/// What the operations write at a server, by file.
+pub(crate) fn writes_at(alloc: Global, ops: &[Op], server: u64) -> Result<Seq<Write>, Memory>
+    ensures { IfOk result (λ writes. writes ≡ spec.writes_at ops.now server) }
+{
+    let mut writes = Vec::new(alloc);
+    for op in ops {
+        if is_write(op) && has_server(op, server) {
+            writes.push(write_in(op)?)?;
+        }
+    }
+    Ok(Seq::from_vec(writes))
+}
+
+fn write_in(op: &Op) -> Result<Write, Memory>
+    ensures { IfOk result (λ write. write ≡ spec.write_in op.now) }
+{
+    Ok(Write {
+        file: op.file,
+        version: op.version,
+        content: op.content.clone()?,
+    })
+}
+
+/// Whether the writes voted are those of the operations at the server.
+pub(crate) fn are_writes_at(server: u64, voted: &[Write], ops: &[Op]) -> bool
+    ensures { result ≡ evidence.are_writes_at server voted.now (spec.writes_in ops.now) }
+{
+    match ops {
+        [] => voted.is_empty(),
+        [op, ..] => {
+            if !is_write(op) || !has_server(op, server) {
+                return are_writes_at(server, voted, &ops[1..]);
+            }
+            match voted {
+                [] => false,
+                [write, ..] => is_write_of(write, op)
+                    && are_writes_at(server, &voted[1..], &ops[1..]),
+            }
+        }
+    }
+}
+
+fn is_write_of(write: &Write, op: &Op) -> bool
+    ensures { result ≡ evidence.is_write_of write.now op.now }
+{
+    write.file == op.file && write.version == op.version && write.content == op.content
+}
+
+/// The least file of which the vote does not cover a grant.
+pub(crate) fn lost(ops: &[Op], vote: &Vote) -> Option<FileName>
+    ensures { result ≡ spec.lost ops.now vote.now }
+{
+    ops.iter().find(|op| !covers_op(vote, op)).map(|op| op.file)
+}
+
+fn covers_op(vote: &Vote, op: &Op) -> bool
+    ensures { result ≡ spec.covers_op vote.now op.now }
+{
+    let grants = op.grants.as_slice();
+    grants
+        .iter()
+        .all(|grant| covers_grant(vote, op.file, grant))
+}
+
+fn covers_grant(vote: &Vote, file: FileName, grant: &Grant) -> bool
+    ensures { result ≡ spec.covers_grant vote.now file grant.now }
+{
+    vote.server != grant.server || covers(file, grant, vote)
+}
+
+fn covers(file: FileName, grant: &Grant, vote: &Vote) -> bool
+    ensures { result ≡ evidence.covers file grant.now vote.now }
+{
+    vote.server == grant.server
+        && grant.number < vote.number
+        && holds_since(vote, file, grant.number)
+}
+
+/// Whether the vote lists a lock of the file from no later than that number.
+fn holds_since(vote: &Vote, file: FileName, number: u64) -> bool
+    ensures { result ≡ evidence.holds_since vote.now file number }
+{
+    let held = vote.held.as_slice();
+    held.iter()
+        .any(|lock| lock.file == file && lock.since <= number)
+}
+
+/// Whether the server's vote is there.
+pub(crate) fn has_vote(votes: &[Vote], server: u64) -> bool
+    ensures { result ≡ spec.has_vote votes.now server }
+{
+    votes.iter().any(|vote| vote.server == server)
+}
+
+/// Whether the vote of each server is there.
+pub(crate) fn has_votes(votes: &[Vote], voters: &[ServerId]) -> bool
+    ensures { result ≡ list_all (λ voter. spec.has_vote votes.now voter.number) voters.now }
+{
+    voters.iter().all(|voter| has_vote(votes, voter.number()))
+}
+
+/// Puts a vote at its place, instead of one of its server that is there.
+pub(crate) fn put_vote(votes: &mut Vec<Vote>, vote: Vote) -> Result<(), Memory>
+    ensures ok { OnOk result (votes.new.items ≡ spec.with_vote vote votes.old.items) }
+    ensures err { OnErr result (votes.new.items ≡ votes.old.items) }
+{
+    match place_of_vote(votes.as_slice(), vote.server) {
+        Some(place) => votes[place] = vote,
+        None => {
+            let place = place_before(votes.as_slice(), vote.server);
+            votes.insert(place, vote)?;
+        }
+    }
+    Ok(())
+}
+
+/// Where the vote of a server stands.
+fn place_of_vote(votes: &[Vote], server: u64) -> Option<usize>
+    ensures value { result ≡ position (spec.is_of_server server) votes.now }
+    ensures within { IfSome result (λ place. place < length votes.now) }
+{
+    votes.iter().position(|vote| vote.server == server)
+}
+
+/// The place of the first vote of a greater server, or the end.
+fn place_before(votes: &[Vote], server: u64) -> usize
+    ensures value { result ≡ places.place_before (λ vote. nat_lt server vote.server) votes.now }
+    ensures within { result ≤ length votes.now }
+{
+    match first_above(votes, server) {
+        Some(place) => place,
+        None => votes.len(),
+    }
+}
+
+/// Where the first vote of a greater server stands.
+fn first_above(votes: &[Vote], server: u64) -> Option<usize>
+    ensures value { result ≡ position (λ vote. nat_lt server vote.server) votes.now }
+    ensures within { IfSome result (λ place. place < length votes.now) }
+{
+    votes.iter().position(|vote| server < vote.server)
+}

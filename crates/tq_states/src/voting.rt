@@ -1,0 +1,160 @@
+ghost use Rattle.std.specs.Prelude.{◌≡◌, ◌<◌, ◌++◌, List, [], ◌∷◌, true, None, Some, IfOk, IfErr, OnOk, OnErr};
+ghost use Rattle.tq_coterie.specs.Coterie.{numbers_of};
+ghost use Rattle.tq_desk.specs.Evidence as evidence;
+ghost use Rattle.tq_states.specs.Cited.{VotesOnly};
+ghost use Rattle.tq_states.specs.Ended as ending;
+ghost use Rattle.tq_states.specs.Open as open_spec;
+ghost use Rattle.tq_states.specs.Sets as sets;
+ghost use Rattle.tq_states.specs.Voting as spec;
+
+use crate::open::copy_of;
+use crate::votes::{
+    are_writes_at, has_vote, has_votes, is_server_of, lost, put_vote, vote_of, writes_at,
+};
+use crate::{DeskTold, Ended, NodeTold, Open, Ready, TxnFault};
+use std::alloc::Global;
+use std::marker::Model;
+use tq_desk::{Op, Vote};
+use tq_node::{NodeAsk, WorkAsk};
+use tq_shape::{Memory, Seq, ServerId};
+
+/// A transaction that gathers votes.
+#[derive(Drop)]
+pub struct Voting {
+    txn: Open,
+    votes: Vec<Vote>,
+}
+
+impl Model for Voting {
+    ghost use Rattle.tq_states.specs.Voting.{VotingView, IsVoting};
+
+    ghost Value = { VotingView };
+
+    ghost view = { λ a. record { txn = a.txn; votes = a.votes.items } };
+
+    ghost invariant = { λ a. IsVoting (record { txn = a.txn; votes = a.votes.items }) };
+}
+
+impl Voting {
+    /// A transaction that has operations, and no vote yet.
+    pub(crate) fn new(txn: Open) -> Voting
+        requires { evidence.is_some_op txn.ops ≡ true }
+        ensures { result ≡ spec.closed txn }
+    {
+        let votes = Vec::new(txn.allocator());
+        Voting { txn, votes }
+    }
+
+    /// The transaction as it was closed.
+    pub fn txn(&self) -> &Open
+        ensures { result.now ≡ self.now.txn }
+    {
+        &self.txn
+    }
+
+    /// The votes that it took, ascending by server. They are good evidence as far as they go.
+    pub fn votes(&self) -> &[Vote]
+        ensures value { result.now ≡ self.now.votes }
+        ensures good { spec.IsVoting self.now }
+    {
+        self.votes.as_slice()
+    }
+
+    /// The servers of the quorums of its operations, ascending.
+    pub fn voters(&self) -> &[ServerId]
+        ensures numbers { numbers_of result.now ≡ self.now.txn.voters }
+        ensures set { sets.IsServerSet self.now.txn.levels result.now }
+        ensures exact { open_spec.HasVoters self.now.txn }
+    {
+        self.txn.voters()
+    }
+
+    /// Whether a server's vote is there.
+    pub fn has_vote(&self, server: ServerId) -> bool
+        ensures { result ≡ spec.has_vote self.now.votes server.number }
+    {
+        has_vote(self.votes.as_slice(), server.number())
+    }
+
+    /// The ask for a voter's vote.
+    pub fn ask(&self, alloc: Global, server: ServerId) -> Result<NodeAsk, TxnFault>
+        ensures succeeds { IfOk result (λ ask. spec.ask_fault self.now.txn server.number ≡ None) }
+        ensures value { IfOk result (λ ask. ask ≡ spec.prepare_ask self.now.txn server.number) }
+        ensures fault { IfErr result (λ fault. open_spec.ComesOf (spec.ask_fault self.now.txn server.number) fault) }
+    {
+        let ops = self.txn.ops();
+        if !is_server_of(ops, server.number()) {
+            return Err(TxnFault::NotAVoter);
+        }
+        let writes = writes_at(alloc, ops, server.number())?;
+        Ok(NodeAsk::Work(WorkAsk::Prepare {
+            txn: self.txn.txn(),
+            writes,
+        }))
+    }
+
+    /// Takes a vote, in place of one of its server that is there. A fault leaves the transaction as it was.
+    pub fn vote(&mut self, _alloc: Global, told: &NodeTold) -> Result<(), TxnFault>
+        ensures succeeds { IfOk result (λ done. spec.vote_fault self.old told.now ≡ None) }
+        ensures after { OnOk result (self.new ≡ spec.vote_after self.old told.now) }
+        ensures cited { OnOk result ((before : List NodeTold) → VotesOnly before self.old → VotesOnly (before ++ told.now ∷ []) self.new) }
+        ensures txn { self.new.txn ≡ self.old.txn }
+        ensures fault { IfErr result (λ fault. open_spec.ComesOf (spec.vote_fault self.old told.now) fault) }
+        ensures err { OnErr result (self.new ≡ self.old) }
+    {
+        let ops = self.txn.ops();
+        if !is_server_of(ops, told.server) {
+            return Err(TxnFault::NotAVoter);
+        }
+        let Some(vote) = vote_of(self.txn.txn(), told)? else {
+            return Err(TxnFault::NotMyVote);
+        };
+        if !are_writes_at(vote.server, vote.writes.as_slice(), ops) {
+            return Err(TxnFault::NotMyVote);
+        }
+        if let Some(file) = lost(ops, &vote) {
+            return Err(TxnFault::LostLock { file });
+        }
+        self.put(vote)?;
+        Ok(())
+    }
+
+    pub(crate) fn copy_votes(&self) -> Result<Seq<Vote>, Memory>
+        ensures { IfOk result (λ votes. votes ≡ self.now.votes) }
+    {
+        copy_of(&self.votes)
+    }
+
+    /// Puts a good vote at its place.
+    fn put(&mut self, vote: Vote) -> Result<(), Memory>
+        requires { spec.IsGoodVote self.old.txn.ops vote }
+        ensures after { OnOk result (self.new ≡ record self.old { votes = spec.with_vote vote self.old.votes }) }
+        ensures txn { self.new.txn ≡ self.old.txn }
+        ensures err { OnErr result (self.new ≡ self.old) }
+    {
+        put_vote(&mut self.votes, vote)?;
+        Ok(())
+    }
+
+    /// Ends the voting, if each voter's vote is there. It takes no memory.
+    pub fn ready(self) -> Result<Ready, (Voting, TxnFault)>
+        ensures succeeds { IfOk result (λ ready. (spec.ready_fault self ≡ None) × (ready ≡ self)) }
+        ensures fault { IfErr result (λ back. (back.0 ≡ self) × (spec.ready_fault self ≡ Some back.1)) }
+    {
+        if !has_votes(self.votes.as_slice(), self.txn.voters()) {
+            return Err((self, TxnFault::VotesMissing));
+        }
+        Ok(Ready::new(self))
+    }
+
+    /// Ends the transaction by the desk's verdict on it, and hands it back after a fault.
+    pub fn end(self, alloc: Global, told: &DeskTold) -> Result<Ended, (Voting, TxnFault)>
+        ensures value { IfOk result (λ ended. ending.IsEnd self.txn told.now ended) }
+        ensures fault { IfErr result (λ back. (back.0 ≡ self) × open_spec.ComesOf (ending.end_fault self.txn told.now) back.1) }
+    {
+        match Ended::of(alloc, &self.txn, told) {
+            Ok(ended) => Ok(ended),
+            Err(fault) => Err((self, fault)),
+        }
+    }
+}
