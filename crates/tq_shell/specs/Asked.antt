@@ -16,19 +16,19 @@ use Rattle.tq_txn.specs.declared.fault.LineFault.TheVariants as faults
 use Rattle.tq_txn.specs.declared.reading.Reading.{Reading}
 use Rattle.tq_txn.specs.declared.applying.Applied.{Applied}
 use Rattle.tq_txn.specs.declared.asker.ViewTold.{ViewTold}
-use Rattle.tq_txn.specs.declared.told.DeskTold.{DeskTold}
+use Rattle.tq_states.specs.declared.told.DeskTold.{DeskTold}
 use Rattle.tq_txn.specs.declared.txn.Txn.{Txn}
 use Rattle.tq_txn.specs.declared.txn.Txn.TheVariants as states
-use Rattle.tq_txn.specs.Ended.{resolve_verdict}
+use Rattle.tq_states.specs.Ended.{resolve_verdict}
 use Rattle.tq_txn.specs.Line as asks
 use Rattle.tq_txn.specs.Line.{LineEnd, Ends, then_line, desk_line, view_line}
 use Rattle.tq_txn.specs.Lines as lines
 use Rattle.tq_txn.specs.Commits.{decide_line, commit_line}
 use Rattle.tq_txn.specs.Aborts.{abort_line}
-use Rattle.tq_txn.specs.Open.{OpenView, seen, written}
-use Rattle.tq_txn.specs.Voting.{VotingView, closed, has_vote}
-use Rattle.tq_txn.specs.Open.{close_fault}
-use Rattle.tq_txn.specs.declared.fault.TxnFault.{TxnFault}
+use Rattle.tq_states.specs.Open.{OpenView, seen, written}
+use Rattle.tq_states.specs.Voting.{VotingView, closed, has_vote}
+use Rattle.tq_states.specs.Open.{close_fault}
+use Rattle.tq_states.specs.declared.fault.TxnFault.{TxnFault}
 use Rattle.tq_shell.specs.declared.kept.Kept.{Kept}
 use Rattle.tq_shell.specs.declared.kept.Ending.{Ending}
 use Rattle.tq_shell.specs.declared.line.Line.{Line}

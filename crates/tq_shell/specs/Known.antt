@@ -4,7 +4,7 @@ use Rattle.tq_shape.specs.Limits.{LimitsView}
 use Rattle.tq_node.specs.declared.ask.Verdict.{Verdict}
 use Rattle.tq_txn.specs.declared.txn.Txn.{Txn}
 use Rattle.tq_txn.specs.declared.txn.Txn.TheVariants as states
-use Rattle.tq_txn.specs.Open as first
+use Rattle.tq_states.specs.Open as first
 use Rattle.tq_shell.specs.declared.kept.Kept.{Kept}
 use Rattle.tq_shell.specs.declared.kept.Ending.{Ending}
 

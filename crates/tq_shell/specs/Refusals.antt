@@ -11,8 +11,8 @@ use Rattle.tq_desk.specs.declared.ask.DeskRefusal.{DeskRefusal}
 use Rattle.tq_desk.specs.declared.ask.DeskRefusal.TheVariants as desk
 use Rattle.tq_live.specs.declared.view.ViewRefusal.{ViewRefusal}
 use Rattle.tq_live.specs.declared.view.ViewRefusal.TheVariants as view
-use Rattle.tq_txn.specs.declared.fault.TxnFault.{TxnFault}
-use Rattle.tq_txn.specs.declared.fault.TxnFault.TheVariants as txn
+use Rattle.tq_states.specs.declared.fault.TxnFault.{TxnFault}
+use Rattle.tq_states.specs.declared.fault.TxnFault.TheVariants as txn
 use Rattle.tq_txn.specs.declared.fault.LineFault.{LineFault}
 use Rattle.tq_txn.specs.declared.fault.LineFault.TheVariants as faults
 use Rattle.tq_shell.specs.Print.{numbers_text}

@@ -3,8 +3,8 @@ use Rattle.std.specs.Prelude.{◌≡◌, ℕ, List, ◌++◌}
 use Rattle.tq_txn.specs.declared.txn.Txn.{Txn}
 use Rattle.tq_txn.specs.States.{levels_of}
 use Rattle.tq_txn.specs.Line as asks
-use Rattle.tq_txn.specs.Open.{OpenView}
-use Rattle.tq_txn.specs.Voting.{VotingView}
+use Rattle.tq_states.specs.Open.{OpenView}
+use Rattle.tq_states.specs.Voting.{VotingView}
 use Rattle.tq_shell.specs.declared.kept.Kept.{Kept}
 use Rattle.tq_shell.specs.declared.states.Opened.{Opened}
 use Rattle.tq_shell.specs.declared.states.Opened.TheVariants as opened

@@ -14,11 +14,11 @@ use Rattle.tq_node.specs.declared.ask.NodeReply.{NodeReply}
 use Rattle.tq_node.specs.declared.ask.NodeReply.TheVariants.{Granted, Yes}
 use Rattle.tq_node.specs.declared.ask.WorkAsk.TheVariants.{Lock, Prepare}
 use Rattle.tq_desk.specs.declared.ask.DeskAsk.TheVariants.{Commit}
-use Rattle.tq_desk.specs.declared.ask.Grant.{Grant}
-use Rattle.tq_desk.specs.declared.ask.Op.{Op}
-use Rattle.tq_desk.specs.declared.ask.OpKind.{OpKind}
-use Rattle.tq_desk.specs.declared.ask.Vote.{Vote}
-use Rattle.tq_desk.specs.Evidence.{same_name}
+use Rattle.tq_evidence.specs.declared.grant.Grant.{Grant}
+use Rattle.tq_evidence.specs.declared.op.Op.{Op}
+use Rattle.tq_evidence.specs.declared.op.OpKind.{OpKind}
+use Rattle.tq_evidence.specs.declared.vote.Vote.{Vote}
+use Rattle.tq_evidence.specs.Evidence.{same_name}
 use Rattle.tq_states.specs.declared.told.NodeTold.{NodeTold}
 use Rattle.tq_states.specs.Cited.{grant_told, vote_told, CitesOnly, IsOpTold, IsVoteTold, KeepsOnly, VotesOnly}
 use Rattle.tq_states.specs.Open.{OpenView, fits, granted_by, grant_of, grants_of, taken, is_write_to, rewritten}

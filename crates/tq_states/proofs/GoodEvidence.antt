@@ -8,10 +8,10 @@ use Rattle.std.specs.declared.cmp.Ordering.{Ordering}
 use Rattle.std.specs.declared.cmp.Ordering.TheVariants.{Less, Equal, Greater}
 use Rattle.std.proofs.lemmas.Bool.{and_parts, and_from, or_left, or_right, eq-eqb, false≢true}
 use Rattle.tq_store.specs.Copies.{name_cmp}
-use Rattle.tq_desk.specs.declared.ask.Grant.{Grant}
-use Rattle.tq_desk.specs.declared.ask.Op.{Op}
-use Rattle.tq_desk.specs.declared.ask.Vote.{Vote}
-use Rattle.tq_desk.specs.Evidence.{is_write, covers, is_grant_covered, is_covered, are_grants_covered, are_covered, has_server, is_server_of, put_op, writes_by_file, have_writes, stands_before, ops_rise, failed, IsGood}
+use Rattle.tq_evidence.specs.declared.grant.Grant.{Grant}
+use Rattle.tq_evidence.specs.declared.op.Op.{Op}
+use Rattle.tq_evidence.specs.declared.vote.Vote.{Vote}
+use Rattle.tq_evidence.specs.Evidence.{is_write, covers, is_grant_covered, is_covered, are_grants_covered, are_covered, has_server, is_server_of, put_op, writes_by_file, have_writes, stands_before, ops_rise, failed, IsGood}
 use Rattle.tq_states.specs.Open.{IsOpen}
 use Rattle.tq_states.specs.Voting.{VotingView, IsVoting, covers_grant, covers_op, has_vote, has_votes, writes_in}
 use Rattle.tq_states.proofs.NumberSets.{has-all}

@@ -7,9 +7,9 @@ use Rattle.std.specs.declared.cmp.Ordering.{Ordering}
 use Rattle.std.specs.declared.cmp.Ordering.TheVariants.{Less, Equal, Greater}
 use Rattle.std.proofs.lemmas.Bool.{and_parts, and_from, or_parts, or_left, false≢true}
 use Rattle.tq_store.specs.Copies.{name_cmp}
-use Rattle.tq_desk.specs.declared.ask.Grant.{Grant}
-use Rattle.tq_desk.specs.declared.ask.Op.{Op}
-use Rattle.tq_desk.specs.Evidence.{same_name, is_write, servers_of, has_server, stands_before, ops_rise, has_quorum, has_exclusive_grants, has_version}
+use Rattle.tq_evidence.specs.declared.grant.Grant.{Grant}
+use Rattle.tq_evidence.specs.declared.op.Op.{Op}
+use Rattle.tq_evidence.specs.Evidence.{same_name, is_write, servers_of, has_server, stands_before, ops_rise, has_quorum, has_exclusive_grants, has_version}
 use Rattle.tq_states.specs.Sets.{with_numbers}
 use Rattle.tq_states.specs.Open.{OpenView, IsOpen, IsGoodOp, is_write_to, is_written, is_used, with_op, with_content, taken, rewritten}
 use Rattle.tq_states.proofs.NumberSets.{has-map, has-with_numbers}

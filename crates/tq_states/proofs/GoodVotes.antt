@@ -3,9 +3,9 @@ use Rattle.std.proofs.Common.{◌≡◌, ℕ, Bool, true, false, not, ◌&&◌, 
 use Rattle.std.specs.List.{list_all, insert, position, find}
 use Rattle.std.specs.Option.{option_map}
 use Rattle.std.proofs.lemmas.Bool.{eqb-true}
-use Rattle.tq_desk.specs.declared.ask.Op.{Op}
-use Rattle.tq_desk.specs.declared.ask.Vote.{Vote}
-use Rattle.tq_desk.specs.Evidence.{rises, votes_rise, has_writes, is_server_of}
+use Rattle.tq_evidence.specs.declared.op.Op.{Op}
+use Rattle.tq_evidence.specs.declared.vote.Vote.{Vote}
+use Rattle.tq_evidence.specs.Evidence.{rises, votes_rise, has_writes, is_server_of}
 use Rattle.tq_states.specs.Places.{place_before}
 use Rattle.tq_states.specs.Sets.{put, changed}
 use Rattle.tq_states.specs.Voting.{VotingView, with_vote, covers_op, writes_in, has_vote, is_of_server, lost, IsVoting, IsGoodVote}

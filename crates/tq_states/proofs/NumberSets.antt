@@ -5,7 +5,7 @@ use Rattle.std.proofs.lemmas.Bool.{and_parts, and_from, eqb-true, lt-ltb, or_par
 use Rattle.std.proofs.lemmas.Bool.Decides.{nat_tests}
 use Rattle.tq_coterie.specs.Coterie.{has, with_server}
 use Rattle.tq_coterie.proofs.Sets.{has-with_server}
-use Rattle.tq_desk.specs.Evidence.{rises}
+use Rattle.tq_evidence.specs.Evidence.{rises}
 use Rattle.tq_states.specs.Sets.{put, with_number, with_numbers}
 
 absorbed : (a b : Bool) → (a ≡ true → b ≡ true) → b ≡ (a || b)

@@ -5,7 +5,7 @@ use Rattle.std.specs.Option.{SomeIff}
 use Rattle.std.proofs.lemmas.Bool.{false≢true, and_from, and_right, eq-eqb}
 use Rattle.tq_coterie.specs.Coterie.{coterie, is_quorum, ServerList, servers_of, numbers_of, IsMemberList}
 use Rattle.tq_shape.specs.Tree.{Server}
-use Rattle.tq_desk.specs.Evidence.{rises}
+use Rattle.tq_evidence.specs.Evidence.{rises}
 use Rattle.tq_coterie.proofs.Intersecting.{members-meet}
 use Rattle.tq_coterie.proofs.Tested.{tested}
 

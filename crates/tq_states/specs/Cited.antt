@@ -7,9 +7,9 @@ use Rattle.tq_node.specs.declared.ask.NodeReply.TheVariants.{Granted, Yes}
 use Rattle.tq_node.specs.declared.ask.WorkAsk.TheVariants.{Lock, Prepare}
 use Rattle.tq_desk.specs.declared.ask.DeskAsk.{DeskAsk}
 use Rattle.tq_desk.specs.declared.ask.DeskAsk.TheVariants.{Begin, Commit, Resolve}
-use Rattle.tq_desk.specs.declared.ask.Grant.{Grant}
-use Rattle.tq_desk.specs.declared.ask.Op.{Op}
-use Rattle.tq_desk.specs.declared.ask.Vote.{Vote}
+use Rattle.tq_evidence.specs.declared.grant.Grant.{Grant}
+use Rattle.tq_evidence.specs.declared.op.Op.{Op}
+use Rattle.tq_evidence.specs.declared.vote.Vote.{Vote}
 use Rattle.tq_states.specs.declared.told.NodeTold.{NodeTold}
 use Rattle.tq_states.specs.Open.{OpenView}
 use Rattle.tq_states.specs.Voting.{VotingView, evidence_of}

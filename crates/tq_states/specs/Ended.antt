@@ -10,7 +10,7 @@ use Rattle.tq_desk.specs.declared.ask.DeskAsk.TheVariants.{Begin, Commit, Resolv
 use Rattle.tq_desk.specs.declared.ask.DeskReply.{DeskReply}
 use Rattle.tq_desk.specs.declared.ask.DeskReply.TheVariants as replies
 use Rattle.tq_desk.specs.declared.ask.DeskRefusal.TheVariants.{Decided}
-use Rattle.tq_desk.specs.declared.ask.Vote.{Vote}
+use Rattle.tq_evidence.specs.declared.vote.Vote.{Vote}
 use Rattle.tq_desk.specs.Log.{cited}
 use Rattle.tq_states.specs.declared.told.DeskTold.{DeskTold}
 use Rattle.tq_states.specs.declared.fault.TxnFault.{TxnFault}

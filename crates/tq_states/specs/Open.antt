@@ -14,11 +14,11 @@ use Rattle.tq_node.specs.declared.ask.NodeAsk.TheVariants.{Work}
 use Rattle.tq_node.specs.declared.ask.NodeReply.{NodeReply}
 use Rattle.tq_node.specs.declared.ask.NodeReply.TheVariants.{Granted}
 use Rattle.tq_node.specs.declared.ask.WorkAsk.TheVariants.{Lock}
-use Rattle.tq_desk.specs.declared.ask.Grant.{Grant}
-use Rattle.tq_desk.specs.declared.ask.Op.{Op}
-use Rattle.tq_desk.specs.declared.ask.OpKind.{OpKind}
-use Rattle.tq_desk.specs.declared.ask.OpKind.TheVariants.{Read, Write}
-use Rattle.tq_desk.specs.Evidence.{same_name, is_write, servers_of, rises, greatest, newest, is_server_of, ops_rise, are_quorums, are_exclusive, are_versions, has_quorum, has_exclusive_grants, has_version}
+use Rattle.tq_evidence.specs.declared.grant.Grant.{Grant}
+use Rattle.tq_evidence.specs.declared.op.Op.{Op}
+use Rattle.tq_evidence.specs.declared.op.OpKind.{OpKind}
+use Rattle.tq_evidence.specs.declared.op.OpKind.TheVariants.{Read, Write}
+use Rattle.tq_evidence.specs.Evidence.{same_name, is_write, servers_of, rises, greatest, newest, is_server_of, ops_rise, are_quorums, are_exclusive, are_versions, has_quorum, has_exclusive_grants, has_version}
 use Rattle.tq_states.specs.declared.told.NodeTold.{NodeTold}
 use Rattle.tq_states.specs.declared.fault.TxnFault.{TxnFault}
 use Rattle.tq_states.specs.declared.fault.TxnFault.TheVariants.{Memory, AlreadyThere, TooManyOps, NotAGrant, NotAMember, VersionFull, NoOps}

@@ -3,7 +3,7 @@ use Rattle.std.specs.Prelude.{◌≡◌, ◌==◌, ℕ, Bool, true, List, [], �
 use Rattle.std.specs.List.{list_all}
 use Rattle.tq_shape.specs.Tree.{Server}
 use Rattle.tq_coterie.specs.Coterie.{has, with_server, numbers_of}
-use Rattle.tq_desk.specs.Evidence.{rises}
+use Rattle.tq_evidence.specs.Evidence.{rises}
 
 -- the set with a server, which it may have already
 abbrev pub with_number : List ℕ → ℕ → List ℕ

@@ -10,10 +10,10 @@ use Rattle.tq_node.specs.declared.ask.NodeReply.TheVariants.{Yes}
 use Rattle.tq_node.specs.declared.ask.WorkAsk.TheVariants.{Prepare}
 use Rattle.tq_desk.specs.declared.ask.DeskAsk.{DeskAsk}
 use Rattle.tq_desk.specs.declared.ask.DeskAsk.TheVariants.{Commit}
-use Rattle.tq_desk.specs.declared.ask.Grant.{Grant}
-use Rattle.tq_desk.specs.declared.ask.Op.{Op}
-use Rattle.tq_desk.specs.declared.ask.Vote.{Vote}
-use Rattle.tq_desk.specs.Evidence.{is_write, has_server, is_server_of, covers, votes_rise, are_of_servers, has_writes, is_some_op}
+use Rattle.tq_evidence.specs.declared.grant.Grant.{Grant}
+use Rattle.tq_evidence.specs.declared.op.Op.{Op}
+use Rattle.tq_evidence.specs.declared.vote.Vote.{Vote}
+use Rattle.tq_evidence.specs.Evidence.{is_write, has_server, is_server_of, covers, votes_rise, are_of_servers, has_writes, is_some_op}
 use Rattle.tq_states.specs.declared.told.NodeTold.{NodeTold}
 use Rattle.tq_states.specs.declared.fault.TxnFault.{TxnFault}
 use Rattle.tq_states.specs.declared.fault.TxnFault.TheVariants.{NotAVoter, NotMyVote, LostLock, VotesMissing}

@@ -1,6 +1,6 @@
 ghost use Rattle.std.specs.Prelude.{◌≡◌, ◌+◌, ◌==◌, IfOk, IfErr, None, Some, map};
 ghost use Rattle.std.specs.Option.{option_copied};
-ghost use Rattle.tq_desk.specs.Evidence as evidence;
+ghost use Rattle.tq_evidence.specs.Evidence as evidence;
 ghost use Rattle.tq_states.specs.Open as spec;
 
 use crate::{NodeTold, TxnFault};

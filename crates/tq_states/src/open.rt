@@ -4,7 +4,7 @@ ghost use Rattle.std.specs.Option.{option_copied};
 ghost use Rattle.std.specs.Ordering.{is_lt};
 ghost use Rattle.tq_store.specs.Copies.{name_cmp};
 ghost use Rattle.tq_coterie.specs.Coterie.{numbers_of};
-ghost use Rattle.tq_desk.specs.Evidence as evidence;
+ghost use Rattle.tq_evidence.specs.Evidence as evidence;
 ghost use Rattle.tq_states.specs.Places.{place_before};
 ghost use Rattle.tq_states.specs.Sets as sets;
 ghost use Rattle.tq_states.specs.Cited.{KeepsOnly, VotesOnly};

@@ -1,5 +1,5 @@
 ghost use Rattle.std.specs.Prelude.{◌≡◌, List, IfOk, IfErr, None, true};
-ghost use Rattle.tq_desk.specs.Evidence as evidence;
+ghost use Rattle.tq_evidence.specs.Evidence as evidence;
 ghost use Rattle.tq_states.specs.Cited.{CitesOnly, VotesOnly};
 ghost use Rattle.tq_states.specs.Ended as ending;
 ghost use Rattle.tq_states.specs.Open as open_spec;

@@ -1,7 +1,7 @@
 ghost use Rattle.std.specs.Prelude.{◌≡◌, ◌<◌, ◌≤◌, length, nat_lt, position, IfOk, IfSome, OnOk, OnErr};
 ghost use Rattle.std.specs.List.{list_all};
 ghost use Rattle.std.specs.Option.{option_copied};
-ghost use Rattle.tq_desk.specs.Evidence as evidence;
+ghost use Rattle.tq_evidence.specs.Evidence as evidence;
 ghost use Rattle.tq_states.specs.Open as open_spec;
 ghost use Rattle.tq_states.specs.Places as places;
 ghost use Rattle.tq_states.specs.Voting as spec;

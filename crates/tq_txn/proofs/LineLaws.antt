@@ -25,8 +25,8 @@ use Rattle.tq_coterie.specs.Coterie.{numbers_of}
 use Rattle.tq_states.specs.Ended.{EndedView}
 use Rattle.tq_txn.specs.Lines.{LocksView, choose_line, next_lock, locks_line, quorum_line, read_end, write_end, refusal_in, voted, prepare_line, end_line, ending_line}
 use Rattle.tq_store.specs.declared.copies.FileCopy.{FileCopy}
-use Rattle.tq_desk.specs.declared.ask.OpKind.TheVariants as kinds
-use Rattle.tq_desk.specs.Evidence.{greatest}
+use Rattle.tq_evidence.specs.declared.op.OpKind.TheVariants as kinds
+use Rattle.tq_evidence.specs.Evidence.{greatest}
 use Rattle.tq_txn.specs.declared.reading.Reading.TheVariants.{Copy}
 use Rattle.tq_states.specs.Voting.{VotingView, has_vote, ask_fault, prepare_ask, vote_fault, vote_after}
 use Rattle.tq_states.specs.Open.{OpenView, ComesOf, read_fault, read_copy, read_after, write_fault, write_after, grants_of}

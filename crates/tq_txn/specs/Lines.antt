@@ -13,9 +13,9 @@ use Rattle.tq_node.specs.declared.ask.NodeReply.{NodeReply}
 use Rattle.tq_node.specs.declared.ask.NodeReply.TheVariants as replies
 use Rattle.tq_node.specs.declared.ask.Verdict.{Verdict}
 use Rattle.tq_node.specs.declared.ask.WorkAsk.TheVariants.{Lock, Decide, Release}
-use Rattle.tq_desk.specs.declared.ask.Op.{Op}
-use Rattle.tq_desk.specs.declared.ask.OpKind.TheVariants as kinds
-use Rattle.tq_desk.specs.Evidence.{greatest}
+use Rattle.tq_evidence.specs.declared.op.Op.{Op}
+use Rattle.tq_evidence.specs.declared.op.OpKind.TheVariants as kinds
+use Rattle.tq_evidence.specs.Evidence.{greatest}
 use Rattle.tq_live.specs.declared.view.ViewAsk.TheVariants.{Choose}
 use Rattle.tq_live.specs.declared.view.ViewReply.{ViewReply}
 use Rattle.tq_live.specs.declared.view.ViewReply.TheVariants as view_replies

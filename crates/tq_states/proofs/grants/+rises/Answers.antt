@@ -1,5 +1,5 @@
 use Rattle.std.proofs.Common.{◌≡◌, ◌<◌, ℕ, true, List, [], ◌∷◌, length, refl, arith}
-use Rattle.tq_desk.specs.Evidence.{rises}
+use Rattle.tq_evidence.specs.Evidence.{rises}
 use Rattle.tq_states.proofs.grants.+rises.Goals as goal
 
 one : (numbers : List ℕ) → length numbers < 2 → true ≡ rises numbers

@@ -2,7 +2,7 @@ use Rattle.std.proofs.Common.{◌∙◌, ap}
 use Rattle.std.specs.List.{insert}
 use Rattle.std.specs.Ordering.{is_lt}
 use Rattle.tq_store.specs.Copies.{name_cmp}
-use Rattle.tq_desk.specs.declared.ask.Op.{Op}
+use Rattle.tq_evidence.specs.declared.op.Op.{Op}
 use Rattle.tq_states.specs.Places.{place_before}
 use Rattle.tq_states.proofs.Puts.{insert_before}
 use Rattle.tq_states.proofs.open.put_in_order.Goals as goal

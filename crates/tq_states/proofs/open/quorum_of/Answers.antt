@@ -1,7 +1,7 @@
 use Rattle.std.proofs.Common.{◌∙◌, sym}
 use Rattle.std.proofs.lemmas.Bool.{and_left}
 use Rattle.tq_coterie.specs.Coterie.{is_quorum}
-use Rattle.tq_desk.specs.Evidence.{rises}
+use Rattle.tq_evidence.specs.Evidence.{rises}
 use Rattle.tq_states.specs.Open.{servers_in}
 use Rattle.tq_states.proofs.Tested.{tested_quorum}
 use Rattle.tq_states.proofs.open.quorum_of.Goals as goal

@@ -1,6 +1,6 @@
 use Rattle.std.proofs.Common.{sym, ◌∙◌}
 use Rattle.tq_states.specs.Open.{is_write_to}
-use Rattle.tq_desk.specs.declared.ask.Op.{Op}
+use Rattle.tq_evidence.specs.declared.op.Op.{Op}
 use Rattle.tq_states.proofs.Puts.{set-changed, found-placed}
 use Rattle.tq_states.proofs.open.rewrite_in.Goals as goal
 

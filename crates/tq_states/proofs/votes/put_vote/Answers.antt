@@ -1,6 +1,6 @@
 use Rattle.std.proofs.Common.{sym, ◌∙◌, ap, nat_lt}
 use Rattle.std.specs.List.{insert}
-use Rattle.tq_desk.specs.declared.ask.Vote.{Vote}
+use Rattle.tq_evidence.specs.declared.vote.Vote.{Vote}
 use Rattle.tq_states.specs.Places.{place_before}
 use Rattle.tq_states.proofs.GoodVotes.{placed, inserted}
 use Rattle.tq_states.proofs.votes.put_vote.Goals as goal

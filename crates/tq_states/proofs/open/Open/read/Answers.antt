@@ -2,7 +2,7 @@ use Rattle.std.proofs.Common.{◌≡◌, ◌∙◌, sym, ap, rules}
 use Rattle.tq_store.specs.declared.copies.FileCopy.{FileCopy}
 use Rattle.tq_states.specs.Open.{read_copy}
 use Rattle.tq_states.proofs.GoodGrants.{good_read_of}
-use Rattle.tq_desk.specs.declared.ask.OpKind.TheVariants as kinds
+use Rattle.tq_evidence.specs.declared.op.OpKind.TheVariants as kinds
 use Rattle.tq_states.proofs.CitedLaws.{taken_cited}
 use Rattle.tq_states.proofs.open.Open.read.Goals as goal
 

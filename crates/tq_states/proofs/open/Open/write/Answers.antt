@@ -1,7 +1,7 @@
 use Rattle.std.proofs.Common.{◌≡◌, ◌+◌, ◌∙◌, sym, ap, rules}
-use Rattle.tq_desk.specs.Evidence.{greatest}
+use Rattle.tq_evidence.specs.Evidence.{greatest}
 use Rattle.tq_states.proofs.GoodGrants.{good_write_of}
-use Rattle.tq_desk.specs.declared.ask.OpKind.TheVariants as kinds
+use Rattle.tq_evidence.specs.declared.op.OpKind.TheVariants as kinds
 use Rattle.tq_states.proofs.CitedLaws.{taken_cited}
 use Rattle.tq_states.proofs.open.Open.write.Goals as goal
 

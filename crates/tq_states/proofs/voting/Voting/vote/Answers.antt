@@ -1,6 +1,6 @@
 use Rattle.std.proofs.Common.{◌≡◌, ◌∙◌, List, true, sym, ap}
-use Rattle.tq_desk.specs.declared.ask.Op.{Op}
-use Rattle.tq_desk.specs.Evidence.{is_server_of, are_writes_at}
+use Rattle.tq_evidence.specs.declared.op.Op.{Op}
+use Rattle.tq_evidence.specs.Evidence.{is_server_of, are_writes_at}
 use Rattle.tq_states.specs.Voting.{lost, writes_in}
 use Rattle.tq_states.proofs.GoodVotes.{none_lost}
 use Rattle.tq_states.proofs.CitedLaws.{vote_cited}
