@@ -7,9 +7,9 @@ use Rattle.tq_txn.specs.Line as asks
 use Rattle.tq_txn.specs.Line.{Ends, AsksNode, AsksDesk, AsksView}
 use Rattle.tq_shell.specs.Answer.{World, answer}
 use Rattle.tq_shell.specs.Asked.{asked}
-use Rattle.tq_shell.specs.Asking.{run_line, node_told, desk_told, view_told}
+use Rattle.tq_asking.specs.Asking.{run_line, node_told, desk_told, view_told}
 use Rattle.tq_shell.specs.History.{end_of, known_by, learn, history, world_after, IsLearned}
-use Rattle.tq_shell.specs.declared.line.Line.{Line}
+use Rattle.tq_lines.specs.declared.line.Line.{Line}
 
 -- a line that was run ended as what was heard of it says
 end_of_run : {A : Type 0} (line : asks.Line A) (world : JournalsView) → end_of line (run_line world line).heard ≡ Some (run_line world line).end

@@ -1,11 +1,5 @@
-pub mod WordLaws
-pub mod StreamLaws
-pub mod Written
-pub mod RunLaws
-pub mod NumberLaws
-pub mod ParseLaws
-pub mod CommandLaws
-pub mod Leading
-pub mod Recording
-pub mod Learned
-pub mod Operating
+mod StreamLaws
+mod Written
+mod RunLaws
+mod Answering
+mod Learned

@@ -4,9 +4,9 @@ use Rattle.std.proofs.lemmas.List.{append-nil, take_all, take-append-le, length-
 use Rattle.std.proofs.lemmas.Bool.{ne_eqb, cases_lt}
 use Rattle.std.specs.List.{onto_first}
 use Rattle.std.proofs.lemmas.List.Splits.{length-slice_split}
-use Rattle.tq_shell.specs.declared.line.Line.{Line}
-use Rattle.tq_shell.specs.declared.line.Line.TheVariants.{Bad}
-use Rattle.tq_shell.specs.Line.{line_of}
+use Rattle.tq_lines.specs.declared.line.Line.{Line}
+use Rattle.tq_lines.specs.declared.line.Line.TheVariants.{Bad}
+use Rattle.tq_lines.specs.Line.{line_of}
 use Rattle.tq_shell.specs.Answer.{World, opening, answer}
 use Rattle.tq_shell.specs.Text.{without_return, last_line, whole_parts, last_part, parts_of, lines_text, text_of, whole_text}
 use Rattle.tq_shell.specs.Stream.{Heard, silence, kept, line_answer, heard_byte, said_byte, heard_all, said_all, said_line, said_last}

@@ -25,24 +25,6 @@ written_on bytes rest old mid new place count is within first then =
     (place + count, all ∙ ap (drop count) is ∙ drop-drop count place bytes, subst Q (sym (take-add place count bytes)) both)
 
 -- a piece of bytes in memory, copied into a buffer
-pub given_more : (bytes buffer rest copied : List ℕ) (place count : ℕ) → rest ≡ drop place bytes → copied ≡ take count rest → count ≤ length rest → take (place + count) bytes ≡ take place bytes ++ take count (copied ++ drop count buffer)
-given_more bytes buffer rest copied place count is copy few =
-    let size : length copied ≡ count = ap length copy ∙ length-take-le count rest few in
-    let front : take count (copied ++ drop count buffer) ≡ copied = take_at copied (drop count buffer) count size in
-    take-add place count bytes ∙ ap (λ more. take place bytes ++ more) (sym (front ∙ copy ∙ ap (take count) is))
-
--- the rest of a list, as a slice has it
-pub rest_is : (bytes : List ℕ) (place : ℕ) → place ≤ length bytes → take (length bytes - place) (drop place bytes) ≡ drop place bytes
-rest_is bytes place within = take_all (length bytes - place) (drop place bytes) (grind (arith, length-drop))
-
--- what is left of the bytes begins with the piece
-pub left_less : (bytes buffer rest copied : List ℕ) (place count : ℕ) → rest ≡ drop place bytes → copied ≡ take count rest → count ≤ length rest → drop place bytes ≡ take count (copied ++ drop count buffer) ++ drop (place + count) bytes
-left_less bytes buffer rest copied place count is copy few =
-    let size : length copied ≡ count = ap length copy ∙ length-take-le count rest few in
-    let front : take count (copied ++ drop count buffer) ≡ take count rest = take_at copied (drop count buffer) count size ∙ copy in
-    let back : drop (place + count) bytes ≡ drop count rest = sym (ap (drop count) is ∙ drop-drop count place bytes) in
-    sym (ap (λ list. list ++ drop (place + count) bytes) front ∙ ap (λ list. take count rest ++ list) back ∙ take-append-drop count rest ∙ is)
-
 -- a call that moved no byte adds nothing
 pub Appends-kept : (old mid new : Option (List ℕ)) (bytes : List ℕ) → Appends old mid bytes → Keeps mid new → Appends old new bytes
 Appends-kept None mid new bytes first kept = tt

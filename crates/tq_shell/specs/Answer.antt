@@ -3,11 +3,11 @@ use Rattle.std.specs.Prelude.{ℕ, List}
 use Rattle.tq_tables.specs.Journals.{JournalsView}
 use Rattle.tq_core.specs.World.{empty_world}
 use Rattle.tq_txn.specs.declared.asker.Heard.{Heard}
-use Rattle.tq_shell.specs.Asking.{Ran, run_line}
+use Rattle.tq_asking.specs.Asking.{Ran, run_line}
 use Rattle.tq_shell.specs.Asked.{Spoken, asked}
-use Rattle.tq_shell.specs.Recorded.{full_limits}
-use Rattle.tq_shell.specs.Known.{Known, nothing_known}
-use Rattle.tq_shell.specs.declared.line.Line.{Line}
+use Rattle.tq_asking.specs.Recorded.{full_limits}
+use Rattle.tq_client.specs.Known.{Known, nothing_known}
+use Rattle.tq_lines.specs.declared.line.Line.{Line}
 
 -- the journals of the service that is asked, and what is known of its transactions
 pub record World : Type 0 where

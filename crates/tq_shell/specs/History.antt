@@ -8,8 +8,8 @@ use Rattle.tq_txn.specs.Line as asks
 use Rattle.tq_txn.specs.Line.{Ends, AsksNode, AsksDesk, AsksView}
 use Rattle.tq_shell.specs.Answer.{World, answer}
 use Rattle.tq_shell.specs.Asked.{Spoken, asked}
-use Rattle.tq_shell.specs.Known.{Known}
-use Rattle.tq_shell.specs.declared.line.Line.{Line}
+use Rattle.tq_client.specs.Known.{Known}
+use Rattle.tq_lines.specs.declared.line.Line.{Line}
 
 -- a line, the journals before it, and what was heard of its asks
 pub record Said : Type 0 where

@@ -1,14 +1,4 @@
-pub mod Devices
-pub mod Word
-pub mod Line
-pub mod Print
-pub mod Refusals
-pub mod Asking
-pub mod Recorded
-pub mod Known
-pub mod Operators
 pub mod Asked
-pub mod States
 pub mod Answer
 pub mod History
 pub mod Text
@@ -16,4 +6,3 @@ pub mod Stream
 pub use Rattle.tq_live.specs.Live
 pub use Rattle.tq_live.specs.View
 pub mod Run
-pub mod Command

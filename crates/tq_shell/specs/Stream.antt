@@ -1,7 +1,7 @@
 -- Bytes that come in pieces: a machine that goes from byte to byte and keeps one line.
 use Rattle.std.specs.Prelude.{ℕ, ◌==◌, cond, List, [], ◌∷◌, ◌++◌, take}
 use Rattle.tq_shell.specs.declared.listener.TheConstants.{KEPT}
-use Rattle.tq_shell.specs.Line.{line_of}
+use Rattle.tq_lines.specs.Line.{line_of}
 use Rattle.tq_shell.specs.Answer.{World, Answer, opening, answer}
 use Rattle.tq_shell.specs.Text.{without_return}
 

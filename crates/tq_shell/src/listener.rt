@@ -1,10 +1,7 @@
-ghost use Rattle.std.specs.Prelude.{◌≡◌, ◌++◌};
-ghost use Rattle.tq_shell.specs.Text.{without_return};
-
-use crate::line::{LINE_LIMIT, Line};
 use crate::shell::Shell;
 use std::alloc::Global;
 use std::marker::Model;
+use tq_lines::{LINE_LIMIT, Line, without_return};
 use tq_shape::{Levels, Memory};
 
 /// How many bytes are kept of a line. With these it is too long, also if the last is a carriage return that is dropped.
@@ -81,18 +78,4 @@ impl Listener {
         self.shell.answer(alloc, line, text)?;
         Ok(())
     }
-}
-
-/// The bytes without one carriage return at their end.
-fn without_return(bytes: &[u8]) -> &[u8]
-    ensures { result.now ≡ without_return bytes.now }
-{
-    let length = bytes.len();
-    if length == 0 {
-        return bytes;
-    }
-    if bytes[length - 1] == b'\r' {
-        return &bytes[..length - 1];
-    }
-    bytes
 }

@@ -3,12 +3,12 @@ ghost use Rattle.std.specs.Io.KnownBytes.{Appends};
 ghost use Rattle.tq_shell.specs.Answer.{opening};
 ghost use Rattle.tq_shell.specs.History.{IsLearned};
 ghost use Rattle.tq_shell.specs.Run.{IsRunText, IsRunCount, IsWritten};
-ghost use Rattle.tq_shell.specs.declared.line.Line.{Line};
+ghost use Rattle.tq_lines.specs.declared.line.Line.{Line};
 
-use crate::device::{Failed, Sink, Source};
 use crate::listener::Listener;
 use std::alloc::{AllocError, Global};
 use thiserror::Error;
+use tq_devices::{Failed, Sink, Source};
 use tq_shape::Levels;
 
 /// Why a run ended before its source did.

@@ -3,24 +3,22 @@ ghost use Rattle.tq_live.specs.View.{is_cost};
 ghost use Rattle.tq_txn.specs.States.{levels_of};
 ghost use Rattle.std.specs.Fmt.{decimal};
 ghost use Rattle.tq_shell.specs.Asked as asked;
-ghost use Rattle.tq_shell.specs.Known as known;
-ghost use Rattle.tq_shell.specs.Print.{printed, mark_word};
+ghost use Rattle.tq_client.specs.Known as known;
+ghost use Rattle.tq_client.specs.TxnAsked as said;
+ghost use Rattle.tq_print.specs.Print.{printed, mark_word};
 
-use crate::endings::{abort_txn, apply, commit_txn, decide_txn, prepare, resolve};
-use crate::kept::Kept;
-use crate::line::{Line, TxnLine};
-use crate::operations::{read, write};
-use crate::operators::{refresh_all, say_board};
-use crate::print::{say_choice, say_line, say_number};
-use crate::recorder::Recorder;
-use crate::refusals::{push_desk_refusal, say_fault};
 use std::alloc::Global;
 use std::marker::Model;
 use std::mem;
+use tq_asking::Recorder;
+use tq_client::{Kept, speak};
 use tq_core::Service;
 use tq_desk::{DeskAsk, DeskReply};
+use tq_lines::{Line, TxnLine};
 use tq_live::ViewAsk;
 use tq_node::NodeAsk;
+use tq_operators::{refresh_all, say_board};
+use tq_print::{push_desk_refusal, say_choice, say_fault, say_line, say_number};
 use tq_shape::{Levels, Limits, Memory, ServerId};
 use tq_txn::{DeskTold, LineFault, Open, Txn, ViewTold};
 
@@ -53,7 +51,7 @@ impl Shell {
     ghost use Rattle.std.specs.Prelude.{◌≡◌, ◌++◌, IfOk, OnOk};
     ghost use Rattle.tq_core.specs.World.{item_at};
     ghost use Rattle.tq_shell.specs.Answer.{opening, answer, answered};
-    ghost use Rattle.tq_shell.specs.Asking.{run_line};
+    ghost use Rattle.tq_asking.specs.Asking.{run_line};
 
     /// Every server at cost 1 and up, nothing stored, and no transaction.
     pub fn new(alloc: Global, levels: Levels) -> Result<Shell, Memory>
@@ -70,7 +68,7 @@ impl Shell {
     }
 
     /// The service that lines are asked of.
-    pub(crate) fn service(&self) -> &Service
+    pub fn service(&self) -> &Service
         ensures { result.now ≡ self.now.journals }
     {
         self.recorder.service()
@@ -201,7 +199,7 @@ impl Shell {
         ensures text { OnOk result (text.new.items ≡ text.old.items ++ (asked.begin_end self.old.known answer).text) }
         ensures known { OnOk result (self.new.known ≡ (asked.begin_end self.old.known answer).known) }
         ensures journals { self.new.journals ≡ self.old.journals }
-        ensures memory { OnOk result (asked.is_refused_memory answer ≡ false) }
+        ensures memory { OnOk result (said.is_refused_memory answer ≡ false) }
     {
         match answer {
             Ok(told) => self.begun(alloc, told.reply, text)?,
@@ -304,87 +302,6 @@ fn fresh(alloc: Global, levels: Levels, limits: Limits, number: u64) -> Kept
     }
 }
 
-/// Answers a line of a transaction.
-fn speak(
-    recorder: &mut Recorder,
-    alloc: Global,
-    levels: Levels,
-    number: u64,
-    kept: Kept,
-    line: TxnLine,
-    text: &mut Vec<u8>,
-) -> Result<Kept, Memory>
-    requires txn { levels_of kept.txn ≡ recorder.old.journals.levels }
-    requires levels { levels ≡ recorder.old.journals.levels }
-    ensures spoken { IfOk result (λ new. asked.IsSpoken (asked.line_asked levels line number kept) recorder.old.journals recorder.new.journals text.old.items text.new.items new) }
-    ensures levels { IfOk result (λ new. levels_of new.txn ≡ levels_of kept.txn) }
-    ensures tree { recorder.new.journals.levels ≡ recorder.old.journals.levels }
-{
-    match line {
-        TxnLine::Read { file } => Ok(read(recorder, alloc, number, kept, &file, text)?),
-        TxnLine::Write { file, content } => {
-            Ok(write(recorder, alloc, number, kept, &file, content, text)?)
-        }
-        TxnLine::Prepare { server } => {
-            Ok(prepare_at_server(recorder, alloc, levels, kept, server, text)?)
-        }
-        TxnLine::Decide => Ok(decide_txn(recorder, alloc, kept, text)?),
-        TxnLine::Apply { server } => Ok(apply_at_server(
-            recorder, alloc, levels, number, kept, server, text,
-        )?),
-        TxnLine::Commit => Ok(commit_txn(recorder, alloc, kept, text)?),
-        TxnLine::Abort => Ok(abort_txn(recorder, alloc, kept, text)?),
-        TxnLine::Resolve => Ok(resolve(recorder, alloc, number, kept, text)?),
-    }
-}
-
-fn prepare_at_server(
-    recorder: &mut Recorder,
-    alloc: Global,
-    levels: Levels,
-    kept: Kept,
-    server: u64,
-    text: &mut Vec<u8>,
-) -> Result<Kept, Memory>
-    requires txn { levels_of kept.txn ≡ recorder.old.journals.levels }
-    requires levels { levels ≡ recorder.old.journals.levels }
-    ensures spoken { IfOk result (λ new. asked.IsSpoken (asked.server_asked levels server (asked.prepare_asked server) 0 kept) recorder.old.journals recorder.new.journals text.old.items text.new.items new) }
-    ensures levels { IfOk result (λ new. levels_of new.txn ≡ levels_of kept.txn) }
-    ensures tree { recorder.new.journals.levels ≡ recorder.old.journals.levels }
-{
-    match levels.server(server) {
-        None => {
-            say_number(text, b"no such server ", server)?;
-            Ok(kept)
-        }
-        Some(id) => Ok(prepare(recorder, alloc, kept, id, text)?),
-    }
-}
-
-fn apply_at_server(
-    recorder: &mut Recorder,
-    alloc: Global,
-    levels: Levels,
-    number: u64,
-    kept: Kept,
-    server: u64,
-    text: &mut Vec<u8>,
-) -> Result<Kept, Memory>
-    requires txn { levels_of kept.txn ≡ recorder.old.journals.levels }
-    requires levels { levels ≡ recorder.old.journals.levels }
-    ensures spoken { IfOk result (λ new. asked.IsSpoken (asked.server_asked levels server (asked.apply_asked server) number kept) recorder.old.journals recorder.new.journals text.old.items text.new.items new) }
-    ensures levels { IfOk result (λ new. levels_of new.txn ≡ levels_of kept.txn) }
-    ensures tree { recorder.new.journals.levels ≡ recorder.old.journals.levels }
-{
-    match levels.server(server) {
-        None => {
-            say_number(text, b"no such server ", server)?;
-            Ok(kept)
-        }
-        Some(id) => Ok(apply(recorder, alloc, number, kept, id, text)?),
-    }
-}
-
 /// What a server is asked that is to be marked.
 fn mark_ask(up: bool) -> NodeAsk
     ensures { result ≡ asked.mark_ask up }
@@ -394,8 +311,8 @@ fn mark_ask(up: bool) -> NodeAsk
 
 /// Puts that a cost was set behind the text, as a line, or why it was not.
 fn say_ok(text: &mut Vec<u8>, answer: Result<ViewTold, LineFault>) -> Result<(), Memory>
-    ensures text { OnOk result (text.new.items ≡ text.old.items ++ printed (asked.result_text [] asked.ok_text answer)) }
-    ensures memory { OnOk result (asked.is_refused_memory answer ≡ false) }
+    ensures text { OnOk result (text.new.items ≡ text.old.items ++ printed (said.result_text [] asked.ok_text answer)) }
+    ensures memory { OnOk result (said.is_refused_memory answer ≡ false) }
 {
     match answer {
         Ok(_told) => say_line(text, b"ok")?,
@@ -406,8 +323,8 @@ fn say_ok(text: &mut Vec<u8>, answer: Result<ViewTold, LineFault>) -> Result<(),
 
 /// Puts what the view chose behind the text, as a line, or why it did not.
 fn say_chosen(text: &mut Vec<u8>, answer: Result<ViewTold, LineFault>) -> Result<(), Memory>
-    ensures text { OnOk result (text.new.items ≡ text.old.items ++ printed (asked.result_text [] asked.chosen_text answer)) }
-    ensures memory { OnOk result (asked.is_refused_memory answer ≡ false) }
+    ensures text { OnOk result (text.new.items ≡ text.old.items ++ printed (said.result_text [] asked.chosen_text answer)) }
+    ensures memory { OnOk result (said.is_refused_memory answer ≡ false) }
 {
     match answer {
         Ok(told) => say_choice(text, &told.reply)?,
@@ -423,8 +340,8 @@ fn say_marked(
     up: bool,
     answer: Result<ViewTold, LineFault>,
 ) -> Result<(), Memory>
-    ensures text { OnOk result (text.new.items ≡ text.old.items ++ printed (asked.result_text [] (asked.marked_text server up) answer)) }
-    ensures memory { OnOk result (asked.is_refused_memory answer ≡ false) }
+    ensures text { OnOk result (text.new.items ≡ text.old.items ++ printed (said.result_text [] (asked.marked_text server up) answer)) }
+    ensures memory { OnOk result (said.is_refused_memory answer ≡ false) }
 {
     match answer {
         Ok(_told) => say_mark(text, server, up)?,

@@ -3,9 +3,9 @@ use Rattle.tq_desk.specs.declared.ask.DeskAsk.TheVariants.{Begin}
 use Rattle.tq_txn.specs.Line.{desk_line}
 use Rattle.tq_shell.specs.Answer.{World, answered}
 use Rattle.tq_shell.specs.Asked.{begin_end, begin_asked}
-use Rattle.tq_shell.specs.Asking.{run_line}
-use Rattle.tq_shell.specs.Known.{Known}
-use Rattle.tq_shell.proofs.Leading.{answered_by}
+use Rattle.tq_asking.specs.Asking.{run_line}
+use Rattle.tq_client.specs.Known.{Known}
+use Rattle.tq_shell.proofs.Answering.{answered_by}
 use Rattle.tq_shell.proofs.shell.Shell.begin.Goals as goal
 
 pub returns-clause-text : goal.returns-clause-text

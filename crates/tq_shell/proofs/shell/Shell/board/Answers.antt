@@ -1,5 +1,5 @@
 use Rattle.std.proofs.Common.{◌∙◌, ◌++◌, ap}
-use Rattle.tq_shell.specs.Operators.{board_of}
+use Rattle.tq_operators.specs.Operators.{board_of}
 use Rattle.tq_shell.proofs.shell.Shell.board.Goals as goal
 
 pub returns : goal.returns

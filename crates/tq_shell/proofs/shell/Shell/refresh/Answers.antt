@@ -1,9 +1,9 @@
 use Rattle.std.proofs.Common.{◌∙◌, ◌++◌, ap}
 use Rattle.tq_tables.specs.Journals.{JournalsView}
 use Rattle.tq_shell.specs.Answer.{World, answer}
-use Rattle.tq_shell.specs.Known.{Known}
-use Rattle.tq_shell.specs.declared.line.Line.TheVariants.{Refresh}
-use Rattle.tq_shell.proofs.Operating.{refresh_answered}
+use Rattle.tq_client.specs.Known.{Known}
+use Rattle.tq_lines.specs.declared.line.Line.TheVariants.{Refresh}
+use Rattle.tq_shell.proofs.Answering.{refresh_answered}
 use Rattle.tq_shell.proofs.shell.Shell.refresh.Goals as goal
 
 pub returns-clause-text : goal.returns-clause-text

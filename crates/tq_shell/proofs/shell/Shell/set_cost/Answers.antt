@@ -4,9 +4,9 @@ use Rattle.tq_live.specs.declared.view.ViewAsk.TheVariants as asks
 use Rattle.tq_txn.specs.Line.{view_line}
 use Rattle.tq_shell.specs.Answer.{World, answered}
 use Rattle.tq_shell.specs.Asked.{view_end, ok_text, cost_asked}
-use Rattle.tq_shell.specs.Asking.{run_line}
-use Rattle.tq_shell.specs.Known.{Known}
-use Rattle.tq_shell.proofs.Leading.{answered_by}
+use Rattle.tq_asking.specs.Asking.{run_line}
+use Rattle.tq_client.specs.Known.{Known}
+use Rattle.tq_shell.proofs.Answering.{answered_by}
 use Rattle.tq_shell.proofs.shell.Shell.set_cost.Goals as goal
 
 pub returns-clause-text : goal.returns-clause-text

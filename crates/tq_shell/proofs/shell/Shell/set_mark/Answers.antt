@@ -7,11 +7,12 @@ use Rattle.tq_txn.specs.Line.{Went, view_line, and_then, ended_by}
 use Rattle.tq_txn.specs.Lines.{any_line}
 use Rattle.tq_txn.proofs.LineLaws.{went_on}
 use Rattle.tq_shell.specs.Answer.{World, answered}
-use Rattle.tq_shell.specs.Asked.{view_end, marked_text, mark_ask, mark_asked, result_text}
-use Rattle.tq_shell.specs.Asking.{run_line}
-use Rattle.tq_shell.specs.Known.{Known}
-use Rattle.tq_shell.specs.Print.{printed}
-use Rattle.tq_shell.proofs.Leading.{answered_by}
+use Rattle.tq_shell.specs.Asked.{view_end, marked_text, mark_ask, mark_asked}
+use Rattle.tq_client.specs.TxnAsked.{result_text}
+use Rattle.tq_asking.specs.Asking.{run_line}
+use Rattle.tq_client.specs.Known.{Known}
+use Rattle.tq_print.specs.Print.{printed}
+use Rattle.tq_shell.proofs.Answering.{answered_by}
 use Rattle.tq_shell.proofs.shell.Shell.set_mark.Goals as goal
 
 pub returns-clause-text : goal.returns-clause-text

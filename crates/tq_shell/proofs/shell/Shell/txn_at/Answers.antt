@@ -2,11 +2,11 @@ use Rattle.std.proofs.Common.{◌≡◌, ◌∙◌, ◌<◌, ◌++◌, length, g
 use Rattle.std.proofs.lemmas.List.{set-set}
 use Rattle.std.proofs.lemmas.List.Elements.{All-set}
 use Rattle.tq_txn.specs.States.{levels_of}
-use Rattle.tq_shell.specs.declared.kept.Kept.{Kept}
-use Rattle.tq_shell.specs.declared.line.Line.TheVariants as lines
+use Rattle.tq_client.specs.declared.kept.Kept.{Kept}
+use Rattle.tq_lines.specs.declared.line.Line.TheVariants as lines
 use Rattle.tq_shell.specs.Answer.{World, answer}
-use Rattle.tq_shell.specs.Known.{Known}
-use Rattle.tq_shell.proofs.Leading.{txn_answered}
+use Rattle.tq_client.specs.Known.{Known}
+use Rattle.tq_shell.proofs.Answering.{txn_answered}
 use Rattle.tq_shell.proofs.shell.Shell.txn_at.Goals as goal
 
 pub invariant_of-self : goal.invariant_of-self

@@ -1,0 +1,6 @@
+//! A service that is asked, with the order of its asks.
+#![tactic(auto)]
+
+mod recorder;
+
+pub use recorder::Recorder;

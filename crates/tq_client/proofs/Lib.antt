@@ -1,0 +1,2 @@
+mod Servers
+pub mod Spoken

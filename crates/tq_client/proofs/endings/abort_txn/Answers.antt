@@ -1,0 +1,19 @@
+use Rattle.std.proofs.Common.{◌≡◌, ◌∙◌, ◌++◌, ◌∷◌, [], refl, sym, ap, codes}
+use Rattle.tq_txn.specs.Aborts.{abort_line}
+use Rattle.tq_txn.specs.States.{levels_of}
+use Rattle.tq_client.specs.TxnAsked.{no_servers, aborted_text}
+use Rattle.tq_txn.specs.declared.txn.Txn.TheVariants as states
+use Rattle.tq_client.specs.declared.kept.Kept.{Kept}
+use Rattle.tq_client.specs.Known.{in_state}
+use Rattle.tq_print.specs.Print.{printed}
+use Rattle.tq_client.proofs.Spoken.{spoken_by}
+use Rattle.tq_client.proofs.endings.abort_txn.Goals as goal
+
+pub returns-clause-spoken : goal.returns-clause-spoken
+returns-clause-spoken c =
+    spoken_by (abort_line c.args.kept.txn) (in_state c.args.kept) no_servers aborted_text c.args.recorder.now c.abort-answer.new.asker c.abort-answer.result.answer c.abort-answer.result.txn
+    c.args.text.now.items c.say_aborted.new.text.items (record { txn = c.abort-answer.result.txn; told = c.args.kept.told }) c.led.ensures c.led-2.ensures c.abort-answer.ensures.tree c.abort-answer.ensures.asks c.in_ok-say_aborted.ensures.memory
+    c.in_ok-say_aborted.ensures.text refl
+
+pub returns-clause-levels : goal.returns-clause-levels
+returns-clause-levels c = c.abort-answer.ensures.levels

@@ -1,0 +1,194 @@
+-- What each line of a transaction asks, in order, each as the answers before demand, and what it makes of the answers: the
+-- text that is printed, and what is kept of the transaction afterwards. All from what was kept before.
+use Rattle.std.specs.Prelude.{◌≡◌, ℕ, Bool, false, not, cond, List, [], ◌∷◌, ◌++◌, filter, Option, Some, None, Result, Ok, Err, codes}
+use Rattle.std.specs.Fmt.{decimal}
+use Rattle.tq_desk.specs.declared.ask.DeskAsk.TheVariants as desk_asks
+use Rattle.tq_desk.specs.declared.ask.DeskReply.{DeskReply}
+use Rattle.tq_desk.specs.declared.ask.DeskReply.TheVariants as desk_replies
+use Rattle.tq_live.specs.View.{is_server}
+use Rattle.tq_tables.specs.Journals.{JournalsView}
+use Rattle.tq_txn.specs.declared.fault.LineFault.{LineFault}
+use Rattle.tq_txn.specs.declared.reading.Reading.{Reading}
+use Rattle.tq_txn.specs.declared.applying.Applied.{Applied}
+use Rattle.tq_states.specs.declared.told.DeskTold.{DeskTold}
+use Rattle.tq_txn.specs.declared.txn.Txn.{Txn}
+use Rattle.tq_txn.specs.declared.txn.Txn.TheVariants as states
+use Rattle.tq_states.specs.Ended.{resolve_verdict}
+use Rattle.tq_txn.specs.Line as asks
+use Rattle.tq_txn.specs.Line.{LineEnd, Ends, then_line, desk_line}
+use Rattle.tq_txn.specs.Lines as lines
+use Rattle.tq_txn.specs.Commits.{decide_line, commit_line}
+use Rattle.tq_txn.specs.Aborts.{abort_line}
+use Rattle.tq_states.specs.Open.{OpenView, seen, written}
+use Rattle.tq_states.specs.Voting.{VotingView, closed, has_vote}
+use Rattle.tq_states.specs.Open.{close_fault}
+use Rattle.tq_states.specs.declared.fault.TxnFault.{TxnFault}
+use Rattle.tq_client.specs.declared.kept.Kept.{Kept}
+use Rattle.tq_client.specs.declared.kept.Ending.{Ending}
+use Rattle.tq_lines.specs.declared.line.TxnLine.{TxnLine}
+use Rattle.tq_lines.specs.declared.line.TxnLine.TheVariants as of
+use Rattle.tq_asking.specs.Asking.{run_line}
+use Rattle.tq_client.specs.Known.{in_state, with_told, ending_in}
+use Rattle.tq_print.specs.Print.{printed, reading_text, writing_text, applied_text, verdict_text}
+use Rattle.tq_print.specs.Refusals.{fault_text, is_memory, txn_fault_text, decided_text, desk_refusal_text}
+
+-- what a line of one transaction says, and what is kept of the transaction then
+pub record TxnSpoken : Type 0 where
+  pub text : List ℕ
+  pub kept : Kept
+
+abbrev pub txn_said : Kept → List ℕ → asks.Line TxnSpoken
+txn_said kept text = Ends (record { text = text; kept = kept })
+
+-- the text of an answer, or of the refusal that ended the line
+abbrev pub result_text : {A : Type 0} → List ℕ → (A → List ℕ) → Result A LineFault → List ℕ
+result_text servers text (Ok a) = text a
+result_text servers text (Err fault) = fault_text servers fault
+
+-- memory was refused in the line
+abbrev pub is_refused_memory : {A : Type 0} → Result A LineFault → Bool
+is_refused_memory (Ok a) = false
+is_refused_memory (Err fault) = is_memory fault
+
+-- a line of a transaction, printed: its state afterwards, the servers that a refusal speaks of, and the answer's text
+abbrev pub spoken_end : {A S : Type 0} → (S → Kept) → (S → List ℕ) → (S → A → List ℕ) → LineEnd A S → TxnSpoken
+spoken_end kept servers text end = record { text = result_text (servers end.after) (text end.after) end.answer; kept = kept end.after }
+
+abbrev pub spoken : {A S : Type 0} → asks.Line (LineEnd A S) → (S → Kept) → (S → List ℕ) → (S → A → List ℕ) → asks.Line TxnSpoken
+spoken line kept servers text = then_line line (λ end. Ends (spoken_end kept servers text end))
+
+abbrev pub no_servers : {S : Type 0} → S → List ℕ
+no_servers after = []
+
+-- ---- the states
+
+-- a transaction that reads or writes is open
+abbrev pub open_in : ℕ → Kept → Txn → (OpenView → asks.Line TxnSpoken) → asks.Line TxnSpoken
+open_in number kept (states.Open old) next = next old
+open_in number kept (states.Voting old) next = txn_said kept (codes "voting " ++ decimal number)
+open_in number kept (states.Ended old) next = txn_said kept (decided_text old.verdict)
+
+abbrev pub closing : Kept → OpenView → Option TxnFault → (VotingView → asks.Line TxnSpoken) → asks.Line TxnSpoken
+closing kept old None next = next (closed old)
+closing kept old (Some fault) next = txn_said kept (txn_fault_text [] fault)
+
+-- one that gathers votes may be open still, if it has an operation
+abbrev pub voting_in : Kept → Txn → (VotingView → asks.Line TxnSpoken) → asks.Line TxnSpoken
+voting_in kept (states.Open old) next = closing kept old (close_fault old) next
+voting_in kept (states.Voting old) next = next old
+voting_in kept (states.Ended old) next = txn_said kept (decided_text old.verdict)
+
+abbrev pub missing_of : VotingView → List ℕ → List ℕ
+missing_of old servers = filter (λ server. not (has_vote old.votes server)) servers
+
+-- the voters whose votes are not there
+abbrev pub missing : VotingView → List ℕ
+missing old = missing_of old old.txn.voters
+
+abbrev pub missing_in : Txn → List ℕ
+missing_in (states.Voting old) = missing old
+missing_in txn = []
+
+-- ---- the lines of a transaction
+
+abbrev pub read_text : List ℕ → OpenView → Reading → List ℕ
+read_text file new reading = reading_text file (seen new file) reading
+
+abbrev pub written_text : List ℕ → OpenView → ℕ → List ℕ
+written_text file new version = writing_text file (written new file) version
+
+abbrev pub read_open : Kept → List ℕ → OpenView → asks.Line TxnSpoken
+read_open kept file old = spoken (lines.read_line old file) (λ new. in_state kept (states.Open new)) no_servers (read_text file)
+
+abbrev pub read_asked : List ℕ → ℕ → Kept → asks.Line TxnSpoken
+read_asked file number kept = open_in number kept kept.txn (read_open kept file)
+
+abbrev pub write_open : Kept → List ℕ → List ℕ → OpenView → asks.Line TxnSpoken
+write_open kept file content old =
+    spoken (lines.write_line old file content) (λ new. in_state kept (states.Open new)) no_servers (written_text file)
+
+abbrev pub write_asked : List ℕ → List ℕ → ℕ → Kept → asks.Line TxnSpoken
+write_asked file content number kept = open_in number kept kept.txn (write_open kept file content)
+
+abbrev pub voted_text : ℕ → VotingView → Unit {0} → List ℕ
+voted_text server new all = codes "yes " ++ decimal server
+
+abbrev pub prepare_voting : Kept → ℕ → VotingView → asks.Line TxnSpoken
+prepare_voting kept server old =
+    spoken (lines.prepare_line old server) (λ new. in_state kept (states.Voting new)) (λ new. server ∷ []) (voted_text server)
+
+abbrev pub prepare_asked : ℕ → ℕ → Kept → asks.Line TxnSpoken
+prepare_asked server number kept = voting_in kept kept.txn (prepare_voting kept server)
+
+abbrev pub serial_text : Txn → ℕ → List ℕ
+serial_text new serial = codes "committed " ++ decimal serial
+
+-- what a commit says of the desk's answer
+abbrev pub committed_text : Txn → Result ℕ LineFault → List ℕ
+committed_text new answer = result_text (missing_in new) (serial_text new) answer
+
+abbrev pub decide_voting : Kept → VotingView → asks.Line TxnSpoken
+decide_voting kept old = spoken (decide_line old) (in_state kept) missing_in serial_text
+
+abbrev pub decide_asked : ℕ → Kept → asks.Line TxnSpoken
+decide_asked number kept = voting_in kept kept.txn (decide_voting kept)
+
+abbrev pub commit_voting : Kept → VotingView → asks.Line TxnSpoken
+commit_voting kept old = spoken (commit_line old) (in_state kept) missing_in serial_text
+
+abbrev pub commit_asked : ℕ → Kept → asks.Line TxnSpoken
+commit_asked number kept = voting_in kept kept.txn (commit_voting kept)
+
+abbrev pub aborted_text : Txn → Unit {0} → List ℕ
+aborted_text new all = codes "aborted"
+
+abbrev pub abort_asked : ℕ → Kept → asks.Line TxnSpoken
+abort_asked number kept = spoken (abort_line kept.txn) (in_state kept) no_servers aborted_text
+
+abbrev pub resolved_text : DeskReply → List ℕ
+resolved_text (desk_replies.Verdict verdict) = verdict_text verdict
+resolved_text (desk_replies.Refused refusal) = desk_refusal_text refusal
+resolved_text other = codes "bad answer"
+
+abbrev pub resolved_kept : Kept → ℕ → DeskReply → Kept
+resolved_kept kept cite reply = with_told kept cite (resolve_verdict reply)
+
+abbrev pub resolve_end : Kept → Result DeskTold LineFault → TxnSpoken
+resolve_end kept (Ok told) = record { text = resolved_text told.reply; kept = resolved_kept kept told.number told.reply }
+resolve_end kept (Err fault) = record { text = fault_text [] fault; kept = kept }
+
+-- the verdict is kept for `apply`
+abbrev pub resolve_asked : ℕ → Kept → asks.Line TxnSpoken
+resolve_asked number kept = then_line (desk_line (desk_asks.Resolve number)) (λ end. Ends (resolve_end kept end.answer))
+
+abbrev pub told_text : ℕ → Unit {0} → Applied → List ℕ
+told_text server none applied = applied_text server applied
+
+abbrev pub apply_by : ℕ → ℕ → Kept → Option Ending → asks.Line TxnSpoken
+apply_by server number kept None = txn_said kept (codes "not decided " ++ decimal number)
+apply_by server number kept (Some ending) =
+    spoken (lines.apply_line number ending.verdict ending.cite server) (λ none. kept) no_servers (told_text server)
+
+abbrev pub apply_asked : ℕ → ℕ → Kept → asks.Line TxnSpoken
+apply_asked server number kept = apply_by server number kept (ending_in kept)
+
+-- ---- the server is one of the tree
+abbrev pub server_asked : ℕ → ℕ → (ℕ → Kept → asks.Line TxnSpoken) → ℕ → Kept → asks.Line TxnSpoken
+server_asked levels server next number kept = cond (is_server levels server) (next number kept) (txn_said kept (codes "no such server " ++ decimal server))
+
+-- ---- all lines of a transaction, by what is kept of it
+abbrev pub line_asked : ℕ → TxnLine → ℕ → Kept → asks.Line TxnSpoken
+line_asked levels (of.Read file) = read_asked file
+line_asked levels (of.Write file content) = write_asked file content
+line_asked levels (of.Prepare server) = server_asked levels server (prepare_asked server)
+line_asked levels of.Decide = decide_asked
+line_asked levels (of.Apply server) = server_asked levels server (apply_asked server)
+line_asked levels of.Commit = commit_asked
+line_asked levels of.Abort = abort_asked
+line_asked levels of.Resolve = resolve_asked
+
+-- a line of a transaction that was printed so: the text that it adds, the journals and what is kept of the transaction
+pub record IsSpoken (line : asks.Line TxnSpoken) (old new : JournalsView) (before after : List ℕ) (left : Kept) : Type 0 where
+  pub text : after ≡ before ++ printed (run_line old line).end.text
+  pub journals : new ≡ (run_line old line).after
+  pub kept : left ≡ (run_line old line).end.kept

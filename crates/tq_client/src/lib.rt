@@ -1,0 +1,11 @@
+//! The lines of a transaction: what they ask, and what they say.
+#![tactic(auto)]
+
+mod endings;
+mod kept;
+mod operations;
+mod speak;
+mod states;
+
+pub use kept::{Ending, Kept};
+pub use speak::speak;

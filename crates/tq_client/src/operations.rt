@@ -1,0 +1,140 @@
+//! The lines of a transaction that read and write.
+ghost use Rattle.std.specs.Prelude.{◌≡◌, ◌++◌, [], false, IfOk, OnOk};
+ghost use Rattle.tq_txn.specs.States.{levels_of};
+ghost use Rattle.tq_client.specs.TxnAsked as spec;
+ghost use Rattle.tq_print.specs.Print.{printed};
+
+use crate::kept::{Ending, Kept};
+use crate::states::{Opened, open_of};
+use std::alloc::Global;
+use tq_asking::Recorder;
+use tq_print::{say_fault, say_reading, say_writing};
+use tq_shape::Memory;
+use tq_store::{Content, FileName};
+use tq_txn::{LineFault, Open, Reading, Txn, read_file, write_file};
+
+/// Reads a file in a transaction.
+pub(crate) fn read(
+    recorder: &mut Recorder,
+    alloc: Global,
+    number: u64,
+    kept: Kept,
+    file: &FileName,
+    text: &mut Vec<u8>,
+) -> Result<Kept, Memory>
+    requires { levels_of kept.txn ≡ recorder.old.journals.levels }
+    ensures spoken { IfOk result (λ new. spec.IsSpoken (spec.read_asked file.now number kept) recorder.old.journals recorder.new.journals text.old.items text.new.items new) }
+    ensures levels { IfOk result (λ new. levels_of new.txn ≡ levels_of kept.txn) }
+    ensures tree { recorder.new.journals.levels ≡ recorder.old.journals.levels }
+{
+    let told = kept.told;
+    match open_of(number, kept.txn, text)? {
+        Opened::Said(txn) => Ok(Kept { txn, told }),
+        Opened::Open(open) => Ok(read_open(recorder, alloc, open, told, file, text)?),
+    }
+}
+
+fn read_open(
+    recorder: &mut Recorder,
+    alloc: Global,
+    still_open: Open,
+    told: Option<Ending>,
+    file: &FileName,
+    text: &mut Vec<u8>,
+) -> Result<Kept, Memory>
+    requires { still_open.levels ≡ recorder.old.journals.levels }
+    ensures spoken { IfOk result (λ new. spec.IsSpoken (spec.read_open (record { txn = Txn.Open still_open; told = told }) file.now still_open) recorder.old.journals recorder.new.journals text.old.items text.new.items new) }
+    ensures levels { IfOk result (λ new. levels_of new.txn ≡ still_open.levels) }
+    ensures tree { recorder.new.journals.levels ≡ recorder.old.journals.levels }
+{
+    let mut open = still_open;
+    recorder.led();
+    let answer = read_file(recorder, alloc, &mut open, file);
+    recorder.led();
+    say_read(text, file, &open, answer)?;
+    Ok(Kept {
+        txn: Txn::Open(open),
+        told,
+    })
+}
+
+/// Puts what was read behind the text, as a line, or why it was not.
+fn say_read(
+    text: &mut Vec<u8>,
+    file: &FileName,
+    reader: &Open,
+    answer: Result<Reading, LineFault>,
+) -> Result<(), Memory>
+    ensures text { OnOk result (text.new.items ≡ text.old.items ++ printed (spec.result_text [] (spec.read_text file.now reader.now) answer)) }
+    ensures memory { OnOk result (spec.is_refused_memory answer ≡ false) }
+{
+    match answer {
+        Ok(reading) => say_reading(text, file, reader.seen(file), &reading)?,
+        Err(fault) => say_fault(text, &[], fault)?,
+    }
+    Ok(())
+}
+
+/// Puts what was written behind the text, as a line, or why it was not.
+fn say_written(
+    text: &mut Vec<u8>,
+    file: &FileName,
+    writer: &Open,
+    answer: Result<u64, LineFault>,
+) -> Result<(), Memory>
+    ensures text { OnOk result (text.new.items ≡ text.old.items ++ printed (spec.result_text [] (spec.written_text file.now writer.now) answer)) }
+    ensures memory { OnOk result (spec.is_refused_memory answer ≡ false) }
+{
+    match answer {
+        Ok(version) => say_writing(text, file, writer.written(file), version)?,
+        Err(fault) => say_fault(text, &[], fault)?,
+    }
+    Ok(())
+}
+
+/// Writes a file in a transaction.
+pub(crate) fn write(
+    recorder: &mut Recorder,
+    alloc: Global,
+    number: u64,
+    kept: Kept,
+    file: &FileName,
+    content: Content,
+    text: &mut Vec<u8>,
+) -> Result<Kept, Memory>
+    requires { levels_of kept.txn ≡ recorder.old.journals.levels }
+    ensures spoken { IfOk result (λ new. spec.IsSpoken (spec.write_asked file.now content number kept) recorder.old.journals recorder.new.journals text.old.items text.new.items new) }
+    ensures levels { IfOk result (λ new. levels_of new.txn ≡ levels_of kept.txn) }
+    ensures tree { recorder.new.journals.levels ≡ recorder.old.journals.levels }
+{
+    let told = kept.told;
+    match open_of(number, kept.txn, text)? {
+        Opened::Said(txn) => Ok(Kept { txn, told }),
+        Opened::Open(open) => Ok(write_open(recorder, alloc, open, told, file, content, text)?),
+    }
+}
+
+fn write_open(
+    recorder: &mut Recorder,
+    alloc: Global,
+    still_open: Open,
+    told: Option<Ending>,
+    file: &FileName,
+    content: Content,
+    text: &mut Vec<u8>,
+) -> Result<Kept, Memory>
+    requires { still_open.levels ≡ recorder.old.journals.levels }
+    ensures spoken { IfOk result (λ new. spec.IsSpoken (spec.write_open (record { txn = Txn.Open still_open; told = told }) file.now content still_open) recorder.old.journals recorder.new.journals text.old.items text.new.items new) }
+    ensures levels { IfOk result (λ new. levels_of new.txn ≡ still_open.levels) }
+    ensures tree { recorder.new.journals.levels ≡ recorder.old.journals.levels }
+{
+    let mut open = still_open;
+    recorder.led();
+    let answer = write_file(recorder, alloc, &mut open, file, content);
+    recorder.led();
+    say_written(text, file, &open, answer)?;
+    Ok(Kept {
+        txn: Txn::Open(open),
+        told,
+    })
+}

@@ -1,0 +1,105 @@
+//! The states of a transaction, as its lines want them.
+ghost use Rattle.std.specs.Prelude.{◌≡◌, ◌++◌, OnOk, IfOk};
+ghost use Rattle.std.specs.Option.{option_map};
+ghost use Rattle.tq_print.specs.Print.{printed};
+ghost use Rattle.tq_client.specs.Known.{ending_in};
+ghost use Rattle.tq_print.specs.Refusals.{decided_text};
+ghost use Rattle.tq_client.specs.States as spec;
+
+use crate::kept::{Ending, Kept};
+use tq_node::Verdict;
+use tq_print::{push_decided, push_txn_fault, say_number};
+use tq_shape::Memory;
+use tq_txn::{Open, Txn, Voting};
+
+/// An open transaction, or one that is not open, which was said.
+#[derive(Drop)]
+pub(crate) enum Opened {
+    Open(Open),
+    Said(Txn),
+}
+
+/// A transaction that gathers votes, or one that does not, which was said.
+#[derive(Drop)]
+pub(crate) enum Closed {
+    Voting(Voting),
+    Said(Txn),
+}
+
+/// Puts how a transaction ended behind the text, as a line.
+fn say_decided(text: &mut Vec<u8>, verdict: &Verdict) -> Result<(), Memory>
+    ensures { OnOk result (text.new.items ≡ text.old.items ++ printed (decided_text verdict.now)) }
+{
+    push_decided(text, verdict)?;
+    text.push(b'\n')?;
+    Ok(())
+}
+
+/// The transaction, if it is open.
+pub(crate) fn open_of(number: u64, txn: Txn, text: &mut Vec<u8>) -> Result<Opened, Memory>
+    ensures { IfOk result (λ state. spec.IsOpened number txn state text.old.items text.new.items) }
+{
+    match txn {
+        Txn::Open(open) => Ok(Opened::Open(open)),
+        Txn::Voting(voting) => {
+            say_number(text, b"voting ", number)?;
+            Ok(Opened::Said(Txn::Voting(voting)))
+        }
+        Txn::Ended(ended) => {
+            say_decided(text, ended.verdict())?;
+            Ok(Opened::Said(Txn::Ended(ended)))
+        }
+    }
+}
+
+/// The transaction as it gathers votes, if it has an operation and did not end.
+pub(crate) fn voting_of(txn: Txn, text: &mut Vec<u8>) -> Result<Closed, Memory>
+    ensures { IfOk result (λ state. spec.IsClosed txn state text.old.items text.new.items) }
+{
+    match txn {
+        Txn::Open(open) => close(open, text),
+        Txn::Voting(voting) => Ok(Closed::Voting(voting)),
+        Txn::Ended(ended) => {
+            say_decided(text, ended.verdict())?;
+            Ok(Closed::Said(Txn::Ended(ended)))
+        }
+    }
+}
+
+fn close(still_open: Open, text: &mut Vec<u8>) -> Result<Closed, Memory>
+    ensures { IfOk result (λ state. spec.IsClosed (Txn.Open still_open) state text.old.items text.new.items) }
+{
+    match still_open.close() {
+        Ok(voting) => Ok(Closed::Voting(voting)),
+        Err(back) => {
+            push_txn_fault(text, &[], back.1)?;
+            text.push(b'\n')?;
+            Ok(Closed::Said(Txn::Open(back.0)))
+        }
+    }
+}
+
+/// The verdict that was told, and the entry to cite.
+pub(crate) fn ending_of(kept: &Kept) -> Result<Option<Ending>, Memory>
+    ensures { IfOk result (λ ending. ending ≡ ending_in kept.now) }
+{
+    match &kept.txn {
+        Txn::Ended(ended) => Ok(Some(Ending {
+            verdict: ended.verdict().clone()?,
+            cite: ended.cite(),
+        })),
+        _ => Ok(copy_of(&kept.told)?),
+    }
+}
+
+fn copy_of(told: &Option<Ending>) -> Result<Option<Ending>, Memory>
+    ensures { IfOk result (λ ending. ending ≡ told.now) }
+{
+    match told {
+        Some(ending) => Ok(Some(Ending {
+            verdict: ending.verdict.clone()?,
+            cite: ending.cite,
+        })),
+        None => Ok(None),
+    }
+}

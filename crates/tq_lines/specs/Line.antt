@@ -1,0 +1,136 @@
+-- What the bytes of a line ask for.
+use Rattle.std.specs.Prelude.{ℕ, Bool, true, false, nat_lt, nat_le, ◌&&◌, cond, List, [], ◌∷◌, Option, Some, None, length, is_some, codes}
+use Rattle.std.specs.List.{list_all}
+use Rattle.std.specs.Option.{option_map, option_and_then}
+use Rattle.std.specs.Str.{bytes_eq}
+use Rattle.tq_store.specs.Names.{is_file_name}
+use Rattle.tq_store.specs.declared.content.TheConstants.{MAX_CONTENT}
+use Rattle.tq_lines.specs.Word.{number_of, word_of, rest_of}
+use Rattle.tq_lines.specs.declared.line.TheConstants.{LINE_LIMIT}
+use Rattle.tq_lines.specs.declared.line.Line.{Line}
+use Rattle.tq_lines.specs.declared.line.Line.TheVariants.{Empty, Bad, Cost, Mark, Choose, Begin, Refresh, Board, Txn}
+use Rattle.tq_lines.specs.declared.line.TxnLine.TheVariants.{Read, Write, Prepare, Decide, Apply, Commit, Abort, Resolve}
+use Rattle.tq_lines.specs.declared.operands.Numbers.{Numbers}
+use Rattle.tq_lines.specs.declared.operands.Target.{Target}
+
+-- ---- what follows the verb
+
+abbrev pub one_number : Option (List ℕ) → Option ℕ
+one_number rest = option_and_then number_of rest
+
+abbrev pub both_numbers : Option ℕ → Option ℕ → Option Numbers
+both_numbers None second = None
+both_numbers (Some first) None = None
+both_numbers (Some first) (Some second) = Some (record { first = first; second = second })
+
+-- two numbers
+abbrev pub two_numbers : Option (List ℕ) → Option Numbers
+two_numbers None = None
+two_numbers (Some words) = both_numbers (number_of (word_of words)) (one_number (rest_of words))
+
+abbrev pub file_of : List ℕ → Option (List ℕ)
+file_of word = cond (is_file_name word) (Some word) None
+
+abbrev pub target_by : Option ℕ → Option (List ℕ) → Option Target
+target_by None file = None
+target_by (Some txn) None = None
+target_by (Some txn) (Some file) = Some (record { txn = txn; file = file })
+
+-- a transaction and a file
+abbrev pub target_of : List ℕ → List ℕ → Option Target
+target_of first second = target_by (number_of first) (file_of second)
+
+-- a byte that may stand in a text
+abbrev pub is_printed : ℕ → Bool
+is_printed byte = nat_le 32 byte && nat_le byte 126
+
+-- a text: not too many bytes, each of which can be printed
+abbrev pub is_text : List ℕ → Bool
+is_text text = nat_le (length text) MAX_CONTENT && list_all is_printed text
+
+abbrev pub content_of : List ℕ → Option (List ℕ)
+content_of text = cond (is_text text) (Some text) None
+
+-- what follows the file, and one space: a text, empty where nothing follows
+abbrev pub text_of : Option (List ℕ) → Option (List ℕ)
+text_of None = Some []
+text_of (Some text) = content_of text
+
+-- ---- the lines
+
+abbrev pub alone : Line → Option (List ℕ) → Line
+alone line None = line
+alone line (Some words) = Bad
+
+abbrev pub with_number : (ℕ → Line) → Option ℕ → Line
+with_number line None = Bad
+with_number line (Some number) = line number
+
+abbrev pub with_numbers : (ℕ → ℕ → Line) → Option Numbers → Line
+with_numbers line None = Bad
+with_numbers line (Some numbers) = line numbers.first numbers.second
+
+abbrev pub read_by : Option Target → Line
+read_by None = Bad
+read_by (Some target) = Txn target.txn (Read target.file)
+
+abbrev pub read_words : List ℕ → Option (List ℕ) → Line
+read_words first None = Bad
+read_words first (Some file) = read_by (target_of first file)
+
+-- what follows `read`: a transaction and a file
+abbrev pub read_line : Option (List ℕ) → Line
+read_line None = Bad
+read_line (Some words) = read_words (word_of words) (rest_of words)
+
+abbrev pub write_by : Option Target → Option (List ℕ) → Line
+write_by None text = Bad
+write_by (Some target) None = Bad
+write_by (Some target) (Some text) = Txn target.txn (Write target.file text)
+
+abbrev pub write_words : List ℕ → Option (List ℕ) → Line
+write_words first None = Bad
+write_words first (Some words) = write_by (target_of first (word_of words)) (text_of (rest_of words))
+
+-- what follows `write`: a transaction, a file and a text
+abbrev pub write_line : Option (List ℕ) → Line
+write_line None = Bad
+write_line (Some words) = write_words (word_of words) (rest_of words)
+
+-- the lines of operators
+abbrev pub operator_by : List ℕ → Option (List ℕ) → Line
+operator_by verb rest =
+    cond (bytes_eq verb (codes "refresh")) (alone Refresh rest)
+    (cond (bytes_eq verb (codes "board")) (alone Board rest) Bad)
+
+-- the lines that end a transaction
+abbrev pub end_by : List ℕ → Option (List ℕ) → Line
+end_by verb rest =
+    cond (bytes_eq verb (codes "decide")) (with_number (λ txn. Txn txn Decide) (one_number rest))
+    (cond (bytes_eq verb (codes "commit")) (with_number (λ txn. Txn txn Commit) (one_number rest))
+    (cond (bytes_eq verb (codes "abort")) (with_number (λ txn. Txn txn Abort) (one_number rest))
+    (cond (bytes_eq verb (codes "resolve")) (with_number (λ txn. Txn txn Resolve) (one_number rest)) (operator_by verb rest))))
+
+-- the other lines of a transaction
+abbrev pub txn_by : List ℕ → Option (List ℕ) → Line
+txn_by verb rest =
+    cond (bytes_eq verb (codes "read")) (read_line rest)
+    (cond (bytes_eq verb (codes "write")) (write_line rest)
+    (cond (bytes_eq verb (codes "prepare")) (with_numbers (λ txn server. Txn txn (Prepare server)) (two_numbers rest))
+    (cond (bytes_eq verb (codes "apply")) (with_numbers (λ txn server. Txn txn (Apply server)) (two_numbers rest)) (end_by verb rest))))
+
+abbrev pub line_by : List ℕ → Option (List ℕ) → Line
+line_by verb rest =
+    cond (bytes_eq verb (codes "choose")) (alone Choose rest)
+    (cond (bytes_eq verb (codes "begin")) (alone Begin rest)
+    (cond (bytes_eq verb (codes "cost")) (with_numbers Cost (two_numbers rest))
+    (cond (bytes_eq verb (codes "down")) (with_number (λ server. Mark server false) (one_number rest))
+    (cond (bytes_eq verb (codes "up")) (with_number (λ server. Mark server true) (one_number rest)) (txn_by verb rest)))))
+
+abbrev pub short_line : List ℕ → Line
+short_line [] = Empty
+short_line (byte ∷ bytes) = line_by (word_of (byte ∷ bytes)) (rest_of (byte ∷ bytes))
+
+-- a line of more bytes than the limit is a bad line
+abbrev pub line_of : List ℕ → Line
+line_of bytes = cond (nat_lt LINE_LIMIT (length bytes)) Bad (short_line bytes)

@@ -1,0 +1,248 @@
+ghost use Rattle.std.specs.Str.{bytes_eq};
+ghost use Rattle.std.specs.Prelude.{◌≡◌, IfOk};
+ghost use Rattle.tq_lines.specs.Line as spec;
+ghost use Rattle.tq_lines.specs.Word.{options_now};
+
+use crate::operands::{one_number, target_of, text_of, two_numbers};
+use crate::word::first_word;
+use std::alloc::Global;
+use tq_shape::Memory;
+use tq_store::{Content, FileName};
+
+/// What a line asks for.
+#[derive(Debug, Drop)]
+pub enum Line {
+    /// Nothing stands in the line.
+    Empty,
+    /// The line is none of those that the shell knows.
+    Bad,
+    Cost { server: u64, cost: u64 },
+    Mark { server: u64, up: bool },
+    Choose,
+    Begin,
+    /// The stale copies that can be mended now are mended.
+    Refresh,
+    /// The state of the whole service is shown.
+    Board,
+    /// A line of a transaction.
+    Txn { number: u64, line: TxnLine },
+}
+
+/// What a line asks of a transaction.
+#[derive(Debug, Drop)]
+pub enum TxnLine {
+    Read { file: FileName },
+    Write { file: FileName, content: Content },
+    Prepare { server: u64 },
+    Decide,
+    Apply { server: u64 },
+    Commit,
+    Abort,
+    Resolve,
+}
+
+/// The most bytes of a line that is no bad line.
+pub const LINE_LIMIT: usize = 1_200;
+
+impl Line {
+    /// The line that the bytes spell.
+    pub fn of(alloc: Global, bytes: &[u8]) -> Result<Line, Memory>
+        ensures { IfOk result (λ line. line ≡ spec.line_of bytes.now) }
+    {
+        if bytes.len() > LINE_LIMIT {
+            return Ok(Line::Bad);
+        }
+        if bytes.is_empty() {
+            return Ok(Line::Empty);
+        }
+        let (verb, rest) = first_word(bytes);
+        Ok(Line::by(alloc, verb, rest)?)
+    }
+
+    fn by(alloc: Global, verb: &[u8], rest: Option<&[u8]>) -> Result<Line, Memory>
+        ensures { IfOk result (λ line. line ≡ spec.line_by verb.now (options_now rest.entry)) }
+    {
+        if is_same(verb, b"choose") {
+            return Ok(alone(rest, Line::Choose));
+        }
+        if is_same(verb, b"begin") {
+            return Ok(alone(rest, Line::Begin));
+        }
+        if is_same(verb, b"cost") {
+            return Ok(cost(rest));
+        }
+        if is_same(verb, b"down") {
+            return Ok(mark(rest, false));
+        }
+        if is_same(verb, b"up") {
+            return Ok(mark(rest, true));
+        }
+        Ok(Line::txn_by(alloc, verb, rest)?)
+    }
+
+    fn txn_by(alloc: Global, verb: &[u8], rest: Option<&[u8]>) -> Result<Line, Memory>
+        ensures { IfOk result (λ line. line ≡ spec.txn_by verb.now (options_now rest.entry)) }
+    {
+        if is_same(verb, b"read") {
+            return Ok(read(rest));
+        }
+        if is_same(verb, b"write") {
+            return Ok(write(alloc, rest)?);
+        }
+        if is_same(verb, b"prepare") {
+            return Ok(prepare(rest));
+        }
+        if is_same(verb, b"apply") {
+            return Ok(apply(rest));
+        }
+        Ok(Line::end_by(verb, rest))
+    }
+
+    fn end_by(verb: &[u8], rest: Option<&[u8]>) -> Line
+        ensures { result ≡ spec.end_by verb.now (options_now rest.entry) }
+    {
+        if is_same(verb, b"decide") {
+            return of_number(rest, TxnLine::Decide);
+        }
+        if is_same(verb, b"commit") {
+            return of_number(rest, TxnLine::Commit);
+        }
+        if is_same(verb, b"abort") {
+            return of_number(rest, TxnLine::Abort);
+        }
+        if is_same(verb, b"resolve") {
+            return of_number(rest, TxnLine::Resolve);
+        }
+        Line::operator_by(verb, rest)
+    }
+
+    fn operator_by(verb: &[u8], rest: Option<&[u8]>) -> Line
+        ensures { result ≡ spec.operator_by verb.now (options_now rest.entry) }
+    {
+        if is_same(verb, b"refresh") {
+            return alone(rest, Line::Refresh);
+        }
+        if is_same(verb, b"board") {
+            return alone(rest, Line::Board);
+        }
+        Line::Bad
+    }
+}
+
+fn is_same(word: &[u8], text: &[u8]) -> bool
+    ensures { result ≡ bytes_eq word.now text.now }
+{
+    word == text
+}
+
+fn alone(rest: Option<&[u8]>, line: Line) -> Line
+    ensures { result ≡ spec.alone line (options_now rest.entry) }
+{
+    match rest {
+        None => line,
+        Some(_) => Line::Bad,
+    }
+}
+
+fn of_number(rest: Option<&[u8]>, line: TxnLine) -> Line
+    ensures { result ≡ spec.with_number (λ txn. Line.Txn txn line) (spec.one_number (options_now rest.entry)) }
+{
+    match one_number(rest) {
+        None => Line::Bad,
+        Some(number) => Line::Txn { number, line },
+    }
+}
+
+fn mark(rest: Option<&[u8]>, up: bool) -> Line
+    ensures { result ≡ spec.with_number (λ server. Line.Mark server up) (spec.one_number (options_now rest.entry)) }
+{
+    match one_number(rest) {
+        None => Line::Bad,
+        Some(server) => Line::Mark { server, up },
+    }
+}
+
+fn cost(rest: Option<&[u8]>) -> Line
+    ensures { result ≡ spec.with_numbers Line.Cost (spec.two_numbers (options_now rest.entry)) }
+{
+    match two_numbers(rest) {
+        None => Line::Bad,
+        Some(numbers) => Line::Cost {
+            server: numbers.first,
+            cost: numbers.second,
+        },
+    }
+}
+
+fn prepare(rest: Option<&[u8]>) -> Line
+    ensures { result ≡ spec.with_numbers (λ txn server. Line.Txn txn (TxnLine.Prepare server)) (spec.two_numbers (options_now rest.entry)) }
+{
+    match two_numbers(rest) {
+        None => Line::Bad,
+        Some(numbers) => Line::Txn {
+            number: numbers.first,
+            line: TxnLine::Prepare {
+                server: numbers.second,
+            },
+        },
+    }
+}
+
+fn apply(rest: Option<&[u8]>) -> Line
+    ensures { result ≡ spec.with_numbers (λ txn server. Line.Txn txn (TxnLine.Apply server)) (spec.two_numbers (options_now rest.entry)) }
+{
+    match two_numbers(rest) {
+        None => Line::Bad,
+        Some(numbers) => Line::Txn {
+            number: numbers.first,
+            line: TxnLine::Apply {
+                server: numbers.second,
+            },
+        },
+    }
+}
+
+fn read(rest: Option<&[u8]>) -> Line
+    ensures { result ≡ spec.read_line (options_now rest.entry) }
+{
+    let Some(words) = rest else {
+        return Line::Bad;
+    };
+    let (first, more) = first_word(words);
+    let Some(file) = more else {
+        return Line::Bad;
+    };
+    match target_of(first, file) {
+        None => Line::Bad,
+        Some(target) => Line::Txn {
+            number: target.txn,
+            line: TxnLine::Read { file: target.file },
+        },
+    }
+}
+
+fn write(alloc: Global, rest: Option<&[u8]>) -> Result<Line, Memory>
+    ensures { IfOk result (λ line. line ≡ spec.write_line (options_now rest.entry)) }
+{
+    let Some(words) = rest else {
+        return Ok(Line::Bad);
+    };
+    let (first, more) = first_word(words);
+    let Some(others) = more else {
+        return Ok(Line::Bad);
+    };
+    let (second, text) = first_word(others);
+    let Some(target) = target_of(first, second) else {
+        return Ok(Line::Bad);
+    };
+    match text_of(alloc, text)? {
+        None => Ok(Line::Bad),
+        Some(content) => Ok(Line::Txn {
+            number: target.txn,
+            line: TxnLine::Write {
+                file: target.file,
+                content,
+            },
+        }),
+    }
+}

@@ -1,0 +1,120 @@
+-- Jobs one after another, and what each asks.
+use Rattle.std.specs.Int.{from_bool}
+use Rattle.std.proofs.Common.{◌≡◌, ◌∙◌, ◌+◌, ◌<◌, ◌≤◌, ℕ, Bool, true, cond, List, [], ◌∷◌, ◌++◌, length, get_or, drop, append_assoc, None, Err, false, refl, sym, ap, subst, arith}
+use Rattle.std.proofs.lemmas.List.{drop_more}
+use Rattle.tq_tables.specs.Journals.{JournalsView}
+use Rattle.tq_core.specs.declared.answer.Step.TheVariants as steps
+use Rattle.tq_core.specs.World.{empty_world}
+use Rattle.tq_core.specs.Steps.{world_after}
+use Rattle.tq_node.specs.declared.ask.NodeAsk.{NodeAsk}
+use Rattle.tq_node.specs.declared.ask.NodeReply.{NodeReply}
+use Rattle.tq_txn.specs.declared.asker.Heard.{Heard}
+use Rattle.tq_txn.specs.declared.asker.Heard.TheVariants as heard
+use Rattle.tq_txn.specs.declared.asker.AskFault.{AskFault}
+use Rattle.tq_txn.specs.declared.asker.AskFault.TheVariants as faults
+use Rattle.tq_txn.specs.declared.asker.Told.{Told}
+use Rattle.tq_txn.specs.declared.asker.Told.TheVariants.{Full, NotFounded}
+use Rattle.tq_txn.specs.Line.{Line, Ends, AsksNode, AsksDesk, AsksView, then_line, heard_node, fault_of_ask}
+use Rattle.tq_refresh.specs.declared.job.Job.{Job}
+use Rattle.tq_operators.specs.Operators.{Mended, nothing_mended, answer_in, job_asked, jobs_asked, with_job, job_text, count_text, refresh_asked, refresh_jobs, refreshed_text}
+use Rattle.tq_print.specs.Print.{printed}
+use Rattle.tq_print.specs.Refusals.{is_memory}
+use Rattle.tq_asking.specs.Asking.{Ran, run_line, node_told, desk_told, view_told}
+use Rattle.tq_asking.specs.Recorded.{RecorderView, Leads, IsLed, full_limits}
+use Rattle.tq_asking.proofs.Leading.{leads_more, then_ran}
+
+pub node_answered : (server : ℕ) (ask : NodeAsk) (told : Told NodeReply) (old new : RecorderView) → IsLed old → IsLed new → new.journals.levels ≡ old.journals.levels → new.told ≡ old.told ++ heard.Node server ask told ∷ []
+    → (told ≡ node_told old.journals server ask) × (new.journals ≡ world_after old.journals (steps.Node server ask))
+node_answered server ask told old new led_old led_new levels grew =
+    let P : ℕ → Type 0 = λ l. Leads (empty_world l full_limits) new.told new.journals in
+    let Q : List Heard → Type 0 = λ t. Leads (empty_world old.journals.levels full_limits) t new.journals in
+    let all = subst Q grew (subst P levels led_new) in
+    let led = leads_more old.told (heard.Node server ask told ∷ []) _ old.journals new.journals led_old all in
+    (led.0, led.1)
+
+-- nor is anything told of one that was not taken
+pub node_refused : (server : ℕ) (ask : NodeAsk) (fault : AskFault) (old new : RecorderView) → is_memory (fault_of_ask fault) ≡ false → IsLed old → IsLed new → new.journals.levels ≡ old.journals.levels → new.told ≡ old.told ++ heard_node server ask (Err fault)
+    → (None ≡ answer_in (node_told old.journals server ask)) × (new.journals ≡ world_after old.journals (steps.Node server ask))
+node_refused server ask faults.Memory old new fine led_old led_new levels grew = absurd cc
+node_refused server ask (faults.JournalFull part) old new fine led_old led_new levels grew =
+    let is = node_answered server ask (Full part) old new led_old led_new levels grew in
+    (ap answer_in is.0, is.1)
+node_refused server ask (faults.Unfounded part number) old new fine led_old led_new levels grew =
+    let is = node_answered server ask (NotFounded part number) old new led_old led_new levels grew in
+    (ap answer_in is.0, is.1)
+
+-- three texts behind one another
+pub three_texts : (old a b c x y z : List ℕ) → x ≡ old ++ a → y ≡ x ++ b → z ≡ y ++ c → z ≡ old ++ (a ++ (b ++ c))
+three_texts old a b c x y z first second third =
+    third ∙ ap (λ t. t ++ c) (second ∙ ap (λ t. t ++ b) first) ∙ append_assoc (old ++ a) b c ∙ append_assoc old a (b ++ c)
+
+-- two lines, the second by the first's end, are run one after the other
+pub then_end : {A B : Type 0} (line : Line A) (next : A → Line B) (old : JournalsView) → (run_line old (then_line line next)).end ≡ (run_line (run_line old line).after (next (run_line old line).end)).end
+then_end (Ends a) next old = refl
+then_end (AsksNode server ask more) next old = then_end (more (node_told old server ask)) next (world_after old (steps.Node server ask))
+then_end (AsksDesk ask more) next old = then_end (more (desk_told old ask)) next (world_after old (steps.Desk ask))
+then_end (AsksView ask more) next old = then_end (more (view_told old ask)) next (world_after old (steps.View ask))
+
+pub then_after : {A B : Type 0} (line : Line A) (next : A → Line B) (old : JournalsView) → (run_line old (then_line line next)).after ≡ (run_line (run_line old line).after (next (run_line old line).end)).after
+then_after (Ends a) next old = refl
+then_after (AsksNode server ask more) next old = then_after (more (node_told old server ask)) next (world_after old (steps.Node server ask))
+then_after (AsksDesk ask more) next old = then_after (more (desk_told old ask)) next (world_after old (steps.Desk ask))
+then_after (AsksView ask more) next old = then_after (more (view_told old ask)) next (world_after old (steps.View ask))
+
+-- ---- jobs one after another
+
+-- a truth as a number
+pub counted : (b : Bool) → from_bool b ≡ cond b 1 0
+counted true = refl
+counted false = refl
+
+-- one more counts at most one
+pub counted_fits : (b : Bool) (count index : ℕ) → count ≤ index → count + from_bool b ≤ index + 1
+counted_fits true count index fits = omega (arith, fits)
+counted_fits false count index fits = omega (arith, fits)
+
+-- after one job more, the jobs left come to what all come to
+pub jobs_on : (all : Mended) (end : JournalsView) (old after : JournalsView) (mended : Mended) (job : Job) (jobs : List Job) (refreshed : Bool)
+    → (run_line old (jobs_asked mended (job ∷ jobs))).end ≡ all → (run_line old (jobs_asked mended (job ∷ jobs))).after ≡ end
+    → refreshed ≡ (run_line old (job_asked job)).end → after ≡ (run_line old (job_asked job)).after
+    → ((run_line after (jobs_asked (with_job mended job refreshed) jobs)).end ≡ all) × ((run_line after (jobs_asked (with_job mended job refreshed) jobs)).after ≡ end)
+jobs_on all end old after mended job jobs refreshed ends leads is there =
+    let next = λ (done : Bool). jobs_asked (with_job mended job done) jobs in (
+      ap (λ w. (run_line w (next refreshed)).end) there ∙ ap (λ r. (run_line (run_line old (job_asked job)).after (next r)).end) is ∙ sym (then_end (job_asked job) next old) ∙ ends,
+      ap (λ w. (run_line w (next refreshed)).after) there ∙ ap (λ r. (run_line (run_line old (job_asked job)).after (next r)).after) is ∙ sym (then_after (job_asked job) next old) ∙ leads,
+    )
+
+-- after the job at that place, the jobs behind it come to what all come to
+pub jobs_next : (all : Mended) (end : JournalsView) (old after : JournalsView) (text_old text_new : List ℕ) (count number : ℕ) (jobs : List Job) (i : ℕ) (job : Job) (refreshed : Bool)
+    → i < length jobs → job ≡ get_or jobs i job
+    → (run_line old (jobs_asked (record { text = text_old; count = count }) (drop i jobs))).end ≡ all → (run_line old (jobs_asked (record { text = text_old; count = count }) (drop i jobs))).after ≡ end
+    → refreshed ≡ (run_line old (job_asked job)).end → after ≡ (run_line old (job_asked job)).after
+    → text_new ≡ text_old ++ printed (job_text job refreshed) → number ≡ from_bool refreshed
+    → ((run_line after (jobs_asked (record { text = text_new; count = count + number }) (drop (i + 1) jobs))).end ≡ all)
+    × ((run_line after (jobs_asked (record { text = text_new; count = count + number }) (drop (i + 1) jobs))).after ≡ end)
+jobs_next all end old after text_old text_new count number jobs i job refreshed less item ends leads is there said counts =
+    let before : Mended = record { text = text_old; count = count } in
+    let left : drop i jobs ≡ job ∷ drop (i + 1) jobs = drop_more jobs i job less ∙ ap (λ j. j ∷ drop (i + 1) jobs) (sym item) in
+    let now : record { text = text_new; count = count + number } ≡ with_job before job refreshed = λ k. record { text = said k; count = count + (counts ∙ counted refreshed) k } in
+    let on = jobs_on all end old after before job (drop (i + 1) jobs) refreshed
+    (sym (ap (λ js. (run_line old (jobs_asked before js)).end) left) ∙ ends) (sym (ap (λ js. (run_line old (jobs_asked before js)).after) left) ∙ leads) is there in
+    (ap (λ m. (run_line after (jobs_asked m (drop (i + 1) jobs))).end) now ∙ on.0, ap (λ m. (run_line after (jobs_asked m (drop (i + 1) jobs))).after) now ∙ on.1)
+
+-- ---- the whole line
+
+-- what all jobs of the plan came to, and how many they were, is what the line says
+pub refreshed_end : (old : JournalsView) (jobs : List Job) (before text middle after : List ℕ) (count : ℕ) → jobs ≡ refresh_jobs old → text ≡ (run_line old (jobs_asked nothing_mended jobs)).end.text → count ≡ (run_line old (jobs_asked nothing_mended jobs)).end.count
+    → middle ≡ before ++ text → after ≡ middle ++ printed (count_text count (length jobs)) → after ≡ before ++ (run_line old (refresh_asked old)).end
+refreshed_end old jobs before text middle after count planned texts counts first second =
+    let said : List Job → List ℕ = λ all. refreshed_text (length all) (run_line old (jobs_asked nothing_mended all)).end in
+    let ran = then_ran (jobs_asked nothing_mended (refresh_jobs old)) (refreshed_text (length (refresh_jobs old))) old in
+    second ∙ ap (λ m. m ++ printed (count_text count (length jobs))) first ∙ append_assoc before text (printed (count_text count (length jobs)))
+    ∙ ap (λ t. before ++ (t ++ printed (count_text count (length jobs)))) texts
+    ∙ ap (λ n. before ++ ((run_line old (jobs_asked nothing_mended jobs)).end.text ++ printed (count_text n (length jobs)))) counts
+    ∙ ap (λ all. before ++ said all) planned
+    ∙ ap (λ (r : Ran (List ℕ)). before ++ r.end) (sym ran)
+
+pub refreshed_after : (old : JournalsView) (jobs : List Job) (after : JournalsView) → jobs ≡ refresh_jobs old → after ≡ (run_line old (jobs_asked nothing_mended jobs)).after → after ≡ (run_line old (refresh_asked old)).after
+refreshed_after old jobs after planned leads =
+    let ran = then_ran (jobs_asked nothing_mended (refresh_jobs old)) (refreshed_text (length (refresh_jobs old))) old in
+    leads ∙ ap (λ all. (run_line old (jobs_asked nothing_mended all)).after) planned ∙ ap (λ (r : Ran (List ℕ)). r.after) (sym ran)

@@ -1,0 +1,93 @@
+-- The lines of operators: the refresh of stale copies, and the board.
+use Rattle.std.specs.Prelude.{◌≡◌, ℕ, ◌+◌, Bool, true, false, cond, List, [], ◌∷◌, ◌++◌, length, Option, Some, None, codes}
+use Rattle.std.specs.Fmt.{decimal}
+use Rattle.std.specs.Option.{option_and_then, option_map_or}
+use Rattle.tq_node.specs.declared.ask.NodeAsk.{NodeAsk}
+use Rattle.tq_node.specs.declared.ask.NodeAsk.TheVariants.{Work}
+use Rattle.tq_node.specs.declared.ask.WorkAsk.TheVariants.{Peek}
+use Rattle.tq_node.specs.declared.ask.NodeReply.{NodeReply}
+use Rattle.tq_node.specs.declared.ask.NodeReply.TheVariants.{Refreshed}
+use Rattle.tq_tables.specs.Journals.{JournalsView}
+use Rattle.tq_tables.specs.Parts.{view_at}
+use Rattle.tq_tables.specs.Tables.{tables_of}
+use Rattle.tq_refresh.specs.Plan.{plan_of, refresh_of}
+use Rattle.tq_refresh.specs.declared.job.Job.{Job}
+use Rattle.tq_board.specs.Board.{board_text}
+use Rattle.tq_txn.specs.declared.asker.Told.{Told}
+use Rattle.tq_txn.specs.declared.asker.Told.TheVariants.{Answer}
+use Rattle.tq_txn.specs.Line as asks
+use Rattle.tq_txn.specs.Line.{Ends, AsksNode, then_line}
+use Rattle.tq_print.specs.Print.{printed}
+
+-- ---- one job of a refresh
+
+-- the reply to an ask, with the number of its entry; none where the ask was not taken
+abbrev pub answer_in : Told NodeReply → Option (ℕ × NodeReply)
+answer_in (Answer number reply) = Some (number, reply)
+answer_in other = None
+
+abbrev pub is_refreshed : NodeReply → Bool
+is_refreshed Refreshed = true
+is_refreshed reply = false
+
+-- the copy was taken
+abbrev pub took : Option (ℕ × NodeReply) → Bool
+took answer = option_map_or (λ a. is_refreshed a.1) answer false
+
+-- what the server to be mended is asked once its source has answered
+abbrev pub mend_ask : Job → Option (ℕ × NodeReply) → Option NodeAsk
+mend_ask job answer = option_and_then (λ a. refresh_of job a.0 a.1) answer
+
+abbrev pub mend_asked : Job → Option NodeAsk → asks.Line Bool
+mend_asked job None = Ends false
+mend_asked job (Some ask) = AsksNode job.server.number ask (λ told. Ends (took (answer_in told)))
+
+-- the source is asked for its copy, and where it tells one the server is asked to take it
+abbrev pub job_asked : Job → asks.Line Bool
+job_asked job = AsksNode job.source.number (Work (Peek job.file)) (λ told. mend_asked job (mend_ask job (answer_in told)))
+
+-- the servers of the job are of a tree of those levels
+abbrev pub IsOfTree : ℕ → Job → Type 0
+IsOfTree levels job = (job.server.levels ≡ levels) × (job.source.levels ≡ levels)
+
+-- ---- all jobs, one after another
+
+-- what jobs came to: a line for each, and how many copies were mended
+pub record Mended : Type 0 where
+  pub text : List ℕ
+  pub count : ℕ
+
+abbrev pub nothing_mended : Mended
+nothing_mended = record { text = []; count = 0 }
+
+abbrev pub job_text : Job → Bool → List ℕ
+job_text job true = codes "refreshed " ++ job.file ++ codes " at " ++ decimal job.server.number ++ codes " from " ++ decimal job.source.number
+job_text job false = codes "not refreshed " ++ job.file ++ codes " at " ++ decimal job.server.number
+
+abbrev pub with_job : Mended → Job → Bool → Mended
+with_job mended job refreshed = record { text = mended.text ++ printed (job_text job refreshed); count = mended.count + cond refreshed 1 0 }
+
+abbrev pub jobs_asked : Mended → List Job → asks.Line Mended
+jobs_asked mended [] = Ends mended
+jobs_asked mended (job ∷ jobs) = then_line (job_asked job) (λ refreshed. jobs_asked (with_job mended job refreshed) jobs)
+
+-- how many of the jobs mended a copy
+abbrev pub count_text : ℕ → ℕ → List ℕ
+count_text count jobs = codes "refreshed " ++ decimal count ++ codes " of " ++ decimal jobs
+
+abbrev pub refreshed_text : ℕ → Mended → List ℕ
+refreshed_text jobs mended = mended.text ++ printed (count_text mended.count jobs)
+
+-- the jobs of the plan, as the journals stand before the first of them
+abbrev pub refresh_jobs : JournalsView → List Job
+refresh_jobs journals = plan_of (tables_of journals) (view_at journals.levels journals.view)
+
+-- each job of the plan, and then how many of them mended a copy
+abbrev pub refresh_asked : JournalsView → asks.Line (List ℕ)
+refresh_asked journals =
+    then_line (jobs_asked nothing_mended (refresh_jobs journals)) (λ mended. Ends (refreshed_text (length (refresh_jobs journals)) mended))
+
+-- ---- the board
+
+abbrev pub board_of : JournalsView → List ℕ
+board_of journals = board_text (tables_of journals) (view_at journals.levels journals.view)

@@ -1,0 +1,60 @@
+use std::io::{self, Error, ErrorKind, Read};
+use std::test::Fail;
+use tq_shape::Levels;
+use tq_shell::{Reading, RunFault, Source, Writing, run};
+
+/// A reader that is interrupted before each piece, and fails or ends after the last.
+#[derive(Drop)]
+struct Interrupted<'a> {
+    bytes: &'a [u8],
+    is_next: bool,
+    last: Option<ErrorKind>,
+}
+
+impl<'a> Read for Interrupted<'a> {
+    fn read(&mut self, buffer: &mut [u8]) -> io::Result<usize> {
+        self.is_next = !self.is_next;
+        if self.is_next {
+            return Err(Error::from(ErrorKind::Interrupted));
+        }
+        if self.bytes.is_empty() {
+            if let Some(kind) = self.last {
+                return Err(Error::from(kind));
+            }
+        }
+        let count = self.bytes.len().min(buffer.len()).min(3);
+        buffer[..count].copy_from_slice(&self.bytes[..count]);
+        self.bytes = &self.bytes[count..];
+        Ok(count)
+    }
+}
+
+#[test]
+fn interrupted_reads_are_no_failures(rt: HostRuntime) -> Result<(), Fail> {
+    let levels = Levels::new(1).ok_or("levels")?;
+    let mut source = Reading::new(Interrupted {
+        bytes: b"choose\ndown 1",
+        is_next: false,
+        last: None,
+    });
+    let mut sink = Writing::new(Vec::new(rt.alloc()));
+    let result = run(rt.alloc(), levels, &mut source, &mut sink);
+    assert_eq!(rt; result, Ok(()));
+    assert_eq!(rt; source.failures(), 0);
+    Ok(())
+}
+
+#[test]
+fn other_failed_reads_are_failures(rt: HostRuntime) -> Result<(), Fail> {
+    let levels = Levels::new(1).ok_or("levels")?;
+    let mut source = Reading::new(Interrupted {
+        bytes: b"choose\ndown 1",
+        is_next: false,
+        last: Some(ErrorKind::UnexpectedEof),
+    });
+    let mut sink = Writing::new(Vec::new(rt.alloc()));
+    let result = run(rt.alloc(), levels, &mut source, &mut sink);
+    assert_eq!(rt; result, Err(RunFault::Read));
+    assert_eq!(rt; source.failures(), 1);
+    Ok(())
+}

@@ -1,0 +1,202 @@
+-- What clap finds in the program's words where it finds no fault with them.
+use Rattle.std.proofs.Common.{◌≡◌, ◌∙◌, ◌⊎◌, inl, inr, ◌++◌, ◌||◌, ◌&&◌, ◌<◌, ◌≤◌, ◌^◌, ℕ, Bool, true, false, not, cond, List, [], ◌∷◌, Option, Some, None, is_some, length, refl, sym, ap, subst, slice_get, codes}
+use Rattle.std.specs.Prelude.{pos, Ok, Err, Result, option_map, option_and_then, unwrap_or}
+use Rattle.std.specs.Result.{IsErrAnd, IfErr}
+use Rattle.std.specs.List.{find}
+use Rattle.std.specs.Option.{option_map_or}
+use Rattle.std.specs.Str.{bytes_eq}
+use Rattle.std.specs.Str.Parse.{ParsesUnsigned}
+use Rattle.clap.specs.Facts.{explicit_source}
+use Rattle.clap.specs.Kinds.{HasKind, IsAmong, Kinds, check_kinds, or_else, range_kinds, value_kinds, values_kinds}
+use Rattle.clap.specs.Values.{kind_of, read_as}
+use Rattle.clap.specs.ValueTests.{accepts}
+use Rattle.clap.specs.Matches.{ReadsOne, one_text}
+use Rattle.clap.specs.Walk.{Row, Rule, Text, answers_to, at_row, has_row, more_values, nothing_held, row_text, rows_of, stop_after, used, with_values, without}
+use Rattle.clap.specs.Takes.{is_given}
+use Rattle.clap.specs.Simple.{Shape, argument_words, built, entered, filled, help_rule, label_of, names_of, rows_at, with_index}
+use Rattle.clap.specs.Faults.{entered_fault, fault_of, level_fault, repeat_fault, set_fault, use_fault}
+use Rattle.clap.specs.Words.{subcommand_of, without_minus}
+use Rattle.clap.specs.declared.builder.value_parser.ValueParser.TheVariants as vp
+use Rattle.clap.specs.declared.error.Error.{Error}
+use Rattle.clap.specs.declared.error.kind.ErrorKind.{ErrorKind}
+use Rattle.clap.specs.declared.error.kind.ErrorKind.TheVariants as kinds
+use Rattle.clap.specs.declared.parser.matches.ValueSource.{ValueSource}
+use Rattle.clap.specs.declared.parser.matches.ValueSource.TheVariants.{CommandLine}
+use Rattle.clap.specs.declared.builder.value_parser.Reading.TheVariants.{WithoutMinus}
+use Rattle.clap.specs.declared.parser.matches.Found.{Found}
+use Rattle.clap.proofs.WalkLemmas.{one_text-rows}
+use Rattle.clap.proofs.ValueTestLemmas.{accepts-Accepts}
+use Rattle.clap.proofs.CallerReads.{signed_reads}
+use Rattle.tq_words.specs.declared.command.WordsFault.{WordsFault}
+use Rattle.tq_words.specs.Command.{CanAsk, IsRefused, fault_by, fault_for, HasNumber, IsGiven, number_rule, shell_app, tq_app}
+use Rattle.tq_words.proofs.ParseLaws.{Keeps, both_none, level_kept}
+
+-- a fact of each row
+abbrev pub EachRow : (Row → Type 0) → List Row → Type 0
+EachRow Q [] = Unit {0}
+EachRow Q (row ∷ rows) = Q row × EachRow Q rows
+
+EachRow-append : (Q : Row → Type 0) (rows more : List Row) → EachRow Q rows → EachRow Q more → EachRow Q (rows ++ more)
+EachRow-append Q [] more each others = others
+EachRow-append Q (row ∷ rows) more each others = (each.0, EachRow-append Q rows more each.1 others)
+
+at_row_by : (Q : Row → Type 0) (row : Row) (rows changed others : List Row) (is : Bool) → Q row → EachRow Q rows → EachRow Q changed → EachRow Q others → EachRow Q (cond is (changed ++ rows) (row ∷ others))
+at_row_by Q row rows changed others true here each changes later = EachRow-append Q changed rows changes each
+at_row_by Q row rows changed others false here each changes later = (here, later)
+
+at_row_keeps : (Q : Row → Type 0) (id : Text) (change : Row → List Row) (missing rows : List Row) → ((row : Row) → Q row → EachRow Q (change row)) → EachRow Q missing → EachRow Q rows → EachRow Q (at_row id change missing rows)
+at_row_keeps Q id change missing [] changes new each = new
+at_row_keeps Q id change missing (row ∷ rows) changes new each =
+    at_row_by Q row rows (change row) (at_row id change missing rows) (bytes_eq row.id id) each.0 each.1 (changes row each.0) (at_row_keeps Q id change missing rows changes new each.1)
+
+found_by : (Q : Row → Type 0) (name : Text) (first row : Row) (later : Option Row) (named : Bool) → bytes_eq first.id name ≡ named → Q first → (later ≡ Some row → Q row × (bytes_eq row.id name ≡ true)) → cond named (Some first) later ≡ Some row → Q row × (bytes_eq row.id name ≡ true)
+found_by Q name first row later true named here there is =
+    let same : first ≡ row = cc in
+    let P : Row → Type 0 = λ r. Q r × (bytes_eq r.id name ≡ true) in
+    subst P same (here, named)
+found_by Q name first row later false named here there is = there is
+
+row_found : (Q : Row → Type 0) (name : Text) (rows : List Row) (row : Row) → EachRow Q rows → find (λ r. bytes_eq r.id name) rows ≡ Some row → Q row × (bytes_eq row.id name ≡ true)
+row_found Q name [] row each is = absurd cc
+row_found Q name (first ∷ rows) row each is = found_by Q name first row (find (λ r. bytes_eq r.id name) rows) (bytes_eq first.id name) refl each.0 (row_found Q name rows row each.1) is
+
+some_kind : (kind : ErrorKind) (kinds : Kinds) → kind ∷ kinds ≡ [] → ⊥
+some_kind kind kinds is = absurd cc
+
+-- a row of this name has a first value that passed the range
+abbrev pub Fits : Text → ℕ → ℕ → Row → Type 0
+Fits name least most row = bytes_eq row.id name ≡ true
+    → (first : Text) × (more : List Text) × (row.values ≡ first ∷ more) × (accepts false (vp.Signed (pos least) (pos most)) first ≡ true) × (row.reading ≡ WithoutMinus)
+
+more_fits : (name : Text) (least most : ℕ) (source : ValueSource) (values : List Text) (row : Row) → Fits name least most row → EachRow (Fits name least most) (more_values source values row)
+more_fits name least most source values row fits = (
+  λ same. let old = fits same in (old.0, old.1 ++ values, ap (λ l. l ++ values) old.2, old.3, old.4),
+  tt,
+)
+
+passed_by : (passes : Bool) → cond passes [] (kinds.ValueValidation ∷ []) ≡ [] → passes ≡ true
+passed_by true clean = refl
+passed_by false clean = absurd (some_kind _ _ clean)
+
+rows_by : (P : List Row → Type 0) (rows : List Row) (has : Bool) → P rows → P (cond has rows rows)
+rows_by P rows true kept = kept
+rows_by P rows false kept = kept
+
+module _ (name : Text) (least most : ℕ) where
+  values_fit : (source : ValueSource) (first : Text) (more : List Text) (rows : List Row) → accepts false (vp.Signed (pos least) (pos most)) first ≡ true → EachRow (Fits name least most) rows → EachRow (Fits name least most) (with_values name WithoutMinus source (first ∷ more) rows)
+  values_fit source first more rows good each =
+      at_row_keeps (Fits name least most) name (more_values source (first ∷ more)) (record {
+        id = name;
+        values = first ∷ more;
+        count = None;
+        source = Some source;
+        reading = WithoutMinus;
+      } ∷ []) rows (more_fits name least most source (first ∷ more)) (λ same. (first, more, refl, good, refl), tt) each
+
+  without_fits : (rows : List Row) → EachRow (Fits name least most) rows → EachRow (Fits name least most) (without name rows)
+  without_fits rows each = at_row_keeps (Fits name least most) name (λ row. []) [] rows (λ row fits. tt) tt each
+
+  -- the option as clap fills it in
+  abbrev number : Bool → Rule
+  number is_required = with_index 1 (filled (number_rule name least most is_required))
+
+  number_used : (is_required again : Bool) (values : List Text) (rows : List Row) → use_fault again (number is_required) values rows ≡ [] → EachRow (Fits name least most) rows → EachRow (Fits name least most) (used (number is_required) values rows)
+  number_used is_required again [] rows clean each = absurd (some_kind _ _ clean)
+  number_used is_required again (first ∷ more) rows clean each =
+      let parser = vp.Signed (pos least) (pos most) in
+      let counted = both_none (range_kinds 1 1 (length (first ∷ more))) (set_fault again (number is_required) (first ∷ more) rows) clean in
+      let once = both_none (repeat_fault again name rows) (values_kinds false parser (first ∷ more)) counted.1 in
+      let one = both_none (value_kinds false parser first) (values_kinds false parser more) once.1 in
+      values_fit CommandLine first more (without name rows) (passed_by (accepts false parser first) one.0) (without_fits rows each)
+
+  pub number_keeps : (is_required again : Bool) → Keeps (EachRow (Fits name least most)) again (number is_required)
+  number_keeps is_required again = (
+    number_used is_required again,
+    λ rows clean each. rows_by (EachRow (Fits name least most)) rows (has_row name rows) each,
+  )
+
+  -- `--help` is a fault
+  pub help_keeps : (again : Bool) → Keeps (EachRow (Fits name least most)) again (with_index 1 (filled help_rule))
+  help_keeps again = (
+    λ values rows clean each. absurd (some_kind _ _ (both_none (range_kinds 0 0 (length values)) (kinds.DisplayHelp ∷ []) clean).1),
+    λ rows clean each. rows_by (EachRow (Fits name least most)) rows (has_row (codes "help") rows) each,
+  )
+
+  number_by : (rows : List Row) (found : Option Row) → EachRow (Fits name least most) rows → find (λ r. bytes_eq r.id name) rows ≡ found → option_map_or (λ r. explicit_source r.source) found false ≡ true → HasNumber name least most rows
+  number_by rows None each is given = absurd cc
+  number_by rows (Some row) each is given =
+      let here = row_found (Fits name least most) name rows row each is in
+      let fits = here.0 here.1 in
+      let text : row_text row ≡ Some (without_minus fits.0) =
+      ap (λ how. option_map (read_as how) (slice_get row.values 0)) fits.4 ∙ ap (λ values. option_map (read_as WithoutMinus) (slice_get values 0)) fits.2 in (
+        fits.0,
+        ap (λ found. option_and_then row_text found) is ∙ text,
+        accepts-Accepts false (vp.Signed (pos least) (pos most)) fits.0 fits.3,
+      )
+
+  -- where the option was given its number is there
+  pub number_given : (rows : List Row) → EachRow (Fits name least most) rows → is_given name rows ≡ true → HasNumber name least most rows
+  number_given rows each given = number_by rows (find (λ r. bytes_eq r.id name) rows) each refl given
+
+-- the number that is read of an option
+pub number_read : (E : Type 0) (G : List ℕ → Result ℕ E → Type 0) (bits : ℕ) (found : Found) (name : Text) (least most : ℕ) (read : Option ℕ)
+    → HasNumber name least most (rows_of found) → ((text : List ℕ) → one_text found name ≡ Some text → ReadsOne G text read)
+    → ((text : List ℕ) (result : Result ℕ E) → G text result → ParsesUnsigned bits 10 text result) → most < 2 ^ bits
+    → (number : ℕ) × (read ≡ Some number) × (least ≤ number) × (number ≤ most) × IsGiven name (rows_of found) number
+number_read E G bits found name least most read has reads only fits =
+    let one = reads (without_minus has.0) (one_text-rows found name ∙ has.1) in
+    let got = signed_reads E G bits least most has.0 read one only fits has.2 in
+    let number : ReadsOne G (without_minus has.0) (Some got.0) = subst (λ (r : Option ℕ). ReadsOne G (without_minus has.0) r) got.1 one in
+    (got.0, got.1, got.2, got.3, (without_minus has.0, has.1, (only (without_minus has.0) (Ok got.0) number).1))
+
+-- `shell` as clap builds it
+abbrev shell : Shape
+shell = unwrap_or (slice_get (built tq_app).subs 0) shell_app.top
+
+level_clean : (first below third fourth last : Kinds) → or_else first (or_else below (or_else third (or_else fourth last))) ≡ [] → (below ≡ []) × (last ≡ [])
+level_clean first below third fourth last clean =
+    let walked = both_none first _ clean in
+    let entered = both_none below _ walked.1 in
+    let settled = both_none third _ entered.1 in
+    (entered.0, (both_none fourth last settled.1).1)
+
+given_by : (is : Bool) → check_kinds false false (not is || (false || false)) ≡ [] → is ≡ true
+given_by true clean = refl
+given_by false clean = absurd (some_kind _ _ clean)
+
+wanted_by : (is_there : Bool) → check_kinds (not is_there && false) (not is_there && true) false ≡ [] → is_there ≡ true
+wanted_by true clean = refl
+wanted_by false clean = absurd (some_kind _ _ clean)
+
+shell_has_levels : (words : List Text) → level_fault shell [] nothing_held words false [] ≡ [] → HasNumber (codes "levels") 1 6 (rows_at shell words).1
+shell_has_levels words clean =
+    let rows = (rows_at shell words).1 in
+    let kept = level_kept (EachRow (Fits (codes "levels") 1 6)) shell (number_keeps (codes "levels") 1 6 true false, (help_keeps (codes "levels") 1 6 false, tt)) [] nothing_held words false [] clean tt in
+    number_given (codes "levels") 1 6 rows kept.0 (given_by (is_given (codes "levels") rows) kept.1)
+
+shell_by : (words : List Text) (is : Bool) → option_map_or (λ s. level_fault s [] nothing_held words false []) (cond is (Some shell) None) [] ≡ [] → is_some (option_map (λ s. rows_at s words) (cond is (Some shell) None)) ≡ true → CanAsk (option_map (λ s. rows_at s words) (cond is (Some shell) None))
+shell_by words true clean there = ((rows_at shell words).1, refl, shell_has_levels words clean)
+shell_by words false clean there = absurd cc
+
+stop_asks : (stop : Option (Text × List Text)) → entered_fault (built tq_app) stop ≡ [] → is_some (entered (built tq_app) stop) ≡ true → CanAsk (entered (built tq_app) stop)
+stop_asks None clean there = absurd cc
+stop_asks (Some p) clean there = shell_by p.1 (answers_to p.0 (label_of shell)) clean there
+
+-- words without a fault name a subcommand, with the options that it needs
+pub can_ask : (words : List Text) → fault_of tq_app words ≡ [] → CanAsk (subcommand_of tq_app words)
+can_ask words clean =
+    let stop = stop_after (built tq_app).top.rules (names_of (built tq_app)) (argument_words tq_app words) in
+    let end = level_clean _ (entered_fault (built tq_app) stop) _ _ _ clean in
+    stop_asks stop end.0 (wanted_by (is_some (entered (built tq_app) stop)) end.1)
+
+-- an error of clap stands for want of memory, or for one of the faults that it finds
+refused_as : (words : List Text) (error : Error) (kind : ErrorKind) → kind_of error ≡ kind → (kind ≡ kinds.OutOfMemory) ⊎ IsAmong kind (fault_of tq_app words) → IsRefused words (fault_by kind error)
+refused_as words error kinds.OutOfMemory is has = tt
+refused_as words error kind is has = elim has [
+  | inl memory ↦ absurd cc
+  | inr among ↦ let P : ErrorKind → Type 0 = λ k. IsAmong k (fault_of tq_app words) in subst P (sym is) among
+]
+
+pub refused_by : {T : Type 0} (words : List Text) (error : Error) (result : Result T WordsFault) → HasKind (fault_of tq_app words) error → IsErrAnd result (λ fault. fault ≡ fault_for error) → IfErr result (IsRefused words)
+refused_by words error (Ok done) has is = tt
+refused_by words error (Err fault) has is = subst (IsRefused words) (sym is) (refused_as words error (kind_of error) refl has)

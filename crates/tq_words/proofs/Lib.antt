@@ -1,0 +1,2 @@
+mod ParseLaws
+mod CommandLaws

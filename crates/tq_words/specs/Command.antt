@@ -1,0 +1,74 @@
+-- The words of the command line, as clap reads them.
+use Rattle.std.specs.Prelude.{◌≡◌, ℕ, Bool, true, List, [], map, String, Option, Some, pos, codes}
+use Rattle.std.specs.Str.Parse.{digits_value, without_leading_plus}
+use Rattle.clap.specs.Words.{App, IsAmong, IsSignedIn, Row, Rule, Text, fault_of, kind_of, new_app, new_rule, one_of, subcommand_of, with_rule, without_minus, with_subcommand}
+use Rattle.clap.specs.Simple.{on_top}
+use Rattle.clap.specs.declared.builder.action.ArgAction.TheVariants.{Set}
+use Rattle.clap.specs.declared.builder.value_parser.ValueParser.TheVariants as vp
+use Rattle.clap.specs.declared.error.Error.{Error}
+use Rattle.clap.specs.declared.error.kind.ErrorKind.{ErrorKind}
+use Rattle.clap.specs.declared.error.kind.ErrorKind.TheVariants.{OutOfMemory}
+use Rattle.std.specs.String.{string_bytes}
+use Rattle.tq_words.specs.declared.command.Words.{Words}
+use Rattle.tq_words.specs.declared.command.Words.TheVariants.{Shell}
+use Rattle.tq_words.specs.declared.command.WordsFault.{WordsFault}
+use Rattle.tq_words.specs.declared.command.WordsFault.TheVariants.{Memory, Refused}
+
+-- an option that is given a number in a range
+abbrev pub number_rule : Text → ℕ → ℕ → Bool → Rule
+number_rule name least most is_required = record (new_rule name) {
+  long = Some name;
+  value_names = 1;
+  action = Some Set;
+  parser = Some (vp.Signed (pos least) (pos most));
+  required = is_required;
+}
+
+abbrev pub levels_rule : Rule
+levels_rule = number_rule (codes "levels") 1 6 true
+
+-- `shell --levels N`
+abbrev pub shell_app : App
+shell_app = with_rule (new_app (codes "shell")) levels_rule
+
+-- the program's words: a subcommand with its options
+abbrev pub tq_app : App
+tq_app =
+    with_subcommand (on_top (λ top. record top { has_version = true; disable_help_subcommand = true; subcommand_required = true }) (new_app (codes "tq")))
+    shell_app.top
+
+-- the number that was given under this name
+abbrev pub IsGiven : Text → List Row → ℕ → Type 0
+IsGiven name rows number = (text : Text) × (one_of name rows ≡ Some text) × (number ≡ digits_value 10 (without_leading_plus text))
+
+-- a number in the range was given under this name
+abbrev pub HasNumber : Text → ℕ → ℕ → List Row → Type 0
+HasNumber name least most rows = (text : Text) × (one_of name rows ≡ Some (without_minus text)) × IsSignedIn (pos least) (pos most) text
+
+-- the subcommand that was found, with its options, asks for this
+abbrev pub AsksFor : Option (Text × List Row) → Words → Type 0
+AsksFor found (Shell levels) = (rows : List Row) × (found ≡ Some (codes "shell", rows)) × IsGiven (codes "levels") rows levels
+
+-- a subcommand of the program was found, with the options that it needs
+abbrev pub CanAsk : Option (Text × List Row) → Type 0
+CanAsk found = (rows : List Row) × (found ≡ Some (codes "shell", rows)) × HasNumber (codes "levels") 1 6 rows
+
+abbrev pub texts_of : {Z : Type 0} → List (String Z) → List Text
+texts_of words = map string_bytes words
+
+-- clap finds no fault with the words, and this is what they ask for
+abbrev pub IsRead : List Text → Words → Type 0
+IsRead words read = (fault_of tq_app words ≡ []) × AsksFor (subcommand_of tq_app words) read
+
+-- clap refuses the words for such a fault, or no memory was left to read them
+abbrev pub IsRefused : List Text → WordsFault → Type 0
+IsRefused words Memory = Unit {0}
+IsRefused words (Refused error) = IsAmong (kind_of error) (fault_of tq_app words)
+
+-- the fault that an error of clap stands for
+abbrev pub fault_by : ErrorKind → Error → WordsFault
+fault_by OutOfMemory error = Memory
+fault_by _ error = Refused error
+
+abbrev pub fault_for : Error → WordsFault
+fault_for error = fault_by (kind_of error) error

@@ -1,0 +1,168 @@
+ghost use Rattle.std.specs.Prelude.{◌≡◌, IfOk, false, codes};
+ghost use Rattle.clap.specs.Words.{app_of, found_of, rows_of, rule_of};
+ghost use Rattle.clap.specs.declared.builder.command.Command.TheViews.{out-Command};
+ghost use Rattle.tq_words.specs.Command.{HasNumber, IsGiven, levels_rule, shell_app, tq_app};
+
+use clap::error::ErrorKind;
+use clap::{Arg, ArgAction, ArgMatches, Command, Error};
+use std::alloc::{AllocError, Global};
+use tq_shape::Levels;
+
+/// What the words of the command line ask for.
+#[derive(Clone, Copy, Debug, PartialEq, Eq)]
+pub enum Words {
+    /// Lines are answered, over a tree of so many levels.
+    Shell { levels: Levels },
+}
+
+/// Why words ask for nothing.
+#[derive(Debug, Drop, thiserror::Error)]
+pub enum WordsFault {
+    /// Memory was refused.
+    #[error("fault memory")]
+    Memory,
+    /// The words are no such call, or ask for help or the version. The error has the text to be shown.
+    #[error(transparent)]
+    Refused(Error),
+}
+
+impl From<AllocError> for WordsFault {
+    ghost use Rattle.std.specs.Prelude.{◌≡◌};
+    ghost use Rattle.tq_words.specs.declared.command.WordsFault.TheVariants as variants;
+
+    ghost from_gives = { λ _ fault. fault ≡ variants.Memory };
+
+    fn from(_error: AllocError) -> WordsFault {
+        WordsFault::Memory
+    }
+}
+
+impl From<Error> for WordsFault {
+    ghost use Rattle.std.specs.Prelude.{◌≡◌};
+    ghost use Rattle.tq_words.specs.Command.{fault_for};
+
+    ghost from_gives = { λ error fault. fault ≡ fault_for error };
+
+    fn from(error: Error) -> WordsFault {
+        match error.kind() {
+            ErrorKind::OutOfMemory => WordsFault::Memory,
+            _ => WordsFault::Refused(error),
+        }
+    }
+}
+
+impl Words {
+    ghost use Rattle.std.specs.Prelude.{IfOk, IfErr};
+    ghost use Rattle.clap.specs.Words.{subcommand_rows_of};
+    ghost use Rattle.tq_words.specs.Command.{AsksFor, CanAsk, IsRead, IsRefused, texts_of};
+
+    /// Reads the words, of which the first is the name of the program.
+    pub fn read(alloc: Global, words: &[String]) -> Result<Words, WordsFault>
+        ensures read { IfOk result (IsRead (texts_of words.now)) }
+        ensures refused { IfErr result (IsRefused (texts_of words.now)) }
+    {
+        let command = tq_command(alloc)?;
+        let matches = command.try_get_matches_from(words)?;
+        Ok(Words::of(&matches))
+    }
+
+    /// What the subcommand that was found asks for.
+    fn of(matches: &ArgMatches) -> Words
+        requires { CanAsk (subcommand_rows_of matches.now) }
+        ensures { AsksFor (subcommand_rows_of matches.now) result }
+    {
+        match matches.subcommand_matches("shell") {
+            Some(shell) => Words::Shell {
+                levels: levels_of(shell),
+            },
+            None => unreachable!(),
+        }
+    }
+}
+
+/// The levels that a subcommand was given.
+fn levels_of(matches: &ArgMatches) -> Levels
+    requires { HasNumber (codes "levels") 1 6 (rows_of (found_of matches.now)) }
+    ensures { IsGiven (codes "levels") (rows_of (found_of matches.now)) result }
+{
+    let Some(count) = matches.get_one::<u32>("levels") else {
+        unreachable!()
+    };
+    match Levels::new(count) {
+        Some(levels) => levels,
+        None => unreachable!(),
+    }
+}
+
+/// The program's words.
+fn tq_command<'a>(alloc: Global) -> Result<Command<'a>, AllocError>
+    ensures { IfOk result (λ command. app_of command ≡ tq_app) }
+{
+    let shell = shell_command(alloc)?;
+    Command::new(alloc, "tq")
+        .about(ABOUT)
+        .after_help(LINES)
+        .version("0.1.0")
+        .subcommand_required(true)
+        .disable_help_subcommand(true)
+        .subcommand(shell)
+}
+
+/// `shell --levels N`.
+fn shell_command<'a>(alloc: Global) -> Result<Command<'a>, AllocError>
+    ensures app { IfOk result (λ command. app_of command ≡ shell_app) }
+    ensures local { IfOk result (λ command. (out-Command command).has_globals ≡ false) }
+{
+    Command::new(alloc, "shell")
+        .about("Reads lines from standard input and answers each")
+        .after_help(LINES)
+        .arg(levels_argument(alloc))
+}
+
+fn levels_argument<'a>(alloc: Global) -> Arg<'a>
+    ensures rule { rule_of result ≡ levels_rule }
+    ensures local { result.global ≡ false }
+{
+    Arg::new(alloc, "levels")
+        .long("levels")
+        .value_name("N")
+        .help("The levels of the tree, 1 to 6")
+        .required(true)
+        .action(ArgAction::Set)
+        .value_parser(clap::value_parser!(u32).range(1..=6))
+}
+
+const ABOUT: &str = "\
+Keeps whole files in copies on the servers of a tree, and runs transactions over its quorums.
+
+A tree of N levels has the servers 1 to 2^N - 1, and under server S the servers 2S and 2S + 1.
+A quorum is a server with a quorum of one of its sides, or a quorum of each side without it;
+a server with no sides is a quorum by itself. Any two quorums have a server in common.";
+
+const LINES: &str = "\
+Lines of the shell (T a transaction, F a file, S a server, C a cost):
+  begin             begins a transaction, and answers its number
+  read T F          reads a file under shared locks at the least-cost quorum
+  write T F TEXT    writes the text to a file under exclusive locks at that quorum
+  commit T          gathers the votes, asks the desk, and tells the servers
+  abort T           ends the transaction, and releases its locks
+  prepare T S       asks one server for its vote
+  decide T          asks the desk to commit, once all votes are there
+  apply T S         tells one server how the transaction ended
+  resolve T         asks the desk how it ended: what is not decided yet is then aborted
+  down S, up S      the server crashes or returns, and is marked so
+  cost S C          the server costs C from now on, 1 to 1000000 (at first 1)
+  choose            the quorum of least cost among the servers that are up, with its cost, or,
+                    where no quorum is up, the servers that block every one
+  board             the tables: quorums, files, locks and open votes
+  refresh           mends the stale copies that can be mended now
+
+Example:
+  printf 'begin\\nwrite 1 plan v1\\ncommit 1\\n' | tq shell --levels 2
+prints
+  begun 1
+  write plan version 1 at 1 2
+  committed 1
+
+Status: 0 at the end of the input, 1 after a fault (want of memory, a failed read or write, more
+than 16777216 bytes), 2 where the words are refused.";

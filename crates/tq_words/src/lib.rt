@@ -1,0 +1,6 @@
+//! The words of the command line.
+#![tactic(auto)]
+
+mod command;
+
+pub use command::{Words, WordsFault};
