@@ -1,15 +1,15 @@
 -- The asks of a line, each told what the service answers, are its run.
 use Rattle.std.proofs.Common.{◌≡◌, ◌∙◌, ◌+◌, ◌-◌, ◌<◌, cond, nat_lt, arith, ℕ, true, List, [], ◌∷◌, ◌++◌, Some, None, refl, sym, ap, subst}
 use Rattle.tq_tables.specs.Journals.{JournalsView}
-use Rattle.tq_core.specs.declared.answer.Step.TheVariants as steps
-use Rattle.tq_core.specs.World.{empty_world}
-use Rattle.tq_core.specs.Steps.{world_after}
+use Rattle.tq_world.specs.declared.answer.Step.TheVariants as steps
+use Rattle.tq_world.specs.World.{empty_world}
+use Rattle.tq_world.specs.Steps.{world_after}
 use Rattle.tq_txn.specs.declared.asker.Heard.{Heard}
 use Rattle.tq_txn.specs.declared.asker.Heard.TheVariants as heard
 use Rattle.tq_txn.specs.Line.{Line, Ends, AsksNode, AsksDesk, AsksView, Makes, Went, then_line}
 use Rattle.tq_asking.specs.Asking.{Ran, run_line, heard_first, node_told, desk_told, view_told}
 use Rattle.std.specs.Prelude.{slice_get}
-use Rattle.tq_core.specs.World.{item_at}
+use Rattle.tq_world.specs.World.{item_at}
 use Rattle.tq_asking.specs.Recorded.{full_limits, RecorderView, Leads, IsLed, IsHeard, step_of}
 
 pub item_of : {E : Type 0} (items : List E) (number place : ℕ) (x : E) → 0 < number → number - 1 ≡ place → slice_get items place ≡ Some x → item_at items number ≡ Some x

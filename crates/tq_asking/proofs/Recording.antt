@@ -11,14 +11,14 @@ use Rattle.tq_node.specs.declared.ask.NodeAsk.{NodeAsk}
 use Rattle.tq_desk.specs.declared.ask.DeskAsk.{DeskAsk}
 use Rattle.tq_live.specs.declared.view.ViewAsk.{ViewAsk}
 use Rattle.tq_tables.specs.Journals.{JournalsView, ServerEntry, EntryOfDesk, EntryOfView}
-use Rattle.tq_core.specs.declared.answer.Answer.{Answer}
-use Rattle.tq_core.specs.declared.answer.Refusal.{Refusal}
-use Rattle.tq_core.specs.declared.answer.Refusal.TheVariants as refusals
-use Rattle.tq_core.specs.declared.answer.Reply.TheVariants as replies
-use Rattle.tq_core.specs.declared.answer.Step.{Step}
-use Rattle.tq_core.specs.declared.answer.Step.TheVariants as steps
-use Rattle.tq_core.specs.World.{item_at, server_entry, empty_world}
-use Rattle.tq_core.specs.Steps.{IsTold, told_at, refusal, answer, grown, server_journal, node_entry, desk_entry, view_entry, world_after, world_at}
+use Rattle.tq_world.specs.declared.answer.Answer.{Answer}
+use Rattle.tq_world.specs.declared.answer.Refusal.{Refusal}
+use Rattle.tq_world.specs.declared.answer.Refusal.TheVariants as refusals
+use Rattle.tq_world.specs.declared.answer.Reply.TheVariants as replies
+use Rattle.tq_world.specs.declared.answer.Step.{Step}
+use Rattle.tq_world.specs.declared.answer.Step.TheVariants as steps
+use Rattle.tq_world.specs.World.{item_at, server_entry, empty_world}
+use Rattle.tq_world.specs.Steps.{IsTold, told_at, refusal, answer, grown, server_journal, node_entry, desk_entry, view_entry, world_after, world_at}
 use Rattle.tq_core.proofs.Standing.{HasRoom, node_room, item_above}
 use Rattle.tq_shape.specs.declared.part.Part.TheVariants as parts
 use Rattle.tq_node.specs.declared.ask.NodeReply.{NodeReply}

@@ -8,10 +8,10 @@ use Rattle.tq_desk.specs.declared.ask.DeskReply.{DeskReply}
 use Rattle.tq_live.specs.declared.view.ViewAsk.{ViewAsk}
 use Rattle.tq_live.specs.declared.view.ViewReply.{ViewReply}
 use Rattle.tq_tables.specs.Journals.{JournalsView}
-use Rattle.tq_core.specs.declared.answer.Refusal.{Refusal}
-use Rattle.tq_core.specs.declared.answer.Refusal.TheVariants.{JournalFull, Unfounded}
-use Rattle.tq_core.specs.declared.answer.Step.TheVariants as steps
-use Rattle.tq_core.specs.Steps.{refusal, server_journal, node_entry, desk_entry, view_entry, world_after}
+use Rattle.tq_world.specs.declared.answer.Refusal.{Refusal}
+use Rattle.tq_world.specs.declared.answer.Refusal.TheVariants.{JournalFull, Unfounded}
+use Rattle.tq_world.specs.declared.answer.Step.TheVariants as steps
+use Rattle.tq_world.specs.Steps.{refusal, server_journal, node_entry, desk_entry, view_entry, world_after}
 use Rattle.tq_txn.specs.declared.asker.Heard.{Heard}
 use Rattle.tq_txn.specs.declared.asker.Heard.TheVariants as heard
 use Rattle.tq_txn.specs.declared.asker.Told.{Told}

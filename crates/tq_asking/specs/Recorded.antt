@@ -5,16 +5,16 @@ use Rattle.std.specs.Option.{option_map}
 use Rattle.tq_shape.specs.Limits.{LimitsView}
 use Rattle.tq_shape.specs.declared.limits.TheConstants.{MOST_FILES, MOST_OPS, MOST_ENTRIES}
 use Rattle.tq_tables.specs.Journals.{JournalsView, ServerEntry, EntryOfDesk, EntryOfView}
-use Rattle.tq_core.specs.declared.answer.Step.{Step}
-use Rattle.tq_core.specs.declared.answer.Step.TheVariants as steps
-use Rattle.tq_core.specs.World.{item_at, server_entry, empty_world}
-use Rattle.tq_core.specs.Steps.{world_after}
+use Rattle.tq_world.specs.declared.answer.Step.{Step}
+use Rattle.tq_world.specs.declared.answer.Step.TheVariants as steps
+use Rattle.tq_world.specs.World.{item_at, server_entry, empty_world}
+use Rattle.tq_world.specs.Steps.{world_after}
 use Rattle.tq_txn.specs.declared.asker.Heard.{Heard}
 use Rattle.tq_txn.specs.declared.asker.Heard.TheVariants as heard
 use Rattle.tq_txn.specs.declared.asker.Told.{Told}
 use Rattle.tq_txn.specs.declared.asker.Told.TheVariants.{Answer, Full, NotFounded}
-use Rattle.tq_core.specs.declared.answer.Refusal.{Refusal}
-use Rattle.tq_core.specs.declared.answer.Refusal.TheVariants as refusals
+use Rattle.tq_world.specs.declared.answer.Refusal.{Refusal}
+use Rattle.tq_world.specs.declared.answer.Refusal.TheVariants as refusals
 use Rattle.tq_shape.specs.declared.part.Part.TheVariants as parts
 use Rattle.tq_asking.specs.Asking.{node_told, desk_told, view_told}
 use Rattle.tq_asking.specs.declared.recorder.Place.{Place}

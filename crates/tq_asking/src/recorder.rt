@@ -1,5 +1,5 @@
 ghost use Rattle.std.specs.Prelude.{◌≡◌, ◌++◌, ◌∷◌, [], ◌≤◌, ◌+◌, length, vec_len, vec_capacity, IfOk, OnOk};
-ghost use Rattle.tq_core.specs.Steps as steps;
+ghost use Rattle.tq_world.specs.Steps as steps;
 ghost use Rattle.tq_asking.specs.Asking as asking;
 ghost use Rattle.tq_asking.specs.Recorded as spec;
 
@@ -42,7 +42,7 @@ impl Model for Recorder {
 impl Recorder {
     ghost use Rattle.std.specs.Prelude.{◌≡◌, [], Some, Ok, IfOk};
     ghost use Rattle.tq_txn.specs.Lines.{any_line};
-    ghost use Rattle.tq_core.specs.World.{empty_world};
+    ghost use Rattle.tq_world.specs.World.{empty_world};
     ghost use Rattle.tq_txn.specs.Line.{Went, desk_line, view_line, ended_by};
     ghost use Rattle.tq_asking.specs.Recorded.{full_limits, IsLed};
 

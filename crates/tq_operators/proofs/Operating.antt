@@ -3,9 +3,9 @@ use Rattle.std.specs.Int.{from_bool}
 use Rattle.std.proofs.Common.{◌≡◌, ◌∙◌, ◌+◌, ◌<◌, ◌≤◌, ℕ, Bool, true, cond, List, [], ◌∷◌, ◌++◌, length, get_or, drop, append_assoc, None, Err, false, refl, sym, ap, subst, arith}
 use Rattle.std.proofs.lemmas.List.{drop_more}
 use Rattle.tq_tables.specs.Journals.{JournalsView}
-use Rattle.tq_core.specs.declared.answer.Step.TheVariants as steps
-use Rattle.tq_core.specs.World.{empty_world}
-use Rattle.tq_core.specs.Steps.{world_after}
+use Rattle.tq_world.specs.declared.answer.Step.TheVariants as steps
+use Rattle.tq_world.specs.World.{empty_world}
+use Rattle.tq_world.specs.Steps.{world_after}
 use Rattle.tq_node.specs.declared.ask.NodeAsk.{NodeAsk}
 use Rattle.tq_node.specs.declared.ask.NodeReply.{NodeReply}
 use Rattle.tq_txn.specs.declared.asker.Heard.{Heard}

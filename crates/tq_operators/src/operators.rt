@@ -2,8 +2,8 @@
 ghost use Rattle.std.specs.Prelude.{◌≡◌, ◌++◌, true, false, IfOk, OnOk};
 ghost use Rattle.std.specs.List.{All};
 ghost use Rattle.std.specs.Option.{option_map};
-ghost use Rattle.tq_core.specs.Steps.{world_after};
-ghost use Rattle.tq_core.specs.declared.answer.Step.TheVariants as steps;
+ghost use Rattle.tq_world.specs.Steps.{world_after};
+ghost use Rattle.tq_world.specs.declared.answer.Step.TheVariants as steps;
 ghost use Rattle.tq_txn.specs.Line.{fault_of_ask};
 ghost use Rattle.tq_asking.specs.Asking.{node_told, run_line};
 ghost use Rattle.tq_operators.specs.Operators as spec;

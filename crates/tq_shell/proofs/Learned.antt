@@ -1,8 +1,8 @@
 -- What is known after lines is learned from them, from their asks and from what these were told.
 use Rattle.std.proofs.Common.{◌≡◌, ◌∙◌, List, [], ◌∷◌, Some, refl, sym, ap, fold}
 use Rattle.tq_tables.specs.Journals.{JournalsView}
-use Rattle.tq_core.specs.declared.answer.Step.TheVariants as steps
-use Rattle.tq_core.specs.Steps as core
+use Rattle.tq_world.specs.declared.answer.Step.TheVariants as steps
+use Rattle.tq_world.specs.Steps as core
 use Rattle.tq_txn.specs.Line as asks
 use Rattle.tq_txn.specs.Line.{Ends, AsksNode, AsksDesk, AsksView}
 use Rattle.tq_shell.specs.Answer.{World, answer}

@@ -1,7 +1,7 @@
 -- What the shell stands on, and what it answers to a line.
 use Rattle.std.specs.Prelude.{ℕ, List}
 use Rattle.tq_tables.specs.Journals.{JournalsView}
-use Rattle.tq_core.specs.World.{empty_world}
+use Rattle.tq_world.specs.World.{empty_world}
 use Rattle.tq_txn.specs.declared.asker.Heard.{Heard}
 use Rattle.tq_asking.specs.Asking.{Ran, run_line}
 use Rattle.tq_shell.specs.Asked.{Spoken, asked}

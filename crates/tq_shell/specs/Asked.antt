@@ -10,7 +10,7 @@ use Rattle.tq_desk.specs.declared.ask.DeskReply.TheVariants as desk_replies
 use Rattle.tq_live.specs.View.{is_server, is_cost}
 use Rattle.tq_live.specs.declared.view.ViewAsk.TheVariants as view_asks
 use Rattle.tq_tables.specs.Journals.{JournalsView}
-use Rattle.tq_core.specs.World.{item_at}
+use Rattle.tq_world.specs.World.{item_at}
 use Rattle.tq_txn.specs.declared.fault.LineFault.{LineFault}
 use Rattle.tq_txn.specs.declared.asker.ViewTold.{ViewTold}
 use Rattle.tq_states.specs.declared.told.DeskTold.{DeskTold}

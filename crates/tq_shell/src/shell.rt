@@ -49,7 +49,7 @@ impl Model for Shell {
 
 impl Shell {
     ghost use Rattle.std.specs.Prelude.{◌≡◌, ◌++◌, IfOk, OnOk};
-    ghost use Rattle.tq_core.specs.World.{item_at};
+    ghost use Rattle.tq_world.specs.World.{item_at};
     ghost use Rattle.tq_shell.specs.Answer.{opening, answer, answered};
     ghost use Rattle.tq_asking.specs.Asking.{run_line};
 
