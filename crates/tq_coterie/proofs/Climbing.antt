@@ -3,15 +3,11 @@ use Rattle.std.proofs.Common.{◌≡◌, ℕ, ◌/◌, ◌<◌, ◌≤◌, zero,
 use Rattle.std.proofs.lemmas.Bool.{false_from_ne_true, false≢true}
 use Rattle.tq_shape.specs.Tree.{ancestor, IsAtOrAbove}
 use Rattle.tq_shape.proofs.Tree.{ancestor-first, IsAbove-from_stands_in}
+use Rattle.tq_shape.proofs.Towards.{ancestor-most}
 use Rattle.tq_coterie.specs.Coterie.{has}
 use Rattle.tq_coterie.specs.Parts.{part_of}
 use Rattle.tq_coterie.specs.declared.part.Part.TheVariants.{Empty}
 use Rattle.tq_coterie.proofs.Parts.{part_of-empty}
-
-ancestor-most : (steps number : ℕ) → ancestor steps number ≤ number
-unfolding ancestor
-ancestor-most zero number = omega arith
-ancestor-most (suc steps) number = omega (arith, ancestor-most steps number)
 
 -- a server that is no greater than one at or above it is that one
 pub above_no_greater : (above server : ℕ) → server ≤ above → IsAtOrAbove above server → server ≡ above

@@ -1,19 +1,16 @@
 -- Any two members of one tree have a server in common.
-use Rattle.std.proofs.Common.{◌≡◌, ℕ, ◌-◌, zero, suc, List, [], ◌∷◌, true, eqb, refl, ◌∙◌}
+use Rattle.std.proofs.Common.{◌≡◌, ℕ, ◌-◌, zero, suc, List, [], ◌∷◌, true, eqb, ◌∙◌}
 use Rattle.std.specs.List.{All, Contains}
-use Rattle.std.proofs.lemmas.Bool.{eq-eqb, or_left, or_right}
+use Rattle.std.proofs.lemmas.Bool.{or_left, or_right}
 use Rattle.std.proofs.lemmas.List.Elements.{All-contains}
 use Rattle.tq_shape.specs.Tree.{left_of, right_of}
 use Rattle.tq_coterie.specs.Coterie.{joined, members, has, Meets, AnyTwoMeet}
-use Rattle.tq_coterie.proofs.Sets.{has-joined}
+use Rattle.tq_coterie.proofs.Sets.{has-head, has-joined}
 use Rattle.tq_coterie.proofs.Members.{members-all, members-zero, members-suc}
 
 -- the set meets every member
 abbrev MeetsAll : ℕ → ℕ → List ℕ → Type 0
 MeetsAll height top q = All (Meets q) (members height top)
-
-has-head : (top : ℕ) (q : List ℕ) → has (top ∷ q) top ≡ true
-has-head top q = or_left (eqb top top) (has q top) (eq-eqb top top refl)
 
 has-tail : (top s : ℕ) (q : List ℕ) → has q s ≡ true → has (top ∷ q) s ≡ true
 has-tail top s q at = or_right (eqb top s) (has q s) at

@@ -12,7 +12,7 @@ use Rattle.tq_coterie.specs.Parts.{part_from_sides, part_of}
 use Rattle.tq_coterie.specs.declared.part.Part.{Part}
 use Rattle.tq_coterie.specs.declared.part.Part.TheVariants.{Empty, Member, Neither}
 use Rattle.tq_coterie.specs.Coterie.{Ascends}
-use Rattle.tq_coterie.proofs.Sets.{has-below, Ascends-joined, joined-nil, same_set, has-joined}
+use Rattle.tq_coterie.proofs.Sets.{has-below, has-head, Ascends-joined, joined-nil, same_set, has-joined}
 use Rattle.tq_coterie.proofs.Members.{IsSetOf, IsSetOf-leaf, IsSetOf-left, IsSetOf-right, IsSetOf-both, sides_members_apart, top_or, members-all, member-set, Contains-leaf, Contains-with_left, Contains-with_right, Contains-both}
 
 -- ---- a member is found
@@ -45,9 +45,6 @@ fork_found : (height top : ℕ) (servers : List ℕ) (here : Bool) (left right :
 unfolding part_of
 fork_found height top servers here left right e f g = rw (e, f, g) refl
 
-has-top : (top : ℕ) (q : List ℕ) → has (top ∷ q) top ≡ true
-has-top top q = rw (eq-eqb top top refl) refl
-
 -- below the top, `top ∷ q` has what q has
 has-under : (height top side s : ℕ) (q : List ℕ) → 0 < top → side / 2 ≡ top → stands_in height side s ≡ true → has (top ∷ q) s ≡ has q s
 has-under height top side s q positive is under =
@@ -70,7 +67,7 @@ IsFound-left height top q is = record {
   set = IsSetOf-left height top q is.set;
   found = λ positive servers agree.
       fork_found height top servers true Member Empty
-      (agree top (stands_in-top (suc height) top) ∙ has-top top q)
+      (agree top (stands_in-top (suc height) top) ∙ has-head top q)
       (is.found (omega arith) servers
       (λ s under. agree s (stands_in-left height top s under) ∙ has-under height top (left_of top) s q positive (omega arith) under))
       (part_of-empty height (right_of top) servers
@@ -84,7 +81,7 @@ IsFound-right height top p is = record {
   set = IsSetOf-right height top p is.set;
   found = λ positive servers agree.
       fork_found height top servers true Empty Member
-      (agree top (stands_in-top (suc height) top) ∙ has-top top p)
+      (agree top (stands_in-top (suc height) top) ∙ has-head top p)
       (part_of-empty height (left_of top) servers
       (λ s under.
       agree s (stands_in-left height top s under)

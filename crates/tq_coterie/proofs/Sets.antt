@@ -30,6 +30,10 @@ pub Ascends-from : (low high : ℕ) (xs : List ℕ) → low ≤ high → Ascends
 Ascends-from low high [] le up = tt
 Ascends-from low high (x ∷ xs) le up = (omega (arith, up.0), up.1)
 
+-- a set has its first server
+pub has-head : (first : ℕ) (rest : List ℕ) → has (first ∷ rest) first ≡ true
+has-head first rest = or_left (eqb first first) (has rest first) (eq-eqb first first refl)
+
 -- a set has no server at or below its bound
 pub has-below : (low server : ℕ) (xs : List ℕ) → Ascends low xs → server ≤ low → has xs server ≡ false
 has-below low server [] up le = refl

@@ -11,7 +11,7 @@ use Rattle.tq_coterie.specs.Coterie.{Ascends}
 use Rattle.tq_shape.specs.Tree.{Server}
 use Rattle.tq_coterie.proofs.Intersecting.{members-meet}
 use Rattle.tq_coterie.proofs.Parts.{Ascends-member}
-use Rattle.tq_coterie.proofs.Sets.{has-below}
+use Rattle.tq_coterie.proofs.Sets.{has-below, has-head}
 
 same_test : (a b : Bool) → (a ≡ true → b ≡ true) → (b ≡ true → a ≡ true) → a ≡ b
 same_test true b f g = sym (f refl)
@@ -29,9 +29,6 @@ tested levels numbers answer is =
 pub has-numbers_of : (servers : List Server) (number : ℕ) → list_any (λ server. nat_eq server.number number) servers ≡ has (numbers_of servers) number
 has-numbers_of [] number = refl
 has-numbers_of (first ∷ rest) number = ap (λ b. nat_eq first.number number || b) (has-numbers_of rest number)
-
-has-head : (first : ℕ) (rest : List ℕ) → has (first ∷ rest) first ≡ true
-has-head first rest = grind (arith, nat_tests)
 
 same_number : (a b : ℕ) → eqb a b ≡ true → a ≡ b
 same_number a b h = grind (arith, nat_tests)

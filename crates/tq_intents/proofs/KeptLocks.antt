@@ -1,6 +1,5 @@
 -- The locks that a list of records keeps, at a file and a transaction.
 use Rattle.std.proofs.Common.{◌≡◌, ◌==◌, ℕ, Bool, true, false, cond, ◌&&◌, List, [], ◌∷◌, ◌++◌, map, Option, Some, None, refl, ap, sym, ◌∙◌}
-use mathlib.Core.Bool.{true≢false}
 use Rattle.std.specs.Cmp.{nat_cmp_total, unsigned_tied}
 use Rattle.std.specs.Cmp.Lexicographic.{pointwise, texts_ties}
 use Rattle.std.specs.FinMap as fin
@@ -9,6 +8,7 @@ use Rattle.std.specs.Option.{option_and_then, option_map}
 use Rattle.std.specs.Ordering.{nat_cmp, is_eq, eq_by_cmp, ordering_then}
 use Rattle.std.specs.declared.cmp.Ordering.{Ordering}
 use Rattle.std.specs.declared.cmp.Ordering.TheVariants.{Less, Equal, Greater}
+use Rattle.tq_shape.proofs.Orderings.{is_eq-Equal}
 use Rattle.tq_store.specs.Copies.{name_cmp}
 use Rattle.tq_locks.specs.Locks.{LockKey, lock_cmp}
 use Rattle.tq_locks.specs.declared.mode.Lock.{Lock}
@@ -82,18 +82,13 @@ find-other file txn t (lock ∷ locks) e =
 abbrev locks_in : List Entry → List Held
 locks_in es = flat_map (λ vote. map (stable_lock vote.0) vote.1.locks) es
 
-equal : (r : Ordering) → is_eq r ≡ true → r ≡ Equal
-equal Less x = absurd (true≢false (sym x))
-equal Equal x = refl
-equal Greater x = absurd (true≢false (sym x))
-
 module _ (votes : Votes) (file : List ℕ) (txn : ℕ) where
   abbrev IsItsVote : Entry → Type 0
   IsItsVote e = fin.get votes e.0 ≡ Some e.1
 
   -- a vote of the transaction in the list is the one that the map has
   own_vote : (e : Entry) → IsItsVote e → eq_by_cmp nat_cmp txn e.0 ≡ true → fin.get votes txn ≡ Some e.1
-  own_vote e h t = sym (fin.get_tied nat_cmp_total votes txn e.0 (equal (nat_cmp txn e.0) t)) ∙ h
+  own_vote e h t = sym (fin.get_tied nat_cmp_total votes txn e.0 (is_eq-Equal (nat_cmp txn e.0) t)) ∙ h
 
   found_vote : (es : List Entry) (vote : OpenVote) → AllByRecursion IsItsVote es → fin.find nat_cmp txn es ≡ Some vote → fin.get votes txn ≡ Some vote
   found_vote [] vote h f = absurd (none_some vote f)

@@ -11,6 +11,7 @@ use Rattle.std.specs.Option.{is_none}
 use Rattle.std.specs.Ordering.{is_lt, is_eq, ordering_reverse}
 use Rattle.std.specs.declared.cmp.Ordering.{Ordering}
 use Rattle.std.specs.declared.cmp.Ordering.TheVariants.{Less, Equal, Greater}
+use Rattle.tq_shape.proofs.Orderings.{is_eq-Equal}
 use Rattle.tq_shape.specs.Journal.{Has}
 
 pub some_same : {A : Type 0} (x y : A) → Some x ≡ Some y → x ≡ y
@@ -31,11 +32,6 @@ less : (r : Ordering) → T (is_lt r) → r ≡ Less
 less Less h = refl
 less Equal h = absurd h
 less Greater h = absurd h
-
-equal : (r : Ordering) → is_eq r ≡ true → r ≡ Equal
-equal Less h = absurd (true≢false (sym h))
-equal Equal h = refl
-equal Greater h = absurd (true≢false (sym h))
 
 itself : (r : Ordering) → r ≡ ordering_reverse r → is_eq r ≡ true
 itself Less h = absurd (true≢false (ap is_lt h))
@@ -70,7 +66,7 @@ not_tied r s e f = ap is_eq (f ∙ ap ordering_reverse e)
 
 module _ {K X : Type 0} {R : K → K → Ordering} (o : IsTotalOrder R) (same : IsAntisymmetric R) where
   looked_step : (x : K × X) (es : List (K × X)) (q : K) (v : X) (b : Bool) → is_eq (R q x.0) ≡ b → cond b (Some x.1) (fin.find R q es) ≡ Some v → (fin.find R q es ≡ Some v → Has es (q, v)) → Has (x ∷ es) (q, v)
-  looked_step x es q v true t f next = inl (λ i. (sym (same q x.0 (equal (R q x.0) t)) i, some_same x.1 v f i))
+  looked_step x es q v true t f next = inl (λ i. (sym (same q x.0 (is_eq-Equal (R q x.0) t)) i, some_same x.1 v f i))
   looked_step x es q v false t f next = inr (next f)
 
   -- what a look-up finds is an entry

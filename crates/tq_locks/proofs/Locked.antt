@@ -7,21 +7,17 @@ use Rattle.std.specs.Cmp.Lexicographic.{pointwise, same_text, nat_list_cmp_total
 use Rattle.std.specs.FinMap as fin
 use Rattle.std.specs.List as lists
 use Rattle.std.specs.Option.{option_map, option_map_or}
-use Rattle.std.specs.Ordering.{nat_cmp, is_eq, eq_by_cmp, ordering_then}
+use Rattle.std.specs.Ordering.{nat_cmp, eq_by_cmp, ordering_then}
 use Rattle.std.specs.declared.cmp.Ordering.{Ordering}
-use Rattle.std.specs.declared.cmp.Ordering.TheVariants.{Less, Equal, Greater}
-use Rattle.tq_locks.specs.Locks.{LockKey, Locks, lock_cmp, conflicts, stronger, blocks, Blocks, IsFree, IsLeastBlocker, IsTold, outcome, blocker, lock_after, granted, released, only_stable, stabilised, kept, HasNoConflict}
+use Rattle.std.specs.declared.cmp.Ordering.TheVariants.{Less}
+use Rattle.tq_locks.specs.Locks.{LockKey, Locks, lock_cmp, conflicts, stronger, blocks, Blocks, IsFree, IsLeastBlocker, blocker, lock_after, granted, released, only_stable, stabilised, kept, HasNoConflict}
 use Rattle.tq_locks.specs.declared.mode.Mode.{Mode}
 use Rattle.tq_locks.specs.declared.mode.Mode.TheVariants.{Shared, Exclusive}
 use Rattle.tq_locks.specs.declared.mode.Lock.{Lock}
 use Rattle.tq_locks.proofs.Found.{some_same, none_some, found, none_passes, first_passes, entry_of, get-entry_of}
 use Rattle.tq_locks.proofs.LockMaps.{locks_total, locks_same}
 use Rattle.tq_shape.specs.Journal.{Has}
-
-is_eq-Equal : (r : Ordering) → is_eq r ≡ true → r ≡ Equal
-is_eq-Equal Less h = absurd (true≢false (sym h))
-is_eq-Equal Equal h = refl
-is_eq-Equal Greater h = absurd (true≢false (sym h))
+use Rattle.tq_shape.proofs.Orderings.{is_eq-Equal}
 
 abbrev key : List ℕ → ℕ → LockKey
 key file txn = (file, txn)
@@ -37,9 +33,6 @@ get-granted locks file txn mode number version q = fin.get-insert locks_total lo
 
 pub get-released : (locks : Locks) (txn : ℕ) (q : LockKey) → fin.get (released locks txn) q ≡ cond (not (q.1 == txn)) (fin.get locks q) None
 get-released locks txn q = fin.get-retain_keys locks (λ key. not (key.1 == txn)) q (λ k t. ap (λ (key : LockKey). not (key.1 == txn)) (sym (locks_same q k t)))
-
-is_stable : Option Lock → Bool
-is_stable o = option_map_or (λ lock. lock.stable) o false
 
 pub get-only_stable : (locks : Locks) (q : LockKey) → fin.get (only_stable locks) q ≡ cond (option_map_or (λ lock. lock.stable) (fin.get locks q) false) (fin.get locks q) None
 get-only_stable locks q = fin.get-retain_keys locks (λ key. option_map_or (λ lock. lock.stable) (fin.get locks key) false) q (λ k t. ap (λ (key : LockKey). option_map_or (λ lock. lock.stable) (fin.get locks key) false) (sym (locks_same q k t)))
@@ -138,13 +131,6 @@ no_blocker locks file txn mode h = IsFree-blocker locks file txn mode (nothing (
     nothing None h = refl
     nothing (Some e) h = absurd (none_some e.0.1 (sym h))
 
-pub IsTold-outcome : (locks : Locks) (file : List ℕ) (txn : ℕ) (mode : Mode) → IsTold locks file txn mode (outcome (blocker locks file txn mode))
-IsTold-outcome locks file txn mode = by_blocker (blocker locks file txn mode) (least_blocker locks file txn mode) (no_blocker locks file txn mode)
-  where
-    by_blocker : (o : Option ℕ) → IfSome o (IsLeastBlocker locks file txn mode) → (o ≡ None → IsFree locks file txn mode) → IsTold locks file txn mode (outcome o)
-    by_blocker None l f = f refl
-    by_blocker (Some by) l f = l
-
 -- ---- no two locks are in conflict
 
 conflicts-swapped : (a b : Mode) → conflicts a b ≡ conflicts b a
@@ -156,9 +142,6 @@ conflicts-swapped Exclusive Exclusive = refl
 stronger_agrees : (had mode other : Mode) → conflicts had other ≡ false → conflicts mode other ≡ false → conflicts (stronger had mode) other ≡ false
 stronger_agrees Shared mode other h k = k
 stronger_agrees Exclusive mode other h k = h
-
-pub HasNoConflict-empty : HasNoConflict fin.empty
-HasNoConflict-empty file s t a b h f g = absurd (none_some a (sym (fin.get-empty lock_cmp (key file s)) ∙ f))
 
 -- the table has a lock of this mode there
 abbrev pub HasMode : Locks → LockKey → Mode → Type 0

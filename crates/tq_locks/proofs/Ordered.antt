@@ -1,7 +1,6 @@
 -- A tree's entries, which rise by their keys, and the finite map that contracts see.
 use Rattle.std.proofs.Common.{◌≡◌, Bool, true, false, cond, ◌&&◌, List, [], ◌∷◌, Option, Some, None, filter, refl, ap, sym, subst, ◌∙◌}
 use lib.Dec.{T}
-use mathlib.Core.Bool.{true≢false}
 use Rattle.std.proofs.lemmas.Map.Entries.{lookup-filter-keys, lookup-filter-values, option_filter}
 use Rattle.std.proofs.lemmas.Map.Keys.{IsDistinct-from_sorted}
 use Rattle.std.specs.Option.{option_map_or}
@@ -13,9 +12,10 @@ use Rattle.std.specs.FinMap.Entries.{below_all}
 use Rattle.std.specs.List.{AllByRecursion}
 use Rattle.std.specs.List.Sorted.{IsStrictlySortedBy}
 use Rattle.std.specs.Map.{lookup, keys_of}
-use Rattle.std.specs.Ordering.{is_lt, is_eq, eq_by_cmp}
+use Rattle.std.specs.Ordering.{is_lt, eq_by_cmp}
 use Rattle.std.specs.declared.cmp.Ordering.{Ordering}
-use Rattle.std.specs.declared.cmp.Ordering.TheVariants.{Less, Equal, Greater}
+use Rattle.std.specs.declared.cmp.Ordering.TheVariants.{Less, Equal}
+use Rattle.tq_shape.proofs.Orderings.{is_eq-Equal}
 
 both : (a b : Bool) → T a → T b → T (a && b)
 both true b x y = y
@@ -34,11 +34,6 @@ module _ {K X : Type 0} (R : K → K → Ordering) where
   pub find_entry : (es : List (K × X)) (q : K) → find R q es ≡ lookup (is_at (R q)) es
   find_entry [] q = refl
   find_entry (e ∷ es) q = ap (cond (is_at (R q) e.0) (Some e.1)) (find_entry es q)
-
-is_eq-Equal : (r : Ordering) → is_eq r ≡ true → r ≡ Equal
-is_eq-Equal Less h = absurd (true≢false (sym h))
-is_eq-Equal Equal h = refl
-is_eq-Equal Greater h = absurd (true≢false (sym h))
 
 is_at-Equal : {K : Type 0} (R : K → K → Ordering) (q k : K) → is_at (R q) k ≡ true → R q k ≡ Equal
 is_at-Equal R q k h = is_eq-Equal (R q k) h

@@ -4,3 +4,4 @@ pub mod Towards
 pub mod Joined
 pub mod Places
 pub mod Marks
+pub mod Orderings

@@ -7,12 +7,6 @@ use Rattle.std.proofs.lemmas.List.Elements.{All-cons, All-head, All-tail}
 use Rattle.std.proofs.lemmas.List.{get_or_default}
 use Rattle.tq_shape.specs.ServerSet.{has_number, with_number, without_number, marked}
 
--- no number is below the first
-pub marked-above : (low first : ℕ) (marks : List Bool) → low < first → All (λ number. low < number) (marked first marks)
-marked-above low first [] less = λ k d h. absurd (omega (arith, h))
-marked-above low first (true ∷ marks) less = All-cons (λ number. low < number) first (marked (first + 1) marks) less (marked-above low (first + 1) marks (omega (arith, less)))
-marked-above low first (false ∷ marks) less = marked-above low (first + 1) marks (omega (arith, less))
-
 -- none is marked twice
 not-marked : (low first : ℕ) (marks : List Bool) → low < first → has_number (marked first marks) low ≡ false
 not-marked low first [] less = refl

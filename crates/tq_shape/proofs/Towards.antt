@@ -11,7 +11,7 @@ above-itself number = (0, refl)
 pub above-first : (above number : ℕ) → IsAtOrAbove above (number / 2) → IsAtOrAbove above number
 above-first above number found = (suc found.0, ancestor-first found.0 number ∙ found.1)
 
-ancestor-most : (steps number : ℕ) → ancestor steps number ≤ number
+pub ancestor-most : (steps number : ℕ) → ancestor steps number ≤ number
 unfolding ancestor
 ancestor-most zero number = omega arith
 ancestor-most (suc steps) number = omega (arith, ancestor-most steps number)

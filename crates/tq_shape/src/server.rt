@@ -66,6 +66,7 @@ impl ServerId {
         ServerId { levels, number }
     }
 
+    /// The number of the server: server 1 is the root, and those of a level are numbered from left to right.
     pub fn number(self) -> u64
         ensures value { result ≡ self.number }
         ensures within { IsServer self.levels result }

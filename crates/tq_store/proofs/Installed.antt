@@ -1,14 +1,12 @@
 -- What the copies are after one comes, file by file.
 use Rattle.std.proofs.Common.{◌≡◌, ◌≢◌, ℕ, ◌<◌, ◌≤◌, Bool, true, false, cond, List, [], ◌∷◌, Option, Some, None, refl, ap, sym, subst, ◌∙◌, arith, nat_lt}
-use mathlib.Core.Bool.{true≢false}
 use Rattle.std.proofs.lemmas.Bool.Decides.{nat_tests}
 use Rattle.std.specs.Cmp.{eq_by_cmp_equiv}
 use Rattle.std.specs.Cmp.Lexicographic.{nat_list_cmp_total}
 use Rattle.std.specs.FinMap as fin
 use Rattle.std.specs.FinMap.{nat_cmp-IsAntisymmetric, slice_cmp-IsAntisymmetric}
-use Rattle.std.specs.Ordering.{is_eq, eq_by_cmp}
-use Rattle.std.specs.declared.cmp.Ordering.{Ordering}
-use Rattle.std.specs.declared.cmp.Ordering.TheVariants.{Less, Equal, Greater}
+use Rattle.std.specs.Ordering.{eq_by_cmp}
+use Rattle.tq_shape.proofs.Orderings.{is_eq-Equal}
 use Rattle.tq_store.specs.declared.copies.FileCopy.{FileCopy}
 use Rattle.tq_store.specs.declared.write.Write.{Write}
 use Rattle.tq_store.specs.Copies.{Files, Installs, OnlyRises, name_cmp, copy_at, copy_of, copy_in, installed, installed_all}
@@ -16,11 +14,6 @@ use Rattle.tq_store.specs.Copies.{Files, Installs, OnlyRises, name_cmp, copy_at,
 -- what a file has after a copy comes
 abbrev pub arrives : Option FileCopy → FileCopy → Option FileCopy
 arrives had copy = cond (nat_lt (copy_at had).version copy.version) (Some copy) had
-
-is_eq-Equal : (r : Ordering) → is_eq r ≡ true → r ≡ Equal
-is_eq-Equal Less h = absurd (true≢false (sym h))
-is_eq-Equal Equal h = refl
-is_eq-Equal Greater h = absurd (true≢false (sym h))
 
 -- names that compare alike are one
 pub same_name : (a b : List ℕ) → eq_by_cmp name_cmp a b ≡ true → a ≡ b

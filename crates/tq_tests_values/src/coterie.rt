@@ -1,3 +1,5 @@
+ghost use Rattle.std.specs.Prelude.{◌≡◌, IfOk};
+
 use std::alloc::{AllocError, Global};
 use std::test::Fail;
 use tq_coterie::{Blocker, Quorum, holds_quorum, is_quorum, meet};
@@ -107,22 +109,44 @@ fn sum_of(servers: &[ServerId]) -> u64 {
         .fold(0, |sum, server| sum.wrapping_add(server.number()))
 }
 
+/// A quorum of the tree of three levels.
+fn quorum_of(alloc: Global, numbers: &[u64]) -> Result<Quorum, Fail>
+    ensures { IfOk result (λ quorum. quorum.levels ≡ 3) }
+{
+    let levels = Levels::new(3).ok_or("levels")?;
+    match Quorum::of(alloc, levels, numbers)? {
+        Some(quorum) => Ok(quorum),
+        None => Err(Fail::new("no quorum")),
+    }
+}
+
 #[test]
 fn quorums_meet_in_their_least_common_server(rt: HostRuntime) -> Result<(), Fail> {
-    let levels = Levels::new(3).ok_or("levels")?;
-    let some = Quorum::of(rt.alloc(), levels, [1, 4, 5].as_slice())?.ok_or("some")?;
-    let others = Quorum::of(rt.alloc(), levels, [3, 4, 5, 6].as_slice())?.ok_or("others")?;
+    let some = quorum_of(rt.alloc(), [1, 4, 5].as_slice())?;
+    let others = quorum_of(rt.alloc(), [3, 4, 5, 6].as_slice())?;
     assert_eq!(rt; meet(&some, &others).number(), 4);
     Ok(())
 }
 
 #[test]
-fn copies_are_equal(rt: HostRuntime) -> Result<(), Fail> {
-    let levels = Levels::new(3).ok_or("levels")?;
-    let quorum = Quorum::of(rt.alloc(), levels, [1, 4, 5].as_slice())?.ok_or("quorum")?;
-    let other = Quorum::of(rt.alloc(), levels, [1, 2, 5].as_slice())?.ok_or("other")?;
-    assert!(rt; quorum.clone()? == quorum);
+fn a_copy_is_equal(rt: HostRuntime) -> Result<(), Fail> {
+    let quorum = quorum_of(rt.alloc(), [1, 4, 5].as_slice())?;
+    let copy = quorum.clone()?;
+    assert!(rt; copy == quorum);
+    Ok(())
+}
+
+#[test]
+fn quorums_of_other_servers_differ(rt: HostRuntime) -> Result<(), Fail> {
+    let quorum = quorum_of(rt.alloc(), [1, 4, 5].as_slice())?;
+    let other = quorum_of(rt.alloc(), [1, 2, 5].as_slice())?;
     assert!(rt; other != quorum);
+    Ok(())
+}
+
+#[test]
+fn a_quorum_tells_its_servers(rt: HostRuntime) -> Result<(), Fail> {
+    let quorum = quorum_of(rt.alloc(), [1, 4, 5].as_slice())?;
     assert_eq!(rt; sum_of(quorum.servers()), 10);
     assert_eq!(rt; quorum.levels().count(), 3);
     Ok(())

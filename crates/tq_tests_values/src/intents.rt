@@ -30,15 +30,34 @@ fn lock(byte: u8, since: u64) -> Option<KeptLock> {
     })
 }
 
+/// One write, of version 1.
+fn one_write(alloc: Global) -> Result<Seq<Write>, Fail> {
+    Ok(Seq::from_vec(vec![in alloc; write(alloc, b'a', 1, b'y')?]?))
+}
+
+/// Locks on two files.
+fn two_locks(alloc: Global) -> Result<Seq<KeptLock>, Fail> {
+    let a = lock(b'a', 1).ok_or("a")?;
+    let b = lock(b'b', 2).ok_or("b")?;
+    Ok(Seq::from_vec(vec![in alloc; a, b]?))
+}
+
+/// What is kept with one vote, of transaction 7, that has a write and two locks.
+fn with_vote(alloc: Global) -> Result<Intents, Fail> {
+    let mut intents = Intents::new(alloc);
+    if intents.of(7).is_some() {
+        return Err(Fail::new("a vote is open"));
+    }
+    let writes = one_write(alloc)?;
+    let locks = two_locks(alloc)?;
+    intents.prepare(alloc, 7, 6, writes, locks)?;
+    Ok(intents)
+}
+
 /// A vote writes its writes, its locks and `Prepared`, and its end `Gone`.
 #[test]
 fn a_vote_and_its_end(rt: HostRuntime) -> Result<(), Fail> {
-    let alloc = rt.alloc();
-    let mut intents = Intents::new(alloc);
-    let writes = Seq::from_vec(vec![in alloc; write(alloc, b'a', 1, b'y')?]?);
-    let locks = vec![in alloc; lock(b'a', 1).ok_or("a")?, lock(b'b', 2).ok_or("b")?]?;
-    assert!(rt; intents.of(7).is_none());
-    intents.prepare(alloc, 7, 6, writes, Seq::from_vec(locks))?;
+    let mut intents = with_vote(rt.alloc())?;
     assert!(rt; intents.of(7).is_some());
     assert_eq!(rt; intents.stable().len(), 4);
     intents.reserve(1)?;
@@ -71,22 +90,36 @@ fn voters(alloc: Global, intents: &Intents) -> Result<Vec<u64>, Fail> {
     Ok(voters)
 }
 
-/// The open votes come by transaction, whatever the order of their numbers; one that ended is not among them.
-#[test]
-fn votes_by_transaction(rt: HostRuntime) -> Result<(), Fail> {
-    let alloc = rt.alloc();
+/// What is kept with three votes, given under ascending numbers.
+fn with_three_votes(alloc: Global) -> Result<Intents, Fail> {
     let mut intents = Intents::new(alloc);
     open(alloc, &mut intents, 7, 1)?;
     open(alloc, &mut intents, 3, 2)?;
     open(alloc, &mut intents, 5, 3)?;
-    assert!(rt; voters(alloc, &intents)?.as_slice() == [3, 5, 7].as_slice());
-    intents.reserve(1)?;
-    assert!(rt; intents.of(5).is_some());
-    intents.finish(5);
-    assert!(rt; voters(alloc, &intents)?.as_slice() == [3, 7].as_slice());
-    let copy = intents.copy(alloc)?;
+    Ok(intents)
+}
+
+/// The open votes come by transaction, whatever the order of their numbers; a copy has the same.
+#[test]
+fn votes_by_transaction(rt: HostRuntime) -> Result<(), Fail> {
+    let intents = with_three_votes(rt.alloc())?;
+    assert!(rt; voters(rt.alloc(), &intents)?.as_slice() == [3, 5, 7].as_slice());
+    let copy = intents.copy(rt.alloc())?;
     assert!(rt; copy.stable() == intents.stable());
-    assert!(rt; voters(alloc, &copy)?.as_slice() == [3, 7].as_slice());
+    assert!(rt; voters(rt.alloc(), &copy)?.as_slice() == [3, 5, 7].as_slice());
+    Ok(())
+}
+
+/// A vote that ended is not among the open ones, in a copy either.
+#[test]
+fn an_ended_vote_is_not_open(rt: HostRuntime) -> Result<(), Fail> {
+    let mut intents = with_three_votes(rt.alloc())?;
+    assert!(rt; intents.of(5).is_some());
+    intents.reserve(1)?;
+    intents.finish(5);
+    assert!(rt; voters(rt.alloc(), &intents)?.as_slice() == [3, 7].as_slice());
+    let copy = intents.copy(rt.alloc())?;
+    assert!(rt; voters(rt.alloc(), &copy)?.as_slice() == [3, 7].as_slice());
     Ok(())
 }
 
@@ -95,7 +128,7 @@ fn votes_by_transaction(rt: HostRuntime) -> Result<(), Fail> {
 fn copies_written(rt: HostRuntime) -> Result<(), Fail> {
     let alloc = rt.alloc();
     let mut intents = Intents::new(alloc);
-    let writes = Seq::from_vec(vec![in alloc; write(alloc, b'a', 1, b'y')?]?);
+    let writes = one_write(alloc)?;
     intents.reserve(writes.len())?;
     intents.push_copies(writes);
     assert_eq!(rt; intents.stable().len(), 1);
@@ -129,17 +162,31 @@ fn ended_vote(rt: HostRuntime) -> Result<(), Fail> {
     Ok(())
 }
 
+/// Writes that a copy of one byte was installed.
+fn push(alloc: Global, intents: &mut Intents, version: u64, text: u8) -> Result<(), Fail> {
+    let write = write(alloc, b'a', version, text)?;
+    intents.reserve(1)?;
+    intents.push_copy(write);
+    Ok(())
+}
+
+/// What is kept with four copies of one file, two of them of its greatest version.
+fn with_copies(alloc: Global) -> Result<Intents, Fail> {
+    let mut intents = Intents::new(alloc);
+    push(alloc, &mut intents, 1, b'p')?;
+    push(alloc, &mut intents, 2, b'q')?;
+    push(alloc, &mut intents, 2, b'r')?;
+    push(alloc, &mut intents, 1, b's')?;
+    Ok(intents)
+}
+
 /// The copy of a file is the first of those with its greatest version.
 #[test]
 fn first_of_the_greatest(rt: HostRuntime) -> Result<(), Fail> {
-    let alloc = rt.alloc();
-    let mut intents = Intents::new(alloc);
-    for (version, text) in [(1, b'p'), (2, b'q'), (2, b'r'), (1, b's')] {
-        intents.reserve(1)?;
-        intents.push_copy(write(alloc, b'a', version, text)?);
-    }
-    let copies = intents.copies(alloc)?;
-    let copy = copies.get(&FileName::new(b"a").ok_or("a")?);
+    let file = FileName::new(b"a").ok_or("a")?;
+    let intents = with_copies(rt.alloc())?;
+    let copies = intents.copies(rt.alloc())?;
+    let copy = copies.get(&file);
     assert_eq!(rt; copy.version, 2);
     assert!(rt; copy.content.as_bytes() == b"q".as_slice());
     Ok(())

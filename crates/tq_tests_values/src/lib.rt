@@ -1,4 +1,5 @@
-//! Tests of the values below the parts: the shape of a tree, its coterie, files, locks, and what a server keeps.
+//! Tests of the values below the parts: the shape of a tree, its coterie, a part with its
+//! journal, files, locks, and what a server keeps.
 #![tactic(auto)]
 
 #[cfg(test)]
@@ -7,6 +8,8 @@ mod coterie;
 mod intents;
 #[cfg(test)]
 mod locks;
+#[cfg(test)]
+mod part;
 #[cfg(test)]
 mod shape;
 #[cfg(test)]

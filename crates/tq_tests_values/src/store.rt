@@ -1,6 +1,7 @@
+use std::alloc::{AllocError, Global};
 use std::test::*;
 use tq_shape::Seq;
-use tq_store::{Content, Copies, FileName, MAX_CONTENT, MAX_NAME, Write};
+use tq_store::{Content, Copies, FileCopy, FileName, MAX_CONTENT, MAX_NAME, Write};
 
 /// A name is 1 to 32 letters, digits, dots, low lines and dashes, and begins with a letter.
 #[test]
@@ -48,34 +49,59 @@ fn contents(rt: HostRuntime) -> Result<(), Fail> {
     Ok(())
 }
 
+/// Installs a content of one byte.
+fn put(
+    alloc: Global,
+    copies: &mut Copies,
+    file: FileName,
+    version: u64,
+    byte: u8,
+) -> Result<(), Fail> {
+    let content = Content::new(vec![in alloc; byte]?).ok_or("a content")?;
+    copies.reserve(alloc, 1)?;
+    copies.install(file, version, content);
+    Ok(())
+}
+
+/// Whether the copy has that version, and a content of that one byte.
+fn is_copy(copy: &FileCopy, version: u64, byte: u8) -> bool {
+    copy.version == version && copy.content.as_bytes() == [byte].as_slice()
+}
+
 /// The greater version stays, at equal ones the copy that is there.
 #[test]
 fn copies(rt: HostRuntime) -> Result<(), Fail> {
     let file = FileName::new(b"a").ok_or("a name")?;
     let mut copies = Copies::new(rt.alloc());
     assert_eq!(rt; copies.get(&file).version, 0);
-    for (version, byte, left) in [(2, 20, 2), (1, 10, 2), (2, 21, 2), (3, 30, 3)] {
-        copies.reserve(rt.alloc(), 1)?;
-        let content = Content::new(vec![in rt.alloc(); byte; 1]?).ok_or("a content")?;
-        copies.install(file, version, content);
-        assert_eq!(rt; copies.get(&file).version, left);
-        let copy = copies.get(&file);
-        assert_eq!(rt; copy.content.as_bytes(), [left as u8 * 10].as_slice());
+    for (version, byte, left, kept) in [
+        (2, 20, 2, 20),
+        (1, 10, 2, 20),
+        (2, 21, 2, 20),
+        (3, 30, 3, 30),
+    ] {
+        put(rt.alloc(), &mut copies, file, version, byte)?;
+        assert!(rt; is_copy(copies.get(&file), left, kept));
     }
     Ok(())
+}
+
+/// One write of an empty content.
+fn writes_of(alloc: Global, file: FileName, version: u64) -> Result<Seq<Write>, AllocError> {
+    let content = Content::empty(alloc);
+    let write = Write {
+        file,
+        version,
+        content,
+    };
+    Ok(Seq::from_vec(vec![in alloc; write]?))
 }
 
 #[test]
 fn writes(rt: HostRuntime) -> Result<(), Fail> {
     let file = FileName::new(b"a").ok_or("a name")?;
     let mut copies = Copies::new(rt.alloc());
-    let content = Content::empty(rt.alloc());
-    let write = Write {
-        file,
-        version: 4,
-        content,
-    };
-    let writes = Seq::from_vec(vec![in rt.alloc(); write]?);
+    let writes = writes_of(rt.alloc(), file, 4)?;
     copies.reserve(rt.alloc(), writes.len())?;
     copies.install_all(writes);
     assert_eq!(rt; copies.get(&file).version, 4);
