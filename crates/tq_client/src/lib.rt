@@ -4,8 +4,8 @@
 mod endings;
 mod kept;
 mod operations;
-mod speak;
+mod speaking;
 mod states;
 
 pub use kept::{Ending, Kept};
-pub use speak::speak;
+pub use speaking::speak;

@@ -1,10 +1,10 @@
 use Rattle.std.proofs.Common.{◌≡◌, Bool, cond, ◌++◌, codes, refl, sym, subst}
 use Rattle.std.specs.Fmt.{decimal}
-use Rattle.tq_client.specs.TxnAsked.{IsSpoken, apply_asked, txn_said}
+use Rattle.tq_client.specs.TxnAsked.{IsSpoken, prepare_asked, txn_said}
 use Rattle.tq_client.proofs.Servers.{off_tree}
-use Rattle.tq_client.proofs.speak.apply_at_server.Goals as goal
+use Rattle.tq_client.proofs.speaking.prepare_at_server.Goals as goal
 
 pub returns-in_ok-say_number-in-None-clause-spoken : goal.returns-in_ok-say_number-in-None-clause-spoken
 returns-in_ok-say_number-in-None-clause-spoken c =
-    let P : Bool → Type 0 = λ b. IsSpoken (cond b (apply_asked c.args.server c.args.number c.args.kept) (txn_said c.args.kept (codes "no such server " ++ decimal c.args.server))) c.args.recorder.now.journals c.args.recorder.now.journals c.args.text.now.items c.say_number.new.text.items c.args.kept in
+    let P : Bool → Type 0 = λ b. IsSpoken (cond b (prepare_asked c.args.server 0 c.args.kept) (txn_said c.args.kept (codes "no such server " ++ decimal c.args.server))) c.args.recorder.now.journals c.args.recorder.now.journals c.args.text.now.items c.say_number.new.text.items c.args.kept in
     subst P (sym (off_tree c.args.levels c.args.server c.in-None.ensures)) (record { text = c.in_ok-say_number-in-None.ensures; journals = refl; kept = refl })
