@@ -19,7 +19,7 @@ use Rattle.tq_world.specs.declared.answer.Step.{Step}
 use Rattle.tq_world.specs.declared.answer.Step.TheVariants as steps
 use Rattle.tq_world.specs.World.{item_at, server_entry, empty_world}
 use Rattle.tq_world.specs.Steps.{IsTold, told_at, refusal, answer, grown, server_journal, node_entry, desk_entry, view_entry, world_after, world_at}
-use Rattle.tq_core.proofs.Standing.{HasRoom, node_room, item_above}
+use Rattle.tq_world.proofs.Rooms.{HasRoom, node_room, item_above}
 use Rattle.tq_shape.specs.declared.part.Part.TheVariants as parts
 use Rattle.tq_node.specs.declared.ask.NodeReply.{NodeReply}
 use Rattle.tq_desk.specs.declared.ask.DeskReply.{DeskReply}
