@@ -2,7 +2,26 @@ use std::alloc::{AllocError, Global};
 use std::test::Fail;
 use tq_coterie::{Blocker, Quorum};
 use tq_live::{BadCost, Choice, LiveTree, View, ViewAsk, ViewRefusal, ViewReply};
-use tq_shape::{Levels, ServerId};
+use tq_shape::{Levels, Memory, ServerId};
+
+/// Why a test fails.
+#[derive(Clone, Copy, Debug)]
+enum Wrong {
+    Memory,
+    Levels,
+    Offer,
+    Reply,
+}
+
+impl From<Memory> for Wrong {
+    fn from(_: Memory) -> Wrong {
+        Wrong::Memory
+    }
+}
+
+fn check(holds: bool, wrong: Wrong) -> Result<(), Wrong> {
+    if holds { Ok(()) } else { Err(wrong) }
+}
 
 /// What a choice comes to: the servers as bits, and the cost, or `None` for a blocker.
 fn summary(reply: &ViewReply) -> (u64, Option<u64>) {
@@ -107,48 +126,78 @@ fn best_listed(members: &[u64], costs: &[(u64, u64)], down: u64) -> (u64, Option
     (blocker.unwrap_or(0), None)
 }
 
+/// Whether a view with this set of servers down offers something else than the plain listing.
+fn is_wrong(
+    alloc: Global,
+    levels: Levels,
+    members: &[u64],
+    costs: &[(u64, u64)],
+    down: u64,
+) -> Result<bool, AllocError> {
+    let offer = offered(alloc, levels, costs, down)?;
+    let best = best_listed(members, costs, down);
+    Ok(offer.0 != best.0 || offer.1 != best.1)
+}
+
 /// For how many sets of servers that are down a view offers something else than the plain listing.
-fn wrong_offers(alloc: Global, levels: Levels, costs: &[(u64, u64)]) -> Result<u64, AllocError> {
-    let members = listed(alloc, levels.count().wrapping_sub(1), 1)?;
+fn count_wrong(
+    alloc: Global,
+    levels: Levels,
+    members: &[u64],
+    costs: &[(u64, u64)],
+) -> Result<u64, AllocError> {
     let sets = 1u64.wrapping_shl(levels.servers() as u32);
     let mut wrong = 0u64;
     for set in 0..sets {
-        let down = set.wrapping_mul(2);
-        let offer = offered(alloc, levels, costs, down)?;
-        if offer != best_listed(members.as_slice(), costs, down) {
+        if is_wrong(alloc, levels, members, costs, set.wrapping_mul(2))? {
             wrong = wrong.wrapping_add(1);
         }
     }
     Ok(wrong)
 }
 
+/// The costs of seven servers.
+const UNEVEN: [(u64, u64); 7] = [(1, 3), (2, 1), (3, 2), (4, 2), (5, 1), (6, 4), (7, 1)];
+
+/// Fails where a view of that many levels ever offers something else than the plain listing.
+fn agrees(alloc: Global, count: u32, costs: &[(u64, u64)]) -> Result<(), Wrong> {
+    let levels = Levels::new(count).ok_or(Wrong::Levels)?;
+    let members = listed(alloc, count.wrapping_sub(1), 1)?;
+    let wrong = count_wrong(alloc, levels, members.as_slice(), costs)?;
+    check(wrong == 0, Wrong::Offer)
+}
+
 #[test]
-fn offers_are_those_of_a_plain_listing(rt: HostRuntime) -> Result<(), Fail> {
+fn offers_are_those_of_a_plain_listing(rt: HostRuntime) -> Result<(), Wrong> {
     for count in [1, 2, 3] {
-        let levels = Levels::new(count).ok_or("levels")?;
-        let even = wrong_offers(rt.alloc(), levels, &[])?;
-        assert_eq!(rt; even, 0, "at {count} levels and equal costs");
-        let costs = [(1, 3), (2, 1), (3, 2), (4, 2), (5, 1), (6, 4), (7, 1)];
-        let uneven = wrong_offers(rt.alloc(), levels, costs.as_slice())?;
-        assert_eq!(rt; uneven, 0, "at {count} levels and different costs");
+        agrees(rt.alloc(), count, &[])?;
+        agrees(rt.alloc(), count, &UNEVEN)?;
     }
     Ok(())
 }
 
+/// Fails where a view of that many levels, all up, offers others than these servers at that cost.
+fn offers(
+    alloc: Global,
+    count: u32,
+    costs: &[(u64, u64)],
+    servers: &[u64],
+    cost: u64,
+) -> Result<(), Wrong> {
+    let levels = Levels::new(count).ok_or(Wrong::Levels)?;
+    let offer = offered(alloc, levels, costs, 0)?;
+    check(
+        offer.0 == bits(servers) && offer.1 == Some(cost),
+        Wrong::Offer,
+    )
+}
+
 #[test]
-fn the_first_of_least_cost_is_offered(rt: HostRuntime) -> Result<(), Fail> {
-    let third = Levels::new(3).ok_or("levels")?;
-    let fourth = Levels::new(4).ok_or("levels")?;
-    for (levels, costs, servers, cost) in [
-        (fourth, [(2, 5), (3, 2)], bits(&[1, 4, 5, 8, 10]), 5),
-        (third, [(1, 10), (1, 10)], bits(&[2, 3, 4, 6]), 4),
-        (third, [(2, 5), (2, 5)], bits(&[1, 4, 5]), 3),
-        (third, [(1, 2), (1, 2)], bits(&[1, 2, 4]), 4),
-    ] {
-        let offer = offered(rt.alloc(), levels, costs.as_slice(), 0)?;
-        assert_eq!(rt; offer, (servers, Some(cost)));
-    }
-    Ok(())
+fn the_first_of_least_cost_is_offered(rt: HostRuntime) -> Result<(), Wrong> {
+    offers(rt.alloc(), 4, &[(2, 5), (3, 2)], &[1, 4, 5, 8, 10], 5)?;
+    offers(rt.alloc(), 3, &[(1, 10)], &[2, 3, 4, 6], 4)?;
+    offers(rt.alloc(), 3, &[(2, 5)], &[1, 4, 5], 3)?;
+    offers(rt.alloc(), 3, &[(1, 2)], &[1, 2, 4], 4)
 }
 
 #[test]
@@ -179,20 +228,35 @@ fn the_largest_tree_at_the_greatest_costs(rt: HostRuntime) -> Result<(), Fail> {
     Ok(())
 }
 
+fn replies(alloc: Global, view: &mut View, ask: ViewAsk, wanted: ViewReply) -> Result<(), Wrong> {
+    let reply = view.answer(alloc, &ask)?;
+    check(reply == wanted, Wrong::Reply)
+}
+
+fn refuses(alloc: Global, view: &mut View, ask: ViewAsk, wanted: ViewRefusal) -> Result<(), Wrong> {
+    replies(alloc, view, ask, ViewReply::Refused(wanted))
+}
+
+fn chooses(alloc: Global, view: &View, servers: u64, cost: u64) -> Result<(), Wrong> {
+    let chosen = view.foresee(alloc, &ViewAsk::Choose)?;
+    let offer = summary(&chosen);
+    check(offer.0 == servers && offer.1 == Some(cost), Wrong::Offer)?;
+    check(chosen.clone()? == chosen, Wrong::Reply)
+}
+
+fn refuses_costs(alloc: Global, view: &mut View) -> Result<(), Wrong> {
+    let free = ViewAsk::SetCost { server: 1, cost: 0 };
+    refuses(alloc, view, free, ViewRefusal::BadCost)?;
+    let absent = ViewAsk::SetCost { server: 2, cost: 0 };
+    refuses(alloc, view, absent, ViewRefusal::NoSuchServer)?;
+    chooses(alloc, view, 2, 1)
+}
+
 #[test]
-fn refusals_change_nothing(rt: HostRuntime) -> Result<(), Fail> {
-    let levels = Levels::new(1).ok_or("levels")?;
+fn refusals_change_nothing(rt: HostRuntime) -> Result<(), Wrong> {
+    let levels = Levels::new(1).ok_or(Wrong::Levels)?;
     let mut view = View::new(rt.alloc(), levels)?;
-    let bad_cost = ViewReply::Refused(ViewRefusal::BadCost);
-    let no_server = ViewReply::Refused(ViewRefusal::NoSuchServer);
-    let free = view.answer(rt.alloc(), &ViewAsk::SetCost { server: 1, cost: 0 })?;
-    assert!(rt; free == bad_cost);
-    let absent = view.answer(rt.alloc(), &ViewAsk::SetCost { server: 2, cost: 0 })?;
-    assert!(rt; absent == no_server);
-    let chosen = view.answer(rt.alloc(), &ViewAsk::Choose)?;
-    assert_eq!(rt; summary(&chosen), (2, Some(1)));
-    assert!(rt; chosen.clone()? == chosen);
-    Ok(())
+    refuses_costs(rt.alloc(), &mut view)
 }
 
 #[test]
@@ -215,20 +279,30 @@ fn each_subtree_has_its_least_cost(rt: HostRuntime) -> Result<(), Fail> {
     Ok(())
 }
 
-#[test]
-fn a_reply_is_foreseen(rt: HostRuntime) -> Result<(), Fail> {
-    let levels = Levels::new(2).ok_or("levels")?;
-    let mut view = View::new(rt.alloc(), levels)?;
-    let ask = ViewAsk::Mark {
+fn foresees(alloc: Global, view: &mut View, ask: ViewAsk) -> Result<(), Wrong> {
+    let foreseen = view.foresee(alloc, &ask)?;
+    replies(alloc, view, ask, foreseen)
+}
+
+fn copies_itself(alloc: Global, view: &View) -> Result<(), Wrong> {
+    let copy = view.copy(alloc)?;
+    chooses(alloc, &copy, bits(&[2, 3]), 2)
+}
+
+fn foresees_a_mark(alloc: Global, view: &mut View) -> Result<(), Wrong> {
+    let down = ViewAsk::Mark {
         server: 1,
         up: false,
     };
-    let foreseen = view.foresee(rt.alloc(), &ask)?;
-    assert!(rt; view.answer(rt.alloc(), &ask)? == foreseen);
-    let copy = view.copy(rt.alloc())?;
-    let offer = copy.foresee(rt.alloc(), &ViewAsk::Choose)?;
-    assert_eq!(rt; summary(&offer), (bits(&[2, 3]), Some(2)));
-    Ok(())
+    foresees(alloc, view, down)?;
+    copies_itself(alloc, view)
+}
+
+#[test]
+fn a_reply_is_foreseen(rt: HostRuntime) -> Result<(), Wrong> {
+    let levels = Levels::new(2).ok_or(Wrong::Levels)?;
+    let mut view = View::new(rt.alloc(), levels)?;
+    foresees_a_mark(rt.alloc(), &mut view)
 }
 
 #[test]
