@@ -8,7 +8,8 @@ use Rattle.tq_lines.specs.declared.line.Line.{Line}
 use Rattle.tq_lines.specs.declared.line.Line.TheVariants.{Bad}
 use Rattle.tq_lines.specs.Line.{line_of}
 use Rattle.tq_shell.specs.Answer.{World, opening, answer}
-use Rattle.tq_shell.specs.Text.{without_return, last_line, whole_parts, last_part, parts_of, lines_text, text_of, whole_text}
+use Rattle.tq_lines.specs.Word.{without_return}
+use Rattle.tq_shell.specs.Text.{last_line, whole_parts, last_part, parts_of, lines_text, text_of, whole_text}
 use Rattle.tq_shell.specs.Stream.{Heard, silence, kept, line_answer, heard_byte, said_byte, heard_all, said_all, said_line, said_last}
 
 -- one byte more of a line

@@ -3,7 +3,7 @@ use Rattle.std.specs.Prelude.{ℕ, ◌==◌, cond, List, [], ◌∷◌, ◌++◌
 use Rattle.tq_shell.specs.declared.listener.TheConstants.{KEPT}
 use Rattle.tq_lines.specs.Line.{line_of}
 use Rattle.tq_shell.specs.Answer.{World, Answer, opening, answer}
-use Rattle.tq_shell.specs.Text.{without_return}
+use Rattle.tq_lines.specs.Word.{without_return}
 
 -- what was heard: the world after the whole lines, and what is kept of the line that goes on
 pub record Heard : Type 0 where
