@@ -133,27 +133,30 @@ fn levels_argument<'a>(alloc: Global) -> Arg<'a>
 }
 
 const ABOUT: &str = "\
-Keeps whole files in copies on the servers of a tree, and runs transactions over its quorums.
+Keeps whole files in copies on the servers of a tree, and runs transactions
+over its quorums.
 
-A tree of N levels has the servers 1 to 2^N - 1, and under server S the servers 2S and 2S + 1.
-A quorum is a server with a quorum of one of its sides, or a quorum of each side without it;
-a server with no sides is a quorum by itself. Any two quorums have a server in common.";
+A tree of N levels has the servers 1 to 2^N - 1, and under server S the servers
+2S and 2S + 1. A quorum is a server with a quorum of one of its sides, or a
+quorum of each side without it; a server with no sides is a quorum by itself.
+Any two quorums have a server in common.";
 
 const LINES: &str = "\
 Lines of the shell (T a transaction, F a file, S a server, C a cost):
   begin             begins a transaction, and answers its number
   read T F          reads a file under shared locks at the least-cost quorum
-  write T F TEXT    writes the text to a file under exclusive locks at that quorum
+  write T F TEXT    writes the text to a file under exclusive locks there
   commit T          gathers the votes, asks the desk, and tells the servers
   abort T           ends the transaction, and releases its locks
   prepare T S       asks one server for its vote
   decide T          asks the desk to commit, once all votes are there
   apply T S         tells one server how the transaction ended
-  resolve T         asks the desk how it ended: what is not decided yet is then aborted
+  resolve T         asks the desk how it ended: what is not decided is aborted
   down S, up S      the server crashes or returns, and is marked so
   cost S C          the server costs C from now on, 1 to 1000000 (at first 1)
-  choose            the quorum of least cost among the servers that are up, with its cost, or,
-                    where no quorum is up, the servers that block every one
+  choose            the quorum of least cost among the servers that are up, with
+                    its cost, or, where no quorum is up, the servers that block
+                    every one
   board             the tables: quorums, files, locks and open votes
   refresh           mends the stale copies that can be mended now
 
@@ -164,5 +167,5 @@ prints
   write plan version 1 at 1 2
   committed 1
 
-Status: 0 at the end of the input, 1 after a fault (want of memory, a failed read or write, more
-than 16777216 bytes), 2 where the words are refused.";
+Status: 0 at the end of the input, 1 after a fault (want of memory, a failed
+read or write, more than 16777216 bytes), 2 where the words are refused.";
