@@ -127,16 +127,20 @@ def best(levels, server, cost, allowed, listed=None):
 
 
 def is_member(levels, server, servers):
-    """Whether the set is a member of the subtree, by the kind that it has to be."""
     if levels <= LISTED_LEVELS:
         return servers in members(levels, server)
+    return fits_sides(levels, server, servers)
+
+
+def fits_sides(levels, server, servers):
+    """Whether the set is a member of the subtree, by the kind that it has to be; in place of the list for 5 and 6 levels."""
     left, right = 2 * server, 2 * server + 1
     if left >= 2**levels:
         return servers == {server}
     if server in servers:
-        return any(is_member(levels, side, servers - {server}) for side in (left, right))
+        return any(fits_sides(levels, side, servers - {server}) for side in (left, right))
     of_left = frozenset(one for one in servers if is_under(left, one))
-    return is_member(levels, left, of_left) and is_member(levels, right, servers - of_left)
+    return fits_sides(levels, left, of_left) and fits_sides(levels, right, servers - of_left)
 
 
 def is_under(top, server):
@@ -213,7 +217,8 @@ def vote_writes(stable, txn, number):
 
 def kept_locks(stable):
     """The locks of the open votes."""
-    kept = [record for record in stable if record[0] == "keep" and (record[1], record[2]) in open_votes(stable)]
+    voted = open_votes(stable)
+    kept = [record for record in stable if record[0] == "keep" and (record[1], record[2]) in voted]
     return tuple(Lock(file, txn, mode, since, version) for _, txn, _, file, mode, since, version in kept)
 
 
@@ -458,9 +463,9 @@ class World:
         journal = self.journals[part]
         if len(journal) >= MOST_ENTRIES:
             return 0, ("refused", FULL, part_name(part))
-        bad = next((cited for cited in self.citations(ask) if not self.stands(*cited)), None)
-        if bad:
-            return 0, ("refused", UNFOUNDED, part_name(bad[0]), bad[1])
+        for cited, at, test in self.citations(ask):
+            if not self.stands(cited, at, test):
+                return 0, ("refused", UNFOUNDED, part_name(cited), at)
         number = len(journal) + 1
         if part == "desk":
             reply = desk_reply(self.levels, journal, ask)
@@ -938,6 +943,7 @@ FORMS = {
 }
 
 
+@functools.lru_cache(maxsize=1000)
 def read_line(line):
     """The verb of a line with what its words stand for, None for a bad line."""
     if len(line) > LINE_LIMIT or not re.fullmatch(rb"[ -~]*", line):
@@ -949,7 +955,7 @@ def read_line(line):
     if form is None or len(form) != len(words) - 1:
         return None
     read = [reads(word) for reads, word in zip(form, words[1:])]
-    return None if None in read else [words[0], *read]
+    return None if None in read else (words[0], *read)
 
 
 def lines_of(data):
