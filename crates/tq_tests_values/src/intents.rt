@@ -135,30 +135,35 @@ fn copies_written(rt: HostRuntime) -> Result<(), Fail> {
     Ok(())
 }
 
+/// Whether these records keep no open vote of transaction 7, and are kept as they are.
+fn keeps_no_vote(alloc: Global, records: &[Record]) -> Result<bool, Fail> {
+    let intents = Intents::recover(alloc, records)?;
+    Ok(intents.of(7).is_none() && intents.stable() == records)
+}
+
+fn one_intent(alloc: Global) -> Result<Vec<Record>, Fail> {
+    let write = write(alloc, b'a', 1, b'y')?;
+    let (txn, number) = (7, 6);
+    Ok(vec![in alloc; Record::Intent { txn, number, write }]?)
+}
+
 /// An `Intent` without its `Prepared` stands for nothing.
 #[test]
 fn intent_alone(rt: HostRuntime) -> Result<(), Fail> {
-    let alloc = rt.alloc();
-    let write = write(alloc, b'a', 1, b'y')?;
-    let (txn, number) = (7, 6);
-    let list = vec![in alloc; Record::Intent { txn, number, write }]?;
-    let intents = Intents::recover(alloc, list.as_slice())?;
-    assert!(rt; intents.of(7).is_none());
-    assert!(rt; intents.stable() == list.as_slice());
+    let records = one_intent(rt.alloc())?;
+    assert!(rt; keeps_no_vote(rt.alloc(), records.as_slice())?);
     Ok(())
 }
 
 /// A vote with its `Gone` is not open.
 #[test]
 fn ended_vote(rt: HostRuntime) -> Result<(), Fail> {
-    let alloc = rt.alloc();
     let (txn, number) = (7, 6);
-    let list = vec![in alloc;
+    let records = [
         Record::Prepared { txn, number },
         Record::Gone { txn, number },
-    ]?;
-    let intents = Intents::recover(alloc, list.as_slice())?;
-    assert!(rt; intents.of(7).is_none());
+    ];
+    assert!(rt; keeps_no_vote(rt.alloc(), records.as_slice())?);
     Ok(())
 }
 
