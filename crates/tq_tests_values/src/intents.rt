@@ -1,5 +1,5 @@
 ghost use Rattle.std.specs.Prelude.{◌+◌, OnOk};
-ghost use Rattle.tq_intents.specs.Kept.{IsAbove};
+ghost use Rattle.tq_intents.specs.Kept.{HasOneVoteEach, IsAbove};
 
 use std::alloc::Global;
 use std::test::Fail;
@@ -136,21 +136,19 @@ fn copies_written(rt: HostRuntime) -> Result<(), Fail> {
 }
 
 /// Whether these records keep no open vote of transaction 7, and are kept as they are.
-fn keeps_no_vote(alloc: Global, records: &[Record]) -> Result<bool, Fail> {
+fn keeps_no_vote(alloc: Global, records: &[Record]) -> Result<bool, Fail>
+    requires { HasOneVoteEach records.now }
+{
     let intents = Intents::recover(alloc, records)?;
     Ok(intents.of(7).is_none() && intents.stable() == records)
-}
-
-fn one_intent(alloc: Global) -> Result<Vec<Record>, Fail> {
-    let write = write(alloc, b'a', 1, b'y')?;
-    let (txn, number) = (7, 6);
-    Ok(vec![in alloc; Record::Intent { txn, number, write }]?)
 }
 
 /// An `Intent` without its `Prepared` stands for nothing.
 #[test]
 fn intent_alone(rt: HostRuntime) -> Result<(), Fail> {
-    let records = one_intent(rt.alloc())?;
+    let write = write(rt.alloc(), b'a', 1, b'y')?;
+    let (txn, number) = (7, 6);
+    let records = [Record::Intent { txn, number, write }];
     assert!(rt; keeps_no_vote(rt.alloc(), records.as_slice())?);
     Ok(())
 }
