@@ -25,7 +25,7 @@ fn content(alloc: Global, byte: u8) -> Result<Content, Memory> {
     Ok(Content::new(vec![in alloc; byte]?).unwrap())
 }
 
-fn lost_lock(file: FileName) -> &'static str {
+fn lost_lock(file: &FileName) -> &'static str {
     match file.as_bytes() {
         b"a" => "lost lock on a",
         b"b" => "lost lock on b",
@@ -33,7 +33,7 @@ fn lost_lock(file: FileName) -> &'static str {
     }
 }
 
-fn text_of(fault: TxnFault) -> &'static str {
+fn text_of(fault: &TxnFault) -> &'static str {
     match fault {
         TxnFault::NotAMember => "not a member",
         TxnFault::NotAGrant { server: 1 } => "not a grant of 1",
@@ -104,7 +104,7 @@ type End = (u64, &'static str);
 fn end_of(answer: Result<u64, TxnFault>) -> End {
     match answer {
         Ok(version) => (version, ""),
-        Err(fault) => (0, text_of(fault)),
+        Err(fault) => (0, text_of(&fault)),
     }
 }
 
@@ -379,7 +379,7 @@ fn voting(alloc: Global, letters: &[u8]) -> Result<Option<Voting>, Memory> {
 fn vote(voting: &mut Voting, alloc: Global, told: &NodeTold) -> &'static str {
     match voting.vote(alloc, told) {
         Ok(()) => "",
-        Err(fault) => text_of(fault),
+        Err(fault) => text_of(&fault),
     }
 }
 
@@ -451,7 +451,7 @@ fn votes_are_taken_so(rt: HostRuntime) -> Result<(), Memory> {
 fn close_fault(open: Open) -> &'static str {
     match open.close() {
         Ok(_) => "",
-        Err(back) => text_of(back.1),
+        Err(back) => text_of(&back.1),
     }
 }
 
@@ -461,16 +461,16 @@ fn no_operations(rt: HostRuntime) {
 }
 
 fn ask_fault(voting: &Voting, alloc: Global, server: ServerId) -> &'static str {
-    match voting.ask(alloc, server) {
-        Ok(_) => "",
-        Err(fault) => text_of(fault),
+    match voting.ask(alloc, server).err() {
+        None => "",
+        Some(fault) => text_of(&fault),
     }
 }
 
 fn ready_fault(voting: Voting) -> &'static str {
     match voting.ready() {
         Ok(_) => "",
-        Err(back) => text_of(back.1),
+        Err(back) => text_of(&back.1),
     }
 }
 
@@ -498,7 +498,7 @@ fn not_ready(rt: HostRuntime) -> Result<(), Memory> {
 fn end_fault(voting: Voting, alloc: Global, told: &DeskTold) -> &'static str {
     match voting.end(alloc, told) {
         Ok(_) => "",
-        Err(back) => text_of(back.1),
+        Err(back) => text_of(&back.1),
     }
 }
 
