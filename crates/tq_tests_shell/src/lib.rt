@@ -5,3 +5,7 @@
 mod devices;
 #[cfg(test)]
 mod faults;
+#[cfg(test)]
+mod odd_lines;
+#[cfg(test)]
+mod sessions;
