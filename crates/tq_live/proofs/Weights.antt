@@ -6,10 +6,10 @@ use Rattle.tq_shape.specs.Depth.{height_of}
 use Rattle.std.proofs.lemmas.List.Sums.{sum_by-cons}
 use Rattle.tq_shape.specs.Tree.{left_of, right_of}
 use Rattle.tq_coterie.proofs.Sets.{sum_by-joined}
-use Rattle.tq_live.specs.Least.{least_member}
+use Rattle.tq_live.specs.Least.{least_member, changed, pair}
 use Rattle.tq_live.specs.Weights.{is_less, weight_by, plus, lesser}
 use Rattle.tq_live.proofs.Pick.{pick}
-use Rattle.tq_live.proofs.LeastMembers.{changed, pair, with_top, least_member-leaf, least_member-fork}
+use Rattle.tq_live.proofs.LeastMembers.{with_top, least_member-leaf, least_member-fork}
 
 -- the weight of a server, if it may be taken
 abbrev pub top_weight : (ℕ → ℕ) → (ℕ → Bool) → ℕ → Option ℕ
