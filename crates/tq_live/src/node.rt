@@ -4,11 +4,12 @@ ghost use Rattle.tq_live.specs.Subtree.{Subtree, Alone, Over, leaves};
 ghost use Rattle.tq_live.specs.Kept.{weight_of, form_in, weight_here, cache_of, cache_over, other_weight, turns_left, under, cost_after, changed_under, caches_on_way, found_in, StandsAt, even, top_of};
 ghost use Rattle.tq_live.specs.Form.{form_of};
 ghost use Rattle.tq_live.specs.Below.{subtree_of};
+ghost use Rattle.tq_live.specs.Rising.{Rises};
 ghost use Rattle.tq_live.specs.declared.sought.Sought.TheVariants as soughts;
 
 use crate::cache::Cache;
-use crate::setting::Setting;
 use crate::order::insert_in_order;
+use crate::setting::Setting;
 use crate::sought::Sought;
 use crate::turns::Turns;
 use crate::weight::{Form, is_lighter, together};
@@ -111,7 +112,9 @@ impl Node {
     ) -> Result<(), Memory>
         requires place { StandsAt levels number self.now }
         requires small { 2 ^ levels ≤ 1024 }
+        requires rises { Rises 0 (numbers_of ids.old.items) }
         ensures numbers { OnOk result ((set : List ℕ) → found_in sought number self.now ≡ Some set → numbers_of ids.new.items ≡ joined set (numbers_of ids.old.items)) }
+        ensures rises { OnOk result (Rises 0 (numbers_of ids.new.items)) }
         ensures tree { OnOk result (All (λ id. id.levels ≡ levels) ids.old.items → All (λ id. id.levels ≡ levels) ids.new.items) }
     {
         let form = self.form(sought);
@@ -119,12 +122,12 @@ impl Node {
             Below::Nothing => insert_in_order(ids, ServerId::new(levels, number)),
             Below::Sides(left, right) => match form {
                 Form::WithLeft => {
-                    left.gather(sought, levels, 2 * number, ids)?;
-                    insert_in_order(ids, ServerId::new(levels, number))
+                    insert_in_order(ids, ServerId::new(levels, number))?;
+                    left.gather(sought, levels, 2 * number, ids)
                 }
                 Form::WithRight => {
-                    right.gather(sought, levels, 2 * number + 1, ids)?;
-                    insert_in_order(ids, ServerId::new(levels, number))
+                    insert_in_order(ids, ServerId::new(levels, number))?;
+                    right.gather(sought, levels, 2 * number + 1, ids)
                 }
                 Form::BothSides => {
                     right.gather(sought, levels, 2 * number + 1, ids)?;

@@ -2,11 +2,11 @@ ghost use Rattle.std.specs.Prelude.{◌≡◌, ℕ, ◌+◌, ◌-◌, ◌*◌, �
 ghost use Rattle.tq_shape.specs.Depth.{depth_of};
 ghost use Rattle.tq_coterie.specs.Coterie.{servers_of, numbers_of};
 
-use crate::setting::Setting;
 use crate::choice::Choice;
 use crate::cost::{BadCost, is_cost};
 use crate::least::Least;
 use crate::node::Node;
+use crate::setting::Setting;
 use crate::sought::Sought;
 use crate::turns::Turns;
 use std::alloc::Global;
