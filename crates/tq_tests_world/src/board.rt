@@ -7,7 +7,7 @@ use std::alloc::Global;
 use std::test::Fail;
 use tq_board::lines::{push_file, push_intent, push_lock, push_rows, push_server};
 use tq_board::render;
-use tq_live::{Least, LiveTree, View, ViewAsk, ViewReply};
+use tq_live::{Least, LiveTree, Turns, View, ViewAsk, ViewReply};
 use tq_locks::Mode;
 use tq_shape::{Levels, Limits, Memory, Seq, ServerId, ServerSet};
 use tq_store::FileName;
@@ -180,7 +180,7 @@ fn an_intention_is_printed_with_its_state_and_writes(rt: HostRuntime) -> Result<
 fn a_server_is_printed_with_its_mark_and_the_least_quorum(rt: HostRuntime) -> Result<(), Fail> {
     let levels = Levels::new(2).ok_or("levels")?;
     let mut tree = LiveTree::new(rt.alloc(), levels)?;
-    tree.set_mark(levels.root(), false);
+    tree.set_mark(levels.root(), false, &mut Turns::new());
     let mut servers = Vec::new(rt.alloc());
     servers.push(ServerId::new(levels, 2))?;
     servers.push(ServerId::new(levels, 3))?;

@@ -2,7 +2,7 @@ ghost use Rattle.std.specs.Prelude.{◌≡◌, IfOk, IfSome};
 
 use std::alloc::Global;
 use std::test::*;
-use tq_live::LiveTree;
+use tq_live::{LiveTree, Turns};
 use tq_node::{CitedVote, NodeAsk, NodeRefusal, NodeReply, WorkAsk};
 use tq_refresh::{Job, Memory, copy_ask, peek_ask, plan_rows};
 use tq_shape::{Levels, Seq, ServerId, ServerSet};
@@ -36,7 +36,7 @@ fn tree_of(alloc: Global, levels: Levels, down: &[u8]) -> Result<LiveTree, Memor
     let mut tree = LiveTree::new(alloc, levels)?;
     for digit in down {
         if let Some(server) = server_of(levels, *digit) {
-            tree.set_mark(server, false);
+            tree.set_mark(server, false, &mut Turns::new());
         }
     }
     Ok(tree)
