@@ -1,5 +1,5 @@
 //! The lines of operators: the refresh and the board.
-ghost use Rattle.std.specs.Prelude.{◌≡◌, ◌++◌, true, false, IfOk, OnOk};
+ghost use Rattle.std.specs.Prelude.{◌≡◌, ◌++◌, true, false, IfOk, OnOk, string_bytes};
 ghost use Rattle.std.specs.List.{All};
 ghost use Rattle.std.specs.Option.{option_map};
 ghost use Rattle.tq_world.specs.Steps.{world_after};
@@ -31,10 +31,17 @@ struct Mended {
 pub fn say_board(service: &Service, alloc: Global, text: &mut Vec<u8>) -> Result<(), Memory>
     ensures { OnOk result (text.new.items ≡ text.old.items ++ spec.board_of service.now) }
 {
-    let tables = service.tables(alloc)?;
-    let board = render(alloc, &tables, service.view())?;
+    let board = board_of(service, alloc)?;
     text.extend_from_slice(board.as_bytes())?;
     Ok(())
+}
+
+/// The board of the service.
+fn board_of(service: &Service, alloc: Global) -> Result<String, Memory>
+    ensures { IfOk result (λ board. string_bytes board ≡ spec.board_of service.now) }
+{
+    let tables = service.tables(alloc)?;
+    render(alloc, &tables, service.view())
 }
 
 /// Mends the stale copies that can be mended now. What came of each goes behind the text, as a line, and then how many
