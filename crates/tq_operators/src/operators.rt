@@ -64,8 +64,7 @@ fn planned(service: &Service, alloc: Global) -> Result<Vec<Job>, Memory>
     ensures of_tree { IfOk result (λ jobs. All (spec.IsOfTree service.now.levels) jobs.items) }
 {
     let tables = service.tables(alloc)?;
-    let jobs = plan(alloc, &tables, service.view())?;
-    Ok(jobs)
+    plan(alloc, &tables, service.view())
 }
 
 /// Does the jobs one after another.
@@ -100,7 +99,23 @@ fn mend(recorder: &mut Recorder, alloc: Global, job: &Job) -> Result<bool, Memor
     let Some(ask) = copy_ask(alloc, job, told.number, &told.reply)? else {
         return Ok(false);
     };
-    match answer_of(recorder, alloc, job.server, ask)? {
+    let taken = takes(recorder, alloc, job.server, ask)?;
+    Ok(taken)
+}
+
+/// Whether the server to be mended takes the copy.
+fn takes(
+    recorder: &mut Recorder,
+    alloc: Global,
+    server: ServerId,
+    ask: NodeAsk,
+) -> Result<bool, Memory>
+    requires { server.levels ≡ recorder.old.journals.levels }
+    ensures value { IfOk result (λ taken. taken ≡ spec.took (spec.answer_in (node_told recorder.old.journals server.number ask))) }
+    ensures after { OnOk result (recorder.new.journals ≡ world_after recorder.old.journals (steps.Node server.number ask)) }
+    ensures tree { recorder.new.journals.levels ≡ recorder.old.journals.levels }
+{
+    match answer_of(recorder, alloc, server, ask)? {
         None => Ok(false),
         Some(told) => Ok(is_refreshed(&told.reply)),
     }
