@@ -1,6 +1,6 @@
 use Rattle.std.proofs.Common.{◌≡◌, []}
 use Rattle.tq_shell.specs.Run.{IsGoing}
-use Rattle.tq_shell.proofs.runner.answer_lines.Given as goal
+use Rattle.tq_shell.proofs.runner.answer_pieces.Given as goal
 
 abbrev pub invariant-loop-count : goal.invariant-loop-count
 invariant-loop-count g l = record {
