@@ -1,5 +1,5 @@
 /// An ask of a part with the part's reply.
-#[derive(Clone, Debug, Drop)]
+#[derive(Debug, Drop)]
 pub struct Entry<A, R> {
     pub ask: A,
     pub reply: R,
