@@ -263,23 +263,42 @@ fn resolved(kept: Kept, cite: u64, reply: DeskReply, text: &mut Vec<u8>) -> Resu
     ensures txn { IfOk result (λ new. new.txn ≡ kept.txn) }
     ensures text { OnOk result (text.new.items ≡ text.old.items ++ printed (spec.resolved_text reply)) }
 {
+    say_resolved(text, &reply)?;
+    Ok(with_reply(kept, cite, reply))
+}
+
+/// Puts how the desk says that a transaction ended behind the text, as a line.
+fn say_resolved(text: &mut Vec<u8>, reply: &DeskReply) -> Result<(), Memory>
+    ensures { OnOk result (text.new.items ≡ text.old.items ++ printed (spec.resolved_text reply.now)) }
+{
     match reply {
         DeskReply::Verdict(verdict) => {
-            say_verdict(text, &verdict)?;
-            Ok(Kept {
-                txn: kept.txn,
-                told: Some(Ending { verdict, cite }),
-            })
+            say_verdict(text, verdict)?;
+            Ok(())
         }
         DeskReply::Refused(refusal) => {
-            push_desk_refusal(text, &refusal)?;
+            push_desk_refusal(text, refusal)?;
             text.push(b'\n')?;
-            Ok(kept)
+            Ok(())
         }
         _ => {
             say_line(text, b"bad answer")?;
-            Ok(kept)
+            Ok(())
         }
+    }
+}
+
+/// What is kept after the desk's answer.
+fn with_reply(kept: Kept, cite: u64, reply: DeskReply) -> Kept
+    ensures kept { result ≡ spec.resolved_kept kept cite reply }
+    ensures txn { result.txn ≡ kept.txn }
+{
+    match reply {
+        DeskReply::Verdict(verdict) => Kept {
+            txn: kept.txn,
+            told: Some(Ending { verdict, cite }),
+        },
+        _ => kept,
     }
 }
 
@@ -297,14 +316,31 @@ pub(crate) fn apply(
     ensures levels { IfOk result (λ new. levels_of new.txn ≡ levels_of kept.txn) }
     ensures tree { recorder.new.journals.levels ≡ recorder.old.journals.levels }
 {
-    match ending_of(&kept)? {
+    apply_told(recorder, alloc, number, &kept, server, text)?;
+    Ok(kept)
+}
+
+/// Tells a server the verdict that was told, or says that none was.
+fn apply_told(
+    recorder: &mut Recorder,
+    alloc: Global,
+    number: u64,
+    kept: &Kept,
+    server: ServerId,
+    text: &mut Vec<u8>,
+) -> Result<(), Memory>
+    requires { server.levels ≡ recorder.old.journals.levels }
+    ensures spoken { OnOk result (spec.IsSpoken (spec.apply_asked server.number number kept.now) recorder.old.journals recorder.new.journals text.old.items text.new.items kept.now) }
+    ensures tree { recorder.new.journals.levels ≡ recorder.old.journals.levels }
+{
+    match ending_of(kept)? {
         None => {
             say_number(text, b"not decided ", number)?;
-            Ok(kept)
+            Ok(())
         }
         Some(ending) => {
             apply_ending(recorder, alloc, number, ending, server, text)?;
-            Ok(kept)
+            Ok(())
         }
     }
 }

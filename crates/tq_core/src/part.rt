@@ -11,6 +11,7 @@ use std::alloc::Global;
 use tq_desk::{Desk, DeskAsk};
 use tq_live::{View, ViewAsk};
 use tq_node::{Node, NodeAsk};
+use tq_part::Plan;
 use tq_shape::{Entry, Memory};
 use tq_tables::{DeskEntry, NodeEntry, ViewEntry};
 
@@ -41,8 +42,10 @@ pub(crate) fn ask_node(
 {
     let number = journal.len() as u64 + 1;
     journal.reserve(1)?;
-    let given = node.foresee(alloc, number, &ask)?;
-    let reply = node.answer(alloc, number, &ask)?;
+    let plan = node.plan(alloc, number, &ask)?;
+    let Plan { reply, change } = plan;
+    let given = reply.clone()?;
+    node.apply(alloc, change)?;
     journal.push_reserved(Entry { ask, reply });
     Ok(Answer {
         number,
@@ -66,8 +69,10 @@ pub(crate) fn ask_desk(
 {
     let number = journal.len() as u64 + 1;
     journal.reserve(1)?;
-    let given = desk.foresee(alloc, &ask)?;
-    let reply = desk.answer(alloc, &ask)?;
+    let plan = desk.plan(alloc, &ask)?;
+    let Plan { reply, change } = plan;
+    let given = reply.clone()?;
+    desk.apply(change)?;
     journal.push_reserved(Entry { ask, reply });
     Ok(Answer {
         number,
@@ -90,8 +95,10 @@ pub(crate) fn ask_view(
 {
     let number = journal.len() as u64 + 1;
     journal.reserve(1)?;
-    let given = view.foresee(alloc, &ask)?;
-    let reply = view.answer(alloc, &ask)?;
+    let plan = view.plan(alloc, &ask)?;
+    let Plan { reply, change } = plan;
+    let given = reply.clone()?;
+    view.apply(change);
     journal.push_reserved(Entry { ask, reply });
     Ok(Answer {
         number,

@@ -6,10 +6,10 @@ use Rattle.tq_shape.specs.Depth.{height_of}
 use Rattle.std.proofs.lemmas.List.Sums.{sum_by-cons}
 use Rattle.tq_shape.specs.Tree.{left_of, right_of}
 use Rattle.tq_coterie.proofs.Sets.{sum_by-joined}
-use Rattle.tq_live.specs.Least.{least_member}
+use Rattle.tq_live.specs.Least.{least_member, changed, pair}
 use Rattle.tq_live.specs.Weights.{is_less, weight_by, plus, lesser}
 use Rattle.tq_live.proofs.Pick.{pick}
-use Rattle.tq_live.proofs.LeastMembers.{changed, pair, with_top, least_member-leaf, least_member-fork}
+use Rattle.tq_live.proofs.LeastMembers.{with_top, least_member-leaf, least_member-fork}
 
 -- the weight of a server, if it may be taken
 abbrev pub top_weight : (ℕ → ℕ) → (ℕ → Bool) → ℕ → Option ℕ
@@ -80,26 +80,3 @@ lesser-at_most a b k low high = either (is_less b a)
     either : (less : Bool) → IsAtMost (cond less b a) k
     either true = high
     either false = low
-
-pub below-at_most : (a : Option ℕ) (m k : ℕ) → IsAtMost a m → m < k → IfSome a (λ w. w < k)
-below-at_most None m k low fits = tt
-below-at_most (Some a) m k low fits = omega arith
-
--- no subtree of a tree of at most 6 levels has a height of more than 6
-pub pow-height : (levels number : ℕ) → 2 ^ levels ≤ 64 → 2 ^ height_of levels number ≤ 64
-unfolding height_of
-pow-height levels number small =
-    let power : 2 ^ height_of levels number ≤ 2 ^ levels = pow-le-pow_right (omega arith) (omega arith) in
-    omega arith
-
--- a side's bound, twice, and that of a server, are the fork's
-pub fork-at_most : (below height : ℕ) (here left right : Option ℕ) → height ≡ suc below → IsAtMost here 1000000 → IsAtMost left (1000000 * 2 ^ below) → IsAtMost right (1000000 * 2 ^ below) → IsAtMost (lesser (lesser (plus here left) (plus here right)) (plus left right)) (1000000 * 2 ^ height)
-fork-at_most below height here left right e low left_low right_low =
-    let double : 2 ^ suc below ≡ 2 ^ below * 2 = pow-suc 2 below in
-    let positive = pow_pos below in
-    let bound = 1000000 * 2 ^ suc below in
-    rw e (lesser-at_most (lesser (plus here left) (plus here right)) (plus left right) bound
-    (lesser-at_most (plus here left) (plus here right) bound
-    (plus-at_most here left 1000000 (1000000 * 2 ^ below) bound low left_low (omega arith))
-    (plus-at_most here right 1000000 (1000000 * 2 ^ below) bound low right_low (omega arith)))
-    (plus-at_most left right (1000000 * 2 ^ below) (1000000 * 2 ^ below) bound left_low right_low (omega arith)))

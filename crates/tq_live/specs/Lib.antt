@@ -9,5 +9,10 @@ pub mod Choice
 pub mod Form
 pub mod View
 pub mod BestOf
+pub mod Subtree
+pub mod Kept
+pub mod Below
+pub mod LiveOf
+pub mod Rising
 pub mod ViewChanges
 pub mod ViewLaws

@@ -2,13 +2,17 @@
 #![tactic(auto)]
 
 mod answers;
+mod cache;
 mod change;
 mod choice;
 mod cost;
 mod least;
+mod node;
 mod order;
+mod setting;
 mod sought;
 mod tree;
+mod turns;
 mod view;
 mod weight;
 
@@ -17,4 +21,5 @@ pub use choice::Choice;
 pub use cost::{BadCost, MOST_COST, is_cost};
 pub use least::Least;
 pub use tree::LiveTree;
+pub use turns::Turns;
 pub use view::{View, ViewAsk, ViewRefusal, ViewReply};

@@ -1,61 +1,55 @@
 ghost use Rattle.std.specs.Prelude.{◌≡◌, ℕ, ◌+◌, ◌-◌, ◌*◌, ◌^◌, ◌<◌, ◌≤◌, ◌↔◌, IsOk, IfOk, IfSome, IsSome, OnOk, OnErr, slice_set, true, replicate, Some, List, All};
-ghost use Rattle.tq_shape.specs.Depth.{height_of};
-ghost use Rattle.tq_coterie.specs.Coterie.{coterie, servers_of, numbers_of, joined, with_server, IsMemberList};
-ghost use Rattle.tq_live.specs.Weights.{weight_by};
+ghost use Rattle.tq_shape.specs.Depth.{depth_of};
+ghost use Rattle.tq_coterie.specs.Coterie.{servers_of, numbers_of};
 
 use crate::choice::Choice;
 use crate::cost::{BadCost, is_cost};
 use crate::least::Least;
-use crate::order::insert_in_order;
+use crate::node::Node;
+use crate::setting::Setting;
 use crate::sought::Sought;
-use crate::weight::{Form, least_form, least_weight};
+use crate::turns::Turns;
 use std::alloc::Global;
 use std::marker::Model;
 use tq_coterie::{Blocker, Quorum, ServerIds};
 use tq_shape::{Levels, Memory, Seq, ServerId};
 
-/// A place for each number of a server, and for 0.
-const PLACES: usize = 64;
-
-/// The weight of what is found in each subtree, at the place of its server's number.
-type Weights = [Option<u64>; PLACES];
-
 /// The costs and marks of the servers of a tree.
 #[derive(Drop)]
 pub struct LiveTree {
     levels: Levels,
-    costs: Vec<u64>,
-    up: Vec<bool>,
+    root: Node,
 }
 
 impl Model for LiveTree {
-    ghost use Rattle.tq_live.specs.Live.{Live, IsLive};
+    ghost use Rattle.tq_live.specs.Live.{Live};
 
     ghost Value = { Live };
 
-    ghost view = { λ tree. record { levels = tree.levels; costs = tree.costs.items; up = tree.up.items } };
+    ghost use Rattle.tq_live.specs.LiveOf.{live_of, IsWhole};
 
-    ghost invariant = { λ tree. IsLive (record { levels = tree.levels; costs = tree.costs.items; up = tree.up.items }) };
+    ghost view = { λ tree. live_of tree.levels tree.root };
+
+    ghost invariant = { λ tree. IsWhole tree.levels tree.root };
 }
 
 impl LiveTree {
     ghost use Rattle.std.specs.Prelude.{◌≡◌, ℕ, ◌+◌, ◌-◌, ◌*◌, ◌^◌, ◌<◌, ◌≤◌, ◌↔◌, IsOk, IfOk, IfSome, IsSome, OnOk, OnErr, slice_set, true, replicate, Some, List, All};
-    ghost use Rattle.tq_shape.specs.Depth.{height_of};
-    ghost use Rattle.tq_coterie.specs.Coterie.{coterie, servers_of, numbers_of, joined, with_server, IsMemberList};
+    ghost use Rattle.tq_shape.specs.Depth.{depth_of};
+    ghost use Rattle.tq_coterie.specs.Coterie.{servers_of, numbers_of};
     ghost use Rattle.tq_live.specs.Live.{best, best_cost, blocker, cost_of, is_up, HasQuorumOrBlocker};
-    ghost use Rattle.tq_live.specs.Sought.{weight_for, found, found_weight, AreWeights};
+    ghost use Rattle.tq_live.specs.LiveOf.{IsAt, changed_live};
+    ghost use Rattle.tq_live.specs.Kept.{cost_after};
+    ghost use Rattle.tq_live.specs.Sought.{found};
     ghost use Rattle.tq_live.specs.Choice.{IsChoice, IsFirstChoice};
     ghost use Rattle.tq_live.specs.BestOf.{IsBestOf};
-    ghost use Rattle.tq_live.specs.Form.{form_of};
 
     /// Every server at cost 1 and up.
     pub fn new(alloc: Global, levels: Levels) -> Result<LiveTree, Memory>
         ensures { IfOk result (λ tree. tree ≡ record { levels = levels; costs = replicate (2 ^ levels - 1) 1; up = replicate (2 ^ levels - 1) true }) }
     {
-        let servers = levels.servers() as usize;
-        let costs = vec![in alloc; 1; servers]?;
-        let up = vec![in alloc; true; servers]?;
-        Ok(LiveTree { levels, costs, up })
+        let root = Node::new(alloc, levels.count() - 1)?;
+        Ok(LiveTree { levels, root })
     }
 
     /// An equal tree.
@@ -63,9 +57,8 @@ impl LiveTree {
         ensures { IfOk result (λ tree. tree ≡ self.now) }
     {
         let levels = self.levels;
-        let costs = Vec::from_slice(alloc, self.costs.as_slice())?;
-        let up = Vec::from_slice(alloc, self.up.as_slice())?;
-        Ok(LiveTree { levels, costs, up })
+        let root = self.root.copy(alloc)?;
+        Ok(LiveTree { levels, root })
     }
 
     /// How many levels the tree has.
@@ -80,8 +73,7 @@ impl LiveTree {
         requires { server.levels ≡ self.now.levels }
         ensures { result ≡ cost_of self.now server.number }
     {
-        let place = (server.number() - 1) as usize;
-        self.costs[place]
+        self.node(server).top().0
     }
 
     /// Whether a server of this tree is marked up.
@@ -89,42 +81,79 @@ impl LiveTree {
         requires { server.levels ≡ self.now.levels }
         ensures { result ≡ is_up self.now server.number }
     {
-        let place = (server.number() - 1) as usize;
-        self.up[place]
+        self.node(server).top().1
     }
 
     /// Sets the cost of a server of this tree. A cost that is not from 1 to 1,000,000 is refused, and nothing
-    /// changes. It takes no memory.
-    pub fn set_cost(&mut self, server: ServerId, cost: u64) -> Result<(), BadCost>
-        requires { server.levels ≡ self.old.levels }
+    /// changes. It takes no memory. The caches of the server and of each server above it are written, and no others.
+    pub fn set_cost(
+        &mut self,
+        server: ServerId,
+        cost: u64,
+        turns: &mut Turns,
+    ) -> Result<(), BadCost>
+        requires tree { server.levels ≡ self.old.levels }
+        requires room { turns.old + self.old.levels < 2 ^ 64 }
         ensures ok { IsOk result ↔ ((1 ≤ cost) × (cost ≤ 1000000)) }
         ensures set { OnOk result (self.new ≡ record self.old { costs = slice_set self.old.costs (server.number - 1) cost }) }
         ensures unchanged { OnErr result (self.new ≡ self.old) }
+        ensures turns { OnOk result (turns.new ≡ turns.old + (depth_of server.number + 1)) }
+        ensures no_turns { OnErr result (turns.new ≡ turns.old) }
     {
         if !is_cost(cost) {
             return Err(BadCost);
         }
-        self.put_cost(server, cost);
+        self.put_cost(server, cost, turns);
         Ok(())
     }
 
     /// Sets the cost of a server of this tree to one that a server may have.
-    pub(crate) fn put_cost(&mut self, server: ServerId, cost: u64)
+    pub(crate) fn put_cost(&mut self, server: ServerId, cost: u64, turns: &mut Turns)
         requires server { server.levels ≡ self.old.levels }
         requires cost { cost ≤ 1000000 }
-        ensures { self.new ≡ record self.old { costs = slice_set self.old.costs (server.number - 1) cost } }
+        requires room { turns.old + self.old.levels < 2 ^ 64 }
+        ensures set { self.new ≡ record self.old { costs = slice_set self.old.costs (server.number - 1) cost } }
+        ensures turns { turns.new ≡ turns.old + (depth_of server.number + 1) }
     {
-        let place = (server.number() - 1) as usize;
-        self.costs[place] = cost;
+        self.change(server, Setting::Cost(cost), turns);
     }
 
-    /// Marks a server of this tree up or down. It takes no memory.
-    pub fn set_mark(&mut self, server: ServerId, up: bool)
-        requires { server.levels ≡ self.old.levels }
-        ensures { self.new ≡ record self.old { up = slice_set self.old.up (server.number - 1) up } }
+    /// Marks a server of this tree up or down. It takes no memory. The caches of the server and of each server above
+    /// it are written, and no others.
+    pub fn set_mark(&mut self, server: ServerId, up: bool, turns: &mut Turns)
+        requires tree { server.levels ≡ self.old.levels }
+        requires room { turns.old + self.old.levels < 2 ^ 64 }
+        ensures set { self.new ≡ record self.old { up = slice_set self.old.up (server.number - 1) up } }
+        ensures turns { turns.new ≡ turns.old + (depth_of server.number + 1) }
     {
-        let place = (server.number() - 1) as usize;
-        self.up[place] = up;
+        self.change(server, Setting::Mark(up), turns);
+    }
+
+    /// Makes the change at the server.
+    fn change(&mut self, server: ServerId, change: Setting, turns: &mut Turns)
+        requires tree { server.levels ≡ self.old.levels }
+        requires cost { cost_after change 0 ≤ 1000000 }
+        requires room { turns.old + self.old.levels < 2 ^ 64 }
+        ensures set { self.new ≡ changed_live self.old server.number change }
+        ensures turns { turns.new ≡ turns.old + (depth_of server.number + 1) }
+    {
+        let _levels = self.levels.count();
+        let steps = server.depth();
+        let number = server.number();
+        self.root.change(steps, number, change, turns);
+    }
+
+    /// The node of the server.
+    fn node(&self, server: ServerId) -> &Node
+        requires { server.levels ≡ self.now.levels }
+        ensures at { IsAt self.now server.number result.now }
+        ensures small { 2 ^ self.now.levels ≤ 64 }
+    {
+        let _levels = self.levels.count();
+        let _servers = self.levels.servers();
+        let steps = server.depth();
+        let number = server.number();
+        self.root.under(steps, number)
     }
 
     /// The cost of the first quorum of least cost of the server's subtree, among those that are up. It takes no
@@ -133,140 +162,20 @@ impl LiveTree {
         requires { server.levels ≡ self.now.levels }
         ensures { result ≡ best_cost self.now server.number }
     {
-        let weights = self.weights(Sought::Quorum);
-        self.known(Sought::Quorum, &weights, server)
-    }
-
-    /// What the server weighs, if it may be taken.
-    fn weight(&self, sought: Sought, server: ServerId) -> Option<u64>
-        requires { server.levels ≡ self.now.levels }
-        ensures value { result ≡ weight_for self.now sought server.number }
-        ensures bounded { IfSome result (λ weight. weight ≤ 1000000) }
-        ensures small { 2 ^ self.now.levels ≤ 64 }
-    {
-        let place = (server.number() - 1) as usize;
-        match sought {
-            Sought::Quorum if self.up[place] => Some(self.costs[place]),
-            Sought::Blocker if !self.up[place] => Some(0),
-            _ => None,
-        }
-    }
-
-    /// The weight of what is found in the subtree of each server, at the place of its number.
-    fn weights(&self, sought: Sought) -> Weights
-        ensures { AreWeights self.now sought 1 result }
-    {
-        let mut weights = [None; PLACES];
-        for below in (0..self.levels.servers()).rev() {
-            let server = ServerId::new(self.levels, below + 1);
-            weights[server.number() as usize] = self.least(sought, server, &weights);
-        }
-        weights
-    }
-
-    /// The weight of what is found in the subtree of the server, from those of its sides.
-    fn least(&self, sought: Sought, server: ServerId, weights: &Weights) -> Option<u64>
-        requires tree { server.levels ≡ self.now.levels }
-        requires later { AreWeights self.now sought (server.number + 1) weights.now }
-        ensures value { result ≡ found_weight self.now sought server.number }
-        ensures bounded { IfSome result (λ weight. weight ≤ 1000000 * 2 ^ height_of server.levels server.number) }
-    {
-        let weight = self.weight(sought, server);
-        match server.sides() {
-            Some(sides) => {
-                let left = self.known(sought, weights, sides.left);
-                let right = self.known(sought, weights, sides.right);
-                least_weight(weight, left, right)
-            }
-            None => weight,
-        }
-    }
-
-    /// The weight that the table has for the server.
-    fn known(&self, sought: Sought, weights: &Weights, server: ServerId) -> Option<u64>
-        requires tree { server.levels ≡ self.now.levels }
-        requires there { AreWeights self.now sought server.number weights.now }
-        ensures value { result ≡ found_weight self.now sought server.number }
-        ensures bounded { IfSome result (λ weight. weight ≤ 1000000 * 2 ^ height_of server.levels server.number) }
-    {
-        let _ = &self.levels;
-        weights[server.number() as usize]
-    }
-
-    /// The form of the first least member of the server's subtree.
-    fn form(
-        &self,
-        sought: Sought,
-        weights: &Weights,
-        server: ServerId,
-        left: ServerId,
-        right: ServerId,
-    ) -> Form
-        requires server { server.levels ≡ self.now.levels }
-        requires left { left.levels ≡ self.now.levels }
-        requires right { right.levels ≡ self.now.levels }
-        requires weights { AreWeights self.now sought 1 weights.now }
-        ensures { result ≡ form_of (weight_for self.now sought server.number) (found_weight self.now sought left.number) (found_weight self.now sought right.number) }
-    {
-        let weight = self.weight(sought, server);
-        let left = self.known(sought, weights, left);
-        let right = self.known(sought, weights, right);
-        least_form(weight, left, right)
-    }
-
-    /// Puts the first least member of the server's subtree, where there is one, into the list.
-    fn gather(
-        &self,
-        sought: Sought,
-        weights: &Weights,
-        server: ServerId,
-        ids: &mut ServerIds,
-    ) -> Result<(), Memory>
-        requires tree { server.levels ≡ self.now.levels }
-        requires weights { AreWeights self.now sought 1 weights.now }
-        ensures numbers { OnOk result ((set : List ℕ) → found self.now sought server.number ≡ Some set → numbers_of ids.new.items ≡ joined set (numbers_of ids.old.items)) }
-        ensures tree { OnOk result (All (λ id. id.levels ≡ server.levels) ids.old.items → All (λ id. id.levels ≡ server.levels) ids.new.items) }
-    {
-        match server.sides() {
-            None => insert_in_order(ids, server),
-            Some(sides) => {
-                let left = sides.left;
-                let right = sides.right;
-                match self.form(sought, weights, server, left, right) {
-                    Form::WithLeft => {
-                        self.gather(sought, weights, left, ids)?;
-                        insert_in_order(ids, server)
-                    }
-                    Form::WithRight => {
-                        self.gather(sought, weights, right, ids)?;
-                        insert_in_order(ids, server)
-                    }
-                    Form::BothSides => {
-                        self.gather(sought, weights, right, ids)?;
-                        self.gather(sought, weights, left, ids)
-                    }
-                }
-            }
-        }
+        self.node(server).least()
     }
 
     /// What is looked for in the server's subtree, where it is there.
-    fn gathered(
-        &self,
-        alloc: Global,
-        sought: Sought,
-        weights: &Weights,
-        server: ServerId,
-    ) -> Result<ServerIds, Memory>
+    fn gathered(&self, alloc: Global, sought: Sought, server: ServerId) -> Result<ServerIds, Memory>
         requires tree { server.levels ≡ self.now.levels }
         requires there { IsSome (found self.now sought server.number) }
-        requires weights { AreWeights self.now sought 1 weights.now }
         ensures set { IfOk result (λ ids. found self.now sought server.number ≡ Some (numbers_of ids.items)) }
         ensures tree { IfOk result (λ ids. ids.items ≡ servers_of self.now.levels (numbers_of ids.items)) }
     {
-        let _number = server.number();
+        let number = server.number();
+        let levels = server.levels();
         let mut ids = ServerIds::new(alloc);
-        self.gather(sought, weights, server, &mut ids)?;
+        self.node(server).gather(sought, levels, number, &mut ids)?;
         Ok(ids)
     }
 
@@ -276,10 +185,9 @@ impl LiveTree {
         requires { server.levels ≡ self.now.levels }
         ensures { IfOk result (λ answer. IsBestOf self.now server.number answer) }
     {
-        let weights = self.weights(Sought::Quorum);
-        match self.known(Sought::Quorum, &weights, server) {
+        match self.best_cost(server) {
             Some(cost) => {
-                let ids = self.gathered(alloc, Sought::Quorum, &weights, server)?;
+                let ids = self.gathered(alloc, Sought::Quorum, server)?;
                 let servers = Seq::from_vec(Vec::from_slice(alloc, ids.as_slice())?);
                 Ok(Some(Least { cost, servers }))
             }
@@ -295,16 +203,14 @@ impl LiveTree {
     {
         let levels = self.levels;
         let root = levels.root();
-        let weights = self.weights(Sought::Quorum);
-        match self.known(Sought::Quorum, &weights, root) {
+        match self.best_cost(root) {
             Some(cost) => {
-                let servers = self.gathered(alloc, Sought::Quorum, &weights, root)?;
+                let servers = self.gathered(alloc, Sought::Quorum, root)?;
                 let quorum = Quorum::new(levels, servers);
                 Ok(Choice::Quorum { quorum, cost })
             }
             None => {
-                let weights = self.weights(Sought::Blocker);
-                let servers = self.gathered(alloc, Sought::Blocker, &weights, root)?;
+                let servers = self.gathered(alloc, Sought::Blocker, root)?;
                 Ok(Choice::Blocked(Blocker::new(levels, servers)))
             }
         }

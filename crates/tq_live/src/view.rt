@@ -4,6 +4,7 @@ use crate::change::ViewChange;
 use crate::choice::Choice;
 use crate::cost::is_cost;
 use crate::tree::LiveTree;
+use crate::turns::Turns;
 use std::alloc::Global;
 use std::marker::Model;
 use tq_coterie::{Blocker, Quorum};
@@ -152,8 +153,12 @@ impl View {
     {
         match change {
             ViewChange::Nothing => (),
-            ViewChange::Cost { server, cost } => self.tree.put_cost(server, cost),
-            ViewChange::Mark { server, up } => self.tree.set_mark(server, up),
+            ViewChange::Cost { server, cost } => {
+                self.tree.put_cost(server, cost, &mut Turns::new());
+            }
+            ViewChange::Mark { server, up } => {
+                self.tree.set_mark(server, up, &mut Turns::new());
+            }
         }
     }
 

@@ -1,5 +1,5 @@
 //! The lines of operators: the refresh and the board.
-ghost use Rattle.std.specs.Prelude.{◌≡◌, ◌++◌, true, false, IfOk, OnOk};
+ghost use Rattle.std.specs.Prelude.{◌≡◌, ◌++◌, true, false, IfOk, OnOk, string_bytes};
 ghost use Rattle.std.specs.List.{All};
 ghost use Rattle.std.specs.Option.{option_map};
 ghost use Rattle.tq_world.specs.Steps.{world_after};
@@ -31,10 +31,17 @@ struct Mended {
 pub fn say_board(service: &Service, alloc: Global, text: &mut Vec<u8>) -> Result<(), Memory>
     ensures { OnOk result (text.new.items ≡ text.old.items ++ spec.board_of service.now) }
 {
-    let tables = service.tables(alloc)?;
-    let board = render(alloc, &tables, service.view())?;
+    let board = board_of(service, alloc)?;
     text.extend_from_slice(board.as_bytes())?;
     Ok(())
+}
+
+/// The board of the service.
+fn board_of(service: &Service, alloc: Global) -> Result<String, Memory>
+    ensures { IfOk result (λ board. string_bytes board ≡ spec.board_of service.now) }
+{
+    let tables = service.tables(alloc)?;
+    render(alloc, &tables, service.view())
 }
 
 /// Mends the stale copies that can be mended now. What came of each goes behind the text, as a line, and then how many
@@ -57,8 +64,7 @@ fn planned(service: &Service, alloc: Global) -> Result<Vec<Job>, Memory>
     ensures of_tree { IfOk result (λ jobs. All (spec.IsOfTree service.now.levels) jobs.items) }
 {
     let tables = service.tables(alloc)?;
-    let jobs = plan(alloc, &tables, service.view())?;
-    Ok(jobs)
+    plan(alloc, &tables, service.view())
 }
 
 /// Does the jobs one after another.
@@ -93,7 +99,23 @@ fn mend(recorder: &mut Recorder, alloc: Global, job: &Job) -> Result<bool, Memor
     let Some(ask) = copy_ask(alloc, job, told.number, &told.reply)? else {
         return Ok(false);
     };
-    match answer_of(recorder, alloc, job.server, ask)? {
+    let taken = takes(recorder, alloc, job.server, ask)?;
+    Ok(taken)
+}
+
+/// Whether the server to be mended takes the copy.
+fn takes(
+    recorder: &mut Recorder,
+    alloc: Global,
+    server: ServerId,
+    ask: NodeAsk,
+) -> Result<bool, Memory>
+    requires { server.levels ≡ recorder.old.journals.levels }
+    ensures value { IfOk result (λ taken. taken ≡ spec.took (spec.answer_in (node_told recorder.old.journals server.number ask))) }
+    ensures after { OnOk result (recorder.new.journals ≡ world_after recorder.old.journals (steps.Node server.number ask)) }
+    ensures tree { recorder.new.journals.levels ≡ recorder.old.journals.levels }
+{
+    match answer_of(recorder, alloc, server, ask)? {
         None => Ok(false),
         Some(told) => Ok(is_refreshed(&told.reply)),
     }

@@ -3,6 +3,7 @@ ghost use Rattle.std.specs.Io.KnownBytes.{Appends};
 ghost use Rattle.tq_shell.specs.Answer.{opening};
 ghost use Rattle.tq_shell.specs.History.{IsLearned};
 ghost use Rattle.tq_shell.specs.Run.{IsRunText, IsRunCount, IsWritten};
+ghost use Rattle.tq_shell.specs.Stream.{silence};
 ghost use Rattle.tq_lines.specs.declared.line.Line.{Line};
 
 use crate::listener::Listener;
@@ -77,6 +78,25 @@ fn answer_lines<R: Source, W: Sink>(
     ensures counts { IsRunCount result (R.failed reader.old) (R.failed reader.new) (W.failed writer.old) (W.failed writer.new) }
 {
     let mut listener = Listener::new(alloc, levels)?;
+    answer_pieces(alloc, levels, &mut listener, reader, writer)
+}
+
+/// Answers what the source gives, a piece after another, by a listener that heard nothing yet.
+fn answer_pieces<R: Source, W: Sink>(
+    alloc: Global,
+    levels: Levels,
+    listener: &mut Listener,
+    reader: &mut R,
+    writer: &mut W,
+) -> Result<(), RunFault>
+    requires new { listener.old ≡ silence levels }
+    requires reads { R.failed reader.old < 2 ^ 64 - 1 }
+    requires writes { W.failed writer.old < 2 ^ 64 - 1 }
+    ensures text { (bytes : List ℕ) × (text : List ℕ) × Appends (R.given reader.old) (R.given reader.new) bytes
+        × Appends (W.taken writer.old) (W.taken writer.new) text × IsRunText result levels bytes text }
+    ensures end { OnOk result (IsTrue (R.is_ended reader.new)) }
+    ensures counts { IsRunCount result (R.failed reader.old) (R.failed reader.new) (W.failed writer.old) (W.failed writer.new) }
+{
     let mut buffer = [0; PIECE];
     let mut text = Vec::new(alloc);
     let mut left = INPUT_LIMIT;

@@ -1,4 +1,4 @@
-ghost use Rattle.std.specs.Prelude.{◌≡◌, IfOk, reverse};
+ghost use Rattle.std.specs.Prelude.{◌≡◌, ◌++◌, map, IfOk, OnOk, reverse};
 ghost use Rattle.tq_desk.specs.DeskJournal as log;
 ghost use Rattle.tq_tables.specs.Parts.{AreOfTree};
 ghost use Rattle.tq_tables.specs.Rows as spec;
@@ -22,10 +22,26 @@ pub fn file_rows(
 {
     let counts = WriteCounts::of(alloc, entries)?;
     let mut rows = Vec::new(alloc);
+    push_rows(alloc, &mut rows, levels, nodes, &counts)?;
+    Ok(rows)
+}
+
+/// Puts the rows of the files counted at the end.
+fn push_rows(
+    alloc: Global,
+    rows: &mut Vec<FileRow>,
+    levels: Levels,
+    nodes: &[Node],
+    counts: &WriteCounts,
+) -> Result<(), Memory>
+    requires { AreOfTree levels 1 nodes.now }
+    ensures { OnOk result (rows.new.items ≡ rows.old.items
+        ++ map (λ entry. spec.row_at levels nodes.now entry.0 entry.1) counts.now) }
+{
     for (file, version) in counts.iter() {
         rows.push(file_row(alloc, levels, nodes, *file, *version)?)?;
     }
-    Ok(rows)
+    Ok(())
 }
 
 /// The row of a file that this many commits write.

@@ -13,6 +13,7 @@ mod lock_rows;
 mod quorum_rows;
 mod replay;
 pub mod rows;
+mod table_rows;
 mod tables;
 mod write_counts;
 

@@ -1,5 +1,5 @@
 //! Parts that are asked once more what their journals have.
-ghost use Rattle.std.specs.Prelude.{◌≡◌, ◌+◌, ◌^◌, length, map, IfOk};
+ghost use Rattle.std.specs.Prelude.{◌≡◌, ◌+◌, ◌^◌, [], length, map, IfOk, OnOk};
 ghost use Rattle.tq_live.specs.View.{IsLegalView};
 ghost use Rattle.tq_tables.specs.Parts as spec;
 
@@ -40,12 +40,21 @@ fn replay_node(
     ensures { IfOk result (λ node. node ≡ spec.node_after_all levels server.number entries.now) }
 {
     let mut node = Node::new(alloc, levels, server);
+    ask_node(alloc, &mut node, entries)?;
+    Ok(node)
+}
+
+/// Asks a server what its journal has.
+fn ask_node(alloc: Global, node: &mut Node, entries: &[NodeEntry]) -> Result<(), Memory>
+    requires { node.old ≡ spec.node_after_all node.old.levels node.old.server [] }
+    ensures { OnOk result (node.new ≡ spec.node_after_all node.old.levels node.old.server entries.now) }
+{
     let mut number = 0;
     for entry in entries {
         number += 1;
         node.answer(alloc, number, &entry.ask)?;
     }
-    Ok(node)
+    Ok(())
 }
 
 /// The desk after its journal.

@@ -2,11 +2,8 @@ ghost use Rattle.std.specs.Prelude.{◌≡◌, ◌+◌, ◌^◌, length, reverse
 ghost use Rattle.std.specs.List.{All};
 ghost use Rattle.tq_desk.specs.DeskJournal.{IsLegalDesk, desk_state};
 
-use crate::file_rows::file_rows;
-use crate::intent_rows::intent_rows;
-use crate::lock_rows::lock_rows;
-use crate::quorum_rows::quorum_rows;
 use crate::replay::{replay_desk, replay_nodes, replay_view};
+use crate::table_rows::TableRows;
 use crate::{DeskEntry, FileRow, IntentRow, Journals, LockRow};
 use std::alloc::Global;
 use std::marker::Model;
@@ -97,20 +94,17 @@ impl Tables {
         requires stands { desk ≡ desk_state (bounds_of desk.levels desk.limits) (reverse entries.now) }
         ensures { IfOk result (λ tables. tables ≡ tables_over nodes.items desk view entries.now) }
     {
+        let rows = TableRows::of(alloc, nodes.as_slice(), &desk, &view, entries)?;
         let levels = view.tree().levels();
-        let quorums = quorum_rows(alloc, view.tree())?;
-        let files = file_rows(alloc, levels, nodes.as_slice(), entries)?;
-        let locks = lock_rows(alloc, nodes.as_slice())?;
-        let intentions = intent_rows(alloc, nodes.as_slice(), &desk)?;
         Ok(Tables {
             levels,
             nodes,
             desk,
             view,
-            quorums,
-            files,
-            locks,
-            intentions,
+            quorums: rows.quorums,
+            files: rows.files,
+            locks: rows.locks,
+            intentions: rows.intentions,
         })
     }
 

@@ -1,8 +1,11 @@
 use std::alloc::{AllocError, Global};
 use std::test::Fail;
 use tq_coterie::{Blocker, Quorum};
-use tq_live::{BadCost, Choice, LiveTree, View, ViewAsk, ViewRefusal, ViewReply};
+use tq_live::{Choice, LiveTree, Turns, View, ViewAsk, ViewRefusal, ViewReply};
 use tq_shape::{Levels, Memory, ServerId};
+
+mod plain;
+mod walk;
 
 /// Why a test fails.
 #[derive(Clone, Copy, Debug)]
@@ -11,6 +14,8 @@ enum Wrong {
     Levels,
     Offer,
     Reply,
+    Kept,
+    Turns,
 }
 
 impl From<Memory> for Wrong {
@@ -29,6 +34,14 @@ fn summary(reply: &ViewReply) -> (u64, Option<u64>) {
         ViewReply::Chosen { quorum, cost } => (bits_of(quorum.servers()), Some(*cost)),
         ViewReply::Refused(ViewRefusal::Blocked(blocker)) => (bits_of(blocker.servers()), None),
         _ => (0, None),
+    }
+}
+
+/// What a choice comes to: the servers as bits, and the cost, or `None` for a blocker.
+fn offer_of(choice: &Choice) -> (u64, Option<u64>) {
+    match choice {
+        Choice::Quorum { quorum, cost } => (bits_of(quorum.servers()), Some(*cost)),
+        Choice::Blocked(blocker) => (bits_of(blocker.servers()), None),
     }
 }
 
@@ -259,24 +272,47 @@ fn refusals_change_nothing(rt: HostRuntime) -> Result<(), Wrong> {
     refuses_costs(rt.alloc(), &mut view)
 }
 
+/// Server 2 at cost 5 and server 5 down, of three levels.
+fn uneven_tree(alloc: Global) -> Result<LiveTree, Wrong> {
+    let levels = Levels::new(3).ok_or(Wrong::Levels)?;
+    let mut tree = LiveTree::new(alloc, levels)?;
+    set_cost(&mut tree, 2, 5, 2)?;
+    set_mark(&mut tree, 5, false, 3)?;
+    Ok(tree)
+}
+
+fn keeps(tree: &LiveTree, number: u64, cost: u64, up: bool) -> Result<(), Wrong> {
+    let server = tree.levels().server(number).ok_or(Wrong::Levels)?;
+    check(
+        tree.cost(server) == cost && tree.is_up(server) == up,
+        Wrong::Kept,
+    )
+}
+
 #[test]
-fn each_subtree_has_its_least_cost(rt: HostRuntime) -> Result<(), Fail> {
-    let levels = Levels::new(3).ok_or("levels")?;
-    let second = levels.server(2).ok_or("second")?;
-    let fifth = levels.server(5).ok_or("fifth")?;
-    let mut tree = LiveTree::new(rt.alloc(), levels)?;
-    assert_eq!(rt; tree.set_cost(second, 1_000_001), Err(BadCost));
-    tree.set_cost(second, 5).map_err(|_| "second")?;
-    tree.set_mark(fifth, false);
-    assert_eq!(rt; (tree.cost(second), tree.cost(fifth)), (5, 1));
-    assert!(rt; tree.is_up(second) && !tree.is_up(fifth));
-    assert_eq!(rt; tree.best_cost(second), Some(6));
-    assert_eq!(rt; tree.best_cost(fifth), None);
-    let best = tree.best(rt.alloc(), second)?.ok_or("best")?;
-    assert_eq!(rt; best.cost, 6);
-    assert_eq!(rt; bits_of(best.servers.as_slice()), bits(&[2, 4]));
-    assert!(rt; tree.best(rt.alloc(), fifth)?.is_none());
-    Ok(())
+fn each_server_has_its_cost_and_mark(rt: HostRuntime) -> Result<(), Wrong> {
+    let tree = uneven_tree(rt.alloc())?;
+    keeps(&tree, 2, 5, true)?;
+    keeps(&tree, 5, 1, false)?;
+    keeps(&tree, 4, 1, true)
+}
+
+/// What the subtree of the server offers: the servers as bits, and the cost, or `None` where no quorum is up.
+fn best_of(alloc: Global, tree: &LiveTree, number: u64) -> Result<Option<(u64, u64)>, Wrong> {
+    let server = tree.levels().server(number).ok_or(Wrong::Levels)?;
+    match tree.best(alloc, server)? {
+        Some(best) => Ok(Some((bits_of(best.servers.as_slice()), best.cost))),
+        None => Ok(None),
+    }
+}
+
+#[test]
+fn each_subtree_has_its_least_cost(rt: HostRuntime) -> Result<(), Wrong> {
+    let tree = uneven_tree(rt.alloc())?;
+    let second = best_of(rt.alloc(), &tree, 2)?;
+    check(second == Some((bits(&[2, 4]), 6)), Wrong::Offer)?;
+    let fifth = best_of(rt.alloc(), &tree, 5)?;
+    check(fifth.is_none(), Wrong::Offer)
 }
 
 fn foresees(alloc: Global, view: &mut View, ask: ViewAsk) -> Result<(), Wrong> {
@@ -323,8 +359,96 @@ fn a_tree_offers_a_quorum_or_a_blocker(rt: HostRuntime) -> Result<(), Fail> {
     let mut tree = LiveTree::new(rt.alloc(), levels)?;
     let quorum = Quorum::of(rt.alloc(), levels, &[1])?.ok_or("quorum")?;
     assert!(rt; tree.choose(rt.alloc())? == Choice::Quorum { quorum, cost: 1 });
-    tree.set_mark(levels.root(), false);
+    tree.set_mark(levels.root(), false, &mut Turns::new());
     let blocker = Blocker::of(rt.alloc(), levels, &[1])?.ok_or("blocker")?;
     assert!(rt; tree.choose(rt.alloc())? == Choice::Blocked(blocker));
+    Ok(())
+}
+
+/// How many caches a change at the server writes: its own, and one for each server above it.
+fn caches_of(number: u64) -> u64 {
+    u64::from(64u32.wrapping_sub(number.leading_zeros()))
+}
+
+/// Sets a cost; that must write so many caches, and none where it is refused.
+fn set_cost(tree: &mut LiveTree, number: u64, cost: u64, caches: u64) -> Result<(), Wrong> {
+    let server = tree.levels().server(number).ok_or(Wrong::Levels)?;
+    let mut turns = Turns::new();
+    let allowed = tree.set_cost(server, cost, &mut turns).is_ok();
+    let written = turns.count();
+    check(allowed == (caches > 0) && written == caches, Wrong::Turns)
+}
+
+/// Marks a server up or down; that must write so many caches.
+fn set_mark(tree: &mut LiveTree, number: u64, up: bool, caches: u64) -> Result<(), Wrong> {
+    let server = tree.levels().server(number).ok_or(Wrong::Levels)?;
+    let mut turns = Turns::new();
+    tree.set_mark(server, up, &mut turns);
+    check(turns.count() == caches, Wrong::Turns)
+}
+
+fn has_best_cost(tree: &LiveTree, number: u64, cost: u64) -> Result<(), Wrong> {
+    let server = tree.levels().server(number).ok_or(Wrong::Levels)?;
+    check(tree.best_cost(server) == Some(cost), Wrong::Offer)
+}
+
+fn takes(alloc: Global, tree: &LiveTree, servers: &[u64], cost: u64) -> Result<(), Wrong> {
+    let choice = tree.choose(alloc)?;
+    let offer = offer_of(&choice);
+    check(
+        offer.0 == bits(servers) && offer.1 == Some(cost),
+        Wrong::Offer,
+    )
+}
+
+/// A cost of 9 at server 4 of three levels.
+fn costly_fourth(alloc: Global) -> Result<LiveTree, Wrong> {
+    let levels = Levels::new(3).ok_or(Wrong::Levels)?;
+    let mut tree = LiveTree::new(alloc, levels)?;
+    set_cost(&mut tree, 4, 9, 3)?;
+    Ok(tree)
+}
+
+#[test]
+fn a_cost_is_told_to_the_servers_above(rt: HostRuntime) -> Result<(), Wrong> {
+    let tree = costly_fourth(rt.alloc())?;
+    has_best_cost(&tree, 4, 9)?;
+    has_best_cost(&tree, 2, 2)?;
+    takes(rt.alloc(), &tree, &[1, 2, 5], 3)
+}
+
+#[test]
+fn a_mark_is_told_to_the_servers_above(rt: HostRuntime) -> Result<(), Wrong> {
+    let mut tree = costly_fourth(rt.alloc())?;
+    set_mark(&mut tree, 2, false, 2)?;
+    has_best_cost(&tree, 2, 10)?;
+    takes(rt.alloc(), &tree, &[1, 3, 6], 3)
+}
+
+#[test]
+fn a_refused_cost_writes_no_cache(rt: HostRuntime) -> Result<(), Wrong> {
+    let mut tree = costly_fourth(rt.alloc())?;
+    set_cost(&mut tree, 4, 0, 0)?;
+    set_cost(&mut tree, 4, 1_000_001, 0)?;
+    takes(rt.alloc(), &tree, &[1, 2, 5], 3)
+}
+
+#[test]
+fn each_depth_writes_one_cache_more(rt: HostRuntime) -> Result<(), Wrong> {
+    let levels = Levels::new(6).ok_or(Wrong::Levels)?;
+    let mut tree = LiveTree::new(rt.alloc(), levels)?;
+    for server in [1, 2, 4, 8, 16, 32, 63] {
+        set_mark(&mut tree, server, false, caches_of(server))?;
+        set_mark(&mut tree, server, false, caches_of(server))?;
+    }
+    set_mark(&mut tree, 63, true, 6)?;
+    set_cost(&mut tree, 1, 5, 1)
+}
+
+#[test]
+fn turns_have_room_for_a_tree(rt: HostRuntime) -> Result<(), Fail> {
+    let levels = Levels::new(6).ok_or("levels")?;
+    assert!(rt; Turns::new().room(levels));
+    assert_eq!(rt; Turns::new().count(), 0);
     Ok(())
 }

@@ -1,4 +1,4 @@
-//! Tests of the shell: sessions of lines with their answers, printed texts, and devices that fail.
+//! Tests of the shell over devices that fail, or take few bytes at a time. Sessions of lines with their answers stand in sessions/.
 #![tactic(auto)]
 
 #[cfg(test)]
@@ -6,16 +6,6 @@ mod devices;
 #[cfg(test)]
 mod faults;
 #[cfg(test)]
-mod limits;
-#[cfg(test)]
 mod odd_lines;
 #[cfg(test)]
-mod operators;
-#[cfg(test)]
-mod refusals;
-#[cfg(test)]
-mod rows;
-#[cfg(test)]
 mod sessions;
-#[cfg(test)]
-mod states;

@@ -23,17 +23,3 @@ pub(crate) fn is_answered(
     }
     Ok(true)
 }
-
-/// Whether the lines, read at once, are answered so.
-pub(crate) fn is_session(
-    alloc: Global,
-    count: u32,
-    lines: &[u8],
-    wanted: &[u8],
-) -> Result<bool, Fail> {
-    let levels = Levels::new(count).ok_or("levels")?;
-    let mut source = MemorySource::new(lines, usize::MAX, None);
-    let mut sink = MemorySink::new(alloc, usize::MAX, None);
-    run(alloc, levels, &mut source, &mut sink).map_err(|_| "run")?;
-    Ok(sink.bytes() == wanted)
-}

@@ -1,446 +1,601 @@
 //! Each state of a transaction, by answers that tests make up.
+//!
+//! Each function of a state is called in one small function, whose callers know nothing of what it ensures: their proofs stay small.
 
 use std::alloc::Global;
-use std::test::Fail;
 use tq_desk::{DeskAsk, DeskReply};
 use tq_locks::Mode;
 use tq_node::{HeldLock, NodeAsk, NodeReply, Verdict, WorkAsk};
-use tq_shape::{Levels, Limits, Seq, ServerId};
+use tq_shape::{Levels, Limits, Memory, Seq, ServerId};
 use tq_states::{DeskTold, Ended, NodeTold, Open, TxnFault, Voting};
 use tq_store::{Content, FileName, Write};
 
-fn name(text: &str) -> Result<FileName, Fail> {
-    Ok(FileName::new(text.as_bytes()).ok_or("name")?)
+/// The file of a letter.
+fn file(letter: u8) -> FileName {
+    match letter {
+        b'a' => FileName::new(b"a").unwrap(),
+        b'b' => FileName::new(b"b").unwrap(),
+        b'c' => FileName::new(b"c").unwrap(),
+        _ => FileName::new(b"d").unwrap(),
+    }
 }
 
-fn content(alloc: Global, text: &str) -> Result<Content, Fail> {
-    Ok(Content::new(text.as_bytes().to_vec(alloc)?).ok_or("content")?)
+/// A content of one byte.
+fn content(alloc: Global, byte: u8) -> Result<Content, Memory> {
+    Ok(Content::new(vec![in alloc; byte]?).unwrap())
 }
 
-fn only<T: Drop>(alloc: Global, item: T) -> Result<Vec<T>, Fail> {
-    let mut list = Vec::new(alloc);
-    list.push(item)?;
-    Ok(list)
+fn lost_lock(file: &FileName) -> &'static str {
+    match file.as_bytes() {
+        b"a" => "lost lock on a",
+        b"b" => "lost lock on b",
+        _ => "lost lock",
+    }
 }
 
-/// Transaction 1 over a tree of one server.
-fn begun(alloc: Global, ops: u32) -> Result<Open, Fail> {
-    let levels = Levels::new(1).ok_or("levels")?;
-    let limits = Limits::new(10, ops, 10).ok_or("limits")?;
-    Ok(Open::new(alloc, levels, limits, 1))
+fn text_of(fault: &TxnFault) -> &'static str {
+    match fault {
+        TxnFault::NotAMember => "not a member",
+        TxnFault::NotAGrant { server: 1 } => "not a grant of 1",
+        TxnFault::AlreadyThere => "already there",
+        TxnFault::TooManyOps => "too many operations",
+        TxnFault::VersionFull => "version full",
+        TxnFault::NoOps => "no operations",
+        TxnFault::NotAVoter => "not a voter",
+        TxnFault::LostLock { file } => lost_lock(file),
+        TxnFault::NotMyVote => "not my vote",
+        TxnFault::NotMyVerdict => "not my verdict",
+        TxnFault::VotesMissing => "votes missing",
+        _ => "another fault",
+    }
 }
 
-fn server(number: u64) -> Result<ServerId, Fail> {
-    Ok(
-        Levels::new(2)
-            .ok_or("levels")?
-            .server(number)
-            .ok_or("server")?,
-    )
-}
+// ---- reads and writes
 
-/// A lock of a transaction that server 1 granted as its entry 1.
-fn granted(
-    alloc: Global,
+/// What server 1 tells as its entry 1: a lock of a transaction on a file, with its version.
+#[derive(Clone, Copy)]
+struct Grant {
     txn: u64,
-    file: &str,
+    file: u8,
     mode: Mode,
     version: u64,
-) -> Result<Vec<NodeTold>, Fail> {
-    let reply = NodeReply::Granted {
-        version,
-        content: content(alloc, "old")?,
-    };
-    let ask = NodeAsk::Work(WorkAsk::Lock {
-        txn,
-        file: name(file)?,
-        mode,
-    });
-    only(
-        alloc,
-        NodeTold {
-            server: 1,
-            number: 1,
-            ask,
-            reply,
-        },
-    )
 }
 
-/// A vote of a server, its entry 2, for a transaction that reads `a`, with these writes.
-fn voted_at(
+fn lock_ask(grant: Grant) -> NodeAsk {
+    NodeAsk::Work(WorkAsk::Lock {
+        txn: grant.txn,
+        file: file(grant.file),
+        mode: grant.mode,
+    })
+}
+
+fn granted(alloc: Global, grant: Grant) -> Result<NodeTold, Memory> {
+    let content = content(alloc, b'o')?;
+    Ok(NodeTold {
+        server: 1,
+        number: 1,
+        ask: lock_ask(grant),
+        reply: NodeReply::Granted {
+            version: grant.version,
+            content,
+        },
+    })
+}
+
+fn answers_of(alloc: Global, grant: Option<Grant>) -> Result<Vec<NodeTold>, Memory> {
+    let mut answers = Vec::new(alloc);
+    if let Some(grant) = grant {
+        answers.push(granted(alloc, grant)?)?;
+    }
+    Ok(answers)
+}
+
+/// A read (a shared mode) or a write of a file, with what the server told.
+#[derive(Clone, Copy)]
+struct Step {
+    mode: Mode,
+    file: u8,
+    told: Option<Grant>,
+}
+
+/// How a step ended: the version, or the fault.
+type End = (u64, &'static str);
+
+fn end_of(answer: Result<u64, TxnFault>) -> End {
+    match answer {
+        Ok(version) => (version, ""),
+        Err(fault) => (0, text_of(&fault)),
+    }
+}
+
+/// The version that was read, where the content is that of the grant.
+fn read(
+    open: &mut Open,
     alloc: Global,
+    file: FileName,
+    answers: &[NodeTold],
+) -> Result<u64, TxnFault> {
+    let copy = open.read(alloc, &file, answers)?;
+    match copy.content.as_bytes() {
+        b"o" => Ok(copy.version),
+        _ => Ok(0),
+    }
+}
+
+fn write(
+    open: &mut Open,
+    alloc: Global,
+    file: FileName,
+    text: Content,
+    answers: &[NodeTold],
+) -> Result<u64, TxnFault> {
+    open.write(alloc, &file, text, answers)
+}
+
+fn take(open: &mut Open, alloc: Global, step: &Step) -> Result<End, Memory> {
+    let answers = answers_of(alloc, step.told)?;
+    let name = file(step.file);
+    if step.mode == Mode::Shared {
+        return Ok(end_of(read(open, alloc, name, answers.as_slice())));
+    }
+    let text = content(alloc, b'x')?;
+    Ok(end_of(write(open, alloc, name, text, answers.as_slice())))
+}
+
+/// How the last of the steps ended.
+fn last_end(open: &mut Open, alloc: Global, steps: &[Step]) -> Result<End, Memory> {
+    let mut end = (0, "no step");
+    for step in steps {
+        end = take(open, alloc, step)?;
+    }
+    Ok(end)
+}
+
+/// Transaction 1, of at most three operations, over a tree of one server.
+fn begun(alloc: Global) -> Open {
+    let levels = Levels::new(1).unwrap();
+    let limits = Limits::new(10, 3, 10).unwrap();
+    Open::new(alloc, levels, limits, 1)
+}
+
+const READ_A: Step = Step {
+    mode: Mode::Shared,
+    file: b'a',
+    told: Some(Grant {
+        txn: 1,
+        file: b'a',
+        mode: Mode::Shared,
+        version: 7,
+    }),
+};
+
+const READ_B: Step = Step {
+    mode: Mode::Shared,
+    file: b'b',
+    told: Some(Grant {
+        txn: 1,
+        file: b'b',
+        mode: Mode::Shared,
+        version: 7,
+    }),
+};
+
+const READ_C: Step = Step {
+    mode: Mode::Shared,
+    file: b'c',
+    told: Some(Grant {
+        txn: 1,
+        file: b'c',
+        mode: Mode::Shared,
+        version: 7,
+    }),
+};
+
+const READ_D: Step = Step {
+    mode: Mode::Shared,
+    file: b'd',
+    told: Some(Grant {
+        txn: 1,
+        file: b'd',
+        mode: Mode::Shared,
+        version: 7,
+    }),
+};
+
+const WRITE_A: Step = Step {
+    mode: Mode::Exclusive,
+    file: b'a',
+    told: Some(Grant {
+        txn: 1,
+        file: b'a',
+        mode: Mode::Exclusive,
+        version: 7,
+    }),
+};
+
+/// The version there is the greatest.
+const WRITE_FULL: Step = Step {
+    mode: Mode::Exclusive,
+    file: b'a',
+    told: Some(Grant {
+        txn: 1,
+        file: b'a',
+        mode: Mode::Exclusive,
+        version: 18_446_744_073_709_551_615,
+    }),
+};
+
+/// The lock that was granted is shared.
+const WRITE_SHARED: Step = Step {
+    mode: Mode::Exclusive,
+    file: b'a',
+    told: Some(Grant {
+        txn: 1,
+        file: b'a',
+        mode: Mode::Shared,
+        version: 7,
+    }),
+};
+
+/// The lock was granted to another transaction.
+const READ_OF_ANOTHER: Step = Step {
+    mode: Mode::Shared,
+    file: b'a',
+    told: Some(Grant {
+        txn: 2,
+        file: b'a',
+        mode: Mode::Shared,
+        version: 7,
+    }),
+};
+
+/// The lock that was granted is one on another file.
+const READ_OF_B: Step = Step {
+    mode: Mode::Shared,
+    file: b'a',
+    told: Some(Grant {
+        txn: 1,
+        file: b'b',
+        mode: Mode::Shared,
+        version: 7,
+    }),
+};
+
+/// The server told nothing.
+const READ_UNTOLD: Step = Step {
+    mode: Mode::Shared,
+    file: b'a',
+    told: None,
+};
+
+/// Steps, the version with which the last ends, and the fault.
+static STEPS: [(&[Step], u64, &str); 11] = [
+    (&[READ_A], 7, ""),
+    (&[WRITE_A], 8, ""),
+    (&[READ_UNTOLD], 0, "not a member"),
+    (&[READ_OF_ANOTHER], 0, "not a grant of 1"),
+    (&[READ_OF_B], 0, "not a grant of 1"),
+    (&[WRITE_SHARED], 0, "not a grant of 1"),
+    (&[READ_A, READ_A], 0, "already there"),
+    (&[WRITE_A, READ_A], 0, "already there"),
+    (&[WRITE_A, WRITE_A], 0, "already there"),
+    (&[READ_B, READ_C, READ_D, READ_A], 0, "too many operations"),
+    (&[WRITE_FULL], 0, "version full"),
+];
+
+#[test]
+fn steps_end_so(rt: HostRuntime) -> Result<(), Memory> {
+    for (steps, version, fault) in STEPS {
+        let mut open = begun(rt.alloc());
+        let end = last_end(&mut open, rt.alloc(), steps)?;
+        assert!(rt; end.0 == version && end.1 == fault);
+    }
+    Ok(())
+}
+
+// ---- votes
+
+/// A vote as entry 2 of a server for a transaction: a lock on `a` since an entry, and maybe a write of `a`.
+#[derive(Clone, Copy)]
+struct Ballot {
     server: u64,
     txn: u64,
     since: u64,
-    writes: Vec<Write>,
-) -> Result<NodeTold, Fail> {
-    let asked: Vec<Write> = Vec::new(alloc);
-    let held = only(
-        alloc,
-        HeldLock {
-            file: name("a")?,
-            mode: Mode::Shared,
-            since,
-        },
-    )?;
+    writes: bool,
+}
+
+const FOR_A_READ: Ballot = Ballot {
+    server: 1,
+    txn: 1,
+    since: 1,
+    writes: false,
+};
+
+fn held(alloc: Global, since: u64) -> Result<Seq<HeldLock>, Memory> {
+    let lock = HeldLock {
+        file: file(b'a'),
+        mode: Mode::Shared,
+        since,
+    };
+    Ok(Seq::from_vec(vec![in alloc; lock]?))
+}
+
+fn voted(alloc: Global, has_write: bool) -> Result<Seq<Write>, Memory> {
+    if !has_write {
+        return Ok(Seq::from_vec(Vec::new(alloc)));
+    }
+    let write = Write {
+        file: file(b'a'),
+        version: 8,
+        content: content(alloc, b'x')?,
+    };
+    Ok(Seq::from_vec(vec![in alloc; write]?))
+}
+
+fn yes(alloc: Global, ballot: Ballot) -> Result<NodeTold, Memory> {
+    let held = held(alloc, ballot.since)?;
+    let writes = voted(alloc, ballot.writes)?;
     Ok(NodeTold {
-        server,
+        server: ballot.server,
         number: 2,
         ask: NodeAsk::Work(WorkAsk::Prepare {
-            txn,
-            writes: Seq::from_vec(asked),
+            txn: ballot.txn,
+            writes: Seq::from_vec(Vec::new(alloc)),
         }),
-        reply: NodeReply::Yes {
-            held: Seq::from_vec(held),
-            writes: Seq::from_vec(writes),
+        reply: NodeReply::Yes { held, writes },
+    })
+}
+
+/// A read of a file, of which the server granted the lock.
+fn reads(file: u8) -> Step {
+    Step {
+        mode: Mode::Shared,
+        file,
+        told: Some(Grant {
+            txn: 1,
+            file,
+            mode: Mode::Shared,
+            version: 7,
+        }),
+    }
+}
+
+fn closed(open: Open) -> Option<Voting> {
+    match open.close() {
+        Ok(voting) => Some(voting),
+        Err(_) => None,
+    }
+}
+
+/// Transaction 1 after reads of these files, as it gathers votes.
+fn voting(alloc: Global, letters: &[u8]) -> Result<Option<Voting>, Memory> {
+    let mut open = begun(alloc);
+    for letter in letters {
+        take(&mut open, alloc, &reads(*letter))?;
+    }
+    Ok(closed(open))
+}
+
+fn vote(voting: &mut Voting, alloc: Global, told: &NodeTold) -> &'static str {
+    match voting.vote(alloc, told) {
+        Ok(()) => "",
+        Err(fault) => text_of(&fault),
+    }
+}
+
+/// Why the vote is not taken.
+fn vote_fault(alloc: Global, letters: &[u8], ballot: Ballot) -> Result<&'static str, Memory> {
+    let told = yes(alloc, ballot)?;
+    match voting(alloc, letters)? {
+        Some(mut voting) => Ok(vote(&mut voting, alloc, &told)),
+        None => Ok("not closed"),
+    }
+}
+
+/// The files read, a vote, and why it is not taken.
+static VOTES: [(&[u8], Ballot, &str); 6] = [
+    (b"a", FOR_A_READ, ""),
+    (b"cab", FOR_A_READ, "lost lock on b"),
+    (
+        b"a",
+        Ballot {
+            server: 1,
+            txn: 1,
+            since: 2,
+            writes: false,
         },
-    })
-}
+        "lost lock on a",
+    ),
+    (
+        b"a",
+        Ballot {
+            server: 1,
+            txn: 1,
+            since: 1,
+            writes: true,
+        },
+        "not my vote",
+    ),
+    (
+        b"a",
+        Ballot {
+            server: 1,
+            txn: 2,
+            since: 1,
+            writes: false,
+        },
+        "not my vote",
+    ),
+    (
+        b"a",
+        Ballot {
+            server: 2,
+            txn: 1,
+            since: 1,
+            writes: false,
+        },
+        "not a voter",
+    ),
+];
 
-/// A vote of server 1 for a transaction that reads `a`, with no writes.
-fn voted(alloc: Global, txn: u64, since: u64) -> Result<NodeTold, Fail> {
-    voted_at(alloc, 1, txn, since, Vec::new(alloc))
-}
-
-/// Transaction 1 after a read of `a`.
-fn reader(alloc: Global) -> Result<Open, Fail> {
-    let mut open = begun(alloc, 4)?;
-    let answers = granted(alloc, 1, "a", Mode::Shared, 7)?;
-    let _ = open
-        .read(alloc, &name("a")?, answers.as_slice())
-        .map_err(|_| "read")?;
-    Ok(open)
-}
-
-fn closed(alloc: Global) -> Result<Voting, Fail> {
-    match reader(alloc)?.close() {
-        Ok(voting) => Ok(voting),
-        Err(_) => Err("closed")?,
+#[test]
+fn votes_are_taken_so(rt: HostRuntime) -> Result<(), Memory> {
+    for (letters, ballot, fault) in VOTES {
+        assert!(rt; vote_fault(rt.alloc(), letters, ballot)? == fault);
     }
+    Ok(())
 }
 
-/// What a read of `a` by transaction 1 is refused for.
-fn refused(open: &mut Open, alloc: Global, answers: &[NodeTold]) -> Result<TxnFault, Fail> {
-    let file = name("a")?;
-    let fault = open.read(alloc, &file, answers).err().ok_or("refused")?;
-    Ok(fault)
-}
+// ---- what a state does not do yet
 
-/// What a write of `x` to `a` by transaction 1 is refused for.
-fn unwritten(open: &mut Open, alloc: Global, answers: &[NodeTold]) -> Result<TxnFault, Fail> {
-    let file = name("a")?;
-    let text = content(alloc, "x")?;
-    match open.write(alloc, &file, text, answers) {
-        Ok(_) => Err("refused")?,
-        Err(fault) => Ok(fault),
-    }
-}
-
-/// A write of `x` to `a` by transaction 1.
-fn writes(open: &mut Open, alloc: Global, answers: &[NodeTold]) -> Result<(), Fail> {
-    let file = name("a")?;
-    let text = content(alloc, "x")?;
-    match open.write(alloc, &file, text, answers) {
-        Ok(_) => Ok(()),
-        Err(_) => Err("written")?,
-    }
-}
-
-/// What a vote for a read of `a` is refused for.
-fn unfit(alloc: Global, told: &NodeTold) -> Result<TxnFault, Fail> {
-    match closed(alloc)?.vote(alloc, told) {
-        Ok(()) => Err("refused")?,
-        Err(fault) => Ok(fault),
+fn close_fault(open: Open) -> &'static str {
+    match open.close() {
+        Ok(_) => "",
+        Err(back) => text_of(&back.1),
     }
 }
 
 #[test]
-fn reads_the_copy_granted(rt: HostRuntime) -> Result<(), Fail> {
-    let alloc = rt.alloc();
-    let mut open = begun(alloc, 4)?;
-    let answers = granted(alloc, 1, "a", Mode::Shared, 7)?;
-    let copy = open
-        .read(alloc, &name("a")?, answers.as_slice())
-        .map_err(|_| "read")?;
-    assert!(rt; copy.version == 7);
-    assert!(rt; copy.content == content(alloc, "old")?);
-    Ok(())
+fn no_operations(rt: HostRuntime) {
+    assert!(rt; close_fault(begun(rt.alloc())) == "no operations");
 }
 
-#[test]
-fn writes_one_above(rt: HostRuntime) -> Result<(), Fail> {
-    let alloc = rt.alloc();
-    let mut open = begun(alloc, 4)?;
-    let answers = granted(alloc, 1, "a", Mode::Exclusive, 7)?;
-    let version = open
-        .write(alloc, &name("a")?, content(alloc, "x")?, answers.as_slice())
-        .map_err(|_| "write")?;
-    assert!(rt; version == 8);
-    Ok(())
-}
-
-#[test]
-fn not_a_member(rt: HostRuntime) -> Result<(), Fail> {
-    let alloc = rt.alloc();
-    let none: Vec<NodeTold> = Vec::new(alloc);
-    let fault = refused(&mut begun(alloc, 4)?, alloc, none.as_slice())?;
-    assert!(rt; fault == TxnFault::NotAMember);
-    Ok(())
-}
-
-#[test]
-fn not_a_grant(rt: HostRuntime) -> Result<(), Fail> {
-    let alloc = rt.alloc();
-    let answers = granted(alloc, 2, "a", Mode::Shared, 0)?;
-    let fault = refused(&mut begun(alloc, 4)?, alloc, answers.as_slice())?;
-    assert!(rt; fault == TxnFault::NotAGrant { server: 1 });
-    Ok(())
-}
-
-#[test]
-fn already_there(rt: HostRuntime) -> Result<(), Fail> {
-    let alloc = rt.alloc();
-    let answers = granted(alloc, 1, "a", Mode::Shared, 7)?;
-    let fault = refused(&mut reader(alloc)?, alloc, answers.as_slice())?;
-    assert!(rt; fault == TxnFault::AlreadyThere);
-    Ok(())
-}
-
-/// Why a read of `a` after its write is refused, and then another write.
-fn again(open: &mut Open, alloc: Global) -> Result<(TxnFault, TxnFault), Fail> {
-    let answers = granted(alloc, 1, "a", Mode::Exclusive, 7)?;
-    writes(open, alloc, answers.as_slice())?;
-    let read = refused(open, alloc, answers.as_slice())?;
-    let write = unwritten(open, alloc, answers.as_slice())?;
-    Ok((read, write))
-}
-
-#[test]
-fn already_written(rt: HostRuntime) -> Result<(), Fail> {
-    let alloc = rt.alloc();
-    let mut open = begun(alloc, 4)?;
-    let faults = again(&mut open, alloc)?;
-    assert!(rt; faults.0 == TxnFault::AlreadyThere);
-    assert!(rt; faults.1 == TxnFault::AlreadyThere);
-    Ok(())
-}
-
-#[test]
-fn not_a_grant_of_an_exclusive_lock(rt: HostRuntime) -> Result<(), Fail> {
-    let alloc = rt.alloc();
-    let answers = granted(alloc, 1, "a", Mode::Shared, 7)?;
-    let fault = unwritten(&mut begun(alloc, 4)?, alloc, answers.as_slice())?;
-    assert!(rt; fault == TxnFault::NotAGrant { server: 1 });
-    Ok(())
-}
-
-#[test]
-fn not_a_grant_of_the_file(rt: HostRuntime) -> Result<(), Fail> {
-    let alloc = rt.alloc();
-    let answers = granted(alloc, 1, "b", Mode::Shared, 7)?;
-    let fault = refused(&mut begun(alloc, 4)?, alloc, answers.as_slice())?;
-    assert!(rt; fault == TxnFault::NotAGrant { server: 1 });
-    Ok(())
-}
-
-#[test]
-fn too_many_operations(rt: HostRuntime) -> Result<(), Fail> {
-    let alloc = rt.alloc();
-    let mut open = begun(alloc, 1)?;
-    let others = granted(alloc, 1, "b", Mode::Shared, 7)?;
-    let _ = open
-        .read(alloc, &name("b")?, others.as_slice())
-        .map_err(|_| "read")?;
-    let answers = granted(alloc, 1, "a", Mode::Shared, 7)?;
-    let fault = refused(&mut open, alloc, answers.as_slice())?;
-    assert!(rt; fault == TxnFault::TooManyOps);
-    Ok(())
-}
-
-#[test]
-fn version_full(rt: HostRuntime) -> Result<(), Fail> {
-    let alloc = rt.alloc();
-    let answers = granted(alloc, 1, "a", Mode::Exclusive, u64::MAX)?;
-    let fault = unwritten(&mut begun(alloc, 4)?, alloc, answers.as_slice())?;
-    assert!(rt; fault == TxnFault::VersionFull);
-    Ok(())
-}
-
-#[test]
-fn no_operations(rt: HostRuntime) -> Result<(), Fail> {
-    let alloc = rt.alloc();
-    let Err(back) = begun(alloc, 4)?.close() else {
-        return Err("refused")?;
-    };
-    assert!(rt; back.1 == TxnFault::NoOps);
-    Ok(())
-}
-
-#[test]
-fn not_a_voter(rt: HostRuntime) -> Result<(), Fail> {
-    let alloc = rt.alloc();
-    let fault = closed(alloc)?
-        .ask(alloc, server(2)?)
-        .err()
-        .ok_or("refused")?;
-    assert!(rt; fault == TxnFault::NotAVoter);
-    Ok(())
-}
-
-#[test]
-fn lost_lock(rt: HostRuntime) -> Result<(), Fail> {
-    let alloc = rt.alloc();
-    let fault = unfit(alloc, &voted(alloc, 1, 2)?)?;
-    assert!(rt; fault == TxnFault::LostLock { file: name("a")? });
-    Ok(())
-}
-
-/// A read of a file by transaction 1.
-fn reads(alloc: Global, open: &mut Open, text: &str) -> Result<(), Fail> {
-    let file = name(text)?;
-    let answers = granted(alloc, 1, text, Mode::Shared, 7)?;
-    match open.read(alloc, &file, answers.as_slice()) {
-        Ok(_) => Ok(()),
-        Err(_) => Err("read")?,
+fn ask_fault(voting: &Voting, alloc: Global, server: ServerId) -> &'static str {
+    match voting.ask(alloc, server).err() {
+        None => "",
+        Some(fault) => text_of(&fault),
     }
 }
 
-/// Transaction 1 reads `a`, `b` and `c`; the vote covers the first alone.
-#[test]
-fn lost_lock_of_the_least_file(rt: HostRuntime) -> Result<(), Fail> {
-    let alloc = rt.alloc();
-    let mut open = begun(alloc, 4)?;
-    reads(alloc, &mut open, "c")?;
-    reads(alloc, &mut open, "a")?;
-    reads(alloc, &mut open, "b")?;
-    let Ok(mut voting) = open.close() else {
-        return Err("closed")?;
-    };
-    let fault = voting
-        .vote(alloc, &voted(alloc, 1, 1)?)
-        .err()
-        .ok_or("refused")?;
-    assert!(rt; fault == TxnFault::LostLock { file: name("b")? });
-    Ok(())
+fn ready_fault(voting: Voting) -> &'static str {
+    match voting.ready() {
+        Ok(_) => "",
+        Err(back) => text_of(&back.1),
+    }
 }
 
-/// A write of `x` to `a`.
-fn a_write(alloc: Global) -> Result<Write, Fail> {
-    Ok(Write {
-        file: name("a")?,
-        version: 8,
-        content: content(alloc, "x")?,
-    })
-}
-
-/// A vote for a write that the transaction has not made.
-#[test]
-fn not_my_writes(rt: HostRuntime) -> Result<(), Fail> {
-    let alloc = rt.alloc();
-    let writes = only(alloc, a_write(alloc)?)?;
-    let fault = unfit(alloc, &voted_at(alloc, 1, 1, 1, writes)?)?;
-    assert!(rt; fault == TxnFault::NotMyVote);
-    Ok(())
+/// Why the second of two servers is not asked for a vote, and why there is no commit before all votes are there.
+fn unready(alloc: Global) -> Result<(&'static str, &'static str), Memory> {
+    let second = ServerId::new(Levels::new(2).unwrap(), 2);
+    match voting(alloc, b"a")? {
+        Some(voting) => {
+            let asked = ask_fault(&voting, alloc, second);
+            Ok((asked, ready_fault(voting)))
+        }
+        None => Ok(("not closed", "")),
+    }
 }
 
 #[test]
-fn not_a_voter_that_votes(rt: HostRuntime) -> Result<(), Fail> {
-    let alloc = rt.alloc();
-    let fault = unfit(alloc, &voted_at(alloc, 2, 1, 1, Vec::new(alloc))?)?;
-    assert!(rt; fault == TxnFault::NotAVoter);
+fn not_ready(rt: HostRuntime) -> Result<(), Memory> {
+    let faults = unready(rt.alloc())?;
+    assert!(rt; faults.0 == "not a voter" && faults.1 == "votes missing");
     Ok(())
 }
 
-#[test]
-fn not_my_vote(rt: HostRuntime) -> Result<(), Fail> {
-    let alloc = rt.alloc();
-    let fault = unfit(alloc, &voted(alloc, 2, 1)?)?;
-    assert!(rt; fault == TxnFault::NotMyVote);
-    Ok(())
-}
+// ---- ends
 
-#[test]
-fn votes_missing(rt: HostRuntime) -> Result<(), Fail> {
-    let alloc = rt.alloc();
-    let Err(back) = closed(alloc)?.ready() else {
-        return Err("refused")?;
-    };
-    assert!(rt; back.1 == TxnFault::VotesMissing);
-    Ok(())
+fn end_fault(voting: Voting, alloc: Global, told: &DeskTold) -> &'static str {
+    match voting.end(alloc, told) {
+        Ok(_) => "",
+        Err(back) => text_of(&back.1),
+    }
 }
 
 /// Why an answer of the desk does not end transaction 1.
-fn unended(alloc: Global, told: &DeskTold) -> Result<TxnFault, Fail> {
-    match closed(alloc)?.end(alloc, told) {
-        Ok(_) => Err("refused")?,
-        Err(back) => Ok(back.1),
+fn unended(alloc: Global, told: &DeskTold) -> Result<&'static str, Memory> {
+    match voting(alloc, b"a")? {
+        Some(voting) => Ok(end_fault(voting, alloc, told)),
+        None => Ok("not closed"),
+    }
+}
+
+/// The desk's abort of a transaction.
+fn abort_of(txn: u64) -> DeskTold {
+    DeskTold {
+        number: 3,
+        ask: DeskAsk::Resolve { txn },
+        reply: DeskReply::Verdict(Verdict::Abort),
     }
 }
 
 #[test]
-fn not_my_verdict(rt: HostRuntime) -> Result<(), Fail> {
-    let told = DeskTold {
-        number: 3,
-        ask: DeskAsk::Resolve { txn: 2 },
-        reply: DeskReply::Verdict(Verdict::Abort),
-    };
-    let fault = unended(rt.alloc(), &told)?;
-    assert!(rt; fault == TxnFault::NotMyVerdict);
+fn not_my_verdict(rt: HostRuntime) -> Result<(), Memory> {
+    let told = abort_of(2);
+    assert!(rt; unended(rt.alloc(), &told)? == "not my verdict");
     Ok(())
 }
 
 /// What the desk told at a beginning is no verdict.
 #[test]
-fn not_a_verdict(rt: HostRuntime) -> Result<(), Fail> {
+fn not_a_verdict(rt: HostRuntime) -> Result<(), Memory> {
     let told = DeskTold {
         number: 1,
         ask: DeskAsk::Begin,
         reply: DeskReply::Txn(1),
     };
-    let fault = unended(rt.alloc(), &told)?;
-    assert!(rt; fault == TxnFault::NotMyVerdict);
+    assert!(rt; unended(rt.alloc(), &told)? == "not my verdict");
     Ok(())
-}
-
-/// Transaction 1, which has read `a`, as an answer of the desk ends it.
-fn ended(alloc: Global, told: &DeskTold) -> Result<Ended, Fail> {
-    match reader(alloc)?.end(alloc, told) {
-        Ok(ended) => Ok(ended),
-        Err(_) => Err("ended")?,
-    }
 }
 
 fn is_aborted(ended: &Ended) -> bool {
-    *ended.verdict() == Verdict::Abort && ended.servers().len() == 1
+    matches!(ended.verdict(), Verdict::Abort) && ended.servers().len() == 1
+}
+
+fn ends_by_abort(open: Open, alloc: Global, told: &DeskTold) -> bool {
+    match open.end(alloc, told) {
+        Ok(ended) => is_aborted(&ended),
+        Err(_) => false,
+    }
+}
+
+fn reader_ends(alloc: Global, told: &DeskTold) -> Result<bool, Memory> {
+    let mut open = begun(alloc);
+    take(&mut open, alloc, &reads(b'a'))?;
+    Ok(ends_by_abort(open, alloc, told))
 }
 
 #[test]
-fn aborted(rt: HostRuntime) -> Result<(), Fail> {
-    let told = DeskTold {
-        number: 3,
-        ask: DeskAsk::Resolve { txn: 1 },
-        reply: DeskReply::Verdict(Verdict::Abort),
-    };
-    let ended = ended(rt.alloc(), &told)?;
-    assert!(rt; is_aborted(&ended));
+fn aborted(rt: HostRuntime) -> Result<(), Memory> {
+    let told = abort_of(1);
+    assert!(rt; reader_ends(rt.alloc(), &told)?);
     Ok(())
 }
 
+/// The transaction of a commit, its operations and its votes.
+fn counts(ask: &DeskAsk) -> (u64, usize, usize) {
+    match ask {
+        DeskAsk::Commit { txn, ops, votes } => (*txn, ops.len(), votes.len()),
+        _ => (0, 0, 0),
+    }
+}
+
+fn evidence_of(voting: Voting, alloc: Global) -> Result<(u64, usize, usize), Memory> {
+    match voting.ready() {
+        Ok(ready) => Ok(counts(&ready.evidence(alloc)?)),
+        Err(_) => Ok((0, 0, 0)),
+    }
+}
+
+fn evidence_after(
+    mut voting: Voting,
+    alloc: Global,
+    told: &NodeTold,
+) -> Result<(u64, usize, usize), Memory> {
+    vote(&mut voting, alloc, told);
+    evidence_of(voting, alloc)
+}
+
+fn evidence(alloc: Global) -> Result<(u64, usize, usize), Memory> {
+    let told = yes(alloc, FOR_A_READ)?;
+    match voting(alloc, b"a")? {
+        Some(voting) => evidence_after(voting, alloc, &told),
+        None => Ok((0, 0, 0)),
+    }
+}
+
 #[test]
-fn evidence_of_a_read(rt: HostRuntime) -> Result<(), Fail> {
-    let alloc = rt.alloc();
-    let mut voting = closed(alloc)?;
-    voting
-        .vote(alloc, &voted(alloc, 1, 1)?)
-        .map_err(|_| "vote")?;
-    let Ok(ready) = voting.ready() else {
-        return Err("ready")?;
-    };
-    let DeskAsk::Commit { txn, ops, votes } = ready.evidence(alloc)? else {
-        return Err("commit")?;
-    };
-    assert!(rt; txn == 1);
-    assert!(rt; ops.len() == 1 && votes.len() == 1);
+fn evidence_of_a_read(rt: HostRuntime) -> Result<(), Memory> {
+    assert!(rt; evidence(rt.alloc())? == (1, 1, 1));
     Ok(())
 }

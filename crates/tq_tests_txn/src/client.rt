@@ -1,16 +1,16 @@
 //! A client that takes the steps of a script, at one transaction after the other.
 
 use super::trace::trace;
-use super::world::{Stop, World};
+use super::world::World;
 use std::alloc::Global;
-use tq_desk::{DeskAsk, DeskRefusal, DeskReply};
+use tq_desk::{DeskAsk, DeskReply};
 use tq_locks::Mode;
-use tq_node::{NodeAsk, NodeRefusal, NodeReply, Verdict, WorkAsk};
-use tq_shape::{Levels, Limits, Memory, Part, ServerId};
-use tq_store::{Content, FileCopy, FileName};
+use tq_node::{NodeAsk, WorkAsk};
+use tq_shape::{Limits, Memory, Part};
+use tq_store::{Content, FileName};
 use tq_txn::{
-    Abortion, Applied, AskFault, Asker, Decision, Ended, LineFault, Open, Reading, Txn, TxnFault,
-    Voting, abort, apply_at, commit, decide, prepare_at, read_file, write_file,
+    Abortion, Applied, Asker, Decision, Ended, LineFault, Open, Reading, Txn, TxnFault, Voting,
+    abort, apply_at, commit, decide, prepare_at, read_file, write_file,
 };
 
 /// Why a test fails.
@@ -34,7 +34,6 @@ impl From<Memory> for Wrong {
 pub(super) enum File {
     A,
     B,
-    C,
 }
 
 /// What the client does, and what happens to the parts beside it.
@@ -52,16 +51,12 @@ pub(super) enum Act {
     Abort,
     /// Tells a server the verdict on the transaction.
     Apply(u64),
-    /// The desk is asked how a transaction ended.
-    Resolve(u64),
     /// An exclusive lock at a server, for a transaction of this number.
     Lock(u64, u64, File),
     /// The release at a server of the locks of a transaction.
     Release(u64, u64),
-    Crash(u64),
-    Return(u64),
-    /// From now on that part alone does not answer.
-    Stop(Part, Stop),
+    /// From now on that part alone does not answer: what an ask of it cites is not founded.
+    Stop(Part),
     /// The state that the transaction is in.
     Show,
 }
@@ -73,19 +68,12 @@ pub(super) enum End {
     /// The step is none of the transaction's state.
     NoStep,
     Begun(u64),
-    /// The version read, and the byte of its content, 0 where there is none.
-    Copy(u64, u8),
-    Pending(u8),
     Version(u64),
     Serial(u64),
-    Applied(Applied),
-    Fault(TxnFault),
-    Refused(u64, NodeRefusal),
-    /// The desk refused since the transaction has ended, by an abort or not.
-    Decided(bool),
-    TooManyFiles,
-    Full(Part),
-    Unfounded(Part, u64),
+    Installed,
+    /// The vote of a server does not cover `a`.
+    LostLock,
+    Unfounded(Part),
     Memory,
     Other,
     /// An open transaction: its operations, and the servers that granted it a lock.
@@ -96,11 +84,10 @@ pub(super) enum End {
     Ended(u64, usize),
 }
 
-pub(super) fn name(file: File) -> FileName {
+fn name(file: File) -> FileName {
     match file {
         File::A => FileName::new(b"a").unwrap(),
         File::B => FileName::new(b"b").unwrap(),
-        File::C => FileName::new(b"c").unwrap(),
     }
 }
 
@@ -110,46 +97,18 @@ fn text(alloc: Global, byte: u8) -> Result<Content, Memory> {
 
 // ---- how a line ended
 
-fn first_byte(content: &Content) -> u8 {
-    match content.as_bytes() {
-        [] => 0,
-        [byte, ..] => *byte,
-    }
-}
-
-fn desk_end(refusal: &DeskRefusal) -> End {
-    match refusal {
-        DeskRefusal::Decided(Verdict::Abort) => End::Decided(true),
-        DeskRefusal::Decided(_) => End::Decided(false),
-        DeskRefusal::TooManyFiles => End::TooManyFiles,
-        _ => End::Other,
-    }
-}
-
 fn fault_end(fault: &LineFault) -> End {
     match fault {
         LineFault::Memory => End::Memory,
-        LineFault::JournalFull { part } => End::Full(*part),
-        LineFault::Unfounded { part, number } => End::Unfounded(*part, *number),
-        LineFault::Txn(fault) => End::Fault(*fault),
-        LineFault::Server { server, refusal } => End::Refused(*server, *refusal),
-        LineFault::Desk(refusal) => desk_end(refusal),
+        LineFault::Unfounded { part, number: 7 } => End::Unfounded(*part),
+        LineFault::Txn(TxnFault::LostLock { file }) if *file == name(File::A) => End::LostLock,
         _ => End::Other,
-    }
-}
-
-fn ask_end(fault: AskFault) -> End {
-    match fault {
-        AskFault::Memory => End::Memory,
-        AskFault::JournalFull { part } => End::Full(part),
-        AskFault::Unfounded { part, number } => End::Unfounded(part, number),
     }
 }
 
 fn read_end(answer: &Result<Reading, LineFault>) -> End {
     match answer {
-        Ok(Reading::Pending(content)) => End::Pending(first_byte(content)),
-        Ok(Reading::Copy(copy)) => End::Copy(copy.version, first_byte(&copy.content)),
+        Ok(_) => End::Done,
         Err(fault) => fault_end(fault),
     }
 }
@@ -177,7 +136,8 @@ fn done_end(answer: &Result<(), LineFault>) -> End {
 
 fn applied_end(answer: &Result<Applied, LineFault>) -> End {
     match answer {
-        Ok(applied) => End::Applied(*applied),
+        Ok(Applied::Installed) => End::Installed,
+        Ok(_) => End::Other,
         Err(fault) => fault_end(fault),
     }
 }
@@ -211,7 +171,7 @@ fn write_in(
 fn closed(open: Open) -> (Txn, End) {
     match open.close() {
         Ok(voting) => (Txn::Voting(voting), End::Done),
-        Err(back) => (Txn::Open(back.0), End::Fault(back.1)),
+        Err(back) => (Txn::Open(back.0), End::Other),
     }
 }
 
@@ -269,27 +229,13 @@ fn shown(txn: &Txn) -> End {
 
 // ---- asks beside the lines
 
-fn reply_end(reply: &NodeReply, server: u64) -> End {
-    match reply {
-        NodeReply::Refused(refusal) => End::Refused(server, *refusal),
-        _ => End::Done,
-    }
-}
-
 fn ask_in(world: &mut World, alloc: Global, server: u64, ask: NodeAsk) -> End {
     match world.levels.server(server) {
         Some(id) => match world.node(alloc, id, ask) {
-            Ok(told) => reply_end(&told.reply, server),
-            Err(fault) => ask_end(fault),
+            Ok(_) => End::Done,
+            Err(_) => End::Other,
         },
         None => End::NoStep,
-    }
-}
-
-fn resolve_in(world: &mut World, alloc: Global, txn: u64) -> End {
-    match world.desk(alloc, DeskAsk::Resolve { txn }) {
-        Ok(_) => End::Done,
-        Err(fault) => ask_end(fault),
     }
 }
 
@@ -313,9 +259,8 @@ pub(super) struct Client {
 }
 
 impl Client {
-    /// A client whose transactions have at most two operations, and whose commits write at most one file.
     fn new(alloc: Global) -> Result<Client, Memory> {
-        let limits = Limits::new(1, 2, 1000).unwrap();
+        let limits = Limits::full();
         let world = World::new(alloc, limits)?;
         Ok(Client {
             alloc,
@@ -331,7 +276,7 @@ impl Client {
                 DeskReply::Txn(number) => number,
                 _ => return End::Other,
             },
-            Err(fault) => return ask_end(fault),
+            Err(_) => return End::Other,
         };
         let levels = self.world.levels;
         self.txn = Some(Txn::Open(Open::new(self.alloc, levels, self.limits, number)));
@@ -449,15 +394,12 @@ impl Client {
     /// What happens beside the client.
     fn happen(&mut self, act: Act) -> End {
         match act {
-            Act::Resolve(txn) => resolve_in(&mut self.world, self.alloc, txn),
             Act::Lock(server, txn, file) => self.ask(server, lock(txn, file)),
             Act::Release(server, txn) => {
                 self.ask(server, NodeAsk::Work(WorkAsk::Release { txn }))
             }
-            Act::Crash(server) => self.ask(server, NodeAsk::Crash),
-            Act::Return(server) => self.ask(server, NodeAsk::Return),
-            Act::Stop(part, stop) => {
-                self.world.stop(part, stop);
+            Act::Stop(part) => {
+                self.world.stop(part);
                 End::Done
             }
             _ => End::NoStep,
@@ -473,10 +415,8 @@ impl Client {
         Ok(())
     }
 
-    fn follow(&mut self, script: &[&[(Act, End)]], asks: &str) -> Result<(), Wrong> {
-        for steps in script {
-            self.take(steps)?;
-        }
+    fn follow(&mut self, steps: &[(Act, End)], asks: &str) -> Result<(), Wrong> {
+        self.take(steps)?;
         let told = trace(self.alloc, self.world.heard.as_slice())?;
         check(told.as_slice() == asks.as_bytes(), Wrong::Asks)
     }
@@ -487,7 +427,7 @@ fn check(holds: bool, wrong: Wrong) -> Result<(), Wrong> {
 }
 
 /// Takes the steps of a script, after which these asks were told.
-pub(super) fn plays(alloc: Global, script: &[&[(Act, End)]], asks: &str) -> Result<(), Wrong> {
+pub(super) fn plays(alloc: Global, steps: &[(Act, End)], asks: &str) -> Result<(), Wrong> {
     let mut client = Client::new(alloc)?;
-    client.follow(script, asks)
+    client.follow(steps, asks)
 }

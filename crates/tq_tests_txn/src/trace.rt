@@ -29,8 +29,7 @@ fn work_letter(ask: &WorkAsk) -> u8 {
 fn node_letter(ask: &NodeAsk) -> u8 {
     match ask {
         NodeAsk::Work(ask) => work_letter(ask),
-        NodeAsk::Crash => b'c',
-        NodeAsk::Return => b'u',
+        _ => b'?',
     }
 }
 
@@ -41,8 +40,6 @@ fn reply_letter(reply: &NodeReply) -> u8 {
         NodeReply::Installed => b'i',
         NodeReply::Discarded => b'd',
         NodeReply::Released => b'r',
-        NodeReply::Crashed => b'c',
-        NodeReply::Returned => b'u',
         NodeReply::Refused(NodeRefusal::NothingHere) => b'n',
         _ => b'x',
     }

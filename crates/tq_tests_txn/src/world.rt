@@ -11,13 +11,6 @@ use tq_node::{Node, NodeAsk, NodeReply};
 use tq_shape::{Levels, Limits, Memory, Part, ServerId};
 use tq_txn::{AskFault, Asker, DeskTold, Heard, NodeTold, Told, ViewTold};
 
-/// What an ask of a part that does not answer is told.
-#[derive(Clone, Copy, PartialEq)]
-pub(super) enum Stop {
-    Full,
-    Unfounded,
-}
-
 /// The desk, and how many entries it has.
 #[derive(Drop)]
 struct DeskCell {
@@ -41,7 +34,7 @@ struct Parts {
     third: Node,
     desk: DeskCell,
     view: ViewCell,
-    stopped: Option<(Part, Stop)>,
+    stopped: Option<Part>,
 }
 
 /// The parts, and what was told of each ask.
@@ -50,13 +43,6 @@ pub(super) struct World {
     pub(super) levels: Levels,
     pub(super) heard: Vec<Heard>,
     parts: Parts,
-}
-
-fn stop_told<R: Drop>(part: Part, stop: Stop) -> Told<R> {
-    match stop {
-        Stop::Full => Told::Full { part },
-        Stop::Unfounded => Told::NotFounded { part, number: 7 },
-    }
 }
 
 /// What a server tells of an ask.
@@ -96,11 +82,8 @@ impl ViewCell {
 }
 
 impl Parts {
-    fn stop_at(&self, part: Part) -> Option<Stop> {
-        match self.stopped {
-            Some((stopped, stop)) if stopped == part => Some(stop),
-            _ => None,
-        }
+    fn is_stopped(&self, part: Part) -> bool {
+        self.stopped == Some(part)
     }
 
     fn node_told(
@@ -110,8 +93,8 @@ impl Parts {
         ask: &NodeAsk,
     ) -> Result<Told<NodeReply>, Memory> {
         let part = Part::Server(server);
-        if let Some(stop) = self.stop_at(part) {
-            return Ok(stop_told(part, stop));
+        if self.is_stopped(part) {
+            return Ok(Told::NotFounded { part, number: 7 });
         }
         match server {
             1 => node_answers(&mut self.first, alloc, part, ask),
@@ -121,17 +104,19 @@ impl Parts {
     }
 
     fn desk_told(&mut self, alloc: Global, ask: &DeskAsk) -> Result<Told<DeskReply>, Memory> {
-        match self.stop_at(Part::Desk) {
-            Some(stop) => Ok(stop_told(Part::Desk, stop)),
-            None => self.desk.answers(alloc, ask),
+        let part = Part::Desk;
+        if self.is_stopped(part) {
+            return Ok(Told::NotFounded { part, number: 7 });
         }
+        self.desk.answers(alloc, ask)
     }
 
     fn view_told(&mut self, alloc: Global, ask: &ViewAsk) -> Result<Told<ViewReply>, Memory> {
-        match self.stop_at(Part::View) {
-            Some(stop) => Ok(stop_told(Part::View, stop)),
-            None => self.view.answers(alloc, ask),
+        let part = Part::View;
+        if self.is_stopped(part) {
+            return Ok(Told::NotFounded { part, number: 7 });
         }
+        self.view.answers(alloc, ask)
     }
 }
 
@@ -351,9 +336,9 @@ impl World {
         })
     }
 
-    /// From now on the part does not answer, and each other does.
-    pub(super) fn stop(&mut self, part: Part, stop: Stop) {
-        self.parts.stopped = Some((part, stop));
+    /// From now on what an ask of the part cites is not founded, and each other part answers.
+    pub(super) fn stop(&mut self, part: Part) {
+        self.parts.stopped = Some(part);
     }
 }
 

@@ -1,5 +1,5 @@
 ghost use Rattle.std.specs.Prelude.{◌+◌, OnOk};
-ghost use Rattle.tq_intents.specs.Kept.{IsAbove};
+ghost use Rattle.tq_intents.specs.Kept.{HasOneVoteEach, IsAbove};
 
 use std::alloc::Global;
 use std::test::Fail;
@@ -135,30 +135,33 @@ fn copies_written(rt: HostRuntime) -> Result<(), Fail> {
     Ok(())
 }
 
+/// Whether these records keep no open vote of transaction 7, and are kept as they are.
+fn keeps_no_vote(alloc: Global, records: &[Record]) -> Result<bool, Fail>
+    requires { HasOneVoteEach records.now }
+{
+    let intents = Intents::recover(alloc, records)?;
+    Ok(intents.of(7).is_none() && intents.stable() == records)
+}
+
 /// An `Intent` without its `Prepared` stands for nothing.
 #[test]
 fn intent_alone(rt: HostRuntime) -> Result<(), Fail> {
-    let alloc = rt.alloc();
-    let write = write(alloc, b'a', 1, b'y')?;
+    let write = write(rt.alloc(), b'a', 1, b'y')?;
     let (txn, number) = (7, 6);
-    let list = vec![in alloc; Record::Intent { txn, number, write }]?;
-    let intents = Intents::recover(alloc, list.as_slice())?;
-    assert!(rt; intents.of(7).is_none());
-    assert!(rt; intents.stable() == list.as_slice());
+    let records = [Record::Intent { txn, number, write }];
+    assert!(rt; keeps_no_vote(rt.alloc(), records.as_slice())?);
     Ok(())
 }
 
 /// A vote with its `Gone` is not open.
 #[test]
 fn ended_vote(rt: HostRuntime) -> Result<(), Fail> {
-    let alloc = rt.alloc();
     let (txn, number) = (7, 6);
-    let list = vec![in alloc;
+    let records = [
         Record::Prepared { txn, number },
         Record::Gone { txn, number },
-    ]?;
-    let intents = Intents::recover(alloc, list.as_slice())?;
-    assert!(rt; intents.of(7).is_none());
+    ];
+    assert!(rt; keeps_no_vote(rt.alloc(), records.as_slice())?);
     Ok(())
 }
 

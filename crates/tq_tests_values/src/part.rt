@@ -3,10 +3,10 @@ ghost use Rattle.std.specs.Prelude.{◌≡◌, ℕ, refl};
 use std::alloc::Global;
 use std::test::Fail;
 use tq_part::{Answers, Fault, Journaled, Plan, foresee};
-use tq_shape::Memory;
+use tq_shape::{Entry, Memory};
 
 /// A part that keeps a number. An ask puts another in its place, and is told the one that was there.
-#[derive(Debug, Drop)]
+#[derive(Drop)]
 struct Register {
     value: u64,
 }
@@ -69,27 +69,54 @@ impl Answers for Register {
     ghost keeps_settings = { λ s n a. refl };
 }
 
-/// Each ask is entered with its reply under the next number, until the journal is full.
+/// The number and the reply of an ask, or the numbers 0 where the journal is full.
+fn told(alloc: Global, register: &mut Journaled<Register>, ask: u64) -> Result<(u64, u64), Fail> {
+    match register.ask(alloc, ask) {
+        Ok(told) => Ok((told.number, told.reply)),
+        Err(Fault::JournalFull) => Ok((0, 0)),
+        Err(_) => Err(Fail::from("not entered")),
+    }
+}
+
+/// Whether each ask is entered with its reply under the next number, until the journal is full.
+fn fills(alloc: Global, register: &mut Journaled<Register>) -> Result<bool, Fail> {
+    let first = told(alloc, register, 5)?;
+    let second = told(alloc, register, 7)?;
+    let third = told(alloc, register, 9)?;
+    Ok(first == (1, 0) && second == (2, 5) && third == (0, 0))
+}
+
+fn are_the_two(entries: &[Entry<u64, u64>]) -> bool {
+    match entries {
+        [first, second] => {
+            (first.ask, first.reply) == (5, 0) && (second.ask, second.reply) == (7, 5)
+        }
+        _ => false,
+    }
+}
+
 #[test]
 fn asks_are_entered_until_the_journal_is_full(rt: HostRuntime) -> Result<(), Fail> {
     let mut register = Journaled::new(rt.alloc(), Register { value: 0 }, 2);
-    for (ask, number, reply) in [(5, 1, 0), (7, 2, 5)] {
-        let told = register.ask(rt.alloc(), ask).map_err(|_| "not entered")?;
-        assert!(rt; told.number == number && told.reply == reply);
-    }
-    assert!(rt; matches!(register.ask(rt.alloc(), 9), Err(Fault::JournalFull)));
-    assert_eq!(rt; register.part().value, 7);
-    assert_eq!(rt; register.entries().len(), 2);
+    assert!(rt; fills(rt.alloc(), &mut register)?);
+    assert!(rt; register.part().value == 7 && are_the_two(register.entries()));
+    Ok(())
+}
+
+#[test]
+fn entries_are_handed_out(rt: HostRuntime) -> Result<(), Fail> {
+    let mut register = Journaled::new(rt.alloc(), Register { value: 0 }, 2);
+    let is_filled = fills(rt.alloc(), &mut register)?;
     let entries = register.into_entries();
-    assert!(rt; entries[0].ask == 5 && entries[1].ask == 7 && entries[1].reply == 5);
+    assert!(rt; is_filled && are_the_two(entries.as_slice()));
     Ok(())
 }
 
 /// What is foreseen is not entered.
 #[test]
 fn a_foreseen_ask_changes_nothing(rt: HostRuntime) -> Result<(), Fail> {
-    let register = Journaled::new(rt.alloc(), Register { value: 0 }, 2);
-    assert_eq!(rt; foresee(rt.alloc(), register.part(), 1, &9)?, 0);
-    assert_eq!(rt; register.part().value, 0);
+    let register = Register { value: 3 };
+    let reply = foresee(rt.alloc(), &register, 1, &9)?;
+    assert!(rt; reply == 3 && register.value == 3);
     Ok(())
 }

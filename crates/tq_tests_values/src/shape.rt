@@ -56,21 +56,34 @@ fn the_side_towards_a_server_is_it_or_stands_above_it(rt: HostRuntime) {
     }
 }
 
+fn values(limits: Limits) -> (u64, u64, u64) {
+    (
+        u64::from(limits.files()),
+        u64::from(limits.ops()),
+        u64::from(limits.entries()),
+    )
+}
+
 #[test]
 fn limits_are_within_their_greatest_values(rt: HostRuntime) {
-    assert!(rt; Limits::new(MOST_FILES, MOST_OPS, MOST_ENTRIES) == Some(Limits::full()));
-    for (files, ops, entries) in [
-        (0, 1, 1),
-        (1, 0, 1),
-        (1, 1, 0),
-        (1001, 1, 1),
-        (1, 65, 1),
-        (1, 1, 1_000_001),
+    for (files, ops, entries, is_within) in [
+        (1, 2, 3, true),
+        (1000, 64, 1_000_000, true),
+        (0, 1, 1, false),
+        (1, 0, 1, false),
+        (1, 1, 0, false),
+        (1001, 1, 1, false),
+        (1, 65, 1, false),
+        (1, 1, 1_000_001, false),
     ] {
-        assert!(rt; Limits::new(files, ops, entries).is_none());
+        assert!(rt; Limits::new(files, ops, entries).is_some() == is_within);
     }
-    let least = Limits::new(1, 2, 3).unwrap();
-    assert!(rt; (least.files(), least.ops(), least.entries()) == (1, 2, 3));
+}
+
+#[test]
+fn limits_have_their_values(rt: HostRuntime) {
+    assert!(rt; values(Limits::new(1, 2, 3).unwrap()) == (1, 2, 3));
+    assert!(rt; values(Limits::full()) == (1000, 64, 1_000_000));
 }
 
 #[test]

@@ -36,16 +36,36 @@ fn text_of_a_name(rt: HostRuntime) -> Result<(), Fail> {
     Ok(())
 }
 
+/// The length of the content of that many bytes, where there is such a content.
+fn length_of(alloc: Global, count: usize) -> Result<Option<usize>, AllocError> {
+    let content = Content::new(vec![in alloc; 255; count]?);
+    Ok(content.map(|content| content.len()))
+}
+
 /// A content has any bytes, and as many as the limit.
 #[test]
 fn contents(rt: HostRuntime) -> Result<(), Fail> {
-    let full = Content::new(vec![in rt.alloc(); 255; MAX_CONTENT]?).ok_or("full")?;
-    assert_eq!(rt; full.len(), 1000);
-    assert!(rt; Content::new(vec![in rt.alloc(); 0; MAX_CONTENT + 1]?).is_none());
+    for (count, length) in [
+        (0, Some(0)),
+        (1, Some(1)),
+        (MAX_CONTENT, Some(1000)),
+        (MAX_CONTENT + 1, None),
+    ] {
+        assert!(rt; length_of(rt.alloc(), count)? == length);
+    }
+    Ok(())
+}
+
+fn is_copied_as(content: &Content, other: &Content) -> Result<bool, AllocError> {
+    Ok(content.clone()? == *other)
+}
+
+#[test]
+fn copies_of_a_content(rt: HostRuntime) -> Result<(), Fail> {
+    let one = Content::new(vec![in rt.alloc(); 255]?).ok_or("one")?;
     let empty = Content::empty(rt.alloc());
-    assert!(rt; empty.is_empty());
-    assert!(rt; empty.clone()? == empty);
-    assert!(rt; !(full == empty));
+    assert!(rt; empty.is_empty() && is_copied_as(&empty, &empty)?);
+    assert!(rt; is_copied_as(&one, &one)? && !is_copied_as(&one, &empty)?);
     Ok(())
 }
 

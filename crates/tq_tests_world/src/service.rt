@@ -1,6 +1,3 @@
-mod plain;
-mod walk;
-
 use std::alloc::Global;
 use std::test::*;
 use tq_core::{Answer, Journal, Part, Refusal, Reply, Service, Step};

@@ -8,7 +8,7 @@ use self::made::{Asked, Told, file, journals, log};
 use std::alloc::Global;
 use std::test::*;
 use tq_desk::{DeskAsk, DeskReply, OpKind};
-use tq_live::{Least, LiveTree, ViewAsk, ViewReply};
+use tq_live::{Least, LiveTree, Turns, ViewAsk, ViewReply};
 use tq_locks::Mode;
 use tq_node::Node;
 use tq_shape::{Levels, Limits, Memory, ServerSet};
@@ -226,7 +226,8 @@ fn are_quorums(alloc: Global, down: &[u64], wanted: &[(u64, u64); 3]) -> Result<
     let levels = Levels::new(2).ok_or("levels")?;
     let mut tree = LiveTree::new(alloc, levels)?;
     for number in down {
-        tree.set_mark(levels.server(*number).ok_or("server")?, false);
+        let server = levels.server(*number).ok_or("server")?;
+        tree.set_mark(server, false, &mut Turns::new());
     }
     let rows = quorum_rows(alloc, &tree)?;
     let mut rows = rows.iter();

@@ -273,12 +273,13 @@ write_refused file content answers given old new fault line_fault told same come
     let S : List NodeTold → Type 0 = λ xs. Went (write_end file content xs old) told told (ended_by (Err line_fault) new) in
     subst S same (subst R (sym news) (subst Q (sym faults_are) (went_fault (write_fault old file given) fault old (done (greatest (grants_of kinds.Write old.txn file given) + 1) (write_after old file content given)) told comes)))
 
-pub vote_refused : (old new : VotingView) (server : ℕ) (ask : NodeAsk) (answer : NodeTold) (fault : TxnFault) (line_fault : LineFault) (told after : List Heard) → has_vote old.votes server ≡ false → ask_fault old.txn server ≡ None → ask ≡ prepare_ask old.txn server → Went (node_line server ask) told after (Some (record { answer = Ok answer; after = tt })) → refusal_in answer.reply ≡ None → ComesOf (vote_fault old answer) fault → new ≡ old → line_fault ≡ fault_of_txn fault → Went (prepare_line old server) told after (ended_by (Err line_fault) new)
-vote_refused old new server ask answer fault line_fault told after new_voter may asks first none comes news faults_are =
+pub vote_refused : (old new : VotingView) (answer : NodeTold) (fault : TxnFault) (line_fault : LineFault) (told : List Heard) → refusal_in answer.reply ≡ None → ComesOf (vote_fault old answer) fault → new ≡ old → line_fault ≡ fault_of_txn fault → Went (voted old answer) told told (ended_by (Err line_fault) new)
+vote_refused old new answer fault line_fault told none comes news faults_are =
+    let Q : LineFault → Type 0 = λ x. Went (voted old answer) told told (ended_by (Err x) old) in
+    let R : VotingView → Type 0 = λ v. Went (voted old answer) told told (ended_by (Err line_fault) v) in
+    subst R (sym news) (subst Q (sym faults_are) (rw none (went_fault (vote_fault old answer) fault old (done tt (vote_after old answer)) told comes)))
+
+pub vote_asked : (old new : VotingView) (server : ℕ) (ask : NodeAsk) (answer : NodeTold) (result : Result (Unit {0}) LineFault) (told after : List Heard) → has_vote old.votes server ≡ false → ask_fault old.txn server ≡ None → ask ≡ prepare_ask old.txn server → Went (node_line server ask) told after (Some (record { answer = Ok answer; after = tt })) → Went (voted old answer) after after (ended_by result new) → Went (prepare_line old server) told after (ended_by result new)
+vote_asked old new server ask answer result told after new_voter may asks first last =
     let P : NodeAsk → Type 0 = λ a. Went (node_line server a) told after (Some (record { answer = Ok answer; after = tt })) in
-    let Q : LineFault → Type 0 = λ x. Went (prepare_line old server) told after (ended_by (Err x) old) in
-    let R : VotingView → Type 0 = λ v. Went (prepare_line old server) told after (ended_by (Err line_fault) v) in
-    let last : Went (voted old answer) after after (ended_by (Err (fault_of_txn fault)) old) =
-    rw none (went_fault (vote_fault old answer) fault old (done tt (vote_after old answer)) after comes) in
-    subst R (sym news) (subst Q (sym faults_are)
-    (rw (new_voter, may) (went_on (node_line server (prepare_ask old.txn server)) (λ none. old) (λ t none. voted old t) answer tt told after after (ended_by (Err (fault_of_txn fault)) old) (subst P asks first) last)))
+    rw (new_voter, may) (went_on (node_line server (prepare_ask old.txn server)) (λ none. old) (λ t none. voted old t) answer tt told after after (ended_by result new) (subst P asks first) last)

@@ -1,11 +1,12 @@
-ghost use Rattle.std.specs.Prelude.{◌≡◌, ◌==◌, true, Some, None, IfOk, OnErr};
+ghost use Rattle.std.specs.Prelude.{◌≡◌, ◌==◌, true, List, Some, None, IfOk, OnErr};
 ghost use Rattle.std.specs.List.{list_all};
 ghost use Rattle.tq_coterie.specs.Coterie.{numbers_of};
 ghost use Rattle.tq_txn.specs.Line as line;
 ghost use Rattle.tq_txn.specs.Lines as spec;
+ghost use Rattle.tq_txn.specs.declared.asker.Heard.{Heard};
 
 use crate::asks::ask_node;
-use crate::{Applied, AskFault, Asker, Ended, LineFault, Voting};
+use crate::{Applied, AskFault, Asker, Ended, LineFault, NodeTold, Voting};
 use std::alloc::Global;
 use tq_node::{NodeAsk, NodeRefusal, NodeReply, Verdict, WorkAsk};
 use tq_shape::{Part, ServerId};
@@ -44,13 +45,22 @@ pub fn prepare_at<A: Asker>(
         Ok(told) => told,
         Err(fault) => return Err(fault),
     };
+    take_vote(alloc, voting, &told)
+}
+
+/// Takes the vote that a server told, unless it refused.
+fn take_vote(alloc: Global, voting: &mut Voting, told: &NodeTold) -> Result<(), LineFault>
+    ensures asks { (heard : List Heard) → line.Went (spec.voted voting.old told.now) heard heard (line.ended_by result voting.new) }
+    ensures txn { voting.new.txn ≡ voting.old.txn }
+    ensures err { OnErr result (voting.new ≡ voting.old) }
+{
     if let Some(refusal) = refusal_in(&told.reply) {
         return Err(LineFault::Server {
             server: told.server,
             refusal,
         });
     }
-    if let Err(fault) = voting.vote(alloc, &told) {
+    if let Err(fault) = voting.vote(alloc, told) {
         return Err(LineFault::from(fault));
     }
     Ok(())

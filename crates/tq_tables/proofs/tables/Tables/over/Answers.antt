@@ -10,13 +10,15 @@ use Rattle.tq_tables.proofs.tables.Tables.over.Goals as goal
 
 pub returns : goal.returns
 returns c =
+    let tree = c.levels-levels.ensures ∙ ap (λ (l : Live). l.levels) c.tree.ensures in
     over-is c.args.nodes.items c.args.desk c.args.view c.args.entries.now c.levels-levels.result
-    c.in_ok-quorums.quorums.items c.in_ok-files.files.items c.in_ok-locks.locks.items c.in_ok-intentions.intentions.items
-    (c.levels-levels.ensures ∙ ap (λ (l : Live). l.levels) c.tree.ensures)
-    (c.in_ok-quorums.ensures ∙ ap rows.quorum_rows c.tree-2.ensures)
-    (c.in_ok-files.ensures ∙ ap (λ nodes. rows.file_rows c.levels-levels.result nodes (commits (reverse c.args.entries.now))) c.as_slice.ensures.value)
-    (c.in_ok-locks.ensures ∙ ap rows.lock_rows c.as_slice-2.ensures.value)
-    (c.in_ok-intentions.ensures ∙ ap (rows.intent_rows (intent_state_at c.args.desk)) c.as_slice-3.ensures.value)
+    c.in_ok-rows.rows.quorums.items c.in_ok-rows.rows.files.items c.in_ok-rows.rows.locks.items c.in_ok-rows.rows.intentions.items
+    tree
+    c.in_ok-rows.ensures.0
+    (c.in_ok-rows.ensures.1
+    ∙ (λ i. rows.file_rows (sym tree i) (c.as_slice.ensures.value i) (commits (reverse c.args.entries.now))))
+    (c.in_ok-rows.ensures.2 ∙ ap rows.lock_rows c.as_slice.ensures.value)
+    (c.in_ok-rows.ensures.3 ∙ ap (rows.intent_rows (intent_state_at c.args.desk)) c.as_slice.ensures.value)
     c.requires.legal c.requires.stands
 
 pub invariant_of-result : goal.invariant_of-result

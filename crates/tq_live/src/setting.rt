@@ -1,0 +1,6 @@
+/// What is set anew at a server.
+#[derive(Clone, Copy, Debug, PartialEq, Eq)]
+pub(crate) enum Setting {
+    Cost(u64),
+    Mark(bool),
+}
