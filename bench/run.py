@@ -218,4 +218,5 @@ def main():
                 single(name, name, times, tq, other, asked.turns, folder)
 
 
-main()
+if __name__ == "__main__":
+    main()

@@ -1,3 +1,4 @@
+use std::alloc::Global;
 use std::io::{self, Error, ErrorKind, Read};
 use std::test::Fail;
 use tq_shape::Levels;
@@ -29,32 +30,29 @@ impl<'a> Read for Interrupted<'a> {
     }
 }
 
-#[test]
-fn interrupted_reads_are_no_failures(rt: HostRuntime) -> Result<(), Fail> {
+/// How a run over such a reader ends, and how many reads failed.
+fn run_over(alloc: Global, last: Option<ErrorKind>) -> Result<(Option<RunFault>, u64), Fail> {
     let levels = Levels::new(1).ok_or("levels")?;
     let mut source = Reading::new(Interrupted {
         bytes: b"choose\ndown 1",
         is_next: false,
-        last: None,
+        last,
     });
-    let mut sink = Writing::new(Vec::new(rt.alloc()));
-    let result = run(rt.alloc(), levels, &mut source, &mut sink);
-    assert_eq!(rt; result, Ok(()));
-    assert_eq!(rt; source.failures(), 0);
+    let mut sink = Writing::new(Vec::new(alloc));
+    let result = run(alloc, levels, &mut source, &mut sink);
+    Ok((result.err(), source.failures()))
+}
+
+#[test]
+fn interrupted_reads_are_no_failures(rt: HostRuntime) -> Result<(), Fail> {
+    let end = run_over(rt.alloc(), None)?;
+    assert!(rt; end.0.is_none() && end.1 == 0);
     Ok(())
 }
 
 #[test]
 fn other_failed_reads_are_failures(rt: HostRuntime) -> Result<(), Fail> {
-    let levels = Levels::new(1).ok_or("levels")?;
-    let mut source = Reading::new(Interrupted {
-        bytes: b"choose\ndown 1",
-        is_next: false,
-        last: Some(ErrorKind::UnexpectedEof),
-    });
-    let mut sink = Writing::new(Vec::new(rt.alloc()));
-    let result = run(rt.alloc(), levels, &mut source, &mut sink);
-    assert_eq!(rt; result, Err(RunFault::Read));
-    assert_eq!(rt; source.failures(), 1);
+    let end = run_over(rt.alloc(), Some(ErrorKind::UnexpectedEof))?;
+    assert!(rt; end.0 == Some(RunFault::Read) && end.1 == 1);
     Ok(())
 }

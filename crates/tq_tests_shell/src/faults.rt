@@ -1,83 +1,101 @@
+use std::alloc::Global;
 use std::test::Fail;
 use tq_shape::Levels;
-use tq_shell::{INPUT_LIMIT, MemorySink, MemorySource, RunFault, Sink, Source, run};
+use tq_shell::{MemorySink, MemorySource, RunFault, Sink, Source, run};
+
+/// Answers the lines of a source in a tree of one level, where few calls failed before.
+fn answer(
+    alloc: Global,
+    source: &mut MemorySource,
+    sink: &mut MemorySink,
+) -> Result<Option<RunFault>, Fail> {
+    let levels = Levels::new(1).ok_or("levels")?;
+    if source.failures() > 9 || sink.failures() > 9 {
+        return Err(Fail::from("failures"));
+    }
+    Ok(run(alloc, levels, source, sink).err())
+}
+
+/// A device whose pieces have at most so many bytes, and the call of it that fails.
+type Device = (usize, Option<u64>);
+
+/// Whether lines from the one device, answered at the other, end in that fault, with that text printed.
+fn ends_so(
+    alloc: Global,
+    lines: &[u8],
+    devices: (Device, Device),
+    fault: Option<RunFault>,
+    text: &[u8],
+) -> Result<bool, Fail> {
+    let (from, to) = devices;
+    if from.0 == 0 || to.0 == 0 {
+        return Err(Fail::from("pieces"));
+    }
+    let mut source = MemorySource::new(lines, from.0, from.1);
+    let mut sink = MemorySink::new(alloc, to.0, to.1);
+    let end = answer(alloc, &mut source, &mut sink)?;
+    let failures = source.failures().saturating_add(sink.failures());
+    Ok(end == fault && sink.bytes() == text && (failures == 1) == fault.is_some())
+}
+
+const BOARD: &[u8] = b"down 1\nboard levels 1\nserver 1 cost 1 down least none\nend\n";
+
+static RUNS: [(&[u8], (Device, Device), Option<RunFault>, &[u8]); 7] = [
+    (b"down 1\nboard", ((1, None), (1, None)), None, BOARD),
+    (b"down 1\nboard", ((7, None), (7, None)), None, BOARD),
+    (b"down 1\nboard", ((100, None), (3, None)), None, BOARD),
+    // A failed read is no end: what has come of a line by then is not answered.
+    (
+        b"choose",
+        ((9, Some(0)), (100, None)),
+        Some(RunFault::Read),
+        b"",
+    ),
+    (
+        b"choose\nchoose",
+        ((13, Some(1)), (100, None)),
+        Some(RunFault::Read),
+        b"quorum 1 cost 1\n",
+    ),
+    (
+        b"choose\nchoose\ndown 1\n",
+        ((9, Some(1)), (100, None)),
+        Some(RunFault::Read),
+        b"quorum 1 cost 1\n",
+    ),
+    // A failed write leaves what was written before.
+    (
+        b"choose\nchoose\n",
+        ((9, None), (5, Some(2))),
+        Some(RunFault::Write),
+        b"quorum 1 c",
+    ),
+];
 
 #[test]
-fn whole_lines_after_a_failed_read(rt: HostRuntime) -> Result<(), Fail> {
-    let levels = Levels::new(1).ok_or("levels")?;
+fn runs_end_so(rt: HostRuntime) -> Result<(), Fail> {
+    for (lines, devices, fault, text) in RUNS {
+        assert!(rt; ends_so(rt.alloc(), lines, devices, fault, text)?, "at {lines:?}");
+    }
+    Ok(())
+}
+
+/// Whether a second run goes on behind the bytes that the first one read, which a failed read ended.
+fn goes_on(
+    alloc: Global,
+    source: &mut MemorySource,
+    sink: &mut MemorySink,
+) -> Result<bool, Fail> {
+    let first = answer(alloc, source, sink)?;
+    let second = answer(alloc, source, sink)?;
+    Ok(first == Some(RunFault::Read) && second.is_none())
+}
+
+#[test]
+fn the_next_run_goes_on_behind_a_failed_read(rt: HostRuntime) -> Result<(), Fail> {
     let mut source = MemorySource::new(b"choose\nchoose\ndown 1\n", 9, Some(1));
     let mut sink = MemorySink::new(rt.alloc(), 100, None);
-    let first = run(rt.alloc(), levels, &mut source, &mut sink);
-    assert_eq!(rt; first, Err(RunFault::Read));
-    assert_eq!(rt; sink.bytes(), b"quorum 1 cost 1\n".as_slice());
-    assert!(rt; source.failures() == 1);
-    // The next call goes on behind the bytes that were read.
-    let second = run(rt.alloc(), levels, &mut source, &mut sink);
-    assert_eq!(rt; second, Ok(()));
-    assert_eq!(rt;
-        sink.bytes(),
-        b"quorum 1 cost 1\nbad line\ndown 1\n".as_slice()
-    );
-    Ok(())
-}
-
-#[test]
-fn a_failed_first_read_is_no_end(rt: HostRuntime) -> Result<(), Fail> {
-    let levels = Levels::new(1).ok_or("levels")?;
-    let mut source = MemorySource::new(b"choose", 9, Some(0));
-    let mut sink = MemorySink::new(rt.alloc(), 100, None);
-    let result = run(rt.alloc(), levels, &mut source, &mut sink);
-    assert_eq!(rt; result, Err(RunFault::Read));
-    assert_eq!(rt; sink.bytes(), b"".as_slice());
-    Ok(())
-}
-
-#[test]
-fn a_line_without_its_end_after_a_failed_read(rt: HostRuntime) -> Result<(), Fail> {
-    let levels = Levels::new(1).ok_or("levels")?;
-    let mut source = MemorySource::new(b"choose\nchoose", 13, Some(1));
-    let mut sink = MemorySink::new(rt.alloc(), 100, None);
-    let result = run(rt.alloc(), levels, &mut source, &mut sink);
-    assert_eq!(rt; result, Err(RunFault::Read));
-    assert_eq!(rt; sink.bytes(), b"quorum 1 cost 1\n".as_slice());
-    Ok(())
-}
-
-#[test]
-fn a_prefix_after_a_failed_write(rt: HostRuntime) -> Result<(), Fail> {
-    let levels = Levels::new(1).ok_or("levels")?;
-    let mut source = MemorySource::new(b"choose\nchoose\n", 9, None);
-    let mut sink = MemorySink::new(rt.alloc(), 5, Some(2));
-    let result = run(rt.alloc(), levels, &mut source, &mut sink);
-    assert_eq!(rt; result, Err(RunFault::Write));
-    assert_eq!(rt; sink.bytes(), b"quorum 1 c".as_slice());
-    assert!(rt; sink.failures() == 1);
-    Ok(())
-}
-
-// At the limit all is answered. A byte behind it is a fault, and the line that it ends is not answered.
-#[test]
-fn input_at_its_limit(rt: HostRuntime) -> Result<(), Fail> {
-    let levels = Levels::new(1).ok_or("levels")?;
-    let mut lines = vec![in rt.alloc(); b'\n'; INPUT_LIMIT - 12]?;
-    lines.extend_from_slice(b"down 1\ndown ")?;
-    let mut source = MemorySource::new(lines.as_slice(), usize::MAX, None);
-    let mut sink = MemorySink::new(rt.alloc(), 100, None);
-    let within = run(rt.alloc(), levels, &mut source, &mut sink);
-    assert_eq!(rt; within, Ok(()));
-    assert_eq!(rt; sink.bytes(), b"down 1\nbad line\n".as_slice());
-    Ok(())
-}
-
-#[test]
-fn input_over_its_limit(rt: HostRuntime) -> Result<(), Fail> {
-    let levels = Levels::new(1).ok_or("levels")?;
-    let mut lines = vec![in rt.alloc(); b'\n'; INPUT_LIMIT - 12]?;
-    lines.extend_from_slice(b"down 1\ndown 1\n")?;
-    let mut source = MemorySource::new(lines.as_slice(), usize::MAX, None);
-    let mut sink = MemorySink::new(rt.alloc(), 100, None);
-    let over = run(rt.alloc(), levels, &mut source, &mut sink);
-    assert_eq!(rt; over, Err(RunFault::TooLong));
-    assert_eq!(rt; sink.bytes(), b"down 1\n".as_slice());
+    assert!(rt; goes_on(rt.alloc(), &mut source, &mut sink)?);
+    assert!(rt; sink.bytes() == b"quorum 1 cost 1\nbad line\ndown 1\n".as_slice());
     Ok(())
 }

@@ -5,7 +5,3 @@
 mod devices;
 #[cfg(test)]
 mod faults;
-#[cfg(test)]
-mod odd_lines;
-#[cfg(test)]
-mod sessions;

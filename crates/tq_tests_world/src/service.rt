@@ -194,23 +194,33 @@ fn vote_again(asked: &mut Asked) -> Result<(), Fail> {
     )
 }
 
+fn decide_twice(asked: &mut Asked) -> Result<(), Fail> {
+    let alloc = asked.alloc;
+    asked.node(decide_first(alloc)?, 3, NodeReply::Installed)?;
+    vote_again(asked)?;
+    asked.node(decide_first(alloc)?, 6, NodeReply::Discarded)
+}
+
+fn peek_last(asked: &mut Asked) -> Result<(), Fail> {
+    let peek = WorkAsk::Peek { file: file_a()? };
+    let content = text(asked.alloc, b'x')?;
+    let copy = NodeReply::Copy {
+        version: 1,
+        content,
+    };
+    asked.node(peek, 7, copy)
+}
+
+fn vote_uncited(asked: &mut Asked) -> Result<(), Fail> {
+    commit_first(asked)?;
+    decide_twice(asked)?;
+    peek_last(asked)
+}
+
 #[test]
 fn a_vote_that_is_not_cited_is_discarded(rt: HostRuntime) -> Result<(), Fail> {
-    let alloc = rt.alloc();
-    let mut asked = Asked::new(alloc, 1, Limits::full())?;
-    commit_first(&mut asked)?;
-    asked.node(decide_first(alloc)?, 3, NodeReply::Installed)?;
-    vote_again(&mut asked)?;
-    asked.node(decide_first(alloc)?, 6, NodeReply::Discarded)?;
-    let content = text(alloc, b'x')?;
-    asked.node(
-        WorkAsk::Peek { file: file_a()? },
-        7,
-        NodeReply::Copy {
-            version: 1,
-            content,
-        },
-    )
+    let mut asked = Asked::new(rt.alloc(), 1, Limits::full())?;
+    vote_uncited(&mut asked)
 }
 
 // A lock that was released in between does not cover the grant before.
@@ -259,20 +269,27 @@ fn vote_for_nothing(asked: &mut Asked) -> Result<(), Fail> {
     )
 }
 
+/// Commits by the grant whose lock was released, and by the grant of the lock that is held.
+fn commit_by_each_grant(asked: &mut Asked) -> Result<(), Fail> {
+    let alloc = asked.alloc;
+    let broken = read_commit(alloc, 1)?;
+    let bad = DeskReply::Refused(DeskRefusal::BadEvidence { rule: 3 });
+    asked.desk(broken, 2, bad)?;
+    let held = read_commit(alloc, 3)?;
+    asked.desk(held, 3, DeskReply::Committed { serial: 1 })
+}
+
+fn break_a_lock(asked: &mut Asked) -> Result<(), Fail> {
+    asked.desk(DeskAsk::Begin, 1, DeskReply::Txn(1))?;
+    lock_twice(asked)?;
+    vote_for_nothing(asked)?;
+    commit_by_each_grant(asked)
+}
+
 #[test]
 fn a_lock_that_was_broken_is_bad_evidence(rt: HostRuntime) -> Result<(), Fail> {
-    let alloc = rt.alloc();
-    let mut asked = Asked::new(alloc, 1, Limits::full())?;
-    asked.desk(DeskAsk::Begin, 1, DeskReply::Txn(1))?;
-    lock_twice(&mut asked)?;
-    vote_for_nothing(&mut asked)?;
-    let bad = DeskReply::Refused(DeskRefusal::BadEvidence { rule: 3 });
-    asked.desk(read_commit(alloc, 1)?, 2, bad)?;
-    asked.desk(
-        read_commit(alloc, 3)?,
-        3,
-        DeskReply::Committed { serial: 1 },
-    )
+    let mut asked = Asked::new(rt.alloc(), 1, Limits::full())?;
+    break_a_lock(&mut asked)
 }
 
 // Journals of two entries.
@@ -300,33 +317,41 @@ fn choose_thrice(asked: &mut Asked) -> Result<(), Fail> {
     )
 }
 
-#[test]
-fn a_full_journal_stops_its_part_alone(rt: HostRuntime) -> Result<(), Fail> {
-    let limits = Limits::new(1000, 64, 2).ok_or("limits")?;
-    let mut asked = Asked::new(rt.alloc(), 1, limits)?;
-    choose_thrice(&mut asked)?;
-    asked.desk(DeskAsk::Begin, 1, DeskReply::Txn(1))?;
+fn cite_nothing(asked: &mut Asked) -> Result<(), Fail> {
     let ask = NodeAsk::Work(WorkAsk::Decide {
         txn: 1,
         verdict: Verdict::Abort,
         cite: 1,
     });
-    asked.refuses(
-        Step::Node { server: 1, ask },
-        Refusal::Unfounded {
-            part: Part::Desk,
-            number: 1,
-        },
-    )?;
+    let unfounded = Refusal::Unfounded {
+        part: Part::Desk,
+        number: 1,
+    };
+    asked.refuses(Step::Node { server: 1, ask }, unfounded)
+}
+
+fn ask_no_server(asked: &mut Asked) -> Result<(), Fail> {
     let ask = NodeAsk::Crash;
     asked.refuses(Step::Node { server: 2, ask }, Refusal::NoSuchServer)
 }
 
+fn fill_the_view(asked: &mut Asked) -> Result<(), Fail> {
+    choose_thrice(asked)?;
+    asked.desk(DeskAsk::Begin, 1, DeskReply::Txn(1))?;
+    cite_nothing(asked)?;
+    ask_no_server(asked)
+}
+
 #[test]
-fn a_run_gives_the_journals(rt: HostRuntime) -> Result<(), Fail> {
-    let alloc = rt.alloc();
-    let mut asked = Asked::new(alloc, 2, Limits::full())?;
-    let steps = vec![in alloc;
+fn a_full_journal_stops_its_part_alone(rt: HostRuntime) -> Result<(), Fail> {
+    let limits = Limits::new(1000, 64, 2).ok_or("limits")?;
+    let mut asked = Asked::new(rt.alloc(), 1, limits)?;
+    fill_the_view(&mut asked)
+}
+
+/// A few steps, one of them of a server that there is not.
+fn few_steps(alloc: Global) -> Result<Vec<Step>, Fail> {
+    Ok(vec![in alloc;
         Step::Desk(DeskAsk::Begin),
         Step::View(ViewAsk::Choose),
         Step::Node {
@@ -337,24 +362,32 @@ fn a_run_gives_the_journals(rt: HostRuntime) -> Result<(), Fail> {
             server: 3,
             ask: NodeAsk::Crash
         },
-    ]?;
-    let results = asked.service.run(alloc, steps)?;
-    check(results.len() == 4, "four results")?;
-    check(
-        matches!(asked.service.journal(Part::Server(4)), None),
-        "no such journal",
-    )?;
-    check(
-        matches!(
-            asked.service.journal(Part::Server(3)),
-            Some(Journal::Server(_))
-        ),
-        "a journal",
-    )?;
-    let journals = asked.service.into_journals();
-    check(journals.servers().len() == 3, "three servers")?;
-    check(
-        journals.desk().len() == 1 && journals.view().len() == 1,
-        "one entry each",
-    )
+    ]?)
+}
+
+/// Takes the few steps, and tells how many results there are.
+fn run_few_steps(service: &mut Service, alloc: Global) -> Result<usize, Fail> {
+    let steps = few_steps(alloc)?;
+    let results = service.run(alloc, steps)?;
+    Ok(results.len())
+}
+
+fn has_journals(service: &Service) -> bool {
+    let is_none = matches!(service.journal(Part::Server(4)), None);
+    is_none && matches!(service.journal(Part::Server(3)), Some(Journal::Server(_)))
+}
+
+#[test]
+fn a_run_gives_the_journals(rt: HostRuntime) -> Result<(), Fail> {
+    let levels = Levels::new(2).ok_or("levels")?;
+    let mut service = Service::new(rt.alloc(), levels, Limits::full())?;
+    let results = run_few_steps(&mut service, rt.alloc())?;
+    let is_run = results == 4 && has_journals(&service);
+    let journals = service.into_journals();
+    let entries = (
+        journals.servers().len(),
+        journals.desk().len(),
+        journals.view().len(),
+    );
+    check(is_run && entries == (3, 1, 1), "other journals")
 }

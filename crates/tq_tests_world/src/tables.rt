@@ -276,22 +276,28 @@ fn few_journals(alloc: Global) -> Result<Journals, Memory>
     Ok(Journals::new(levels, Limits::full(), servers, desk, view))
 }
 
+/// Whether the tables have these quorums.
+fn are_told(quorums: &[Option<Least>], wanted: &[(u64, u64)]) -> bool {
+    for (row, quorum) in quorums.iter().zip(wanted.iter()) {
+        if told(row) != *quorum {
+            return false;
+        }
+    }
+    quorums.len() == wanted.len()
+}
+
+/// Whether the tables follow three servers and a desk that began one transaction, and have no other rows.
+fn follow_few_journals(tables: &Tables) -> bool {
+    let followed = tables.nodes().len() == 3 && tables.desk().begun() == 1;
+    let has_no_rows = tables.files().is_empty() && tables.locks().is_empty();
+    followed && has_no_rows && tables.intentions().is_empty() && tables.levels().count() == 2
+}
+
 #[test]
 fn the_tables_follow_all_journals(rt: HostRuntime) -> Result<(), Fail> {
     let journals = few_journals(rt.alloc())?;
     let tables = Tables::of(rt.alloc(), &journals)?;
-    assert_eq!(rt; tables.levels().count(), 2);
-    assert_eq!(rt; tables.nodes().len(), 3);
-    assert_eq!(rt; tables.desk().begun(), 1);
-    assert_eq!(rt; tables.quorums().len(), 3);
-    for (row, quorum) in tables
-        .quorums()
-        .iter()
-        .zip([(2, 13), (0, 0), (1, 3)].iter())
-    {
-        assert!(rt; told(row) == *quorum);
-    }
-    assert!(rt; tables.files().is_empty() && tables.locks().is_empty());
-    assert!(rt; tables.intentions().is_empty());
+    let wanted = [(2, 13), (0, 0), (1, 3)];
+    assert!(rt; follow_few_journals(&tables) && are_told(tables.quorums(), wanted.as_slice()));
     Ok(())
 }
