@@ -7,4 +7,5 @@ pub use Rattle.tq_world.specs.CommittedReads
 pub use Rattle.tq_world.specs.JournalOf
 pub use Rattle.tq_world.specs.Offered
 pub use Rattle.tq_world.specs.Headline
+pub mod Asked
 pub mod Service

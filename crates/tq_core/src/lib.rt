@@ -2,10 +2,10 @@
 #![tactic(auto)]
 
 mod founded;
-mod part;
 mod service;
 mod unfounded;
 
 pub use service::Service;
+pub use tq_part::Answered;
 pub use tq_shape::Part;
 pub use tq_world::{Answer, Journal, Refusal, Reply, Step};

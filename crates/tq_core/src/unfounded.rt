@@ -3,10 +3,9 @@ ghost use Rattle.std.specs.Prelude.{◌≡◌, IfSome, None};
 ghost use Rattle.std.specs.Option.{option_copied};
 ghost use Rattle.tq_world.specs.World as world;
 ghost use Rattle.tq_world.specs.Founded as spec;
-ghost use Rattle.tq_world.specs.Steps as steps;
 
+use crate::Service;
 use crate::founded::{is_ended, is_granted, is_peeked, is_voted};
-use crate::{Refusal, Service};
 use tq_desk::{DeskAsk, Grant, Op, Vote};
 use tq_node::{CitedVote, NodeAsk, Verdict, WorkAsk};
 use tq_shape::Part;
@@ -184,15 +183,5 @@ fn cited_vote(vote: &Vote) -> Citation
     Citation {
         part: Part::Server(vote.server),
         number: vote.number,
-    }
-}
-
-/// The refusal for a citation that is not founded.
-pub(crate) fn refuse_unfounded(citation: Option<Citation>) -> Option<Refusal>
-    ensures { result ≡ steps.refuse_unfounded citation }
-{
-    match citation {
-        Some(Citation { part, number }) => Some(Refusal::Unfounded { part, number }),
-        None => None,
     }
 }

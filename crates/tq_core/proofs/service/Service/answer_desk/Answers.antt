@@ -1,14 +1,27 @@
-use Rattle.std.proofs.Common.{sym, arith}
-use Rattle.tq_core.proofs.Standing.{desk_next, desk_ready}
+use Rattle.std.proofs.Common.{refl, sym}
+use Rattle.tq_core.proofs.Standing.{desk_went}
 use Rattle.tq_core.proofs.service.Service.answer_desk.Goals as goal
 
-pub ask_desk-requires : goal.ask_desk-requires
-ask_desk-requires c =
-    let least = desk_ready _ _ _ _ c.self.invariant in
-    let small = c.self.inside.desk_entries.small in
-    let count = c.self.inside.desk_entries.ok in
-    omega arith
+pub invariant_of-self : goal.invariant_of-self
+invariant_of-self c =
+    let went = desk_went c.self.inside.servers.items c.self.inside.desk c.ask-asked.new.self c.self.inside.view c.self.inside.levels c.self.inside.limits c.args.ask c.args.self.now c.ask-asked.result _ refl c.self.invariant.0 (sym c.self.view_is) c.requires
+    c.ask-asked.ensures.told c.ask-asked.ensures.after c.ask-asked.ensures.err c.ask-asked.ensures.full in
+    (went.stands, c.self.invariant.1)
 
-pub invariant_of-self-2 : goal.invariant_of-self-2
-invariant_of-self-2 c =
-    desk_next _ _ _ _ _ _ c.args.ask _ c.self.invariant (sym c.self.view_is) c.requires c.in_ok-answer.ensures.desk c.in_ok-answer.ensures.journal
+pub returns-clause-told : goal.returns-clause-told
+returns-clause-told c =
+    let went = desk_went c.self.inside.servers.items c.self.inside.desk c.ask-asked.new.self c.self.inside.view c.self.inside.levels c.self.inside.limits c.args.ask c.args.self.now c.ask-asked.result _ c.refused.ensures c.self.invariant.0 (sym c.self.view_is) c.requires
+    c.ask-asked.ensures.told c.ask-asked.ensures.after c.ask-asked.ensures.err c.ask-asked.ensures.full in
+    went.told
+
+pub returns-clause-after : goal.returns-clause-after
+returns-clause-after c =
+    let went = desk_went c.self.inside.servers.items c.self.inside.desk c.ask-asked.new.self c.self.inside.view c.self.inside.levels c.self.inside.limits c.args.ask c.args.self.now c.ask-asked.result _ c.refused.ensures c.self.invariant.0 (sym c.self.view_is) c.requires
+    c.ask-asked.ensures.told c.ask-asked.ensures.after c.ask-asked.ensures.err c.ask-asked.ensures.full in
+    went.after
+
+pub returns-clause-err : goal.returns-clause-err
+returns-clause-err c =
+    let went = desk_went c.self.inside.servers.items c.self.inside.desk c.ask-asked.new.self c.self.inside.view c.self.inside.levels c.self.inside.limits c.args.ask c.args.self.now c.ask-asked.result _ c.refused.ensures c.self.invariant.0 (sym c.self.view_is) c.requires
+    c.ask-asked.ensures.told c.ask-asked.ensures.after c.ask-asked.ensures.err c.ask-asked.ensures.full in
+    went.err
