@@ -75,17 +75,16 @@ static RUNS: [(&[u8], (Device, Device), Option<RunFault>, &[u8]); 7] = [
 #[test]
 fn runs_end_so(rt: HostRuntime) -> Result<(), Fail> {
     for (lines, devices, fault, text) in RUNS {
-        assert!(rt; ends_so(rt.alloc(), lines, devices, fault, text)?, "at {lines:?}");
+        assert!(rt;
+            ends_so(rt.alloc(), lines, devices, fault, text)?,
+            "at {lines:?}"
+        );
     }
     Ok(())
 }
 
 /// Whether a second run goes on behind the bytes that the first one read, which a failed read ended.
-fn goes_on(
-    alloc: Global,
-    source: &mut MemorySource,
-    sink: &mut MemorySink,
-) -> Result<bool, Fail> {
+fn goes_on(alloc: Global, source: &mut MemorySource, sink: &mut MemorySink) -> Result<bool, Fail> {
     let first = answer(alloc, source, sink)?;
     let second = answer(alloc, source, sink)?;
     Ok(first == Some(RunFault::Read) && second.is_none())
