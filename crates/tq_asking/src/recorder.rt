@@ -5,7 +5,7 @@ ghost use Rattle.tq_asking.specs.Recorded as spec;
 
 use std::alloc::{AllocError, Global};
 use std::marker::Model;
-use tq_core::{Answer, Refusal, Reply, Service, Step};
+use tq_core::{Refusal, Service};
 use tq_desk::{DeskAsk, DeskReply};
 use tq_live::{ViewAsk, ViewReply};
 use tq_node::{NodeAsk, NodeReply};
@@ -173,14 +173,11 @@ fn step_node(
 ) -> Result<Told<NodeReply>, Memory>
     ensures { spec.IsStepped (spec.told_in_time result) (asking.node_told service.old server ask) service.old (steps.world_after service.old (Step.Node server ask)) service.new }
 {
-    match service.step(alloc, Step::Node { server, ask }) {
-        Ok(answer) => {
-            let Answer { number, reply } = answer;
-            match reply {
-                Reply::Node(reply) => Ok(Told::Answer { number, reply }),
-                _ => unreachable!(),
-            }
-        }
+    match service.ask_node(alloc, server, ask) {
+        Ok(told) => Ok(Told::Answer {
+            number: told.number,
+            reply: told.reply,
+        }),
         Err(refusal) => refused(refusal),
     }
 }
@@ -188,14 +185,11 @@ fn step_node(
 fn step_desk(service: &mut Service, alloc: Global, ask: DeskAsk) -> Result<Told<DeskReply>, Memory>
     ensures { spec.IsStepped (spec.told_in_time result) (asking.desk_told service.old ask) service.old (steps.world_after service.old (Step.Desk ask)) service.new }
 {
-    match service.step(alloc, Step::Desk(ask)) {
-        Ok(answer) => {
-            let Answer { number, reply } = answer;
-            match reply {
-                Reply::Desk(reply) => Ok(Told::Answer { number, reply }),
-                _ => unreachable!(),
-            }
-        }
+    match service.ask_desk(alloc, ask) {
+        Ok(told) => Ok(Told::Answer {
+            number: told.number,
+            reply: told.reply,
+        }),
         Err(refusal) => refused(refusal),
     }
 }
@@ -203,14 +197,11 @@ fn step_desk(service: &mut Service, alloc: Global, ask: DeskAsk) -> Result<Told<
 fn step_view(service: &mut Service, alloc: Global, ask: ViewAsk) -> Result<Told<ViewReply>, Memory>
     ensures { spec.IsStepped (spec.told_in_time result) (asking.view_told service.old ask) service.old (steps.world_after service.old (Step.View ask)) service.new }
 {
-    match service.step(alloc, Step::View(ask)) {
-        Ok(answer) => {
-            let Answer { number, reply } = answer;
-            match reply {
-                Reply::View(reply) => Ok(Told::Answer { number, reply }),
-                _ => unreachable!(),
-            }
-        }
+    match service.ask_view(alloc, ask) {
+        Ok(told) => Ok(Told::Answer {
+            number: told.number,
+            reply: told.reply,
+        }),
         Err(refusal) => refused(refusal),
     }
 }
