@@ -5,7 +5,7 @@ ghost use Rattle.tq_asking.specs.Recorded as spec;
 
 use std::alloc::{AllocError, Global};
 use std::marker::Model;
-use tq_core::{Refusal, Service};
+use tq_core::{Refusal, Service, Step};
 use tq_desk::{DeskAsk, DeskReply};
 use tq_live::{ViewAsk, ViewReply};
 use tq_node::{NodeAsk, NodeReply};
