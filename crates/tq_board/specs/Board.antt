@@ -3,8 +3,6 @@ use Rattle.std.specs.Prelude.{ℕ, ◌-◌, ◌^◌, Bool, true, false, List, []
 use Rattle.std.specs.List.{flat_map}
 use Rattle.std.specs.Fmt.{decimal}
 use Rattle.tq_coterie.specs.Coterie.{numbers_of}
-use Rattle.tq_locks.specs.declared.mode.Mode.{Mode}
-use Rattle.tq_locks.specs.declared.mode.Mode.TheVariants.{Shared, Exclusive}
 use Rattle.tq_live.specs.Live.{Live, cost_of, is_up}
 use Rattle.tq_live.specs.View.{upwards}
 use Rattle.tq_live.specs.declared.least.Least.{Least}
@@ -15,6 +13,7 @@ use Rattle.tq_tables.specs.declared.intent_row.FileVersion.{FileVersion}
 use Rattle.tq_tables.specs.declared.intent_row.IntentRow.{IntentRow}
 use Rattle.tq_tables.specs.declared.intent_row.IntentState.{IntentState}
 use Rattle.tq_tables.specs.declared.intent_row.IntentState.TheVariants.{Unknown, Undecided, Abort, Install, Discard}
+use Rattle.tq_locks.specs.Locks.{mode_text}
 
 -- a line ends with a line feed
 abbrev pub as_line : List ℕ → List ℕ
@@ -44,10 +43,6 @@ write_text write = write.file ++ codes ":" ++ decimal write.version
 abbrev pub mark_text : Bool → List ℕ
 mark_text true = codes "up"
 mark_text false = codes "down"
-
-abbrev pub mode_text : Mode → List ℕ
-mode_text Shared = codes "shared"
-mode_text Exclusive = codes "exclusive"
 
 abbrev pub state_text : IntentState → List ℕ
 state_text Unknown = codes "unknown"

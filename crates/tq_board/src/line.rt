@@ -1,7 +1,7 @@
 ghost use Rattle.std.specs.Prelude.{◌≡◌, ◌++◌, OnOk, string_bytes};
 ghost use Rattle.tq_board.specs.Board.{as_line, file_text, intent_text, least_text, lock_text, server_text};
 
-use crate::word::{mark_word, mode_word, push_quorum, push_set, push_writes, state_word};
+use crate::word::{mark_word, push_quorum, push_set, push_writes, state_word};
 use tq_live::{Least, LiveTree};
 use tq_shape::{Memory, ServerId};
 use tq_tables::{FileRow, IntentRow, LockRow};
@@ -51,7 +51,7 @@ pub fn push_file(text: &mut String, row: &FileRow) -> Result<(), Memory>
 pub fn push_lock(text: &mut String, row: &LockRow) -> Result<(), Memory>
     ensures { OnOk result (string_bytes text.new ≡ string_bytes text.old ++ as_line (lock_text row.now)) }
 {
-    let mode = mode_word(row.mode);
+    let mode = row.mode.word();
     write!(
         text,
         "lock {} {} {} {mode}",

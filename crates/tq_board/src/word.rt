@@ -1,8 +1,7 @@
 ghost use Rattle.std.specs.Prelude.{◌≡◌, ◌++◌, OnOk, map, string_bytes};
 ghost use Rattle.tq_coterie.specs.Coterie.{numbers_of};
-ghost use Rattle.tq_board.specs.Board.{listed, mark_text, mode_text, servers_text, state_text, write_text};
+ghost use Rattle.tq_board.specs.Board.{listed, mark_text, servers_text, state_text, write_text};
 
-use tq_locks::Mode;
 use tq_shape::{Memory, ServerId, ServerSet};
 use tq_tables::{FileVersion, IntentState};
 
@@ -11,16 +10,6 @@ pub(crate) fn mark_word(up: bool) -> &'static str
     ensures { result.now ≡ mark_text up }
 {
     if up { "up" } else { "down" }
-}
-
-/// The word for a mode.
-pub(crate) fn mode_word(mode: Mode) -> &'static str
-    ensures { result.now ≡ mode_text mode }
-{
-    match mode {
-        Mode::Shared => "shared",
-        Mode::Exclusive => "exclusive",
-    }
 }
 
 /// The word for what the desk's log says of an open vote.

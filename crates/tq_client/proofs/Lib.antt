@@ -1,2 +1,2 @@
 mod Servers
-pub mod Spoken
+pub mod Answered

@@ -14,8 +14,8 @@ use Rattle.tq_states.specs.declared.told.DeskTold.{DeskTold}
 use Rattle.tq_txn.specs.declared.txn.Txn.{Txn}
 use Rattle.tq_txn.specs.declared.txn.Txn.TheVariants as states
 use Rattle.tq_states.specs.Ended.{resolve_verdict}
-use Rattle.tq_txn.specs.Line as asks
-use Rattle.tq_txn.specs.Line.{LineEnd, Ends, then_line, desk_line}
+use Rattle.tq_txn.specs.Dialogue as asks
+use Rattle.tq_txn.specs.Dialogue.{LineEnd, Ends, then_line, desk_line}
 use Rattle.tq_txn.specs.Lines as lines
 use Rattle.tq_txn.specs.Commits.{decide_line, commit_line}
 use Rattle.tq_txn.specs.Aborts.{abort_line}
@@ -33,11 +33,11 @@ use Rattle.tq_print.specs.Print.{printed, reading_text, writing_text, applied_te
 use Rattle.tq_print.specs.Refusals.{fault_text, is_memory, txn_fault_text, decided_text, desk_refusal_text}
 
 -- what a line of one transaction says, and what is kept of the transaction then
-pub record TxnSpoken : Type 0 where
+pub record TxnAnswer : Type 0 where
   pub text : List ℕ
   pub kept : Kept
 
-abbrev pub txn_said : Kept → List ℕ → asks.Line TxnSpoken
+abbrev pub txn_said : Kept → List ℕ → asks.Dialogue TxnAnswer
 txn_said kept text = Ends (record { text = text; kept = kept })
 
 -- the text of an answer, or of the refusal that ended the line
@@ -51,11 +51,11 @@ is_refused_memory (Ok a) = false
 is_refused_memory (Err fault) = is_memory fault
 
 -- a line of a transaction, printed: its state afterwards, the servers that a refusal speaks of, and the answer's text
-abbrev pub spoken_end : {A S : Type 0} → (S → Kept) → (S → List ℕ) → (S → A → List ℕ) → LineEnd A S → TxnSpoken
-spoken_end kept servers text end = record { text = result_text (servers end.after) (text end.after) end.answer; kept = kept end.after }
+abbrev pub answer_end : {A S : Type 0} → (S → Kept) → (S → List ℕ) → (S → A → List ℕ) → LineEnd A S → TxnAnswer
+answer_end kept servers text end = record { text = result_text (servers end.after) (text end.after) end.answer; kept = kept end.after }
 
-abbrev pub spoken : {A S : Type 0} → asks.Line (LineEnd A S) → (S → Kept) → (S → List ℕ) → (S → A → List ℕ) → asks.Line TxnSpoken
-spoken line kept servers text = then_line line (λ end. Ends (spoken_end kept servers text end))
+abbrev pub answered : {A S : Type 0} → asks.Dialogue (LineEnd A S) → (S → Kept) → (S → List ℕ) → (S → A → List ℕ) → asks.Dialogue TxnAnswer
+answered line kept servers text = then_line line (λ end. Ends (answer_end kept servers text end))
 
 abbrev pub no_servers : {S : Type 0} → S → List ℕ
 no_servers after = []
@@ -63,17 +63,17 @@ no_servers after = []
 -- ---- the states
 
 -- a transaction that reads or writes is open
-abbrev pub open_in : ℕ → Kept → Txn → (OpenView → asks.Line TxnSpoken) → asks.Line TxnSpoken
+abbrev pub open_in : ℕ → Kept → Txn → (OpenView → asks.Dialogue TxnAnswer) → asks.Dialogue TxnAnswer
 open_in number kept (states.Open old) next = next old
 open_in number kept (states.Voting old) next = txn_said kept (codes "voting " ++ decimal number)
 open_in number kept (states.Ended old) next = txn_said kept (decided_text old.verdict)
 
-abbrev pub closing : Kept → OpenView → Option TxnFault → (VotingView → asks.Line TxnSpoken) → asks.Line TxnSpoken
+abbrev pub closing : Kept → OpenView → Option TxnFault → (VotingView → asks.Dialogue TxnAnswer) → asks.Dialogue TxnAnswer
 closing kept old None next = next (closed old)
 closing kept old (Some fault) next = txn_said kept (txn_fault_text [] fault)
 
 -- one that gathers votes may be open still, if it has an operation
-abbrev pub voting_in : Kept → Txn → (VotingView → asks.Line TxnSpoken) → asks.Line TxnSpoken
+abbrev pub voting_in : Kept → Txn → (VotingView → asks.Dialogue TxnAnswer) → asks.Dialogue TxnAnswer
 voting_in kept (states.Open old) next = closing kept old (close_fault old) next
 voting_in kept (states.Voting old) next = next old
 voting_in kept (states.Ended old) next = txn_said kept (decided_text old.verdict)
@@ -97,27 +97,27 @@ read_text file new reading = reading_text file (seen new file) reading
 abbrev pub written_text : List ℕ → OpenView → ℕ → List ℕ
 written_text file new version = writing_text file (written new file) version
 
-abbrev pub read_open : Kept → List ℕ → OpenView → asks.Line TxnSpoken
-read_open kept file old = spoken (lines.read_line old file) (λ new. in_state kept (states.Open new)) no_servers (read_text file)
+abbrev pub read_open : Kept → List ℕ → OpenView → asks.Dialogue TxnAnswer
+read_open kept file old = answered (lines.read_line old file) (λ new. in_state kept (states.Open new)) no_servers (read_text file)
 
-abbrev pub read_asked : List ℕ → ℕ → Kept → asks.Line TxnSpoken
+abbrev pub read_asked : List ℕ → ℕ → Kept → asks.Dialogue TxnAnswer
 read_asked file number kept = open_in number kept kept.txn (read_open kept file)
 
-abbrev pub write_open : Kept → List ℕ → List ℕ → OpenView → asks.Line TxnSpoken
+abbrev pub write_open : Kept → List ℕ → List ℕ → OpenView → asks.Dialogue TxnAnswer
 write_open kept file content old =
-    spoken (lines.write_line old file content) (λ new. in_state kept (states.Open new)) no_servers (written_text file)
+    answered (lines.write_line old file content) (λ new. in_state kept (states.Open new)) no_servers (written_text file)
 
-abbrev pub write_asked : List ℕ → List ℕ → ℕ → Kept → asks.Line TxnSpoken
+abbrev pub write_asked : List ℕ → List ℕ → ℕ → Kept → asks.Dialogue TxnAnswer
 write_asked file content number kept = open_in number kept kept.txn (write_open kept file content)
 
 abbrev pub voted_text : ℕ → VotingView → Unit {0} → List ℕ
 voted_text server new all = codes "yes " ++ decimal server
 
-abbrev pub prepare_voting : Kept → ℕ → VotingView → asks.Line TxnSpoken
+abbrev pub prepare_voting : Kept → ℕ → VotingView → asks.Dialogue TxnAnswer
 prepare_voting kept server old =
-    spoken (lines.prepare_line old server) (λ new. in_state kept (states.Voting new)) (λ new. server ∷ []) (voted_text server)
+    answered (lines.prepare_line old server) (λ new. in_state kept (states.Voting new)) (λ new. server ∷ []) (voted_text server)
 
-abbrev pub prepare_asked : ℕ → ℕ → Kept → asks.Line TxnSpoken
+abbrev pub prepare_asked : ℕ → ℕ → Kept → asks.Dialogue TxnAnswer
 prepare_asked server number kept = voting_in kept kept.txn (prepare_voting kept server)
 
 abbrev pub serial_text : Txn → ℕ → List ℕ
@@ -127,23 +127,23 @@ serial_text new serial = codes "committed " ++ decimal serial
 abbrev pub committed_text : Txn → Result ℕ LineFault → List ℕ
 committed_text new answer = result_text (missing_in new) (serial_text new) answer
 
-abbrev pub decide_voting : Kept → VotingView → asks.Line TxnSpoken
-decide_voting kept old = spoken (decide_line old) (in_state kept) missing_in serial_text
+abbrev pub decide_voting : Kept → VotingView → asks.Dialogue TxnAnswer
+decide_voting kept old = answered (decide_line old) (in_state kept) missing_in serial_text
 
-abbrev pub decide_asked : ℕ → Kept → asks.Line TxnSpoken
+abbrev pub decide_asked : ℕ → Kept → asks.Dialogue TxnAnswer
 decide_asked number kept = voting_in kept kept.txn (decide_voting kept)
 
-abbrev pub commit_voting : Kept → VotingView → asks.Line TxnSpoken
-commit_voting kept old = spoken (commit_line old) (in_state kept) missing_in serial_text
+abbrev pub commit_voting : Kept → VotingView → asks.Dialogue TxnAnswer
+commit_voting kept old = answered (commit_line old) (in_state kept) missing_in serial_text
 
-abbrev pub commit_asked : ℕ → Kept → asks.Line TxnSpoken
+abbrev pub commit_asked : ℕ → Kept → asks.Dialogue TxnAnswer
 commit_asked number kept = voting_in kept kept.txn (commit_voting kept)
 
 abbrev pub aborted_text : Txn → Unit {0} → List ℕ
 aborted_text new all = codes "aborted"
 
-abbrev pub abort_asked : ℕ → Kept → asks.Line TxnSpoken
-abort_asked number kept = spoken (abort_line kept.txn) (in_state kept) no_servers aborted_text
+abbrev pub abort_asked : ℕ → Kept → asks.Dialogue TxnAnswer
+abort_asked number kept = answered (abort_line kept.txn) (in_state kept) no_servers aborted_text
 
 abbrev pub resolved_text : DeskReply → List ℕ
 resolved_text (desk_replies.Verdict verdict) = verdict_text verdict
@@ -153,31 +153,31 @@ resolved_text other = codes "bad answer"
 abbrev pub resolved_kept : Kept → ℕ → DeskReply → Kept
 resolved_kept kept cite reply = with_told kept cite (resolve_verdict reply)
 
-abbrev pub resolve_end : Kept → Result DeskTold LineFault → TxnSpoken
+abbrev pub resolve_end : Kept → Result DeskTold LineFault → TxnAnswer
 resolve_end kept (Ok told) = record { text = resolved_text told.reply; kept = resolved_kept kept told.number told.reply }
 resolve_end kept (Err fault) = record { text = fault_text [] fault; kept = kept }
 
 -- the verdict is kept for `apply`
-abbrev pub resolve_asked : ℕ → Kept → asks.Line TxnSpoken
+abbrev pub resolve_asked : ℕ → Kept → asks.Dialogue TxnAnswer
 resolve_asked number kept = then_line (desk_line (desk_asks.Resolve number)) (λ end. Ends (resolve_end kept end.answer))
 
 abbrev pub told_text : ℕ → Unit {0} → Applied → List ℕ
 told_text server none applied = applied_text server applied
 
-abbrev pub apply_by : ℕ → ℕ → Kept → Option Ending → asks.Line TxnSpoken
+abbrev pub apply_by : ℕ → ℕ → Kept → Option Ending → asks.Dialogue TxnAnswer
 apply_by server number kept None = txn_said kept (codes "not decided " ++ decimal number)
 apply_by server number kept (Some ending) =
-    spoken (lines.apply_line number ending.verdict ending.cite server) (λ none. kept) no_servers (told_text server)
+    answered (lines.apply_line number ending.verdict ending.cite server) (λ none. kept) no_servers (told_text server)
 
-abbrev pub apply_asked : ℕ → ℕ → Kept → asks.Line TxnSpoken
+abbrev pub apply_asked : ℕ → ℕ → Kept → asks.Dialogue TxnAnswer
 apply_asked server number kept = apply_by server number kept (ending_in kept)
 
 -- ---- the server is one of the tree
-abbrev pub server_asked : ℕ → ℕ → (ℕ → Kept → asks.Line TxnSpoken) → ℕ → Kept → asks.Line TxnSpoken
+abbrev pub server_asked : ℕ → ℕ → (ℕ → Kept → asks.Dialogue TxnAnswer) → ℕ → Kept → asks.Dialogue TxnAnswer
 server_asked levels server next number kept = cond (is_server levels server) (next number kept) (txn_said kept (codes "no such server " ++ decimal server))
 
 -- ---- all lines of a transaction, by what is kept of it
-abbrev pub line_asked : ℕ → TxnLine → ℕ → Kept → asks.Line TxnSpoken
+abbrev pub line_asked : ℕ → TxnLine → ℕ → Kept → asks.Dialogue TxnAnswer
 line_asked levels (of.Read file) = read_asked file
 line_asked levels (of.Write file content) = write_asked file content
 line_asked levels (of.Prepare server) = server_asked levels server (prepare_asked server)
@@ -188,7 +188,7 @@ line_asked levels of.Abort = abort_asked
 line_asked levels of.Resolve = resolve_asked
 
 -- a line of a transaction that was printed so: the text that it adds, the journals and what is kept of the transaction
-pub record IsSpoken (line : asks.Line TxnSpoken) (old new : JournalsView) (before after : List ℕ) (left : Kept) : Type 0 where
+pub record IsAnswered (line : asks.Dialogue TxnAnswer) (old new : JournalsView) (before after : List ℕ) (left : Kept) : Type 0 where
   pub text : after ≡ before ++ printed (run_line old line).end.text
   pub journals : new ≡ (run_line old line).after
   pub kept : left ≡ (run_line old line).end.kept

@@ -29,34 +29,18 @@ pub(crate) fn prepare(
 ) -> Result<Kept, Memory>
     requires txn { levels_of kept.txn ≡ recorder.old.journals.levels }
     requires server { server.levels ≡ recorder.old.journals.levels }
-    ensures spoken { IfOk result (λ new. spec.IsSpoken (spec.prepare_asked server.number 0 kept) recorder.old.journals recorder.new.journals text.old.items text.new.items new) }
+    ensures answered { IfOk result (λ new. spec.IsAnswered (spec.prepare_asked server.number 0 kept) recorder.old.journals recorder.new.journals text.old.items text.new.items new) }
     ensures levels { IfOk result (λ new. levels_of new.txn ≡ levels_of kept.txn) }
     ensures tree { recorder.new.journals.levels ≡ recorder.old.journals.levels }
 {
     let told = kept.told;
-    match voting_of(kept.txn, text)? {
-        Closed::Said(txn) => Ok(Kept { txn, told }),
-        Closed::Voting(voting) => Ok(prepare_voting(recorder, alloc, voting, told, server, text)?),
-    }
-}
-
-fn prepare_voting(
-    recorder: &mut Recorder,
-    alloc: Global,
-    voting: Voting,
-    told: Option<Ending>,
-    server: ServerId,
-    text: &mut Vec<u8>,
-) -> Result<Kept, Memory>
-    requires { server.levels ≡ recorder.old.journals.levels }
-    ensures spoken { IfOk result (λ new. spec.IsSpoken (spec.prepare_voting (record { txn = Txn.Voting voting; told = told }) server.number voting) recorder.old.journals recorder.new.journals text.old.items text.new.items new) }
-    ensures levels { IfOk result (λ new. levels_of new.txn ≡ voting.txn.levels) }
-    ensures tree { recorder.new.journals.levels ≡ recorder.old.journals.levels }
-{
-    let mut voting = voting;
-    recorder.led();
+    let mut voting = match voting_of(kept.txn, text)? {
+        Closed::Said(txn) => return Ok(Kept { txn, told }),
+        Closed::Voting(voting) => voting,
+    };
+    recorder.replayed();
     let answer = prepare_at(recorder, alloc, &mut voting, server);
-    recorder.led();
+    recorder.replayed();
     say_voted(text, server.number(), answer)?;
     Ok(Kept {
         txn: Txn::Voting(voting),
@@ -133,32 +117,18 @@ pub(crate) fn decide_txn(
     text: &mut Vec<u8>,
 ) -> Result<Kept, Memory>
     requires { levels_of kept.txn ≡ recorder.old.journals.levels }
-    ensures spoken { IfOk result (λ new. spec.IsSpoken (spec.decide_asked 0 kept) recorder.old.journals recorder.new.journals text.old.items text.new.items new) }
+    ensures answered { IfOk result (λ new. spec.IsAnswered (spec.decide_asked 0 kept) recorder.old.journals recorder.new.journals text.old.items text.new.items new) }
     ensures levels { IfOk result (λ new. levels_of new.txn ≡ levels_of kept.txn) }
     ensures tree { recorder.new.journals.levels ≡ recorder.old.journals.levels }
 {
     let told = kept.told;
-    match voting_of(kept.txn, text)? {
-        Closed::Said(txn) => Ok(Kept { txn, told }),
-        Closed::Voting(voting) => Ok(decide_voting(recorder, alloc, voting, told, text)?),
-    }
-}
-
-fn decide_voting(
-    recorder: &mut Recorder,
-    alloc: Global,
-    voting: Voting,
-    told: Option<Ending>,
-    text: &mut Vec<u8>,
-) -> Result<Kept, Memory>
-    requires { voting.txn.levels ≡ recorder.old.journals.levels }
-    ensures spoken { IfOk result (λ new. spec.IsSpoken (spec.decide_voting (record { txn = Txn.Voting voting; told = told }) voting) recorder.old.journals recorder.new.journals text.old.items text.new.items new) }
-    ensures levels { IfOk result (λ new. levels_of new.txn ≡ voting.txn.levels) }
-    ensures tree { recorder.new.journals.levels ≡ recorder.old.journals.levels }
-{
-    recorder.led();
+    let voting = match voting_of(kept.txn, text)? {
+        Closed::Said(txn) => return Ok(Kept { txn, told }),
+        Closed::Voting(voting) => voting,
+    };
+    recorder.replayed();
     let Decision { answer, txn } = decide(recorder, alloc, voting);
-    recorder.led();
+    recorder.replayed();
     say_committed(alloc, text, answer, &txn)?;
     Ok(Kept { txn, told })
 }
@@ -171,32 +141,18 @@ pub(crate) fn commit_txn(
     text: &mut Vec<u8>,
 ) -> Result<Kept, Memory>
     requires { levels_of kept.txn ≡ recorder.old.journals.levels }
-    ensures spoken { IfOk result (λ new. spec.IsSpoken (spec.commit_asked 0 kept) recorder.old.journals recorder.new.journals text.old.items text.new.items new) }
+    ensures answered { IfOk result (λ new. spec.IsAnswered (spec.commit_asked 0 kept) recorder.old.journals recorder.new.journals text.old.items text.new.items new) }
     ensures levels { IfOk result (λ new. levels_of new.txn ≡ levels_of kept.txn) }
     ensures tree { recorder.new.journals.levels ≡ recorder.old.journals.levels }
 {
     let told = kept.told;
-    match voting_of(kept.txn, text)? {
-        Closed::Said(txn) => Ok(Kept { txn, told }),
-        Closed::Voting(voting) => Ok(commit_voting(recorder, alloc, voting, told, text)?),
-    }
-}
-
-fn commit_voting(
-    recorder: &mut Recorder,
-    alloc: Global,
-    voting: Voting,
-    told: Option<Ending>,
-    text: &mut Vec<u8>,
-) -> Result<Kept, Memory>
-    requires { voting.txn.levels ≡ recorder.old.journals.levels }
-    ensures spoken { IfOk result (λ new. spec.IsSpoken (spec.commit_voting (record { txn = Txn.Voting voting; told = told }) voting) recorder.old.journals recorder.new.journals text.old.items text.new.items new) }
-    ensures levels { IfOk result (λ new. levels_of new.txn ≡ voting.txn.levels) }
-    ensures tree { recorder.new.journals.levels ≡ recorder.old.journals.levels }
-{
-    recorder.led();
+    let voting = match voting_of(kept.txn, text)? {
+        Closed::Said(txn) => return Ok(Kept { txn, told }),
+        Closed::Voting(voting) => voting,
+    };
+    recorder.replayed();
     let Decision { answer, txn } = commit(recorder, alloc, voting);
-    recorder.led();
+    recorder.replayed();
     say_committed(alloc, text, answer, &txn)?;
     Ok(Kept { txn, told })
 }
@@ -209,14 +165,14 @@ pub(crate) fn abort_txn(
     text: &mut Vec<u8>,
 ) -> Result<Kept, Memory>
     requires { levels_of kept.txn ≡ recorder.old.journals.levels }
-    ensures spoken { IfOk result (λ new. spec.IsSpoken (spec.abort_asked 0 kept) recorder.old.journals recorder.new.journals text.old.items text.new.items new) }
+    ensures answered { IfOk result (λ new. spec.IsAnswered (spec.abort_asked 0 kept) recorder.old.journals recorder.new.journals text.old.items text.new.items new) }
     ensures levels { IfOk result (λ new. levels_of new.txn ≡ levels_of kept.txn) }
     ensures tree { recorder.new.journals.levels ≡ recorder.old.journals.levels }
 {
     let told = kept.told;
-    recorder.led();
+    recorder.replayed();
     let Abortion { answer, txn } = abort(recorder, alloc, kept.txn);
-    recorder.led();
+    recorder.replayed();
     say_aborted(text, answer)?;
     Ok(Kept { txn, told })
 }
@@ -241,13 +197,13 @@ pub(crate) fn resolve(
     kept: Kept,
     text: &mut Vec<u8>,
 ) -> Result<Kept, Memory>
-    ensures spoken { IfOk result (λ new. spec.IsSpoken (spec.resolve_asked number kept) recorder.old.journals recorder.new.journals text.old.items text.new.items new) }
+    ensures answered { IfOk result (λ new. spec.IsAnswered (spec.resolve_asked number kept) recorder.old.journals recorder.new.journals text.old.items text.new.items new) }
     ensures levels { IfOk result (λ new. levels_of new.txn ≡ levels_of kept.txn) }
     ensures tree { recorder.new.journals.levels ≡ recorder.old.journals.levels }
 {
-    recorder.led();
+    recorder.replayed();
     let answer = recorder.desk(alloc, DeskAsk::Resolve { txn: number });
-    recorder.led();
+    recorder.replayed();
     match answer {
         Ok(told) => Ok(resolved(kept, told.number, told.reply, text)?),
         Err(fault) => {
@@ -312,7 +268,7 @@ pub(crate) fn apply(
     text: &mut Vec<u8>,
 ) -> Result<Kept, Memory>
     requires { server.levels ≡ recorder.old.journals.levels }
-    ensures spoken { IfOk result (λ new. spec.IsSpoken (spec.apply_asked server.number number kept) recorder.old.journals recorder.new.journals text.old.items text.new.items new) }
+    ensures answered { IfOk result (λ new. spec.IsAnswered (spec.apply_asked server.number number kept) recorder.old.journals recorder.new.journals text.old.items text.new.items new) }
     ensures levels { IfOk result (λ new. levels_of new.txn ≡ levels_of kept.txn) }
     ensures tree { recorder.new.journals.levels ≡ recorder.old.journals.levels }
 {
@@ -330,7 +286,7 @@ fn apply_told(
     text: &mut Vec<u8>,
 ) -> Result<(), Memory>
     requires { server.levels ≡ recorder.old.journals.levels }
-    ensures spoken { OnOk result (spec.IsSpoken (spec.apply_asked server.number number kept.now) recorder.old.journals recorder.new.journals text.old.items text.new.items kept.now) }
+    ensures answered { OnOk result (spec.IsAnswered (spec.apply_asked server.number number kept.now) recorder.old.journals recorder.new.journals text.old.items text.new.items kept.now) }
     ensures tree { recorder.new.journals.levels ≡ recorder.old.journals.levels }
 {
     match ending_of(kept)? {
@@ -354,13 +310,13 @@ fn apply_ending(
     text: &mut Vec<u8>,
 ) -> Result<(), Memory>
     requires { server.levels ≡ recorder.old.journals.levels }
-    ensures spoken { OnOk result ((kept : Kept) → spec.IsSpoken (spec.apply_by server.number number kept (Some ending)) recorder.old.journals recorder.new.journals text.old.items text.new.items kept) }
+    ensures answered { OnOk result ((kept : Kept) → spec.IsAnswered (spec.apply_by server.number number kept (Some ending)) recorder.old.journals recorder.new.journals text.old.items text.new.items kept) }
     ensures tree { recorder.new.journals.levels ≡ recorder.old.journals.levels }
 {
     let Ending { verdict, cite } = ending;
-    recorder.led();
+    recorder.replayed();
     let answer = apply_at(recorder, alloc, number, verdict, cite, server);
-    recorder.led();
+    recorder.replayed();
     say_told(text, server.number(), answer)?;
     Ok(())
 }

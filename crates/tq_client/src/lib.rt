@@ -1,11 +1,11 @@
 //! The lines of a transaction: what they ask, and what they say.
 #![tactic(auto)]
 
+mod answering;
 mod endings;
 mod kept;
 mod operations;
-mod speaking;
 mod states;
 
+pub use answering::answer_txn;
 pub use kept::{Ending, Kept};
-pub use speaking::speak;

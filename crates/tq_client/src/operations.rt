@@ -4,7 +4,7 @@ ghost use Rattle.tq_txn.specs.States.{levels_of};
 ghost use Rattle.tq_client.specs.TxnAsked as spec;
 ghost use Rattle.tq_print.specs.Print.{printed};
 
-use crate::kept::{Ending, Kept};
+use crate::kept::Kept;
 use crate::states::{Opened, open_of};
 use std::alloc::Global;
 use tq_asking::Recorder;
@@ -23,34 +23,18 @@ pub(crate) fn read(
     text: &mut Vec<u8>,
 ) -> Result<Kept, Memory>
     requires { levels_of kept.txn ≡ recorder.old.journals.levels }
-    ensures spoken { IfOk result (λ new. spec.IsSpoken (spec.read_asked file.now number kept) recorder.old.journals recorder.new.journals text.old.items text.new.items new) }
+    ensures answered { IfOk result (λ new. spec.IsAnswered (spec.read_asked file.now number kept) recorder.old.journals recorder.new.journals text.old.items text.new.items new) }
     ensures levels { IfOk result (λ new. levels_of new.txn ≡ levels_of kept.txn) }
     ensures tree { recorder.new.journals.levels ≡ recorder.old.journals.levels }
 {
     let told = kept.told;
-    match open_of(number, kept.txn, text)? {
-        Opened::Said(txn) => Ok(Kept { txn, told }),
-        Opened::Open(open) => Ok(read_open(recorder, alloc, open, told, file, text)?),
-    }
-}
-
-fn read_open(
-    recorder: &mut Recorder,
-    alloc: Global,
-    still_open: Open,
-    told: Option<Ending>,
-    file: &FileName,
-    text: &mut Vec<u8>,
-) -> Result<Kept, Memory>
-    requires { still_open.levels ≡ recorder.old.journals.levels }
-    ensures spoken { IfOk result (λ new. spec.IsSpoken (spec.read_open (record { txn = Txn.Open still_open; told = told }) file.now still_open) recorder.old.journals recorder.new.journals text.old.items text.new.items new) }
-    ensures levels { IfOk result (λ new. levels_of new.txn ≡ still_open.levels) }
-    ensures tree { recorder.new.journals.levels ≡ recorder.old.journals.levels }
-{
-    let mut open = still_open;
-    recorder.led();
+    let mut open = match open_of(number, kept.txn, text)? {
+        Opened::Said(txn) => return Ok(Kept { txn, told }),
+        Opened::Open(open) => open,
+    };
+    recorder.replayed();
     let answer = read_file(recorder, alloc, &mut open, file);
-    recorder.led();
+    recorder.replayed();
     say_read(text, file, &open, answer)?;
     Ok(Kept {
         txn: Txn::Open(open),
@@ -103,35 +87,18 @@ pub(crate) fn write(
     text: &mut Vec<u8>,
 ) -> Result<Kept, Memory>
     requires { levels_of kept.txn ≡ recorder.old.journals.levels }
-    ensures spoken { IfOk result (λ new. spec.IsSpoken (spec.write_asked file.now content number kept) recorder.old.journals recorder.new.journals text.old.items text.new.items new) }
+    ensures answered { IfOk result (λ new. spec.IsAnswered (spec.write_asked file.now content number kept) recorder.old.journals recorder.new.journals text.old.items text.new.items new) }
     ensures levels { IfOk result (λ new. levels_of new.txn ≡ levels_of kept.txn) }
     ensures tree { recorder.new.journals.levels ≡ recorder.old.journals.levels }
 {
     let told = kept.told;
-    match open_of(number, kept.txn, text)? {
-        Opened::Said(txn) => Ok(Kept { txn, told }),
-        Opened::Open(open) => Ok(write_open(recorder, alloc, open, told, file, content, text)?),
-    }
-}
-
-fn write_open(
-    recorder: &mut Recorder,
-    alloc: Global,
-    still_open: Open,
-    told: Option<Ending>,
-    file: &FileName,
-    content: Content,
-    text: &mut Vec<u8>,
-) -> Result<Kept, Memory>
-    requires { still_open.levels ≡ recorder.old.journals.levels }
-    ensures spoken { IfOk result (λ new. spec.IsSpoken (spec.write_open (record { txn = Txn.Open still_open; told = told }) file.now content still_open) recorder.old.journals recorder.new.journals text.old.items text.new.items new) }
-    ensures levels { IfOk result (λ new. levels_of new.txn ≡ still_open.levels) }
-    ensures tree { recorder.new.journals.levels ≡ recorder.old.journals.levels }
-{
-    let mut open = still_open;
-    recorder.led();
+    let mut open = match open_of(number, kept.txn, text)? {
+        Opened::Said(txn) => return Ok(Kept { txn, told }),
+        Opened::Open(open) => open,
+    };
+    recorder.replayed();
     let answer = write_file(recorder, alloc, &mut open, file, content);
-    recorder.led();
+    recorder.replayed();
     say_written(text, file, &open, answer)?;
     Ok(Kept {
         txn: Txn::Open(open),

@@ -1,6 +1,7 @@
 -- Each part stands where its journal leaves it, also after one more entry.
 use Rattle.std.proofs.Common.{◌≡◌, ◌≤◌, ◌<◌, ◌+◌, ◌-◌, ◌^◌, ℕ, zero, suc, Bool, true, false, cond, List, [], ◌∷◌, ◌++◌, length, map, set, get_or, replicate, Option, Some, None, refl, sym, ap, subst, ◌∙◌, arith}
-use Rattle.std.specs.Prelude.{slice_get, if◌then◌else◌, ◌↔◌, nat_le, Result, Ok, Err, IfOk, OnOk, OnErr, IsErrOf}
+use Rattle.std.specs.Option.{unwrap_or}
+use Rattle.std.specs.Prelude.{nat_lt, slice_get, if◌then◌else◌, ◌↔◌, nat_le, Result, Ok, Err, IfOk, OnOk, OnErr, IsErrOf}
 use Rattle.std.specs.List.{All}
 use Rattle.std.proofs.lemmas.List.{length-map, length-set, length-replicate, length_push, map-append, map-set, replicate_more, set-get_or}
 use Rattle.std.proofs.lemmas.Option.{get_or_from_slice_get}
@@ -8,12 +9,14 @@ use Rattle.std.proofs.lemmas.List.Elements.{All-get_or, All-set, All-replicate, 
 use Rattle.std.proofs.lemmas.List.Sums.{fold-append}
 use Rattle.std.proofs.lemmas.Nat.{pow_pos}
 use Rattle.tq_shape.specs.Limits.{LimitsView}
+use Rattle.tq_shape.specs.Tree.{IsServer}
 use Rattle.tq_shape.specs.Journal.{entry}
 use Rattle.tq_shape.specs.declared.part.Part.{Part}
 use Rattle.tq_shape.specs.declared.part.Part.TheVariants as parts
 use Rattle.tq_part.specs.Agrees.{standing}
 use Rattle.tq_part.specs.declared.fault.Fault.{Fault}
 use Rattle.tq_part.specs.declared.fault.Fault.TheVariants as faults
+use Rattle.tq_part.specs.declared.fault.AskFault.{AskFault}
 use Rattle.tq_part.specs.declared.journaled.Answered.{Answered}
 use Rattle.tq_node.specs.declared.ask.NodeAsk.{NodeAsk}
 use Rattle.tq_node.specs.declared.ask.NodeReply.{NodeReply}
@@ -21,8 +24,8 @@ use Rattle.tq_node.specs.Records.{node_reply}
 use Rattle.tq_node.specs.Node.{NodeView, answered}
 use Rattle.tq_desk.specs.declared.ask.DeskAsk.{DeskAsk}
 use Rattle.tq_desk.specs.declared.ask.DeskReply.{DeskReply}
-use Rattle.tq_desk.specs.Log.{desk_reply, desk_after}
-use Rattle.tq_desk.specs.Log as desk
+use Rattle.tq_desk.specs.DeskStep.{desk_reply, desk_after}
+use Rattle.tq_desk.specs.DeskStep as desk
 use Rattle.tq_live.specs.Live.{Live, best}
 use Rattle.tq_live.specs.View.{view_state, view_reply, view_after, is_server, is_cost, choice_reply}
 use Rattle.tq_live.specs.declared.view.ViewAsk.{ViewAsk}
@@ -32,7 +35,9 @@ use Rattle.tq_live.specs.declared.view.ViewReply.TheVariants.{CostSet, Marked, R
 use Rattle.tq_live.specs.declared.view.ViewRefusal.TheVariants.{NoSuchServer, BadCost}
 use Rattle.tq_live.proofs.Journal.{journal_step}
 use Rattle.tq_tables.proofs.Replayed.{answered-push, desk-push}
-use Rattle.tq_tables.specs.Journals.{JournalsView, AreJournals, IsOfTree, ServerEntry, EntryOfDesk, EntryOfView}
+use Rattle.tq_tables.specs.Journals.{JournalsView, AreJournals, IsOfTree, ViewEntry}
+use Rattle.tq_desk.specs.DeskJournal.{DeskEntry}
+use Rattle.tq_node.specs.NodeJournal.{NodeEntry}
 use Rattle.tq_tables.specs.Parts.{node_after_all, nodes_at}
 use Rattle.tq_world.specs.declared.answer.Answer.{Answer}
 use Rattle.tq_world.specs.declared.answer.Reply.{Reply}
@@ -49,12 +54,12 @@ use Rattle.tq_world.proofs.Legal.{all_offered}
 use Rattle.tq_world.proofs.Runs.{told_answer, told_refusal, world_grown}
 use Rattle.tq_world.specs.Offered.{OffersBest}
 use Rattle.tq_world.specs.declared.answer.Refusal.{Refusal}
-use Rattle.tq_core.specs.Asked.{answer_of, refused_by, refused_at, told_by}
+use Rattle.tq_core.specs.Asked.{answer_of, refusal_of, fault_at, told_at, told_by}
 use Rattle.tq_core.specs.Service.{ServerPart, DeskPart, ViewPart, server_at, servers_at, journals_in, IsService}
 
 -- ---- servers
 
-servers_at-set : (levels limit first : ℕ) (servers : List (List ServerEntry)) (place : ℕ) (entries : List ServerEntry)
+servers_at-set : (levels limit first : ℕ) (servers : List (List NodeEntry)) (place : ℕ) (entries : List NodeEntry)
     → set (servers_at levels limit first servers) place (server_at levels limit (first + place) entries) ≡ servers_at levels limit first (set servers place entries)
 servers_at-set levels limit first [] place entries = refl
 servers_at-set levels limit first (x ∷ servers) zero entries = ap (λ (n : ℕ). server_at levels limit n entries ∷ servers_at levels limit (first + 1) servers) (omega arith)
@@ -62,24 +67,24 @@ servers_at-set levels limit first (x ∷ servers) (suc place) entries =
     ap (λ (n : ℕ). server_at levels limit first x ∷ set (servers_at levels limit (first + 1) servers) place (server_at levels limit n entries)) (omega arith)
     ∙ ap (λ rest. server_at levels limit first x ∷ rest) (servers_at-set levels limit (first + 1) servers place entries)
 
-servers_at-push : (levels limit first : ℕ) (servers : List (List ServerEntry)) (entries : List ServerEntry)
+servers_at-push : (levels limit first : ℕ) (servers : List (List NodeEntry)) (entries : List NodeEntry)
     → servers_at levels limit first (servers ++ entries ∷ []) ≡ servers_at levels limit first servers ++ server_at levels limit (first + length servers) entries ∷ []
 servers_at-push levels limit first [] entries = ap (λ (n : ℕ). server_at levels limit n entries ∷ []) (omega arith)
 servers_at-push levels limit first (x ∷ servers) entries =
     ap (λ rest. server_at levels limit first x ∷ rest) (servers_at-push levels limit (first + 1) servers entries)
     ∙ ap (λ (n : ℕ). server_at levels limit first x ∷ servers_at levels limit (first + 1) servers ++ server_at levels limit n entries ∷ []) (omega arith)
 
-slice_get-servers_at : (levels limit first : ℕ) (servers : List (List ServerEntry)) (place : ℕ) (entries : List ServerEntry)
+slice_get-servers_at : (levels limit first : ℕ) (servers : List (List NodeEntry)) (place : ℕ) (entries : List NodeEntry)
     → slice_get servers place ≡ Some entries → slice_get (servers_at levels limit first servers) place ≡ Some (server_at levels limit (first + place) entries)
-slice_get-servers_at levels limit first [] place entries is = absurd (let none : Path (Option (List ServerEntry)) None (Some entries) = is in cc)
+slice_get-servers_at levels limit first [] place entries is = absurd (let none : Path (Option (List NodeEntry)) None (Some entries) = is in cc)
 slice_get-servers_at levels limit first (x ∷ servers) zero entries is =
-    let same : x ≡ entries = (let some : Path (Option (List ServerEntry)) (Some x) (Some entries) = is in cc) in
+    let same : x ≡ entries = (let some : Path (Option (List NodeEntry)) (Some x) (Some entries) = is in cc) in
     ap (λ e. Some (server_at levels limit first e)) same ∙ ap (λ (n : ℕ). Some (server_at levels limit n entries)) (omega arith)
 slice_get-servers_at levels limit first (x ∷ servers) (suc place) entries is =
     slice_get-servers_at levels limit (first + 1) servers place entries is ∙ ap (λ (n : ℕ). Some (server_at levels limit n entries)) (omega arith)
 
 -- the servers without their journals
-parts-servers_at : (levels limit first : ℕ) (servers : List (List ServerEntry)) → map (λ (s : ServerPart). s.part) (servers_at levels limit first servers) ≡ nodes_at levels first servers
+parts-servers_at : (levels limit first : ℕ) (servers : List (List NodeEntry)) → map (λ (s : ServerPart). s.part) (servers_at levels limit first servers) ≡ nodes_at levels first servers
 parts-servers_at levels limit first [] = refl
 parts-servers_at levels limit first (x ∷ servers) = ap (λ rest. node_after_all levels first x ∷ rest) (parts-servers_at levels limit (first + 1) servers)
 
@@ -140,7 +145,7 @@ module _ (world : JournalsView) (step : Step) (part : Part) (entries : ℕ) (is 
 
   -- a part that did not take the ask, as its journal was full or for want of memory
   fault_told : {R : Type 0} (limit : ℕ) (fault : Fault) → limit ≡ world.limits.entries → entries ≤ world.limits.entries
-      → (IsErrOf {T = Answered R} (Err fault) faults.JournalFull ↔ (entries ≡ limit)) → IsTold world step (Err (refused_by part fault))
+      → (IsErrOf {T = Answered R} (Err fault) faults.JournalFull ↔ (entries ≡ limit)) → IsTold world step (Err (refusal_of (fault_at part fault)))
   fault_told {R} limit faults.Memory same fits full =
       not_refused fits (λ e. let no : Path (Result (Answered R) Fault) (Err faults.Memory) (Err faults.JournalFull) = full.1 (e ∙ sym same) in cc)
   fault_told limit faults.JournalFull same fits full = told_refusal world step (refusals.JournalFull part) (sym (is_full (full.0 refl ∙ same)))
@@ -152,7 +157,7 @@ module _ (world : JournalsView) (step : Step) (part : Part) (entries : ℕ) (is 
       not_refused fits (λ e. let no : Path (Result (Answered R) Fault) (Ok told) (Err faults.JournalFull) = full.1 (e ∙ sym same) in cc)
 
 -- an ask of a service: it stands afterwards, and the ask was told what a step is to be told
-pub record Went {R : Type 0} (reply : R → Reply) (servers : List ServerPart) (now : DeskPart) (view : ViewPart) (levels : ℕ) (limits : LimitsView) (old : JournalsView) (step : Step) (result : Result (Answered R) Refusal) : Type 0 where
+pub record Asked {R : Type 0} (reply : R → Reply) (servers : List ServerPart) (now : DeskPart) (view : ViewPart) (levels : ℕ) (limits : LimitsView) (old : JournalsView) (step : Step) (result : Result (Answered R) AskFault) : Type 0 where
   pub stands : IsService servers now view (journals_in levels limits servers now view)
   pub told : IsTold old step (told_by reply result)
   pub after : OnOk result (journals_in levels limits servers now view ≡ world_after old step)
@@ -200,7 +205,7 @@ module _ (servers : List ServerPart) (now after : DeskPart) (view : ViewPart) (l
       → IfOk result (λ told. told ≡ record { number = length now.journal + 1; reply = desk_reply now.part ask })
       → IfOk result (λ told. after ≡ standing (desk_after now.part ask) (now.journal ++ entry ask told.reply ∷ []) now.limit)
       → OnErr result (after ≡ now) → (IsErrOf result faults.JournalFull ↔ (length now.journal ≡ now.limit))
-      → Went replies.Desk servers after view levels limits (journals_in levels limits servers now view) (steps.Desk ask) (refused_at parts.Desk result)
+      → Asked replies.Desk servers after view levels limits (journals_in levels limits servers now view) (steps.Desk ask) (told_at parts.Desk result)
   desk_here (Ok told) service founded is next err full =
       let world = journals_in levels limits servers now view in
       let at = ap (λ (c : Option Citation). refuse_entry world parts.Desk (length now.journal) c) founded in
@@ -208,9 +213,9 @@ module _ (servers : List ServerPart) (now after : DeskPart) (view : ViewPart) (l
       let none = took world (steps.Desk ask) parts.Desk (length now.journal) at now.limit told limit service.journals.desk_fits full in
       let goes = desk_grown servers now after view world ask service none
       (next ∙ ap (λ (t : Answered DeskReply). standing (desk_after now.part ask) (now.journal ++ entry ask t.reply ∷ []) now.limit) is) in
-      let journals : List EntryOfDesk → JournalsView = λ entries. record { levels = levels; limits = limits; servers = map (λ (s : ServerPart). s.journal) servers; desk = entries; view = view.journal } in
+      let journals : List DeskEntry → JournalsView = λ entries. record { levels = levels; limits = limits; servers = map (λ (s : ServerPart). s.journal) servers; desk = entries; view = view.journal } in
       record {
-        stands = subst (λ (entries : List EntryOfDesk). IsService servers after view (journals entries)) (sym goes.0) goes.1;
+        stands = subst (λ (entries : List DeskEntry). IsService servers after view (journals entries)) (sym goes.0) goes.1;
         told = told_answer world (steps.Desk ask) (answer_of replies.Desk told) none (ap (λ t. answer_of replies.Desk t) is ∙ desk_answer servers now view world ask service);
         after = ap journals goes.0 ∙ sym (world_grown world (steps.Desk ask) none);
         err = tt;
@@ -226,15 +231,15 @@ module _ (servers : List ServerPart) (now after : DeskPart) (view : ViewPart) (l
         err = ap (λ (d : DeskPart). journals_in levels limits servers d view) err;
       }
 
-  pub desk_went : (given : JournalsView) (result : Result (Answered DeskReply) Fault) (out : Result (Answered DeskReply) Refusal) → out ≡ refused_at parts.Desk result → IsService servers now view (journals_in levels limits servers now view)
+  pub desk_asked : (given : JournalsView) (result : Result (Answered DeskReply) Fault) (out : Result (Answered DeskReply) AskFault) → out ≡ told_at parts.Desk result → IsService servers now view (journals_in levels limits servers now view)
       → given ≡ journals_in levels limits servers now view → unfounded_in_desk_ask given ask ≡ None
       → IfOk result (λ told. told ≡ record { number = length now.journal + 1; reply = desk_reply now.part ask })
       → IfOk result (λ told. after ≡ standing (desk_after now.part ask) (now.journal ++ entry ask told.reply ∷ []) now.limit)
       → OnErr result (after ≡ now) → (IsErrOf result faults.JournalFull ↔ (length now.journal ≡ now.limit))
-      → Went replies.Desk servers after view levels limits given (steps.Desk ask) out
-  desk_went given result out told service same founded is next err full =
-      subst (λ (o : Result (Answered DeskReply) Refusal). Went replies.Desk servers after view levels limits given (steps.Desk ask) o) (sym told)
-      (subst (λ (w : JournalsView). Went replies.Desk servers after view levels limits w (steps.Desk ask) (refused_at parts.Desk result)) (sym same)
+      → Asked replies.Desk servers after view levels limits given (steps.Desk ask) out
+  desk_asked given result out told service same founded is next err full =
+      subst (λ (o : Result (Answered DeskReply) AskFault). Asked replies.Desk servers after view levels limits given (steps.Desk ask) o) (sym told)
+      (subst (λ (w : JournalsView). Asked replies.Desk servers after view levels limits w (steps.Desk ask) (told_at parts.Desk result)) (sym same)
       (desk_here result service (ap (λ (w : JournalsView). unfounded_in_desk_ask w ask) (sym same) ∙ founded) is next err full))
 
 -- ---- the view
@@ -257,7 +262,7 @@ view_grown servers now view after world ask service none is =
           servers_fit = service.journals.servers_fit;
           desk_fits = service.journals.desk_fits;
           view_fits = let l = length_push world.view e in omega arith;
-          of_tree = let P : EntryOfView → Type 0 = λ x. IsOfTree world.levels x.reply in
+          of_tree = let P : ViewEntry → Type 0 = λ x. IsOfTree world.levels x.reply in
               All-push P world.view e service.journals.of_tree (reply_of_tree (view_at world.levels world.view) ask);
         };
         servers_stand = service.servers_stand;
@@ -279,16 +284,16 @@ module _ (servers : List ServerPart) (now : DeskPart) (view after : ViewPart) (l
       → IfOk result (λ told. told ≡ record { number = length view.journal + 1; reply = view_reply view.part ask })
       → IfOk result (λ told. after ≡ standing (view_after view.part ask) (view.journal ++ entry ask told.reply ∷ []) view.limit)
       → OnErr result (after ≡ view) → (IsErrOf result faults.JournalFull ↔ (length view.journal ≡ view.limit))
-      → Went replies.View servers now after levels limits (journals_in levels limits servers now view) (steps.View ask) (refused_at parts.View result)
+      → Asked replies.View servers now after levels limits (journals_in levels limits servers now view) (steps.View ask) (told_at parts.View result)
   view_here (Ok told) service is next err full =
       let world = journals_in levels limits servers now view in
       let limit = ap (λ (v : ViewPart). v.limit) service.view_stands in
       let none = took world (steps.View ask) parts.View (length view.journal) refl view.limit told limit service.journals.view_fits full in
       let goes = view_grown servers now view after world ask service none
       (next ∙ ap (λ (t : Answered ViewReply). standing (view_after view.part ask) (view.journal ++ entry ask t.reply ∷ []) view.limit) is) in
-      let journals : List EntryOfView → JournalsView = λ entries. record { levels = levels; limits = limits; servers = map (λ (s : ServerPart). s.journal) servers; desk = now.journal; view = entries } in
+      let journals : List ViewEntry → JournalsView = λ entries. record { levels = levels; limits = limits; servers = map (λ (s : ServerPart). s.journal) servers; desk = now.journal; view = entries } in
       record {
-        stands = subst (λ (entries : List EntryOfView). IsService servers now after (journals entries)) (sym goes.0) goes.1;
+        stands = subst (λ (entries : List ViewEntry). IsService servers now after (journals entries)) (sym goes.0) goes.1;
         told = told_answer world (steps.View ask) (answer_of replies.View told) none (ap (λ t. answer_of replies.View t) is ∙ view_answer servers now view world ask service);
         after = ap journals goes.0 ∙ sym (world_grown world (steps.View ask) none);
         err = tt;
@@ -303,16 +308,22 @@ module _ (servers : List ServerPart) (now : DeskPart) (view after : ViewPart) (l
         err = ap (λ (v : ViewPart). journals_in levels limits servers now v) err;
       }
 
-  pub view_went : (given : JournalsView) (result : Result (Answered ViewReply) Fault) (out : Result (Answered ViewReply) Refusal) → out ≡ refused_at parts.View result → IsService servers now view (journals_in levels limits servers now view)
+  pub view_asked : (given : JournalsView) (result : Result (Answered ViewReply) Fault) (out : Result (Answered ViewReply) AskFault) → out ≡ told_at parts.View result → IsService servers now view (journals_in levels limits servers now view)
       → given ≡ journals_in levels limits servers now view
       → IfOk result (λ told. told ≡ record { number = length view.journal + 1; reply = view_reply view.part ask })
       → IfOk result (λ told. after ≡ standing (view_after view.part ask) (view.journal ++ entry ask told.reply ∷ []) view.limit)
       → OnErr result (after ≡ view) → (IsErrOf result faults.JournalFull ↔ (length view.journal ≡ view.limit))
-      → Went replies.View servers now after levels limits given (steps.View ask) out
-  view_went given result out told service same is next err full =
-      subst (λ (o : Result (Answered ViewReply) Refusal). Went replies.View servers now after levels limits given (steps.View ask) o) (sym told)
-      (subst (λ (w : JournalsView). Went replies.View servers now after levels limits w (steps.View ask) (refused_at parts.View result)) (sym same)
+      → Asked replies.View servers now after levels limits given (steps.View ask) out
+  view_asked given result out told service same is next err full =
+      subst (λ (o : Result (Answered ViewReply) AskFault). Asked replies.View servers now after levels limits given (steps.View ask) o) (sym told)
+      (subst (λ (w : JournalsView). Asked replies.View servers now after levels limits w (steps.View ask) (told_at parts.View result)) (sym same)
       (view_here result service is next err full))
+
+-- an ask that cites what does not stand
+pub desk_unfounded : (given : JournalsView) (ask : DeskAsk) (citation : Citation) (fault : AskFault) → unfounded_in_desk_ask given ask ≡ Some citation
+    → Some (refusal_of fault) ≡ refuse_entry given parts.Desk (length given.desk) (Some citation) → IsTold given (steps.Desk ask) (Err (refusal_of fault))
+desk_unfounded given ask citation fault cited is =
+    told_refusal given (steps.Desk ask) (refusal_of fault) (is ∙ sym (ap (λ (c : Option Citation). refuse_entry given parts.Desk (length given.desk) c) cited))
 
 -- ---- a server
 
@@ -320,6 +331,37 @@ get_within : {E : Type 0} (items : List E) (place : ℕ) (x : E) → slice_get i
 get_within {E} [] place x is = absurd (let none : Path (Option E) None (Some x) = is in cc)
 get_within (y ∷ items) zero x is = omega arith
 get_within (y ∷ items) (suc place) x is = let less = get_within items place x is in omega arith
+
+get_none : {E : Type 0} (items : List E) (place : ℕ) → slice_get items place ≡ None → length items ≤ place
+get_none [] place is = omega arith
+get_none {E} (x ∷ items) zero is = absurd (let none : Path (Option E) (Some x) None = is in cc)
+get_none (x ∷ items) (suc place) is = let more = get_none items place is in omega arith
+
+-- the servers that have a journal are those of the tree
+module _ (world : JournalsView) (journals : AreJournals world) (server : ℕ) where
+  has_journal : IsServer world.levels server → item_at world.servers server ≡ Some (server_journal world server)
+  has_journal of_tree = by (item_at world.servers server) refl
+    where
+      by : (o : Option (List NodeEntry)) → item_at world.servers server ≡ o → item_at world.servers server ≡ Some (server_journal world server)
+      by (Some entries) is = is ∙ sym (ap (λ (o : Option (List NodeEntry)). Some (unwrap_or o [])) is)
+      by None is =
+          let above : nat_lt 0 server ≡ true = (let positive = of_tree.0 in grind (arith, positive)) in
+          let none = get_none world.servers (server - 1) (sym (ap (λ (b : Bool). cond b (slice_get world.servers (server - 1)) None) above) ∙ is) in
+          let one = journals.one_each in
+          let within = of_tree.1 in
+          let positive = of_tree.0 in
+          absurd (omega arith)
+
+  pub has_none : (IsServer world.levels server → ⊥) → item_at world.servers server ≡ None
+  has_none off = by (item_at world.servers server) refl
+    where
+      by : (o : Option (List NodeEntry)) → item_at world.servers server ≡ o → item_at world.servers server ≡ None
+      by None is = is
+      by (Some entries) is =
+          let there = item_above world.servers server entries is in
+          let within = get_within world.servers (server - 1) entries there.1 in
+          let one = journals.one_each in
+          absurd (off (there.0, omega (arith, within, one, there.0)))
 
 module _ (servers : List ServerPart) (now : DeskPart) (view : ViewPart) (levels : ℕ) (limits : LimitsView) (server : ℕ) (ask : NodeAsk)
     (service : IsService servers now view (journals_in levels limits servers now view))
@@ -351,7 +393,7 @@ module _ (servers : List ServerPart) (now : DeskPart) (view : ViewPart) (levels 
   here_fits : (here : ServerPart) → here ≡ get_or servers (server - 1) here → length here.journal ≤ limits.entries
   here_fits here at =
       let world = journals_in levels limits servers now view in
-      let P : List ServerEntry → Type 0 = λ entries. length entries ≤ limits.entries in
+      let P : List NodeEntry → Type 0 = λ entries. length entries ≤ limits.entries in
       let size = ap (λ (s : ServerPart). length s.journal) (here_is here at) in
       let within = get_within world.servers (server - 1) (server_journal world server) stands_there.1 in
       let fits = subst P (get_or_from_slice_get world.servers (server - 1) (server_journal world server) [] stands_there.1) (All-get_or P world.servers (server - 1) [] within service.journals.servers_fit) in
@@ -386,7 +428,7 @@ module _ (servers : List ServerPart) (now : DeskPart) (view : ViewPart) (levels 
       → (let world = journals_in levels limits servers now view in map (λ (s : ServerPart). s.journal) (set servers (server - 1) after) ≡ set world.servers (server - 1) (server_journal world server ++ node_entry world server ask ∷ []))
   journals_are here after at is =
       map-set (λ (s : ServerPart). s.journal) servers (server - 1) after
-      ∙ ap (λ (es : List ServerEntry). set (map (λ (s : ServerPart). s.journal) servers) (server - 1) es) (ap (λ (s : ServerPart). s.journal) (after_is here after at is))
+      ∙ ap (λ (es : List NodeEntry). set (map (λ (s : ServerPart). s.journal) servers) (server - 1) es) (ap (λ (s : ServerPart). s.journal) (after_is here after at is))
 
   node_grown : (here after : ServerPart) → here ≡ get_or servers (server - 1) here → refusal (journals_in levels limits servers now view) (steps.Node server ask) ≡ None
       → after ≡ standing (answered here.part (length here.journal + 1) ask) (here.journal ++ entry ask (node_reply here.part.server here.part.state ask) ∷ []) here.limit
@@ -402,7 +444,7 @@ module _ (servers : List ServerPart) (now : DeskPart) (view : ViewPart) (levels 
       record {
         journals = record {
           one_each = let count = length-set world.servers (server - 1) (entries ++ e ∷ []) in let old = service.journals.one_each in omega arith;
-          servers_fit = let P : List ServerEntry → Type 0 = λ x. length x ≤ limits.entries in All-set P world.servers (server - 1) (entries ++ e ∷ []) fits service.journals.servers_fit;
+          servers_fit = let P : List NodeEntry → Type 0 = λ x. length x ≤ limits.entries in All-set P world.servers (server - 1) (entries ++ e ∷ []) fits service.journals.servers_fit;
           desk_fits = service.journals.desk_fits;
           view_fits = service.journals.view_fits;
           of_tree = service.journals.of_tree;
@@ -422,20 +464,20 @@ module _ (servers : List ServerPart) (now : DeskPart) (view : ViewPart) (levels 
       → IfOk result (λ told. told ≡ record { number = length here.journal + 1; reply = node_reply here.part.server here.part.state ask })
       → IfOk result (λ told. after ≡ standing (answered here.part told.number ask) (here.journal ++ entry ask told.reply ∷ []) here.limit)
       → OnErr result (after ≡ here) → (IsErrOf result faults.JournalFull ↔ (length here.journal ≡ here.limit))
-      → Went replies.Node (set servers (server - 1) after) now view levels limits (journals_in levels limits servers now view) (steps.Node server ask) (refused_at (parts.Server server) result)
+      → Asked replies.Node (set servers (server - 1) after) now view levels limits (journals_in levels limits servers now view) (steps.Node server ask) (told_at (parts.Server server) result)
   node_here here after at founded (Ok told) is next err full =
       let world = journals_in levels limits servers now view in
       let step = steps.Node server ask in
       let limit = ap (λ (s : ServerPart). s.limit) (here_is here at) in
       let refuses : refusal world step ≡ refuse_entry world (parts.Server server) (length here.journal) None =
-      ap (λ (o : Option (List ServerEntry)). refuse_at world server o (unfounded_in_node_ask world ask)) there
+      ap (λ (o : Option (List NodeEntry)). refuse_at world server o (unfounded_in_node_ask world ask)) there
       ∙ ap (λ (c : Option Citation). refuse_entry world (parts.Server server) (length (server_journal world server)) c) founded
       ∙ ap (λ (s : ServerPart). refuse_entry world (parts.Server server) (length s.journal) None) (sym (here_is here at)) in
       let none = took world step (parts.Server server) (length here.journal) refuses here.limit told limit (here_fits here at) full in
       let is_after = next ∙ ap (λ (t : Answered NodeReply). standing (answered here.part t.number ask) (here.journal ++ entry ask t.reply ∷ []) here.limit) is in
-      let journals : List (List ServerEntry) → JournalsView = λ all. record { levels = levels; limits = limits; servers = all; desk = now.journal; view = view.journal } in
+      let journals : List (List NodeEntry) → JournalsView = λ all. record { levels = levels; limits = limits; servers = all; desk = now.journal; view = view.journal } in
       record {
-        stands = subst (λ (all : List (List ServerEntry)). IsService (set servers (server - 1) after) now view (journals all)) (sym (journals_are here after at is_after)) (node_grown here after at none is_after);
+        stands = subst (λ (all : List (List NodeEntry)). IsService (set servers (server - 1) after) now view (journals all)) (sym (journals_are here after at is_after)) (node_grown here after at none is_after);
         told = told_answer world step (answer_of replies.Node told) none (ap (λ t. answer_of replies.Node t) is ∙ answer_is here at);
         after = ap journals (journals_are here after at is_after) ∙ sym (world_grown world step none);
         err = tt;
@@ -445,7 +487,7 @@ module _ (servers : List ServerPart) (now : DeskPart) (view : ViewPart) (levels 
       let step = steps.Node server ask in
       let limit = ap (λ (s : ServerPart). s.limit) (here_is here at) in
       let refuses : refusal world step ≡ refuse_entry world (parts.Server server) (length here.journal) None =
-      ap (λ (o : Option (List ServerEntry)). refuse_at world server o (unfounded_in_node_ask world ask)) there
+      ap (λ (o : Option (List NodeEntry)). refuse_at world server o (unfounded_in_node_ask world ask)) there
       ∙ ap (λ (c : Option Citation). refuse_entry world (parts.Server server) (length (server_journal world server)) c) founded
       ∙ ap (λ (s : ServerPart). refuse_entry world (parts.Server server) (length s.journal) None) (sym (here_is here at)) in
       let unchanged : set servers (server - 1) after ≡ servers = ap (λ (s : ServerPart). set servers (server - 1) s) (err ∙ at) ∙ set-get_or servers (server - 1) here in
@@ -459,22 +501,40 @@ module _ (servers : List ServerPart) (now : DeskPart) (view : ViewPart) (levels 
 module _ (servers : List ServerPart) (now : DeskPart) (view : ViewPart) (levels : ℕ) (limits : LimitsView) (given : JournalsView) (server : ℕ) (ask : NodeAsk)
     (service : IsService servers now view (journals_in levels limits servers now view))
     (same : given ≡ journals_in levels limits servers now view)
-    (there : item_at given.servers server ≡ Some (server_journal given server)) where
+    (of_tree : IsServer levels server) where
   there_too : item_at (journals_in levels limits servers now view).servers server ≡ Some (server_journal (journals_in levels limits servers now view) server)
-  there_too = subst (λ (w : JournalsView). item_at w.servers server ≡ Some (server_journal w server)) same there
+  there_too = has_journal (journals_in levels limits servers now view) service.journals server of_tree
 
   pub in_servers : server - 1 < length servers
   in_servers = in_world servers now view levels limits server ask service there_too
 
-  pub node_went : (here after : ServerPart) → here ≡ get_or servers (server - 1) here → unfounded_in_node_ask given ask ≡ None → (result : Result (Answered NodeReply) Fault) (out : Result (Answered NodeReply) Refusal) → out ≡ refused_at (parts.Server server) result
+  pub node_asked : (here after : ServerPart) → here ≡ get_or servers (server - 1) here → unfounded_in_node_ask given ask ≡ None → (result : Result (Answered NodeReply) Fault) (out : Result (Answered NodeReply) AskFault) → out ≡ told_at (parts.Server server) result
       → IfOk result (λ told. told ≡ record { number = length here.journal + 1; reply = node_reply here.part.server here.part.state ask })
       → IfOk result (λ told. after ≡ standing (answered here.part told.number ask) (here.journal ++ entry ask told.reply ∷ []) here.limit)
       → OnErr result (after ≡ here) → (IsErrOf result faults.JournalFull ↔ (length here.journal ≡ here.limit))
-      → Went replies.Node (set servers (server - 1) after) now view levels limits given (steps.Node server ask) out
-  node_went here after at founded result out told is next err full =
-      subst (λ (o : Result (Answered NodeReply) Refusal). Went replies.Node (set servers (server - 1) after) now view levels limits given (steps.Node server ask) o) (sym told)
-      (subst (λ (w : JournalsView). Went replies.Node (set servers (server - 1) after) now view levels limits w (steps.Node server ask) (refused_at (parts.Server server) result)) (sym same)
+      → Asked replies.Node (set servers (server - 1) after) now view levels limits given (steps.Node server ask) out
+  node_asked here after at founded result out told is next err full =
+      subst (λ (o : Result (Answered NodeReply) AskFault). Asked replies.Node (set servers (server - 1) after) now view levels limits given (steps.Node server ask) o) (sym told)
+      (subst (λ (w : JournalsView). Asked replies.Node (set servers (server - 1) after) now view levels limits w (steps.Node server ask) (told_at (parts.Server server) result)) (sym same)
       (node_here servers now view levels limits server ask service there_too here after at (ap (λ (w : JournalsView). unfounded_in_node_ask w ask) (sym same) ∙ founded) result is next err full))
+
+  -- an ask that cites what does not stand
+  pub node_unfounded : (here : ServerPart) → here ≡ get_or servers (server - 1) here → (citation : Citation) (fault : AskFault) → unfounded_in_node_ask given ask ≡ Some citation
+      → Some (refusal_of fault) ≡ refuse_entry given (parts.Server server) (length here.journal) (Some citation) → IsTold given (steps.Node server ask) (Err (refusal_of fault))
+  node_unfounded here at citation fault cited is =
+      let there : item_at given.servers server ≡ Some (server_journal given server) =
+      subst (λ (w : JournalsView). item_at w.servers server ≡ Some (server_journal w server)) (sym same) there_too in
+      let journal : here.journal ≡ server_journal given server =
+      ap (λ (s : ServerPart). s.journal) (here_is servers now view levels limits server ask service there_too here at) ∙ ap (λ (w : JournalsView). server_journal w server) (sym same) in
+      told_refusal given (steps.Node server ask) (refusal_of fault)
+      (is ∙ ap (λ (entries : List NodeEntry). refuse_entry given (parts.Server server) (length entries) (Some citation)) journal
+      ∙ sym (ap (λ (c : Option Citation). refuse_entry given (parts.Server server) (length (server_journal given server)) c) cited)
+      ∙ sym (ap (λ (o : Option (List NodeEntry)). refuse_at given server o (unfounded_in_node_ask given ask)) there))
+
+-- a step of a server that is not there
+pub no_server : (world : JournalsView) (server : ℕ) (ask : NodeAsk) → AreJournals world → (IsServer world.levels server → ⊥) → IsTold world (steps.Node server ask) (Err refusals.NoSuchServer)
+no_server world server ask journals off =
+    told_refusal world (steps.Node server ask) refusals.NoSuchServer (sym (ap (λ (o : Option (List NodeEntry)). refuse_at world server o (unfounded_in_node_ask world ask)) (has_none world journals server off)))
 
 -- ---- a new service
 
@@ -486,15 +546,15 @@ pub one_more : (levels limit place : ℕ) (servers more : List ServerPart) (here
     → servers ≡ servers_at levels limit 1 (replicate place []) → more ≡ servers ++ here ∷ [] → here ≡ server_at levels limit (place + 1) []
     → more ≡ servers_at levels limit 1 (replicate (place + 1) [])
 one_more levels limit place servers more here old is here_is =
-    let count : length (replicate {A = List ServerEntry} place []) ≡ place = length-replicate place [] in
-    let next : place + 1 ≡ 1 + length (replicate {A = List ServerEntry} place []) = omega arith in
+    let count : length (replicate {A = List NodeEntry} place []) ≡ place = length-replicate place [] in
+    let next : place + 1 ≡ 1 + length (replicate {A = List NodeEntry} place []) = omega arith in
     is
     ∙ ap (λ (all : List ServerPart). all ++ here ∷ []) old
     ∙ ap (λ (s : ServerPart). servers_at levels limit 1 (replicate place []) ++ s ∷ []) (here_is ∙ ap (λ (n : ℕ). server_at levels limit n []) next)
     ∙ sym (servers_at-push levels limit 1 (replicate place []) [])
     ∙ ap (servers_at levels limit 1) (replicate_more place [])
 
-journals-servers_at : (levels limit first : ℕ) (servers : List (List ServerEntry)) → map (λ (s : ServerPart). s.journal) (servers_at levels limit first servers) ≡ servers
+journals-servers_at : (levels limit first : ℕ) (servers : List (List NodeEntry)) → map (λ (s : ServerPart). s.journal) (servers_at levels limit first servers) ≡ servers
 journals-servers_at levels limit first [] = refl
 journals-servers_at levels limit first (x ∷ servers) = ap (λ rest. x ∷ rest) (journals-servers_at levels limit (first + 1) servers)
 
@@ -502,11 +562,11 @@ opened : (levels : ℕ) (limits : LimitsView)
     → IsService (servers_at levels limits.entries 1 (replicate (2 ^ levels - 1) [])) (standing (desk.opening levels limits) [] limits.entries) (standing (view_state levels []) [] limits.entries) (empty_world levels limits)
 opened levels limits =
     let positive : 0 < 2 ^ levels = pow_pos levels in
-    let count : length (replicate {A = List ServerEntry} (2 ^ levels - 1) []) ≡ 2 ^ levels - 1 = length-replicate (2 ^ levels - 1) [] in
+    let count : length (replicate {A = List NodeEntry} (2 ^ levels - 1) []) ≡ 2 ^ levels - 1 = length-replicate (2 ^ levels - 1) [] in
     record {
       journals = record {
         one_each = omega arith;
-        servers_fit = let P : List ServerEntry → Type 0 = λ entries. length entries ≤ limits.entries in All-replicate P (2 ^ levels - 1) [] (omega arith);
+        servers_fit = let P : List NodeEntry → Type 0 = λ entries. length entries ≤ limits.entries in All-replicate P (2 ^ levels - 1) [] (omega arith);
         desk_fits = omega arith;
         view_fits = omega arith;
         of_tree = λ k d within. absurd (omega (arith, within));
@@ -525,7 +585,7 @@ opened_is levels place limits servers now view count stand opening start =
     let at_last : servers ≡ servers_at levels limits.entries 1 (replicate (2 ^ levels - 1) []) = stand ∙ ap (λ (n : ℕ). servers_at levels limits.entries 1 (replicate n [])) count in
     let all : journals_in levels limits servers now view ≡ empty_world levels limits =
     (λ i. journals_in levels limits (at_last i) (opening i) (start i))
-    ∙ ap (λ (es : List (List ServerEntry)). let w : JournalsView = record { levels = levels; limits = limits; servers = es; desk = []; view = [] } in w) (journals-servers_at levels limits.entries 1 (replicate (2 ^ levels - 1) [])) in
+    ∙ ap (λ (es : List (List NodeEntry)). let w : JournalsView = record { levels = levels; limits = limits; servers = es; desk = []; view = [] } in w) (journals-servers_at levels limits.entries 1 (replicate (2 ^ levels - 1) [])) in
     record {
       stands = subst (λ (w : JournalsView). IsService servers now view w) (sym all)
           (subst (λ (s : List ServerPart). IsService s now view (empty_world levels limits)) (sym at_last)
@@ -535,10 +595,10 @@ opened_is levels place limits servers now view count stand opening start =
     }
 
 -- what an ask of the view is told is an offer
-pub told_offers : {R : Type 0} (reply : R → Reply) (world : JournalsView) (step : Step) (result : Result (Answered R) Refusal)
+pub told_offers : {R : Type 0} (reply : R → Reply) (world : JournalsView) (step : Step) (result : Result (Answered R) AskFault)
     → IsTold world step (told_by reply result) → IfOk result (λ told. OffersBest world step (answer_of reply told))
 told_offers reply world step (Ok told) is = (all_offered world (step ∷ []) (Ok (answer_of reply told) ∷ []) (is, tt)).0
-told_offers reply world step (Err reason) is = tt
+told_offers reply world step (Err fault) is = tt
 
 -- ---- the journals, handed out
 
@@ -549,13 +609,13 @@ has_room servers now view levels limits capacity count service room is =
     let l = length-map servers (λ (s : ServerPart). s.journal) in
     omega arith
 
-pub handed_out : (servers : List ServerPart) (now : DeskPart) (view : ViewPart) (levels : ℕ) (limits : LimitsView) (all : List (List ServerEntry)) (of_desk : List EntryOfDesk) (of_view : List EntryOfView)
+pub handed_out : (servers : List ServerPart) (now : DeskPart) (view : ViewPart) (levels : ℕ) (limits : LimitsView) (all : List (List NodeEntry)) (of_desk : List DeskEntry) (of_view : List ViewEntry)
     → all ≡ map (λ (s : ServerPart). s.journal) servers → of_desk ≡ now.journal → of_view ≡ view.journal
     → (let w : JournalsView = record { levels = levels; limits = limits; servers = all; desk = of_desk; view = of_view } in w ≡ journals_in levels limits servers now view)
 handed_out servers now view levels limits all of_desk of_view a d v =
     λ i. record { levels = levels; limits = limits; servers = a i; desk = d i; view = v i }
 
-pub are_journals : (servers : List ServerPart) (now : DeskPart) (view : ViewPart) (levels : ℕ) (limits : LimitsView) (all : List (List ServerEntry)) (of_desk : List EntryOfDesk) (of_view : List EntryOfView)
+pub are_journals : (servers : List ServerPart) (now : DeskPart) (view : ViewPart) (levels : ℕ) (limits : LimitsView) (all : List (List NodeEntry)) (of_desk : List DeskEntry) (of_view : List ViewEntry)
     → all ≡ map (λ (s : ServerPart). s.journal) servers → of_desk ≡ now.journal → of_view ≡ view.journal
     → IsService servers now view (journals_in levels limits servers now view)
     → AreJournals (record { levels = levels; limits = limits; servers = all; desk = of_desk; view = of_view })

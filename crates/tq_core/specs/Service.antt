@@ -7,11 +7,12 @@ use Rattle.tq_node.specs.declared.ask.NodeReply.{NodeReply}
 use Rattle.tq_node.specs.Node.{NodeView}
 use Rattle.tq_desk.specs.declared.ask.DeskAsk.{DeskAsk}
 use Rattle.tq_desk.specs.declared.ask.DeskReply.{DeskReply}
-use Rattle.tq_desk.specs.Log.{DeskView}
+use Rattle.tq_desk.specs.DeskStep.{DeskView}
 use Rattle.tq_live.specs.declared.view.ViewAsk.{ViewAsk}
 use Rattle.tq_live.specs.declared.view.ViewReply.{ViewReply}
 use Rattle.tq_live.specs.Live.{Live}
-use Rattle.tq_tables.specs.Journals.{JournalsView, ServerEntry, AreJournals}
+use Rattle.tq_tables.specs.Journals.{JournalsView, AreJournals}
+use Rattle.tq_node.specs.NodeJournal.{NodeEntry}
 use Rattle.tq_tables.specs.Parts.{node_after_all}
 use Rattle.tq_world.specs.World.{desk_at, view_at}
 use Rattle.tq_world.specs.Steps.{IsOfRun}
@@ -27,11 +28,11 @@ abbrev pub ViewPart : Type 0
 ViewPart = Standing Live ViewAsk ViewReply
 
 -- a server of a tree of those levels beside a journal of these entries, which leaves it there
-abbrev pub server_at : ℕ → ℕ → ℕ → List ServerEntry → ServerPart
+abbrev pub server_at : ℕ → ℕ → ℕ → List NodeEntry → ServerPart
 server_at levels limit server entries = standing (node_after_all levels server entries) entries limit
 
 -- the servers of a tree so, upwards from the first
-abbrev pub servers_at : ℕ → ℕ → ℕ → List (List ServerEntry) → List ServerPart
+abbrev pub servers_at : ℕ → ℕ → ℕ → List (List NodeEntry) → List ServerPart
 servers_at levels limit first [] = []
 servers_at levels limit first (entries ∷ rest) = server_at levels limit first entries ∷ servers_at levels limit (first + 1) rest
 

@@ -1,4 +1,4 @@
-ghost use Rattle.std.specs.Prelude.{◌≡◌, ◌≤◌, [], Some, None, IfSome, IfNone, IfOk, OnOk, OnErr, map, vec_len, vec_capacity};
+ghost use Rattle.std.specs.Prelude.{◌≡◌, ◌≤◌, [], Some, IfOk, OnOk, OnErr, map, vec_len, vec_capacity};
 ghost use Rattle.std.specs.Option.{option_copied, option_map};
 ghost use Rattle.tq_core.specs.Asked as asks;
 
@@ -9,9 +9,9 @@ use std::marker::Model;
 use tq_desk::{Desk, DeskAsk, DeskReply};
 use tq_live::{View, ViewAsk, ViewReply};
 use tq_node::{Node, NodeAsk, NodeReply};
-use tq_part::{Fault, Journaled};
+use tq_part::{AskFault, Fault, Journaled};
 use tq_shape::{Levels, Limits, Memory, Part, ServerId};
-use tq_tables::{DeskEntry, Journals, NodeEntry, Tables};
+use tq_tables::{DeskEntry, Journals, NodeEntry, Parts, Tables};
 use tq_world::Citation;
 
 /// All parts of a system, each beside its journal: its servers, its desk and its view. Each ask that a part answers is
@@ -48,7 +48,7 @@ impl Service {
     ghost use Rattle.tq_world.specs.CommittedReads.{HasCommittedReads};
     ghost use Rattle.tq_world.specs.Offered.{OffersBest};
     ghost use Rattle.tq_world.specs.Headline.{AreOffered, Headline};
-    ghost use Rattle.tq_tables.specs.Parts.{AreLegal};
+    ghost use Rattle.tq_tables.specs.Parts.{AreLegal, parts_of};
     ghost use Rattle.tq_tables.specs.Tables.{tables_of};
     ghost use Rattle.tq_core.specs.Asked.{answer_of, told_by};
 
@@ -91,11 +91,20 @@ impl Service {
         ensures headline { IfOk result (λ tables. Headline self.now tables) }
     {
         let _ = &self.levels;
+        let parts = self.parts(alloc)?;
+        let tables = Tables::over(alloc, parts, self.desk.entries())?;
+        Ok(tables)
+    }
+
+    /// The parts once more, as the journals leave them.
+    fn parts(&self, alloc: Global) -> Result<Parts, Memory>
+        ensures { IfOk result (λ parts. parts ≡ parts_of self.now) }
+    {
+        let _ = &self.levels;
         let nodes = copy_nodes(alloc, self.servers.as_slice())?;
         let desk = self.desk.part().copy(alloc)?;
         let view = self.view.part().copy(alloc)?;
-        let tables = Tables::over(alloc, nodes, desk, view, self.desk.entries())?;
-        Ok(tables)
+        Ok(Parts::new(nodes, desk, view))
     }
 
     /// The journals. It takes no memory.
@@ -156,116 +165,65 @@ impl Service {
         let _ = &self.levels;
     }
 
-    /// Why an ask of a part that has so many entries is refused, where it cites what does not stand.
-    fn refuse(&self, part: Part, entries: usize, citation: Citation) -> Refusal
-        ensures { Some result ≡ spec.refuse_entry self.now part entries (Some citation) }
+    /// Why an ask is not taken that cites what does not stand, of a part that has so many entries.
+    fn unfounded(&self, part: Part, entries: usize, citation: Citation) -> AskFault
+        ensures { Some (asks.refusal_of result) ≡ spec.refuse_entry self.now part entries (Some citation) }
     {
         if entries >= self.limits.entries() as usize {
-            return Refusal::JournalFull { part };
+            return AskFault::JournalFull { part };
         }
         let Citation { part, number } = citation;
-        Refusal::Unfounded { part, number }
-    }
-
-    /// Why an ask is refused before the server is asked: there is no such server, or what it cites does not stand.
-    fn refuse_node(&self, server: u64, ask: &NodeAsk) -> Option<Refusal>
-        ensures refused { IfSome result (λ reason. Some reason ≡ spec.refusal self.now (Step.Node server ask.now)) }
-        ensures there { IfNone result (world.item_at self.now.servers server ≡ Some (spec.server_journal self.now server)) }
-        ensures founded { IfNone result (founded.unfounded_in_node_ask self.now ask.now ≡ None) }
-    {
-        match self.server_journal(server) {
-            Some(entries) => match self.unfounded_in_node_ask(ask) {
-                Some(citation) => Some(self.refuse(Part::Server(server), entries.len(), citation)),
-                None => None,
-            },
-            None => Some(Refusal::NoSuchServer),
-        }
-    }
-
-    /// Why an ask is refused before the desk is asked: what it cites does not stand.
-    fn refuse_desk(&self, ask: &DeskAsk) -> Option<Refusal>
-        ensures refused { IfSome result (λ reason. Some reason ≡ spec.refusal self.now (Step.Desk ask.now)) }
-        ensures founded { IfNone result (founded.unfounded_in_desk_ask self.now ask.now ≡ None) }
-    {
-        match self.unfounded_in_desk_ask(ask) {
-            Some(citation) => Some(self.refuse(Part::Desk, self.desk_journal().len(), citation)),
-            None => None,
-        }
-    }
-
-    fn answer_node(
-        &mut self,
-        alloc: Global,
-        server: u64,
-        ask: NodeAsk,
-    ) -> Result<Answered<NodeReply>, Refusal>
-        requires there { world.item_at self.old.servers server ≡ Some (spec.server_journal self.old server) }
-        requires founded { founded.unfounded_in_node_ask self.old ask ≡ None }
-        ensures told { spec.IsTold self.old (Step.Node server ask) (told_by Reply.Node result) }
-        ensures after { OnOk result (self.new ≡ spec.world_after self.old (Step.Node server ask)) }
-        ensures err { OnErr result (self.new ≡ self.old) }
-        ensures committed_reads { HasCommittedReads self.new }
-        ensures headline { Headline self.new (tables_of self.new) }
-    {
-        let place = (server - 1) as usize;
-        let asked = self.servers[place].ask(alloc, ask);
-        self.ran();
-        refused(Part::Server(server), asked)
-    }
-
-    fn answer_desk(&mut self, alloc: Global, ask: DeskAsk) -> Result<Answered<DeskReply>, Refusal>
-        requires { founded.unfounded_in_desk_ask self.old ask ≡ None }
-        ensures told { spec.IsTold self.old (Step.Desk ask) (told_by Reply.Desk result) }
-        ensures after { OnOk result (self.new ≡ spec.world_after self.old (Step.Desk ask)) }
-        ensures err { OnErr result (self.new ≡ self.old) }
-        ensures committed_reads { HasCommittedReads self.new }
-        ensures headline { Headline self.new (tables_of self.new) }
-    {
-        let asked = self.desk.ask(alloc, ask);
-        self.ran();
-        refused(Part::Desk, asked)
+        AskFault::Unfounded { part, number }
     }
 
     /// Asks a server: the ask is entered into its journal with its reply, which is told with the number of the entry.
-    /// Where the ask is refused, or memory is, everything is as it was.
+    /// Where the ask is not taken, everything is as it was.
     pub fn ask_node(
         &mut self,
         alloc: Global,
-        server: u64,
+        server: ServerId,
         ask: NodeAsk,
-    ) -> Result<Answered<NodeReply>, Refusal>
-        ensures told { spec.IsTold self.old (Step.Node server ask) (told_by Reply.Node result) }
-        ensures after { OnOk result (self.new ≡ spec.world_after self.old (Step.Node server ask)) }
+    ) -> Result<Answered<NodeReply>, AskFault>
+        requires { server.levels ≡ self.old.levels }
+        ensures told { spec.IsTold self.old (Step.Node server.number ask) (told_by Reply.Node result) }
+        ensures after { OnOk result (self.new ≡ spec.world_after self.old (Step.Node server.number ask)) }
         ensures err { OnErr result (self.new ≡ self.old) }
         ensures committed_reads { HasCommittedReads self.new }
         ensures headline { Headline self.new (tables_of self.new) }
     {
-        if let Some(reason) = self.refuse_node(server, &ask) {
+        let number = server.number();
+        let place = (number - 1) as usize;
+        if let Some(citation) = self.unfounded_in_node_ask(&ask) {
             self.ran();
-            return Err(reason);
+            let entries = self.servers[place].entries().len();
+            return Err(self.unfounded(Part::Server(number), entries, citation));
         }
-        self.answer_node(alloc, server, ask)
+        let asked = self.servers[place].ask(alloc, ask);
+        self.ran();
+        told_at(Part::Server(number), asked)
     }
 
     /// Asks the desk: the ask is entered into its journal with its reply, which is told with the number of the entry.
-    /// Where the ask is refused, or memory is, everything is as it was.
-    pub fn ask_desk(&mut self, alloc: Global, ask: DeskAsk) -> Result<Answered<DeskReply>, Refusal>
+    /// Where the ask is not taken, everything is as it was.
+    pub fn ask_desk(&mut self, alloc: Global, ask: DeskAsk) -> Result<Answered<DeskReply>, AskFault>
         ensures told { spec.IsTold self.old (Step.Desk ask) (told_by Reply.Desk result) }
         ensures after { OnOk result (self.new ≡ spec.world_after self.old (Step.Desk ask)) }
         ensures err { OnErr result (self.new ≡ self.old) }
         ensures committed_reads { HasCommittedReads self.new }
         ensures headline { Headline self.new (tables_of self.new) }
     {
-        if let Some(reason) = self.refuse_desk(&ask) {
+        if let Some(citation) = self.unfounded_in_desk_ask(&ask) {
             self.ran();
-            return Err(reason);
+            return Err(self.unfounded(Part::Desk, self.desk_journal().len(), citation));
         }
-        self.answer_desk(alloc, ask)
+        let asked = self.desk.ask(alloc, ask);
+        self.ran();
+        told_at(Part::Desk, asked)
     }
 
     /// Asks the view: the ask is entered into its journal with its reply, which is told with the number of the entry.
-    /// Where the ask is refused, or memory is, everything is as it was.
-    pub fn ask_view(&mut self, alloc: Global, ask: ViewAsk) -> Result<Answered<ViewReply>, Refusal>
+    /// Where the ask is not taken, everything is as it was.
+    pub fn ask_view(&mut self, alloc: Global, ask: ViewAsk) -> Result<Answered<ViewReply>, AskFault>
         ensures told { spec.IsTold self.old (Step.View ask) (told_by Reply.View result) }
         ensures after { OnOk result (self.new ≡ spec.world_after self.old (Step.View ask)) }
         ensures offered { IfOk result (λ told. OffersBest self.old (Step.View ask) (answer_of Reply.View told)) }
@@ -275,7 +233,7 @@ impl Service {
     {
         let asked = self.view.ask(alloc, ask);
         self.ran();
-        refused(Part::View, asked)
+        told_at(Part::View, asked)
     }
 
     /// Takes a step: asks a part, and enters the ask with the part's reply into its journal. Where the step is
@@ -290,26 +248,32 @@ impl Service {
     {
         let _ = &self.levels;
         match step {
-            Step::Node { server, ask } => match self.ask_node(alloc, server, ask) {
-                Ok(told) => Ok(Answer {
-                    number: told.number,
-                    reply: Reply::Node(told.reply),
-                }),
-                Err(reason) => Err(reason),
-            },
+            Step::Node { server, ask } => {
+                let Some(id) = self.levels.server(server) else {
+                    self.ran();
+                    return Err(Refusal::NoSuchServer);
+                };
+                match self.ask_node(alloc, id, ask) {
+                    Ok(told) => Ok(Answer {
+                        number: told.number,
+                        reply: Reply::Node(told.reply),
+                    }),
+                    Err(fault) => Err(refusal_of(fault)),
+                }
+            }
             Step::Desk(ask) => match self.ask_desk(alloc, ask) {
                 Ok(told) => Ok(Answer {
                     number: told.number,
                     reply: Reply::Desk(told.reply),
                 }),
-                Err(reason) => Err(reason),
+                Err(fault) => Err(refusal_of(fault)),
             },
             Step::View(ask) => match self.ask_view(alloc, ask) {
                 Ok(told) => Ok(Answer {
                     number: told.number,
                     reply: Reply::View(told.reply),
                 }),
-                Err(reason) => Err(reason),
+                Err(fault) => Err(refusal_of(fault)),
             },
         }
     }
@@ -353,13 +317,24 @@ impl Service {
 }
 
 /// What an ask is told where its part told this.
-fn refused<R: Drop>(part: Part, asked: Result<Answered<R>, Fault>) -> Result<Answered<R>, Refusal>
-    ensures { result ≡ asks.refused_at part asked }
+fn told_at<R: Drop>(part: Part, asked: Result<Answered<R>, Fault>) -> Result<Answered<R>, AskFault>
+    ensures { result ≡ asks.told_at part asked }
 {
     match asked {
         Ok(told) => Ok(told),
-        Err(Fault::Memory) => Err(Refusal::Memory),
-        Err(Fault::JournalFull) => Err(Refusal::JournalFull { part }),
+        Err(Fault::Memory) => Err(AskFault::Memory),
+        Err(Fault::JournalFull) => Err(AskFault::JournalFull { part }),
+    }
+}
+
+/// Why a step is refused where its ask is not taken.
+fn refusal_of(fault: AskFault) -> Refusal
+    ensures { result ≡ asks.refusal_of fault }
+{
+    match fault {
+        AskFault::Memory => Refusal::Memory,
+        AskFault::JournalFull { part } => Refusal::JournalFull { part },
+        AskFault::Unfounded { part, number } => Refusal::Unfounded { part, number },
     }
 }
 

@@ -1,5 +1,5 @@
 pub mod Refusals
-pub mod DeskLog
+pub mod DecisionLog
 pub mod FinMaps
 pub mod NewFiles
 pub mod WrittenNames

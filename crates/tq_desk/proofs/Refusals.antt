@@ -9,20 +9,10 @@ use Rattle.tq_desk.specs.declared.ask.DeskRefusal.TheVariants as refusals
 use Rattle.tq_evidence.specs.declared.op.Op.{Op}
 use Rattle.tq_evidence.specs.declared.vote.Vote.{Vote}
 use Rattle.tq_evidence.specs.Evidence.{failed_rule, IsGood}
-use Rattle.tq_desk.specs.Log.{DeskView, is_begun, with_files, refuse, refuse_for, desk_refusal}
+use Rattle.tq_desk.specs.DeskStep.{DeskView, is_begun, with_files, desk_refusal}
+use Rattle.tq_shape.specs.Steps.{refuse, refuse_for}
 use Rattle.tq_shape.proofs.Places.{Some-same}
-
-pub refuse-none : (b : Bool) (r : DeskRefusal) (next : Option DeskRefusal) → refuse b r next ≡ None → next ≡ None
-refuse-none true r next h = cc
-refuse-none false r next h = h
-
-pub refuse-test : (b : Bool) (r : DeskRefusal) (next : Option DeskRefusal) → refuse b r next ≡ None → b ≡ false
-refuse-test true r next h = cc
-refuse-test false r next h = refl
-
-pub refuse_for-none : {A : Type 0} (o : Option A) (r : A → DeskRefusal) (next : Option DeskRefusal) → refuse_for o r next ≡ None → (o ≡ None) × (next ≡ None)
-refuse_for-none None r next h = (refl, h)
-refuse_for-none (Some x) r next h = cc
+use Rattle.tq_shape.specs.Unrefused.{refuse-none, refuse_for-none}
 
 pub refuse-other : (b : Bool) (r s : DeskRefusal) (next : Option DeskRefusal) → (r ≡ s → ⊥) → refuse b r next ≡ Some s → next ≡ Some s
 refuse-other true r s next ne h = absurd (ne (Some-same h))
@@ -39,9 +29,9 @@ refuse_for-decided (Some x) v next ne h = cc
 pub commit_open : (st : DeskView) (t : ℕ) (ops : List Op) (votes : List Vote) → desk_refusal st (asks.Commit t ops votes) ≡ None
     → (fin.get st.finals t ≡ None) × IsGood st.levels ops votes
 commit_open st t ops votes h =
-    let a = refuse-none (not (is_begun st t)) refusals.NoSuchTxn _ h in
+    let a = (refuse-none (not (is_begun st t)) refusals.NoSuchTxn _ h).1 in
     let b = refuse_for-none (fin.get st.finals t) refusals.Decided _ a in
-    let c = refuse-none (nat_lt st.limits.ops (length ops)) refusals.TooManyOps _ b.1 in
+    let c = (refuse-none (nat_lt st.limits.ops (length ops)) refusals.TooManyOps _ b.1).1 in
     let d = refuse_for-none (failed_rule st.levels ops votes) refusals.BadEvidence _ c in
     (b.0, d.0)
 

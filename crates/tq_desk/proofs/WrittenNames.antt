@@ -7,10 +7,11 @@ use Rattle.std.specs.FinMap as fin
 use Rattle.std.specs.List.{list_any}
 use Rattle.tq_store.specs.Copies.{name_cmp}
 use Rattle.tq_evidence.specs.declared.op.Op.{Op}
-use Rattle.tq_evidence.specs.Evidence.{is_write, same_name}
-use Rattle.tq_desk.specs.Log.{FileSet, with_file, with_files}
-use Rattle.tq_desk.specs.DeskJournal.{Commit, writes_file, written}
-use Rattle.tq_desk.specs.DeskLog.{is_written}
+use Rattle.tq_evidence.specs.Evidence.{is_write, writes_file}
+use Rattle.tq_store.specs.Names.{same_name}
+use Rattle.tq_desk.specs.DeskStep.{FileSet, with_file, with_files}
+use Rattle.tq_desk.specs.DeskJournal.{Commit, written}
+use Rattle.tq_desk.specs.DecisionLog.{is_written}
 
 or_assoc : (a b c : Bool) → ((a || b) || c) ≡ (a || (b || c))
 or_assoc true b c = refl

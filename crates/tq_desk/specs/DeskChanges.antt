@@ -11,7 +11,7 @@ use Rattle.tq_evidence.specs.declared.op.Op.{Op}
 use Rattle.tq_desk.specs.declared.change.DeskChange.{DeskChange}
 use Rattle.tq_desk.specs.declared.change.DeskChange.TheVariants.{Nothing, Begin, Abort, Commit}
 use Rattle.tq_evidence.specs.Evidence.{is_write}
-use Rattle.tq_desk.specs.Log.{DeskView, FileSet, aborted, cited, desk_refusal, with_file}
+use Rattle.tq_desk.specs.DeskStep.{DeskView, FileSet, aborted, cited, desk_refusal, with_file}
 
 -- the files that the ops write, one after another
 abbrev pub names_written : List Op → List (List ℕ)

@@ -14,8 +14,10 @@ use Rattle.tq_desk.specs.declared.ask.DeskReply.{DeskReply}
 use Rattle.tq_desk.specs.declared.ask.DeskReply.TheVariants as replies
 use Rattle.tq_evidence.specs.declared.op.Op.{Op}
 use Rattle.tq_evidence.specs.declared.vote.Vote.{Vote}
-use Rattle.tq_evidence.specs.Evidence.{is_write, same_name}
-use Rattle.tq_desk.specs.Log.{DeskView, FileSet, cited, desk_after, desk_reply, opening, with_files}
+use Rattle.tq_evidence.specs.Evidence.{is_write, writes_file}
+use Rattle.tq_store.specs.Names.{same_name}
+use Rattle.tq_desk.specs.DeskStep.{DeskView, FileSet, cited, desk_after, desk_reply, opening, with_files}
+use Rattle.tq_shape.specs.Steps.{or_else}
 
 -- what bounds a desk: the levels of its tree and its limits
 pub record DeskBounds : Type 0 where
@@ -61,14 +63,10 @@ ending (asks.Commit txn ops votes) (replies.Committed serial) t = if t == txn th
 ending (asks.Resolve txn) (replies.Verdict verdict) t = if t == txn then Some verdicts.Abort else None
 ending ask reply t = None
 
-abbrev pub first_of : Option Verdict → Option Verdict → Option Verdict
-first_of None later = later
-first_of (Some verdict) later = Some verdict
-
 -- how the transaction ended, if it has: the first end that is recorded for it
 abbrev pub final : List DeskEntry → ℕ → Option Verdict
 final [] t = None
-final (e ∷ earlier) t = first_of (final earlier t) (ending e.ask e.reply t)
+final (e ∷ earlier) t = or_else (final earlier t) (ending e.ask e.reply t)
 
 -- a commit as it was asked
 pub record Commit : Type 0 where
@@ -106,10 +104,6 @@ pub record VerdictAt (journal : List DeskEntry) (number txn : ℕ) (verdict : Ve
   pub gives : gives_verdict entry txn verdict
 
 -- ---- what is read and written, over the list of the commits alone
-
--- the op writes the file
-abbrev pub writes_file : List ℕ → Op → Bool
-writes_file file op = is_write op && same_name op.file file
 
 abbrev pub count_one : Option Op → ℕ → ℕ
 count_one None earlier = earlier

@@ -1,99 +1,120 @@
--- The desk's plans may be made, and lead where its asks do; its settings stay, and at most one transaction begins.
-use Rattle.std.specs.Prelude.{not, nat_lt}
-use Rattle.std.proofs.Common.{◌≡◌, ◌≤◌, ◌<◌, ◌+◌, ℕ, Bool, true, false, List, [], ◌∷◌, Option, Some, None, map, filter, fold, cond, length, refl, ap, arith}
+-- The step of the desk: what it has recorded, what it answers, and what it has recorded afterwards.
+use Rattle.std.specs.Prelude.{◌+◌, ℕ, Bool, not, ◌&&◌, nat_lt, nat_le, List, map, filter, fold, length, Option, Some, None, if◌then◌else◌, is_some}
 use Rattle.std.specs.FinMap as fin
+use Rattle.std.specs.Ordering.{nat_cmp}
 use Rattle.tq_shape.specs.Limits.{LimitsView}
-use Rattle.tq_node.specs.declared.ask.Verdict.{Verdict}
+use Rattle.tq_store.specs.Copies.{name_cmp}
+use Rattle.tq_node.specs.declared.ask.CitedVote.{CitedVote}
+use Rattle.tq_node.specs.declared.ask.Verdict as verdict
+use Rattle.tq_node.specs.declared.ask.Verdict.TheVariants as verdicts
 use Rattle.tq_desk.specs.declared.ask.DeskAsk.{DeskAsk}
-use Rattle.tq_desk.specs.declared.ask.DeskAsk.TheVariants as asks
+use Rattle.tq_desk.specs.declared.ask.DeskAsk.TheVariants.{Begin, Commit, Resolve}
 use Rattle.tq_desk.specs.declared.ask.DeskRefusal.{DeskRefusal}
-use Rattle.tq_desk.specs.declared.ask.DeskRefusal.TheVariants as refusals
+use Rattle.tq_desk.specs.declared.ask.DeskRefusal.TheVariants.{NoSuchTxn, Decided, TooManyOps, BadEvidence, TooManyFiles}
+use Rattle.tq_desk.specs.declared.ask.DeskReply.{DeskReply}
+use Rattle.tq_desk.specs.declared.ask.DeskReply.TheVariants.{Txn, Verdict, Committed, Refused}
 use Rattle.tq_evidence.specs.declared.op.Op.{Op}
 use Rattle.tq_evidence.specs.declared.vote.Vote.{Vote}
-use Rattle.tq_desk.specs.declared.change.DeskChange.{DeskChange}
-use Rattle.tq_desk.specs.declared.change.DeskChange.TheVariants as changes
 use Rattle.tq_evidence.specs.Evidence.{failed_rule, is_write}
-use Rattle.tq_desk.specs.Log.{DeskView, FileSet, committed, desk_after, desk_answered, desk_refusal, is_begun, opening, refuse, refuse_for, resolved, state_at, with_file, with_files}
-use Rattle.tq_desk.specs.DeskChanges.{abort_unless, change_at, change_of, desk_change, desk_changed, names_written, with_names, DeskFits}
+use Rattle.tq_shape.specs.Steps.{refuse, refuse_for, state_at}
 
--- ---- a plan may be made
+-- how each transaction ended that has
+abbrev pub Finals : Type 0
+Finals = fin.FinMap nat_cmp verdict.Verdict
 
-next-none : (b : Bool) (r : DeskRefusal) (next : Option DeskRefusal) → refuse b r next ≡ None → next ≡ None
-next-none true r next h = cc
-next-none false r next h = h
+-- a set of files: a map with nothing at each
+abbrev pub FileSet : Type 0
+FileSet = fin.FinMap name_cmp (Unit {0})
 
-value-none : {A : Type 0} (o : Option A) (r : A → DeskRefusal) (next : Option DeskRefusal) → refuse_for o r next ≡ None → o ≡ None
-value-none None r next h = refl
-value-none (Some x) r next h = cc
+-- a desk: its tree's levels and its limits, how many transactions were begun, how each ended that has,
+-- how many committed, and the files that they wrote
+pub record DeskView : Type 0 where
+  pub levels : ℕ
+  pub limits : LimitsView
+  pub begun : ℕ
+  pub finals : Finals
+  pub commits : ℕ
+  pub files : FileSet
 
-not_ended : (old : DeskView) (txn : ℕ) (ops : List Op) (votes : List Vote) → desk_refusal old (asks.Commit txn ops votes) ≡ None → fin.get old.finals txn ≡ None
-not_ended old txn ops votes h = value-none (fin.get old.finals txn) refusals.Decided _ (next-none (not (is_begun old txn)) refusals.NoSuchTxn _ h)
+abbrev pub is_begun : DeskView → ℕ → Bool
+is_begun old txn = nat_le 1 txn && nat_le txn old.begun
 
-abort_fits : (old : DeskView) (txn : ℕ) (ended : Option Verdict) → fin.get old.finals txn ≡ ended → DeskFits old (abort_unless ended txn)
-abort_fits old txn None h = h
-abort_fits old txn (Some verdict) h = tt
+-- a commit's record: the servers and numbers of its votes
+abbrev pub citation : Vote → CitedVote
+citation vote = record { server = vote.server; number = vote.number }
 
-fits_at : (old : DeskView) (change : DeskChange) (reason : Option DeskRefusal) → (reason ≡ None → DeskFits old change) → DeskFits old (change_at reason change)
-fits_at old change None h = h refl
-fits_at old change (Some reason) h = tt
+abbrev pub cited : List Vote → List CitedVote
+cited votes = map citation votes
 
-pub change_fits : (old : DeskView) (ask : DeskAsk) → DeskFits old (desk_change old ask)
-change_fits old asks.Begin = tt
-change_fits old (asks.Resolve txn) =
-    fits_at old (change_of old (asks.Resolve txn)) (desk_refusal old (asks.Resolve txn)) (λ h. abort_fits old txn (fin.get old.finals txn) refl)
-change_fits old (asks.Commit txn ops votes) =
-    fits_at old (change_of old (asks.Commit txn ops votes)) (desk_refusal old (asks.Commit txn ops votes)) (not_ended old txn ops votes)
+abbrev pub with_file : FileSet → List ℕ → FileSet
+with_file files name = fin.insert files name tt
 
--- ---- a plan leads where its ask does
+-- the files, with those that the ops write
+abbrev pub with_files : FileSet → List Op → FileSet
+with_files files ops = fold (λ done op. with_file done op.file) files (filter is_write ops)
 
-pub names_same : (files : FileSet) (ops : List Op) → with_names files (names_written ops) ≡ with_files files ops
-names_same files ops = fused files (filter is_write ops)
-  where
-    fused : (files : FileSet) (ops : List Op) → fold with_file files (map (λ op. op.file) ops) ≡ fold (λ done op. with_file done op.file) files ops
-    fused files [] = refl
-    fused files (op ∷ ops) = fused (with_file files op.file) ops
+-- the op writes a file that is not among these
+abbrev pub is_new : FileSet → Op → Bool
+is_new files op = is_write op && not (is_some (fin.get files op.file))
 
-abort_leads : (old : DeskView) (txn : ℕ) (ended : Option Verdict) → desk_changed old (abort_unless ended txn) ≡ record old { finals = resolved ended old.finals txn }
-abort_leads old txn None = refl
-abort_leads old txn (Some verdict) = refl
+abbrev pub count_new : FileSet → List Op → ℕ
+count_new files ops = length (filter (is_new files) ops)
 
-leads_of : (old : DeskView) (ask : DeskAsk) → desk_changed old (change_of old ask) ≡ desk_answered old ask
-leads_of old asks.Begin = refl
-leads_of old (asks.Resolve txn) = abort_leads old txn (fin.get old.finals txn)
-leads_of old (asks.Commit txn ops votes) = ap (λ files. record (committed old txn ops votes) { files = files }) (names_same old.files ops)
+abbrev pub commit_refusal : DeskView → ℕ → List Op → List Vote → Option DeskRefusal
+commit_refusal old txn ops votes =
+    refuse (not (is_begun old txn)) NoSuchTxn
+    (refuse_for (fin.get old.finals txn) Decided
+    (refuse (nat_lt old.limits.ops (length ops)) TooManyOps
+    (refuse_for (failed_rule old.levels ops votes) BadEvidence
+    (refuse (nat_lt old.limits.files (fin.len (with_files old.files ops))) TooManyFiles None))))
 
-leads_at : (old new : DeskView) (change : DeskChange) (reason : Option DeskRefusal) → desk_changed old change ≡ new → desk_changed old (change_at reason change) ≡ state_at reason old new
-leads_at old new change None h = h
-leads_at old new change (Some reason) h = refl
+abbrev pub desk_refusal : DeskView → DeskAsk → Option DeskRefusal
+desk_refusal old Begin = None
+desk_refusal old (Resolve txn) = refuse (not (is_begun old txn)) NoSuchTxn None
+desk_refusal old (Commit txn ops votes) = commit_refusal old txn ops votes
 
-pub change_leads : (old : DeskView) (ask : DeskAsk) → desk_changed old (desk_change old ask) ≡ desk_after old ask
-change_leads old ask = leads_at old (desk_answered old ask) (change_of old ask) (desk_refusal old ask) (leads_of old ask)
+-- how the transaction ended: Abort where nothing is recorded yet
+abbrev pub final_or_abort : Option verdict.Verdict → verdict.Verdict
+final_or_abort None = verdicts.Abort
+final_or_abort (Some final) = final
 
--- ---- what stays
+abbrev pub desk_answer : DeskView → DeskAsk → DeskReply
+desk_answer old Begin = Txn (old.begun + 1)
+desk_answer old (Resolve txn) = Verdict (final_or_abort (fin.get old.finals txn))
+desk_answer old (Commit txn ops votes) = Committed (old.commits + 1)
 
-opens_same : (old new : DeskView) (reason : Option DeskRefusal) → opening new.levels new.limits ≡ opening old.levels old.limits → opening (state_at reason old new).levels (state_at reason old new).limits ≡ opening old.levels old.limits
-opens_same old new None h = h
-opens_same old new (Some reason) h = refl
+-- what is recorded stays, and where nothing is the transaction aborts
+abbrev pub resolved : Option verdict.Verdict → Finals → ℕ → Finals
+resolved None finals txn = fin.insert finals txn verdicts.Abort
+resolved (Some final) finals txn = finals
 
-answered_opens : (old : DeskView) (ask : DeskAsk) → opening (desk_answered old ask).levels (desk_answered old ask).limits ≡ opening old.levels old.limits
-answered_opens old asks.Begin = refl
-answered_opens old (asks.Resolve txn) = refl
-answered_opens old (asks.Commit txn ops votes) = refl
+abbrev pub aborted : DeskView → ℕ → DeskView
+aborted old txn = record old { finals = fin.insert old.finals txn verdicts.Abort }
 
-pub keeps_settings : (old : DeskView) (ask : DeskAsk) → opening (desk_after old ask).levels (desk_after old ask).limits ≡ opening old.levels old.limits
-keeps_settings old ask = opens_same old (desk_answered old ask) (desk_refusal old ask) (answered_opens old ask)
+abbrev pub committed : DeskView → ℕ → List Op → List Vote → DeskView
+committed old txn ops votes =
+    record old {
+      finals = fin.insert old.finals txn (verdicts.Commit (cited votes));
+      commits = old.commits + 1;
+      files = with_files old.files ops;
+    }
 
-one_at : (old new : DeskView) (n : ℕ) (reason : Option DeskRefusal) → old.begun < n → new.begun ≤ old.begun + 1 → (state_at reason old new).begun < n + 1
-one_at old new n None less most = omega arith
-one_at old new n (Some reason) less most = omega arith
+abbrev pub desk_answered : DeskView → DeskAsk → DeskView
+desk_answered old Begin = record old { begun = old.begun + 1 }
+desk_answered old (Resolve txn) = record old { finals = resolved (fin.get old.finals txn) old.finals txn }
+desk_answered old (Commit txn ops votes) = committed old txn ops votes
 
-one_more : (old : DeskView) (ask : DeskAsk) → (desk_answered old ask).begun ≤ old.begun + 1
-one_more old asks.Begin = omega arith
-one_more old (asks.Resolve txn) = omega arith
-one_more old (asks.Commit txn ops votes) = omega arith
+abbrev pub reply_at : Option DeskRefusal → DeskReply → DeskReply
+reply_at None reply = reply
+reply_at (Some reason) reply = Refused reason
 
-pub stays_ready : (old : DeskView) (n : ℕ) (ask : DeskAsk) → old.begun < n → (desk_after old ask).begun < n + 1
-stays_ready old n ask less = one_at old (desk_answered old ask) n (desk_refusal old ask) less (one_more old ask)
+abbrev pub desk_reply : DeskView → DeskAsk → DeskReply
+desk_reply old ask = reply_at (desk_refusal old ask) (desk_answer old ask)
 
-pub opens_ready : (levels : ℕ) (limits : LimitsView) → (opening levels limits).begun < 1
-opens_ready levels limits = omega arith
+-- the desk after an ask: a refusal leaves it as it was
+abbrev pub desk_after : DeskView → DeskAsk → DeskView
+desk_after old ask = state_at (desk_refusal old ask) old (desk_answered old ask)
+
+-- the desk that was asked nothing
+abbrev pub opening : ℕ → LimitsView → DeskView
+opening levels limits = record { levels = levels; limits = limits; begun = 0; finals = fin.empty; commits = 0; files = fin.empty }

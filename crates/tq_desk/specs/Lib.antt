@@ -1,7 +1,7 @@
 pub use Rattle.tq_evidence.specs.Evidence
-pub mod Log
+pub mod DeskStep
 pub mod Views
 pub mod DeskJournal
-pub mod DeskLog
+pub mod DecisionLog
 pub mod DeskChanges
-pub mod DeskStep
+pub mod DeskPlans

@@ -3,10 +3,10 @@ ghost use Rattle.std.specs.FinMap as fin;
 ghost use Rattle.std.specs.Option.{option_copied};
 ghost use Rattle.tq_desk.specs.DeskJournal as log;
 ghost use Rattle.tq_desk.specs.DeskJournal.{DeskBounds, DeskEntry, IsLegalDesk, desk_state};
-ghost use Rattle.tq_desk.specs.DeskLog.{AnswersByLog};
+ghost use Rattle.tq_desk.specs.DecisionLog.{AnswersByLog};
 ghost use Rattle.tq_desk.specs.DeskChanges.{desk_change, desk_changed, DeskFits};
 ghost use Rattle.tq_evidence.specs.Evidence.{ops_rise};
-ghost use Rattle.tq_desk.specs.Log as spec;
+ghost use Rattle.tq_desk.specs.DeskStep as spec;
 
 use crate::files::{WrittenFiles, written_names};
 use crate::finals::Finals;
@@ -33,7 +33,7 @@ pub struct Desk {
 impl Model for Desk {
     ghost use Rattle.std.specs.Prelude.{◌≤◌};
     ghost use Rattle.std.specs.FinMap as map;
-    ghost use Rattle.tq_desk.specs.Log.{DeskView};
+    ghost use Rattle.tq_desk.specs.DeskStep.{DeskView};
     ghost use Rattle.tq_desk.specs.Views.{desk_code};
     ghost use Rattle.tq_node.specs.contracts.ask.Verdict as verdict_type;
 

@@ -1,12 +1,12 @@
 ghost use Rattle.std.specs.Prelude.{◌≡◌, ◌+◌, ◌<◌, ◌≤◌, IfOk, OnOk, is_some, length};
 ghost use Rattle.std.specs.FinMap as fin;
-ghost use Rattle.tq_desk.specs.Log as spec;
+ghost use Rattle.tq_desk.specs.DeskStep as spec;
 ghost use Rattle.tq_desk.specs.DeskChanges.{names_written, with_names};
 
 use indexmap::IndexMap;
 use std::alloc::Global;
 use std::marker::Model;
-use tq_evidence::{Op, is_write};
+use tq_evidence::Op;
 use tq_shape::{Memory, Seq};
 use tq_store::FileName;
 
@@ -95,7 +95,7 @@ impl WrittenFiles {
     fn is_new(&self, op: &Op) -> bool
         ensures { result ≡ spec.is_new self.now.files op.now }
     {
-        is_write(op) && !self.contains(op.file)
+        op.is_write() && !self.contains(op.file)
     }
 }
 
@@ -111,7 +111,7 @@ fn written(alloc: Global, ops: &[Op]) -> Result<Vec<FileName>, Memory>
 {
     let mut names = Vec::new(alloc);
     for op in ops {
-        if is_write(op) {
+        if op.is_write() {
             names.push(op.file)?;
         }
     }

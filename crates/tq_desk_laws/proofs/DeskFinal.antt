@@ -9,7 +9,7 @@ use Rattle.std.specs.declared.cmp.Ordering.{Ordering}
 use Rattle.std.specs.declared.cmp.Ordering.TheVariants.{Less, Equal, Greater}
 use Rattle.std.proofs.lemmas.Cmp.{tied_itself}
 use Rattle.std.proofs.lemmas.Bool.Decides.{nat_tests}
-use Rattle.std.proofs.lemmas.Bool.{cases_Bool, cond-true, cond-false, false≢true}
+use Rattle.std.proofs.lemmas.Bool.{cases_Bool, cond-true, cond-false, false≢true, not-false}
 use Rattle.tq_shape.specs.Journal.{Has}
 use Rattle.tq_coterie.specs.Coterie.{is_quorum}
 use Rattle.tq_node.specs.declared.ask.Verdict.{Verdict}
@@ -23,14 +23,17 @@ use Rattle.tq_desk.specs.declared.ask.DeskReply.TheVariants as replies
 use Rattle.tq_evidence.specs.declared.op.Op.{Op}
 use Rattle.tq_evidence.specs.declared.vote.Vote.{Vote}
 use Rattle.tq_evidence.specs.Evidence.{failed_rule, IsGood}
-use Rattle.tq_desk.specs.Log.{DeskView, Finals, is_begun, cited, refuse, resolved, desk_refusal, final_or_abort, desk_answer, desk_answered, reply_at, state_at, desk_reply, desk_after}
+use Rattle.tq_desk.specs.DeskStep.{DeskView, Finals, is_begun, cited, resolved, desk_refusal, final_or_abort, desk_answer, desk_answered, reply_at, desk_reply, desk_after}
+use Rattle.tq_shape.specs.Steps.{refuse, state_at}
 use Rattle.tq_desk.specs.DeskJournal.{DeskBounds, DeskEntry, desk_state, IsLegalDesk, final, Commit, with_commit, commits, gives_verdict, VerdictAt}
-use Rattle.tq_desk.specs.DeskLog.{EndsAreTold}
+use Rattle.tq_desk.specs.DecisionLog.{EndsAreTold}
 use Rattle.tq_desk_laws.specs.Laws.{DeskLaws, IsCited, IsShown}
 use Rattle.tq_shape.proofs.Places.{at-cases, at-old, at-new, Some-same}
 use Rattle.tq_desk_laws.proofs.Shown.{shown_by}
-use Rattle.tq_desk.proofs.Refusals.{refuse-test, commit_decided, commit_open}
-use Rattle.tq_desk.proofs.DeskLog.{desk_keeps, ends_stay}
+use Rattle.tq_desk.proofs.Refusals.{commit_decided, commit_open}
+use Rattle.tq_desk.proofs.DecisionLog.{desk_keeps, ends_stay}
+use Rattle.tq_shape.specs.Unrefused.{refuse-none}
+use Rattle.tq_shape.proofs.Orderings.{is_eq-Equal}
 
 -- ---- commits
 
@@ -48,11 +51,6 @@ commit-old a r list c h = h
 
 get_same : (m : Finals) (t : ℕ) (v : Verdict) → fin.get (fin.insert m t v) t ≡ Some v
 get_same m t v = fin.get-insert nat_cmp_total m t v t ∙ cond-true (eq_by_cmp nat_cmp t t) (Some v) (fin.get m t) (ap is_eq (tied_itself nat_cmp_total t))
-
-is_eq-Equal : (r : Ordering) → is_eq r ≡ true → r ≡ Equal
-is_eq-Equal Less h = absurd (false≢true h)
-is_eq-Equal Equal h = refl
-is_eq-Equal Greater h = absurd (false≢true h)
 
 get_cases : (m : Finals) (u : ℕ) (v : Verdict) (t : ℕ) → ((t ≡ u) × (fin.get (fin.insert m u v) t ≡ Some v)) ⊎ (fin.get (fin.insert m u v) t ≡ fin.get m t)
 get_cases m u v t =
@@ -225,10 +223,6 @@ desk_laws bounds = record {
 more_begun : (t n : ℕ) → (nat_le 1 t && nat_le t n) ≡ true → (nat_le 1 t && nat_le t (n + 1)) ≡ true
 more_begun t n h = grind (arith, nat_tests)
 
-begun_of : (b : Bool) → not b ≡ false → b ≡ true
-begun_of true h = refl
-begun_of false h = cc
-
 -- each transaction that has ended was begun
 abbrev AreBegun : DeskView → Type 0
 AreBegun st = (t : ℕ) (v : Verdict) → fin.get st.finals t ≡ Some v → is_begun st t ≡ true
@@ -247,9 +241,9 @@ resolved_begun st u (Some w) begun is t v h = begun t v h
 answered_begun : (st : DeskView) (a : DeskAsk) → desk_refusal st a ≡ None → AreBegun st → AreBegun (desk_answered st a)
 answered_begun st asks.Begin o begun t v h = more_begun t st.begun (begun t v h)
 answered_begun st (asks.Resolve u) o begun t v h =
-    resolved_begun st u (fin.get st.finals u) begun (begun_of (is_begun st u) (refuse-test (not (is_begun st u)) refusals.NoSuchTxn None o)) t v h
+    resolved_begun st u (fin.get st.finals u) begun (not-false (is_begun st u) ((refuse-none (not (is_begun st u)) refusals.NoSuchTxn None o).0)) t v h
 answered_begun st (asks.Commit u ops votes) o begun t v h =
-    put_begun st u (verdicts.Commit (cited votes)) begun (begun_of (is_begun st u) (refuse-test (not (is_begun st u)) refusals.NoSuchTxn _ o)) t v h
+    put_begun st u (verdicts.Commit (cited votes)) begun (not-false (is_begun st u) ((refuse-none (not (is_begun st u)) refusals.NoSuchTxn _ o).0)) t v h
 
 after_begun : (st : DeskView) (a : DeskAsk) → AreBegun st → AreBegun (desk_after st a)
 after_begun st a begun = by (desk_refusal st a) refl

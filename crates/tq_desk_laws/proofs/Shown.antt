@@ -16,12 +16,13 @@ use Rattle.tq_node.specs.declared.ask.HeldLock.{HeldLock}
 use Rattle.tq_evidence.specs.declared.grant.Grant.{Grant}
 use Rattle.tq_evidence.specs.declared.op.Op.{Op}
 use Rattle.tq_evidence.specs.declared.vote.Vote.{Vote}
-use Rattle.tq_evidence.specs.Evidence.{same_name, is_write, servers_of, has_server, rises, are_quorums, are_exclusive, covers, are_covered, place_of, put_op, writes_by_file, is_write_of, are_writes_at, have_writes, greatest, stands_before, ops_rise, reads_copy, has_version, have_versions, failed, IsGood}
+use Rattle.tq_evidence.specs.Evidence.{is_write, servers_of, has_server, rises, are_quorums, are_exclusive, covers, are_covered, place_of, put_op, writes_by_file, is_write_of, are_writes_at, have_writes, greatest, stands_before, ops_rise, reads_copy, has_version, have_versions, failed, IsGood}
+use Rattle.tq_store.specs.Names.{same_name}
 use Rattle.tq_evidence.specs.Evidence as evidence
 use Rattle.tq_desk_laws.specs.Laws.{HasTop, IsCovered, IsShown}
-use Rattle.tq_evidence.proofs.WriteOps.{Has-filter, Has-put, filter-Has, put-Has}
-use Rattle.tq_shape.proofs.Places.{Has-map, any-Has, Has-any, all-Has, find-Has}
-use Rattle.tq_evidence.proofs.SameName.{same_name-is}
+use Rattle.tq_evidence.proofs.WriteOps.{Has-put, put-Has}
+use Rattle.tq_shape.proofs.Places.{Has-filter, filter-Has, Has-map, any-Has, Has-any, all-Has, find-Has}
+use Rattle.tq_store.proofs.SameName.{same_name-is}
 
 -- ---- the rules that hold
 

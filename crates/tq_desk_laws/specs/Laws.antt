@@ -13,7 +13,7 @@ use Rattle.tq_evidence.specs.declared.grant.Grant.{Grant}
 use Rattle.tq_evidence.specs.declared.op.Op.{Op}
 use Rattle.tq_evidence.specs.declared.vote.Vote.{Vote}
 use Rattle.tq_evidence.specs.Evidence.{is_write, servers_of}
-use Rattle.tq_desk.specs.Log.{cited}
+use Rattle.tq_desk.specs.DeskStep.{cited}
 use Rattle.tq_desk.specs.DeskJournal.{Commit, commits, DeskBounds, DeskEntry, final, IsLegalDesk, VerdictAt}
 
 -- the verdict is Commit and cites the vote

@@ -1,13 +1,13 @@
 ghost use Rattle.std.specs.Prelude.{List};
 ghost use Rattle.tq_desk.specs.DeskJournal.{DeskBounds, DeskEntry, IsLegalDesk, desk_state};
-ghost use Rattle.tq_desk.specs.DeskLog.{AreWritten, EndsAreTold, EndsStay, IsDeskLog, Keeps};
+ghost use Rattle.tq_desk.specs.DecisionLog.{AreWritten, EndsAreTold, EndsStay, IsDecisionLog, Keeps};
 ghost use Rattle.tq_desk_laws.specs.Laws.{DeskLaws};
 
 /// The journals of a desk, as the desk's step has them, are the decision logs: each reply is what the entries before
 /// it say. After each the desk keeps what the journal says, and an end once recorded stays and is told.
 pub fn decision_log()
-    ensures log { (bounds : DeskBounds) (journal : List DeskEntry) → IsLegalDesk bounds journal → IsDeskLog bounds journal }
-    ensures legal { (bounds : DeskBounds) (journal : List DeskEntry) → IsDeskLog bounds journal → IsLegalDesk bounds journal }
+    ensures log { (bounds : DeskBounds) (journal : List DeskEntry) → IsLegalDesk bounds journal → IsDecisionLog bounds journal }
+    ensures legal { (bounds : DeskBounds) (journal : List DeskEntry) → IsDecisionLog bounds journal → IsLegalDesk bounds journal }
     ensures keeps { (bounds : DeskBounds) (journal : List DeskEntry) → IsLegalDesk bounds journal → Keeps bounds journal (desk_state bounds journal) }
     ensures files { AreWritten }
     ensures ends_stay { EndsStay }

@@ -3,8 +3,8 @@ use Rattle.std.proofs.Common.{◌≡◌, ℕ, ◌<◌, ◌+◌, ◌-◌, length,
 use Rattle.std.proofs.lemmas.Bool.{and_parts, eq-eqb}
 use Rattle.std.proofs.lemmas.List.{at_drop_more, take_all, take-append-drop}
 use Rattle.tq_evidence.specs.declared.grant.Grant.{Grant}
-use Rattle.tq_evidence.specs.Evidence.{rises}
-use Rattle.tq_evidence.specs.InOrder.{granters, is_granter}
+use Rattle.tq_evidence.specs.Evidence.{rises, granters}
+use Rattle.tq_evidence.specs.InOrder.{is_granter}
 use Rattle.tq_evidence.proofs.Merging.{GrantsAbove, apart, apart_up, grants_above, later_grants}
 
 -- those after it ascend

@@ -8,9 +8,9 @@ use Rattle.std.specs.List.{list_any}
 use Rattle.std.proofs.lemmas.Bool.Decides.{nat_tests}
 use Rattle.tq_store.specs.Copies.{name_cmp}
 use Rattle.tq_node.specs.declared.ask.HeldLock.{HeldLock}
-use Rattle.tq_evidence.specs.Evidence.{same_name}
+use Rattle.tq_store.specs.Names.{same_name}
 use Rattle.tq_evidence.specs.Held.{LeastSince, is_since, least_since, lesser, noted, noted_all}
-use Rattle.tq_evidence.proofs.SameName.{same_name-is}
+use Rattle.tq_store.proofs.SameName.{same_name-is}
 
 min-le : (known since number : ℕ) → nat_le (min since known) number ≡ (nat_le known number || nat_le since number)
 min-le known since number = grind (arith, nat_tests)

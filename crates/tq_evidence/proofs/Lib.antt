@@ -1,4 +1,3 @@
-pub mod SameName
 pub mod WriteOps
 pub mod HeldTable
 pub mod Merging

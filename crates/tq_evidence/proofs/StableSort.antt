@@ -17,7 +17,7 @@ use Rattle.tq_store.specs.Copies.{name_cmp}
 use Rattle.tq_evidence.specs.declared.op.Op.{Op}
 use Rattle.tq_evidence.specs.Evidence.{place_among, put_op}
 use Rattle.tq_evidence.proofs.Sorting.{put-now}
-use Rattle.tq_evidence.proofs.WriteOps.{Has-filter}
+use Rattle.tq_shape.proofs.Places.{Has-filter}
 
 -- ---- the order of names
 

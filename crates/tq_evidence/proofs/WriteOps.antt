@@ -8,7 +8,7 @@ use Rattle.tq_shape.specs.Journal.{Has}
 use Rattle.tq_evidence.specs.declared.op.Op.{Op}
 use Rattle.tq_evidence.specs.Evidence.{is_write, place_of, put_op, rises, servers_of, writes_by_file}
 use Rattle.tq_evidence.specs.InOrder.{are_in_order}
-use Rattle.tq_shape.proofs.Places.{Has-append, append-Has, all-Has}
+use Rattle.tq_shape.proofs.Places.{Has-append, append-Has, all-Has, Has-filter, filter-Has}
 
 Has-take_drop : {A : Type 0} (n : ℕ) (xs : List A) (x : A) → Has (take n xs) x ⊎ Has (drop n xs) x → Has xs x
 Has-take_drop {A} n xs x h = subst (λ (ys : List A). Has ys x) (take-append-drop n xs) (append-Has (take n xs) (drop n xs) x h)
@@ -46,25 +46,6 @@ put-Has [] done x (inr h) = absurd h
 put-Has (op ∷ ops) done x (inl h) = put-Has ops (put_op done op) x (inl (insert-Has done (place_of op.file done) op x (inr h)))
 put-Has (op ∷ ops) done x (inr (inl e)) = put-Has ops (put_op done op) x (inl (insert-Has done (place_of op.file done) op x (inl e)))
 put-Has (op ∷ ops) done x (inr (inr h)) = put-Has ops (put_op done op) x (inr h)
-
-pub Has-filter : {A : Type 0} (p : A → Bool) (xs : List A) (x : A) → Has (filter p xs) x → Has xs x × (p x ≡ true)
-Has-filter p [] x h = absurd h
-Has-filter p (y ∷ xs) x h = by (p y) refl h (λ k. Has-filter p xs x k)
-  where
-    by : (b : Bool) → p y ≡ b → Has (cond b (y ∷ filter p xs) (filter p xs)) x → (Has (filter p xs) x → Has xs x × (p x ≡ true)) → Has (y ∷ xs) x × (p x ≡ true)
-    by true t (inl e) ih = (inl e, ap p (sym e) ∙ t)
-    by true t (inr k) ih = let r = ih k in (inr r.0, r.1)
-    by false t k ih = let r = ih k in (inr r.0, r.1)
-
-pub filter-Has : {A : Type 0} (p : A → Bool) (xs : List A) (x : A) → Has xs x → p x ≡ true → Has (filter p xs) x
-filter-Has p [] x h t = h
-filter-Has p (y ∷ xs) x h t = by (p y) refl h (λ k. filter-Has p xs x k t)
-  where
-    by : (b : Bool) → p y ≡ b → Has (y ∷ xs) x → (Has xs x → Has (filter p xs) x) → Has (cond b (y ∷ filter p xs) (filter p xs)) x
-    by true u (inl e) ih = inl e
-    by true u (inr k) ih = inr (ih k)
-    by false u (inl e) ih = absurd (true≢false (sym (ap p e ∙ t) ∙ u))
-    by false u (inr k) ih = ih k
 
 Has-all : {A : Type 0} (p : A → Bool) (xs : List A) → ((x : A) → Has xs x → p x ≡ true) → list_all p xs ≡ true
 Has-all p [] each = refl

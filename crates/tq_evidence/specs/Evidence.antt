@@ -12,16 +12,22 @@ use Rattle.tq_evidence.specs.declared.grant.Grant.{Grant}
 use Rattle.tq_evidence.specs.declared.op.Op.{Op}
 use Rattle.tq_evidence.specs.declared.op.OpKind.TheVariants.{Read, Write}
 use Rattle.tq_evidence.specs.declared.vote.Vote.{Vote}
-
-abbrev pub same_name : List ℕ → List ℕ → Bool
-same_name = pointwise (◌==◌)
+use Rattle.tq_store.specs.Names.{same_name}
 
 abbrev pub is_write : Op → Bool
 is_write op = elim op.kind [ Read ↦ false | Write ↦ true ]
 
+-- the op writes the file
+abbrev pub writes_file : List ℕ → Op → Bool
+writes_file file op = is_write op && same_name op.file file
+
+-- the servers of grants
+abbrev pub granters : List Grant → List ℕ
+granters grants = map (λ grant. grant.server) grants
+
 -- the servers of an op are those of its grants
 abbrev pub servers_of : Op → List ℕ
-servers_of op = map (λ grant. grant.server) op.grants
+servers_of op = granters op.grants
 
 abbrev pub has_server : Op → ℕ → Bool
 has_server op server = list_any (λ grant. grant.server == server) op.grants

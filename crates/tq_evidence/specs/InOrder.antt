@@ -13,10 +13,6 @@ use Rattle.tq_evidence.specs.Held.{is_since, least_since}
 abbrev pub are_in_order : List Op → Bool
 are_in_order ops = list_all (λ op. rises (servers_of op)) ops
 
--- the servers of grants
-abbrev pub granters : List Grant → List ℕ
-granters grants = map (λ grant. grant.server) grants
-
 abbrev pub is_granter : List Grant → ℕ → Bool
 is_granter grants server = list_any (λ grant. grant.server == server) grants
 

@@ -12,7 +12,7 @@ mod servers;
 mod versions;
 mod writes;
 
-use crate::{Op, OpKind, Vote};
+use crate::{Op, Vote};
 use coverage::are_covered;
 use exclusive::are_exclusive;
 use members::are_quorums;
@@ -49,14 +49,4 @@ pub fn failed_rule(
         return Ok(Some(6));
     }
     Ok(None)
-}
-
-/// Whether the operation writes.
-pub fn is_write(op: &Op) -> bool
-    ensures { result ≡ spec.is_write op.now }
-{
-    match op.kind {
-        OpKind::Read => false,
-        OpKind::Write => true,
-    }
 }

@@ -3,10 +3,12 @@
 
 mod evidence;
 mod grant;
+mod grants;
 mod op;
 mod vote;
 
-pub use evidence::{failed_rule, is_write};
+pub use evidence::failed_rule;
 pub use grant::Grant;
+pub use grants::{granters, greatest_version, newest, rises};
 pub use op::{Op, OpKind};
 pub use vote::Vote;

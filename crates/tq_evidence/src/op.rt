@@ -1,6 +1,9 @@
+ghost use Rattle.std.specs.Prelude.{◌≡◌};
+ghost use Rattle.tq_evidence.specs.Evidence as spec;
+
 use crate::Grant;
 use tq_shape::{ExactClone, Seq};
-use tq_store::{Content, FileName};
+use tq_store::{Content, FileName, Write};
 
 /// What an operation does with its file.
 #[derive(Debug, Clone, Copy, PartialEq, Eq)]
@@ -19,6 +22,40 @@ pub struct Op {
     /// The content read, or that which is written.
     pub content: Content,
     pub grants: Seq<Grant>,
+}
+
+impl Op {
+    /// Whether it writes.
+    pub fn is_write(&self) -> bool
+        ensures { result ≡ spec.is_write self.now }
+    {
+        match self.kind {
+            OpKind::Read => false,
+            OpKind::Write => true,
+        }
+    }
+
+    /// Whether it writes this file.
+    pub fn writes(&self, file: &FileName) -> bool
+        ensures { result ≡ spec.writes_file file.now self.now }
+    {
+        self.is_write() && self.file == *file
+    }
+
+    /// Whether a server granted a lock to it.
+    pub fn has_server(&self, server: u64) -> bool
+        ensures { result ≡ spec.has_server self.now server }
+    {
+        let grants = self.grants.as_slice();
+        grants.iter().any(|grant| grant.server == server)
+    }
+
+    /// Whether a write has its file, its version and its content.
+    pub fn makes(&self, write: &Write) -> bool
+        ensures { result ≡ spec.is_write_of write.now self.now }
+    {
+        write.file == self.file && write.version == self.version && write.content == self.content
+    }
 }
 
 impl ExactClone for OpKind {

@@ -1,6 +1,10 @@
+ghost use Rattle.std.specs.Prelude.{◌≡◌};
+ghost use Rattle.tq_evidence.specs.Evidence as spec;
+
+use crate::Grant;
 use tq_node::HeldLock;
 use tq_shape::{ExactClone, Seq};
-use tq_store::Write;
+use tq_store::{FileName, Write};
 
 /// A server's vote, as it was answered.
 #[derive(Debug, Drop, Clone, PartialEq)]
@@ -12,6 +16,26 @@ pub struct Vote {
     pub held: Seq<HeldLock>,
     /// The writes that it asked that server to make.
     pub writes: Seq<Write>,
+}
+
+impl Vote {
+    /// Whether it is of the grant's server, comes after the grant, and holds the file from no later than the grant.
+    pub fn covers(&self, file: FileName, grant: &Grant) -> bool
+        ensures { result ≡ spec.covers file grant.now self.now }
+    {
+        self.server == grant.server
+            && grant.number < self.number
+            && self.holds_since(file, grant.number)
+    }
+
+    /// Whether it lists a lock of the file from no later than that number.
+    pub fn holds_since(&self, file: FileName, number: u64) -> bool
+        ensures { result ≡ spec.holds_since self.now file number }
+    {
+        let held = self.held.as_slice();
+        held.iter()
+            .any(|lock| lock.file == file && lock.since <= number)
+    }
 }
 
 impl ExactClone for Vote {

@@ -1,7 +1,6 @@
 -- What a list of stable records stands for: copies, open votes and their locks.
 use Rattle.std.specs.Prelude.{◌≡◌, ℕ, Bool, true, false, ◌&&◌, ◌==◌, ◌<◌, nat_lt, nat_le, max, ⊤, List, [], ◌∷◌, ◌++◌, map, Option, Some, None, if◌then◌else◌}
 use Rattle.std.specs.FinMap as fin
-use Rattle.std.specs.Cmp.Lexicographic.{pointwise}
 use Rattle.std.specs.List.{AllByRecursion, find, list_any, filter_map, flat_map}
 use Rattle.std.specs.Option.{option_and_then, option_map, option_map_or}
 use Rattle.std.specs.Ordering.{nat_cmp}
@@ -13,6 +12,7 @@ use Rattle.tq_intents.specs.declared.record.KeptLock.{KeptLock}
 use Rattle.tq_intents.specs.declared.record.OpenVote.{OpenVote}
 use Rattle.tq_intents.specs.declared.record.Record.{Record}
 use Rattle.tq_intents.specs.declared.record.Record.TheVariants.{Copy, Intent, Keep, Prepared, Gone}
+use Rattle.tq_store.specs.Names.{same_name}
 
 -- the open votes, by transaction
 abbrev pub Votes : Type 0
@@ -84,7 +84,7 @@ kept_copies (other ∷ later) = kept_copies later
 
 -- what a `Copy` record of the file writes
 abbrev pub copy_to : List ℕ → Record → Option Write
-copy_to file (Copy write) = if pointwise (◌==◌) file write.file then Some write else None
+copy_to file (Copy write) = if same_name file write.file then Some write else None
 copy_to file other = None
 
 -- the greatest version of the writes, 0 where there is none
@@ -110,7 +110,7 @@ stable_lock txn lock = ((lock.file, txn), as_lock lock)
 
 -- the lock of a file in a vote
 abbrev pub lock_in : List ℕ → OpenVote → Option Lock
-lock_in file vote = option_map as_lock (find (λ lock. pointwise (◌==◌) file lock.file) vote.locks)
+lock_in file vote = option_map as_lock (find (λ lock. same_name file lock.file) vote.locks)
 
 -- the lock of a file in the open vote of a transaction
 abbrev pub lock_of_votes : Votes → List ℕ → ℕ → Option Lock

@@ -4,7 +4,7 @@ use Rattle.std.proofs.Math.Nat.{pow-suc, div-div-eq-div-mul}
 use Rattle.std.proofs.lemmas.Bool.{eqb-true, eqb-false}
 use Rattle.tq_shape.specs.Tree.{left_of, right_of}
 use Rattle.tq_live.specs.Subtree.{Subtree, Alone, Over}
-use Rattle.tq_live.specs.Kept.{turns_left, under, changed_under, caches_on_way, cost_after, mark_after, top_of, IsComplete, even}
+use Rattle.tq_live.specs.Kept.{turns_left, under, changed_under, caches_on_way, cost_after, mark_after, top_of, IsComplete}
 use Rattle.tq_live.specs.declared.setting.Setting.{Setting}
 
 abbrev pub left_side : Subtree → Subtree

@@ -1,5 +1,5 @@
 -- A whole tree of nodes and what callers see of it.
-use Rattle.std.proofs.Common.{◌≡◌, ℕ, ◌+◌, ◌-◌, ◌*◌, ◌/◌, ◌^◌, ◌<◌, ◌≤◌, ◌==◌, ◌≢◌, ◌⊎◌, zero, suc, List, [], ◌∷◌, Bool, true, false, not, cond, Option, Some, None, map, set, replicate, get_or, refl, sym, ap, subst, ◌∙◌, inl, inr, arith, sum_by}
+use Rattle.std.proofs.Common.{◌≡◌, ℕ, ◌+◌, ◌-◌, ◌*◌, ◌/◌, ◌^◌, ◌<◌, ◌≤◌, ◌==◌, ◌≢◌, ◌⊎◌, zero, suc, List, [], ◌∷◌, Bool, true, false, not, cond, Option, Some, None, map, set, replicate, refl, sym, ap, subst, ◌∙◌, inl, inr, arith}
 use Rattle.std.specs.List.{range_with_len}
 use Rattle.std.proofs.Math.Nat.{pow-suc, pow-le-pow_right, div-eq_of_lt-le}
 use Rattle.std.proofs.lemmas.Nat.{pow_pos}
@@ -13,9 +13,8 @@ use Rattle.tq_live.specs.Live.{Live, cost_of, is_up}
 use Rattle.tq_live.specs.Sought.{cost_for, allowed_for, found, found_weight}
 use Rattle.tq_live.specs.Subtree.{Subtree, Alone, Over}
 use Rattle.tq_live.specs.Form.{form_of, by_form}
-use Rattle.tq_live.specs.Kept.{allowed_here, with_here, turns_left, weight_here, weight_of, form_in, found_in, under, changed_under, caches_on_way, cost_after, mark_after, top_of, IsComplete, StandsAt, even}
+use Rattle.tq_live.specs.Kept.{allowed_here, with_here, turns_left, weight_here, weight_of, form_in, found_in, under, changed_under, caches_on_way, top_of, IsComplete, StandsAt, even}
 use Rattle.tq_live.specs.LiveOf.{seen_at, cost_at, mark_at, live_of, changed_live, IsAt}
-use Rattle.tq_live.specs.Weights.{plus, lesser}
 use Rattle.tq_live.specs.declared.sought.Sought.{Sought}
 use Rattle.tq_live.specs.declared.sought.Sought.TheVariants.{Quorum, Blocker}
 use Rattle.tq_live.specs.declared.setting.Setting.{Setting}
@@ -23,7 +22,7 @@ use Rattle.tq_live.specs.declared.setting.Setting.TheVariants.{Cost, Mark}
 use Rattle.tq_live.proofs.Weights.{top_weight, least_weight, least_weight-leaf, least_weight-from}
 use Rattle.tq_live.proofs.LeastMembers.{with_top, least_member-leaf}
 use Rattle.tq_live.proofs.Forms.{IsFork, fork_member}
-use Rattle.tq_live.proofs.Ways.{left_side, right_side, under-zero, under-step, under-left, under-right, complete-under, caches-complete, seen_after, changed-here, changed-elsewhere}
+use Rattle.tq_live.proofs.Ways.{left_side, right_side, under-step, under-left, under-right, complete-under, caches-complete, seen_after, changed-here, changed-elsewhere}
 
 -- ---- depths
 

@@ -1,10 +1,10 @@
 -- What each server keeps of its subtree, and how a subtree is walked and changed.
-use Rattle.std.specs.Prelude.{ℕ, zero, suc, ◌+◌, ◌-◌, ◌*◌, ◌/◌, ◌%◌, ◌^◌, ◌≡◌, ◌≤◌, ◌<◌, ◌==◌, Bool, true, not, cond, List, [], ◌∷◌, Option, Some, None, IfSome}
+use Rattle.std.specs.Prelude.{ℕ, zero, suc, ◌+◌, ◌-◌, ◌/◌, ◌%◌, ◌^◌, ◌≡◌, ◌<◌, ◌==◌, Bool, true, not, cond, List, [], ◌∷◌, Option, Some, None}
 use Rattle.tq_live.specs.Weights.{plus, lesser}
 use Rattle.tq_shape.specs.Tree.{IsServer, left_of, right_of}
 use Rattle.tq_live.specs.Least.{changed, pair}
 use Rattle.tq_live.specs.Form.{form_of, by_form}
-use Rattle.tq_live.specs.Subtree.{Subtree, Alone, Over, leaves}
+use Rattle.tq_live.specs.Subtree.{Subtree, Alone, Over}
 use Rattle.tq_live.specs.declared.sought.Sought.{Sought}
 use Rattle.tq_live.specs.declared.sought.Sought.TheVariants.{Quorum, Blocker}
 use Rattle.tq_live.specs.declared.weight.Form.{Form}

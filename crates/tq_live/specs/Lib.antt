@@ -13,6 +13,6 @@ pub mod Subtree
 pub mod Kept
 pub mod Below
 pub mod LiveOf
-pub mod Rising
+pub mod Bits
 pub mod ViewChanges
 pub mod ViewLaws

@@ -1,5 +1,5 @@
 -- What an ask of a view is to change, and the view with a change made.
-use Rattle.std.specs.Prelude.{◌≡◌, ◌≤◌, ◌-◌, ℕ, cond, slice_set}
+use Rattle.std.specs.Prelude.{◌≡◌, ◌≤◌, ◌-◌, cond, slice_set}
 use Rattle.tq_live.specs.Live.{Live}
 use Rattle.tq_live.specs.View.{is_server, is_cost}
 use Rattle.tq_live.specs.declared.view.ViewAsk.{ViewAsk}

@@ -1,7 +1,7 @@
 -- A view's plans may be made, and lead where its asks do; its levels stay.
-use Rattle.std.proofs.Common.{◌≡◌, ◌≤◌, ◌-◌, ◌&&◌, ℕ, Bool, true, false, cond, nat_le, refl, set, arith}
+use Rattle.std.proofs.Common.{◌≡◌, ◌≤◌, ◌-◌, ℕ, Bool, true, false, cond, refl, set, arith}
 use Rattle.tq_live.specs.Live.{Live}
-use Rattle.tq_live.specs.View.{is_server, is_cost, view_after, view_state}
+use Rattle.tq_live.specs.View.{is_server, is_cost, view_after}
 use Rattle.tq_live.specs.ViewChanges.{view_change, view_changed, ViewFits}
 use Rattle.tq_live.specs.declared.view.ViewAsk.{ViewAsk}
 use Rattle.tq_live.specs.declared.view.ViewAsk.TheVariants.{SetCost, Mark, Choose}

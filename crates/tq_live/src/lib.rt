@@ -2,13 +2,13 @@
 #![tactic(auto)]
 
 mod answers;
+mod bits;
 mod cache;
 mod change;
 mod choice;
 mod cost;
 mod least;
 mod node;
-mod order;
 mod setting;
 mod sought;
 mod tree;

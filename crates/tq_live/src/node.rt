@@ -1,22 +1,21 @@
-ghost use Rattle.std.specs.Prelude.{◌≡◌, ℕ, ◌+◌, ◌*◌, ◌^◌, ◌<◌, ◌≤◌, IfOk, IfSome, OnOk, Some, List, All};
-ghost use Rattle.tq_coterie.specs.Coterie.{joined, numbers_of};
+ghost use Rattle.std.specs.Prelude.{◌≡◌, ℕ, ◌+◌, ◌*◌, ◌%◌, ◌^◌, ◌<◌, ◌≤◌, IfOk, IfSome, Some, List};
+ghost use Rattle.tq_shape.specs.declared.level.TheConstants.{MOST_LEVELS};
 ghost use Rattle.tq_live.specs.Subtree.{Subtree, Alone, Over, leaves};
 ghost use Rattle.tq_live.specs.Kept.{weight_of, form_in, weight_here, cache_of, cache_over, other_weight, turns_left, under, cost_after, changed_under, caches_on_way, found_in, StandsAt, even, top_of};
 ghost use Rattle.tq_live.specs.Form.{form_of};
 ghost use Rattle.tq_live.specs.Below.{subtree_of};
-ghost use Rattle.tq_live.specs.Rising.{Rises};
+ghost use Rattle.tq_live.specs.Bits.{bits_of};
 ghost use Rattle.tq_live.specs.declared.sought.Sought.TheVariants as soughts;
 
+use crate::bits::bit_of;
 use crate::cache::Cache;
-use crate::order::insert_in_order;
 use crate::setting::Setting;
 use crate::sought::Sought;
 use crate::turns::Turns;
-use crate::weight::{Form, is_lighter, together};
+use crate::weight::{Form, Weight};
 use std::alloc::Global;
 use std::marker::Model;
-use tq_coterie::ServerIds;
-use tq_shape::{Levels, Memory, ServerId};
+use tq_shape::Memory;
 
 /// A server of a tree with all that stands below it.
 #[cycle(node)]
@@ -32,7 +31,15 @@ pub(crate) struct Node {
 #[derive(Drop)]
 enum Below {
     Nothing,
-    Sides(Box<Node>, Box<Node>),
+    Over(Box<Sides>),
+}
+
+/// The two sides of a server, in one block.
+#[cycle(node)]
+#[derive(Drop)]
+struct Sides {
+    left: Node,
+    right: Node,
 }
 
 impl Model for Node {
@@ -64,9 +71,10 @@ impl Node {
         if height == 0 {
             return Ok(made(1, true, Below::Nothing));
         }
-        let left = Box::new(alloc, Node::new(alloc, height - 1)?)?;
-        let right = Box::new(alloc, Node::new(alloc, height - 1)?)?;
-        Ok(made(1, true, Below::Sides(left, right)))
+        let left = Node::new(alloc, height - 1)?;
+        let right = Node::new(alloc, height - 1)?;
+        let sides = Box::new(alloc, Sides { left, right })?;
+        Ok(made(1, true, Below::Over(sides)))
     }
 
     /// An equal subtree.
@@ -77,10 +85,11 @@ impl Node {
         let up = self.up;
         match &self.below {
             Below::Nothing => Ok(made(cost, up, Below::Nothing)),
-            Below::Sides(left, right) => {
-                let left = Box::new(alloc, left.copy(alloc)?)?;
-                let right = Box::new(alloc, right.copy(alloc)?)?;
-                Ok(made(cost, up, Below::Sides(left, right)))
+            Below::Over(sides) => {
+                let left = sides.left.copy(alloc)?;
+                let right = sides.right.copy(alloc)?;
+                let sides = Box::new(alloc, Sides { left, right })?;
+                Ok(made(cost, up, Below::Over(sides)))
             }
         }
     }
@@ -102,43 +111,29 @@ impl Node {
         }
     }
 
-    /// Puts the first least member, where there is one, into the list. The node is that of the server of the number.
-    pub(crate) fn gather(
-        &self,
-        sought: Sought,
-        levels: Levels,
-        number: u64,
-        ids: &mut ServerIds,
-    ) -> Result<(), Memory>
-        requires place { StandsAt levels number self.now }
-        requires small { 2 ^ levels ≤ 1024 }
-        requires rises { Rises 0 (numbers_of ids.old.items) }
-        ensures numbers { OnOk result ((set : List ℕ) → found_in sought number self.now ≡ Some set → numbers_of ids.new.items ≡ joined set (numbers_of ids.old.items)) }
-        ensures rises { OnOk result (Rises 0 (numbers_of ids.new.items)) }
-        ensures tree { OnOk result (All (λ id. id.levels ≡ levels) ids.old.items → All (λ id. id.levels ≡ levels) ids.new.items) }
+    /// The servers of the first least member, where there is one: the sum of their bits, each that of the server's
+    /// number. The node is that of the server of the number.
+    pub(crate) fn gather(&self, sought: Sought, number: u64) -> u64
+        requires { StandsAt MOST_LEVELS number self.now }
+        ensures { (set : List ℕ) → found_in sought number self.now ≡ Some set → result ≡ bits_of set % 2 ^ 64 }
     {
+        let here = bit_of(number);
         let form = self.form(sought);
         match &self.below {
-            Below::Nothing => insert_in_order(ids, ServerId::new(levels, number)),
-            Below::Sides(left, right) => match form {
-                Form::WithLeft => {
-                    insert_in_order(ids, ServerId::new(levels, number))?;
-                    left.gather(sought, levels, 2 * number, ids)
-                }
-                Form::WithRight => {
-                    insert_in_order(ids, ServerId::new(levels, number))?;
-                    right.gather(sought, levels, 2 * number + 1, ids)
-                }
+            Below::Nothing => here,
+            Below::Over(sides) => match form {
+                Form::WithLeft => here.wrapping_add(sides.left.gather(sought, 2 * number)),
+                Form::WithRight => here.wrapping_add(sides.right.gather(sought, 2 * number + 1)),
                 Form::BothSides => {
-                    right.gather(sought, levels, 2 * number + 1, ids)?;
-                    left.gather(sought, levels, 2 * number, ids)
+                    let left = sides.left.gather(sought, 2 * number);
+                    left.wrapping_add(sides.right.gather(sought, 2 * number + 1))
                 }
             },
         }
     }
 
     /// The cost of the first quorum of least cost, among those that are up.
-    pub(crate) fn least(&self) -> Option<u64>
+    pub(crate) fn least(&self) -> Weight
         ensures value { result ≡ weight_of soughts.Quorum self.now }
         ensures bounded { IfSome result (λ weight. weight ≤ 1000000 * leaves self.now) }
         ensures small { leaves self.now ≤ 512 }
@@ -152,11 +147,11 @@ impl Node {
         ensures { result.now ≡ under self.now steps number }
     {
         match &self.below {
-            Below::Sides(left, right) if steps > 0 => {
+            Below::Over(sides) if steps > 0 => {
                 if is_left(number, steps - 1) {
-                    left.under(steps - 1, number)
+                    sides.left.under(steps - 1, number)
                 } else {
-                    right.under(steps - 1, number)
+                    sides.right.under(steps - 1, number)
                 }
             }
             _ => self,
@@ -164,24 +159,24 @@ impl Node {
     }
 
     /// Makes the change at a server that stands so many steps below, and repairs the caches on the way back up.
-    pub(crate) fn change(&mut self, steps: u32, number: u64, change: Setting, turns: &mut Turns)
-        requires cost { cost_after change 0 ≤ 1000000 }
+    pub(crate) fn change(&mut self, steps: u32, number: u64, change: &Setting, turns: &mut Turns)
+        requires cost { cost_after change.now 0 ≤ 1000000 }
         requires steps { steps ≤ 64 }
         requires room { turns.old + steps + 1 < 2 ^ 64 }
-        ensures tree { self.new ≡ changed_under self.old steps number change }
+        ensures tree { self.new ≡ changed_under self.old steps number change.now }
         ensures turns { turns.new ≡ turns.old + caches_on_way self.old steps number }
         ensures leaves { leaves self.new ≡ leaves self.old }
         ensures on_way { caches_on_way self.old steps number ≤ steps + 1 }
     {
         match &mut self.below {
-            Below::Sides(left, right) if steps > 0 => {
+            Below::Over(sides) if steps > 0 => {
                 if is_left(number, steps - 1) {
-                    left.change(steps - 1, number, change, turns);
+                    sides.left.change(steps - 1, number, change, turns);
                 } else {
-                    right.change(steps - 1, number, change, turns);
+                    sides.right.change(steps - 1, number, change, turns);
                 }
             }
-            _ => match change {
+            _ => match *change {
                 Setting::Cost(cost) => self.cost = cost,
                 Setting::Mark(up) => self.up = up,
             },
@@ -197,7 +192,7 @@ fn made(cost: u64, up: bool, below: Below) -> Node
     ensures { result ≡ subtree_of cost up below }
 {
     let mut cache = Cache {
-        least: None,
+        least: Weight::missing(),
         form: Form::WithLeft,
         blocker: Form::WithLeft,
     };
@@ -235,24 +230,24 @@ fn repair(cache: &mut Cache, cost: u64, up: bool, below: &Below, turns: &mut Tur
             form: Form::WithLeft,
             blocker: Form::WithLeft,
         },
-        Below::Sides(left, right) => over(here, left.least(), right.least()),
+        Below::Over(sides) => over(here, sides.left.least(), sides.right.least()),
     };
     turns.count += 1;
 }
 
 /// What a server of that weight keeps, from the weights of its sides.
-fn over(here: Option<u64>, left: Option<u64>, right: Option<u64>) -> Cache
+fn over(here: Weight, left: Weight, right: Weight) -> Cache
     requires here { IfSome here (λ w. w < 2 ^ 62) }
     requires left { IfSome left (λ w. w < 2 ^ 62) }
     requires right { IfSome right (λ w. w < 2 ^ 62) }
     ensures { result ≡ cache_over here left right }
 {
-    let with_left = together(here, left);
-    let with_right = together(here, right);
-    let both = together(left, right);
+    let with_left = here.with(left);
+    let with_right = here.with(right);
+    let both = left.with(right);
     let blocker = blocker_form(here, left, right);
-    if is_lighter(with_right, with_left) {
-        if is_lighter(both, with_right) {
+    if with_right.is_less(with_left) {
+        if both.is_less(with_right) {
             return Cache {
                 least: both,
                 form: Form::BothSides,
@@ -265,7 +260,7 @@ fn over(here: Option<u64>, left: Option<u64>, right: Option<u64>) -> Cache
             blocker,
         };
     }
-    if is_lighter(both, with_left) {
+    if both.is_less(with_left) {
         return Cache {
             least: both,
             form: Form::BothSides,
@@ -280,21 +275,28 @@ fn over(here: Option<u64>, left: Option<u64>, right: Option<u64>) -> Cache
 }
 
 /// The form of the first member that is all down, from whether a quorum is up at the top and in its sides.
-fn blocker_form(here: Option<u64>, left: Option<u64>, right: Option<u64>) -> Form
+fn blocker_form(here: Weight, left: Weight, right: Weight) -> Form
     ensures { result ≡ form_of (other_weight here) (other_weight left) (other_weight right) }
 {
-    match (here, left, right) {
-        (None, Some(_), None) => Form::WithRight,
-        (Some(_), None, None) => Form::BothSides,
+    if right.is_there() {
+        return Form::WithLeft;
+    }
+    match (here.is_there(), left.is_there()) {
+        (false, true) => Form::WithRight,
+        (true, false) => Form::BothSides,
         _ => Form::WithLeft,
     }
 }
 
 /// The weight of a server, if it may be taken.
-fn weight(cost: u64, up: bool) -> Option<u64>
+fn weight(cost: u64, up: bool) -> Weight
     requires { cost ≤ 1000000 }
     ensures value { result ≡ weight_here soughts.Quorum cost up }
     ensures bounded { IfSome result (λ w. w ≤ 1000000) }
 {
-    if up { Some(cost) } else { None }
+    if up {
+        Weight::of(cost)
+    } else {
+        Weight::missing()
+    }
 }

@@ -2,6 +2,7 @@ ghost use Rattle.std.specs.Prelude.{◌≡◌, ℕ, ◌+◌, ◌-◌, ◌*◌, �
 ghost use Rattle.tq_shape.specs.Depth.{depth_of};
 ghost use Rattle.tq_coterie.specs.Coterie.{servers_of, numbers_of};
 
+use crate::bits::servers_at;
 use crate::choice::Choice;
 use crate::cost::{BadCost, is_cost};
 use crate::least::Least;
@@ -140,7 +141,7 @@ impl LiveTree {
         let _levels = self.levels.count();
         let steps = server.depth();
         let number = server.number();
-        self.root.change(steps, number, change, turns);
+        self.root.change(steps, number, &change, turns);
     }
 
     /// The node of the server.
@@ -162,7 +163,7 @@ impl LiveTree {
         requires { server.levels ≡ self.now.levels }
         ensures { result ≡ best_cost self.now server.number }
     {
-        self.node(server).least()
+        self.node(server).least().get()
     }
 
     /// What is looked for in the server's subtree, where it is there.
@@ -174,8 +175,8 @@ impl LiveTree {
     {
         let number = server.number();
         let levels = server.levels();
-        let mut ids = ServerIds::new(alloc);
-        self.node(server).gather(sought, levels, number, &mut ids)?;
+        let bits = self.node(server).gather(sought, number);
+        let ids = servers_at(alloc, levels, bits)?;
         Ok(ids)
     }
 

@@ -41,14 +41,6 @@ itself Greater h = absurd (true≢false (sym (ap is_lt h)))
 -- ---- a search finds the first that passes
 
 module _ {A : Type 0} (p : A → Bool) where
-  found_step : (x : A) (xs : List A) (e : A) (b : Bool) → p x ≡ b → cond b (Some x) (find p xs) ≡ Some e → (find p xs ≡ Some e → Has xs e × (p e ≡ true)) → Has (x ∷ xs) e × (p e ≡ true)
-  found_step x xs e true t f next = (inl (some_same x e f), ap p (sym (some_same x e f)) ∙ t)
-  found_step x xs e false t f next = (inr (next f).0, (next f).1)
-
-  pub found : (xs : List A) (e : A) → find p xs ≡ Some e → Has xs e × (p e ≡ true)
-  found [] e f = absurd (none_some e f)
-  found (x ∷ xs) e f = found_step x xs e (p x) refl f (found xs e)
-
   none_step : (x : A) (xs : List A) (y : A) (b : Bool) → p x ≡ b → cond b (Some x) (find p xs) ≡ None → (find p xs ≡ None → Has xs y → p y ≡ false) → Has (x ∷ xs) y → p y ≡ false
   none_step x xs y true t f next h = absurd (none_some x (sym f))
   none_step x xs y false t f next (inl e) = ap p (sym e) ∙ t

@@ -14,7 +14,8 @@ use Rattle.tq_locks.specs.Locks.{LockKey, Locks, lock_cmp, conflicts, stronger, 
 use Rattle.tq_locks.specs.declared.mode.Mode.{Mode}
 use Rattle.tq_locks.specs.declared.mode.Mode.TheVariants.{Shared, Exclusive}
 use Rattle.tq_locks.specs.declared.mode.Lock.{Lock}
-use Rattle.tq_locks.proofs.Found.{some_same, none_some, found, none_passes, first_passes, entry_of, get-entry_of}
+use Rattle.tq_locks.proofs.Found.{some_same, none_some, none_passes, first_passes, entry_of, get-entry_of}
+use Rattle.tq_shape.proofs.Places.{find-Has}
 use Rattle.tq_locks.proofs.LockMaps.{locks_total, locks_same}
 use Rattle.tq_shape.specs.Journal.{Has}
 use Rattle.tq_shape.proofs.Orderings.{is_eq-Equal}
@@ -96,7 +97,7 @@ then_le by other file h = at_least by other (nat_cmp by other) refl (ap (λ r. o
 
 pub IsLeastBlocker-blocker : (locks : Locks) (file : List ℕ) (txn : ℕ) (mode : Mode) (e : LockKey × Lock) → lists.find (blocks file txn mode) (fin.entries locks) ≡ Some e → IsLeastBlocker locks file txn mode e.0.1
 IsLeastBlocker-blocker locks file txn mode e f =
-    let at = found (blocks file txn mode) (fin.entries locks) e f in
+    let at = find-Has (blocks file txn mode) (fin.entries locks) e f in
     let b = Blocks-entry locks file txn mode e at.0 at.1 in
     record {
       blocks = b.0;

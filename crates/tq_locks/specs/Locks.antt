@@ -1,7 +1,6 @@
 -- The locks of a server, a finite map from a file and a transaction to a lock.
-use Rattle.std.specs.Prelude.{◌≡◌, ◌≢◌, ◌≤◌, ℕ, Bool, true, false, not, ◌&&◌, ◌||◌, ◌==◌, List, [], ◌∷◌, map, filter, Option, Some, None, if◌then◌else◌, refl}
+use Rattle.std.specs.Prelude.{◌≡◌, ◌≢◌, ◌≤◌, ℕ, Bool, true, false, not, ◌&&◌, ◌||◌, ◌==◌, List, [], ◌∷◌, map, filter, Option, Some, None, if◌then◌else◌, refl, codes}
 use Rattle.std.specs.Coded.{Coded, code_by, coded×, coded_list, coded_ℕ, coded_bool}
-use Rattle.std.specs.Cmp.Lexicographic.{pointwise}
 use Rattle.std.specs.FinMap as fin
 use Rattle.std.specs.List.{find}
 use Rattle.std.specs.Option.{option_map, option_map_or}
@@ -13,6 +12,9 @@ use Rattle.tq_locks.specs.declared.mode.Mode.TheVariants.{Shared, Exclusive}
 use Rattle.tq_locks.specs.declared.mode.Lock.{Lock}
 use Rattle.tq_locks.specs.declared.table.LockOutcome.{LockOutcome}
 use Rattle.tq_locks.specs.declared.table.LockOutcome.TheVariants.{Granted, Held}
+use Rattle.tq_shape.specs.Steps.{state_at}
+use Rattle.tq_store.specs.Names.{same_name}
+use Rattle.tq_shape.specs.Journal.{is_empty}
 
 -- a file and a transaction
 abbrev pub LockKey : Type 0
@@ -40,9 +42,14 @@ abbrev pub is_exclusive : Mode → Bool
 is_exclusive Exclusive = true
 is_exclusive Shared = false
 
+-- the word for a mode
+abbrev pub mode_text : Mode → List ℕ
+mode_text Shared = codes "shared"
+mode_text Exclusive = codes "exclusive"
+
 -- another transaction's lock on the file that conflicts with the mode
 abbrev pub blocks : List ℕ → ℕ → Mode → LockKey × Lock → Bool
-blocks file txn mode entry = pointwise (◌==◌) file entry.0.0 && not (txn == entry.0.1) && conflicts mode entry.1.mode
+blocks file txn mode entry = same_name file entry.0.0 && not (txn == entry.0.1) && conflicts mode entry.1.mode
 
 -- the least transaction with a lock that conflicts: the entries of a file rise by transaction
 abbrev pub blocker : Locks → List ℕ → ℕ → Mode → Option ℕ
@@ -82,21 +89,13 @@ abbrev pub IsTold : Locks → List ℕ → ℕ → Mode → LockOutcome → Type
 IsTold locks file txn mode Granted = IsFree locks file txn mode
 IsTold locks file txn mode (Held by) = IsLeastBlocker locks file txn mode by
 
--- the locks after a request
-abbrev pub asked_at : Option ℕ → Locks → Locks → Locks
-asked_at None old new = new
-asked_at (Some by) old new = old
-
+-- the locks after a request: one that is blocked leaves them as they were
 abbrev pub asked : Locks → List ℕ → ℕ → Mode → ℕ → ℕ → Locks
-asked locks file txn mode number version = asked_at (blocker locks file txn mode) locks (granted locks file txn mode number version)
+asked locks file txn mode number version = state_at (blocker locks file txn mode) locks (granted locks file txn mode number version)
 
 -- the locks of a transaction, ascending by file
 abbrev pub held_of : Locks → ℕ → List (LockKey × Lock)
 held_of locks txn = filter (λ entry. entry.0.1 == txn) (fin.entries locks)
-
-abbrev pub is_empty : {A : Type 0} → List A → Bool
-is_empty [] = true
-is_empty (x ∷ xs) = false
 
 -- the transaction holds no lock
 abbrev pub holds_nothing : Locks → ℕ → Bool
@@ -131,3 +130,6 @@ lock_code = code_by (Mode × (ℕ × (ℕ × Bool))) (coded× mode_code (coded×
 
 abbrev pub locks_code : Coded Locks
 locks_code = fin.code (coded× (coded_list coded_ℕ) coded_ℕ) lock_code
+
+abbrev pub lock_entry_code : Coded (LockKey × Lock)
+lock_entry_code = coded× (coded× (coded_list coded_ℕ) coded_ℕ) lock_code

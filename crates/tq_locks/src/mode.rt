@@ -39,6 +39,16 @@ impl Mode {
             Mode::Shared => other,
         }
     }
+
+    /// The word for it.
+    pub fn word(self) -> &'static str
+        ensures { result.now ≡ spec.mode_text self }
+    {
+        match self {
+            Mode::Shared => "shared",
+            Mode::Exclusive => "exclusive",
+        }
+    }
 }
 
 impl Lock {

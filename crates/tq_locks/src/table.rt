@@ -16,8 +16,26 @@ pub enum LockOutcome {
     Held { by: u64 },
 }
 
-/// A lock, under its file and its transaction.
-pub type LockEntry = ((FileName, u64), Lock);
+/// A lock, with the file that it is on and the transaction that holds it.
+#[derive(Debug, Clone, Copy)]
+pub struct LockEntry {
+    pub file: FileName,
+    pub txn: u64,
+    pub lock: Lock,
+}
+
+impl Model for LockEntry {
+    ghost use Rattle.tq_locks.specs.Locks.{LockKey, lock_entry_code};
+    ghost use Rattle.tq_locks.specs.declared.mode.Lock.{Lock};
+
+    ghost Value = { LockKey × Lock };
+
+    ghost coded = { lock_entry_code };
+
+    ghost view = { λ a. ((a.file, a.txn), a.lock) };
+
+    ghost inverse = { λ entry. record { file = entry.0.0; txn = entry.0.1; lock = entry.1 } };
+}
 
 /// The locks at a server.
 #[derive(Drop)]
@@ -59,10 +77,12 @@ impl LockTable {
     }
 
     /// All locks, ascending by file and then by transaction.
-    pub fn iter(&self) -> Iter<'_, (FileName, u64), Lock>
+    pub fn iter(&self) -> LockEntries<'_>
         ensures { result ≡ fin.entries self.now }
     {
-        self.locks.iter()
+        LockEntries {
+            entries: self.locks.iter(),
+        }
     }
 
     /// The least transaction, other than this one, whose lock on the file conflicts with the mode.
@@ -71,9 +91,9 @@ impl LockTable {
         ensures least { IfSome result (IsLeastBlocker self.now file txn mode) }
         ensures free { IfNone result (IsFree self.now file txn mode) }
     {
-        for (key, lock) in self.locks.iter() {
-            if file == key.0 && !(txn == key.1) && mode.conflicts_with(lock.mode) {
-                return Some(key.1);
+        for entry in self.iter() {
+            if file == entry.file && !(txn == entry.txn) && mode.conflicts_with(entry.lock.mode) {
+                return Some(entry.txn);
             }
         }
         None
@@ -137,9 +157,9 @@ impl LockTable {
         ensures { IfOk result (λ held. held.items ≡ held_of self.now txn) }
     {
         let mut held = Vec::new(alloc);
-        for (key, lock) in self.locks.iter() {
-            if key.1 == txn {
-                held.push((*key, *lock))?;
+        for entry in self.iter() {
+            if entry.txn == txn {
+                held.push(entry)?;
             }
         }
         Ok(held)
@@ -159,8 +179,8 @@ impl LockTable {
     pub fn holds_nothing(&self, txn: u64) -> bool
         ensures { result ≡ holds_nothing self.now txn }
     {
-        for (key, _) in self.locks.iter() {
-            if key.1 == txn {
+        for entry in self.iter() {
+            if entry.txn == txn {
                 return false;
             }
         }
@@ -179,5 +199,40 @@ impl LockTable {
         ensures { self.new ≡ only_stable self.old }
     {
         self.locks.retain(|_, lock| lock.stable);
+    }
+}
+
+/// The locks of a table that are left to walk, ascending by file and then by transaction.
+#[derive(Drop)]
+pub struct LockEntries<'a> {
+    entries: Iter<'a, (FileName, u64), Lock>,
+}
+
+impl<'a> Model for LockEntries<'a> {
+    ghost use Rattle.std.specs.Prelude.{List};
+    ghost use Rattle.tq_locks.specs.Locks.{LockKey};
+    ghost use Rattle.tq_locks.specs.declared.mode.Lock.{Lock};
+
+    ghost Value = { List (LockKey × Lock) };
+
+    ghost view = { λ it. it.entries };
+}
+
+impl<'a> Iterator for LockEntries<'a> {
+    ghost use Rattle.std.specs.Iterator.{YieldsFirst, item_count};
+
+    type Item = LockEntry;
+
+    ghost next_gives = { YieldsFirst (λ rest. rest) };
+
+    ghost remaining = { item_count (λ rest. rest) };
+
+    fn next(&mut self) -> Option<LockEntry> {
+        let (key, lock) = self.entries.next()?;
+        Some(LockEntry {
+            file: key.0,
+            txn: key.1,
+            lock: *lock,
+        })
     }
 }

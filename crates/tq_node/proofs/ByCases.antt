@@ -1,7 +1,7 @@
 -- What a server replies, and what it is afterwards, is a step by the cases.
 use Rattle.std.specs.Prelude.{◌==◌, not, ◌&&◌, nat_le}
 use Rattle.std.proofs.Common.{◌≡◌, ℕ, ◌≤◌, ◌<◌, Bool, true, false, cond, List, [], ◌∷◌, ◌++◌, Option, Some, None, refl, sym, ap, subst, ◌∙◌, ◌⊎◌, inl, inr, arith}
-use Rattle.std.proofs.lemmas.Bool.{cases_Bool, cond-true, cond-false, false≢true, true≢false, and_parts, and_from, eqb-true, eq-eqb, ne_eqb, leb-true, leb-false}
+use Rattle.std.proofs.lemmas.Bool.{cases_Bool, cond-true, cond-false, false≢true, true≢false, and_parts, and_from, eqb-true, eq-eqb, ne_eqb, leb-true, leb-false, not-true, not-false}
 use Rattle.std.proofs.lemmas.Cmp.{tied_itself, nat_list_cmp_total}
 use Rattle.std.specs.Cmp.{IsTotalOrder, ranks}
 use Rattle.std.specs.Cmp.Lexicographic.{pointwise, same_text}
@@ -16,10 +16,10 @@ use Rattle.std.specs.declared.alloc.AllocError.{AllocError}
 use Rattle.std.specs.declared.cmp.Ordering.{Ordering}
 use Rattle.std.specs.declared.cmp.Ordering.TheVariants.{Less, Equal, Greater}
 use lib.Dec.{T}
-use Rattle.tq_shape.specs.Journal.{Has}
+use Rattle.tq_shape.specs.Journal.{Has, is_empty}
 use Rattle.tq_store.specs.Copies.{name_cmp, copy_of, installed_all}
 use Rattle.tq_store.specs.declared.write.Write.{Write}
-use Rattle.tq_locks.specs.Locks.{LockKey, lock_cmp, conflicts, is_exclusive, is_empty, blocks, blocker, held_of, holds_nothing, released, only_stable}
+use Rattle.tq_locks.specs.Locks.{LockKey, lock_cmp, conflicts, is_exclusive, blocks, blocker, held_of, holds_nothing, released, only_stable}
 use Rattle.tq_locks.specs.declared.mode.Lock.{Lock}
 use Rattle.tq_locks.specs.declared.mode.Mode.{Mode}
 use Rattle.tq_locks.specs.declared.mode.Mode.TheVariants.{Shared, Exclusive}
@@ -36,38 +36,22 @@ use Rattle.tq_node.specs.declared.ask.Verdict.{Verdict}
 use Rattle.tq_node.specs.declared.ask.Verdict.TheVariants.{Abort, Commit}
 use Rattle.tq_node.specs.declared.ask.WorkAsk.{WorkAsk}
 use Rattle.tq_node.specs.declared.ask.WorkAsk.TheVariants as work
-use Rattle.tq_node.specs.Records.{Records, NodeState, has_vote, holds_exclusively, not_locked, are_good_writes, refuse, refuse_for, lock_refusal, prepare_refusal, release_refusal, work_refusal, refusal, are_citing, cites_vote, open_vote, installs, work_reply, reply_of, work_after, records_after, answer_at, state_at, node_reply, node_after, kept_records}
+use Rattle.tq_node.specs.Records.{Records, NodeState, has_vote, holds_exclusively, not_locked, are_good_writes, lock_refusal, prepare_refusal, release_refusal, work_refusal, refusal, are_citing, cites_vote, open_vote, installs, work_reply, reply_of, work_after, records_after, answer_at, node_reply, node_after, kept_records}
+use Rattle.tq_shape.specs.Steps.{refuse, refuse_for, state_at}
 use Rattle.tq_node.specs.Cases.{IsStep, IsUp, Holds, Blocks, Cites}
 use Rattle.tq_shape.proofs.Places.{Some-same, find-Has, none-Has, any-Has, Has-any}
-use Rattle.tq_node.proofs.Maps.{below-Has, get-Has, Has-get}
+use Rattle.tq_locks.proofs.Found.{entry_of, first_passes, get-entry_of}
 use Rattle.tq_node.specs.Node.{IsKept, NodeView, answered}
 use Rattle.tq_node.proofs.KeptLocks.{map-some, only_stable-twice}
+use Rattle.tq_store.proofs.SameName.{same_name-refl}
+use Rattle.tq_store.specs.Names.{same_name}
+use Rattle.tq_shape.proofs.Options.{none_of, some_of, map-none}
 
 -- ---- options and lists
-
-none_of : {A : Type 0} (o : Option A) → is_some o ≡ false → o ≡ None
-none_of None h = refl
-none_of (Some x) h = absurd (true≢false h)
-
-some_of : {A : Type 0} (o : Option A) → not (is_some o) ≡ false → (x : A) × (o ≡ Some x)
-some_of None h = absurd (true≢false h)
-some_of (Some x) h = (x, refl)
 
 absent : {A : Type 0} (o : Option A) → not (is_some o) ≡ true → o ≡ None
 absent None h = refl
 absent (Some x) h = absurd (false≢true h)
-
-map-none : {A B : Type 0} (f : A → B) (o : Option A) → option_map f o ≡ None → o ≡ None
-map-none f None h = refl
-map-none f (Some x) h = absurd cc
-
-not-true : (b : Bool) → not b ≡ true → b ≡ false
-not-true true h = absurd (false≢true h)
-not-true false h = refl
-
-not-false : (b : Bool) → not b ≡ false → b ≡ true
-not-false true h = refl
-not-false false h = absurd (true≢false h)
 
 nothing_there : {A : Type 0} (xs : List A) → is_empty xs ≡ true → xs ≡ []
 nothing_there [] h = refl
@@ -109,30 +93,6 @@ all-map P Q [] f h = tt
 all-map P Q (x ∷ xs) f h = (f x h.0, all-map P Q xs f h.1)
 
 -- among entries that rise, the first that passes is the least
-find-least : {K X : Type 0} {R : K → K → Ordering} → IsTotalOrder R → IsAntisymmetric R → (p : K × X → Bool) (es : List (K × X)) → T (is_sorted R es) → (e x : K × X) → find p es ≡ Some e → Has es x → p x ≡ true → (e ≡ x) ⊎ (R e.0 x.0 ≡ Less)
-find-least o same p [] s e x h k t = absurd k
-find-least {R = R} o same p (y ∷ ys) s e x h k t =
-    elim (cases_Bool (p y)) [
-      | inl u ↦ first (Some-same (sym (cond-true (p y) (Some y) (find p ys) u) ∙ h)) k
-      | inr u ↦ find-least o same p ys (right (below_all R y.0 ys) (is_sorted R ys) s) e x (sym (cond-false (p y) (Some y) (find p ys) u) ∙ h) (later u k) t
-    ]
-  where
-    left : (a b : Bool) → T (a && b) → T a
-    left true b q = tt
-    left false b q = q
-
-    right : (a b : Bool) → T (a && b) → T b
-    right true b q = q
-    right false b q = absurd q
-
-    first : y ≡ e → (y ≡ x) ⊎ Has ys x → (e ≡ x) ⊎ (R e.0 x.0 ≡ Less)
-    first q (inl r) = inl (sym q ∙ r)
-    first q (inr r) = inr (ap (λ (z : _). R z.0 x.0) (sym q) ∙ below-Has o same y.0 ys (left (below_all R y.0 ys) (is_sorted R ys) s) x r)
-
-    later : p y ≡ false → (y ≡ x) ⊎ Has ys x → Has ys x
-    later u (inl q) = absurd (true≢false (sym t ∙ ap p (sym q) ∙ u))
-    later u (inr q) = q
-
 -- ---- the refusals, one after another
 
 by_test : (P : Option NodeRefusal → Type 0) (b : Bool) (reason : NodeRefusal) (next : Option NodeRefusal) → (b ≡ true → P (Some reason)) → (b ≡ false → P next) → P (refuse b reason next)
@@ -147,27 +107,23 @@ by_value P (Some x) reason next f g = f x refl
 
 entry_blocks : (old : Records) (txn : ℕ) (file : List ℕ) (mode : Mode) (e : LockKey × Lock) → Has (fin.entries old.locks) e → blocks file txn mode e ≡ true → (e.0.0 ≡ file) × Blocks old txn file mode e.0.1
 entry_blocks old txn file mode e has t =
-    let p = and_parts (pointwise (◌==◌) file e.0.0 && not (txn == e.0.1)) (conflicts mode e.1.mode) t in
-    let q = and_parts (pointwise (◌==◌) file e.0.0) (not (txn == e.0.1)) p.0 in
+    let p = and_parts (same_name file e.0.0 && not (txn == e.0.1)) (conflicts mode e.1.mode) t in
+    let q = and_parts (same_name file e.0.0) (not (txn == e.0.1)) p.0 in
     let f = same_text file e.0.0 (sym q.0) in (
       sym f,
       record {
         other = λ same. false≢true (sym (ap not (eq-eqb txn e.0.1 (sym same))) ∙ q.1);
         lock = e.1;
-        is_there = ap (λ (name : List ℕ). fin.get old.locks (name, e.0.1)) f ∙ Has-get locks_total locks_same old.locks e has;
+        is_there = ap (λ (name : List ℕ). fin.get old.locks (name, e.0.1)) f ∙ get-entry_of locks_total locks_same old.locks e has;
         conflict = p.1;
       },
     )
 
-same_itself : (file : List ℕ) → pointwise (◌==◌) file file ≡ true
-same_itself [] = refl
-same_itself (c ∷ file) = and_from (c == c) (pointwise (◌==◌) file file) (eq-eqb c c refl) (same_itself file)
-
 blocking_entry : (old : Records) (txn : ℕ) (file : List ℕ) (mode : Mode) (t : ℕ) (h : Blocks old txn file mode t) → Has (fin.entries old.locks) ((file, t), h.lock) × (blocks file txn mode ((file, t), h.lock) ≡ true)
 blocking_entry old txn file mode t h = (
-  get-Has locks_total locks_same old.locks (file, t) h.lock h.is_there,
-  and_from (pointwise (◌==◌) file file && not (txn == t)) (conflicts mode (h.lock).mode)
-      (and_from (pointwise (◌==◌) file file) (not (txn == t)) (same_itself file) (ap not (ne_eqb txn t (λ e. h.other (sym e))))) h.conflict,
+  entry_of locks_total locks_same old.locks (file, t) h.lock h.is_there,
+  and_from (same_name file file && not (txn == t)) (conflicts mode (h.lock).mode)
+      (and_from (same_name file file) (not (txn == t)) (same_name-refl file) (ap not (ne_eqb txn t (λ e. h.other (sym e))))) h.conflict,
 )
 
 then-Less : (a b : Ordering) → a ≡ Equal → ordering_then a b ≡ Less → b ≡ Less
@@ -192,7 +148,7 @@ blocker_is old txn file mode by h =
       λ t k.
           let x = blocking_entry old txn file mode t k in
           subst (λ (s : ℕ). s ≤ t) m.2
-          (elim (find-least locks_total locks_same (blocks file txn mode) (fin.entries old.locks) (fin.entries_sorted old.locks) e ((file, t), k.lock) m.1 x.0 x.1) [
+          (elim (first_passes locks_total locks_same (blocks file txn mode) (fin.entries old.locks) e ((file, t), k.lock) (fin.entries_sorted old.locks) m.1 x.0 x.1) [
             | inl q ↦ let n = ap (λ (z : LockKey × Lock). z.0.1) q in omega (arith, n)
             | inr l ↦ let n = least_first file e.0.0 e.0.1 t b.0 l in omega (arith, n)
           ]),

@@ -21,8 +21,11 @@ use Rattle.tq_intents.specs.declared.record.OpenVote.{OpenVote}
 use Rattle.tq_intents.specs.declared.record.Record.{Record}
 use Rattle.tq_node.specs.Node.{LocksIn}
 use Rattle.tq_node.specs.Records.{kept_lock}
-use Rattle.tq_shape.proofs.Places.{Some-same, Has-map, map-Has}
-use Rattle.tq_node.proofs.Maps.{key_cases, insert-same, insert-other, insert-cases, remove-other, remove-cases, retain-in, retain-from, get-Has, Has-get, get-kept}
+use Rattle.tq_shape.proofs.Places.{Some-same, Has-map, map-Has, Has-append, Has-filter, filter-Has}
+use Rattle.tq_node.proofs.Maps.{key_cases, insert-same, insert-other, insert-cases, remove-other, remove-cases, retain-in, retain-from}
+use Rattle.tq_locks.proofs.Locked.{get-kept}
+use Rattle.tq_locks.proofs.Found.{entry_of, get-entry_of, Has-looked_up}
+use Rattle.std.proofs.Math.Bool.{or-false}
 
 -- ---- lists
 
@@ -35,19 +38,10 @@ pub Has-right : {A : Type 0} (xs ys : List A) (x : A) → Has ys x → Has (xs +
 Has-right [] ys x h = h
 Has-right (z ∷ xs) ys x h = inr (Has-right xs ys x h)
 
-pub Has-cases : {A : Type 0} (xs ys : List A) (x : A) → Has (xs ++ ys) x → Has xs x ⊎ Has ys x
-Has-cases [] ys x h = inr h
-Has-cases (z ∷ xs) ys x (inl e) = inl (inl e)
-Has-cases (z ∷ xs) ys x (inr h) =
-    elim (Has-cases xs ys x h) [
-      | inl k ↦ inl (inr k)
-      | inr k ↦ inr k
-    ]
-
 pub flat_map-Has : {X Y : Type 0} (f : X → List Y) (xs : List X) (y : Y) → Has (flat_map f xs) y → (x : X) × Has xs x × Has (f x) y
 flat_map-Has f [] y h = absurd h
 flat_map-Has f (x ∷ xs) y h =
-    elim (Has-cases (f x) (flat_map f xs) y h) [
+    elim (Has-append (f x) (flat_map f xs) y h) [
       | inl k ↦ (x, inl refl, k)
       | inr k ↦ let r = flat_map-Has f xs y k in (r.0, inr r.1, r.2)
     ]
@@ -56,25 +50,6 @@ pub Has-flat_map : {X Y : Type 0} (f : X → List Y) (xs : List X) (x : X) (y : 
 Has-flat_map f [] x y h k = absurd h
 Has-flat_map f (z ∷ xs) x y (inl e) k = Has-left (f z) (flat_map f xs) y (subst (λ (w : _). Has (f w) y) (sym e) k)
 Has-flat_map f (z ∷ xs) x y (inr h) k = Has-right (f z) (flat_map f xs) y (Has-flat_map f xs x y h k)
-
-pub filter-Has : {A : Type 0} (p : A → Bool) (xs : List A) (x : A) → Has (filter p xs) x → Has xs x × (p x ≡ true)
-filter-Has p [] x h = absurd h
-filter-Has p (y ∷ xs) x h = by (p y) refl h (λ k. filter-Has p xs x k)
-  where
-    by : (b : Bool) → p y ≡ b → Has (cond b (y ∷ filter p xs) (filter p xs)) x → (Has (filter p xs) x → Has xs x × (p x ≡ true)) → Has (y ∷ xs) x × (p x ≡ true)
-    by true t (inl e) ih = (inl e, ap p (sym e) ∙ t)
-    by true t (inr k) ih = let r = ih k in (inr r.0, r.1)
-    by false t k ih = let r = ih k in (inr r.0, r.1)
-
-pub Has-filter : {A : Type 0} (p : A → Bool) (xs : List A) (x : A) → Has xs x → p x ≡ true → Has (filter p xs) x
-Has-filter p [] x h t = h
-Has-filter p (y ∷ xs) x h t = by (p y) refl h (λ r. Has-filter p xs x r t)
-  where
-    by : (b : Bool) → p y ≡ b → (y ≡ x) ⊎ Has xs x → (Has xs x → Has (filter p xs) x) → Has (cond b (y ∷ filter p xs) (filter p xs)) x
-    by true q (inl e) ih = inl e
-    by true q (inr r) ih = inr (ih r)
-    by false q (inl e) ih = absurd (true≢false (sym t ∙ ap p (sym e) ∙ q))
-    by false q (inr r) ih = ih r
 
 pub all-at : {A : Type 0} (P : A → Type 0) (xs : List A) → AllByRecursion P xs → (x : A) → Has xs x → P x
 all-at P [] h x k = absurd k
@@ -96,17 +71,6 @@ module _ {K X : Type 0} {R : K → K → Ordering} (o : IsTotalOrder R) (same : 
       by None (Some y) f g = g y refl
       by (Some x) b f g = sym (f x refl)
 
-  pub find-in : (es : List (K × X)) (q : K) (x : X) → find R q es ≡ Some x → Has es (q, x)
-  find-in [] q x h = absurd cc
-  find-in (e ∷ es) q x h =
-      elim (key_cases o same q e.0) [
-        | inl p ↦
-            let v : e.1 ≡ x = Some-same (sym (cond-true (eq_by_cmp R q e.0) (Some e.1) (find R q es) p.1) ∙ h) in
-            let k = sym p.0 in
-            inl (λ i. (k i, v i))
-        | inr p ↦ inr (find-in es q x (sym (cond-false (eq_by_cmp R q e.0) (Some e.1) (find R q es) p.1) ∙ h))
-      ]
-
   find-some : (es : List (K × X)) (q : K) (x : X) → Has es (q, x) → (y : X) × (find R q es ≡ Some y)
   find-some [] q x h = absurd h
   find-some (e ∷ es) q x h =
@@ -123,10 +87,10 @@ module _ {K X : Type 0} {R : K → K → Ordering} (o : IsTotalOrder R) (same : 
   pub from_entries-is : (es : List (K × X)) (m : FinMap R X) → ((q : K) (x : X) → Has es (q, x) → fin.get m q ≡ Some x) → ((q : K) (x : X) → fin.get m q ≡ Some x → Has es (q, x)) → fin.from_entries es ≡ m
   from_entries-is es m f g =
       map_ext (fin.from_entries es) m
-      (λ q x h. f q x (find-in es q x (sym (fin.get-from_entries o es q) ∙ h)))
+      (λ q x h. f q x (Has-looked_up o same es q x (sym (fin.get-from_entries o es q) ∙ h)))
       (λ q x h.
       let y = find-some es q x (g q x h) in
-      let e = f q y.0 (find-in es q y.0 y.1) in
+      let e = f q y.0 (Has-looked_up o same es q y.0 y.1) in
       fin.get-from_entries o es q ∙ y.1 ∙ sym e ∙ h)
 
 -- ---- locks made stable, released, dropped
@@ -134,10 +98,6 @@ module _ {K X : Type 0} {R : K → K → Ordering} (o : IsTotalOrder R) (same : 
 or-true : (b : Bool) → (b || true) ≡ true
 or-true true = refl
 or-true false = refl
-
-or-false : (b : Bool) → (b || false) ≡ b
-or-false true = refl
-or-false false = refl
 
 abbrev pub stabled : Lock → Bool → Lock
 stabled lock own = record { mode = lock.mode; since = lock.since; version = lock.version; stable = lock.stable || own }
@@ -246,8 +206,8 @@ locks-prepared locks votes t n w none h =
     entry : (k : KeptLock) → (e : LockKey × Lock) × Has (held_of locks t) e × (kept_lock e ≡ k) → fin.get (kept locks t) (k.file, t) ≡ Some (stable_lock t k).1
     entry k x =
         let e = x.0 in
-        let y = filter-Has (λ (entry : LockKey × Lock). entry.0.1 == t) (fin.entries locks) e x.1 in
-        let g = Has-get locks_total locks_same locks e y.0 in
+        let y = Has-filter (λ (entry : LockKey × Lock). entry.0.1 == t) (fin.entries locks) e x.1 in
+        let g = get-entry_of locks_total locks_same locks e y.0 in
         let at_t : fin.get locks (e.0.0, t) ≡ Some e.1 = ap (λ (z : ℕ). fin.get locks (e.0.0, z)) (sym (eqb-true e.0.1 t y.1)) ∙ g in
         subst (λ (z : KeptLock). fin.get (kept locks t) (z.file, t) ≡ Some (stable_lock t z).1) x.2 (get-own locks t e.0.0 e.1 at_t)
 
@@ -257,7 +217,7 @@ locks-prepared locks votes t n w none h =
         let x = map-some (λ (lock : Lock). (stabilised t ((g, u), lock)).1) (fin.get locks (g, u)) lock (sym (get-kept locks t (g, u)) ∙ k) in
         let was = x.0 in
         let is : record { mode = was.mode; since = was.since; version = was.version; stable = true } ≡ lock = sym (stabled-own was (u == t) (eq-eqb u t e)) ∙ x.2 in
-        let has = Has-filter (λ (entry : LockKey × Lock). entry.0.1 == t) (fin.entries locks) ((g, u), was) (get-Has locks_total locks_same locks (g, u) was x.1) (eq-eqb u t e) in (
+        let has = filter-Has (λ (entry : LockKey × Lock). entry.0.1 == t) (fin.entries locks) ((g, u), was) (entry_of locks_total locks_same locks (g, u) was x.1) (eq-eqb u t e) in (
           new_vote,
           ap (fin.get (fin.insert votes t new_vote)) e ∙ insert-same nat_cmp_total nat_cmp-IsAntisymmetric votes t new_vote,
           (kept_lock ((g, u), was), map-Has kept_lock (held_of locks t) ((g, u), was) has, λ i. ((g, u), is i)),
@@ -318,5 +278,5 @@ kept_locks-is list locks one l =
         let s = l.stable_of q.0 q.1 lock g.0 g.1 in
         let k = s.2 in
         Has-flat_map (λ (vote : ℕ × OpenVote). map (stable_lock vote.0) vote.1.locks) (open_votes list) (q.1, s.0) (q, lock)
-        (find-in nat_cmp_total nat_cmp-IsAntisymmetric (open_votes list) q.1 s.0 (sym (fin.get-from_entries nat_cmp_total (open_votes list) q.1) ∙ s.1))
+        (Has-looked_up nat_cmp_total nat_cmp-IsAntisymmetric (open_votes list) q.1 s.0 (sym (fin.get-from_entries nat_cmp_total (open_votes list) q.1) ∙ s.1))
         (subst (λ (x : LockKey × Lock). Has (map (stable_lock q.1) (s.0).locks) x) k.2 (map-Has (stable_lock q.1) (s.0).locks k.0 k.1))

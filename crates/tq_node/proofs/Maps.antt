@@ -17,24 +17,7 @@ use Rattle.tq_locks.specs.declared.mode.Lock.{Lock}
 use Rattle.tq_locks.proofs.LockMaps.{locks_total, locks_same}
 use Rattle.tq_shape.specs.Journal.{Has}
 use Rattle.tq_shape.proofs.Places.{Some-same}
-
-is_eq-Equal : (r : Ordering) → is_eq r ≡ true → r ≡ Equal
-is_eq-Equal Less h = absurd (false≢true h)
-is_eq-Equal Equal h = refl
-is_eq-Equal Greater h = absurd (false≢true h)
-
-first : (a b : Bool) → T (a && b) → T a
-first true b p = tt
-first false b p = p
-
-second : (a b : Bool) → T (a && b) → T b
-second true b p = p
-second false b p = absurd p
-
-less : (o : Ordering) → T (is_lt o) → o ≡ Less
-less Less p = refl
-less Equal p = absurd p
-less Greater p = absurd p
+use Rattle.tq_shape.proofs.Orderings.{is_eq-Equal}
 
 module _ {K : Type 0} {R : K → K → Ordering} (o : IsTotalOrder R) where
   tied-true : (q : K) → eq_by_cmp R q q ≡ true
@@ -91,58 +74,3 @@ module _ {K X : Type 0} {R : K → K → Ordering} (o : IsTotalOrder R) (same : 
         | inl t ↦ sym (retain-in m p q t) ∙ h
         | inr f ↦ let n : Path (Option X) None (Some x) = sym (get-retain m p q ∙ cond-false (p q) (fin.get m q) None f) ∙ h in absurd cc
       ]
-
-  find-Has_entry : (es : List (K × X)) (q : K) (x : X) → find R q es ≡ Some x → Has es (q, x)
-  find-Has_entry [] q x h = absurd cc
-  find-Has_entry (e ∷ es) q x h =
-      elim (key_cases o same q e.0) [
-        | inl p ↦
-            let v : e.1 ≡ x = Some-same (sym (cond-true (eq_by_cmp R q e.0) (Some e.1) (find R q es) p.1) ∙ h) in
-            let k = sym p.0 in
-            inl (λ i. (k i, v i))
-        | inr p ↦ inr (find-Has_entry es q x (sym (cond-false (eq_by_cmp R q e.0) (Some e.1) (find R q es) p.1) ∙ h))
-      ]
-
-  pub get-Has : (m : FinMap R X) (q : K) (x : X) → fin.get m q ≡ Some x → Has (fin.entries m) (q, x)
-  get-Has m q x h = find-Has_entry (fin.entries m) q x (sym (fin.get-entries m q) ∙ h)
-
-  pub below-Has : (k : K) (es : List (K × X)) → T (below_all R k es) → (e : K × X) → Has es e → R k e.0 ≡ Less
-  below-Has k [] b e h = absurd h
-  below-Has k (y ∷ es) b e (inl p) = ap (λ (z : K × X). R k z.0) (sym p) ∙ less (R k y.0) (first (is_lt (R k y.0)) (below_all R k es) b)
-  below-Has k (y ∷ es) b e (inr h) = below-Has k es (second (is_lt (R k y.0)) (below_all R k es) b) e h
-
-  Has-find_entry : (es : List (K × X)) → T (is_sorted R es) → (e : K × X) → Has es e → find R e.0 es ≡ Some e.1
-  Has-find_entry [] s e h = absurd h
-  Has-find_entry (y ∷ es) s e (inl p) =
-      ap (λ (z : K × X). cond (eq_by_cmp R z.0 y.0) (Some y.1) (find R z.0 es)) (sym p)
-      ∙ cond-true (eq_by_cmp R y.0 y.0) (Some y.1) (find R y.0 es) (ap is_eq (tied_itself o y.0))
-      ∙ ap (λ (z : K × X). Some z.1) p
-  Has-find_entry (y ∷ es) s e (inr h) =
-      let l = below-Has y.0 es (first (below_all R y.0 es) (is_sorted R es) s) e h in
-      let g : eq_by_cmp R e.0 y.0 ≡ false = ap is_eq (o.antisymm e.0 y.0 ∙ ap ordering_reverse l) in
-      cond-false (eq_by_cmp R e.0 y.0) (Some y.1) (find R e.0 es) g ∙ Has-find_entry es (second (below_all R y.0 es) (is_sorted R es) s) e h
-
-  pub Has-get : (m : FinMap R X) (e : K × X) → Has (fin.entries m) e → fin.get m e.0 ≡ Some e.1
-  Has-get m e h = fin.get-entries m e.0 ∙ Has-find_entry (fin.entries m) (fin.entries_sorted m) e h
-
--- ---- the locks of a transaction made stable
-
-find-stabilised : (t : ℕ) (es : List (LockKey × Lock)) (q : LockKey) → find lock_cmp q (map (stabilised t) es) ≡ option_map (λ (lock : Lock). (stabilised t (q, lock)).1) (find lock_cmp q es)
-find-stabilised t [] q = refl
-find-stabilised t (e ∷ es) q =
-    elim (key_cases locks_total locks_same q e.0) [
-      | inl p ↦
-          cond-true (eq_by_cmp lock_cmp q e.0) (Some (stabilised t e).1) (find lock_cmp q (map (stabilised t) es)) p.1
-          ∙ ap (λ (k : LockKey). Some (stabilised t (k, e.1)).1) (sym p.0)
-          ∙ ap (option_map (λ (lock : Lock). (stabilised t (q, lock)).1)) (sym (cond-true (eq_by_cmp lock_cmp q e.0) (Some e.1) (find lock_cmp q es) p.1))
-      | inr p ↦
-          cond-false (eq_by_cmp lock_cmp q e.0) (Some (stabilised t e).1) (find lock_cmp q (map (stabilised t) es)) p.1
-          ∙ find-stabilised t es q
-          ∙ ap (option_map (λ (lock : Lock). (stabilised t (q, lock)).1)) (sym (cond-false (eq_by_cmp lock_cmp q e.0) (Some e.1) (find lock_cmp q es) p.1))
-    ]
-
-pub get-kept : (m : Locks) (t : ℕ) (q : LockKey) → fin.get (kept m t) q ≡ option_map (λ (lock : Lock). (stabilised t (q, lock)).1) (fin.get m q)
-get-kept m t q =
-    fin.get-from_entries locks_total (map (stabilised t) (fin.entries m)) q
-    ∙ find-stabilised t (fin.entries m) q
-    ∙ ap (option_map (λ (lock : Lock). (stabilised t (q, lock)).1)) (sym (fin.get-entries m q))

@@ -11,7 +11,8 @@ use Rattle.tq_intents.specs.declared.record.KeptLock.{KeptLock}
 use Rattle.tq_intents.specs.declared.record.OpenVote.{OpenVote}
 use Rattle.tq_intents.specs.declared.record.Record.{Record}
 use Rattle.tq_intents.specs.declared.record.Record.TheVariants as stable
-use Rattle.tq_node.specs.Records.{Records, NodeState, open_vote, work_after, work_writes, records_after, node_after, kept_records, work_refusal, state_at}
+use Rattle.tq_node.specs.Records.{Records, NodeState, open_vote, work_after, work_writes, records_after, node_after, kept_records, work_refusal}
+use Rattle.tq_shape.specs.Steps.{state_at}
 use Rattle.tq_node.specs.declared.ask.NodeAsk.{NodeAsk}
 use Rattle.tq_node.specs.declared.ask.WorkAsk.{WorkAsk}
 
@@ -37,19 +38,6 @@ node_code record_code vote_code = code_by (ℕ × (ℕ × (NodeState × ℕ))) (
 abbrev pub numbered : ℕ → NodeView → NodeView
 numbered number old = record { levels = old.levels; server = old.server; state = old.state; last = number }
 
--- the server after an ask that it doesn't refuse, its number not noted yet
-abbrev pub worked : NodeView → ℕ → WorkAsk → NodeView
-worked old number ask =
-    record {
-      levels = old.levels;
-      server = old.server;
-      state = record {
-        records = work_after old.server old.state.records number ask;
-        stable = old.state.stable ++ work_writes old.server old.state.records number ask;
-      };
-      last = old.last;
-    }
-
 -- the server after a crash or a return, where that isn't refused, its number not noted yet
 abbrev pub turned : NodeView → ℕ → NodeAsk → NodeView
 turned old number ask =
@@ -73,23 +61,6 @@ ended old txn =
       state = record {
         records = record old.state.records { locks = released old.state.records.locks txn; votes = fin.remove old.state.records.votes txn };
         stable = old.state.stable ++ stable.Gone txn (open_vote old.state.records txn).number ∷ [];
-      };
-      last = old.last;
-    }
-
--- the server after a vote ends, with its writes installed
-abbrev pub ended_installed : NodeView → ℕ → NodeView
-ended_installed old txn =
-    record {
-      levels = old.levels;
-      server = old.server;
-      state = record {
-        records = record old.state.records {
-          copies = installed_all old.state.records.copies (open_vote old.state.records txn).writes;
-          locks = released old.state.records.locks txn;
-          votes = fin.remove old.state.records.votes txn;
-        };
-        stable = old.state.stable ++ (map stable.Copy (filter (is_newer old.state.records.copies) (open_vote old.state.records txn).writes) ++ stable.Gone txn (open_vote old.state.records txn).number ∷ []);
       };
       last = old.last;
     }

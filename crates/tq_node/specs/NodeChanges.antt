@@ -14,7 +14,8 @@ use Rattle.tq_node.specs.declared.ask.WorkAsk.TheVariants as work
 use Rattle.tq_node.specs.declared.change.NodeChange.{NodeChange}
 use Rattle.tq_node.specs.declared.change.NodeStep.{NodeStep}
 use Rattle.tq_node.specs.declared.change.NodeStep.TheVariants.{Nothing, Lock, Vote, Discard, Install, Release, Refresh, Crash, Return}
-use Rattle.tq_node.specs.Records.{Records, NodeState, held_lock, kept_lock, open_vote, installs, refusal, state_at}
+use Rattle.tq_node.specs.Records.{Records, NodeState, held_lock, kept_lock, open_vote, installs, refusal}
+use Rattle.tq_shape.specs.Steps.{state_at}
 use Rattle.tq_node.specs.Node.{NodeView, numbered}
 
 -- ---- the step of an ask

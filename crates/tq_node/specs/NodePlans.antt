@@ -16,19 +16,13 @@ use Rattle.tq_node.specs.declared.ask.NodeRefusal.{NodeRefusal}
 use Rattle.tq_node.specs.declared.ask.NodeRefusal.TheVariants as refusals
 use Rattle.tq_node.specs.declared.change.NodeStep.{NodeStep}
 use Rattle.tq_node.specs.declared.change.NodeStep.TheVariants as steps
-use Rattle.tq_node.specs.Records.{Records, NodeState, has_vote, installs, refuse, refuse_for, refusal, open_vote, state_at, work_after, work_refusal, work_writes, records_after, writes_of, node_after}
+use Rattle.tq_node.specs.Records.{Records, NodeState, has_vote, installs, refusal, open_vote, work_after, work_refusal, work_writes, records_after, writes_of, node_after}
+use Rattle.tq_shape.specs.Steps.{refuse, refuse_for, state_at}
 use Rattle.tq_node.specs.Node.{NodeView, answered, opening}
 use Rattle.tq_node.specs.NodeChanges.{end_step, work_step, step_of, node_change, node_changed, records_of, stepped, unnoted, NodeFits, StepFits}
+use Rattle.tq_shape.specs.Unrefused.{refuse-none, refuse_for-none}
 
 -- ---- a plan may be made
-
-test-none : (b : Bool) (r : NodeRefusal) (next : Option NodeRefusal) → refuse b r next ≡ None → (b ≡ false) × (next ≡ None)
-test-none true r next h = cc
-test-none false r next h = (refl, h)
-
-value-none : {A : Type 0} (o : Option A) (r : A → NodeRefusal) (next : Option NodeRefusal) → refuse_for o r next ≡ None → o ≡ None
-value-none None r next h = refl
-value-none (Some x) r next h = cc
 
 no_vote : (o : Option OpenVote) → is_some o ≡ false → o ≡ None
 no_vote None h = refl
@@ -44,20 +38,20 @@ end_fits old number txn false open_vote = (open_vote, refl)
 
 work_fits : (server : ℕ) (old : Records) (number : ℕ) (ask : WorkAsk) → work_refusal old ask ≡ None → StepFits old number (work_step server old number ask)
 work_fits server old number (work.Lock txn file mode) h =
-    let up = test-none old.down refusals.Down _ h in
-    let vote = test-none (has_vote old txn) refusals.Prepared _ up.1 in
-    (no_vote (fin.get old.votes txn) vote.0, value-none (blocker old.locks file txn mode) refusals.Held None vote.1)
+    let up = refuse-none old.down refusals.Down _ h in
+    let vote = refuse-none (has_vote old txn) refusals.Prepared _ up.1 in
+    (no_vote (fin.get old.votes txn) vote.0, (refuse_for-none (blocker old.locks file txn mode) refusals.Held None vote.1).0)
 work_fits server old number (work.Prepare txn writes) h =
-    let up = test-none old.down refusals.Down _ h in
-    let vote = test-none (has_vote old txn) refusals.Prepared _ up.1 in
+    let up = refuse-none old.down refusals.Down _ h in
+    let vote = refuse-none (has_vote old txn) refusals.Prepared _ up.1 in
     (no_vote (fin.get old.votes txn) vote.0, (refl, refl))
 work_fits server old number (work.Decide txn verdict cite) h =
-    let up = test-none old.down refusals.Down _ h in
-    let vote = test-none (not (has_vote old txn)) refusals.NothingHere None up.1 in
+    let up = refuse-none old.down refusals.Down _ h in
+    let vote = refuse-none (not (has_vote old txn)) refusals.NothingHere None up.1 in
     end_fits old number txn (installs server old txn verdict) (a_vote (has_vote old txn) vote.0)
 work_fits server old number (work.Release txn) h =
-    let up = test-none old.down refusals.Down _ h in
-    let vote = test-none (has_vote old txn) refusals.Prepared _ up.1 in
+    let up = refuse-none old.down refusals.Down _ h in
+    let vote = refuse-none (has_vote old txn) refusals.Prepared _ up.1 in
     no_vote (fin.get old.votes txn) vote.0
 work_fits server old number (work.Peek file) h = tt
 work_fits server old number (work.Refresh file version content from) h = tt

@@ -26,6 +26,7 @@ use Rattle.tq_node.specs.declared.ask.Verdict.{Verdict}
 use Rattle.tq_node.specs.declared.ask.Verdict.TheVariants.{Abort, Commit}
 use Rattle.tq_node.specs.declared.ask.WorkAsk.{WorkAsk}
 use Rattle.tq_node.specs.declared.ask.WorkAsk.TheVariants.{Lock as LockAsk, Prepare, Decide, Release, Peek, Refresh}
+use Rattle.tq_shape.specs.Steps.{refuse, refuse_for, state_at}
 
 -- the raw records of a server: copies, at most one of a file; locks; open votes; down or not
 pub record Records : Type 0 where
@@ -59,15 +60,6 @@ abbrev pub are_good_writes : List Write → Bool
 are_good_writes writes = nat_le (length writes) 64 && files_rise writes
 
 -- ---- the refusals, in order
-
--- the refusal where the test holds, and else the next
-abbrev pub refuse : Bool → NodeRefusal → Option NodeRefusal → Option NodeRefusal
-refuse test reason next = if test then Some reason else next
-
--- the refusal for the value, where there is one, and else the next
-abbrev pub refuse_for : {A : Type 0} → Option A → (A → NodeRefusal) → Option NodeRefusal → Option NodeRefusal
-refuse_for None reason next = next
-refuse_for (Some x) reason next = Some (reason x)
 
 abbrev pub lock_refusal : Records → ℕ → List ℕ → Mode → Option NodeRefusal
 lock_refusal old txn file mode = refuse (has_vote old txn) Prepared (refuse_for (blocker old.locks file txn mode) Held None)
@@ -181,10 +173,6 @@ pub record NodeState : Type 0 where
 abbrev pub answer_at : Option NodeRefusal → NodeReply → NodeReply
 answer_at None reply = reply
 answer_at (Some reason) reply = Refused reason
-
-abbrev pub state_at : {S : Type 0} → Option NodeRefusal → S → S → S
-state_at None old new = new
-state_at (Some reason) old new = old
 
 abbrev pub node_reply : ℕ → NodeState → NodeAsk → NodeReply
 node_reply server old ask = answer_at (refusal old.records ask) (reply_of server old.records ask)

@@ -1,3 +1,6 @@
+ghost use Rattle.std.specs.Prelude.{◌≡◌};
+ghost use Rattle.tq_node.specs.Records as spec;
+
 use tq_locks::Mode;
 use tq_shape::{ExactClone, Seq};
 use tq_store::{Content, FileName, Write};
@@ -121,6 +124,27 @@ pub enum NodeReply {
     Crashed,
     Returned,
     Refused(NodeRefusal),
+}
+
+impl Verdict {
+    /// Whether it is Commit and cites the vote that the entry of that number gave at the server.
+    pub fn cites(&self, server: u64, number: u64) -> bool
+        ensures { result ≡ spec.cites_vote self.now server number }
+    {
+        match self {
+            Verdict::Abort => false,
+            Verdict::Commit { votes } => are_citing(votes.as_slice(), server, number),
+        }
+    }
+}
+
+/// Whether the vote of this server with this number is among those cited.
+fn are_citing(votes: &[CitedVote], server: u64, number: u64) -> bool
+    ensures { result ≡ spec.are_citing votes.now server number }
+{
+    votes
+        .iter()
+        .any(|vote| vote.server == server && vote.number == number)
 }
 
 impl ExactClone for CitedVote {

@@ -488,14 +488,7 @@ impl Node {
     fn installs(&self, txn: u64, verdict: &Verdict) -> bool
         ensures { result ≡ spec.installs self.now.server self.now.state.records txn verdict.now }
     {
-        match verdict {
-            Verdict::Abort => false,
-            Verdict::Commit { votes } => cites(
-                votes.as_slice(),
-                self.server.number(),
-                self.vote_number(txn),
-            ),
-        }
+        verdict.cites(self.server.number(), self.vote_number(txn))
     }
 
     /// The writes that are above the copies here.
@@ -677,25 +670,16 @@ fn planned(number: u64, reply: NodeReply, step: NodeStep) -> Plan<NodeReply, Nod
     }
 }
 
-/// Whether the vote of this server with this number is among those cited.
-fn cites(votes: &[CitedVote], server: u64, number: u64) -> bool
-    ensures { result ≡ spec.are_citing votes.now server number }
-{
-    votes
-        .iter()
-        .any(|vote| vote.server == server && vote.number == number)
-}
-
 /// Locks, as a vote lists them.
 fn held_locks(alloc: Global, entries: &[LockEntry]) -> Result<Seq<HeldLock>, Memory>
     ensures { IfOk result (λ held. held ≡ map spec.held_lock entries.now) }
 {
     let mut held = Vec::new(alloc);
-    for (key, lock) in entries {
+    for entry in entries {
         held.push(HeldLock {
-            file: key.0,
-            mode: lock.mode,
-            since: lock.since,
+            file: entry.file,
+            mode: entry.lock.mode,
+            since: entry.lock.since,
         })?;
     }
     Ok(Seq::from_vec(held))
@@ -706,12 +690,12 @@ fn kept_locks(alloc: Global, entries: &[LockEntry]) -> Result<Seq<KeptLock>, Mem
     ensures { IfOk result (λ kept. kept ≡ map spec.kept_lock entries.now) }
 {
     let mut kept = Vec::new(alloc);
-    for (key, lock) in entries {
+    for entry in entries {
         kept.push(KeptLock {
-            file: key.0,
-            mode: lock.mode,
-            since: lock.since,
-            version: lock.version,
+            file: entry.file,
+            mode: entry.lock.mode,
+            since: entry.lock.since,
+            version: entry.lock.version,
         })?;
     }
     Ok(Seq::from_vec(kept))

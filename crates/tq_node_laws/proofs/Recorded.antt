@@ -21,10 +21,13 @@ use Rattle.tq_node.specs.declared.ask.WorkAsk.{WorkAsk}
 use Rattle.tq_node.specs.declared.ask.WorkAsk.TheVariants as work
 use Rattle.tq_node.specs.Node.{IsKept, IsSound}
 use Rattle.tq_node.specs.NodeJournal.{NodeEntry, node_state}
-use Rattle.tq_node.specs.Records.{Records, NodeState, has_vote, refuse, work_refusal, refusal, open_vote, installs, kept_lock, work_after, work_writes, state_at, node_after}
+use Rattle.tq_node.specs.Records.{Records, NodeState, has_vote, work_refusal, refusal, open_vote, installs, kept_lock, work_after, work_writes, node_after}
+use Rattle.tq_shape.specs.Steps.{refuse, state_at}
 use Rattle.tq_node.proofs.Numbers.{above_greater}
 use Rattle.tq_node.proofs.Sound.{open_votes-copies, sound-later, sound-granted, sound-released, sound-crashed, sound-copies, sound-newer, sound-prepared, sound-ended, sound-opening, sound-as, kept_is}
-use Rattle.tq_node_laws.proofs.StepFrames.{refuse-none, none_of, some_of, open_vote-is}
+use Rattle.tq_node_laws.proofs.StepFrames.{open_vote-is}
+use Rattle.tq_shape.proofs.Options.{none_of, some_of}
+use Rattle.tq_shape.specs.Unrefused.{refuse-none}
 
 pub record IsRecorded (last : ℕ) (st : NodeState) : Type 0 where
   pub sound : IsSound st.stable last st.records.copies st.records.locks

@@ -18,7 +18,8 @@ use Rattle.tq_locks.proofs.LockMaps.{locks_total, locks_same}
 use Rattle.tq_intents.specs.Kept.{Votes, stable_lock}
 use Rattle.tq_intents.specs.declared.record.KeptLock.{KeptLock}
 use Rattle.tq_intents.specs.declared.record.OpenVote.{OpenVote}
-use Rattle.tq_node.specs.Records.{Records, NodeState, has_vote, holds_exclusively, not_locked, are_good_writes, refuse, refuse_for, work_refusal, refusal, open_vote, installs, held_lock, kept_lock, work_reply, work_after, records_after, answer_at, state_at, node_reply, node_after}
+use Rattle.tq_node.specs.Records.{Records, NodeState, has_vote, holds_exclusively, not_locked, are_good_writes, work_refusal, refusal, open_vote, installs, held_lock, kept_lock, work_reply, work_after, records_after, answer_at, node_reply, node_after}
+use Rattle.tq_shape.specs.Steps.{refuse, refuse_for, state_at}
 use Rattle.tq_node.specs.declared.ask.CitedVote.{CitedVote}
 use Rattle.tq_node.specs.declared.ask.HeldLock.{HeldLock}
 use Rattle.tq_node.specs.declared.ask.NodeAsk.{NodeAsk}
@@ -33,37 +34,16 @@ use Rattle.tq_node.specs.declared.ask.WorkAsk.TheVariants as work
 use Rattle.tq_shape.specs.Journal.{Has}
 use Rattle.tq_node.specs.NodeJournal.{NodeEntry, node_state, IsLegalNode, IsCited, HasWrite}
 use Rattle.tq_node_laws.specs.NodeLaws.{IsOwner, held_kept}
-use Rattle.tq_shape.proofs.Places.{none-Has, Has-map, map-Has}
+use Rattle.tq_shape.proofs.Places.{none-Has, Has-map, map-Has, Has-filter, filter-Has}
 use Rattle.tq_node_laws.proofs.Frames.{AreAmong, IsYes, IsRaised, Tells, Frame}
-use Rattle.tq_node.proofs.Maps.{insert-same, insert-other, insert-cases, remove-other, remove-cases, retain-from, get-Has, Has-get, get-kept}
-use Rattle.tq_node.proofs.KeptLocks.{map-some, filter-Has, Has-filter, stabled, stabled-own, stabled-other, get-own, released-other, only_stable-in}
+use Rattle.tq_node.proofs.Maps.{insert-same, insert-other, insert-cases, remove-other, remove-cases, retain-from}
+use Rattle.tq_locks.proofs.Locked.{get-kept}
+use Rattle.tq_locks.proofs.Found.{entry_of, get-entry_of}
+use Rattle.tq_node.proofs.KeptLocks.{map-some, stabled, stabled-own, stabled-other, get-own, released-other, only_stable-in}
 use Rattle.tq_node_laws.proofs.Installed.{installed-cases, all-low, all-cases}
-
--- ---- refusals
-
-pub refuse-none : (b : Bool) (r : NodeRefusal) (next : Option NodeRefusal) → refuse b r next ≡ None → (b ≡ false) × (next ≡ None)
-refuse-none true r next h = absurd cc
-refuse-none false r next h = (refl, h)
-
-pub refuse_for-none : {A : Type 0} (o : Option A) (r : A → NodeRefusal) (next : Option NodeRefusal) → refuse_for o r next ≡ None → (o ≡ None) × (next ≡ None)
-refuse_for-none None r next h = (refl, h)
-refuse_for-none (Some x) r next h = absurd cc
-
-pub none_of : {A : Type 0} (o : Option A) → is_some o ≡ false → o ≡ None
-none_of None h = refl
-none_of (Some x) h = absurd (true≢false h)
-
-pub some_of : {A : Type 0} (o : Option A) → not (is_some o) ≡ false → (x : A) × (o ≡ Some x)
-some_of None h = absurd (true≢false h)
-some_of (Some x) h = (x, refl)
-
-pub map-none : {A B : Type 0} (f : A → B) (o : Option A) → option_map f o ≡ None → o ≡ None
-map-none f None h = refl
-map-none f (Some x) h = absurd cc
-
-same_text : (a : List ℕ) → Rattle.std.specs.Cmp.Lexicographic.pointwise (◌==◌) a a ≡ true
-same_text [] = refl
-same_text (x ∷ a) = and_from _ _ (eq-eqb x x refl) (same_text a)
+use Rattle.tq_store.proofs.SameName.{same_name-refl}
+use Rattle.tq_shape.specs.Unrefused.{refuse-none, refuse_for-none}
+use Rattle.tq_shape.proofs.Options.{none_of, some_of, map-none}
 
 exclusive_mode : (m : Mode) → is_exclusive m ≡ true → m ≡ Exclusive
 exclusive_mode Exclusive h = refl
@@ -190,8 +170,8 @@ lock_frame s n old t f m r none reply =
     free : (u : ℕ) (lock : Lock) → u ≢ t → fin.get old.locks (f, u) ≡ Some lock → conflicts m lock.mode ≡ false
     free u lock ne h =
         elim (cases_Bool (conflicts m lock.mode)) [
-          | inl c ↦ absurd (none-Has (blocks f t m) (fin.entries old.locks) unblocked ((f, u), lock) (get-Has locks_total locks_same old.locks (f, u) lock h)
-              (and_from _ _ (and_from _ _ (same_text f) (ap not (ne_eqb t u (λ e. ne (sym e))))) c))
+          | inl c ↦ absurd (none-Has (blocks f t m) (fin.entries old.locks) unblocked ((f, u), lock) (entry_of locks_total locks_same old.locks (f, u) lock h)
+              (and_from _ _ (and_from _ _ (same_name-refl f) (ap not (ne_eqb t u (λ e. ne (sym e))))) c))
           | inr c ↦ c
         ]
 
@@ -318,8 +298,8 @@ prepare_frame s n old t w r none reply =
 
     own_entry : (entry : LockKey × Lock) → Has (held_of old.locks t) entry → fin.get (kept old.locks t) ((kept_lock entry).file, t) ≡ Some (stable_lock t (kept_lock entry)).1
     own_entry entry has =
-        let x = filter-Has (λ (entry : LockKey × Lock). entry.0.1 == t) (fin.entries old.locks) entry has in
-        let g = Has-get locks_total locks_same old.locks entry x.0 in
+        let x = Has-filter (λ (entry : LockKey × Lock). entry.0.1 == t) (fin.entries old.locks) entry has in
+        let g = get-entry_of locks_total locks_same old.locks entry x.0 in
         let of_t : entry.0.1 ≡ t = eqb-true entry.0.1 t x.1 in
         let at_t : fin.get old.locks (entry.0.0, t) ≡ Some entry.1 = ap (λ (z : ℕ). fin.get old.locks (entry.0.0, z)) (sym of_t) ∙ g in
         get-own old.locks t entry.0.0 entry.1 at_t
@@ -328,7 +308,7 @@ prepare_frame s n old t w r none reply =
     own_only f lock g =
         let x = map-some (λ (lock : Lock). (stabilised t ((f, t), lock)).1) (fin.get old.locks (f, t)) lock (sym (get-kept old.locks t (f, t)) ∙ g) in
         let is = sym (stabled-own x.0 (t == t) (eq-eqb t t refl)) ∙ x.2 in
-        let has = Has-filter (λ (entry : LockKey × Lock). entry.0.1 == t) (fin.entries old.locks) ((f, t), x.0) (get-Has locks_total locks_same old.locks (f, t) x.0 x.1) (eq-eqb t t refl) in
+        let has = filter-Has (λ (entry : LockKey × Lock). entry.0.1 == t) (fin.entries old.locks) ((f, t), x.0) (entry_of locks_total locks_same old.locks (f, t) x.0 x.1) (eq-eqb t t refl) in
         (kept_lock ((f, t), x.0), map-Has kept_lock (held_of old.locks t) ((f, t), x.0) has, λ i. ((f, t), is i))
 
     owned : IsOwner (kept old.locks t) t new_vote
@@ -542,8 +522,8 @@ pub held_of-each : (locks : Locks) (t : ℕ) (item : HeldLock) → Has (map held
     → (lock : Lock) × (fin.get locks (item.file, t) ≡ Some lock) × (lock.mode ≡ item.mode) × (lock.since ≡ item.since)
 held_of-each locks t item has =
     let x = Has-map held_lock (held_of locks t) item has in
-    let y = filter-Has (λ (entry : LockKey × Lock). entry.0.1 == t) (fin.entries locks) x.0 x.1 in
-    let g = Has-get locks_total locks_same locks x.0 y.0 in
+    let y = Has-filter (λ (entry : LockKey × Lock). entry.0.1 == t) (fin.entries locks) x.0 x.1 in
+    let g = get-entry_of locks_total locks_same locks x.0 y.0 in
     let of_t : x.0.0.1 ≡ t = eqb-true x.0.0.1 t y.1 in
     let at_t : fin.get locks (x.0.0.0, t) ≡ Some x.0.1 = ap (λ (z : ℕ). fin.get locks (x.0.0.0, z)) (sym of_t) ∙ g in
     (x.0.1, ap (λ (z : HeldLock). fin.get locks (z.file, t)) (sym x.2) ∙ at_t, ap (λ (z : HeldLock). z.mode) x.2, ap (λ (z : HeldLock). z.since) x.2)
@@ -552,4 +532,4 @@ pub all-held_of : (locks : Locks) (t : ℕ) (f : List ℕ) (lock : Lock) → fin
     → Has (map held_lock (held_of locks t)) (record { file = f; mode = lock.mode; since = lock.since })
 all-held_of locks t f lock g =
     map-Has held_lock (held_of locks t) ((f, t), lock)
-    (Has-filter (λ (entry : LockKey × Lock). entry.0.1 == t) (fin.entries locks) ((f, t), lock) (get-Has locks_total locks_same locks (f, t) lock g) (eq-eqb t t refl))
+    (filter-Has (λ (entry : LockKey × Lock). entry.0.1 == t) (fin.entries locks) ((f, t), lock) (entry_of locks_total locks_same locks (f, t) lock g) (eq-eqb t t refl))

@@ -5,7 +5,7 @@ use Rattle.std.proofs.lemmas.Bool.{true≢false, eq-eqb}
 use Rattle.std.specs.FinMap as fin
 use Rattle.std.specs.Option.{option_map_or}
 use Rattle.tq_shape.specs.Journal.{Has}
-use Rattle.tq_shape.proofs.Places.{Has-map, Has-append}
+use Rattle.tq_shape.proofs.Places.{Has-map, Has-append, Has-filter}
 use Rattle.tq_store.specs.Copies.{copy_of, installed_all, is_newer}
 use Rattle.tq_store.specs.declared.write.Write.{Write}
 use Rattle.tq_locks.specs.Locks.{Locks, LockKey, held_of, only_stable}
@@ -23,9 +23,10 @@ use Rattle.tq_node.specs.declared.ask.WorkAsk.{WorkAsk}
 use Rattle.tq_node.specs.declared.ask.WorkAsk.TheVariants as work
 use Rattle.tq_node.specs.Node.{stopped}
 use Rattle.tq_node.specs.NodeJournal.{NodeEntry, inner, IsCited}
-use Rattle.tq_node.specs.Records.{Records, NodeState, work_refusal, open_vote, installs, kept_lock, work_reply, work_after, work_writes, records_after, state_at}
+use Rattle.tq_node.specs.Records.{Records, NodeState, work_refusal, open_vote, installs, kept_lock, work_reply, work_after, work_writes, records_after}
+use Rattle.tq_shape.specs.Steps.{state_at}
 use Rattle.tq_node.proofs.Maps.{retain-from}
-use Rattle.tq_node.proofs.KeptLocks.{filter-Has, only_stable-in}
+use Rattle.tq_node.proofs.KeptLocks.{only_stable-in}
 use Rattle.tq_node_laws.proofs.Installed.{all-cases}
 use Rattle.tq_node.proofs.Numbers.{above_greater}
 use Rattle.tq_node.proofs.Sound.{sound-crashed}
@@ -207,7 +208,7 @@ mid_part s last st t verdict cite k true e h is_open =
 
     of_vote : (write : Write) → Has (take k (filter (is_newer st.records.copies) (open_vote st.records t).writes)) write → Has (open_vote st.records t).writes write
     of_vote write has =
-        (filter-Has (is_newer st.records.copies) (open_vote st.records t).writes write
+        (Has-filter (is_newer st.records.copies) (open_vote st.records t).writes write
         (Has-take k (filter (is_newer st.records.copies) (open_vote st.records t).writes) write has)).0
 
 -- the intents and locks of a vote

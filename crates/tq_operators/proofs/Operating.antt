@@ -8,39 +8,37 @@ use Rattle.tq_world.specs.World.{empty_world}
 use Rattle.tq_world.specs.Steps.{world_after}
 use Rattle.tq_node.specs.declared.ask.NodeAsk.{NodeAsk}
 use Rattle.tq_node.specs.declared.ask.NodeReply.{NodeReply}
-use Rattle.tq_txn.specs.declared.asker.Heard.{Heard}
-use Rattle.tq_txn.specs.declared.asker.Heard.TheVariants as heard
-use Rattle.tq_txn.specs.declared.asker.AskFault.{AskFault}
-use Rattle.tq_txn.specs.declared.asker.AskFault.TheVariants as faults
-use Rattle.tq_txn.specs.declared.asker.Told.{Told}
-use Rattle.tq_txn.specs.declared.asker.Told.TheVariants.{Full, NotFounded}
-use Rattle.tq_txn.specs.Line.{Line, Ends, AsksNode, AsksDesk, AsksView, then_line, heard_node, fault_of_ask}
+use Rattle.tq_txn.specs.declared.asker.Exchange.{Exchange}
+use Rattle.tq_txn.specs.declared.asker.Exchange.TheVariants as exchanges
+use Rattle.tq_part.specs.declared.fault.AskFault.{AskFault}
+use Rattle.tq_part.specs.declared.fault.AskFault.TheVariants as faults
+use Rattle.tq_txn.specs.Dialogue.{Told, Dialogue, Ends, AsksNode, AsksDesk, AsksView, then_line, node_exchange, fault_of_ask}
 use Rattle.tq_refresh.specs.declared.job.Job.{Job}
 use Rattle.tq_operators.specs.Operators.{Mended, nothing_mended, answer_in, job_asked, jobs_asked, with_job, job_text, count_text, refresh_asked, refresh_jobs, refreshed_text}
 use Rattle.tq_print.specs.Print.{printed}
 use Rattle.tq_print.specs.Refusals.{is_memory}
 use Rattle.tq_asking.specs.Asking.{Ran, run_line, node_told, desk_told, view_told}
-use Rattle.tq_asking.specs.Recorded.{RecorderView, Leads, IsLed, full_limits}
-use Rattle.tq_asking.proofs.Leading.{leads_more, then_ran}
+use Rattle.tq_asking.specs.Recorded.{RecorderView, Replays, IsReplayed, full_limits}
+use Rattle.tq_asking.proofs.Leading.{replays_more, then_ran}
 
-pub node_answered : (server : ℕ) (ask : NodeAsk) (told : Told NodeReply) (old new : RecorderView) → IsLed old → IsLed new → new.journals.levels ≡ old.journals.levels → new.told ≡ old.told ++ heard.Node server ask told ∷ []
+pub node_answered : (server : ℕ) (ask : NodeAsk) (told : Told NodeReply) (old new : RecorderView) → IsReplayed old → IsReplayed new → new.journals.levels ≡ old.journals.levels → new.told ≡ old.told ++ exchanges.Node server ask told ∷ []
     → (told ≡ node_told old.journals server ask) × (new.journals ≡ world_after old.journals (steps.Node server ask))
-node_answered server ask told old new led_old led_new levels grew =
-    let P : ℕ → Type 0 = λ l. Leads (empty_world l full_limits) new.told new.journals in
-    let Q : List Heard → Type 0 = λ t. Leads (empty_world old.journals.levels full_limits) t new.journals in
-    let all = subst Q grew (subst P levels led_new) in
-    let led = leads_more old.told (heard.Node server ask told ∷ []) _ old.journals new.journals led_old all in
-    (led.0, led.1)
+node_answered server ask told old new replayed_old replayed_new levels grew =
+    let P : ℕ → Type 0 = λ l. Replays (empty_world l full_limits) new.told new.journals in
+    let Q : List Exchange → Type 0 = λ t. Replays (empty_world old.journals.levels full_limits) t new.journals in
+    let all = subst Q grew (subst P levels replayed_new) in
+    let replayed = replays_more old.told (exchanges.Node server ask told ∷ []) _ old.journals new.journals replayed_old all in
+    (replayed.0, replayed.1)
 
 -- nor is anything told of one that was not taken
-pub node_refused : (server : ℕ) (ask : NodeAsk) (fault : AskFault) (old new : RecorderView) → is_memory (fault_of_ask fault) ≡ false → IsLed old → IsLed new → new.journals.levels ≡ old.journals.levels → new.told ≡ old.told ++ heard_node server ask (Err fault)
+pub node_refused : (server : ℕ) (ask : NodeAsk) (fault : AskFault) (old new : RecorderView) → is_memory (fault_of_ask fault) ≡ false → IsReplayed old → IsReplayed new → new.journals.levels ≡ old.journals.levels → new.told ≡ old.told ++ node_exchange server ask (Err fault)
     → (None ≡ answer_in (node_told old.journals server ask)) × (new.journals ≡ world_after old.journals (steps.Node server ask))
-node_refused server ask faults.Memory old new fine led_old led_new levels grew = absurd cc
-node_refused server ask (faults.JournalFull part) old new fine led_old led_new levels grew =
-    let is = node_answered server ask (Full part) old new led_old led_new levels grew in
+node_refused server ask faults.Memory old new fine replayed_old replayed_new levels grew = absurd cc
+node_refused server ask (faults.JournalFull part) old new fine replayed_old replayed_new levels grew =
+    let is = node_answered server ask (Err (faults.JournalFull part)) old new replayed_old replayed_new levels grew in
     (ap answer_in is.0, is.1)
-node_refused server ask (faults.Unfounded part number) old new fine led_old led_new levels grew =
-    let is = node_answered server ask (NotFounded part number) old new led_old led_new levels grew in
+node_refused server ask (faults.Unfounded part number) old new fine replayed_old replayed_new levels grew =
+    let is = node_answered server ask (Err (faults.Unfounded part number)) old new replayed_old replayed_new levels grew in
     (ap answer_in is.0, is.1)
 
 -- three texts behind one another
@@ -49,13 +47,13 @@ three_texts old a b c x y z first second third =
     third ∙ ap (λ t. t ++ c) (second ∙ ap (λ t. t ++ b) first) ∙ append_assoc (old ++ a) b c ∙ append_assoc old a (b ++ c)
 
 -- two lines, the second by the first's end, are run one after the other
-pub then_end : {A B : Type 0} (line : Line A) (next : A → Line B) (old : JournalsView) → (run_line old (then_line line next)).end ≡ (run_line (run_line old line).after (next (run_line old line).end)).end
+pub then_end : {A B : Type 0} (line : Dialogue A) (next : A → Dialogue B) (old : JournalsView) → (run_line old (then_line line next)).end ≡ (run_line (run_line old line).after (next (run_line old line).end)).end
 then_end (Ends a) next old = refl
 then_end (AsksNode server ask more) next old = then_end (more (node_told old server ask)) next (world_after old (steps.Node server ask))
 then_end (AsksDesk ask more) next old = then_end (more (desk_told old ask)) next (world_after old (steps.Desk ask))
 then_end (AsksView ask more) next old = then_end (more (view_told old ask)) next (world_after old (steps.View ask))
 
-pub then_after : {A B : Type 0} (line : Line A) (next : A → Line B) (old : JournalsView) → (run_line old (then_line line next)).after ≡ (run_line (run_line old line).after (next (run_line old line).end)).after
+pub then_after : {A B : Type 0} (line : Dialogue A) (next : A → Dialogue B) (old : JournalsView) → (run_line old (then_line line next)).after ≡ (run_line (run_line old line).after (next (run_line old line).end)).after
 then_after (Ends a) next old = refl
 then_after (AsksNode server ask more) next old = then_after (more (node_told old server ask)) next (world_after old (steps.Node server ask))
 then_after (AsksDesk ask more) next old = then_after (more (desk_told old ask)) next (world_after old (steps.Desk ask))

@@ -1,5 +1,5 @@
 -- The lines of operators: the refresh of stale copies, and the board.
-use Rattle.std.specs.Prelude.{◌≡◌, ℕ, ◌+◌, Bool, true, false, cond, List, [], ◌∷◌, ◌++◌, length, Option, Some, None, codes}
+use Rattle.std.specs.Prelude.{◌≡◌, ℕ, ◌+◌, Bool, true, false, cond, List, [], ◌∷◌, ◌++◌, length, Option, Some, None, Ok, Err, codes}
 use Rattle.std.specs.Fmt.{decimal}
 use Rattle.std.specs.Option.{option_and_then, option_map_or}
 use Rattle.tq_node.specs.declared.ask.NodeAsk.{NodeAsk}
@@ -13,18 +13,16 @@ use Rattle.tq_tables.specs.Tables.{tables_of}
 use Rattle.tq_refresh.specs.Plan.{plan_of, refresh_of}
 use Rattle.tq_refresh.specs.declared.job.Job.{Job}
 use Rattle.tq_board.specs.Board.{board_text}
-use Rattle.tq_txn.specs.declared.asker.Told.{Told}
-use Rattle.tq_txn.specs.declared.asker.Told.TheVariants.{Answer}
-use Rattle.tq_txn.specs.Line as asks
-use Rattle.tq_txn.specs.Line.{Ends, AsksNode, then_line}
+use Rattle.tq_txn.specs.Dialogue as asks
+use Rattle.tq_txn.specs.Dialogue.{Told, Ends, AsksNode, then_line}
 use Rattle.tq_print.specs.Print.{printed}
 
 -- ---- one job of a refresh
 
 -- the reply to an ask, with the number of its entry; none where the ask was not taken
 abbrev pub answer_in : Told NodeReply → Option (ℕ × NodeReply)
-answer_in (Answer number reply) = Some (number, reply)
-answer_in other = None
+answer_in (Ok told) = Some (told.number, told.reply)
+answer_in (Err fault) = None
 
 abbrev pub is_refreshed : NodeReply → Bool
 is_refreshed Refreshed = true
@@ -38,12 +36,12 @@ took answer = option_map_or (λ a. is_refreshed a.1) answer false
 abbrev pub mend_ask : Job → Option (ℕ × NodeReply) → Option NodeAsk
 mend_ask job answer = option_and_then (λ a. refresh_of job a.0 a.1) answer
 
-abbrev pub mend_asked : Job → Option NodeAsk → asks.Line Bool
+abbrev pub mend_asked : Job → Option NodeAsk → asks.Dialogue Bool
 mend_asked job None = Ends false
 mend_asked job (Some ask) = AsksNode job.server.number ask (λ told. Ends (took (answer_in told)))
 
 -- the source is asked for its copy, and where it tells one the server is asked to take it
-abbrev pub job_asked : Job → asks.Line Bool
+abbrev pub job_asked : Job → asks.Dialogue Bool
 job_asked job = AsksNode job.source.number (Work (Peek job.file)) (λ told. mend_asked job (mend_ask job (answer_in told)))
 
 -- the servers of the job are of a tree of those levels
@@ -67,7 +65,7 @@ job_text job false = codes "not refreshed " ++ job.file ++ codes " at " ++ decim
 abbrev pub with_job : Mended → Job → Bool → Mended
 with_job mended job refreshed = record { text = mended.text ++ printed (job_text job refreshed); count = mended.count + cond refreshed 1 0 }
 
-abbrev pub jobs_asked : Mended → List Job → asks.Line Mended
+abbrev pub jobs_asked : Mended → List Job → asks.Dialogue Mended
 jobs_asked mended [] = Ends mended
 jobs_asked mended (job ∷ jobs) = then_line (job_asked job) (λ refreshed. jobs_asked (with_job mended job refreshed) jobs)
 
@@ -83,7 +81,7 @@ abbrev pub refresh_jobs : JournalsView → List Job
 refresh_jobs journals = plan_of (tables_of journals) (view_at journals.levels journals.view)
 
 -- each job of the plan, and then how many of them mended a copy
-abbrev pub refresh_asked : JournalsView → asks.Line (List ℕ)
+abbrev pub refresh_asked : JournalsView → asks.Dialogue (List ℕ)
 refresh_asked journals =
     then_line (jobs_asked nothing_mended (refresh_jobs journals)) (λ mended. Ends (refreshed_text (length (refresh_jobs journals)) mended))
 

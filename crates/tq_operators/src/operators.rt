@@ -4,7 +4,7 @@ ghost use Rattle.std.specs.List.{All};
 ghost use Rattle.std.specs.Option.{option_map};
 ghost use Rattle.tq_world.specs.Steps.{world_after};
 ghost use Rattle.tq_world.specs.declared.answer.Step.TheVariants as steps;
-ghost use Rattle.tq_txn.specs.Line.{fault_of_ask};
+ghost use Rattle.tq_txn.specs.Dialogue.{fault_of_ask};
 ghost use Rattle.tq_asking.specs.Asking.{node_told, run_line};
 ghost use Rattle.tq_operators.specs.Operators as spec;
 ghost use Rattle.tq_print.specs.Print.{printed};
@@ -133,9 +133,9 @@ fn answer_of(
     ensures after { OnOk result (recorder.new.journals ≡ world_after recorder.old.journals (steps.Node server.number ask)) }
     ensures tree { recorder.new.journals.levels ≡ recorder.old.journals.levels }
 {
-    recorder.led();
+    recorder.replayed();
     let result = recorder.node(alloc, server, ask);
-    recorder.led();
+    recorder.replayed();
     match result {
         Ok(told) => Ok(Some(told)),
         Err(fault) => {

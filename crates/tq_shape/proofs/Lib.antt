@@ -5,3 +5,4 @@ pub mod Joined
 pub mod Places
 pub mod Marks
 pub mod Orderings
+pub mod Options

@@ -1,6 +1,6 @@
 -- The entries of a journal that grows, and values in lists.
-use Rattle.std.proofs.Common.{◌≡◌, ℕ, suc, ◌≤◌, ◌<◌, Bool, true, eqb, List, [], ◌∷◌, ◌++◌, length, map, Option, Some, None, refl, sym, ap, ◌∙◌, ◌⊎◌, inl, inr, arith}
-use Rattle.std.proofs.lemmas.Bool.{cases_Bool, cond-true, cond-false, eqb-true, eq-eqb, ne_eqb, and_parts, or_cases, or_left, or_right, false≢true}
+use Rattle.std.proofs.Common.{◌≡◌, ℕ, suc, ◌≤◌, ◌<◌, Bool, true, false, cond, eqb, List, [], ◌∷◌, ◌++◌, length, map, filter, Option, Some, None, refl, sym, ap, ◌∙◌, ◌⊎◌, inl, inr, arith}
+use Rattle.std.proofs.lemmas.Bool.{cases_Bool, cond-true, cond-false, eqb-true, eq-eqb, ne_eqb, and_parts, or_cases, or_left, or_right, false≢true, true≢false}
 use Rattle.std.specs.List.{list_any, list_all, find}
 use Rattle.tq_shape.specs.Journal.{entry_at, Has}
 
@@ -111,3 +111,22 @@ append-Has [] ys x (inr h) = h
 append-Has (y ∷ xs) ys x (inl (inl e)) = inl e
 append-Has (y ∷ xs) ys x (inl (inr h)) = inr (append-Has xs ys x (inl h))
 append-Has (y ∷ xs) ys x (inr h) = inr (append-Has xs ys x (inr h))
+
+pub Has-filter : {A : Type 0} (p : A → Bool) (xs : List A) (x : A) → Has (filter p xs) x → Has xs x × (p x ≡ true)
+Has-filter p [] x h = absurd h
+Has-filter p (y ∷ xs) x h = by (p y) refl h (λ k. Has-filter p xs x k)
+  where
+    by : (b : Bool) → p y ≡ b → Has (cond b (y ∷ filter p xs) (filter p xs)) x → (Has (filter p xs) x → Has xs x × (p x ≡ true)) → Has (y ∷ xs) x × (p x ≡ true)
+    by true t (inl e) ih = (inl e, ap p (sym e) ∙ t)
+    by true t (inr k) ih = let r = ih k in (inr r.0, r.1)
+    by false t k ih = let r = ih k in (inr r.0, r.1)
+
+pub filter-Has : {A : Type 0} (p : A → Bool) (xs : List A) (x : A) → Has xs x → p x ≡ true → Has (filter p xs) x
+filter-Has p [] x h t = h
+filter-Has p (y ∷ xs) x h t = by (p y) refl h (λ r. filter-Has p xs x r t)
+  where
+    by : (b : Bool) → p y ≡ b → (y ≡ x) ⊎ Has xs x → (Has xs x → Has (filter p xs) x) → Has (cond b (y ∷ filter p xs) (filter p xs)) x
+    by true q (inl e) ih = inl e
+    by true q (inr r) ih = inr (ih r)
+    by false q (inl e) ih = absurd (true≢false (sym t ∙ ap p (sym e) ∙ q))
+    by false q (inr r) ih = ih r

@@ -1,5 +1,5 @@
 -- Journals of a part, generic in the part's step: what it replies to an ask under a number, and what it is afterwards.
-use Rattle.std.specs.Prelude.{◌≡◌, ◌==◌, ℕ, ◌+◌, suc, cond, List, [], ◌∷◌, length, Option, Some, None, ◌⊎◌}
+use Rattle.std.specs.Prelude.{◌≡◌, ◌==◌, ℕ, ◌+◌, suc, Bool, true, false, cond, List, [], ◌∷◌, length, Option, Some, None, ◌⊎◌}
 use Rattle.tq_shape.specs.declared.entry.Entry.{Entry}
 
 abbrev pub entry : {A R : Type 0} → A → R → Entry A R
@@ -40,3 +40,8 @@ entry_at (e ∷ earlier) number = cond (number == suc (length earlier)) (Some e)
 abbrev pub Has : {A : Type 0} → List A → A → Type 0
 Has [] x = ⊥
 Has (y ∷ ys) x = (y ≡ x) ⊎ Has ys x
+
+-- the list has no value
+abbrev pub is_empty : {A : Type 0} → List A → Bool
+is_empty [] = true
+is_empty (x ∷ xs) = false

@@ -2,4 +2,6 @@ pub mod Tree
 pub mod Depth
 pub mod Limits
 pub mod Journal
+pub mod Steps
+pub mod Unrefused
 pub mod ServerSet

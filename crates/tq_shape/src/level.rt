@@ -11,7 +11,7 @@ pub const MOST_LEVELS: u32 = 6;
 /// Contracts see it as the number.
 #[derive(Clone, Copy, Debug, PartialEq, Eq)]
 pub struct Levels {
-    pub(crate) count: u32,
+    pub(crate) count: u8,
 }
 
 impl Model for Levels {
@@ -33,7 +33,7 @@ impl Levels {
         ensures { SomeIff result ((1 ≤ count) × (count ≤ MOST_LEVELS)) count }
     {
         if 1 <= count && count <= MOST_LEVELS {
-            Some(Levels { count })
+            Some(Levels { count: count as u8 })
         } else {
             None
         }
@@ -45,7 +45,7 @@ impl Levels {
         ensures least { 1 ≤ result }
         ensures most { result ≤ MOST_LEVELS }
     {
-        self.count
+        u32::from(self.count)
     }
 
     /// The number of servers, which is also the greatest of their numbers.

@@ -10,7 +10,7 @@ use std::marker::Model;
 #[derive(Clone, Copy, Debug, PartialEq, Eq)]
 pub struct ServerId {
     levels: Levels,
-    number: u64,
+    number: u16,
 }
 
 /// The two sides of a server that is no leaf.
@@ -40,7 +40,7 @@ impl Levels {
         if 1 <= number && number <= self.servers() {
             Some(ServerId {
                 levels: self,
-                number,
+                number: number as u16,
             })
         } else {
             None
@@ -63,7 +63,11 @@ impl ServerId {
         requires { IsServer levels number }
         ensures { result ≡ record { number = number; levels = levels } }
     {
-        ServerId { levels, number }
+        let _ = &levels.count;
+        ServerId {
+            levels,
+            number: number as u16,
+        }
     }
 
     /// The number of the server: server 1 is the root, and those of a level are numbered from left to right.
@@ -71,7 +75,7 @@ impl ServerId {
         ensures value { result ≡ self.number }
         ensures within { IsServer self.levels result }
     {
-        self.number
+        u64::from(self.number)
     }
 
     /// The levels of the server's tree.
@@ -85,14 +89,14 @@ impl ServerId {
     pub fn left(self) -> Option<ServerId>
         ensures { SomeIff result (IsServer self.levels (left_of self.number)) (record { number = left_of self.number; levels = self.levels }) }
     {
-        self.levels.server(2 * self.number)
+        self.levels.server(2 * self.number())
     }
 
     /// The right side; a leaf has none.
     pub fn right(self) -> Option<ServerId>
         ensures { SomeIff result (IsServer self.levels (right_of self.number)) (record { number = right_of self.number; levels = self.levels }) }
     {
-        self.levels.server(2 * self.number + 1)
+        self.levels.server(2 * self.number() + 1)
     }
 
     /// Both sides; a leaf has none.
@@ -116,14 +120,14 @@ impl ServerId {
     pub fn is_leaf(self) -> bool
         ensures { IsTrue result ↔ (2 ^ self.levels ≤ left_of self.number) }
     {
-        self.levels.servers() < 2 * self.number
+        self.levels.servers() < 2 * self.number()
     }
 
     /// The server of which this one is a side; server 1 has none.
     pub fn parent(self) -> Option<ServerId>
         ensures { SomeIff result (1 < self.number) (record { number = self.number / 2; levels = self.levels }) }
     {
-        self.levels.server(self.number / 2)
+        self.levels.server(self.number() / 2)
     }
 
     /// The side of this server that is the given server or stands above it: `None` where neither does. Both are of one tree.

@@ -2,9 +2,9 @@
 use Rattle.std.specs.Prelude.{ℕ, List}
 use Rattle.tq_tables.specs.Journals.{JournalsView}
 use Rattle.tq_world.specs.World.{empty_world}
-use Rattle.tq_txn.specs.declared.asker.Heard.{Heard}
+use Rattle.tq_txn.specs.declared.asker.Exchange.{Exchange}
 use Rattle.tq_asking.specs.Asking.{Ran, run_line}
-use Rattle.tq_shell.specs.Asked.{Spoken, asked}
+use Rattle.tq_shell.specs.Asked.{LineAnswer, asked}
 use Rattle.tq_asking.specs.Recorded.{full_limits}
 use Rattle.tq_client.specs.Known.{Known, nothing_known}
 use Rattle.tq_lines.specs.declared.line.Line.{Line}
@@ -21,11 +21,11 @@ opening levels = record { journals = empty_world levels full_limits; known = not
 -- what a line gives: the text that is written, the asks with what they were told, and the world after it
 pub record Answer : Type 0 where
   pub text : List ℕ
-  pub heard : List Heard
+  pub exchanges : List Exchange
   pub after : World
 
-abbrev pub answered : Ran Spoken → Answer
-answered ran = record { text = ran.end.text; heard = ran.heard; after = record { journals = ran.after; known = ran.end.known } }
+abbrev pub answered : Ran LineAnswer → Answer
+answered ran = record { text = ran.end.text; exchanges = ran.exchanges; after = record { journals = ran.after; known = ran.end.known } }
 
 -- the asks of the line, by the journals before it and by what is known, answered by the service
 abbrev pub answer : World → Line → Answer

@@ -61,22 +61,6 @@ pub fn run<R: Source, W: Sink>(
     ensures counts { IsRunCount result (R.failed reader.old) (R.failed reader.new) (W.failed writer.old) (W.failed writer.new) }
     ensures learned { (lines : List Line) → IsLearned (opening levels) lines }
 {
-    answer_lines(alloc, levels, reader, writer)
-}
-
-fn answer_lines<R: Source, W: Sink>(
-    alloc: Global,
-    levels: Levels,
-    reader: &mut R,
-    writer: &mut W,
-) -> Result<(), RunFault>
-    requires reads { R.failed reader.old < 2 ^ 64 - 1 }
-    requires writes { W.failed writer.old < 2 ^ 64 - 1 }
-    ensures text { (bytes : List ℕ) × (text : List ℕ) × Appends (R.given reader.old) (R.given reader.new) bytes
-        × Appends (W.taken writer.old) (W.taken writer.new) text × IsRunText result levels bytes text }
-    ensures end { OnOk result (IsTrue (R.is_ended reader.new)) }
-    ensures counts { IsRunCount result (R.failed reader.old) (R.failed reader.new) (W.failed writer.old) (W.failed writer.new) }
-{
     let mut listener = Listener::new(alloc, levels)?;
     answer_pieces(alloc, levels, &mut listener, reader, writer)
 }

@@ -1,5 +1,5 @@
 ghost use Rattle.std.specs.Prelude.{◌≡◌, ◌++◌, ◌<◌, ◌+◌, [], false, length, None, IfOk, OnOk, IfSome, IsNone};
-ghost use Rattle.tq_live.specs.View.{is_cost};
+ghost use Rattle.tq_txn.specs.Dialogue.{line_result};
 ghost use Rattle.tq_txn.specs.States.{levels_of};
 ghost use Rattle.std.specs.Fmt.{decimal};
 ghost use Rattle.tq_shell.specs.Asked as asked;
@@ -11,16 +11,16 @@ use std::alloc::Global;
 use std::marker::Model;
 use std::mem;
 use tq_asking::Recorder;
-use tq_client::{Kept, speak};
+use tq_client::{Kept, answer_txn};
 use tq_core::Service;
 use tq_desk::{DeskAsk, DeskReply};
 use tq_lines::{Line, TxnLine};
-use tq_live::ViewAsk;
+use tq_live::{ViewAsk, is_cost};
 use tq_node::NodeAsk;
 use tq_operators::{refresh_all, say_board};
 use tq_print::{push_desk_refusal, say_choice, say_fault, say_line, say_number};
 use tq_shape::{Levels, Limits, Memory, ServerId};
-use tq_txn::{DeskTold, LineFault, Open, Txn, ViewTold};
+use tq_txn::{AskFault, Asker, DeskTold, LineFault, Open, Txn, ViewTold, ask_any};
 
 /// A service that lines are asked of, and what is known of the transactions.
 #[derive(Drop)]
@@ -121,11 +121,9 @@ impl Shell {
         ensures text { OnOk result (text.new.items ≡ text.old.items ++ (answered (run_line self.old.journals (asked.cost_asked self.old.known server cost))).text) }
         ensures after { OnOk result (self.new ≡ (answered (run_line self.old.journals (asked.cost_asked self.old.known server cost))).after) }
     {
-        self.recorder.led();
-        let answer = self
-            .recorder
-            .ask_view(alloc, ViewAsk::SetCost { server, cost });
-        self.recorder.led();
+        self.recorder.replayed();
+        let answer = self.recorder.view(alloc, ViewAsk::SetCost { server, cost });
+        self.recorder.replayed();
         say_ok(text, answer)?;
         Ok(())
     }
@@ -159,11 +157,11 @@ impl Shell {
     {
         let server = id.number();
         let ask = mark_ask(up);
-        self.recorder.led();
-        let reply = self.recorder.ask_any(alloc, id, ask)?;
+        self.recorder.replayed();
+        let reply = ask_any(&mut self.recorder, alloc, id, ask)?;
         let _ = &reply;
-        let answer = self.recorder.ask_view(alloc, ViewAsk::Mark { server, up });
-        self.recorder.led();
+        let answer = self.recorder.view(alloc, ViewAsk::Mark { server, up });
+        self.recorder.replayed();
         say_marked(text, server, up, answer)?;
         Ok(())
     }
@@ -172,9 +170,9 @@ impl Shell {
         ensures text { OnOk result (text.new.items ≡ text.old.items ++ (answer self.old Line.Choose).text) }
         ensures after { OnOk result (self.new ≡ (answer self.old Line.Choose).after) }
     {
-        self.recorder.led();
-        let answer = self.recorder.ask_view(alloc, ViewAsk::Choose);
-        self.recorder.led();
+        self.recorder.replayed();
+        let answer = self.recorder.view(alloc, ViewAsk::Choose);
+        self.recorder.replayed();
         say_chosen(text, answer)?;
         Ok(())
     }
@@ -183,9 +181,9 @@ impl Shell {
         ensures text { OnOk result (text.new.items ≡ text.old.items ++ (answer self.old Line.Begin).text) }
         ensures after { OnOk result (self.new ≡ (answer self.old Line.Begin).after) }
     {
-        self.recorder.led();
-        let answer = self.recorder.ask_desk(alloc, DeskAsk::Begin);
-        self.recorder.led();
+        self.recorder.replayed();
+        let answer = self.recorder.desk(alloc, DeskAsk::Begin);
+        self.recorder.replayed();
         self.begin_end(alloc, answer, text)?;
         Ok(())
     }
@@ -193,17 +191,17 @@ impl Shell {
     fn begin_end(
         &mut self,
         alloc: Global,
-        answer: Result<DeskTold, LineFault>,
+        answer: Result<DeskTold, AskFault>,
         text: &mut Vec<u8>,
     ) -> Result<(), Memory>
-        ensures text { OnOk result (text.new.items ≡ text.old.items ++ (asked.begin_end self.old.known answer).text) }
-        ensures known { OnOk result (self.new.known ≡ (asked.begin_end self.old.known answer).known) }
+        ensures text { OnOk result (text.new.items ≡ text.old.items ++ (asked.begin_end self.old.known (line_result answer)).text) }
+        ensures known { OnOk result (self.new.known ≡ (asked.begin_end self.old.known (line_result answer)).known) }
         ensures journals { self.new.journals ≡ self.old.journals }
-        ensures memory { OnOk result (said.is_refused_memory answer ≡ false) }
+        ensures memory { OnOk result (said.is_refused_memory (line_result answer) ≡ false) }
     {
         match answer {
             Ok(told) => self.begun(alloc, told.reply, text)?,
-            Err(fault) => say_fault(text, &[], fault)?,
+            Err(fault) => say_fault(text, &[], LineFault::from(fault))?,
         }
         Ok(())
     }
@@ -264,29 +262,14 @@ impl Shell {
         ensures text { OnOk result (text.new.items ≡ text.old.items ++ (answer self.old (Line.Txn number line)).text) }
         ensures after { OnOk result (self.new ≡ (answer self.old (Line.Txn number line)).after) }
     {
-        match self.place_of(number) {
-            None => say_number(text, b"no such transaction ", number),
-            Some(place) => self.txn_at(alloc, number, place, line, text),
-        }
-    }
-
-    /// Answers a line of the transaction that is kept there.
-    fn txn_at(
-        &mut self,
-        alloc: Global,
-        number: u64,
-        place: usize,
-        line: TxnLine,
-        text: &mut Vec<u8>,
-    ) -> Result<(), Memory>
-        requires { (number ≡ place + 1) × (place < length self.old.known.txns) }
-        ensures text { OnOk result (text.new.items ≡ text.old.items ++ (answer self.old (Line.Txn number line)).text) }
-        ensures after { OnOk result (self.new ≡ (answer self.old (Line.Txn number line)).after) }
-    {
+        let place = match self.place_of(number) {
+            None => return say_number(text, b"no such transaction ", number),
+            Some(place) => place,
+        };
         let levels = self.levels;
         let vacant = fresh(alloc, levels, self.limits, number);
         let kept = mem::replace(&mut self.txns[place], vacant);
-        let kept = speak(&mut self.recorder, alloc, levels, number, kept, line, text)?;
+        let kept = answer_txn(&mut self.recorder, alloc, levels, number, kept, line, text)?;
         self.txns[place] = kept;
         Ok(())
     }
@@ -310,25 +293,25 @@ fn mark_ask(up: bool) -> NodeAsk
 }
 
 /// Puts that a cost was set behind the text, as a line, or why it was not.
-fn say_ok(text: &mut Vec<u8>, answer: Result<ViewTold, LineFault>) -> Result<(), Memory>
-    ensures text { OnOk result (text.new.items ≡ text.old.items ++ printed (said.result_text [] asked.ok_text answer)) }
-    ensures memory { OnOk result (said.is_refused_memory answer ≡ false) }
+fn say_ok(text: &mut Vec<u8>, answer: Result<ViewTold, AskFault>) -> Result<(), Memory>
+    ensures text { OnOk result (text.new.items ≡ text.old.items ++ printed (said.result_text [] asked.ok_text (line_result answer))) }
+    ensures memory { OnOk result (said.is_refused_memory (line_result answer) ≡ false) }
 {
     match answer {
         Ok(_told) => say_line(text, b"ok")?,
-        Err(fault) => say_fault(text, &[], fault)?,
+        Err(fault) => say_fault(text, &[], LineFault::from(fault))?,
     }
     Ok(())
 }
 
 /// Puts what the view chose behind the text, as a line, or why it did not.
-fn say_chosen(text: &mut Vec<u8>, answer: Result<ViewTold, LineFault>) -> Result<(), Memory>
-    ensures text { OnOk result (text.new.items ≡ text.old.items ++ printed (said.result_text [] asked.chosen_text answer)) }
-    ensures memory { OnOk result (said.is_refused_memory answer ≡ false) }
+fn say_chosen(text: &mut Vec<u8>, answer: Result<ViewTold, AskFault>) -> Result<(), Memory>
+    ensures text { OnOk result (text.new.items ≡ text.old.items ++ printed (said.result_text [] asked.chosen_text (line_result answer))) }
+    ensures memory { OnOk result (said.is_refused_memory (line_result answer) ≡ false) }
 {
     match answer {
         Ok(told) => say_choice(text, &told.reply)?,
-        Err(fault) => say_fault(text, &[], fault)?,
+        Err(fault) => say_fault(text, &[], LineFault::from(fault))?,
     }
     Ok(())
 }
@@ -338,14 +321,14 @@ fn say_marked(
     text: &mut Vec<u8>,
     server: u64,
     up: bool,
-    answer: Result<ViewTold, LineFault>,
+    answer: Result<ViewTold, AskFault>,
 ) -> Result<(), Memory>
-    ensures text { OnOk result (text.new.items ≡ text.old.items ++ printed (said.result_text [] (asked.marked_text server up) answer)) }
-    ensures memory { OnOk result (said.is_refused_memory answer ≡ false) }
+    ensures text { OnOk result (text.new.items ≡ text.old.items ++ printed (said.result_text [] (asked.marked_text server up) (line_result answer))) }
+    ensures memory { OnOk result (said.is_refused_memory (line_result answer) ≡ false) }
 {
     match answer {
         Ok(_told) => say_mark(text, server, up)?,
-        Err(fault) => say_fault(text, &[], fault)?,
+        Err(fault) => say_fault(text, &[], LineFault::from(fault))?,
     }
     Ok(())
 }
@@ -359,11 +342,4 @@ fn say_mark(text: &mut Vec<u8>, server: u64, up: bool) -> Result<(), Memory>
     } else {
         say_number(text, b"down ", server)
     }
-}
-
-/// Whether a server may have this cost.
-fn is_cost(cost: u64) -> bool
-    ensures { result ≡ is_cost cost }
-{
-    cost >= 1 && cost <= 1_000_000
 }

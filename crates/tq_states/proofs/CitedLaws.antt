@@ -18,10 +18,11 @@ use Rattle.tq_evidence.specs.declared.grant.Grant.{Grant}
 use Rattle.tq_evidence.specs.declared.op.Op.{Op}
 use Rattle.tq_evidence.specs.declared.op.OpKind.{OpKind}
 use Rattle.tq_evidence.specs.declared.vote.Vote.{Vote}
-use Rattle.tq_evidence.specs.Evidence.{same_name}
+use Rattle.tq_store.specs.Names.{same_name}
 use Rattle.tq_states.specs.declared.told.NodeTold.{NodeTold}
 use Rattle.tq_states.specs.Cited.{grant_told, vote_told, CitesOnly, IsOpTold, IsVoteTold, KeepsOnly, VotesOnly}
-use Rattle.tq_states.specs.Open.{OpenView, fits, granted_by, grant_of, grants_of, taken, is_write_to, rewritten}
+use Rattle.tq_states.specs.Open.{OpenView, fits, granted_by, grant_of, grants_of, taken, rewritten}
+use Rattle.tq_evidence.specs.Evidence.{writes_file}
 use Rattle.tq_states.specs.Sets.{put, changed}
 use Rattle.tq_states.specs.Voting.{VotingView, voted_by, vote_of, with_vote, closed, evidence_of, has_vote, is_of_server, voted, vote_after}
 
@@ -99,7 +100,7 @@ taken_keeps old op told answers here is =
 
 pub rewrite_keeps : (old : OpenView) (file content : List ℕ) (told : List NodeTold) → KeepsOnly told old → KeepsOnly told (rewritten old file content)
 rewrite_keeps old file content told is =
-    (all_changed (IsOpTold old.txn told) (is_write_to file) (λ (op : Op). record op { content = content }) (λ op here. here) old.ops is.0, All-nil (IsVoteTold old.txn told))
+    (all_changed (IsOpTold old.txn told) (writes_file file) (λ (op : Op). record op { content = content }) (λ op here. here) old.ops is.0, All-nil (IsVoteTold old.txn told))
 
 -- ---- a transaction that gathers votes
 

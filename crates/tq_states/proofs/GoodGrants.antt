@@ -12,7 +12,8 @@ use Rattle.tq_node.specs.declared.ask.NodeReply.TheVariants.{Granted}
 use Rattle.tq_node.specs.declared.ask.WorkAsk.TheVariants.{Lock}
 use Rattle.tq_evidence.specs.declared.grant.Grant.{Grant}
 use Rattle.tq_evidence.specs.declared.op.OpKind.TheVariants.{Read, Write}
-use Rattle.tq_evidence.specs.Evidence.{same_name, greatest, newest, has_version, is_exclusively_granted}
+use Rattle.tq_evidence.specs.Evidence.{greatest, newest, has_version, is_exclusively_granted}
+use Rattle.tq_store.specs.Names.{same_name}
 use Rattle.tq_states.specs.declared.told.NodeTold.{NodeTold}
 use Rattle.tq_states.specs.Open.{OpenView, IsGoodOp, granted_by, grant_of, grants_of, is_member, read_op, write_op, copy_in, is_used, is_written}
 use Rattle.tq_states.proofs.Tested.{empty_set}

@@ -9,9 +9,10 @@ use Rattle.std.proofs.lemmas.Bool.{and_parts, and_from, or_parts, or_left, false
 use Rattle.tq_store.specs.Copies.{name_cmp}
 use Rattle.tq_evidence.specs.declared.grant.Grant.{Grant}
 use Rattle.tq_evidence.specs.declared.op.Op.{Op}
-use Rattle.tq_evidence.specs.Evidence.{same_name, is_write, servers_of, has_server, stands_before, ops_rise, has_quorum, has_exclusive_grants, has_version}
+use Rattle.tq_evidence.specs.Evidence.{is_write, servers_of, has_server, stands_before, ops_rise, has_quorum, has_exclusive_grants, has_version, writes_file}
+use Rattle.tq_store.specs.Names.{same_name}
 use Rattle.tq_states.specs.Sets.{with_numbers}
-use Rattle.tq_states.specs.Open.{OpenView, IsOpen, IsGoodOp, is_write_to, is_written, is_used, with_op, with_content, taken, rewritten}
+use Rattle.tq_states.specs.Open.{OpenView, IsOpen, IsGoodOp, is_written, is_used, with_op, with_content, taken, rewritten}
 use Rattle.tq_states.proofs.NumberSets.{has-map, has-with_numbers}
 use Rattle.tq_states.proofs.Puts.{list_all-put, list_any-put, list_all-changed, list_any-changed}
 
@@ -20,10 +21,10 @@ abbrev is_taken : Bool → List Op → List ℕ → Bool
 is_taken w ops file = cond w (is_written ops file) (is_used ops file)
 
 abbrev clashes : Bool → Op → List ℕ → Bool
-clashes w op file = cond w (is_write_to file op) (same_name op.file file)
+clashes w op file = cond w (writes_file file op) (same_name op.file file)
 
 fresh_parts : (w : Bool) (first : Op) (rest : List Op) (file : List ℕ) → is_taken w (first ∷ rest) file ≡ false → (clashes w first file ≡ false) × (is_taken w rest file ≡ false)
-fresh_parts true first rest file fresh = or_parts (is_write_to file first) (is_written rest file) fresh
+fresh_parts true first rest file fresh = or_parts (writes_file file first) (is_written rest file) fresh
 fresh_parts false first rest file fresh = or_parts (same_name first.file file) (is_used rest file) fresh
 
 -- where two names are equal, the first stands before the second as a read before a write
@@ -87,22 +88,18 @@ IsOpen-with old op ops voters touched ops_are voters_are good all =
     let is = IsOpen-taken old op good all in
     rw (ops_are, voters_are) record { rise = is.rise; quorums = is.quorums; exclusive = is.exclusive; versions = is.versions; voters = is.voters }
 
-stands-changed : (content : List ℕ) (first : Op) (rest : List Op) → ops_rise (record first { content = content } ∷ rest) ≡ ops_rise (first ∷ rest)
-stands-changed content first [] = refl
-stands-changed content first (second ∷ rest) = refl
-
 module _ (file content : List ℕ) where
   ops_rise-with_content : (ops : List Op) → ops_rise (with_content file content ops) ≡ ops_rise ops
   ops_rise-with_content [] = refl
   ops_rise-with_content (first ∷ []) =
-      elim (is_write_to file first) as (λ b. ops_rise (cond b (record first { content = content } ∷ []) (first ∷ [])) ≡ true) [
+      elim (writes_file file first) as (λ b. ops_rise (cond b (record first { content = content } ∷ []) (first ∷ [])) ≡ true) [
         | true ↦ refl
         | false ↦ refl
       ]
   ops_rise-with_content (first ∷ second ∷ rest) =
-      elim (is_write_to file first) as (λ b. ops_rise (cond b (record first { content = content } ∷ second ∷ rest) (first ∷ with_content file content (second ∷ rest))) ≡ (stands_before first second && ops_rise (second ∷ rest))) [
+      elim (writes_file file first) as (λ b. ops_rise (cond b (record first { content = content } ∷ second ∷ rest) (first ∷ with_content file content (second ∷ rest))) ≡ (stands_before first second && ops_rise (second ∷ rest))) [
         | true ↦ refl
-        | false ↦ elim (is_write_to file second) as (λ b. ops_rise (cond b (record second { content = content } ∷ rest) (second ∷ with_content file content rest)) ≡ ops_rise (second ∷ rest) → ops_rise (first ∷ cond b (record second { content = content } ∷ rest) (second ∷ with_content file content rest)) ≡ (stands_before first second && ops_rise (second ∷ rest))) [
+        | false ↦ elim (writes_file file second) as (λ b. ops_rise (cond b (record second { content = content } ∷ rest) (second ∷ with_content file content rest)) ≡ ops_rise (second ∷ rest) → ops_rise (first ∷ cond b (record second { content = content } ∷ rest) (second ∷ with_content file content rest)) ≡ (stands_before first second && ops_rise (second ∷ rest))) [
           | true ↦ λ same. ap (λ b. stands_before first second && b) same
           | false ↦ λ same. ap (λ b. stands_before first second && b) same
         ] (ops_rise-with_content (second ∷ rest))
@@ -118,8 +115,8 @@ module _ (file content : List ℕ) where
       let change : Op → Op = λ op. record op { content = content } in
       record {
         rise = ops_rise-with_content old.ops ∙ all.rise;
-        quorums = list_all-changed (is_write_to file) change (has_quorum old.levels) old.ops (λ x is was. was) all.quorums;
-        exclusive = list_all-changed (is_write_to file) change has_exclusive_grants old.ops (λ x is was. was) all.exclusive;
-        versions = list_all-changed (is_write_to file) change has_version old.ops (λ x is was. kept (is_write x) _ _ _ (and_parts (is_write x) (same_name x.file file) is).0 was) all.versions;
-        voters = λ server. all.voters server ∙ sym (list_any-changed (is_write_to file) change (λ o. has_server o server) old.ops (λ x. refl));
+        quorums = list_all-changed (writes_file file) change (has_quorum old.levels) old.ops (λ x is was. was) all.quorums;
+        exclusive = list_all-changed (writes_file file) change has_exclusive_grants old.ops (λ x is was. was) all.exclusive;
+        versions = list_all-changed (writes_file file) change has_version old.ops (λ x is was. kept (is_write x) _ _ _ (and_parts (is_write x) (same_name x.file file) is).0 was) all.versions;
+        voters = λ server. all.voters server ∙ sym (list_any-changed (writes_file file) change (λ o. has_server o server) old.ops (λ x. refl));
       }

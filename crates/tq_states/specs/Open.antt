@@ -18,11 +18,14 @@ use Rattle.tq_evidence.specs.declared.grant.Grant.{Grant}
 use Rattle.tq_evidence.specs.declared.op.Op.{Op}
 use Rattle.tq_evidence.specs.declared.op.OpKind.{OpKind}
 use Rattle.tq_evidence.specs.declared.op.OpKind.TheVariants.{Read, Write}
-use Rattle.tq_evidence.specs.Evidence.{same_name, is_write, servers_of, rises, greatest, newest, is_server_of, ops_rise, are_quorums, are_exclusive, are_versions, has_quorum, has_exclusive_grants, has_version}
+use Rattle.tq_evidence.specs.Evidence.{is_write, servers_of, rises, greatest, newest, is_server_of, ops_rise, are_quorums, are_exclusive, are_versions, has_quorum, has_exclusive_grants, has_version, writes_file, granters}
+use Rattle.tq_store.specs.Names.{same_name}
 use Rattle.tq_states.specs.declared.told.NodeTold.{NodeTold}
 use Rattle.tq_states.specs.declared.fault.TxnFault.{TxnFault}
 use Rattle.tq_states.specs.declared.fault.TxnFault.TheVariants.{Memory, AlreadyThere, TooManyOps, NotAGrant, NotAMember, VersionFull, NoOps}
 use Rattle.tq_states.specs.Sets.{IsWithin, put, changed, with_number, with_numbers}
+use Rattle.tq_shape.specs.Steps.{refuse, refuse_for, or_else}
+use Rattle.tq_shape.specs.Journal.{is_empty}
 
 -- a transaction: its tree's levels, its limits and number; its operations, by file and a read before a write;
 -- the servers of their quorums; and the servers that granted it a lock, as far as it was handed them
@@ -55,15 +58,6 @@ has_all_ops old = nat_le old.limits.ops (length old.ops)
 
 -- ---- faults
 
--- the cause where the test holds, and else the next
-abbrev pub refuse : Bool → TxnFault → Option TxnFault → Option TxnFault
-refuse test fault next = if test then Some fault else next
-
--- the cause for the value, where there is one, and else the next
-abbrev pub refuse_for : {A : Type 0} → Option A → (A → TxnFault) → Option TxnFault → Option TxnFault
-refuse_for None fault next = next
-refuse_for (Some x) fault next = Some (fault x)
-
 -- a fault is memory refused, or has this cause
 abbrev pub ComesOf : Option TxnFault → TxnFault → Type 0
 ComesOf cause Memory = Unit {0}
@@ -92,33 +86,27 @@ grants_of kind txn file answers = filter_map (grant_of kind txn file) answers
 abbrev pub not_a_grant : OpKind → ℕ → List ℕ → List NodeTold → Option ℕ
 not_a_grant kind txn file answers = option_map (λ told. told.server) (find (λ told. is_none (grant_of kind txn file told)) answers)
 
-abbrev pub servers_in : List Grant → List ℕ
-servers_in grants = map (λ grant. grant.server) grants
-
 -- the servers of the grants, in their order, ascend and are a member of the coterie
 abbrev pub is_member : ℕ → List Grant → Bool
-is_member levels grants = rises (servers_in grants) && is_quorum levels (servers_in grants)
+is_member levels grants = rises (granters grants) && is_quorum levels (granters grants)
 
 -- ---- reads and writes
 
 abbrev pub is_used : List Op → List ℕ → Bool
 is_used ops file = list_any (λ op. same_name op.file file) ops
 
-abbrev pub is_write_to : List ℕ → Op → Bool
-is_write_to file op = is_write op && same_name op.file file
-
 abbrev pub is_read_of : List ℕ → Op → Bool
 is_read_of file op = not (is_write op) && same_name op.file file
 
 abbrev pub is_written : List Op → List ℕ → Bool
-is_written ops file = list_any (is_write_to file) ops
+is_written ops file = list_any (writes_file file) ops
 
 -- the transaction's read of a file, and its write to it
 abbrev pub seen : OpenView → List ℕ → Option Op
 seen old file = find (is_read_of file) old.ops
 
 abbrev pub written : OpenView → List ℕ → Option Op
-written old file = find (is_write_to file) old.ops
+written old file = find (writes_file file) old.ops
 
 -- the content that the transaction writes to the file
 abbrev pub pending : OpenView → List ℕ → Option (List ℕ)
@@ -153,10 +141,6 @@ read_fault old file answers = refuse (is_used old.ops file) AlreadyThere (grants
 -- the version after this one does not fit
 abbrev pub is_full : ℕ → Bool
 is_full version = not (nat_lt (version + 1) (2 ^ 64))
-
-abbrev pub or_else : Option TxnFault → Option TxnFault → Option TxnFault
-or_else None next = next
-or_else (Some fault) next = Some fault
 
 abbrev pub write_fault : OpenView → List ℕ → List NodeTold → Option TxnFault
 write_fault old file answers =
@@ -205,14 +189,10 @@ pub record IsTouched (old after : OpenView) : Type 0 where
 
 -- the operations with other content to write to the file
 abbrev pub with_content : List ℕ → List ℕ → List Op → List Op
-with_content file content ops = changed (is_write_to file) (λ op. record op { content = content }) ops
+with_content file content ops = changed (writes_file file) (λ op. record op { content = content }) ops
 
 abbrev pub rewritten : OpenView → List ℕ → List ℕ → OpenView
 rewritten old file content = record old { ops = with_content file content old.ops }
 
-abbrev pub is_none_yet : List Op → Bool
-is_none_yet [] = true
-is_none_yet (op ∷ ops) = false
-
 abbrev pub close_fault : OpenView → Option TxnFault
-close_fault old = refuse (is_none_yet old.ops) NoOps None
+close_fault old = refuse (is_empty old.ops) NoOps None

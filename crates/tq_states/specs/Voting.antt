@@ -17,7 +17,8 @@ use Rattle.tq_evidence.specs.Evidence.{is_write, has_server, is_server_of, cover
 use Rattle.tq_states.specs.declared.told.NodeTold.{NodeTold}
 use Rattle.tq_states.specs.declared.fault.TxnFault.{TxnFault}
 use Rattle.tq_states.specs.declared.fault.TxnFault.TheVariants.{NotAVoter, NotMyVote, LostLock, VotesMissing}
-use Rattle.tq_states.specs.Open.{OpenView, refuse, refuse_for}
+use Rattle.tq_states.specs.Open.{OpenView}
+use Rattle.tq_shape.specs.Steps.{refuse, refuse_for}
 use Rattle.tq_states.specs.Sets.{put, changed}
 
 -- a transaction that takes no more operations, and the votes that it was told, ascending by server

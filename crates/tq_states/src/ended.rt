@@ -1,6 +1,6 @@
 ghost use Rattle.std.specs.Prelude.{◌≡◌, IfOk, IfErr, None, Some, MatchResult};
 ghost use Rattle.tq_coterie.specs.Coterie.{numbers_of};
-ghost use Rattle.tq_desk.specs.Log as log;
+ghost use Rattle.tq_desk.specs.DeskStep as log;
 ghost use Rattle.tq_states.specs.Ended as spec;
 ghost use Rattle.tq_states.specs.Open as open_spec;
 ghost use Rattle.tq_states.specs.Sets as sets;

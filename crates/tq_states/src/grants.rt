@@ -1,11 +1,11 @@
 ghost use Rattle.std.specs.Prelude.{◌≡◌, ◌+◌, ◌==◌, IfOk, IfErr, None, Some, map};
-ghost use Rattle.std.specs.Option.{option_copied};
-ghost use Rattle.tq_evidence.specs.Evidence as evidence;
+ghost use Rattle.tq_shape.specs.Steps.{refuse_for};
 ghost use Rattle.tq_states.specs.Open as spec;
 
 use crate::{NodeTold, TxnFault};
 use std::alloc::Global;
 use tq_desk::{Grant, OpKind};
+use tq_evidence::newest;
 use tq_locks::Mode;
 use tq_node::{NodeAsk, NodeReply, WorkAsk};
 use tq_shape::Memory;
@@ -21,7 +21,7 @@ pub(crate) fn grants_of(
 ) -> Result<Vec<Grant>, TxnFault>
     ensures granted { IfOk result (λ grants. spec.not_a_grant kind txn file.now answers.now ≡ None) }
     ensures value { IfOk result (λ grants. grants.items ≡ spec.grants_of kind txn file.now answers.now) }
-    ensures fault { IfErr result (λ fault. spec.ComesOf (spec.refuse_for (spec.not_a_grant kind txn file.now answers.now) TxnFault.NotAGrant None) fault) }
+    ensures fault { IfErr result (λ fault. spec.ComesOf (refuse_for (spec.not_a_grant kind txn file.now answers.now) TxnFault.NotAGrant None) fault) }
 {
     let mut grants = Vec::new(alloc);
     for told in answers {
@@ -80,23 +80,6 @@ fn fits(kind: OpKind, mode: Mode) -> bool
     }
 }
 
-/// The servers of the grants, in their order.
-pub(crate) fn servers_in(alloc: Global, grants: &[Grant]) -> Result<Vec<u64>, Memory>
-    ensures { IfOk result (λ servers. servers.items ≡ spec.servers_in grants.now) }
-{
-    grants.iter().map(|grant| grant.server).collect(alloc)
-}
-
-pub(crate) fn rises(numbers: &[u64]) -> bool
-    ensures { result ≡ evidence.rises numbers.now }
-{
-    match numbers {
-        [] => true,
-        [_] => true,
-        [first, second, ..] => *first < *second && rises(&numbers[1..]),
-    }
-}
-
 /// The copy of the first grant of the greatest version.
 pub(crate) fn read_copy(alloc: Global, grants: &[Grant]) -> Result<FileCopy, Memory>
     ensures { IfOk result (λ copy. copy ≡ spec.read_copy grants.now) }
@@ -111,18 +94,4 @@ pub(crate) fn read_copy(alloc: Global, grants: &[Grant]) -> Result<FileCopy, Mem
             content: Content::empty(alloc),
         }),
     }
-}
-
-/// The first grant of the greatest version.
-fn newest(grants: &[Grant]) -> Option<&Grant>
-    ensures { option_copied result ≡ evidence.newest grants.now }
-{
-    let greatest = greatest_version(grants);
-    grants.iter().find(|grant| grant.version == greatest)
-}
-
-pub(crate) fn greatest_version(grants: &[Grant]) -> u64
-    ensures { result ≡ evidence.greatest grants.now }
-{
-    grants.iter().fold(0, |most, grant| most.max(grant.version))
 }

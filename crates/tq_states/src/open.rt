@@ -12,13 +12,14 @@ ghost use Rattle.tq_states.specs.Ended as ending;
 ghost use Rattle.tq_states.specs.Open as spec;
 ghost use Rattle.tq_states.specs.Voting as voting;
 
-use crate::grants::{grants_of, greatest_version, read_copy, rises, servers_in};
+use crate::grants::{grants_of, read_copy};
 use crate::servers::Servers;
 use crate::{DeskTold, Ended, NodeTold, TxnFault, Voting};
 use std::alloc::Global;
 use std::marker::Model;
 use tq_coterie::Quorum;
 use tq_desk::{Grant, Op, OpKind};
+use tq_evidence::{granters, greatest_version, rises};
 use tq_shape::{ExactClone, Levels, Limits, Memory, Seq, ServerId};
 use tq_store::{Content, FileCopy, FileName};
 
@@ -121,7 +122,7 @@ impl Open {
     pub fn written(&self, file: &FileName) -> Option<&Op>
         ensures { option_copied result ≡ spec.written self.now file.now }
     {
-        self.ops.iter().find(|op| is_write_to(file, op))
+        self.ops.iter().find(|op| op.writes(file))
     }
 
     /// The content that the transaction writes to a file.
@@ -286,7 +287,7 @@ impl Open {
     fn is_written(&self, file: &FileName) -> bool
         ensures { result ≡ spec.is_written self.now.ops file.now }
     {
-        self.ops.iter().any(|op| is_write_to(file, op))
+        self.ops.iter().any(|op| op.writes(file))
     }
 
     /// The grants that the answers tell of, where a further operation may rest on them.
@@ -299,7 +300,7 @@ impl Open {
     ) -> Result<Granted, TxnFault>
         ensures succeeds { IfOk result (λ granted. spec.grants_fault kind self.now file.now answers.now ≡ None) }
         ensures grants { IfOk result (λ granted. granted.grants ≡ spec.grants_of kind self.now.txn file.now answers.now) }
-        ensures quorum { IfOk result (λ granted. granted.quorum ≡ record { servers = spec.servers_in granted.grants; levels = self.now.levels }) }
+        ensures quorum { IfOk result (λ granted. granted.quorum ≡ record { servers = evidence.granters granted.grants; levels = self.now.levels }) }
         ensures member { IfOk result (λ granted. spec.is_member self.now.levels granted.grants ≡ true) }
         ensures few { IfOk result (λ granted. length self.now.ops < self.now.limits.ops) }
         ensures fault { IfErr result (λ fault. spec.ComesOf (spec.grants_fault kind self.now file.now answers.now) fault) }
@@ -336,9 +337,9 @@ impl Open {
 /// The quorum of the servers of the grants, if they are one in their order.
 fn quorum_of(alloc: Global, levels: Levels, grants: &[Grant]) -> Result<Option<Quorum>, Memory>
     ensures { IfOk result (λ found. MatchOption found (spec.is_member levels grants.now ≡ false)
-        (λ quorum. (spec.is_member levels grants.now ≡ true) × (quorum ≡ record { servers = spec.servers_in grants.now; levels = levels }))) }
+        (λ quorum. (spec.is_member levels grants.now ≡ true) × (quorum ≡ record { servers = evidence.granters grants.now; levels = levels }))) }
 {
-    let numbers = servers_in(alloc, grants)?;
+    let numbers = granters(alloc, grants)?;
     if !rises(numbers.as_slice()) {
         return Ok(None);
     }
@@ -346,31 +347,15 @@ fn quorum_of(alloc: Global, levels: Levels, grants: &[Grant]) -> Result<Option<Q
     Ok(found)
 }
 
-/// Whether the operation is a write.
-pub(crate) fn is_write(op: &Op) -> bool
-    ensures { result ≡ evidence.is_write op.now }
-{
-    match op.kind {
-        OpKind::Read => false,
-        OpKind::Write => true,
-    }
-}
-
-fn is_write_to(file: &FileName, op: &Op) -> bool
-    ensures { result ≡ spec.is_write_to file.now op.now }
-{
-    is_write(op) && op.file == *file
-}
-
 fn is_read_of(file: &FileName, op: &Op) -> bool
     ensures { result ≡ spec.is_read_of file.now op.now }
 {
-    !is_write(op) && op.file == *file
+    !op.is_write() && op.file == *file
 }
 
 /// Replaces the content that is written to a file.
 fn rewrite_in(ops: &mut Vec<Op>, file: &FileName, content: Content)
-    requires { IsSome (find (spec.is_write_to file.now) ops.old.items) }
+    requires { IsSome (find (evidence.writes_file file.now) ops.old.items) }
     ensures { ops.new.items ≡ spec.with_content file.now content ops.old.items }
 {
     let place = match write_place(ops.as_slice(), file) {
@@ -383,10 +368,10 @@ fn rewrite_in(ops: &mut Vec<Op>, file: &FileName, content: Content)
 
 /// Where the write to a file stands.
 fn write_place(ops: &[Op], file: &FileName) -> Option<usize>
-    ensures value { result ≡ position (spec.is_write_to file.now) ops.now }
+    ensures value { result ≡ position (evidence.writes_file file.now) ops.now }
     ensures within { IfSome result (λ place. place < length ops.now) }
 {
-    ops.iter().position(|op| is_write_to(file, op))
+    ops.iter().position(|op| op.writes(file))
 }
 
 /// Puts the operation before those of later files.

@@ -7,7 +7,6 @@ ghost use Rattle.tq_states.specs.Places as places;
 ghost use Rattle.tq_states.specs.Voting as spec;
 
 use crate::NodeTold;
-use crate::open::is_write;
 use std::alloc::Global;
 use tq_desk::{Grant, Op, Vote};
 use tq_node::{NodeAsk, NodeReply, WorkAsk};
@@ -38,18 +37,10 @@ pub(crate) fn vote_of(txn: u64, told: &NodeTold) -> Result<Option<Vote>, Memory>
     }))
 }
 
-/// Whether a server granted a lock to the operation.
-pub(crate) fn has_server(op: &Op, server: u64) -> bool
-    ensures { result ≡ evidence.has_server op.now server }
-{
-    let grants = op.grants.as_slice();
-    grants.iter().any(|grant| grant.server == server)
-}
-
 pub(crate) fn is_server_of(ops: &[Op], server: u64) -> bool
     ensures { result ≡ evidence.is_server_of ops.now server }
 {
-    ops.iter().any(|op| has_server(op, server))
+    ops.iter().any(|op| op.has_server(server))
 }
 
 /// What the operations write at a server, by file.
@@ -58,7 +49,7 @@ pub(crate) fn writes_at(alloc: Global, ops: &[Op], server: u64) -> Result<Seq<Wr
 {
     let mut writes = Vec::new(alloc);
     for op in ops {
-        if is_write(op) && has_server(op, server) {
+        if op.is_write() && op.has_server(server) {
             writes.push(write_in(op)?)?;
         }
     }
@@ -82,22 +73,15 @@ pub(crate) fn are_writes_at(server: u64, voted: &[Write], ops: &[Op]) -> bool
     match ops {
         [] => voted.is_empty(),
         [op, ..] => {
-            if !is_write(op) || !has_server(op, server) {
+            if !op.is_write() || !op.has_server(server) {
                 return are_writes_at(server, voted, &ops[1..]);
             }
             match voted {
                 [] => false,
-                [write, ..] => is_write_of(write, op)
-                    && are_writes_at(server, &voted[1..], &ops[1..]),
+                [write, ..] => op.makes(write) && are_writes_at(server, &voted[1..], &ops[1..]),
             }
         }
     }
-}
-
-fn is_write_of(write: &Write, op: &Op) -> bool
-    ensures { result ≡ evidence.is_write_of write.now op.now }
-{
-    write.file == op.file && write.version == op.version && write.content == op.content
 }
 
 /// The least file of which the vote does not cover a grant.
@@ -119,24 +103,7 @@ fn covers_op(vote: &Vote, op: &Op) -> bool
 fn covers_grant(vote: &Vote, file: FileName, grant: &Grant) -> bool
     ensures { result ≡ spec.covers_grant vote.now file grant.now }
 {
-    vote.server != grant.server || covers(file, grant, vote)
-}
-
-fn covers(file: FileName, grant: &Grant, vote: &Vote) -> bool
-    ensures { result ≡ evidence.covers file grant.now vote.now }
-{
-    vote.server == grant.server
-        && grant.number < vote.number
-        && holds_since(vote, file, grant.number)
-}
-
-/// Whether the vote lists a lock of the file from no later than that number.
-fn holds_since(vote: &Vote, file: FileName, number: u64) -> bool
-    ensures { result ≡ evidence.holds_since vote.now file number }
-{
-    let held = vote.held.as_slice();
-    held.iter()
-        .any(|lock| lock.file == file && lock.since <= number)
+    vote.server != grant.server || vote.covers(file, grant)
 }
 
 /// Whether the server's vote is there.

@@ -1,3 +1,4 @@
 pub mod Ascii
 pub mod Installed
 pub mod Kept
+pub mod SameName

@@ -6,6 +6,7 @@ use Rattle.std.specs.Char.{is_ascii_lowercase, is_ascii_digit}
 use Rattle.tq_store.specs.declared.file_name.TheConstants.{MAX_NAME}
 use Rattle.std.proofs.Common.{ap, sym, ◌∙◌, length-take-le}
 use Rattle.std.proofs.lemmas.List.{take-append-drop}
+use Rattle.std.specs.Cmp.Lexicographic.{pointwise}
 
 -- a byte that may stand in a file name: a letter, a digit, a dot, a low line or a dash
 abbrev pub is_name_byte : ℕ → Bool
@@ -38,3 +39,7 @@ padded-take bytes len h =
     ap (λ n. take len bytes ++ replicate (MAX_NAME - n) 0) (length-take_padded bytes len h)
     ∙ ap (λ rest. take len bytes ++ rest) (sym h.rest)
     ∙ take-append-drop len bytes
+
+-- two names, or two contents, are the same bytes
+abbrev pub same_name : List ℕ → List ℕ → Bool
+same_name = pointwise (◌==◌)

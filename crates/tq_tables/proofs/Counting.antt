@@ -16,15 +16,16 @@ use Rattle.tq_desk.specs.declared.ask.DeskAsk.{DeskAsk}
 use Rattle.tq_desk.specs.declared.ask.DeskAsk.TheVariants as asks
 use Rattle.tq_desk.specs.declared.ask.DeskReply.{DeskReply}
 use Rattle.tq_desk.specs.declared.ask.DeskReply.TheVariants as replies
-use Rattle.tq_evidence.specs.Evidence.{same_name}
-use Rattle.tq_desk.specs.Log.{with_files}
-use Rattle.tq_desk.specs.DeskJournal.{Commit, DeskEntry, commits, count, count_one, with_commit, writes_file}
-use Rattle.tq_desk.specs.DeskLog.{is_written}
-use Rattle.tq_evidence.proofs.SameName.{same_name-is}
+use Rattle.tq_store.specs.Names.{same_name}
+use Rattle.tq_desk.specs.DeskStep.{with_files}
+use Rattle.tq_desk.specs.DeskJournal.{Commit, DeskEntry, commits, count, count_one, with_commit}
+use Rattle.tq_evidence.specs.Evidence.{writes_file}
+use Rattle.tq_desk.specs.DecisionLog.{is_written}
+use Rattle.tq_store.proofs.SameName.{same_name-is, same_name-refl, same_name-sym}
 use Rattle.tq_desk.proofs.WrittenNames.{written-is}
 use Rattle.tq_tables.specs.Rows.{files_in, files_of}
 use Rattle.tq_tables.specs.Counted.{counted, count_in, names_of, with_one, with_each}
-use Rattle.tq_tables.proofs.Names.{same_name-refl, same_name-sym, is_in, Apart, or_false, or_nothing, either, or_swap, filter-same, without, without-more, is_in-filter, Apart-filter, Apart-append, Apart-keys}
+use Rattle.tq_tables.proofs.Names.{is_in, Apart, or_false, or_nothing, either, or_swap, filter-same, without, without-more, is_in-filter, Apart-filter, Apart-append, Apart-keys}
 
 -- ---- names listed with a number each
 

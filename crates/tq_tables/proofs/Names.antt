@@ -14,14 +14,8 @@ use Rattle.std.specs.declared.cmp.Ordering.{Ordering}
 use Rattle.std.specs.declared.cmp.Ordering.TheVariants.{Less, Equal, Greater}
 use Rattle.std.proofs.lemmas.List.Folds.{list_any-append}
 use Rattle.tq_store.specs.Copies.{name_cmp}
-use Rattle.tq_evidence.specs.Evidence.{same_name}
-use Rattle.tq_evidence.proofs.SameName.{same_name-is}
-
-pub same_name-refl : (a : List ℕ) → same_name a a ≡ true
-same_name-refl a = (lists_equiv nat_eq_equiv).refl a
-
-pub same_name-sym : (a b : List ℕ) → same_name a b ≡ same_name b a
-same_name-sym a b = (lists_equiv nat_eq_equiv).symm a b
+use Rattle.tq_store.specs.Names.{same_name}
+use Rattle.tq_store.proofs.SameName.{same_name-is, same_name-refl, same_name-sym}
 
 -- the name is in the list
 abbrev pub is_in : List ℕ → List (List ℕ) → Bool

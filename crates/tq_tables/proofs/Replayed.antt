@@ -11,19 +11,21 @@ use Rattle.tq_node.specs.Node.{NodeView, answered}
 use Rattle.tq_desk.specs.declared.ask.DeskAsk.{DeskAsk}
 use Rattle.tq_desk.specs.declared.ask.DeskAsk.TheVariants as desk_asks
 use Rattle.tq_desk.specs.declared.ask.DeskRefusal.{DeskRefusal}
-use Rattle.tq_desk.specs.Log.{DeskView, desk_reply, desk_after, desk_refusal, desk_answered, state_at}
-use Rattle.tq_desk.specs.Log as desk
-use Rattle.tq_desk.specs.DeskJournal.{IsLegalDesk, desk_state, step_reply, step_after}
-use Rattle.tq_desk.proofs.DeskLog.{desk_keeps}
+use Rattle.tq_desk.specs.DeskStep.{DeskView, desk_reply, desk_after, desk_refusal, desk_answered}
+use Rattle.tq_shape.specs.Steps.{state_at}
+use Rattle.tq_desk.specs.DeskStep as desk
+use Rattle.tq_desk.specs.DeskJournal.{DeskBounds, IsLegalDesk, desk_state, step_reply, step_after, DeskEntry}
+use Rattle.tq_desk.proofs.DecisionLog.{desk_keeps}
 use Rattle.tq_live.specs.Live.{Live}
 use Rattle.tq_live.specs.View.{view_after, view_reply_at, view_after_at, view_state}
-use Rattle.tq_tables.specs.Journals.{ServerEntry, EntryOfDesk, EntryOfView}
-use Rattle.tq_tables.specs.Parts.{node_at, desk_at, node_after_all, nodes_at, AreOfTree, bounds_of}
+use Rattle.tq_tables.specs.Journals.{JournalsView, ViewEntry}
+use Rattle.tq_node.specs.NodeJournal.{NodeEntry}
+use Rattle.tq_tables.specs.Parts.{PartsView, parts_of, node_at, desk_at, node_after_all, nodes_at, AreOfTree, bounds_of}
 use Rattle.tq_tables.proofs.RowLaws.{take-next}
 
 -- ---- servers
 
-pub nodes_at-push : (levels first : ℕ) (servers : List (List ServerEntry)) (entries : List ServerEntry)
+pub nodes_at-push : (levels first : ℕ) (servers : List (List NodeEntry)) (entries : List NodeEntry)
     → nodes_at levels first (servers ++ entries ∷ []) ≡ nodes_at levels first servers ++ node_after_all levels (first + length servers) entries ∷ []
 nodes_at-push levels first [] entries = ap (λ (n : ℕ). node_after_all levels n entries ∷ []) (omega arith)
 nodes_at-push levels first (x ∷ servers) entries =
@@ -31,12 +33,12 @@ nodes_at-push levels first (x ∷ servers) entries =
     (nodes_at-push levels (first + 1) servers entries
     ∙ ap (λ (n : ℕ). nodes_at levels (first + 1) servers ++ node_after_all levels n entries ∷ []) (omega arith))
 
-pub AreOfTree-nodes_at : (levels first : ℕ) (servers : List (List ServerEntry)) → AreOfTree levels first (nodes_at levels first servers)
+pub AreOfTree-nodes_at : (levels first : ℕ) (servers : List (List NodeEntry)) → AreOfTree levels first (nodes_at levels first servers)
 AreOfTree-nodes_at levels first [] = tt
 AreOfTree-nodes_at levels first (x ∷ servers) = ((refl, refl), AreOfTree-nodes_at levels (first + 1) servers)
 
 -- a server after one entry more
-pub answered-push : (levels server : ℕ) (entries : List ServerEntry) (e : ServerEntry)
+pub answered-push : (levels server : ℕ) (entries : List NodeEntry) (e : NodeEntry)
     → answered (node_after_all levels server entries) (suc (length entries)) e.ask ≡ node_after_all levels server (entries ++ e ∷ [])
 answered-push levels server entries e =
     let state : node_at server (entries ++ e ∷ []) ≡ node_after server (node_at server entries) (suc (length entries)) e.ask =
@@ -45,10 +47,7 @@ answered-push levels server entries e =
     ap (λ (s : NodeState). let v : NodeView = record { levels = levels; server = server; state = s; last = suc (length entries) } in v) (sym state)
     ∙ ap (λ (n : ℕ). let v : NodeView = record { levels = levels; server = server; state = node_at server (entries ++ e ∷ []); last = n } in v) (sym count)
 
-module _ (levels server : ℕ) (entries : List ServerEntry) (i : ℕ) (e : ServerEntry) (less : i < length entries) (is : e ≡ get_or entries i e) where
-  pub node-last : (n : NodeView) → n ≡ node_after_all levels server (take i entries) → n.last ≡ i
-  node-last n so_far = ap (λ (v : NodeView). v.last) so_far ∙ length-take-le i entries (omega (arith, less))
-
+module _ (levels server : ℕ) (entries : List NodeEntry) (i : ℕ) (e : NodeEntry) (less : i < length entries) (is : e ≡ get_or entries i e) where
   pub node-next : (old new : NodeView) (number : ℕ) → old ≡ node_after_all levels server (take i entries) → number ≡ i + 1 → new ≡ answered old number e.ask
       → new ≡ node_after_all levels server (take (i + 1) entries)
   node-next old new number so_far count stands =
@@ -59,7 +58,7 @@ module _ (levels server : ℕ) (entries : List ServerEntry) (i : ℕ) (e : Serve
       ∙ answered-push levels server (take i entries) e
       ∙ ap (node_after_all levels server) (sym (take-next entries i e less is))
 
-pub nodes-next : {A : Type 0} (items : A → List ServerEntry) (levels : ℕ) (servers : List A) (i : ℕ) (entries : A) → i < length servers → entries ≡ get_or servers i entries
+pub nodes-next : {A : Type 0} (items : A → List NodeEntry) (levels : ℕ) (servers : List A) (i : ℕ) (entries : A) → i < length servers → entries ≡ get_or servers i entries
     → (nodes after : List NodeView) (n : NodeView) (number : ℕ) → nodes ≡ nodes_at levels 1 (map items (take i servers)) → number ≡ i + 1
     → n ≡ node_after_all levels number (items entries) → after ≡ nodes ++ n ∷ [] → after ≡ nodes_at levels 1 (map items (take (i + 1) servers))
 nodes-next items levels servers i entries less is nodes after n number so_far count stands push =
@@ -77,7 +76,7 @@ begun_step None old (desk_asks.Resolve txn) = omega arith
 begun_step None old (desk_asks.Commit txn ops votes) = omega arith
 begun_step (Some reason) old ask = omega arith
 
-begun_from : (s : DeskView) (n : ℕ) (entries : List EntryOfDesk) → (state_from (λ old number ask. desk_after old ask) s n entries).begun ≤ s.begun + length entries
+begun_from : (s : DeskView) (n : ℕ) (entries : List DeskEntry) → (state_from (λ old number ask. desk_after old ask) s n entries).begun ≤ s.begun + length entries
 begun_from s n [] = omega arith
 begun_from s n (e ∷ entries) =
     let one = begun_step (desk_refusal s e.ask) s e.ask in
@@ -85,28 +84,28 @@ begun_from s n (e ∷ entries) =
     omega arith
 
 -- there are no more transactions than entries
-pub begun-bound : (levels : ℕ) (limits : LimitsView) (entries : List EntryOfDesk) → (desk_at levels limits entries).begun ≤ length entries
+pub begun-bound : (levels : ℕ) (limits : LimitsView) (entries : List DeskEntry) → (desk_at levels limits entries).begun ≤ length entries
 begun-bound levels limits entries = let b = begun_from (desk.opening levels limits) 1 entries in omega arith
 
-pub desk-push : (levels : ℕ) (limits : LimitsView) (entries : List EntryOfDesk) (e : EntryOfDesk) → desk_at levels limits (entries ++ e ∷ []) ≡ desk_after (desk_at levels limits entries) e.ask
+pub desk-push : (levels : ℕ) (limits : LimitsView) (entries : List DeskEntry) (e : DeskEntry) → desk_at levels limits (entries ++ e ∷ []) ≡ desk_after (desk_at levels limits entries) e.ask
 desk-push levels limits entries e = state-push (λ old number ask. desk_reply old ask) (λ old number ask. desk_after old ask) (desk.opening levels limits) entries e
 
-pub desk-next : (levels : ℕ) (limits : LimitsView) (entries : List EntryOfDesk) (i : ℕ) (e : EntryOfDesk) → i < length entries → e ≡ get_or entries i e
+pub desk-next : (levels : ℕ) (limits : LimitsView) (entries : List DeskEntry) (i : ℕ) (e : DeskEntry) → i < length entries → e ≡ get_or entries i e
     → (old new : DeskView) → old ≡ desk_at levels limits (take i entries) → new ≡ desk_after old e.ask → new ≡ desk_at levels limits (take (i + 1) entries)
 desk-next levels limits entries i e less is old new so_far stands =
     stands ∙ ap (λ d. desk_after d e.ask) so_far ∙ sym (desk-push levels limits (take i entries) e) ∙ ap (desk_at levels limits) (sym (take-next entries i e less is))
 
-pub desk-room : (levels : ℕ) (limits : LimitsView) (entries : List EntryOfDesk) (i : ℕ) (old : DeskView) → i ≤ length entries → old ≡ desk_at levels limits (take i entries) → old.begun ≤ i
+pub desk-room : (levels : ℕ) (limits : LimitsView) (entries : List DeskEntry) (i : ℕ) (old : DeskView) → i ≤ length entries → old ≡ desk_at levels limits (take i entries) → old.begun ≤ i
 desk-room levels limits entries i old most so_far =
     let count = length-take-le i entries most in
     subst (λ (d : DeskView). d.begun ≤ i) (sym so_far) (let b = begun-bound levels limits (take i entries) in omega (arith, b, count))
 
 -- the desk as the log says, the newest entry first
-pub desk_at-is : (levels : ℕ) (limits : LimitsView) (entries : List EntryOfDesk) → desk_at levels limits entries ≡ desk_state (bounds_of levels limits) (reverse entries)
+pub desk_at-is : (levels : ℕ) (limits : LimitsView) (entries : List DeskEntry) → desk_at levels limits entries ≡ desk_state (bounds_of levels limits) (reverse entries)
 desk_at-is levels limits entries = state-reverse step_reply step_after (desk.opening levels limits) entries
 
 -- it is still that of these bounds
-pub desk-bounds : (levels : ℕ) (limits : LimitsView) (entries : List EntryOfDesk) (d : DeskView) → IsLegalDesk (bounds_of levels limits) (reverse entries) → d ≡ desk_at levels limits entries
+pub desk-bounds : (levels : ℕ) (limits : LimitsView) (entries : List DeskEntry) (d : DeskView) → IsLegalDesk (bounds_of levels limits) (reverse entries) → d ≡ desk_at levels limits entries
     → bounds_of levels limits ≡ bounds_of d.levels d.limits
 desk-bounds levels limits entries d legal stands =
     let keeps = desk_keeps (bounds_of levels limits) (reverse entries) legal in
@@ -116,15 +115,32 @@ desk-bounds levels limits entries d legal stands =
 -- ---- the view
 
 -- the view after these entries
-abbrev pub view_from : ℕ → List EntryOfView → Live
+abbrev pub view_from : ℕ → List ViewEntry → Live
 view_from levels entries = state_from view_after_at (view_state levels []) 1 entries
 
-pub view-next : (levels : ℕ) (entries : List EntryOfView) (i : ℕ) (e : EntryOfView) → i < length entries → e ≡ get_or entries i e
+pub view-next : (levels : ℕ) (entries : List ViewEntry) (i : ℕ) (e : ViewEntry) → i < length entries → e ≡ get_or entries i e
     → (old new : Live) → old ≡ view_from levels (take i entries) → new ≡ view_after old e.ask → new ≡ view_from levels (take (i + 1) entries)
 view-next levels entries i e less is old new so_far stands =
     stands ∙ ap (λ l. view_after l e.ask) so_far ∙ sym (state-push view_reply_at view_after_at (view_state levels []) (take i entries) e) ∙ ap (view_from levels) (sym (take-next entries i e less is))
 
-pub of_tree-at : (levels : ℕ) (servers : List (List ServerEntry)) (nodes : List NodeView) (l : ℕ) → nodes ≡ nodes_at levels 1 servers → l ≡ levels → AreOfTree l 1 nodes
+pub of_tree-at : (levels : ℕ) (servers : List (List NodeEntry)) (nodes : List NodeView) (l : ℕ) → nodes ≡ nodes_at levels 1 servers → l ≡ levels → AreOfTree l 1 nodes
 of_tree-at levels servers nodes l are is =
     subst (λ (n : List NodeView). AreOfTree l 1 n) (sym are)
     (subst (λ (k : ℕ). AreOfTree k 1 (nodes_at levels 1 servers)) (sym is) (AreOfTree-nodes_at levels 1 servers))
+
+-- ---- the desk of parts that stand as legal journals leave them
+
+module _ (journals : JournalsView) (legal : IsLegalDesk (bounds_of journals.levels journals.limits) (reverse journals.desk)) (parts : PartsView) (entries : List DeskEntry) (stand : parts ≡ parts_of journals) (are : entries ≡ journals.desk) where
+  desk_is : parts.desk ≡ desk_at journals.levels journals.limits journals.desk
+  desk_is = ap (λ (p : PartsView). p.desk) stand
+
+  bounds_are : bounds_of journals.levels journals.limits ≡ bounds_of parts.desk.levels parts.desk.limits
+  bounds_are = desk-bounds journals.levels journals.limits journals.desk parts.desk legal desk_is
+
+  pub parts-legal : IsLegalDesk (bounds_of parts.desk.levels parts.desk.limits) (reverse entries)
+  parts-legal =
+      subst (λ (es : List DeskEntry). IsLegalDesk (bounds_of parts.desk.levels parts.desk.limits) (reverse es)) (sym are)
+      (subst (λ (bounds : DeskBounds). IsLegalDesk bounds (reverse journals.desk)) bounds_are legal)
+
+  pub parts-stand : parts.desk ≡ desk_state (bounds_of parts.desk.levels parts.desk.limits) (reverse entries)
+  parts-stand = desk_is ∙ desk_at-is journals.levels journals.limits journals.desk ∙ (λ i. desk_state (bounds_are i) (reverse (sym are i)))

@@ -9,13 +9,12 @@ use Rattle.tq_shape.specs.ServerSet.{Servers}
 use Rattle.tq_shape.specs.Tree.{Server}
 use Rattle.tq_shape.proofs.Joined.{reverse-push}
 use Rattle.tq_coterie.specs.Coterie.{servers_of}
-use Rattle.tq_desk.specs.DeskJournal.{commits, with_commit}
+use Rattle.tq_desk.specs.DeskJournal.{commits, with_commit, DeskEntry}
 use Rattle.tq_live.specs.BestOf.{IsBestOf}
 use Rattle.tq_live.specs.Live.{Live, cost_of}
 use Rattle.tq_live.specs.View.{upwards}
 use Rattle.tq_live.specs.declared.least.Least.{Least}
 use Rattle.tq_node.specs.Node.{NodeView}
-use Rattle.tq_tables.specs.Journals.{EntryOfDesk}
 use Rattle.tq_tables.specs.Parts.{AreOfTree}
 use Rattle.tq_tables.specs.Rows.{quorum_row, row_at, servers_where}
 
@@ -27,15 +26,6 @@ take-next xs i x less is = take_more xs i x less ∙ ap (λ y. take i xs ++ y �
 pub flat_map-append : {X Y : Type 0} (f : X → List Y) (xs ys : List X) → flat_map f (xs ++ ys) ≡ flat_map f xs ++ flat_map f ys
 flat_map-append f [] ys = refl
 flat_map-append f (x ∷ xs) ys = ap (λ rest. f x ++ rest) (flat_map-append f xs ys) ∙ sym (append_assoc (f x) (flat_map f xs) (flat_map f ys))
-
-pub flat_map-next : {X Y : Type 0} (f : X → List Y) (xs : List X) (i : ℕ) (x : X) → i < length xs → x ≡ get_or xs i x → flat_map f (take i xs) ++ f x ≡ flat_map f (take (i + 1) xs)
-flat_map-next f xs i x less is =
-    ap (λ rest. flat_map f (take i xs) ++ rest) (sym (append-nil (f x)))
-    ∙ sym (flat_map-append f (take i xs) (x ∷ []))
-    ∙ ap (flat_map f) (sym (take-next xs i x less is))
-
-pub map-next : {X Y : Type 0} (f : X → Y) (xs : List X) (i : ℕ) (x : X) → i < length xs → x ≡ get_or xs i x → map f (take i xs) ++ f x ∷ [] ≡ map f (take (i + 1) xs)
-map-next f xs i x less is = sym (map-append f (take i xs) (x ∷ [])) ∙ ap (map f) (sym (take-next xs i x less is))
 
 -- ---- quorums
 
@@ -58,7 +48,7 @@ quorum_row-is live server (Some least) is =
 -- ---- files
 
 -- the commits with one entry more
-pub commits-next : (entries : List EntryOfDesk) (i : ℕ) (e : EntryOfDesk) → i < length entries → e ≡ get_or entries i e
+pub commits-next : (entries : List DeskEntry) (i : ℕ) (e : DeskEntry) → i < length entries → e ≡ get_or entries i e
     → with_commit e.ask e.reply (commits (reverse (take i entries))) ≡ commits (reverse (take (i + 1) entries))
 commits-next entries i e less is = ap commits (sym (ap reverse (take-next entries i e less is) ∙ reverse-push (take i entries) e))
 

@@ -6,9 +6,9 @@ use Rattle.std.specs.List.{All}
 use Rattle.std.proofs.lemmas.List.{length-map}
 use Rattle.std.proofs.lemmas.List.Elements.{All-cons}
 use Rattle.std.proofs.lemmas.Nat.{pow_pos}
-use Rattle.tq_desk.specs.Log.{DeskView}
+use Rattle.tq_desk.specs.DeskStep.{DeskView}
 use Rattle.tq_desk.specs.DeskJournal.{Commit, commits, DeskBounds, DeskEntry, IsLegalDesk, desk_state}
-use Rattle.tq_desk.proofs.DeskLog.{desk_keeps}
+use Rattle.tq_desk.proofs.DecisionLog.{desk_keeps}
 use Rattle.tq_live.specs.Live.{Live}
 use Rattle.tq_live.specs.View.{upwards}
 use Rattle.tq_node.specs.Node.{NodeView}
@@ -19,8 +19,7 @@ use Rattle.tq_tables.specs.DeskStates.{intent_state_at}
 use Rattle.tq_live.specs.declared.least.Least.{Least}
 use Rattle.tq_tables.specs.declared.lock_row.LockRow.{LockRow}
 use Rattle.tq_tables.specs.declared.intent_row.IntentRow.{IntentRow}
-use Rattle.tq_tables.specs.Journals.{EntryOfDesk}
-use Rattle.tq_tables.specs.Parts.{bounds_of}
+use Rattle.tq_tables.specs.Parts.{PartsView, bounds_of}
 use Rattle.tq_tables.specs.Tables.{AreTables, tables_over}
 use Rattle.tq_tables.specs.Rows.{file_row, file_rows, files_in, intent_rows, intent_state, lock_rows, quorum_row, quorum_rows, state_by}
 
@@ -50,15 +49,15 @@ states-same bounds journal desk legal stands =
     λ i server txn number.
     cond (nat_le 1 txn && nat_le txn (begun_is i)) (state_by ((ap (λ (d : DeskView). fin.get d.finals txn) stands ∙ keeps.finals txn) i) server number) Unknown
 
-pub over-is : (nodes : List NodeView) (desk : DeskView) (view : Live) (entries : List EntryOfDesk) (levels : ℕ) (quorums : List (Option Least)) (files : List FileRow) (locks : List LockRow) (intentions : List IntentRow)
-    → levels ≡ view.levels → quorums ≡ quorum_rows view → files ≡ file_rows levels nodes (commits (reverse entries)) → locks ≡ lock_rows nodes → intentions ≡ intent_rows (intent_state_at desk) nodes
-    → IsLegalDesk (bounds_of desk.levels desk.limits) (reverse entries) → desk ≡ desk_state (bounds_of desk.levels desk.limits) (reverse entries)
-    → record { levels = levels; nodes = nodes; desk = desk; view = view; quorums = quorums; files = files; locks = locks; intentions = intentions } ≡ tables_over nodes desk view entries
-over-is nodes desk view entries levels quorums files locks intentions tree q f l v legal stands =
-    let states = states-same (bounds_of desk.levels desk.limits) (reverse entries) desk legal stands in
-    let files_are = f ∙ ap (λ (n : ℕ). file_rows n nodes (commits (reverse entries))) tree in
-    let intents_are = v ∙ ap (λ (state : ℕ → ℕ → ℕ → IntentState). intent_rows state nodes) states in
-    λ i. record { levels = tree i; nodes = nodes; desk = desk; view = view; quorums = q i; files = files_are i; locks = l i; intentions = intents_are i }
+pub over-is : (parts : PartsView) (entries : List DeskEntry) (levels : ℕ) (quorums : List (Option Least)) (files : List FileRow) (locks : List LockRow) (intentions : List IntentRow)
+    → levels ≡ parts.view.levels → quorums ≡ quorum_rows parts.view → files ≡ file_rows parts.view.levels parts.nodes (commits (reverse entries)) → locks ≡ lock_rows parts.nodes
+    → intentions ≡ intent_rows (intent_state_at parts.desk) parts.nodes
+    → IsLegalDesk (bounds_of parts.desk.levels parts.desk.limits) (reverse entries) → parts.desk ≡ desk_state (bounds_of parts.desk.levels parts.desk.limits) (reverse entries)
+    → record { levels = levels; nodes = parts.nodes; desk = parts.desk; view = parts.view; quorums = quorums; files = files; locks = locks; intentions = intentions } ≡ tables_over parts entries
+over-is parts entries levels quorums files locks intentions tree q f l v legal stands =
+    let states = states-same (bounds_of parts.desk.levels parts.desk.limits) (reverse entries) parts.desk legal stands in
+    let intents_are = v ∙ ap (λ (state : ℕ → ℕ → ℕ → IntentState). intent_rows state parts.nodes) states in
+    λ i. record { levels = tree i; nodes = parts.nodes; desk = parts.desk; view = parts.view; quorums = q i; files = f i; locks = l i; intentions = intents_are i }
 
-pub over-are : (nodes : List NodeView) (desk : DeskView) (view : Live) (entries : List EntryOfDesk) → AreTables (tables_over nodes desk view entries)
-over-are nodes desk view entries = record { followed = refl; one_each = length-quorum_rows view; of_tree = of_tree-rows view.levels nodes (commits (reverse entries)) (files_in (commits (reverse entries))) }
+pub over-are : (parts : PartsView) (entries : List DeskEntry) → AreTables (tables_over parts entries)
+over-are parts entries = record { followed = refl; one_each = length-quorum_rows parts.view; of_tree = of_tree-rows parts.view.levels parts.nodes (commits (reverse entries)) (files_in (commits (reverse entries))) }

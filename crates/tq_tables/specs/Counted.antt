@@ -6,7 +6,7 @@ use Rattle.std.specs.Map.{lookup}
 use Rattle.std.specs.Option.{unwrap_or}
 use Rattle.indexmap.specs.IndexMap.{insert_entry}
 use Rattle.tq_evidence.specs.declared.op.Op.{Op}
-use Rattle.tq_desk.specs.Log.{with_files}
+use Rattle.tq_desk.specs.DeskStep.{with_files}
 use Rattle.tq_desk.specs.DeskJournal.{Commit, count}
 use Rattle.tq_tables.specs.Rows.{files_in}
 

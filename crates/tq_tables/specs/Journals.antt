@@ -3,33 +3,25 @@ use Rattle.std.specs.Prelude.{◌≡◌, ◌≤◌, ◌+◌, ◌^◌, ℕ, List,
 use Rattle.std.specs.List.{All}
 use Rattle.tq_shape.specs.Limits.{LimitsView}
 use Rattle.tq_shape.specs.declared.entry.Entry.{Entry}
-use Rattle.tq_node.specs.declared.ask.NodeAsk.{NodeAsk}
-use Rattle.tq_node.specs.declared.ask.NodeReply.{NodeReply}
-use Rattle.tq_desk.specs.declared.ask.DeskAsk.{DeskAsk}
-use Rattle.tq_desk.specs.declared.ask.DeskReply.{DeskReply}
 use Rattle.tq_live.specs.declared.view.ViewAsk.{ViewAsk}
 use Rattle.tq_live.specs.declared.view.ViewReply.{ViewReply}
 use Rattle.tq_live.specs.declared.view.ViewReply.TheVariants.{Chosen, Refused}
 use Rattle.tq_live.specs.declared.view.ViewRefusal.TheVariants.{Blocked}
+use Rattle.tq_node.specs.NodeJournal.{NodeEntry}
+use Rattle.tq_desk.specs.DeskJournal.{DeskEntry}
 
--- an entry of a server's journal, of the desk's and of the view's
-abbrev pub ServerEntry : Type 0
-ServerEntry = Entry NodeAsk NodeReply
-
-abbrev pub EntryOfDesk : Type 0
-EntryOfDesk = Entry DeskAsk DeskReply
-
-abbrev pub EntryOfView : Type 0
-EntryOfView = Entry ViewAsk ViewReply
+-- an entry of the view's journal
+abbrev pub ViewEntry : Type 0
+ViewEntry = Entry ViewAsk ViewReply
 
 -- what callers see of the journals: how many levels the tree has, the limits, and the entries of each server upwards
 -- from server 1, of the desk and of the view, each the oldest first
 pub record JournalsView : Type 0 where
   pub levels : ℕ
   pub limits : LimitsView
-  pub servers : List (List ServerEntry)
-  pub desk : List EntryOfDesk
-  pub view : List EntryOfView
+  pub servers : List (List NodeEntry)
+  pub desk : List DeskEntry
+  pub view : List ViewEntry
 
 -- the reply names no quorum and no blocker of a tree of other levels
 abbrev pub IsOfTree : ℕ → ViewReply → Type 0

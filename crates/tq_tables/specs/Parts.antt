@@ -1,36 +1,56 @@
 -- The parts of a system as their journals leave them, and when journals are legal.
-use Rattle.std.specs.Prelude.{◌≡◌, ℕ, ◌+◌, List, [], ◌∷◌, length, reverse}
+use Rattle.std.specs.Prelude.{◌≡◌, ℕ, ◌+◌, Bool, List, [], ◌∷◌, length, reverse, refl}
+use Rattle.std.specs.Coded.{Coded, code_by, coded×, coded_list, coded_ℕ, coded_bool}
 use Rattle.tq_shape.specs.Journal.{state_from}
 use Rattle.tq_shape.specs.Limits.{LimitsView}
 use Rattle.tq_node.specs.Records.{NodeState, node_after}
 use Rattle.tq_node.specs.Node as node
-use Rattle.tq_node.specs.Node.{NodeView}
-use Rattle.tq_node.specs.NodeJournal.{IsLegalNode}
-use Rattle.tq_desk.specs.Log.{DeskView, desk_after}
-use Rattle.tq_desk.specs.Log as desk
-use Rattle.tq_desk.specs.DeskJournal.{DeskBounds, IsLegalDesk}
+use Rattle.tq_intents.specs.declared.record.OpenVote.{OpenVote}
+use Rattle.tq_intents.specs.declared.record.Record.{Record}
+use Rattle.tq_node.specs.declared.ask.Verdict.{Verdict}
+use Rattle.tq_node.specs.Node.{NodeView, node_code}
+use Rattle.tq_node.specs.NodeJournal.{IsLegalNode, NodeEntry}
+use Rattle.tq_desk.specs.DeskStep.{DeskView, desk_after}
+use Rattle.tq_desk.specs.DeskStep as desk
+use Rattle.tq_desk.specs.Views.{desk_code}
+use Rattle.tq_desk.specs.DeskJournal.{DeskBounds, IsLegalDesk, DeskEntry}
 use Rattle.tq_live.specs.Live.{Live}
 use Rattle.tq_live.specs.View.{view_state, IsLegalView}
-use Rattle.tq_tables.specs.Journals.{JournalsView, ServerEntry, EntryOfDesk, EntryOfView}
+use Rattle.tq_tables.specs.Journals.{JournalsView, ViewEntry}
 
 -- the raw records of a server after the entries of its journal
-abbrev pub node_at : ℕ → List ServerEntry → NodeState
+abbrev pub node_at : ℕ → List NodeEntry → NodeState
 node_at server entries = state_from (node_after server) (node.opening 0 server).state 1 entries
 
-abbrev pub desk_at : ℕ → LimitsView → List EntryOfDesk → DeskView
+abbrev pub desk_at : ℕ → LimitsView → List DeskEntry → DeskView
 desk_at levels limits entries = state_from (λ old number ask. desk_after old ask) (desk.opening levels limits) 1 entries
 
-abbrev pub view_at : ℕ → List EntryOfView → Live
+abbrev pub view_at : ℕ → List ViewEntry → Live
 view_at levels entries = view_state levels entries
 
 -- a server of a tree of those levels after its journal
-abbrev pub node_after_all : ℕ → ℕ → List ServerEntry → NodeView
+abbrev pub node_after_all : ℕ → ℕ → List NodeEntry → NodeView
 node_after_all levels server entries = record { levels = levels; server = server; state = node_at server entries; last = length entries }
 
 -- the servers of a tree after their journals, upwards from the first
-abbrev pub nodes_at : ℕ → ℕ → List (List ServerEntry) → List NodeView
+abbrev pub nodes_at : ℕ → ℕ → List (List NodeEntry) → List NodeView
 nodes_at levels first [] = []
 nodes_at levels first (entries ∷ rest) = node_after_all levels first entries ∷ nodes_at levels (first + 1) rest
+
+-- all parts of a system: the servers upwards from server 1, the desk and the view
+pub record PartsView : Type 0 where
+  pub nodes : List NodeView
+  pub desk : DeskView
+  pub view : Live
+
+-- the parts as their journals leave them
+abbrev pub parts_of : JournalsView → PartsView
+parts_of journals =
+    record {
+      nodes = nodes_at journals.levels 1 journals.servers;
+      desk = desk_at journals.levels journals.limits journals.desk;
+      view = view_at journals.levels journals.view;
+    }
 
 -- they are servers of a tree of those levels, numbered upwards from the first
 abbrev pub AreOfTree : ℕ → ℕ → List NodeView → Type 0
@@ -40,7 +60,7 @@ AreOfTree levels first (node ∷ nodes) = ((node.levels ≡ levels) × (node.ser
 -- ---- legal journals: each reply is what the part gives after the entries before it
 
 -- the journals of servers, upwards from the first (the server's words read the newest entry first)
-abbrev pub AreLegalServers : ℕ → List (List ServerEntry) → Type 0
+abbrev pub AreLegalServers : ℕ → List (List NodeEntry) → Type 0
 AreLegalServers first [] = Unit {0}
 AreLegalServers first (entries ∷ rest) = IsLegalNode first (reverse entries) × AreLegalServers (first + 1) rest
 
@@ -53,3 +73,11 @@ pub record AreLegal (journals : JournalsView) : Type 0 where
   pub servers : AreLegalServers 1 journals.servers
   pub desk : IsLegalDesk (bounds_of journals.levels journals.limits) (reverse journals.desk)
   pub view : IsLegalView journals.levels journals.view
+
+-- codes, by which a proof tells values apart
+abbrev pub live_code : Coded Live
+live_code = code_by (ℕ × (List ℕ × List Bool)) (coded× coded_ℕ (coded× (coded_list coded_ℕ) (coded_list coded_bool))) (λ l. (l.levels, (l.costs, l.up))) (λ p. record { levels = p.0; costs = p.1.0; up = p.1.1 }) (λ _. refl)
+
+abbrev pub parts_code : Coded Record → Coded OpenVote → Coded Verdict → Coded PartsView
+parts_code record_code vote_code verdict_code =
+    code_by (List NodeView × (DeskView × Live)) (coded× (coded_list (node_code record_code vote_code)) (coded× (desk_code verdict_code) live_code)) (λ p. (p.nodes, (p.desk, p.view))) (λ q. record { nodes = q.0; desk = q.1.0; view = q.1.1 }) (λ _. refl)

@@ -15,9 +15,9 @@ use Rattle.tq_node.specs.Node.{NodeView}
 use Rattle.tq_node.specs.Records.{cites_vote}
 use Rattle.tq_node.specs.declared.ask.Verdict.{Verdict}
 use Rattle.tq_node.specs.declared.ask.Verdict.TheVariants as verdicts
-use Rattle.tq_desk.specs.Log.{with_files}
+use Rattle.tq_desk.specs.DeskStep.{with_files}
 use Rattle.tq_desk.specs.DeskJournal.{Commit, DeskEntry, count, final}
-use Rattle.tq_desk.specs.DeskLog.{is_txn, is_written}
+use Rattle.tq_desk.specs.DecisionLog.{is_txn, is_written}
 use Rattle.tq_live.specs.Live.{Live, best, cost_of}
 use Rattle.tq_live.specs.View.{upwards}
 use Rattle.tq_live.specs.declared.least.Least.{Least}

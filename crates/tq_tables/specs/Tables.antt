@@ -6,16 +6,16 @@ use Rattle.tq_intents.specs.declared.record.OpenVote.{OpenVote}
 use Rattle.tq_intents.specs.declared.record.Record.{Record}
 use Rattle.tq_node.specs.Node.{NodeView, node_code}
 use Rattle.tq_node.specs.declared.ask.Verdict.{Verdict}
-use Rattle.tq_desk.specs.Log.{DeskView}
+use Rattle.tq_desk.specs.DeskStep.{DeskView}
 use Rattle.tq_desk.specs.Views.{desk_code}
-use Rattle.tq_desk.specs.DeskJournal.{commits}
+use Rattle.tq_desk.specs.DeskJournal.{commits, DeskEntry}
 use Rattle.tq_live.specs.Live.{Live}
 use Rattle.tq_live.specs.declared.least.Least.{Least}
 use Rattle.tq_tables.specs.declared.file_row.FileRow.{FileRow}
 use Rattle.tq_tables.specs.declared.lock_row.LockRow.{LockRow}
 use Rattle.tq_tables.specs.declared.intent_row.IntentRow.{IntentRow}
-use Rattle.tq_tables.specs.Journals.{JournalsView, EntryOfDesk}
-use Rattle.tq_tables.specs.Parts.{nodes_at, desk_at, view_at}
+use Rattle.tq_tables.specs.Journals.{JournalsView}
+use Rattle.tq_tables.specs.Parts.{PartsView, live_code, parts_of}
 use Rattle.tq_tables.specs.Rows.{quorum_rows, file_rows, lock_rows, intent_state, intent_rows}
 
 -- the servers, the desk and the view that the tables follow, and of them: for each server upwards the least quorum of its
@@ -31,23 +31,22 @@ pub record TablesView : Type 0 where
   pub intentions : List IntentRow
 
 -- the tables over these parts, where the desk's journal has these entries, the oldest first
-abbrev pub tables_over : List NodeView → DeskView → Live → List EntryOfDesk → TablesView
-tables_over nodes desk view entries =
+abbrev pub tables_over : PartsView → List DeskEntry → TablesView
+tables_over parts entries =
     record {
-      levels = view.levels;
-      nodes = nodes;
-      desk = desk;
-      view = view;
-      quorums = quorum_rows view;
-      files = file_rows view.levels nodes (commits (reverse entries));
-      locks = lock_rows nodes;
-      intentions = intent_rows (intent_state (reverse entries)) nodes;
+      levels = parts.view.levels;
+      nodes = parts.nodes;
+      desk = parts.desk;
+      view = parts.view;
+      quorums = quorum_rows parts.view;
+      files = file_rows parts.view.levels parts.nodes (commits (reverse entries));
+      locks = lock_rows parts.nodes;
+      intentions = intent_rows (intent_state (reverse entries)) parts.nodes;
     }
 
 -- the tables of all journals: those over the parts as the journals leave them
 abbrev pub tables_of : JournalsView → TablesView
-tables_of journals =
-    tables_over (nodes_at journals.levels 1 journals.servers) (desk_at journals.levels journals.limits journals.desk) (view_at journals.levels journals.view) journals.desk
+tables_of journals = tables_over (parts_of journals) journals.desk
 
 -- the tables are those of one tree: they have a quorum row for each server, and each set of servers is of the tree
 pub record AreTables (tables : TablesView) : Type 0 where
@@ -56,9 +55,6 @@ pub record AreTables (tables : TablesView) : Type 0 where
   pub of_tree : All (λ row. (row.current.levels ≡ tables.levels) × (row.stale.levels ≡ tables.levels)) tables.files
 
 -- codes, by which a proof tells values apart
-abbrev pub live_code : Coded Live
-live_code = code_by (ℕ × (List ℕ × List Bool)) (coded× coded_ℕ (coded× (coded_list coded_ℕ) (coded_list coded_bool))) (λ l. (l.levels, (l.costs, l.up))) (λ p. record { levels = p.0; costs = p.1.0; up = p.1.1 }) (λ _. refl)
-
 abbrev pub tables_code : Coded Record → Coded OpenVote → Coded Verdict → Coded Least → Coded FileRow → Coded LockRow → Coded IntentRow → Coded TablesView
 tables_code record_code vote_code verdict_code least_code file_code lock_code intent_code =
     code_by (ℕ × (List NodeView × (DeskView × (Live × (List (Option Least) × (List FileRow × (List LockRow × List IntentRow)))))))

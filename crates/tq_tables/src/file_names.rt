@@ -1,7 +1,7 @@
 //! The names of files, as a set that is walked in their order.
 ghost use Rattle.std.specs.Prelude.{◌≡◌, map, IfOk, OnOk};
 ghost use Rattle.std.specs.FinMap as fin;
-ghost use Rattle.tq_desk.specs.Log as spec;
+ghost use Rattle.tq_desk.specs.DeskStep as spec;
 
 use std::alloc::Global;
 use std::collections::BTreeMap;
@@ -19,7 +19,7 @@ pub(crate) struct FileNames {
 
 impl Model for FileNames {
     ghost use Rattle.std.specs.FinMap as map;
-    ghost use Rattle.tq_desk.specs.Log.{FileSet};
+    ghost use Rattle.tq_desk.specs.DeskStep.{FileSet};
     ghost use Rattle.tq_desk.specs.Views.{files_code};
 
     ghost Value = { FileSet };

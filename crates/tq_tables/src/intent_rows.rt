@@ -1,13 +1,12 @@
 ghost use Rattle.std.specs.Prelude.{◌≡◌, ◌++◌, map, IfOk, OnOk, Some};
 ghost use Rattle.std.specs.FinMap as fin;
-ghost use Rattle.tq_node.specs.Records.{are_citing};
 ghost use Rattle.tq_tables.specs.DeskStates.{intent_state_at};
 ghost use Rattle.tq_tables.specs.Rows as spec;
 
 use crate::{FileVersion, IntentRow, IntentState};
 use std::alloc::Global;
 use tq_desk::Desk;
-use tq_node::{CitedVote, Node, Verdict};
+use tq_node::{Node, Verdict};
 use tq_shape::{Memory, Seq};
 use tq_store::Write;
 
@@ -84,21 +83,7 @@ fn state_by(verdict: &Verdict, server: u64, number: u64) -> IntentState
 {
     match verdict {
         Verdict::Abort => IntentState::Abort,
-        Verdict::Commit { votes } => {
-            if is_cited(votes.as_slice(), server, number) {
-                IntentState::Install
-            } else {
-                IntentState::Discard
-            }
-        }
+        Verdict::Commit { .. } if verdict.cites(server, number) => IntentState::Install,
+        Verdict::Commit { .. } => IntentState::Discard,
     }
-}
-
-/// Whether the votes cited have this one.
-fn is_cited(votes: &[CitedVote], server: u64, number: u64) -> bool
-    ensures { result ≡ are_citing votes.now server number }
-{
-    votes
-        .iter()
-        .any(|vote| vote.server == server && vote.number == number)
 }

@@ -24,14 +24,14 @@ fn push_locks(rows: &mut Vec<LockRow>, node: &Node) -> Result<(), Memory>
         ++ map (spec.lock_row node.now) (fin.entries node.now.state.records.locks)) }
 {
     let server = node.server();
-    for (key, lock) in node.locks().iter() {
+    for entry in node.locks().iter() {
         rows.push(LockRow {
             server,
-            file: key.0,
-            txn: key.1,
-            mode: lock.mode,
-            since: lock.since,
-            version: lock.version,
+            file: entry.file,
+            txn: entry.txn,
+            mode: entry.lock.mode,
+            since: entry.lock.since,
+            version: entry.lock.version,
         })?;
     }
     Ok(())

@@ -2,9 +2,8 @@ ghost use Rattle.std.specs.Prelude.{◌≡◌, ◌+◌, ◌^◌, length, reverse
 ghost use Rattle.std.specs.List.{All};
 ghost use Rattle.tq_desk.specs.DeskJournal.{IsLegalDesk, desk_state};
 
-use crate::replay::{replay_desk, replay_nodes, replay_view};
 use crate::table_rows::TableRows;
-use crate::{DeskEntry, FileRow, IntentRow, Journals, LockRow};
+use crate::{DeskEntry, FileRow, IntentRow, Journals, LockRow, Parts};
 use std::alloc::Global;
 use std::marker::Model;
 use tq_desk::Desk;
@@ -17,9 +16,7 @@ use tq_shape::{Levels, Memory};
 #[derive(Drop)]
 pub struct Tables {
     levels: Levels,
-    nodes: Vec<Node>,
-    desk: Desk,
-    view: View,
+    parts: Parts,
     quorums: Vec<Option<Least>>,
     files: Vec<FileRow>,
     locks: Vec<LockRow>,
@@ -42,9 +39,9 @@ impl Model for Tables {
 
     ghost view = { λ a. record {
       levels = a.levels;
-      nodes = a.nodes.items;
-      desk = a.desk;
-      view = a.view;
+      nodes = a.parts.nodes;
+      desk = a.parts.desk;
+      view = a.parts.view;
       quorums = a.quorums.items;
       files = a.files.items;
       locks = a.locks.items;
@@ -53,9 +50,9 @@ impl Model for Tables {
 
     ghost invariant = { λ a. AreTables (record {
       levels = a.levels;
-      nodes = a.nodes.items;
-      desk = a.desk;
-      view = a.view;
+      nodes = a.parts.nodes;
+      desk = a.parts.desk;
+      view = a.parts.view;
       quorums = a.quorums.items;
       files = a.files.items;
       locks = a.locks.items;
@@ -64,7 +61,7 @@ impl Model for Tables {
 }
 
 impl Tables {
-    ghost use Rattle.tq_tables.specs.Parts.{AreLegal, AreOfTree, bounds_of};
+    ghost use Rattle.tq_tables.specs.Parts.{AreLegal, bounds_of};
     ghost use Rattle.tq_tables.specs.Tables.{tables_of, tables_over};
 
     /// The tables of these journals, which are legal: each reply is the one that its part gives there.
@@ -72,35 +69,23 @@ impl Tables {
         requires { AreLegal journals.now }
         ensures { IfOk result (λ tables. tables ≡ tables_of journals.now) }
     {
-        let levels = journals.levels();
-        let nodes = replay_nodes(alloc, levels, journals.servers())?;
-        let desk = replay_desk(alloc, levels, journals.limits(), journals.desk())?;
-        let view = replay_view(alloc, levels, journals.view())?;
-        let tables = Tables::over(alloc, nodes, desk, view, journals.desk())?;
+        let parts = Parts::replay(alloc, journals)?;
+        let tables = Tables::over(alloc, parts, journals.desk())?;
         Ok(tables)
     }
 
-    /// The tables over these parts: servers of the view's tree, upwards from server 1, the desk as a legal journal with
-    /// these entries leaves it, and the view. The rows of files, locks and intentions are of these servers alone.
-    pub fn over(
-        alloc: Global,
-        nodes: Vec<Node>,
-        desk: Desk,
-        view: View,
-        entries: &[DeskEntry],
-    ) -> Result<Tables, Memory>
-        requires of_tree { AreOfTree view.levels 1 nodes.items }
-        requires legal { IsLegalDesk (bounds_of desk.levels desk.limits) (reverse entries.now) }
-        requires stands { desk ≡ desk_state (bounds_of desk.levels desk.limits) (reverse entries.now) }
-        ensures { IfOk result (λ tables. tables ≡ tables_over nodes.items desk view entries.now) }
+    /// The tables over these parts, of which the desk stands as a legal journal with these entries leaves it. The rows of
+    /// files, locks and intentions are of the servers alone.
+    pub fn over(alloc: Global, parts: Parts, entries: &[DeskEntry]) -> Result<Tables, Memory>
+        requires legal { IsLegalDesk (bounds_of parts.desk.levels parts.desk.limits) (reverse entries.now) }
+        requires stands { parts.desk ≡ desk_state (bounds_of parts.desk.levels parts.desk.limits) (reverse entries.now) }
+        ensures { IfOk result (λ tables. tables ≡ tables_over parts entries.now) }
     {
-        let rows = TableRows::of(alloc, nodes.as_slice(), &desk, &view, entries)?;
-        let levels = view.tree().levels();
+        let rows = TableRows::of(alloc, &parts, entries)?;
+        let levels = parts.levels();
         Ok(Tables {
             levels,
-            nodes,
-            desk,
-            view,
+            parts,
             quorums: rows.quorums,
             files: rows.files,
             locks: rows.locks,
@@ -120,14 +105,14 @@ impl Tables {
     pub fn nodes(&self) -> &[Node]
         ensures { result.now ≡ self.now.nodes }
     {
-        self.nodes.as_slice()
+        self.parts.nodes()
     }
 
     /// The desk that the tables follow.
     pub fn desk(&self) -> &Desk
         ensures { result.now ≡ self.now.desk }
     {
-        &self.desk
+        self.parts.desk()
     }
 
     /// The view that the tables follow.
@@ -135,7 +120,7 @@ impl Tables {
         ensures value { result.now ≡ self.now.view }
         ensures followed { result.now.levels ≡ self.now.levels }
     {
-        &self.view
+        self.parts.view()
     }
 
     /// For each server, upwards from server 1, the first quorum of least cost of its subtree among those that are up;

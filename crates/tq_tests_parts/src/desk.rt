@@ -4,32 +4,13 @@ mod tables;
 
 use self::cells::{GOOD, file, ops, set, text, votes};
 use std::alloc::Global;
+use tq_check::{Wrong, check};
 use tq_desk::{Desk, DeskAsk, DeskRefusal, DeskReply, Grant, Op, OpKind, Vote};
 use tq_desk_laws::{decision_log, desk_laws};
 use tq_locks::Mode;
 use tq_node::{CitedVote, HeldLock, Verdict};
 use tq_shape::{Levels, Limits, Memory, Seq};
 use tq_store::{Content, Write};
-
-/// Why a test fails.
-#[derive(Clone, Copy, Debug)]
-enum Wrong {
-    Memory,
-    Reply,
-    Foreseen,
-    Verdict,
-    Begun,
-}
-
-impl From<Memory> for Wrong {
-    fn from(_: Memory) -> Wrong {
-        Wrong::Memory
-    }
-}
-
-fn check(holds: bool, wrong: Wrong) -> Result<(), Wrong> {
-    if holds { Ok(()) } else { Err(wrong) }
-}
 
 /// A desk that is asked. A test hands it on by reference: each exit of the function that owns it is dear to prove.
 #[derive(Drop)]
@@ -57,7 +38,7 @@ impl Asked {
     /// What the desk answers, where it has not begun many transactions.
     fn reply(&mut self, ask: &DeskAsk) -> Result<DeskReply, Wrong> {
         if self.desk.begun() > 100 {
-            return Err(Wrong::Begun);
+            return Err(Wrong::Is("begun"));
         }
         Ok(self.desk.answer(self.alloc, ask)?)
     }
@@ -65,7 +46,7 @@ impl Asked {
     /// Asks, and fails where the reply is another.
     fn expect(&mut self, ask: DeskAsk, wanted: DeskReply) -> Result<(), Wrong> {
         let reply = self.reply(&ask)?;
-        check(reply == wanted, Wrong::Reply)
+        check(reply == wanted, "another reply")
     }
 
     /// Begins transaction 1.
@@ -213,10 +194,10 @@ fn resolves_to_abort(rt: HostRuntime) -> Result<(), Wrong> {
 
 /// Transaction 1 ended so, and of transaction 2 nothing is told.
 fn ended_so(desk: &Desk, wanted: &Verdict) -> Result<(), Wrong> {
-    check(desk.verdict(2).is_none(), Wrong::Verdict)?;
+    check(desk.verdict(2).is_none(), "another verdict")?;
     match desk.verdict(1) {
-        Some(verdict) => check(*verdict == *wanted, Wrong::Verdict),
-        None => Err(Wrong::Verdict),
+        Some(verdict) => check(*verdict == *wanted, "another verdict"),
+        None => Err(Wrong::Is("another verdict")),
     }
 }
 
@@ -344,10 +325,10 @@ fn as_many_files_as_the_limit(rt: HostRuntime) -> Result<(), Wrong> {
 
 fn foresees_the_first(desk: &Asked) -> Result<(), Wrong> {
     if desk.desk.begun() != 0 {
-        return Err(Wrong::Begun);
+        return Err(Wrong::Is("begun"));
     }
     let reply = desk.desk.foresee(desk.alloc, &DeskAsk::Begin)?;
-    check(reply == DeskReply::Txn(1), Wrong::Foreseen)
+    check(reply == DeskReply::Txn(1), "another reply foreseen")
 }
 
 fn foresees_and_begins(desk: &mut Asked) -> Result<(), Wrong> {

@@ -1,32 +1,11 @@
 use std::alloc::{AllocError, Global};
-use std::test::Fail;
+use tq_check::{Wrong, check};
 use tq_coterie::{Blocker, Quorum};
 use tq_live::{Choice, LiveTree, Turns, View, ViewAsk, ViewRefusal, ViewReply};
 use tq_shape::{Levels, Memory, ServerId};
 
 mod plain;
 mod walk;
-
-/// Why a test fails.
-#[derive(Clone, Copy, Debug)]
-enum Wrong {
-    Memory,
-    Levels,
-    Offer,
-    Reply,
-    Kept,
-    Turns,
-}
-
-impl From<Memory> for Wrong {
-    fn from(_: Memory) -> Wrong {
-        Wrong::Memory
-    }
-}
-
-fn check(holds: bool, wrong: Wrong) -> Result<(), Wrong> {
-    if holds { Ok(()) } else { Err(wrong) }
-}
 
 /// What a choice comes to: the servers as bits, and the cost, or `None` for a blocker.
 fn summary(reply: &ViewReply) -> (u64, Option<u64>) {
@@ -174,10 +153,10 @@ const UNEVEN: [(u64, u64); 7] = [(1, 3), (2, 1), (3, 2), (4, 2), (5, 1), (6, 4),
 
 /// Fails where a view of that many levels ever offers something else than the plain listing.
 fn agrees(alloc: Global, count: u32, costs: &[(u64, u64)]) -> Result<(), Wrong> {
-    let levels = Levels::new(count).ok_or(Wrong::Levels)?;
+    let levels = Levels::new(count).ok_or("levels")?;
     let members = listed(alloc, count.wrapping_sub(1), 1)?;
     let wrong = count_wrong(alloc, levels, members.as_slice(), costs)?;
-    check(wrong == 0, Wrong::Offer)
+    check(wrong == 0, "another offer")
 }
 
 #[test]
@@ -197,11 +176,11 @@ fn offers(
     servers: &[u64],
     cost: u64,
 ) -> Result<(), Wrong> {
-    let levels = Levels::new(count).ok_or(Wrong::Levels)?;
+    let levels = Levels::new(count).ok_or("levels")?;
     let offer = offered(alloc, levels, costs, 0)?;
     check(
         offer.0 == bits(servers) && offer.1 == Some(cost),
-        Wrong::Offer,
+        "another offer",
     )
 }
 
@@ -214,7 +193,7 @@ fn the_first_of_least_cost_is_offered(rt: HostRuntime) -> Result<(), Wrong> {
 }
 
 #[test]
-fn servers_that_are_down_are_left_out(rt: HostRuntime) -> Result<(), Fail> {
+fn servers_that_are_down_are_left_out(rt: HostRuntime) -> Result<(), Wrong> {
     let levels = Levels::new(3).ok_or("levels")?;
     for (down, servers, cost) in [
         (bits(&[1]), bits(&[2, 3, 4, 6]), Some(4)),
@@ -222,28 +201,33 @@ fn servers_that_are_down_are_left_out(rt: HostRuntime) -> Result<(), Fail> {
         (bits(&[1, 2, 4]), bits(&[1, 2, 4]), None),
     ] {
         let offer = offered(rt.alloc(), levels, &[], down)?;
-        assert_eq!(rt; offer, (servers, cost));
+        check(offer == (servers, cost), "another answer")?;
     }
     Ok(())
 }
 
 #[test]
-fn the_largest_tree_at_the_greatest_costs(rt: HostRuntime) -> Result<(), Fail> {
+fn the_largest_tree_at_the_greatest_costs(rt: HostRuntime) -> Result<(), Wrong> {
     let levels = Levels::new(6).ok_or("levels")?;
     let mut costs = Vec::new(rt.alloc());
     for server in 1..64u64 {
         costs.push((server, 1_000_000))?;
     }
     let offer = offered(rt.alloc(), levels, costs.as_slice(), 0)?;
-    assert_eq!(rt; offer, (bits(&[1, 2, 4, 8, 16, 32]), Some(6_000_000)));
+    check(
+        offer == (bits(&[1, 2, 4, 8, 16, 32]), Some(6_000_000)),
+        "another answer",
+    )?;
     let leaves = offered(rt.alloc(), levels, costs.as_slice(), 0xFFFF_FFFE)?;
-    assert_eq!(rt; leaves, (0xFFFF_FFFF_0000_0000, Some(32_000_000)));
-    Ok(())
+    check(
+        leaves == (0xFFFF_FFFF_0000_0000, Some(32_000_000)),
+        "another answer",
+    )
 }
 
 fn replies(alloc: Global, view: &mut View, ask: ViewAsk, wanted: ViewReply) -> Result<(), Wrong> {
     let reply = view.answer(alloc, &ask)?;
-    check(reply == wanted, Wrong::Reply)
+    check(reply == wanted, "another reply")
 }
 
 fn refuses(alloc: Global, view: &mut View, ask: ViewAsk, wanted: ViewRefusal) -> Result<(), Wrong> {
@@ -253,8 +237,8 @@ fn refuses(alloc: Global, view: &mut View, ask: ViewAsk, wanted: ViewRefusal) ->
 fn chooses(alloc: Global, view: &View, servers: u64, cost: u64) -> Result<(), Wrong> {
     let chosen = view.foresee(alloc, &ViewAsk::Choose)?;
     let offer = summary(&chosen);
-    check(offer.0 == servers && offer.1 == Some(cost), Wrong::Offer)?;
-    check(chosen.clone()? == chosen, Wrong::Reply)
+    check(offer.0 == servers && offer.1 == Some(cost), "another offer")?;
+    check(chosen.clone()? == chosen, "another reply")
 }
 
 fn refuses_costs(alloc: Global, view: &mut View) -> Result<(), Wrong> {
@@ -267,14 +251,14 @@ fn refuses_costs(alloc: Global, view: &mut View) -> Result<(), Wrong> {
 
 #[test]
 fn refusals_change_nothing(rt: HostRuntime) -> Result<(), Wrong> {
-    let levels = Levels::new(1).ok_or(Wrong::Levels)?;
+    let levels = Levels::new(1).ok_or("levels")?;
     let mut view = View::new(rt.alloc(), levels)?;
     refuses_costs(rt.alloc(), &mut view)
 }
 
 /// Server 2 at cost 5 and server 5 down, of three levels.
 fn uneven_tree(alloc: Global) -> Result<LiveTree, Wrong> {
-    let levels = Levels::new(3).ok_or(Wrong::Levels)?;
+    let levels = Levels::new(3).ok_or("levels")?;
     let mut tree = LiveTree::new(alloc, levels)?;
     set_cost(&mut tree, 2, 5, 2)?;
     set_mark(&mut tree, 5, false, 3)?;
@@ -282,10 +266,10 @@ fn uneven_tree(alloc: Global) -> Result<LiveTree, Wrong> {
 }
 
 fn keeps(tree: &LiveTree, number: u64, cost: u64, up: bool) -> Result<(), Wrong> {
-    let server = tree.levels().server(number).ok_or(Wrong::Levels)?;
+    let server = tree.levels().server(number).ok_or("levels")?;
     check(
         tree.cost(server) == cost && tree.is_up(server) == up,
-        Wrong::Kept,
+        "not kept",
     )
 }
 
@@ -299,7 +283,7 @@ fn each_server_has_its_cost_and_mark(rt: HostRuntime) -> Result<(), Wrong> {
 
 /// What the subtree of the server offers: the servers as bits, and the cost, or `None` where no quorum is up.
 fn best_of(alloc: Global, tree: &LiveTree, number: u64) -> Result<Option<(u64, u64)>, Wrong> {
-    let server = tree.levels().server(number).ok_or(Wrong::Levels)?;
+    let server = tree.levels().server(number).ok_or("levels")?;
     match tree.best(alloc, server)? {
         Some(best) => Ok(Some((bits_of(best.servers.as_slice()), best.cost))),
         None => Ok(None),
@@ -310,9 +294,9 @@ fn best_of(alloc: Global, tree: &LiveTree, number: u64) -> Result<Option<(u64, u
 fn each_subtree_has_its_least_cost(rt: HostRuntime) -> Result<(), Wrong> {
     let tree = uneven_tree(rt.alloc())?;
     let second = best_of(rt.alloc(), &tree, 2)?;
-    check(second == Some((bits(&[2, 4]), 6)), Wrong::Offer)?;
+    check(second == Some((bits(&[2, 4]), 6)), "another offer")?;
     let fifth = best_of(rt.alloc(), &tree, 5)?;
-    check(fifth.is_none(), Wrong::Offer)
+    check(fifth.is_none(), "another offer")
 }
 
 fn foresees(alloc: Global, view: &mut View, ask: ViewAsk) -> Result<(), Wrong> {
@@ -336,33 +320,37 @@ fn foresees_a_mark(alloc: Global, view: &mut View) -> Result<(), Wrong> {
 
 #[test]
 fn a_reply_is_foreseen(rt: HostRuntime) -> Result<(), Wrong> {
-    let levels = Levels::new(2).ok_or(Wrong::Levels)?;
+    let levels = Levels::new(2).ok_or("levels")?;
     let mut view = View::new(rt.alloc(), levels)?;
     foresees_a_mark(rt.alloc(), &mut view)
 }
 
 #[test]
-fn a_view_shows_its_tree(rt: HostRuntime) -> Result<(), Fail> {
+fn a_view_shows_its_tree(rt: HostRuntime) -> Result<(), Wrong> {
     let levels = Levels::new(2).ok_or("levels")?;
     let mut view = View::new(rt.alloc(), levels)?;
     view.answer(rt.alloc(), &ViewAsk::SetCost { server: 3, cost: 9 })?;
     let tree = view.tree();
     let third = tree.levels().server(3).ok_or("third")?;
-    assert_eq!(rt; tree.levels(), levels);
-    assert_eq!(rt; tree.cost(third), 9);
-    Ok(())
+    check(tree.levels() == levels, "another answer")?;
+    check(tree.cost(third) == 9, "another answer")
 }
 
 #[test]
-fn a_tree_offers_a_quorum_or_a_blocker(rt: HostRuntime) -> Result<(), Fail> {
+fn a_tree_offers_a_quorum_or_a_blocker(rt: HostRuntime) -> Result<(), Wrong> {
     let levels = Levels::new(1).ok_or("levels")?;
     let mut tree = LiveTree::new(rt.alloc(), levels)?;
     let quorum = Quorum::of(rt.alloc(), levels, &[1])?.ok_or("quorum")?;
-    assert!(rt; tree.choose(rt.alloc())? == Choice::Quorum { quorum, cost: 1 });
+    check(
+        tree.choose(rt.alloc())? == Choice::Quorum { quorum, cost: 1 },
+        "another answer",
+    )?;
     tree.set_mark(levels.root(), false, &mut Turns::new());
     let blocker = Blocker::of(rt.alloc(), levels, &[1])?.ok_or("blocker")?;
-    assert!(rt; tree.choose(rt.alloc())? == Choice::Blocked(blocker));
-    Ok(())
+    check(
+        tree.choose(rt.alloc())? == Choice::Blocked(blocker),
+        "another answer",
+    )
 }
 
 /// How many caches a change at the server writes: its own, and one for each server above it.
@@ -372,24 +360,27 @@ fn caches_of(number: u64) -> u64 {
 
 /// Sets a cost; that must write so many caches, and none where it is refused.
 fn set_cost(tree: &mut LiveTree, number: u64, cost: u64, caches: u64) -> Result<(), Wrong> {
-    let server = tree.levels().server(number).ok_or(Wrong::Levels)?;
+    let server = tree.levels().server(number).ok_or("levels")?;
     let mut turns = Turns::new();
     let allowed = tree.set_cost(server, cost, &mut turns).is_ok();
     let written = turns.count();
-    check(allowed == (caches > 0) && written == caches, Wrong::Turns)
+    check(
+        allowed == (caches > 0) && written == caches,
+        "another count",
+    )
 }
 
 /// Marks a server up or down; that must write so many caches.
 fn set_mark(tree: &mut LiveTree, number: u64, up: bool, caches: u64) -> Result<(), Wrong> {
-    let server = tree.levels().server(number).ok_or(Wrong::Levels)?;
+    let server = tree.levels().server(number).ok_or("levels")?;
     let mut turns = Turns::new();
     tree.set_mark(server, up, &mut turns);
-    check(turns.count() == caches, Wrong::Turns)
+    check(turns.count() == caches, "another count")
 }
 
 fn has_best_cost(tree: &LiveTree, number: u64, cost: u64) -> Result<(), Wrong> {
-    let server = tree.levels().server(number).ok_or(Wrong::Levels)?;
-    check(tree.best_cost(server) == Some(cost), Wrong::Offer)
+    let server = tree.levels().server(number).ok_or("levels")?;
+    check(tree.best_cost(server) == Some(cost), "another offer")
 }
 
 fn takes(alloc: Global, tree: &LiveTree, servers: &[u64], cost: u64) -> Result<(), Wrong> {
@@ -397,13 +388,13 @@ fn takes(alloc: Global, tree: &LiveTree, servers: &[u64], cost: u64) -> Result<(
     let offer = offer_of(&choice);
     check(
         offer.0 == bits(servers) && offer.1 == Some(cost),
-        Wrong::Offer,
+        "another offer",
     )
 }
 
 /// A cost of 9 at server 4 of three levels.
 fn costly_fourth(alloc: Global) -> Result<LiveTree, Wrong> {
-    let levels = Levels::new(3).ok_or(Wrong::Levels)?;
+    let levels = Levels::new(3).ok_or("levels")?;
     let mut tree = LiveTree::new(alloc, levels)?;
     set_cost(&mut tree, 4, 9, 3)?;
     Ok(tree)
@@ -435,7 +426,7 @@ fn a_refused_cost_writes_no_cache(rt: HostRuntime) -> Result<(), Wrong> {
 
 #[test]
 fn each_depth_writes_one_cache_more(rt: HostRuntime) -> Result<(), Wrong> {
-    let levels = Levels::new(6).ok_or(Wrong::Levels)?;
+    let levels = Levels::new(6).ok_or("levels")?;
     let mut tree = LiveTree::new(rt.alloc(), levels)?;
     for server in [1, 2, 4, 8, 16, 32, 63] {
         set_mark(&mut tree, server, false, caches_of(server))?;
@@ -446,9 +437,8 @@ fn each_depth_writes_one_cache_more(rt: HostRuntime) -> Result<(), Wrong> {
 }
 
 #[test]
-fn turns_have_room_for_a_tree(rt: HostRuntime) -> Result<(), Fail> {
+fn turns_have_room_for_a_tree(rt: HostRuntime) -> Result<(), Wrong> {
     let levels = Levels::new(6).ok_or("levels")?;
-    assert!(rt; Turns::new().room(levels));
-    assert_eq!(rt; Turns::new().count(), 0);
-    Ok(())
+    check(Turns::new().room(levels), "another answer")?;
+    check(Turns::new().count() == 0, "another answer")
 }

@@ -2,33 +2,12 @@ mod plain;
 mod walk;
 
 use std::alloc::Global;
+use tq_check::{Wrong, check};
 use tq_intents::{KeptLock, Record};
 use tq_locks::Mode;
 use tq_node::{CitedVote, HeldLock, Node, NodeAsk, NodeRefusal, NodeReply, Verdict, WorkAsk};
 use tq_shape::{Levels, Memory, Seq, ServerId};
 use tq_store::{Content, FileName, Write};
-
-/// Why a test fails.
-#[derive(Clone, Copy, Debug)]
-enum Wrong {
-    Memory,
-    Foreseen,
-    Reply,
-    Stable,
-    Shown,
-    Number,
-    Walk,
-}
-
-impl From<Memory> for Wrong {
-    fn from(_: Memory) -> Wrong {
-        Wrong::Memory
-    }
-}
-
-fn check(holds: bool, wrong: Wrong) -> Result<(), Wrong> {
-    if holds { Ok(()) } else { Err(wrong) }
-}
 
 /// A server that numbers its asks itself. A test hands it on by reference: each exit of the function that owns it is
 /// dear to prove.
@@ -54,7 +33,7 @@ impl Numbered {
 
     /// Asks. Where memory is wanting nothing changes, and the ask is put again.
     fn ask(&mut self, ask: &NodeAsk) -> Result<NodeReply, Wrong> {
-        let number = self.node.last().checked_add(1).ok_or(Wrong::Number)?;
+        let number = self.node.last().checked_add(1).ok_or("another number")?;
         match self.node.answer(self.alloc, number, ask) {
             Ok(reply) => Ok(reply),
             Err(_) => Ok(self.node.answer(self.alloc, number, ask)?),
@@ -62,7 +41,7 @@ impl Numbered {
     }
 
     fn foreseen(&self, ask: &NodeAsk) -> Result<NodeReply, Wrong> {
-        let number = self.node.last().checked_add(1).ok_or(Wrong::Number)?;
+        let number = self.node.last().checked_add(1).ok_or("another number")?;
         match self.node.foresee(self.alloc, number, ask) {
             Ok(reply) => Ok(reply),
             Err(_) => Ok(self.node.foresee(self.alloc, number, ask)?),
@@ -71,12 +50,12 @@ impl Numbered {
 
     fn foresees(&self, ask: &NodeAsk, wanted: &NodeReply) -> Result<(), Wrong> {
         let reply = self.foreseen(ask)?;
-        check(reply == *wanted, Wrong::Foreseen)
+        check(reply == *wanted, "another reply foreseen")
     }
 
     fn answers(&mut self, ask: &NodeAsk, wanted: &NodeReply) -> Result<(), Wrong> {
         let reply = self.ask(ask)?;
-        check(reply == *wanted, Wrong::Reply)
+        check(reply == *wanted, "another reply")
     }
 
     /// Asks, and fails where the reply is another, or another was foreseen.
@@ -109,7 +88,7 @@ impl Numbered {
 
     /// Fails where the stable list is another.
     fn keeps(&self, wanted: &[Record]) -> Result<(), Wrong> {
-        check(self.node.stable() == wanted, Wrong::Stable)
+        check(self.node.stable() == wanted, "other records")
     }
 }
 
@@ -299,7 +278,7 @@ fn outlives_a_crash(server: &mut Numbered, files: &Files) -> Result<(), Wrong> {
     crashes(server, files)?;
     discards(server, files)?;
     keeps_the_vote(server, files)?;
-    check(server.node.last() == 16, Wrong::Number)
+    check(server.node.last() == 16, "another number")
 }
 
 #[test]
@@ -403,8 +382,8 @@ fn the_first_refusal_is_given(rt: HostRuntime) -> Result<(), Wrong> {
 /// The transaction and the first number of each lock.
 fn locks_of(alloc: Global, node: &Node) -> Result<Vec<(u64, u64)>, Memory> {
     let mut list = Vec::new(alloc);
-    for (key, lock) in node.locks().iter() {
-        list.push((key.1, lock.since))?;
+    for entry in node.locks().iter() {
+        list.push((entry.txn, entry.lock.since))?;
     }
     Ok(list)
 }
@@ -422,13 +401,13 @@ fn shows_its_locks(alloc: Global, node: &Node) -> Result<(), Wrong> {
     let locks = locks_of(alloc, node)?;
     check(
         locks.as_slice() == [(1, 1), (2, 2)].as_slice(),
-        Wrong::Shown,
+        "shown otherwise",
     )
 }
 
 fn shows_its_votes(alloc: Global, node: &Node) -> Result<(), Wrong> {
     let votes = votes_of(alloc, node)?;
-    check(votes.as_slice() == [(1, 3)].as_slice(), Wrong::Shown)
+    check(votes.as_slice() == [(1, 3)].as_slice(), "shown otherwise")
 }
 
 fn shows_its_records(server: &mut Numbered, files: &Files) -> Result<(), Wrong> {
@@ -436,8 +415,11 @@ fn shows_its_records(server: &mut Numbered, files: &Files) -> Result<(), Wrong> 
     let node = &server.node;
     shows_its_locks(server.alloc, node)?;
     shows_its_votes(server.alloc, node)?;
-    check(node.copies().get(&files.c).version == 2, Wrong::Shown)?;
-    check(node.server().number() == 2 && !node.is_down(), Wrong::Shown)
+    check(node.copies().get(&files.c).version == 2, "shown otherwise")?;
+    check(
+        node.server().number() == 2 && !node.is_down(),
+        "shown otherwise",
+    )
 }
 
 #[test]
@@ -557,8 +539,8 @@ fn each_ask_writes_its_records(rt: HostRuntime) -> Result<(), Wrong> {
 /// The copy goes on, and the server stays where it was.
 fn goes_on_alone(server: &Numbered, copy: &mut Numbered, files: &Files) -> Result<(), Wrong> {
     copies_after(copy, files)?;
-    check(server.node.last() == 5, Wrong::Number)?;
-    check(copy.node.last() == 7, Wrong::Number)?;
+    check(server.node.last() == 5, "another number")?;
+    check(copy.node.last() == 7, "another number")?;
     copy.keeps(server.node.stable())
 }
 

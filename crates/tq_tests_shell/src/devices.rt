@@ -1,6 +1,6 @@
 use std::alloc::Global;
 use std::io::{self, Error, ErrorKind, Read};
-use std::test::Fail;
+use tq_check::{Wrong, check};
 use tq_shape::Levels;
 use tq_shell::{Reading, RunFault, Source, Writing, run};
 
@@ -31,7 +31,7 @@ impl<'a> Read for Interrupted<'a> {
 }
 
 /// How a run over such a reader ends, and how many reads failed.
-fn run_over(alloc: Global, last: Option<ErrorKind>) -> Result<(Option<RunFault>, u64), Fail> {
+fn run_over(alloc: Global, last: Option<ErrorKind>) -> Result<(Option<RunFault>, u64), Wrong> {
     let levels = Levels::new(1).ok_or("levels")?;
     let mut source = Reading::new(Interrupted {
         bytes: b"choose\ndown 1",
@@ -44,15 +44,16 @@ fn run_over(alloc: Global, last: Option<ErrorKind>) -> Result<(Option<RunFault>,
 }
 
 #[test]
-fn interrupted_reads_are_no_failures(rt: HostRuntime) -> Result<(), Fail> {
+fn interrupted_reads_are_no_failures(rt: HostRuntime) -> Result<(), Wrong> {
     let end = run_over(rt.alloc(), None)?;
-    assert!(rt; end.0.is_none() && end.1 == 0);
-    Ok(())
+    check(end.0.is_none() && end.1 == 0, "another answer")
 }
 
 #[test]
-fn other_failed_reads_are_failures(rt: HostRuntime) -> Result<(), Fail> {
+fn other_failed_reads_are_failures(rt: HostRuntime) -> Result<(), Wrong> {
     let end = run_over(rt.alloc(), Some(ErrorKind::UnexpectedEof))?;
-    assert!(rt; end.0 == Some(RunFault::Read) && end.1 == 1);
-    Ok(())
+    check(
+        end.0 == Some(RunFault::Read) && end.1 == 1,
+        "another answer",
+    )
 }

@@ -1,5 +1,5 @@
 use std::alloc::Global;
-use std::test::Fail;
+use tq_check::{Wrong, check};
 use tq_shape::Levels;
 use tq_shell::{MemorySink, MemorySource, RunFault, Sink, Source, run};
 
@@ -8,10 +8,10 @@ fn answer(
     alloc: Global,
     source: &mut MemorySource,
     sink: &mut MemorySink,
-) -> Result<Option<RunFault>, Fail> {
+) -> Result<Option<RunFault>, Wrong> {
     let levels = Levels::new(1).ok_or("levels")?;
     if source.failures() > 9 || sink.failures() > 9 {
-        return Err(Fail::from("failures"));
+        return Err(Wrong::from("failures"));
     }
     Ok(run(alloc, levels, source, sink).err())
 }
@@ -26,10 +26,10 @@ fn ends_so(
     devices: (Device, Device),
     fault: Option<RunFault>,
     text: &[u8],
-) -> Result<bool, Fail> {
+) -> Result<bool, Wrong> {
     let (from, to) = devices;
     if from.0 == 0 || to.0 == 0 {
-        return Err(Fail::from("pieces"));
+        return Err(Wrong::from("pieces"));
     }
     let mut source = MemorySource::new(lines, from.0, from.1);
     let mut sink = MemorySink::new(alloc, to.0, to.1);
@@ -73,28 +73,33 @@ static RUNS: [(&[u8], (Device, Device), Option<RunFault>, &[u8]); 7] = [
 ];
 
 #[test]
-fn runs_end_so(rt: HostRuntime) -> Result<(), Fail> {
+fn runs_end_so(rt: HostRuntime) -> Result<(), Wrong> {
     for (lines, devices, fault, text) in RUNS {
-        assert!(rt;
+        check(
             ends_so(rt.alloc(), lines, devices, fault, text)?,
-            "at {lines:?}"
-        );
+            "another answer",
+        )?;
     }
     Ok(())
 }
 
 /// Whether a second run goes on behind the bytes that the first one read, which a failed read ended.
-fn goes_on(alloc: Global, source: &mut MemorySource, sink: &mut MemorySink) -> Result<bool, Fail> {
+fn goes_on(alloc: Global, source: &mut MemorySource, sink: &mut MemorySink) -> Result<bool, Wrong> {
     let first = answer(alloc, source, sink)?;
     let second = answer(alloc, source, sink)?;
     Ok(first == Some(RunFault::Read) && second.is_none())
 }
 
 #[test]
-fn the_next_run_goes_on_behind_a_failed_read(rt: HostRuntime) -> Result<(), Fail> {
+fn the_next_run_goes_on_behind_a_failed_read(rt: HostRuntime) -> Result<(), Wrong> {
     let mut source = MemorySource::new(b"choose\nchoose\ndown 1\n", 9, Some(1));
     let mut sink = MemorySink::new(rt.alloc(), 100, None);
-    assert!(rt; goes_on(rt.alloc(), &mut source, &mut sink)?);
-    assert!(rt; sink.bytes() == b"quorum 1 cost 1\nbad line\ndown 1\n".as_slice());
-    Ok(())
+    check(
+        goes_on(rt.alloc(), &mut source, &mut sink)?,
+        "another answer",
+    )?;
+    check(
+        sink.bytes() == b"quorum 1 cost 1\nbad line\ndown 1\n".as_slice(),
+        "another answer",
+    )
 }

@@ -417,7 +417,7 @@ impl Client {
 
     fn follow(&mut self, steps: &[(Act, End)], asks: &str) -> Result<(), Wrong> {
         self.take(steps)?;
-        let told = trace(self.alloc, self.world.heard.as_slice())?;
+        let told = trace(self.alloc, self.world.exchanges.as_slice())?;
         check(told.as_slice() == asks.as_bytes(), Wrong::Asks)
     }
 }

@@ -6,7 +6,7 @@ use tq_desk::{DeskAsk, DeskReply};
 use tq_live::ViewReply;
 use tq_node::{NodeAsk, NodeRefusal, NodeReply, WorkAsk};
 use tq_shape::Memory;
-use tq_txn::{Heard, Told};
+use tq_txn::{Exchange, Told};
 
 fn server_letter(server: u64) -> u8 {
     match server {
@@ -71,28 +71,28 @@ fn quorum_letter(reply: &ViewReply) -> u8 {
 
 fn node_told(told: &Told<NodeReply>) -> u8 {
     match told {
-        Told::Answer { reply, .. } => reply_letter(reply),
-        _ => b'!',
+        Ok(told) => reply_letter(&told.reply),
+        Err(_) => b'!',
     }
 }
 
 fn desk_told(told: &Told<DeskReply>) -> u8 {
     match told {
-        Told::Answer { reply, .. } => verdict_letter(reply),
-        _ => b'!',
+        Ok(told) => verdict_letter(&told.reply),
+        Err(_) => b'!',
     }
 }
 
 fn view_told(told: &Told<ViewReply>) -> u8 {
     match told {
-        Told::Answer { reply, .. } => quorum_letter(reply),
-        _ => b'!',
+        Ok(told) => quorum_letter(&told.reply),
+        Err(_) => b'!',
     }
 }
 
-fn word(entry: &Heard) -> [u8; 4] {
+fn word(entry: &Exchange) -> [u8; 4] {
     match entry {
-        Heard::Node {
+        Exchange::Node {
             server,
             ask,
             answer,
@@ -102,14 +102,14 @@ fn word(entry: &Heard) -> [u8; 4] {
             node_told(answer),
             b' ',
         ],
-        Heard::Desk { ask, answer } => [b'D', desk_letter(ask), desk_told(answer), b' '],
-        Heard::View { answer, .. } => [b'V', b'c', view_told(answer), b' '],
+        Exchange::Desk { ask, answer } => [b'D', desk_letter(ask), desk_told(answer), b' '],
+        Exchange::View { answer, .. } => [b'V', b'c', view_told(answer), b' '],
     }
 }
 
-pub(super) fn trace(alloc: Global, heard: &[Heard]) -> Result<Vec<u8>, Memory> {
+pub(super) fn trace(alloc: Global, exchanges: &[Exchange]) -> Result<Vec<u8>, Memory> {
     let mut text = Vec::new(alloc);
-    for entry in heard {
+    for entry in exchanges {
         for letter in word(entry) {
             text.push(letter)?;
         }

@@ -1,15 +1,14 @@
 //! The servers of a tree of two levels, a desk and a view, and what was told of each ask of them.
 
-ghost use Rattle.std.specs.Prelude.{◌≡◌, ◌∷◌, ◌++◌, [], IfOk, OnOk, OnErr};
-ghost use Rattle.tq_txn.specs.declared.asker.Heard.TheVariants as heard;
-ghost use Rattle.tq_txn.specs.Line as line;
+ghost use Rattle.std.specs.Prelude.{◌≡◌, ◌++◌, ◌+◌, ◌≤◌, vec_len, vec_capacity, IfOk};
+ghost use Rattle.tq_txn.specs.Dialogue as line;
 
 use std::alloc::Global;
 use tq_desk::{Desk, DeskAsk, DeskReply};
 use tq_live::{View, ViewAsk, ViewReply};
 use tq_node::{Node, NodeAsk, NodeReply};
 use tq_shape::{Levels, Limits, Memory, Part, ServerId};
-use tq_txn::{AskFault, Asker, DeskTold, Heard, NodeTold, Told, ViewTold};
+use tq_txn::{Answered, AskFault, Asker, DeskTold, Exchange, NodeTold, Told, ViewTold};
 
 /// The desk, and how many entries it has.
 #[derive(Drop)]
@@ -41,43 +40,37 @@ struct Parts {
 #[derive(Drop)]
 pub(super) struct World {
     pub(super) levels: Levels,
-    pub(super) heard: Vec<Heard>,
+    pub(super) exchanges: Vec<Exchange>,
     parts: Parts,
 }
 
 /// What a server tells of an ask.
-fn node_answers(
-    node: &mut Node,
-    alloc: Global,
-    part: Part,
-    ask: &NodeAsk,
-) -> Result<Told<NodeReply>, Memory> {
-    let number = match node.last().checked_add(1) {
-        Some(number) => number,
-        None => return Ok(Told::Full { part }),
+fn node_answers(node: &mut Node, alloc: Global, part: Part, ask: &NodeAsk) -> Told<NodeReply> {
+    let Some(number) = node.last().checked_add(1) else {
+        return Err(AskFault::JournalFull { part });
     };
     let reply = node.answer(alloc, number, ask)?;
-    Ok(Told::Answer { number, reply })
+    Ok(Answered { number, reply })
 }
 
 impl DeskCell {
-    fn answers(&mut self, alloc: Global, ask: &DeskAsk) -> Result<Told<DeskReply>, Memory> {
+    fn answers(&mut self, alloc: Global, ask: &DeskAsk) -> Told<DeskReply> {
         if self.desk.begun() > 1000 {
-            return Ok(Told::Full { part: Part::Desk });
+            return Err(AskFault::JournalFull { part: Part::Desk });
         }
         let reply = self.desk.answer(alloc, ask)?;
         self.entries = self.entries.wrapping_add(1);
         let number = self.entries;
-        Ok(Told::Answer { number, reply })
+        Ok(Answered { number, reply })
     }
 }
 
 impl ViewCell {
-    fn answers(&mut self, alloc: Global, ask: &ViewAsk) -> Result<Told<ViewReply>, Memory> {
+    fn answers(&mut self, alloc: Global, ask: &ViewAsk) -> Told<ViewReply> {
         let reply = self.view.answer(alloc, ask)?;
         self.entries = self.entries.wrapping_add(1);
         let number = self.entries;
-        Ok(Told::Answer { number, reply })
+        Ok(Answered { number, reply })
     }
 }
 
@@ -86,15 +79,10 @@ impl Parts {
         self.stopped == Some(part)
     }
 
-    fn node_told(
-        &mut self,
-        alloc: Global,
-        server: u64,
-        ask: &NodeAsk,
-    ) -> Result<Told<NodeReply>, Memory> {
+    fn node_told(&mut self, alloc: Global, server: u64, ask: &NodeAsk) -> Told<NodeReply> {
         let part = Part::Server(server);
         if self.is_stopped(part) {
-            return Ok(Told::NotFounded { part, number: 7 });
+            return Err(AskFault::Unfounded { part, number: 7 });
         }
         match server {
             1 => node_answers(&mut self.first, alloc, part, ask),
@@ -103,214 +91,191 @@ impl Parts {
         }
     }
 
-    fn desk_told(&mut self, alloc: Global, ask: &DeskAsk) -> Result<Told<DeskReply>, Memory> {
+    fn desk_told(&mut self, alloc: Global, ask: &DeskAsk) -> Told<DeskReply> {
         let part = Part::Desk;
         if self.is_stopped(part) {
-            return Ok(Told::NotFounded { part, number: 7 });
+            return Err(AskFault::Unfounded { part, number: 7 });
         }
         self.desk.answers(alloc, ask)
     }
 
-    fn view_told(&mut self, alloc: Global, ask: &ViewAsk) -> Result<Told<ViewReply>, Memory> {
+    fn view_told(&mut self, alloc: Global, ask: &ViewAsk) -> Told<ViewReply> {
         let part = Part::View;
         if self.is_stopped(part) {
-            return Ok(Told::NotFounded { part, number: 7 });
+            return Err(AskFault::Unfounded { part, number: 7 });
         }
         self.view.answers(alloc, ask)
     }
 }
 
-// ---- an ask as it is recorded
+// ---- an ask as it is told
 
-fn copied_node(told: &Told<NodeReply>) -> Result<Told<NodeReply>, Memory>
-    ensures { IfOk result (λ copy. copy ≡ told.now) }
+/// Notes an ask that was not taken, but not one that met want of memory.
+fn note_fault(entries: &mut Vec<Exchange>, fault: AskFault, exchange: Exchange)
+    requires { vec_len entries.old + 1 ≤ vec_capacity entries.old }
+    ensures { entries.new.items ≡ entries.old.items ++ line.unless_memory fault exchange }
 {
-    match told {
-        Told::Answer { number, reply } => Ok(Told::Answer {
-            number: *number,
-            reply: reply.clone()?,
-        }),
-        Told::Full { part } => Ok(Told::Full { part: *part }),
-        Told::NotFounded { part, number } => Ok(Told::NotFounded {
-            part: *part,
-            number: *number,
-        }),
+    match fault {
+        AskFault::Memory => {}
+        _ => entries.push_reserved(exchange),
     }
 }
 
-fn copied_desk(told: &Told<DeskReply>) -> Result<Told<DeskReply>, Memory>
-    ensures { IfOk result (λ copy. copy ≡ told.now) }
+/// An equal ask, with memory of its own.
+fn copy_of_ask(ask: &NodeAsk) -> Result<NodeAsk, Memory>
+    ensures { IfOk result (λ copy. copy ≡ ask.now) }
 {
-    match told {
-        Told::Answer { number, reply } => Ok(Told::Answer {
-            number: *number,
-            reply: reply.clone()?,
-        }),
-        Told::Full { part } => Ok(Told::Full { part: *part }),
-        Told::NotFounded { part, number } => Ok(Told::NotFounded {
-            part: *part,
-            number: *number,
-        }),
-    }
+    Ok(ask.clone()?)
 }
 
-fn copied_view(told: &Told<ViewReply>) -> Result<Told<ViewReply>, Memory>
-    ensures { IfOk result (λ copy. copy ≡ told.now) }
+/// An equal reply, with memory of its own.
+fn copy_of_reply(reply: &NodeReply) -> Result<NodeReply, Memory>
+    ensures { IfOk result (λ copy. copy ≡ reply.now) }
 {
-    match told {
-        Told::Answer { number, reply } => Ok(Told::Answer {
-            number: *number,
-            reply: reply.clone()?,
-        }),
-        Told::Full { part } => Ok(Told::Full { part: *part }),
-        Told::NotFounded { part, number } => Ok(Told::NotFounded {
-            part: *part,
-            number: *number,
-        }),
-    }
+    Ok(reply.clone()?)
 }
 
-fn heard_node(server: u64, ask: &NodeAsk, told: &Told<NodeReply>) -> Result<Heard, Memory>
-    ensures { IfOk result (λ entry. entry ≡ heard.Node server ask.now told.now) }
+fn node_answered(
+    entries: &mut Vec<Exchange>,
+    server: u64,
+    ask: NodeAsk,
+    told: Answered<NodeReply>,
+) -> Result<NodeTold, AskFault>
+    requires { vec_len entries.old + 1 ≤ vec_capacity entries.old }
+    ensures exchanges { entries.new.items ≡ entries.old.items ++ line.node_exchange server ask result }
+    ensures same { IfOk result (λ t. (t.server ≡ server) × (t.ask ≡ ask)) }
 {
-    let ask = ask.clone()?;
-    let answer = copied_node(told)?;
-    Ok(Heard::Node {
+    let entered = copy_of_ask(&ask)?;
+    let reply = copy_of_reply(&told.reply)?;
+    entries.push_reserved(Exchange::Node {
         server,
+        ask: entered,
+        answer: Ok(Answered {
+            number: told.number,
+            reply,
+        }),
+    });
+    Ok(NodeTold {
+        server,
+        number: told.number,
         ask,
-        answer,
+        reply: told.reply,
     })
 }
 
-fn heard_desk(ask: &DeskAsk, told: &Told<DeskReply>) -> Result<Heard, Memory>
-    ensures { IfOk result (λ entry. entry ≡ heard.Desk ask.now told.now) }
-{
-    let ask = ask.clone()?;
-    let answer = copied_desk(told)?;
-    Ok(Heard::Desk { ask, answer })
-}
-
-fn heard_view(ask: ViewAsk, told: &Told<ViewReply>) -> Result<Heard, Memory>
-    ensures { IfOk result (λ entry. entry ≡ heard.View ask told.now) }
-{
-    let answer = copied_view(told)?;
-    Ok(Heard::View { ask, answer })
-}
-
-// ---- an ask as it is answered
-
-fn node_result(server: u64, ask: NodeAsk, told: Told<NodeReply>) -> Result<NodeTold, AskFault>
-    ensures heard { line.heard_node server ask result ≡ heard.Node server ask told ∷ [] }
-    ensures same { IfOk result (λ t. (t.server ≡ server) × (t.ask ≡ ask)) }
-{
-    match told {
-        Told::Answer { number, reply } => Ok(NodeTold {
-            server,
-            number,
-            ask,
-            reply,
-        }),
-        Told::Full { part } => Err(AskFault::JournalFull { part }),
-        Told::NotFounded { part, number } => Err(AskFault::Unfounded { part, number }),
-    }
-}
-
-fn desk_result(ask: DeskAsk, told: Told<DeskReply>) -> Result<DeskTold, AskFault>
-    ensures heard { line.heard_desk ask result ≡ heard.Desk ask told ∷ [] }
-    ensures same { IfOk result (λ t. t.ask ≡ ask) }
-{
-    match told {
-        Told::Answer { number, reply } => Ok(DeskTold { number, ask, reply }),
-        Told::Full { part } => Err(AskFault::JournalFull { part }),
-        Told::NotFounded { part, number } => Err(AskFault::Unfounded { part, number }),
-    }
-}
-
-fn view_result(ask: ViewAsk, told: Told<ViewReply>) -> Result<ViewTold, AskFault>
-    ensures heard { line.heard_view ask result ≡ heard.View ask told ∷ [] }
-    ensures same { IfOk result (λ t. t.ask ≡ ask) }
-{
-    match told {
-        Told::Answer { number, reply } => Ok(ViewTold { number, ask, reply }),
-        Told::Full { part } => Err(AskFault::JournalFull { part }),
-        Told::NotFounded { part, number } => Err(AskFault::Unfounded { part, number }),
-    }
-}
-
-// ---- an ask as it is told
-
-fn push_node(
-    entries: &mut Vec<Heard>,
-    server: u64,
-    ask: &NodeAsk,
-    told: &Told<NodeReply>,
-) -> Result<(), Memory>
-    ensures ok { OnOk result (entries.new.items ≡ entries.old.items ++ heard.Node server ask.now told.now ∷ []) }
-    ensures err { OnErr result (entries.new.items ≡ entries.old.items) }
-{
-    let entry = heard_node(server, ask, told)?;
-    entries.push(entry)?;
-    Ok(())
-}
-
-fn push_desk(entries: &mut Vec<Heard>, ask: &DeskAsk, told: &Told<DeskReply>) -> Result<(), Memory>
-    ensures ok { OnOk result (entries.new.items ≡ entries.old.items ++ heard.Desk ask.now told.now ∷ []) }
-    ensures err { OnErr result (entries.new.items ≡ entries.old.items) }
-{
-    let entry = heard_desk(ask, told)?;
-    entries.push(entry)?;
-    Ok(())
-}
-
-fn push_view(entries: &mut Vec<Heard>, ask: ViewAsk, told: &Told<ViewReply>) -> Result<(), Memory>
-    ensures ok { OnOk result (entries.new.items ≡ entries.old.items ++ heard.View ask told.now ∷ []) }
-    ensures err { OnErr result (entries.new.items ≡ entries.old.items) }
-{
-    let entry = heard_view(ask, told)?;
-    entries.push(entry)?;
-    Ok(())
-}
-
 fn record_node(
-    entries: &mut Vec<Heard>,
+    entries: &mut Vec<Exchange>,
     server: u64,
     ask: NodeAsk,
     told: Told<NodeReply>,
 ) -> Result<NodeTold, AskFault>
-    ensures heard { entries.new.items ≡ entries.old.items ++ line.heard_node server ask result }
+    ensures exchanges { entries.new.items ≡ entries.old.items ++ line.node_exchange server ask result }
     ensures same { IfOk result (λ t. (t.server ≡ server) × (t.ask ≡ ask)) }
 {
-    match push_node(entries, server, &ask, &told) {
-        Ok(()) => node_result(server, ask, told),
-        Err(_) => Err(AskFault::Memory),
+    entries.reserve(1)?;
+    match told {
+        Ok(told) => node_answered(entries, server, ask, told),
+        Err(fault) => {
+            let answer = Err(fault);
+            note_fault(
+                entries,
+                fault,
+                Exchange::Node {
+                    server,
+                    ask,
+                    answer,
+                },
+            );
+            Err(fault)
+        }
     }
+}
+
+fn desk_answered(
+    entries: &mut Vec<Exchange>,
+    ask: DeskAsk,
+    told: Answered<DeskReply>,
+) -> Result<DeskTold, AskFault>
+    requires { vec_len entries.old + 1 ≤ vec_capacity entries.old }
+    ensures exchanges { entries.new.items ≡ entries.old.items ++ line.desk_exchange ask result }
+    ensures same { IfOk result (λ t. t.ask ≡ ask) }
+{
+    let entered = ask.clone()?;
+    let reply = told.reply.clone()?;
+    entries.push_reserved(Exchange::Desk {
+        ask: entered,
+        answer: Ok(Answered {
+            number: told.number,
+            reply,
+        }),
+    });
+    Ok(DeskTold {
+        number: told.number,
+        ask,
+        reply: told.reply,
+    })
 }
 
 fn record_desk(
-    entries: &mut Vec<Heard>,
+    entries: &mut Vec<Exchange>,
     ask: DeskAsk,
     told: Told<DeskReply>,
 ) -> Result<DeskTold, AskFault>
-    ensures heard { entries.new.items ≡ entries.old.items ++ line.heard_desk ask result }
+    ensures exchanges { entries.new.items ≡ entries.old.items ++ line.desk_exchange ask result }
     ensures same { IfOk result (λ t. t.ask ≡ ask) }
 {
-    match push_desk(entries, &ask, &told) {
-        Ok(()) => desk_result(ask, told),
-        Err(_) => Err(AskFault::Memory),
+    entries.reserve(1)?;
+    match told {
+        Ok(told) => desk_answered(entries, ask, told),
+        Err(fault) => {
+            let answer = Err(fault);
+            note_fault(entries, fault, Exchange::Desk { ask, answer });
+            Err(fault)
+        }
     }
 }
 
+fn view_answered(
+    entries: &mut Vec<Exchange>,
+    ask: ViewAsk,
+    told: Answered<ViewReply>,
+) -> Result<ViewTold, AskFault>
+    requires { vec_len entries.old + 1 ≤ vec_capacity entries.old }
+    ensures exchanges { entries.new.items ≡ entries.old.items ++ line.view_exchange ask result }
+    ensures same { IfOk result (λ t. t.ask ≡ ask) }
+{
+    let entered = ask;
+    let reply = told.reply.clone()?;
+    entries.push_reserved(Exchange::View {
+        ask: entered,
+        answer: Ok(Answered {
+            number: told.number,
+            reply,
+        }),
+    });
+    Ok(ViewTold {
+        number: told.number,
+        ask,
+        reply: told.reply,
+    })
+}
+
 fn record_view(
-    entries: &mut Vec<Heard>,
+    entries: &mut Vec<Exchange>,
     ask: ViewAsk,
     told: Told<ViewReply>,
 ) -> Result<ViewTold, AskFault>
-    ensures heard { entries.new.items ≡ entries.old.items ++ line.heard_view ask result }
+    ensures exchanges { entries.new.items ≡ entries.old.items ++ line.view_exchange ask result }
     ensures same { IfOk result (λ t. t.ask ≡ ask) }
 {
-    match push_view(entries, ask, &told) {
-        Ok(()) => view_result(ask, told),
-        Err(_) => Err(AskFault::Memory),
+    entries.reserve(1)?;
+    match told {
+        Ok(told) => view_answered(entries, ask, told),
+        Err(fault) => {
+            let answer = Err(fault);
+            note_fault(entries, fault, Exchange::View { ask, answer });
+            Err(fault)
+        }
     }
 }
 
@@ -321,7 +286,7 @@ impl World {
         let view = View::new(alloc, levels)?;
         Ok(World {
             levels,
-            heard: Vec::new(alloc),
+            exchanges: Vec::new(alloc),
             parts: Parts {
                 first: Node::new(alloc, levels, ServerId::new(levels, 1)),
                 second: Node::new(alloc, levels, ServerId::new(levels, 2)),
@@ -343,7 +308,7 @@ impl World {
 }
 
 impl Asker for World {
-    ghost told = { λ a. a.heard.items };
+    ghost told = { λ a. a.exchanges.items };
 
     ghost levels = { λ a. a.levels };
 
@@ -354,23 +319,17 @@ impl Asker for World {
         ask: NodeAsk,
     ) -> Result<NodeTold, AskFault> {
         let number = server.number();
-        match self.parts.node_told(alloc, number, &ask) {
-            Ok(told) => record_node(&mut self.heard, number, ask, told),
-            Err(_) => Err(AskFault::Memory),
-        }
+        let told = self.parts.node_told(alloc, number, &ask);
+        record_node(&mut self.exchanges, number, ask, told)
     }
 
     fn desk(&mut self, alloc: Global, ask: DeskAsk) -> Result<DeskTold, AskFault> {
-        match self.parts.desk_told(alloc, &ask) {
-            Ok(told) => record_desk(&mut self.heard, ask, told),
-            Err(_) => Err(AskFault::Memory),
-        }
+        let told = self.parts.desk_told(alloc, &ask);
+        record_desk(&mut self.exchanges, ask, told)
     }
 
     fn view(&mut self, alloc: Global, ask: ViewAsk) -> Result<ViewTold, AskFault> {
-        match self.parts.view_told(alloc, &ask) {
-            Ok(told) => record_view(&mut self.heard, ask, told),
-            Err(_) => Err(AskFault::Memory),
-        }
+        let told = self.parts.view_told(alloc, &ask);
+        record_view(&mut self.exchanges, ask, told)
     }
 }

@@ -1,7 +1,7 @@
 ghost use Rattle.std.specs.Prelude.{◌≡◌, IfOk};
 
 use std::alloc::{AllocError, Global};
-use std::test::Fail;
+use tq_check::{Wrong, check};
 use tq_coterie::{Blocker, Quorum, holds_quorum, is_quorum, meet};
 use tq_shape::{Levels, ServerId};
 
@@ -78,17 +78,21 @@ fn is_answered(
     Ok(quorum == wanted && blocker == wanted && is_quorum(levels, numbers) == wanted)
 }
 
-#[test]
-fn members_are_those_of_a_plain_listing(rt: HostRuntime) -> Result<(), Fail> {
-    for count in [1, 2, 3] {
-        let levels = Levels::new(count).ok_or("levels")?;
-        assert_eq!(rt; wrong_answers(rt.alloc(), levels)?, 0, "at {count} levels");
-    }
-    Ok(())
+/// Fails where an answer is not that of the plain listing, in a tree of so many levels.
+fn agree(alloc: Global, count: u32) -> Result<(), Wrong> {
+    let levels = Levels::new(count).ok_or("levels")?;
+    check(wrong_answers(alloc, levels)? == 0, "another answer")
 }
 
 #[test]
-fn lists_out_of_order_are_no_members(rt: HostRuntime) -> Result<(), Fail> {
+fn members_are_those_of_a_plain_listing(rt: HostRuntime) -> Result<(), Wrong> {
+    agree(rt.alloc(), 1)?;
+    agree(rt.alloc(), 2)?;
+    agree(rt.alloc(), 3)
+}
+
+#[test]
+fn lists_out_of_order_are_no_members(rt: HostRuntime) -> Result<(), Wrong> {
     let levels = Levels::new(3).ok_or("levels")?;
     for numbers in [
         [2, 1, 4],
@@ -97,8 +101,13 @@ fn lists_out_of_order_are_no_members(rt: HostRuntime) -> Result<(), Fail> {
         [1, 1, 2],
         [0, 1, 2],
         [1, 2, 8],
-    ] {
-        assert!(rt; is_answered(rt.alloc(), levels, numbers.as_slice(), false)?);
+    ]
+    .as_slice()
+    {
+        check(
+            is_answered(rt.alloc(), levels, numbers.as_slice(), false)?,
+            "another answer",
+        )?;
     }
     Ok(())
 }
@@ -110,47 +119,47 @@ fn sum_of(servers: &[ServerId]) -> u64 {
 }
 
 /// A quorum of the tree of three levels.
-fn quorum_of(alloc: Global, numbers: &[u64]) -> Result<Quorum, Fail>
+fn quorum_of(alloc: Global, numbers: &[u64]) -> Result<Quorum, Wrong>
     ensures { IfOk result (λ quorum. quorum.levels ≡ 3) }
 {
     let levels = Levels::new(3).ok_or("levels")?;
     match Quorum::of(alloc, levels, numbers)? {
         Some(quorum) => Ok(quorum),
-        None => Err(Fail::new("no quorum")),
+        None => Err(Wrong::Is("nothing")),
     }
 }
 
 #[test]
-fn quorums_meet_in_their_least_common_server(rt: HostRuntime) -> Result<(), Fail> {
+fn quorums_meet_in_their_least_common_server(rt: HostRuntime) -> Result<(), Wrong> {
     let some = quorum_of(rt.alloc(), [1, 4, 5].as_slice())?;
     let others = quorum_of(rt.alloc(), [3, 4, 5, 6].as_slice())?;
-    assert_eq!(rt; meet(&some, &others).number(), 4);
-    Ok(())
+    check(meet(&some, &others).number() == 4, "another answer")
 }
 
-fn is_copied_as(quorum: &Quorum, other: &Quorum) -> Result<bool, AllocError> {
-    Ok(quorum.clone()? == *other)
-}
-
-#[test]
-fn a_copy_is_equal(rt: HostRuntime) -> Result<(), Fail> {
-    let quorum = quorum_of(rt.alloc(), [1, 4, 5].as_slice())?;
-    assert!(rt; is_copied_as(&quorum, &quorum)?);
-    Ok(())
+/// Whether a copy of the quorum is equal to the quorum of these servers.
+fn is_copied_as(alloc: Global, quorum: &Quorum, numbers: &[u64]) -> Result<bool, Wrong> {
+    let other = quorum_of(alloc, numbers)?;
+    Ok(quorum.clone()? == other)
 }
 
 #[test]
-fn quorums_of_other_servers_differ(rt: HostRuntime) -> Result<(), Fail> {
+fn copies_are_equal_and_quorums_of_other_servers_differ(rt: HostRuntime) -> Result<(), Wrong> {
     let quorum = quorum_of(rt.alloc(), [1, 4, 5].as_slice())?;
-    let other = quorum_of(rt.alloc(), [1, 2, 5].as_slice())?;
-    assert!(rt; !is_copied_as(&quorum, &other)?);
-    Ok(())
+    check(
+        is_copied_as(rt.alloc(), &quorum, [1, 4, 5].as_slice())?,
+        "another answer",
+    )?;
+    check(
+        !is_copied_as(rt.alloc(), &quorum, [1, 2, 5].as_slice())?,
+        "another answer",
+    )
 }
 
 #[test]
-fn a_quorum_tells_its_servers(rt: HostRuntime) -> Result<(), Fail> {
+fn a_quorum_tells_its_servers(rt: HostRuntime) -> Result<(), Wrong> {
     let quorum = quorum_of(rt.alloc(), [1, 4, 5].as_slice())?;
-    assert_eq!(rt; sum_of(quorum.servers()), 10);
-    assert_eq!(rt; quorum.levels().count(), 3);
-    Ok(())
+    check(
+        sum_of(quorum.servers()) == 10 && quorum.levels().count() == 3,
+        "another answer",
+    )
 }

@@ -1,7 +1,7 @@
 ghost use Rattle.std.specs.Prelude.{◌≡◌, ℕ, refl};
 
 use std::alloc::Global;
-use std::test::Fail;
+use tq_check::{Wrong, check};
 use tq_part::{Answers, Fault, Journaled, Plan, foresee};
 use tq_shape::{Entry, Memory};
 
@@ -70,16 +70,16 @@ impl Answers for Register {
 }
 
 /// The number and the reply of an ask, or the numbers 0 where the journal is full.
-fn told(alloc: Global, register: &mut Journaled<Register>, ask: u64) -> Result<(u64, u64), Fail> {
+fn told(alloc: Global, register: &mut Journaled<Register>, ask: u64) -> Result<(u64, u64), Wrong> {
     match register.ask(alloc, ask) {
         Ok(told) => Ok((told.number, told.reply)),
         Err(Fault::JournalFull) => Ok((0, 0)),
-        Err(_) => Err(Fail::from("not entered")),
+        Err(_) => Err(Wrong::from("not entered")),
     }
 }
 
 /// Whether each ask is entered with its reply under the next number, until the journal is full.
-fn fills(alloc: Global, register: &mut Journaled<Register>) -> Result<bool, Fail> {
+fn fills(alloc: Global, register: &mut Journaled<Register>) -> Result<bool, Wrong> {
     let first = told(alloc, register, 5)?;
     let second = told(alloc, register, 7)?;
     let third = told(alloc, register, 9)?;
@@ -96,27 +96,30 @@ fn are_the_two(entries: &[Entry<u64, u64>]) -> bool {
 }
 
 #[test]
-fn asks_are_entered_until_the_journal_is_full(rt: HostRuntime) -> Result<(), Fail> {
+fn asks_are_entered_until_the_journal_is_full(rt: HostRuntime) -> Result<(), Wrong> {
     let mut register = Journaled::new(rt.alloc(), Register { value: 0 }, 2);
-    assert!(rt; fills(rt.alloc(), &mut register)?);
-    assert!(rt; register.part().value == 7 && are_the_two(register.entries()));
-    Ok(())
+    check(fills(rt.alloc(), &mut register)?, "another answer")?;
+    check(
+        register.part().value == 7 && are_the_two(register.entries()),
+        "another answer",
+    )
 }
 
 #[test]
-fn entries_are_handed_out(rt: HostRuntime) -> Result<(), Fail> {
+fn entries_are_handed_out(rt: HostRuntime) -> Result<(), Wrong> {
     let mut register = Journaled::new(rt.alloc(), Register { value: 0 }, 2);
     let is_filled = fills(rt.alloc(), &mut register)?;
     let entries = register.into_entries();
-    assert!(rt; is_filled && are_the_two(entries.as_slice()));
-    Ok(())
+    check(
+        is_filled && are_the_two(entries.as_slice()),
+        "another answer",
+    )
 }
 
 /// What is foreseen is not entered.
 #[test]
-fn a_foreseen_ask_changes_nothing(rt: HostRuntime) -> Result<(), Fail> {
+fn a_foreseen_ask_changes_nothing(rt: HostRuntime) -> Result<(), Wrong> {
     let register = Register { value: 3 };
     let reply = foresee(rt.alloc(), &register, 1, &9)?;
-    assert!(rt; reply == 3 && register.value == 3);
-    Ok(())
+    check(reply == 3 && register.value == 3, "another answer")
 }

@@ -6,12 +6,11 @@ use Rattle.tq_desk.specs.declared.ask.DeskAsk.{DeskAsk}
 use Rattle.tq_desk.specs.declared.ask.DeskReply.{DeskReply}
 use Rattle.tq_live.specs.declared.view.ViewAsk.{ViewAsk}
 use Rattle.tq_live.specs.declared.view.ViewReply.{ViewReply}
-use Rattle.tq_txn.specs.declared.asker.AskFault.{AskFault}
-use Rattle.tq_txn.specs.declared.asker.AskFault.TheVariants as ask_faults
-use Rattle.tq_txn.specs.declared.asker.Heard.{Heard}
-use Rattle.tq_txn.specs.declared.asker.Heard.TheVariants as heard
-use Rattle.tq_txn.specs.declared.asker.Told.{Told}
-use Rattle.tq_txn.specs.declared.asker.Told.TheVariants.{Answer, Full, NotFounded}
+use Rattle.std.specs.Prelude.{IfOk}
+use Rattle.tq_part.specs.declared.fault.AskFault.{AskFault}
+use Rattle.tq_part.specs.declared.fault.AskFault.TheVariants as ask_faults
+use Rattle.tq_txn.specs.declared.asker.Exchange.{Exchange}
+use Rattle.tq_txn.specs.declared.asker.Exchange.TheVariants as exchanges
 use Rattle.tq_txn.specs.declared.asker.ViewTold.{ViewTold}
 use Rattle.tq_txn.specs.declared.fault.LineFault.{LineFault}
 use Rattle.tq_txn.specs.declared.fault.LineFault.TheVariants as faults
@@ -30,63 +29,63 @@ use Rattle.tq_evidence.specs.Evidence.{greatest}
 use Rattle.tq_txn.specs.declared.reading.Reading.TheVariants.{Copy}
 use Rattle.tq_states.specs.Voting.{VotingView, has_vote, ask_fault, prepare_ask, vote_fault, vote_after}
 use Rattle.tq_states.specs.Open.{OpenView, ComesOf, read_fault, read_copy, read_after, write_fault, write_after, grants_of}
-use Rattle.tq_txn.specs.Line.{Line, Ends, AsksNode, AsksDesk, AsksView, Makes, Begins, Went, then_line, LineEnd, done, go_on, and_then, unless, ended_by, fault_of_ask, fault_of_txn, heard_node, heard_desk, heard_view, node_line, desk_line, view_line}
+use Rattle.tq_txn.specs.Dialogue.{Told, Dialogue, Ends, AsksNode, AsksDesk, AsksView, Makes, Begins, Follows, then_line, LineEnd, done, go_on, and_then, unless, ended_by, fault_of_ask, fault_of_txn, line_result, node_exchange, desk_exchange, view_exchange, node_line, desk_line, view_line}
 
-begins_none : {A : Type 0} (line : Line A) → Begins line []
+begins_none : {A : Type 0} (line : Dialogue A) → Begins line []
 begins_none (Ends a) = refl
 begins_none (AsksNode server ask next) = inl refl
 begins_none (AsksDesk ask next) = inl refl
 begins_none (AsksView ask next) = inl refl
 
 -- memory ran out before any ask
-pub went_memory : {A : Type 0} (line : Line A) (old : List Heard) → Went line old old None
-went_memory line old = ([], sym (append-nil old), begins_none line)
+pub follows_memory : {A : Type 0} (line : Dialogue A) (old : List Exchange) → Follows line old old None
+follows_memory line old = ([], sym (append-nil old), begins_none line)
 
-pub went_end : {A : Type 0} (a : A) (old : List Heard) → Went (Ends a) old old (Some a)
-went_end a old = ([], sym (append-nil old), (refl, refl))
+pub follows_end : {A : Type 0} (a : A) (old : List Exchange) → Follows (Ends a) old old (Some a)
+follows_end a old = ([], sym (append-nil old), (refl, refl))
 
-longer : (old mid new more : List Heard) (entry : Heard) → mid ≡ old ++ entry ∷ [] → new ≡ mid ++ more → new ≡ old ++ entry ∷ more
+longer : (old mid new more : List Exchange) (entry : Exchange) → mid ≡ old ++ entry ∷ [] → new ≡ mid ++ more → new ≡ old ++ entry ∷ more
 longer old mid new more entry first rest = rest ∙ ap (λ told. told ++ more) first ∙ append_assoc old (entry ∷ []) more
 
 -- an ask of a server, and the rest
-pub went_node : {A : Type 0} (server : ℕ) (ask : NodeAsk) (next : Told NodeReply → Line A) (answer : Told NodeReply) (old mid new : List Heard) (end : Option A) → mid ≡ old ++ heard.Node server ask answer ∷ [] → Went (next answer) mid new end → Went (AsksNode server ask next) old new end
-went_node server ask next answer old mid new None first rest = (heard.Node server ask answer ∷ rest.0, longer old mid new rest.0 _ first rest.1, inr (answer, rest.0, refl, rest.2))
-went_node server ask next answer old mid new (Some end) first rest = (heard.Node server ask answer ∷ rest.0, longer old mid new rest.0 _ first rest.1, (answer, rest.0, refl, rest.2))
+pub follows_node : {A : Type 0} (server : ℕ) (ask : NodeAsk) (next : Told NodeReply → Dialogue A) (answer : Told NodeReply) (old mid new : List Exchange) (end : Option A) → mid ≡ old ++ exchanges.Node server ask answer ∷ [] → Follows (next answer) mid new end → Follows (AsksNode server ask next) old new end
+follows_node server ask next answer old mid new None first rest = (exchanges.Node server ask answer ∷ rest.0, longer old mid new rest.0 _ first rest.1, inr (answer, rest.0, refl, rest.2))
+follows_node server ask next answer old mid new (Some end) first rest = (exchanges.Node server ask answer ∷ rest.0, longer old mid new rest.0 _ first rest.1, (answer, rest.0, refl, rest.2))
 
-pub went_desk : {A : Type 0} (ask : DeskAsk) (next : Told DeskReply → Line A) (answer : Told DeskReply) (old mid new : List Heard) (end : Option A) → mid ≡ old ++ heard.Desk ask answer ∷ [] → Went (next answer) mid new end → Went (AsksDesk ask next) old new end
-went_desk ask next answer old mid new None first rest = (heard.Desk ask answer ∷ rest.0, longer old mid new rest.0 _ first rest.1, inr (answer, rest.0, refl, rest.2))
-went_desk ask next answer old mid new (Some end) first rest = (heard.Desk ask answer ∷ rest.0, longer old mid new rest.0 _ first rest.1, (answer, rest.0, refl, rest.2))
+pub follows_desk : {A : Type 0} (ask : DeskAsk) (next : Told DeskReply → Dialogue A) (answer : Told DeskReply) (old mid new : List Exchange) (end : Option A) → mid ≡ old ++ exchanges.Desk ask answer ∷ [] → Follows (next answer) mid new end → Follows (AsksDesk ask next) old new end
+follows_desk ask next answer old mid new None first rest = (exchanges.Desk ask answer ∷ rest.0, longer old mid new rest.0 _ first rest.1, inr (answer, rest.0, refl, rest.2))
+follows_desk ask next answer old mid new (Some end) first rest = (exchanges.Desk ask answer ∷ rest.0, longer old mid new rest.0 _ first rest.1, (answer, rest.0, refl, rest.2))
 
-pub went_view : {A : Type 0} (ask : ViewAsk) (next : Told ViewReply → Line A) (answer : Told ViewReply) (old mid new : List Heard) (end : Option A) → mid ≡ old ++ heard.View ask answer ∷ [] → Went (next answer) mid new end → Went (AsksView ask next) old new end
-went_view ask next answer old mid new None first rest = (heard.View ask answer ∷ rest.0, longer old mid new rest.0 _ first rest.1, inr (answer, rest.0, refl, rest.2))
-went_view ask next answer old mid new (Some end) first rest = (heard.View ask answer ∷ rest.0, longer old mid new rest.0 _ first rest.1, (answer, rest.0, refl, rest.2))
+pub follows_view : {A : Type 0} (ask : ViewAsk) (next : Told ViewReply → Dialogue A) (answer : Told ViewReply) (old mid new : List Exchange) (end : Option A) → mid ≡ old ++ exchanges.View ask answer ∷ [] → Follows (next answer) mid new end → Follows (AsksView ask next) old new end
+follows_view ask next answer old mid new None first rest = (exchanges.View ask answer ∷ rest.0, longer old mid new rest.0 _ first rest.1, inr (answer, rest.0, refl, rest.2))
+follows_view ask next answer old mid new (Some end) first rest = (exchanges.View ask answer ∷ rest.0, longer old mid new rest.0 _ first rest.1, (answer, rest.0, refl, rest.2))
 
 -- ---- parts after one another
 
-joined : (told rest : List Heard) (first : List Heard) (entry : Heard) (more : List Heard) → told ≡ entry ∷ first → told ++ more ≡ entry ∷ (first ++ more)
+joined : (told rest : List Exchange) (first : List Exchange) (entry : Exchange) (more : List Exchange) → told ≡ entry ∷ first → told ++ more ≡ entry ∷ (first ++ more)
 joined told rest first entry more is = ap (λ t. t ++ more) is
 
-makes_then : {A B : Type 0} (line : Line A) (next : A → Line B) (told more : List Heard) (a : A) (b : B) → Makes line told a → Makes (next a) more b → Makes (then_line line next) (told ++ more) b
+makes_then : {A B : Type 0} (line : Dialogue A) (next : A → Dialogue B) (told more : List Exchange) (a : A) (b : B) → Makes line told a → Makes (next a) more b → Makes (then_line line next) (told ++ more) b
 makes_then {A} {B} (Ends x) next told more a b first rest =
     let P : A → Type 0 = λ y. Makes (next y) more b in
-    let Q : List Heard → Type 0 = λ t. Makes (next x) (t ++ more) b in
+    let Q : List Exchange → Type 0 = λ t. Makes (next x) (t ++ more) b in
     subst Q (sym first.0) (subst P first.1 rest)
 makes_then (AsksNode server ask line) next told more a b first rest = (first.0, first.1 ++ more, ap (λ t. t ++ more) first.2, makes_then (line first.0) next first.1 more a b first.3 rest)
 makes_then (AsksDesk ask line) next told more a b first rest = (first.0, first.1 ++ more, ap (λ t. t ++ more) first.2, makes_then (line first.0) next first.1 more a b first.3 rest)
 makes_then (AsksView ask line) next told more a b first rest = (first.0, first.1 ++ more, ap (λ t. t ++ more) first.2, makes_then (line first.0) next first.1 more a b first.3 rest)
 
-begins_after : {A B : Type 0} (line : Line A) (next : A → Line B) (told more : List Heard) (a : A) → Makes line told a → Begins (next a) more → Begins (then_line line next) (told ++ more)
+begins_after : {A B : Type 0} (line : Dialogue A) (next : A → Dialogue B) (told more : List Exchange) (a : A) → Makes line told a → Begins (next a) more → Begins (then_line line next) (told ++ more)
 begins_after {A} {B} (Ends x) next told more a first rest =
     let P : A → Type 0 = λ y. Begins (next y) more in
-    let Q : List Heard → Type 0 = λ t. Begins (next x) (t ++ more) in
+    let Q : List Exchange → Type 0 = λ t. Begins (next x) (t ++ more) in
     subst Q (sym first.0) (subst P first.1 rest)
 begins_after (AsksNode server ask line) next told more a first rest = inr (first.0, first.1 ++ more, ap (λ t. t ++ more) first.2, begins_after (line first.0) next first.1 more a first.3 rest)
 begins_after (AsksDesk ask line) next told more a first rest = inr (first.0, first.1 ++ more, ap (λ t. t ++ more) first.2, begins_after (line first.0) next first.1 more a first.3 rest)
 begins_after (AsksView ask line) next told more a first rest = inr (first.0, first.1 ++ more, ap (λ t. t ++ more) first.2, begins_after (line first.0) next first.1 more a first.3 rest)
 
-begins_then : {A B : Type 0} (line : Line A) (next : A → Line B) (told : List Heard) → Begins line told → Begins (then_line line next) told
+begins_then : {A B : Type 0} (line : Dialogue A) (next : A → Dialogue B) (told : List Exchange) → Begins line told → Begins (then_line line next) told
 begins_then {A} {B} (Ends x) next told first =
-    let Q : List Heard → Type 0 = λ t. Begins (next x) t in
+    let Q : List Exchange → Type 0 = λ t. Begins (next x) t in
     subst Q (sym first) (begins_none (next x))
 begins_then (AsksNode server ask line) next told first =
     elim first [
@@ -104,87 +103,91 @@ begins_then (AsksView ask line) next told first =
       | inr some ↦ inr (some.0, some.1, some.2, begins_then (line some.0) next some.1 some.3)
     ]
 
-further : (old mid new first more : List Heard) → mid ≡ old ++ first → new ≡ mid ++ more → new ≡ old ++ (first ++ more)
+further : (old mid new first more : List Exchange) → mid ≡ old ++ first → new ≡ mid ++ more → new ≡ old ++ (first ++ more)
 further old mid new first more a b = b ∙ ap (λ t. t ++ more) a ∙ append_assoc old first more
 
 -- a part that ended, and the rest
-went_then : {A B : Type 0} (line : Line A) (next : A → Line B) (a : A) (old mid new : List Heard) (end : Option B) → Went line old mid (Some a) → Went (next a) mid new end → Went (then_line line next) old new end
-went_then line next a old mid new None first rest = (first.0 ++ rest.0, further old mid new first.0 rest.0 first.1 rest.1, begins_after line next first.0 rest.0 a first.2 rest.2)
-went_then line next a old mid new (Some end) first rest = (first.0 ++ rest.0, further old mid new first.0 rest.0 first.1 rest.1, makes_then line next first.0 rest.0 a end first.2 rest.2)
+follows_then : {A B : Type 0} (line : Dialogue A) (next : A → Dialogue B) (a : A) (old mid new : List Exchange) (end : Option B) → Follows line old mid (Some a) → Follows (next a) mid new end → Follows (then_line line next) old new end
+follows_then line next a old mid new None first rest = (first.0 ++ rest.0, further old mid new first.0 rest.0 first.1 rest.1, begins_after line next first.0 rest.0 a first.2 rest.2)
+follows_then line next a old mid new (Some end) first rest = (first.0 ++ rest.0, further old mid new first.0 rest.0 first.1 rest.1, makes_then line next first.0 rest.0 a end first.2 rest.2)
 
-module _ {A S B T : Type 0} (line : Line (LineEnd A S)) (left : S → T) (next : A → S → Line (LineEnd B T)) where
-  -- the first part went well
-  pub went_on : (a : A) (s : S) (old mid new : List Heard) (end : Option (LineEnd B T)) → Went line old mid (ended_by (Ok a) s) → Went (next a s) mid new end → Went (and_then line left next) old new end
-  went_on a s old mid new end first rest = went_then line (λ e. go_on e.answer (left e.after) (λ x. next x e.after)) (record { answer = Ok a; after = s }) old mid new end first rest
+module _ {A S B T : Type 0} (line : Dialogue (LineEnd A S)) (left : S → T) (next : A → S → Dialogue (LineEnd B T)) where
+  -- the first part follows well
+  pub follows_on : (a : A) (s : S) (old mid new : List Exchange) (end : Option (LineEnd B T)) → Follows line old mid (ended_by (Ok a) s) → Follows (next a s) mid new end → Follows (and_then line left next) old new end
+  follows_on a s old mid new end first rest = follows_then line (λ e. go_on e.answer (left e.after) (λ x. next x e.after)) (record { answer = Ok a; after = s }) old mid new end first rest
 
-  stopped : (fault : LineFault) (s : S) (old new : List Heard) → Went line old new (Some (record { answer = Err fault; after = s })) → Went (and_then line left next) old new (Some (record { answer = Err fault; after = left s }))
+  stopped : (fault : LineFault) (s : S) (old new : List Exchange) → Follows line old new (Some (record { answer = Err fault; after = s })) → Follows (and_then line left next) old new (Some (record { answer = Err fault; after = left s }))
   stopped fault s old new first =
-      went_then line (λ e. go_on e.answer (left e.after) (λ x. next x e.after)) (record { answer = Err fault; after = s }) old new new (Some (record { answer = Err fault; after = left s })) first (went_end _ new)
+      follows_then line (λ e. go_on e.answer (left e.after) (λ x. next x e.after)) (record { answer = Err fault; after = s }) old new new (Some (record { answer = Err fault; after = left s })) first (follows_end _ new)
 
   -- the first part was refused, or memory ran out in it
-  pub went_off : (fault : LineFault) (s : S) (t : T) (old new : List Heard) → (t ≡ left s) → Went line old new (ended_by (Err fault) s) → Went (and_then line left next) old new (ended_by (Err fault) t)
-  went_off faults.Memory s t old new is first = (first.0, first.1, begins_then line (λ e. go_on e.answer (left e.after) (λ x. next x e.after)) first.0 first.2)
-  went_off fault s t old new is first = rw is (stopped fault s old new first)
+  pub follows_off : (fault : LineFault) (s : S) (t : T) (old new : List Exchange) → (t ≡ left s) → Follows line old new (ended_by (Err fault) s) → Follows (and_then line left next) old new (ended_by (Err fault) t)
+  follows_off faults.Memory s t old new is first = (first.0, first.1, begins_then line (λ e. go_on e.answer (left e.after) (λ x. next x e.after)) first.0 first.2)
+  follows_off fault s t old new is first = rw is (stopped fault s old new first)
 
 -- a fault of the transaction ends the line
-pub went_fault : {A S : Type 0} (cause : Option TxnFault) (fault : TxnFault) (after : S) (line : Line (LineEnd A S)) (old : List Heard) → ComesOf cause fault → Went (unless cause after line) old old (ended_by (Err (fault_of_txn fault)) after)
-went_fault cause txn_faults.Memory after line old is = went_memory (unless cause after line) old
-went_fault cause fault after line old is = rw is (went_end _ old)
+pub follows_fault : {A S : Type 0} (cause : Option TxnFault) (fault : TxnFault) (after : S) (line : Dialogue (LineEnd A S)) (old : List Exchange) → ComesOf cause fault → Follows (unless cause after line) old old (ended_by (Err (fault_of_txn fault)) after)
+follows_fault cause txn_faults.Memory after line old is = follows_memory (unless cause after line) old
+follows_fault cause fault after line old is = rw is (follows_end _ old)
 
 -- an answer ends the line
-pub went_answer : {A S : Type 0} (result : Result A LineFault) (after : S) (old : List Heard) → Went (Ends (record { answer = result; after = after })) old old (ended_by result after)
-went_answer (Ok a) after old = went_end _ old
-went_answer {A} {S} (Err faults.Memory) after old = let line : Line (LineEnd A S) = Ends (record { answer = Err faults.Memory; after = after }) in went_memory line old
-went_answer (Err fault) after old = went_end _ old
+pub follows_answer : {A S : Type 0} (result : Result A LineFault) (after : S) (old : List Exchange) → Follows (Ends (record { answer = result; after = after })) old old (ended_by result after)
+follows_answer (Ok a) after old = follows_end _ old
+follows_answer {A} {S} (Err faults.Memory) after old = let line : Dialogue (LineEnd A S) = Ends (record { answer = Err faults.Memory; after = after }) in follows_memory line old
+follows_answer (Err fault) after old = follows_end _ old
 
 -- ---- one ask
 
--- the answer of a line of one ask
-abbrev pub IsToldNode : ℕ → NodeAsk → Result NodeTold AskFault → Type 0
-IsToldNode server ask (Ok told) = (told.server ≡ server) × (told.ask ≡ ask)
-IsToldNode server ask (Err fault) = Unit {0}
-
-abbrev pub line_result : {T : Type 0} → Result T AskFault → Result T LineFault
-line_result (Ok told) = Ok told
-line_result (Err fault) = Err (fault_of_ask fault)
-
-pub told_node : (server : ℕ) (ask : NodeAsk) (told : NodeTold) (old new : List Heard) → new ≡ old ++ heard_node server ask (Ok told) → told.server ≡ server → told.ask ≡ ask → Went (node_line server ask) old new (Some (record { answer = Ok told; after = tt }))
+pub told_node : (server : ℕ) (ask : NodeAsk) (told : NodeTold) (old new : List Exchange) → new ≡ old ++ node_exchange server ask (Ok told) → told.server ≡ server → told.ask ≡ ask → Follows (node_line server ask) old new (Some (record { answer = Ok told; after = tt }))
 told_node server ask told old new grown servers asks =
     let same : told ≡ record { server = server; number = told.number; ask = ask; reply = told.reply } = λ i. record { server = servers i; number = told.number; ask = asks i; reply = told.reply } in
-    let P : NodeTold → Type 0 = λ t. Went (node_line server ask) old new (Some (record { answer = Ok t; after = tt })) in
-    subst P (sym same) (went_node server ask _ (Answer told.number told.reply) old new new (Some (record { answer = Ok record { server = server; number = told.number; ask = ask; reply = told.reply }; after = tt })) grown (went_end _ new))
+    let P : NodeTold → Type 0 = λ t. Follows (node_line server ask) old new (Some (record { answer = Ok t; after = tt })) in
+    subst P (sym same) (follows_node server ask _ (Ok (record { number = told.number; reply = told.reply })) old new new (Some (record { answer = Ok record { server = server; number = told.number; ask = ask; reply = told.reply }; after = tt })) grown (follows_end _ new))
 
-pub refused_node : (server : ℕ) (ask : NodeAsk) (fault : AskFault) (old new : List Heard) → new ≡ old ++ heard_node server ask (Err fault) → Went (node_line server ask) old new (ended_by (Err (fault_of_ask fault)) tt)
+pub refused_node : (server : ℕ) (ask : NodeAsk) (fault : AskFault) (old new : List Exchange) → new ≡ old ++ node_exchange server ask (Err fault) → Follows (node_line server ask) old new (ended_by (Err (fault_of_ask fault)) tt)
 refused_node server ask ask_faults.Memory old new grown = ([], grown, inl refl)
-refused_node server ask (ask_faults.JournalFull part) old new grown = went_node server ask _ (Full part) old new new (Some (record { answer = Err (faults.JournalFull part); after = tt })) grown (went_end _ new)
-refused_node server ask (ask_faults.Unfounded part number) old new grown = went_node server ask _ (NotFounded part number) old new new (Some (record { answer = Err (faults.Unfounded part number); after = tt })) grown (went_end _ new)
+refused_node server ask (ask_faults.JournalFull part) old new grown = follows_node server ask _ (Err (ask_faults.JournalFull part)) old new new (Some (record { answer = Err (faults.JournalFull part); after = tt })) grown (follows_end _ new)
+refused_node server ask (ask_faults.Unfounded part number) old new grown = follows_node server ask _ (Err (ask_faults.Unfounded part number)) old new new (Some (record { answer = Err (faults.Unfounded part number); after = tt })) grown (follows_end _ new)
 
-pub told_desk : (ask : DeskAsk) (told : DeskTold) (old new : List Heard) → new ≡ old ++ heard_desk ask (Ok told) → told.ask ≡ ask → Went (desk_line ask) old new (Some (record { answer = Ok told; after = tt }))
+pub told_desk : (ask : DeskAsk) (told : DeskTold) (old new : List Exchange) → new ≡ old ++ desk_exchange ask (Ok told) → told.ask ≡ ask → Follows (desk_line ask) old new (Some (record { answer = Ok told; after = tt }))
 told_desk ask told old new grown asks =
     let same : told ≡ record { number = told.number; ask = ask; reply = told.reply } = λ i. record { number = told.number; ask = asks i; reply = told.reply } in
-    let P : DeskTold → Type 0 = λ t. Went (desk_line ask) old new (Some (record { answer = Ok t; after = tt })) in
-    subst P (sym same) (went_desk ask _ (Answer told.number told.reply) old new new (Some (record { answer = Ok record { number = told.number; ask = ask; reply = told.reply }; after = tt })) grown (went_end _ new))
+    let P : DeskTold → Type 0 = λ t. Follows (desk_line ask) old new (Some (record { answer = Ok t; after = tt })) in
+    subst P (sym same) (follows_desk ask _ (Ok (record { number = told.number; reply = told.reply })) old new new (Some (record { answer = Ok record { number = told.number; ask = ask; reply = told.reply }; after = tt })) grown (follows_end _ new))
 
-pub refused_desk : (ask : DeskAsk) (fault : AskFault) (old new : List Heard) → new ≡ old ++ heard_desk ask (Err fault) → Went (desk_line ask) old new (ended_by (Err (fault_of_ask fault)) tt)
+pub refused_desk : (ask : DeskAsk) (fault : AskFault) (old new : List Exchange) → new ≡ old ++ desk_exchange ask (Err fault) → Follows (desk_line ask) old new (ended_by (Err (fault_of_ask fault)) tt)
 refused_desk ask ask_faults.Memory old new grown = ([], grown, inl refl)
-refused_desk ask (ask_faults.JournalFull part) old new grown = went_desk ask _ (Full part) old new new (Some (record { answer = Err (faults.JournalFull part); after = tt })) grown (went_end _ new)
-refused_desk ask (ask_faults.Unfounded part number) old new grown = went_desk ask _ (NotFounded part number) old new new (Some (record { answer = Err (faults.Unfounded part number); after = tt })) grown (went_end _ new)
+refused_desk ask (ask_faults.JournalFull part) old new grown = follows_desk ask _ (Err (ask_faults.JournalFull part)) old new new (Some (record { answer = Err (faults.JournalFull part); after = tt })) grown (follows_end _ new)
+refused_desk ask (ask_faults.Unfounded part number) old new grown = follows_desk ask _ (Err (ask_faults.Unfounded part number)) old new new (Some (record { answer = Err (faults.Unfounded part number); after = tt })) grown (follows_end _ new)
 
-pub told_view : (ask : ViewAsk) (told : ViewTold) (old new : List Heard) → new ≡ old ++ heard_view ask (Ok told) → told.ask ≡ ask → Went (view_line ask) old new (Some (record { answer = Ok told; after = tt }))
+pub told_view : (ask : ViewAsk) (told : ViewTold) (old new : List Exchange) → new ≡ old ++ view_exchange ask (Ok told) → told.ask ≡ ask → Follows (view_line ask) old new (Some (record { answer = Ok told; after = tt }))
 told_view ask told old new grown asks =
     let same : told ≡ record { number = told.number; ask = ask; reply = told.reply } = λ i. record { number = told.number; ask = asks i; reply = told.reply } in
-    let P : ViewTold → Type 0 = λ t. Went (view_line ask) old new (Some (record { answer = Ok t; after = tt })) in
-    subst P (sym same) (went_view ask _ (Answer told.number told.reply) old new new (Some (record { answer = Ok record { number = told.number; ask = ask; reply = told.reply }; after = tt })) grown (went_end _ new))
+    let P : ViewTold → Type 0 = λ t. Follows (view_line ask) old new (Some (record { answer = Ok t; after = tt })) in
+    subst P (sym same) (follows_view ask _ (Ok (record { number = told.number; reply = told.reply })) old new new (Some (record { answer = Ok record { number = told.number; ask = ask; reply = told.reply }; after = tt })) grown (follows_end _ new))
 
-pub refused_view : (ask : ViewAsk) (fault : AskFault) (old new : List Heard) → new ≡ old ++ heard_view ask (Err fault) → Went (view_line ask) old new (ended_by (Err (fault_of_ask fault)) tt)
+pub refused_view : (ask : ViewAsk) (fault : AskFault) (old new : List Exchange) → new ≡ old ++ view_exchange ask (Err fault) → Follows (view_line ask) old new (ended_by (Err (fault_of_ask fault)) tt)
 refused_view ask ask_faults.Memory old new grown = ([], grown, inl refl)
-refused_view ask (ask_faults.JournalFull part) old new grown = went_view ask _ (Full part) old new new (Some (record { answer = Err (faults.JournalFull part); after = tt })) grown (went_end _ new)
-refused_view ask (ask_faults.Unfounded part number) old new grown = went_view ask _ (NotFounded part number) old new new (Some (record { answer = Err (faults.Unfounded part number); after = tt })) grown (went_end _ new)
+refused_view ask (ask_faults.JournalFull part) old new grown = follows_view ask _ (Err (ask_faults.JournalFull part)) old new new (Some (record { answer = Err (faults.JournalFull part); after = tt })) grown (follows_end _ new)
+refused_view ask (ask_faults.Unfounded part number) old new grown = follows_view ask _ (Err (ask_faults.Unfounded part number)) old new new (Some (record { answer = Err (faults.Unfounded part number); after = tt })) grown (follows_end _ new)
+
+-- whatever was told of an ask
+pub asked_node : (server : ℕ) (ask : NodeAsk) (result : Result NodeTold AskFault) (old new : List Exchange) → new ≡ old ++ node_exchange server ask result → IfOk result (λ t. (t.server ≡ server) × (t.ask ≡ ask)) → Follows (node_line server ask) old new (ended_by (line_result result) tt)
+asked_node server ask (Ok told) old new grown same = told_node server ask told old new grown same.0 same.1
+asked_node server ask (Err fault) old new grown same = refused_node server ask fault old new grown
+
+pub asked_desk : (ask : DeskAsk) (result : Result DeskTold AskFault) (old new : List Exchange) → new ≡ old ++ desk_exchange ask result → IfOk result (λ t. t.ask ≡ ask) → Follows (desk_line ask) old new (ended_by (line_result result) tt)
+asked_desk ask (Ok told) old new grown same = told_desk ask told old new grown same
+asked_desk ask (Err fault) old new grown same = refused_desk ask fault old new grown
+
+pub asked_view : (ask : ViewAsk) (result : Result ViewTold AskFault) (old new : List Exchange) → new ≡ old ++ view_exchange ask result → IfOk result (λ t. t.ask ≡ ask) → Follows (view_line ask) old new (ended_by (line_result result) tt)
+asked_view ask (Ok told) old new grown same = told_view ask told old new grown same
+asked_view ask (Err fault) old new grown same = refused_view ask fault old new grown
 
 -- ---- parts of the lines
 
-pub went_unless : {A S : Type 0} (cause : Option TxnFault) (a : A) (before after : S) (old : List Heard) → cause ≡ None → Went (unless cause before (done a after)) old old (Some (record { answer = Ok a; after = after }))
-went_unless cause a before after old none = rw none (went_end _ old)
+pub follows_unless : {A S : Type 0} (cause : Option TxnFault) (a : A) (before after : S) (old : List Exchange) → cause ≡ None → Follows (unless cause before (done a after)) old old (Some (record { answer = Ok a; after = after }))
+follows_unless cause a before after old none = rw none (follows_end _ old)
 
 take-length-self : {X : Type 0} (xs : List X) → take (length xs) xs ≡ xs
 take-length-self [] = refl
@@ -197,89 +200,89 @@ first_rest (y ∷ ys) x some is =
     rw (len, is, take-length-self ys) refl
 
 module _ (file : List ℕ) (mode : Mode) (servers rest : List Server) (server : Server) (old new : LocksView) (is : servers ≡ server ∷ rest) where
-  pub locks_off : (fault : LineFault) (told after : List Heard) → Went (next_lock file mode server.number old) told after (ended_by (Err fault) new) → Went (locks_line file mode (numbers_of servers) old) told after (ended_by (Err fault) new)
+  pub locks_off : (fault : LineFault) (told after : List Exchange) → Follows (next_lock file mode server.number old) told after (ended_by (Err fault) new) → Follows (locks_line file mode (numbers_of servers) old) told after (ended_by (Err fault) new)
   locks_off fault told after first =
-      rw is (went_off (next_lock file mode server.number old) (λ s. s) (λ all s. locks_line file mode (numbers_of rest) s) fault new new told after refl first)
+      rw is (follows_off (next_lock file mode server.number old) (λ s. s) (λ all s. locks_line file mode (numbers_of rest) s) fault new new told after refl first)
 
-  pub locks_on : (told mid after : List Heard) (end : Option (LineEnd (Unit {0}) LocksView)) → Went (next_lock file mode server.number old) told mid (Some (record { answer = Ok tt; after = new })) → Went (locks_line file mode (numbers_of rest) new) mid after end → Went (locks_line file mode (numbers_of servers) old) told after end
+  pub locks_on : (told mid after : List Exchange) (end : Option (LineEnd (Unit {0}) LocksView)) → Follows (next_lock file mode server.number old) told mid (Some (record { answer = Ok tt; after = new })) → Follows (locks_line file mode (numbers_of rest) new) mid after end → Follows (locks_line file mode (numbers_of servers) old) told after end
   locks_on told mid after end first more =
-      rw is (went_on (next_lock file mode server.number old) (λ s. s) (λ all s. locks_line file mode (numbers_of rest) s) tt new told mid after end first more)
+      rw is (follows_on (next_lock file mode server.number old) (λ s. s) (λ all s. locks_line file mode (numbers_of rest) s) tt new told mid after end first more)
 
 module _ (file : List ℕ) (mode : Mode) (levels : ℕ) (old : OpenView) (same : levels ≡ old.levels) where
-  chosen_line : (told after : List Heard) (end : Option (LineEnd (List ℕ) (Unit {0}))) → Went (choose_line levels) told after end → Went (choose_line old.levels) told after end
-  chosen_line told after end first = let P : ℕ → Type 0 = λ l. Went (choose_line l) told after end in subst P same first
+  chosen_line : (told after : List Exchange) (end : Option (LineEnd (List ℕ) (Unit {0}))) → Follows (choose_line levels) told after end → Follows (choose_line old.levels) told after end
+  chosen_line told after end first = let P : ℕ → Type 0 = λ l. Follows (choose_line l) told after end in subst P same first
 
-  pub quorum_off : (fault : LineFault) (told after : List Heard) → Went (choose_line levels) told after (ended_by (Err fault) tt) → Went (quorum_line file mode old) told after (ended_by (Err fault) old)
+  pub quorum_off : (fault : LineFault) (told after : List Exchange) → Follows (choose_line levels) told after (ended_by (Err fault) tt) → Follows (quorum_line file mode old) told after (ended_by (Err fault) old)
   quorum_off fault told after first =
-      went_off (choose_line old.levels) (λ none. old) (λ servers none. and_then (locks_line file mode servers (record { answers = []; txn = old })) (λ new. new.txn) (λ all new. done new.answers new.txn)) fault tt old told after refl
+      follows_off (choose_line old.levels) (λ none. old) (λ servers none. and_then (locks_line file mode servers (record { answers = []; txn = old })) (λ new. new.txn) (λ all new. done new.answers new.txn)) fault tt old told after refl
       (chosen_line told after (ended_by (Err fault) tt) first)
 
-  module _ (servers : List ℕ) (ids : List Server) (none : List NodeTold) (numbers : numbers_of ids ≡ servers) (empty : none ≡ []) (told mid : List Heard) (first : Went (choose_line levels) told mid (Some (record { answer = Ok servers; after = tt }))) where
-    locked : (after : List Heard) (end : Option (LineEnd (Unit {0}) LocksView)) → Went (locks_line file mode (numbers_of ids) (record { answers = none; txn = old })) mid after end → Went (locks_line file mode servers (record { answers = []; txn = old })) mid after end
+  module _ (servers : List ℕ) (ids : List Server) (none : List NodeTold) (numbers : numbers_of ids ≡ servers) (empty : none ≡ []) (told mid : List Exchange) (first : Follows (choose_line levels) told mid (Some (record { answer = Ok servers; after = tt }))) where
+    locked : (after : List Exchange) (end : Option (LineEnd (Unit {0}) LocksView)) → Follows (locks_line file mode (numbers_of ids) (record { answers = none; txn = old })) mid after end → Follows (locks_line file mode servers (record { answers = []; txn = old })) mid after end
     locked after end more =
-        let P : List ℕ → List NodeTold → Type 0 = λ ns xs. Went (locks_line file mode ns (record { answers = xs; txn = old })) mid after end in
+        let P : List ℕ → List NodeTold → Type 0 = λ ns xs. Follows (locks_line file mode ns (record { answers = xs; txn = old })) mid after end in
         let Q : List ℕ → Type 0 = λ ns. P ns [] in let R : List NodeTold → Type 0 = λ xs. P (numbers_of ids) xs in subst Q numbers (subst R empty more)
 
-    pub quorum_stopped : (fault : LineFault) (new : LocksView) (after : List Heard) → Went (locks_line file mode (numbers_of ids) (record { answers = none; txn = old })) mid after (ended_by (Err fault) new) → Went (quorum_line file mode old) told after (ended_by (Err fault) new.txn)
+    pub quorum_stopped : (fault : LineFault) (new : LocksView) (after : List Exchange) → Follows (locks_line file mode (numbers_of ids) (record { answers = none; txn = old })) mid after (ended_by (Err fault) new) → Follows (quorum_line file mode old) told after (ended_by (Err fault) new.txn)
     quorum_stopped fault new after more =
-        went_on (choose_line old.levels) (λ none. old) (λ servers none. and_then (locks_line file mode servers (record { answers = []; txn = old })) (λ s. s.txn) (λ all s. done s.answers s.txn)) servers tt told mid after (ended_by (Err fault) new.txn)
+        follows_on (choose_line old.levels) (λ none. old) (λ servers none. and_then (locks_line file mode servers (record { answers = []; txn = old })) (λ s. s.txn) (λ all s. done s.answers s.txn)) servers tt told mid after (ended_by (Err fault) new.txn)
         (chosen_line told mid (Some record { answer = Ok servers; after = tt }) first)
-        (went_off (locks_line file mode servers (record { answers = []; txn = old })) (λ s. s.txn) (λ all s. done s.answers s.txn) fault new new.txn mid after refl (locked after (ended_by (Err fault) new) more))
+        (follows_off (locks_line file mode servers (record { answers = []; txn = old })) (λ s. s.txn) (λ all s. done s.answers s.txn) fault new new.txn mid after refl (locked after (ended_by (Err fault) new) more))
 
-    pub quorum_locked : (new : LocksView) (after : List Heard) → Went (locks_line file mode (numbers_of ids) (record { answers = none; txn = old })) mid after (Some (record { answer = Ok tt; after = new })) → Went (quorum_line file mode old) told after (Some (record { answer = Ok new.answers; after = new.txn }))
+    pub quorum_locked : (new : LocksView) (after : List Exchange) → Follows (locks_line file mode (numbers_of ids) (record { answers = none; txn = old })) mid after (Some (record { answer = Ok tt; after = new })) → Follows (quorum_line file mode old) told after (Some (record { answer = Ok new.answers; after = new.txn }))
     quorum_locked new after more =
-        went_on (choose_line old.levels) (λ none. old) (λ servers none. and_then (locks_line file mode servers (record { answers = []; txn = old })) (λ s. s.txn) (λ all s. done s.answers s.txn)) servers tt told mid after (Some (record { answer = Ok new.answers; after = new.txn }))
+        follows_on (choose_line old.levels) (λ none. old) (λ servers none. and_then (locks_line file mode servers (record { answers = []; txn = old })) (λ s. s.txn) (λ all s. done s.answers s.txn)) servers tt told mid after (Some (record { answer = Ok new.answers; after = new.txn }))
         (chosen_line told mid (Some record { answer = Ok servers; after = tt }) first)
-        (went_on (locks_line file mode servers (record { answers = []; txn = old })) (λ s. s.txn) (λ all s. done s.answers s.txn) tt new mid after after (Some (record { answer = Ok new.answers; after = new.txn })) (locked after (Some record { answer = Ok tt; after = new }) more) (went_end _ after))
+        (follows_on (locks_line file mode servers (record { answers = []; txn = old })) (λ s. s.txn) (λ all s. done s.answers s.txn) tt new mid after after (Some (record { answer = Ok new.answers; after = new.txn })) (locked after (Some record { answer = Ok tt; after = new }) more) (follows_end _ after))
 
 module _ (ended : EndedView) (servers rest : List Server) (server : Server) (is : servers ≡ server ∷ rest) where
-  pub ending_off : (fault : LineFault) (told new : List Heard) → Went (end_line ended server.number) told new (ended_by (Err fault) tt) → Went (ending_line ended (numbers_of servers)) told new (ended_by (Err fault) tt)
+  pub ending_off : (fault : LineFault) (told new : List Exchange) → Follows (end_line ended server.number) told new (ended_by (Err fault) tt) → Follows (ending_line ended (numbers_of servers)) told new (ended_by (Err fault) tt)
   ending_off fault told new first =
-      rw is (went_off (end_line ended server.number) (λ none. none) (λ all none. ending_line ended (numbers_of rest)) fault tt tt told new refl first)
+      rw is (follows_off (end_line ended server.number) (λ none. none) (λ all none. ending_line ended (numbers_of rest)) fault tt tt told new refl first)
 
-  pub ending_on : (told mid new : List Heard) (end : Option (LineEnd (Unit {0}) (Unit {0}))) → Went (end_line ended server.number) told mid (Some (record { answer = Ok tt; after = tt })) → Went (ending_line ended (numbers_of rest)) mid new end → Went (ending_line ended (numbers_of servers)) told new end
+  pub ending_on : (told mid new : List Exchange) (end : Option (LineEnd (Unit {0}) (Unit {0}))) → Follows (end_line ended server.number) told mid (Some (record { answer = Ok tt; after = tt })) → Follows (ending_line ended (numbers_of rest)) mid new end → Follows (ending_line ended (numbers_of servers)) told new end
   ending_on told mid new end first more =
-      rw is (went_on (end_line ended server.number) (λ none. none) (λ all none. ending_line ended (numbers_of rest)) tt tt told mid new end first more)
+      rw is (follows_on (end_line ended server.number) (λ none. none) (λ all none. ending_line ended (numbers_of rest)) tt tt told mid new end first more)
 
 -- ---- how a read, a write and a vote end
 
-pub read_ended : (file : List ℕ) (answers given : List NodeTold) (old new : OpenView) (copy : FileCopy) (told : List Heard) → given ≡ answers → read_fault old file given ≡ None → copy ≡ read_copy (grants_of kinds.Read old.txn file given) → new ≡ read_after old file given → Went (read_end file answers old) told told (Some (record { answer = Ok (Copy copy); after = new }))
+pub read_ended : (file : List ℕ) (answers given : List NodeTold) (old new : OpenView) (copy : FileCopy) (told : List Exchange) → given ≡ answers → read_fault old file given ≡ None → copy ≡ read_copy (grants_of kinds.Read old.txn file given) → new ≡ read_after old file given → Follows (read_end file answers old) told told (Some (record { answer = Ok (Copy copy); after = new }))
 read_ended file answers given old new copy told same none copies news =
     let best = read_copy (grants_of kinds.Read old.txn file given) in
-    let Q : FileCopy → Type 0 = λ x. Went (read_end file given old) told told (Some (record { answer = Ok (Copy x); after = read_after old file given })) in
-    let R : OpenView → Type 0 = λ v. Went (read_end file given old) told told (Some (record { answer = Ok (Copy copy); after = v })) in
-    let S : List NodeTold → Type 0 = λ xs. Went (read_end file xs old) told told (Some (record { answer = Ok (Copy copy); after = new })) in
-    subst S same (subst R (sym news) (subst Q (sym copies) (went_unless (read_fault old file given) (Copy best) old (read_after old file given) told none)))
+    let Q : FileCopy → Type 0 = λ x. Follows (read_end file given old) told told (Some (record { answer = Ok (Copy x); after = read_after old file given })) in
+    let R : OpenView → Type 0 = λ v. Follows (read_end file given old) told told (Some (record { answer = Ok (Copy copy); after = v })) in
+    let S : List NodeTold → Type 0 = λ xs. Follows (read_end file xs old) told told (Some (record { answer = Ok (Copy copy); after = new })) in
+    subst S same (subst R (sym news) (subst Q (sym copies) (follows_unless (read_fault old file given) (Copy best) old (read_after old file given) told none)))
 
-pub read_refused : (file : List ℕ) (answers given : List NodeTold) (old new : OpenView) (fault : TxnFault) (line_fault : LineFault) (told : List Heard) → given ≡ answers → ComesOf (read_fault old file given) fault → new ≡ old → line_fault ≡ fault_of_txn fault → Went (read_end file answers old) told told (ended_by (Err line_fault) new)
+pub read_refused : (file : List ℕ) (answers given : List NodeTold) (old new : OpenView) (fault : TxnFault) (line_fault : LineFault) (told : List Exchange) → given ≡ answers → ComesOf (read_fault old file given) fault → new ≡ old → line_fault ≡ fault_of_txn fault → Follows (read_end file answers old) told told (ended_by (Err line_fault) new)
 read_refused file answers given old new fault line_fault told same comes news faults_are =
-    let Q : LineFault → Type 0 = λ x. Went (read_end file given old) told told (ended_by (Err x) old) in
-    let R : OpenView → Type 0 = λ v. Went (read_end file given old) told told (ended_by (Err line_fault) v) in
-    let S : List NodeTold → Type 0 = λ xs. Went (read_end file xs old) told told (ended_by (Err line_fault) new) in
-    subst S same (subst R (sym news) (subst Q (sym faults_are) (went_fault (read_fault old file given) fault old (done (Copy (read_copy (grants_of kinds.Read old.txn file given))) (read_after old file given)) told comes)))
+    let Q : LineFault → Type 0 = λ x. Follows (read_end file given old) told told (ended_by (Err x) old) in
+    let R : OpenView → Type 0 = λ v. Follows (read_end file given old) told told (ended_by (Err line_fault) v) in
+    let S : List NodeTold → Type 0 = λ xs. Follows (read_end file xs old) told told (ended_by (Err line_fault) new) in
+    subst S same (subst R (sym news) (subst Q (sym faults_are) (follows_fault (read_fault old file given) fault old (done (Copy (read_copy (grants_of kinds.Read old.txn file given))) (read_after old file given)) told comes)))
 
-pub write_ended : (file content : List ℕ) (answers given : List NodeTold) (old new : OpenView) (version : ℕ) (told : List Heard) → given ≡ answers → write_fault old file given ≡ None → version ≡ greatest (grants_of kinds.Write old.txn file given) + 1 → new ≡ write_after old file content given → Went (write_end file content answers old) told told (Some (record { answer = Ok version; after = new }))
+pub write_ended : (file content : List ℕ) (answers given : List NodeTold) (old new : OpenView) (version : ℕ) (told : List Exchange) → given ≡ answers → write_fault old file given ≡ None → version ≡ greatest (grants_of kinds.Write old.txn file given) + 1 → new ≡ write_after old file content given → Follows (write_end file content answers old) told told (Some (record { answer = Ok version; after = new }))
 write_ended file content answers given old new version told same none versions news =
     let best = greatest (grants_of kinds.Write old.txn file given) + 1 in
-    let Q : ℕ → Type 0 = λ x. Went (write_end file content given old) told told (Some (record { answer = Ok x; after = write_after old file content given })) in
-    let R : OpenView → Type 0 = λ v. Went (write_end file content given old) told told (Some (record { answer = Ok version; after = v })) in
-    let S : List NodeTold → Type 0 = λ xs. Went (write_end file content xs old) told told (Some (record { answer = Ok version; after = new })) in
-    subst S same (subst R (sym news) (subst Q (sym versions) (went_unless (write_fault old file given) best old (write_after old file content given) told none)))
+    let Q : ℕ → Type 0 = λ x. Follows (write_end file content given old) told told (Some (record { answer = Ok x; after = write_after old file content given })) in
+    let R : OpenView → Type 0 = λ v. Follows (write_end file content given old) told told (Some (record { answer = Ok version; after = v })) in
+    let S : List NodeTold → Type 0 = λ xs. Follows (write_end file content xs old) told told (Some (record { answer = Ok version; after = new })) in
+    subst S same (subst R (sym news) (subst Q (sym versions) (follows_unless (write_fault old file given) best old (write_after old file content given) told none)))
 
-pub write_refused : (file content : List ℕ) (answers given : List NodeTold) (old new : OpenView) (fault : TxnFault) (line_fault : LineFault) (told : List Heard) → given ≡ answers → ComesOf (write_fault old file given) fault → new ≡ old → line_fault ≡ fault_of_txn fault → Went (write_end file content answers old) told told (ended_by (Err line_fault) new)
+pub write_refused : (file content : List ℕ) (answers given : List NodeTold) (old new : OpenView) (fault : TxnFault) (line_fault : LineFault) (told : List Exchange) → given ≡ answers → ComesOf (write_fault old file given) fault → new ≡ old → line_fault ≡ fault_of_txn fault → Follows (write_end file content answers old) told told (ended_by (Err line_fault) new)
 write_refused file content answers given old new fault line_fault told same comes news faults_are =
-    let Q : LineFault → Type 0 = λ x. Went (write_end file content given old) told told (ended_by (Err x) old) in
-    let R : OpenView → Type 0 = λ v. Went (write_end file content given old) told told (ended_by (Err line_fault) v) in
-    let S : List NodeTold → Type 0 = λ xs. Went (write_end file content xs old) told told (ended_by (Err line_fault) new) in
-    subst S same (subst R (sym news) (subst Q (sym faults_are) (went_fault (write_fault old file given) fault old (done (greatest (grants_of kinds.Write old.txn file given) + 1) (write_after old file content given)) told comes)))
+    let Q : LineFault → Type 0 = λ x. Follows (write_end file content given old) told told (ended_by (Err x) old) in
+    let R : OpenView → Type 0 = λ v. Follows (write_end file content given old) told told (ended_by (Err line_fault) v) in
+    let S : List NodeTold → Type 0 = λ xs. Follows (write_end file content xs old) told told (ended_by (Err line_fault) new) in
+    subst S same (subst R (sym news) (subst Q (sym faults_are) (follows_fault (write_fault old file given) fault old (done (greatest (grants_of kinds.Write old.txn file given) + 1) (write_after old file content given)) told comes)))
 
-pub vote_refused : (old new : VotingView) (answer : NodeTold) (fault : TxnFault) (line_fault : LineFault) (told : List Heard) → refusal_in answer.reply ≡ None → ComesOf (vote_fault old answer) fault → new ≡ old → line_fault ≡ fault_of_txn fault → Went (voted old answer) told told (ended_by (Err line_fault) new)
+pub vote_refused : (old new : VotingView) (answer : NodeTold) (fault : TxnFault) (line_fault : LineFault) (told : List Exchange) → refusal_in answer.reply ≡ None → ComesOf (vote_fault old answer) fault → new ≡ old → line_fault ≡ fault_of_txn fault → Follows (voted old answer) told told (ended_by (Err line_fault) new)
 vote_refused old new answer fault line_fault told none comes news faults_are =
-    let Q : LineFault → Type 0 = λ x. Went (voted old answer) told told (ended_by (Err x) old) in
-    let R : VotingView → Type 0 = λ v. Went (voted old answer) told told (ended_by (Err line_fault) v) in
-    subst R (sym news) (subst Q (sym faults_are) (rw none (went_fault (vote_fault old answer) fault old (done tt (vote_after old answer)) told comes)))
+    let Q : LineFault → Type 0 = λ x. Follows (voted old answer) told told (ended_by (Err x) old) in
+    let R : VotingView → Type 0 = λ v. Follows (voted old answer) told told (ended_by (Err line_fault) v) in
+    subst R (sym news) (subst Q (sym faults_are) (rw none (follows_fault (vote_fault old answer) fault old (done tt (vote_after old answer)) told comes)))
 
-pub vote_asked : (old new : VotingView) (server : ℕ) (ask : NodeAsk) (answer : NodeTold) (result : Result (Unit {0}) LineFault) (told after : List Heard) → has_vote old.votes server ≡ false → ask_fault old.txn server ≡ None → ask ≡ prepare_ask old.txn server → Went (node_line server ask) told after (Some (record { answer = Ok answer; after = tt })) → Went (voted old answer) after after (ended_by result new) → Went (prepare_line old server) told after (ended_by result new)
+pub vote_asked : (old new : VotingView) (server : ℕ) (ask : NodeAsk) (answer : NodeTold) (result : Result (Unit {0}) LineFault) (told after : List Exchange) → has_vote old.votes server ≡ false → ask_fault old.txn server ≡ None → ask ≡ prepare_ask old.txn server → Follows (node_line server ask) told after (Some (record { answer = Ok answer; after = tt })) → Follows (voted old answer) after after (ended_by result new) → Follows (prepare_line old server) told after (ended_by result new)
 vote_asked old new server ask answer result told after new_voter may asks first last =
-    let P : NodeAsk → Type 0 = λ a. Went (node_line server a) told after (Some (record { answer = Ok answer; after = tt })) in
-    rw (new_voter, may) (went_on (node_line server (prepare_ask old.txn server)) (λ none. old) (λ t none. voted old t) answer tt told after after (ended_by result new) (subst P asks first) last)
+    let P : NodeAsk → Type 0 = λ a. Follows (node_line server a) told after (Some (record { answer = Ok answer; after = tt })) in
+    rw (new_voter, may) (follows_on (node_line server (prepare_ask old.txn server)) (λ none. old) (λ t none. voted old t) answer tt told after after (ended_by result new) (subst P asks first) last)

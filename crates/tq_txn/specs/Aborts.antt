@@ -8,7 +8,7 @@ use Rattle.tq_desk.specs.declared.ask.DeskReply.TheVariants as replies
 use Rattle.tq_desk.specs.declared.ask.DeskRefusal.TheVariants.{Decided}
 use Rattle.tq_txn.specs.declared.fault.LineFault.{LineFault}
 use Rattle.tq_txn.specs.declared.fault.LineFault.TheVariants as faults
-use Rattle.tq_txn.specs.Line.{Line, LineEnd, done, and_then, desk_line}
+use Rattle.tq_txn.specs.Dialogue.{Dialogue, LineEnd, done, and_then, desk_line}
 use Rattle.tq_txn.specs.Lines.{answers, ending_line}
 use Rattle.tq_node.specs.declared.ask.Verdict.{Verdict}
 use Rattle.tq_states.specs.declared.told.DeskTold.{DeskTold}
@@ -39,18 +39,18 @@ abbrev pub is_abort : DeskReply → Bool
 is_abort (replies.Verdict verdicts.Abort) = true
 is_abort reply = false
 
-abbrev pub ending_of : EndedView → Line (LineEnd (Unit {0}) Txn)
+abbrev pub ending_of : EndedView → Dialogue (LineEnd (Unit {0}) Txn)
 ending_of ended = and_then (ending_line ended ended.servers) (λ none. states.Ended ended) (λ all none. done tt (states.Ended ended))
 
-abbrev pub end_aborted : DeskReply → Txn → Line (LineEnd (Unit {0}) Txn)
+abbrev pub end_aborted : DeskReply → Txn → Dialogue (LineEnd (Unit {0}) Txn)
 end_aborted reply (states.Ended ended) = ending_of ended
 end_aborted reply txn = answers (aborted reply) txn
 
 -- after an abort, the ending; a transaction that committed has none
-abbrev pub abort_end : DeskReply → Txn → Line (LineEnd (Unit {0}) Txn)
+abbrev pub abort_end : DeskReply → Txn → Dialogue (LineEnd (Unit {0}) Txn)
 abort_end reply txn = if is_abort reply then end_aborted reply txn else answers (aborted reply) txn
 
 -- the desk's verdict, and then the ending
-abbrev pub abort_line : Txn → Line (LineEnd (Unit {0}) Txn)
+abbrev pub abort_line : Txn → Dialogue (LineEnd (Unit {0}) Txn)
 abort_line old =
     and_then (desk_line (asks.Resolve (number_of old))) (λ none. old) (λ told none. abort_end told.reply (resolved old told))

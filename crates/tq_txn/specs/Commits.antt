@@ -12,12 +12,12 @@ use Rattle.tq_states.specs.declared.told.DeskTold.{DeskTold}
 use Rattle.tq_txn.specs.declared.txn.Txn.{Txn}
 use Rattle.tq_txn.specs.declared.txn.Txn.TheVariants as states
 use Rattle.tq_states.specs.Ended.{verdict_in, ended_with}
-use Rattle.tq_txn.specs.Line.{Line, LineEnd, done, failed, and_then, desk_line}
+use Rattle.tq_txn.specs.Dialogue.{Dialogue, LineEnd, done, failed, and_then, desk_line}
 use Rattle.tq_txn.specs.Lines.{answers, prepare_line, ending_line}
 use Rattle.tq_states.specs.Voting.{VotingView, has_votes, evidence_of}
 
 -- the votes of the servers, in their order; one that is there is not asked for
-abbrev pub prepares_line : List ℕ → VotingView → Line (LineEnd (Unit {0}) VotingView)
+abbrev pub prepares_line : List ℕ → VotingView → Dialogue (LineEnd (Unit {0}) VotingView)
 prepares_line [] old = done tt old
 prepares_line (server ∷ servers) old = and_then (prepare_line old server) (λ new. new) (λ all new. prepares_line servers new)
 
@@ -35,11 +35,11 @@ abbrev pub decided : VotingView → DeskTold → Txn
 decided old told = decided_by old told.number (verdict_in old.txn.txn told)
 
 -- the commit at the desk
-abbrev pub ready_line : VotingView → Line (LineEnd ℕ Txn)
+abbrev pub ready_line : VotingView → Dialogue (LineEnd ℕ Txn)
 ready_line old = and_then (desk_line (evidence_of old)) (λ none. states.Voting old) (λ told none. answers (committed told.reply) (decided old told))
 
 -- the commit, where each voter's vote is there
-abbrev pub decide_line : VotingView → Line (LineEnd ℕ Txn)
+abbrev pub decide_line : VotingView → Dialogue (LineEnd ℕ Txn)
 decide_line old = if has_votes old then ready_line old else failed (faults.Txn txn_faults.VotesMissing) (states.Voting old)
 
 -- what a call makes of the desk's answer, unless memory runs out
@@ -52,13 +52,13 @@ IsUndecided old reply txn_faults.Memory answer after = (answer ≡ Err faults.Me
 IsUndecided old reply fault answer after = (answer ≡ committed reply) × (after ≡ states.Voting old)
 
 -- after the commit, the ending
-abbrev pub commit_end : ℕ → Txn → Line (LineEnd ℕ Txn)
+abbrev pub commit_end : ℕ → Txn → Dialogue (LineEnd ℕ Txn)
 commit_end serial (states.Ended ended) = and_then (ending_line ended ended.servers) (λ none. states.Ended ended) (λ all none. done serial (states.Ended ended))
 commit_end serial txn = done serial txn
 
-abbrev pub decide_and_end_line : VotingView → Line (LineEnd ℕ Txn)
+abbrev pub decide_and_end_line : VotingView → Dialogue (LineEnd ℕ Txn)
 decide_and_end_line old = and_then (decide_line old) (λ txn. txn) (λ serial txn. commit_end serial txn)
 
 -- the votes still missing, the commit at the desk, and then the ending
-abbrev pub commit_line : VotingView → Line (LineEnd ℕ Txn)
+abbrev pub commit_line : VotingView → Dialogue (LineEnd ℕ Txn)
 commit_line old = and_then (prepares_line old.txn.voters old) (λ new. states.Voting new) (λ all new. decide_and_end_line new)

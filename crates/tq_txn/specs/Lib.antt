@@ -1,4 +1,4 @@
-pub mod Line
+pub mod Dialogue
 pub mod Lines
 pub mod States
 pub mod Commits

@@ -19,8 +19,6 @@ use Rattle.tq_evidence.specs.Evidence.{greatest}
 use Rattle.tq_live.specs.declared.view.ViewAsk.TheVariants.{Choose}
 use Rattle.tq_live.specs.declared.view.ViewReply.{ViewReply}
 use Rattle.tq_live.specs.declared.view.ViewReply.TheVariants as view_replies
-use Rattle.tq_txn.specs.declared.asker.Told.{Told}
-use Rattle.tq_txn.specs.declared.asker.Told.TheVariants.{Answer}
 use Rattle.tq_txn.specs.declared.fault.LineFault.{LineFault}
 use Rattle.tq_txn.specs.declared.fault.LineFault.TheVariants as faults
 use Rattle.tq_states.specs.declared.fault.TxnFault.TheVariants.{NotAMember, TooManyOps}
@@ -30,12 +28,12 @@ use Rattle.tq_txn.specs.declared.reading.Reading.TheVariants.{Pending, Copy}
 use Rattle.tq_txn.specs.declared.applying.Applied.{Applied}
 use Rattle.tq_txn.specs.declared.applying.Applied.TheVariants.{Installed, Discarded}
 use Rattle.tq_states.specs.Ended.{EndedView, decide_ask}
-use Rattle.tq_txn.specs.Line.{Line, LineEnd, Ends, AsksNode, done, failed, and_then, unless, node_line, view_line}
+use Rattle.tq_txn.specs.Dialogue.{Told, Dialogue, LineEnd, Ends, AsksNode, done, failed, and_then, unless, node_line, view_line}
 use Rattle.tq_states.specs.Open.{OpenView, pending, seen, written, has_all_ops, read_fault, read_copy, read_after, write_fault, write_after, grants_of, touched_by, rewritten}
 use Rattle.tq_states.specs.Voting.{VotingView, has_vote, ask_fault, prepare_ask, vote_fault, vote_after}
 
 -- what a function of the answer says ends the line
-abbrev pub answers : {A S : Type 0} → Result A LineFault → S → Line (LineEnd A S)
+abbrev pub answers : {A S : Type 0} → Result A LineFault → S → Dialogue (LineEnd A S)
 answers result after = Ends (record { answer = result; after = after })
 
 -- ---- a quorum from the view
@@ -50,7 +48,7 @@ abbrev pub servers_of : Result ServerList LineFault → Result (List ℕ) LineFa
 servers_of (Ok quorum) = Ok quorum.servers
 servers_of (Err fault) = Err fault
 
-abbrev pub choose_line : ℕ → Line (LineEnd (List ℕ) (Unit {0}))
+abbrev pub choose_line : ℕ → Dialogue (LineEnd (List ℕ) (Unit {0}))
 choose_line levels = and_then (view_line Choose) (λ none. none) (λ told none. answers (chosen levels told.reply) none)
 
 -- ---- locks at its servers
@@ -63,7 +61,7 @@ granted told (replies.Granted version content) = Ok told
 granted told (replies.Refused refusal) = Err (faults.Server told.server refusal)
 granted told reply = Err (faults.WrongReply (parts.Server told.server))
 
-abbrev pub lock_line : ℕ → List ℕ → Mode → ℕ → Line (LineEnd NodeTold (Unit {0}))
+abbrev pub lock_line : ℕ → List ℕ → Mode → ℕ → Dialogue (LineEnd NodeTold (Unit {0}))
 lock_line txn file mode server = and_then (node_line server (lock_ask txn file mode)) (λ none. none) (λ told none. answers (granted told told.reply) none)
 
 -- the answers of the servers asked so far, and the transaction, which notes each server that granted a lock
@@ -72,66 +70,66 @@ pub record LocksView : Type 0 where
   pub txn : OpenView
 
 -- a lock at one more server
-abbrev pub next_lock : List ℕ → Mode → ℕ → LocksView → Line (LineEnd (Unit {0}) LocksView)
+abbrev pub next_lock : List ℕ → Mode → ℕ → LocksView → Dialogue (LineEnd (Unit {0}) LocksView)
 next_lock file mode server old =
     and_then (lock_line old.txn.txn file mode server) (λ none. old)
     (λ told none. done tt (record { answers = old.answers ++ told ∷ []; txn = touched_by old.txn server }))
 
 -- a lock at each of the servers, in their order; the first refusal ends it, and locks granted before it stay
-abbrev pub locks_line : List ℕ → Mode → List ℕ → LocksView → Line (LineEnd (Unit {0}) LocksView)
+abbrev pub locks_line : List ℕ → Mode → List ℕ → LocksView → Dialogue (LineEnd (Unit {0}) LocksView)
 locks_line file mode [] old = done tt old
 locks_line file mode (server ∷ servers) old = and_then (next_lock file mode server old) (λ new. new) (λ all new. locks_line file mode servers new)
 
 -- a quorum from the view, and a lock at each of its servers: their answers
-abbrev pub quorum_line : List ℕ → Mode → OpenView → Line (LineEnd (List NodeTold) OpenView)
+abbrev pub quorum_line : List ℕ → Mode → OpenView → Dialogue (LineEnd (List NodeTold) OpenView)
 quorum_line file mode old =
     and_then (choose_line old.levels) (λ none. old)
     (λ servers none. and_then (locks_line file mode servers (record { answers = []; txn = old })) (λ new. new.txn) (λ all new. done new.answers new.txn))
 
 -- ---- read
 
-abbrev pub read_end : List ℕ → List NodeTold → OpenView → Line (LineEnd Reading OpenView)
+abbrev pub read_end : List ℕ → List NodeTold → OpenView → Dialogue (LineEnd Reading OpenView)
 read_end file told old =
     unless (read_fault old file told) old (done (Copy (read_copy (grants_of kinds.Read old.txn file told))) (read_after old file told))
 
 -- shared locks at a quorum
-abbrev pub quorum_read : OpenView → List ℕ → Line (LineEnd Reading OpenView)
+abbrev pub quorum_read : OpenView → List ℕ → Dialogue (LineEnd Reading OpenView)
 quorum_read old file = and_then (quorum_line file Shared old) (λ new. new) (λ told new. read_end file told new)
 
-abbrev pub first_read : OpenView → List ℕ → Line (LineEnd Reading OpenView)
+abbrev pub first_read : OpenView → List ℕ → Dialogue (LineEnd Reading OpenView)
 first_read old file = if has_all_ops old then failed (faults.Txn TooManyOps) old else quorum_read old file
 
 abbrev pub copy_read : Op → FileCopy
 copy_read op = record { version = op.version; content = op.content }
 
 -- what the transaction has written or read is answered again, with no ask
-abbrev pub read_again : Option (List ℕ) → Option Op → OpenView → Line (LineEnd Reading OpenView) → Line (LineEnd Reading OpenView)
+abbrev pub read_again : Option (List ℕ) → Option Op → OpenView → Dialogue (LineEnd Reading OpenView) → Dialogue (LineEnd Reading OpenView)
 read_again (Some content) op old first = done (Pending content) old
 read_again None (Some op) old first = done (Copy (copy_read op)) old
 read_again None None old first = first
 
-abbrev pub read_line : OpenView → List ℕ → Line (LineEnd Reading OpenView)
+abbrev pub read_line : OpenView → List ℕ → Dialogue (LineEnd Reading OpenView)
 read_line old file = read_again (pending old file) (seen old file) old (first_read old file)
 
 -- ---- write
 
-abbrev pub write_end : List ℕ → List ℕ → List NodeTold → OpenView → Line (LineEnd ℕ OpenView)
+abbrev pub write_end : List ℕ → List ℕ → List NodeTold → OpenView → Dialogue (LineEnd ℕ OpenView)
 write_end file content told old =
     unless (write_fault old file told) old (done (greatest (grants_of kinds.Write old.txn file told) + 1) (write_after old file content told))
 
 -- exclusive locks at a quorum
-abbrev pub quorum_write : OpenView → List ℕ → List ℕ → Line (LineEnd ℕ OpenView)
+abbrev pub quorum_write : OpenView → List ℕ → List ℕ → Dialogue (LineEnd ℕ OpenView)
 quorum_write old file content = and_then (quorum_line file Exclusive old) (λ new. new) (λ told new. write_end file content told new)
 
-abbrev pub first_write : OpenView → List ℕ → List ℕ → Line (LineEnd ℕ OpenView)
+abbrev pub first_write : OpenView → List ℕ → List ℕ → Dialogue (LineEnd ℕ OpenView)
 first_write old file content = if has_all_ops old then failed (faults.Txn TooManyOps) old else quorum_write old file content
 
 -- what is written again is replaced, with no ask and the same version
-abbrev pub written_again : Option Op → OpenView → Line (LineEnd ℕ OpenView) → Line (LineEnd ℕ OpenView)
+abbrev pub written_again : Option Op → OpenView → Dialogue (LineEnd ℕ OpenView) → Dialogue (LineEnd ℕ OpenView)
 written_again None new first = first
 written_again (Some op) new first = done op.version new
 
-abbrev pub write_line : OpenView → List ℕ → List ℕ → Line (LineEnd ℕ OpenView)
+abbrev pub write_line : OpenView → List ℕ → List ℕ → Dialogue (LineEnd ℕ OpenView)
 write_line old file content = written_again (written old file) (rewritten old file content) (first_write old file content)
 
 -- ---- prepare
@@ -140,30 +138,30 @@ abbrev pub refusal_in : NodeReply → Option NodeRefusal
 refusal_in (replies.Refused refusal) = Some refusal
 refusal_in reply = None
 
-abbrev pub refused_at : {A S : Type 0} → ℕ → Option NodeRefusal → S → Line (LineEnd A S) → Line (LineEnd A S)
+abbrev pub refused_at : {A S : Type 0} → ℕ → Option NodeRefusal → S → Dialogue (LineEnd A S) → Dialogue (LineEnd A S)
 refused_at server None after line = line
 refused_at server (Some refusal) after line = failed (faults.Server server refusal) after
 
-abbrev pub voted : VotingView → NodeTold → Line (LineEnd (Unit {0}) VotingView)
+abbrev pub voted : VotingView → NodeTold → Dialogue (LineEnd (Unit {0}) VotingView)
 voted old told = refused_at told.server (refusal_in told.reply) old (unless (vote_fault old told) old (done tt (vote_after old told)))
 
-abbrev pub first_prepare : VotingView → ℕ → Line (LineEnd (Unit {0}) VotingView)
+abbrev pub first_prepare : VotingView → ℕ → Dialogue (LineEnd (Unit {0}) VotingView)
 first_prepare old server =
     unless (ask_fault old.txn server) old
     (and_then (node_line server (prepare_ask old.txn server)) (λ none. old) (λ told none. voted old told))
 
 -- a vote that is there is answered with no ask
-abbrev pub prepare_line : VotingView → ℕ → Line (LineEnd (Unit {0}) VotingView)
+abbrev pub prepare_line : VotingView → ℕ → Dialogue (LineEnd (Unit {0}) VotingView)
 prepare_line old server = if has_vote old.votes server then done tt old else first_prepare old server
 
 -- ---- the ending
 
 -- an ask of which any answer is taken
 abbrev pub reply_in : Told NodeReply → Option NodeReply
-reply_in (Answer number reply) = Some reply
-reply_in other = None
+reply_in (Ok answered) = Some answered.reply
+reply_in (Err fault) = None
 
-abbrev pub any_line : ℕ → NodeAsk → Line (LineEnd (Option NodeReply) (Unit {0}))
+abbrev pub any_line : ℕ → NodeAsk → Dialogue (LineEnd (Option NodeReply) (Unit {0}))
 any_line server ask = AsksNode server ask (λ answer. done (reply_in answer) tt)
 
 abbrev pub is_nothing_here : Option NodeReply → Bool
@@ -171,16 +169,16 @@ is_nothing_here (Some (replies.Refused NothingHere)) = true
 is_nothing_here reply = false
 
 -- the release of the locks, where nothing is prepared
-abbrev pub release_line : ℕ → ℕ → Bool → Line (LineEnd (Unit {0}) (Unit {0}))
+abbrev pub release_line : ℕ → ℕ → Bool → Dialogue (LineEnd (Unit {0}) (Unit {0}))
 release_line txn server true = and_then (any_line server (Work (Release txn))) (λ none. none) (λ reply none. done tt none)
 release_line txn server false = done tt tt
 
 -- the verdict, and where nothing is prepared there, the release of the locks; whatever is answered
-abbrev pub end_line : EndedView → ℕ → Line (LineEnd (Unit {0}) (Unit {0}))
+abbrev pub end_line : EndedView → ℕ → Dialogue (LineEnd (Unit {0}) (Unit {0}))
 end_line old server = and_then (any_line server (decide_ask old)) (λ none. none) (λ reply none. release_line old.txn server (is_nothing_here reply))
 
 -- at each of the servers, in their order
-abbrev pub ending_line : EndedView → List ℕ → Line (LineEnd (Unit {0}) (Unit {0}))
+abbrev pub ending_line : EndedView → List ℕ → Dialogue (LineEnd (Unit {0}) (Unit {0}))
 ending_line old [] = done tt tt
 ending_line old (server ∷ servers) = and_then (end_line old server) (λ none. none) (λ all none. ending_line old servers)
 
@@ -192,6 +190,6 @@ applied server replies.Discarded = Ok Discarded
 applied server (replies.Refused refusal) = Err (faults.Server server refusal)
 applied server reply = Err (faults.WrongReply (parts.Server server))
 
-abbrev pub apply_line : ℕ → Verdict → ℕ → ℕ → Line (LineEnd Applied (Unit {0}))
+abbrev pub apply_line : ℕ → Verdict → ℕ → ℕ → Dialogue (LineEnd Applied (Unit {0}))
 apply_line txn verdict cite server =
     and_then (node_line server (Work (Decide txn verdict cite))) (λ none. none) (λ told none. answers (applied told.server told.reply) none)

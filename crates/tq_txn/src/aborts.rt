@@ -1,9 +1,8 @@
 ghost use Rattle.std.specs.Prelude.{◌≡◌, IfOk, IfErr};
 ghost use Rattle.tq_txn.specs.Aborts as spec;
-ghost use Rattle.tq_txn.specs.Line as line;
+ghost use Rattle.tq_txn.specs.Dialogue as line;
 ghost use Rattle.tq_txn.specs.States as states;
 
-use crate::asks::ask_desk;
 use crate::endings::end_at_each;
 use crate::{Abortion, Asker, DeskTold, Ended, LineFault, Open, Txn, TxnFault, Voting};
 use std::alloc::Global;
@@ -71,7 +70,7 @@ fn aborted(reply: DeskReply) -> Result<(), LineFault>
 /// The ending of a transaction that aborted.
 fn end_aborted<A: Asker>(asker: &mut A, alloc: Global, ended: Ended) -> Abortion
     requires { ended.levels ≡ A.levels asker.old }
-    ensures asks { line.Went (spec.ending_of ended) (A.told asker.old) (A.told asker.new) (line.ended_by result.answer result.txn) }
+    ensures asks { line.Follows (spec.ending_of ended) (A.told asker.old) (A.told asker.new) (line.ended_by result.answer result.txn) }
     ensures same { result.txn ≡ Txn.Ended ended }
     ensures tree { A.levels asker.new ≡ A.levels asker.old }
 {
@@ -90,7 +89,7 @@ fn end_aborted<A: Asker>(asker: &mut A, alloc: Global, ended: Ended) -> Abortion
 /// The ending, where the desk's answer is an abort.
 fn end_where_aborted<A: Asker>(asker: &mut A, alloc: Global, reply: DeskReply, txn: Txn) -> Abortion
     requires { states.levels_of txn ≡ A.levels asker.old }
-    ensures asks { line.Went (spec.abort_end reply txn) (A.told asker.old) (A.told asker.new) (line.ended_by result.answer result.txn) }
+    ensures asks { line.Follows (spec.abort_end reply txn) (A.told asker.old) (A.told asker.new) (line.ended_by result.answer result.txn) }
     ensures same { result.txn ≡ txn }
     ensures tree { A.levels asker.new ≡ A.levels asker.old }
 {
@@ -127,16 +126,16 @@ fn is_abort(reply: &DeskReply) -> bool
 /// After any fault it comes back in its state or in a later one.
 pub fn abort<A: Asker>(asker: &mut A, alloc: Global, txn: Txn) -> Abortion
     requires { states.levels_of txn ≡ A.levels asker.old }
-    ensures asks { line.Went (spec.abort_line txn) (A.told asker.old) (A.told asker.new) (line.ended_by result.answer result.txn) }
+    ensures asks { line.Follows (spec.abort_line txn) (A.told asker.old) (A.told asker.new) (line.ended_by result.answer result.txn) }
     ensures levels { states.levels_of result.txn ≡ states.levels_of txn }
     ensures still { states.IsStill txn result.txn }
     ensures tree { A.levels asker.new ≡ A.levels asker.old }
 {
     let number = txn.number();
-    match ask_desk(asker, alloc, DeskAsk::Resolve { txn: number }) {
+    match asker.desk(alloc, DeskAsk::Resolve { txn: number }) {
         Ok(told) => resolve_and_end(asker, alloc, txn, told),
         Err(fault) => Abortion {
-            answer: Err(fault),
+            answer: Err(LineFault::from(fault)),
             txn,
         },
     }
@@ -145,7 +144,7 @@ pub fn abort<A: Asker>(asker: &mut A, alloc: Global, txn: Txn) -> Abortion
 /// The transaction after the desk's answer, and the ending, where that is an abort.
 fn resolve_and_end<A: Asker>(asker: &mut A, alloc: Global, txn: Txn, told: DeskTold) -> Abortion
     requires { states.levels_of txn ≡ A.levels asker.old }
-    ensures asks { line.Went (spec.abort_end told.reply (spec.resolved txn told)) (A.told asker.old) (A.told asker.new) (line.ended_by result.answer result.txn) }
+    ensures asks { line.Follows (spec.abort_end told.reply (spec.resolved txn told)) (A.told asker.old) (A.told asker.new) (line.ended_by result.answer result.txn) }
     ensures levels { states.levels_of result.txn ≡ states.levels_of txn }
     ensures still { states.IsStill txn result.txn }
     ensures tree { A.levels asker.new ≡ A.levels asker.old }

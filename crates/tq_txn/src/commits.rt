@@ -2,10 +2,9 @@ ghost use Rattle.std.specs.Prelude.{◌≡◌, ◌==◌, true, IfOk};
 ghost use Rattle.std.specs.List.{list_all};
 ghost use Rattle.tq_coterie.specs.Coterie.{numbers_of};
 ghost use Rattle.tq_txn.specs.Commits as spec;
-ghost use Rattle.tq_txn.specs.Line as line;
+ghost use Rattle.tq_txn.specs.Dialogue as line;
 ghost use Rattle.tq_txn.specs.States as states;
 
-use crate::asks::ask_desk;
 use crate::endings::{end_at_each, prepare_at};
 use crate::{Asker, Decision, DeskTold, LineFault, Ready, Txn, TxnFault, Voting};
 use std::alloc::Global;
@@ -20,7 +19,7 @@ fn prepare_each<A: Asker>(
     servers: &[ServerId],
 ) -> Result<(), LineFault>
     requires { list_all (λ id. id.levels == A.levels asker.old) servers.now ≡ true }
-    ensures asks { line.Went (spec.prepares_line (numbers_of servers.now) voting.old) (A.told asker.old) (A.told asker.new) (line.ended_by result voting.new) }
+    ensures asks { line.Follows (spec.prepares_line (numbers_of servers.now) voting.old) (A.told asker.old) (A.told asker.new) (line.ended_by result voting.new) }
     ensures txn { voting.new.txn ≡ voting.old.txn }
     ensures tree { A.levels asker.new ≡ A.levels asker.old }
 {
@@ -77,27 +76,18 @@ fn undecided(reply: DeskReply, ready: Ready, fault: TxnFault) -> Decision
 /// Asks the desk to commit a transaction whose votes are all there. After a fault the transaction comes back with what
 /// it read and wrote, ended where the desk said how it ended before.
 pub fn decide<A: Asker>(asker: &mut A, alloc: Global, voting: Voting) -> Decision
-    ensures asks { line.Went (spec.decide_line voting) (A.told asker.old) (A.told asker.new) (line.ended_by result.answer result.txn) }
+    ensures asks { line.Follows (spec.decide_line voting) (A.told asker.old) (A.told asker.new) (line.ended_by result.answer result.txn) }
     ensures levels { states.levels_of result.txn ≡ voting.txn.levels }
     ensures still { states.IsOf voting.txn result.txn }
     ensures tree { A.levels asker.new ≡ A.levels asker.old }
 {
-    match voting.ready() {
-        Ok(ready) => decide_ready(asker, alloc, ready),
-        Err(back) => Decision {
+    let ready = match voting.ready() {
+        Ok(ready) => ready,
+        Err(back) => return Decision {
             answer: Err(LineFault::from(back.1)),
             txn: Txn::Voting(back.0),
         },
-    }
-}
-
-/// Asks the desk for the commit.
-fn decide_ready<A: Asker>(asker: &mut A, alloc: Global, ready: Ready) -> Decision
-    ensures asks { line.Went (spec.ready_line ready) (A.told asker.old) (A.told asker.new) (line.ended_by result.answer result.txn) }
-    ensures levels { states.levels_of result.txn ≡ ready.txn.levels }
-    ensures still { states.IsOf ready.txn result.txn }
-    ensures tree { A.levels asker.new ≡ A.levels asker.old }
-{
+    };
     let ask = match ready.evidence(alloc) {
         Ok(ask) => ask,
         Err(_) => return Decision {
@@ -105,10 +95,10 @@ fn decide_ready<A: Asker>(asker: &mut A, alloc: Global, ready: Ready) -> Decisio
             txn: Txn::Voting(ready.into_voting()),
         },
     };
-    match ask_desk(asker, alloc, ask) {
+    match asker.desk(alloc, ask) {
         Ok(told) => decided(alloc, ready, told),
         Err(fault) => Decision {
-            answer: Err(fault),
+            answer: Err(LineFault::from(fault)),
             txn: Txn::Voting(ready.into_voting()),
         },
     }
@@ -128,7 +118,7 @@ fn voters_of(alloc: Global, voting: &Voting) -> Result<Vec<ServerId>, Memory>
 /// After any fault it comes back in its state or in a later one.
 pub fn commit<A: Asker>(asker: &mut A, alloc: Global, voting: Voting) -> Decision
     requires { voting.txn.levels ≡ A.levels asker.old }
-    ensures asks { line.Went (spec.commit_line voting) (A.told asker.old) (A.told asker.new) (line.ended_by result.answer result.txn) }
+    ensures asks { line.Follows (spec.commit_line voting) (A.told asker.old) (A.told asker.new) (line.ended_by result.answer result.txn) }
     ensures levels { states.levels_of result.txn ≡ voting.txn.levels }
     ensures still { states.IsOf voting.txn result.txn }
     ensures tree { A.levels asker.new ≡ A.levels asker.old }
@@ -141,23 +131,12 @@ pub fn commit<A: Asker>(asker: &mut A, alloc: Global, voting: Voting) -> Decisio
             txn: Txn::Voting(voting),
         },
     };
-    match prepare_each(asker, alloc, &mut voting, voters.as_slice()) {
-        Ok(()) => decide_and_end(asker, alloc, voting),
-        Err(fault) => Decision {
+    if let Err(fault) = prepare_each(asker, alloc, &mut voting, voters.as_slice()) {
+        return Decision {
             answer: Err(fault),
             txn: Txn::Voting(voting),
-        },
+        };
     }
-}
-
-/// The commit at the desk, and then the ending.
-fn decide_and_end<A: Asker>(asker: &mut A, alloc: Global, voting: Voting) -> Decision
-    requires { voting.txn.levels ≡ A.levels asker.old }
-    ensures asks { line.Went (spec.decide_and_end_line voting) (A.told asker.old) (A.told asker.new) (line.ended_by result.answer result.txn) }
-    ensures levels { states.levels_of result.txn ≡ voting.txn.levels }
-    ensures still { states.IsOf voting.txn result.txn }
-    ensures tree { A.levels asker.new ≡ A.levels asker.old }
-{
     let Decision { answer, txn } = decide(asker, alloc, voting);
     match answer {
         Ok(serial) => end_committed(asker, alloc, serial, txn),
@@ -171,7 +150,7 @@ fn decide_and_end<A: Asker>(asker: &mut A, alloc: Global, voting: Voting) -> Dec
 /// The ending of a transaction that committed.
 fn end_committed<A: Asker>(asker: &mut A, alloc: Global, serial: u64, txn: Txn) -> Decision
     requires { states.levels_of txn ≡ A.levels asker.old }
-    ensures asks { line.Went (spec.commit_end serial txn) (A.told asker.old) (A.told asker.new) (line.ended_by result.answer result.txn) }
+    ensures asks { line.Follows (spec.commit_end serial txn) (A.told asker.old) (A.told asker.new) (line.ended_by result.answer result.txn) }
     ensures same { result.txn ≡ txn }
     ensures tree { A.levels asker.new ≡ A.levels asker.old }
 {

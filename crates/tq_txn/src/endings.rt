@@ -1,15 +1,14 @@
-ghost use Rattle.std.specs.Prelude.{◌≡◌, ◌==◌, true, List, Some, None, IfOk, OnErr};
+ghost use Rattle.std.specs.Prelude.{◌≡◌, ◌==◌, true, List, Some, None, Ok, IfOk, OnErr};
 ghost use Rattle.std.specs.List.{list_all};
 ghost use Rattle.tq_coterie.specs.Coterie.{numbers_of};
-ghost use Rattle.tq_txn.specs.Line as line;
+ghost use Rattle.tq_txn.specs.Dialogue as line;
 ghost use Rattle.tq_txn.specs.Lines as spec;
-ghost use Rattle.tq_txn.specs.declared.asker.Heard.{Heard};
+ghost use Rattle.tq_txn.specs.declared.asker.Exchange.{Exchange};
 
-use crate::asks::ask_node;
 use crate::{Applied, AskFault, Asker, Ended, LineFault, NodeTold, Voting};
-use std::alloc::Global;
+use std::alloc::{AllocError, Global};
 use tq_node::{NodeAsk, NodeRefusal, NodeReply, Verdict, WorkAsk};
-use tq_shape::{Part, ServerId};
+use tq_shape::{Memory, Part, ServerId};
 
 /// The refusal, where the reply is one.
 fn refusal_in(reply: &NodeReply) -> Option<NodeRefusal>
@@ -29,7 +28,7 @@ pub fn prepare_at<A: Asker>(
     server: ServerId,
 ) -> Result<(), LineFault>
     requires { server.levels ≡ A.levels asker.old }
-    ensures asks { line.Went (spec.prepare_line voting.old server.number) (A.told asker.old) (A.told asker.new) (line.ended_by result voting.new) }
+    ensures asks { line.Follows (spec.prepare_line voting.old server.number) (A.told asker.old) (A.told asker.new) (line.ended_by result voting.new) }
     ensures txn { voting.new.txn ≡ voting.old.txn }
     ensures err { OnErr result (voting.new ≡ voting.old) }
     ensures tree { A.levels asker.new ≡ A.levels asker.old }
@@ -41,16 +40,15 @@ pub fn prepare_at<A: Asker>(
         Ok(ask) => ask,
         Err(fault) => return Err(LineFault::from(fault)),
     };
-    let told = match ask_node(asker, alloc, server, ask) {
-        Ok(told) => told,
-        Err(fault) => return Err(fault),
-    };
-    take_vote(alloc, voting, &told)
+    match asker.node(alloc, server, ask) {
+        Ok(told) => take_vote(alloc, voting, &told),
+        Err(fault) => Err(LineFault::from(fault)),
+    }
 }
 
 /// Takes the vote that a server told, unless it refused.
 fn take_vote(alloc: Global, voting: &mut Voting, told: &NodeTold) -> Result<(), LineFault>
-    ensures asks { (heard : List Heard) → line.Went (spec.voted voting.old told.now) heard heard (line.ended_by result voting.new) }
+    ensures asks { (exchanges : List Exchange) → line.Follows (spec.voted voting.old told.now) exchanges exchanges (line.ended_by result voting.new) }
     ensures txn { voting.new.txn ≡ voting.old.txn }
     ensures err { OnErr result (voting.new ≡ voting.old) }
 {
@@ -66,20 +64,21 @@ fn take_vote(alloc: Global, voting: &mut Voting, told: &NodeTold) -> Result<(), 
     Ok(())
 }
 
-/// One ask of a server, of which any answer is taken.
-fn ask_any<A: Asker>(
+/// One ask of a server, of which any answer is taken: its reply, or none where the ask was not taken.
+pub fn ask_any<A: Asker>(
     asker: &mut A,
     alloc: Global,
     server: ServerId,
     ask: NodeAsk,
-) -> Result<Option<NodeReply>, LineFault>
+) -> Result<Option<NodeReply>, Memory>
     requires { server.levels ≡ A.levels asker.old }
-    ensures asks { line.Went (spec.any_line server.number ask) (A.told asker.old) (A.told asker.new) (line.ended_by result tt) }
+    ensures asks { IfOk result (λ reply. line.Follows (spec.any_line server.number ask) (A.told asker.old) (A.told asker.new) (Some (record { answer = Ok reply; after = tt }))) }
+    ensures err { OnErr result (line.Follows (spec.any_line server.number ask) (A.told asker.old) (A.told asker.new) None) }
     ensures tree { A.levels asker.new ≡ A.levels asker.old }
 {
     match asker.node(alloc, server, ask) {
         Ok(told) => Ok(Some(told.reply)),
-        Err(AskFault::Memory) => Err(LineFault::Memory),
+        Err(AskFault::Memory) => Err(AllocError),
         Err(AskFault::JournalFull { .. }) => Ok(None),
         Err(AskFault::Unfounded { .. }) => Ok(None),
     }
@@ -103,7 +102,7 @@ fn release_at<A: Asker>(
     wanted: bool,
 ) -> Result<(), LineFault>
     requires { server.levels ≡ A.levels asker.old }
-    ensures asks { line.Went (spec.release_line txn server.number wanted) (A.told asker.old) (A.told asker.new) (line.ended_by result tt) }
+    ensures asks { line.Follows (spec.release_line txn server.number wanted) (A.told asker.old) (A.told asker.new) (line.ended_by result tt) }
     ensures tree { A.levels asker.new ≡ A.levels asker.old }
 {
     if !wanted {
@@ -116,7 +115,7 @@ fn release_at<A: Asker>(
         NodeAsk::Work(WorkAsk::Release { txn }),
     ) {
         Ok(_) => Ok(()),
-        Err(fault) => Err(fault),
+        Err(_) => Err(LineFault::Memory),
     }
 }
 
@@ -128,13 +127,13 @@ fn end_at<A: Asker>(
     server: ServerId,
 ) -> Result<(), LineFault>
     requires { server.levels ≡ A.levels asker.old }
-    ensures asks { line.Went (spec.end_line ended.now server.number) (A.told asker.old) (A.told asker.new) (line.ended_by result tt) }
+    ensures asks { line.Follows (spec.end_line ended.now server.number) (A.told asker.old) (A.told asker.new) (line.ended_by result tt) }
     ensures tree { A.levels asker.new ≡ A.levels asker.old }
 {
     let ask = ended.decide(alloc)?;
     match ask_any(asker, alloc, server, ask) {
         Ok(reply) => release_at(asker, alloc, ended.txn(), server, is_nothing_here(&reply)),
-        Err(fault) => Err(fault),
+        Err(_) => Err(LineFault::Memory),
     }
 }
 
@@ -146,7 +145,7 @@ pub(crate) fn end_at_each<A: Asker>(
     servers: &[ServerId],
 ) -> Result<(), LineFault>
     requires { list_all (λ id. id.levels == A.levels asker.old) servers.now ≡ true }
-    ensures asks { line.Went (spec.ending_line ended.now (numbers_of servers.now)) (A.told asker.old) (A.told asker.new) (line.ended_by result tt) }
+    ensures asks { line.Follows (spec.ending_line ended.now (numbers_of servers.now)) (A.told asker.old) (A.told asker.new) (line.ended_by result tt) }
     ensures tree { A.levels asker.new ≡ A.levels asker.old }
 {
     match servers {
@@ -185,16 +184,12 @@ pub fn apply_at<A: Asker>(
     server: ServerId,
 ) -> Result<Applied, LineFault>
     requires { server.levels ≡ A.levels asker.old }
-    ensures asks { line.Went (spec.apply_line txn verdict cite server.number) (A.told asker.old) (A.told asker.new) (line.ended_by result tt) }
+    ensures asks { line.Follows (spec.apply_line txn verdict cite server.number) (A.told asker.old) (A.told asker.new) (line.ended_by result tt) }
     ensures tree { A.levels asker.new ≡ A.levels asker.old }
 {
-    match ask_node(
-        asker,
-        alloc,
-        server,
-        NodeAsk::Work(WorkAsk::Decide { txn, verdict, cite }),
-    ) {
+    let ask = NodeAsk::Work(WorkAsk::Decide { txn, verdict, cite });
+    match asker.node(alloc, server, ask) {
         Ok(told) => applied(told.server, &told.reply),
-        Err(fault) => Err(fault),
+        Err(fault) => Err(LineFault::from(fault)),
     }
 }

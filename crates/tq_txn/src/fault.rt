@@ -49,7 +49,7 @@ impl<T: Drop> From<AllocFailed<T>> for LineFault {
 
 impl From<AskFault> for LineFault {
     ghost use Rattle.std.specs.Prelude.{◌≡◌};
-    ghost use Rattle.tq_txn.specs.Line.{fault_of_ask};
+    ghost use Rattle.tq_txn.specs.Dialogue.{fault_of_ask};
 
     ghost from_gives = { λ ask fault. fault ≡ fault_of_ask ask };
 
@@ -64,7 +64,7 @@ impl From<AskFault> for LineFault {
 
 impl From<TxnFault> for LineFault {
     ghost use Rattle.std.specs.Prelude.{◌≡◌};
-    ghost use Rattle.tq_txn.specs.Line.{fault_of_txn};
+    ghost use Rattle.tq_txn.specs.Dialogue.{fault_of_txn};
 
     ghost from_gives = { λ txn fault. fault ≡ fault_of_txn txn };
 

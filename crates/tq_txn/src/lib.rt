@@ -4,7 +4,6 @@
 mod aborts;
 mod applying;
 mod asker;
-mod asks;
 mod commits;
 mod endings;
 mod fault;
@@ -14,11 +13,12 @@ mod txn;
 
 pub use aborts::abort;
 pub use applying::Applied;
-pub use asker::{AskFault, Asker, Heard, Told, ViewTold};
+pub use asker::{Asker, Exchange, Told, ViewTold};
 pub use commits::{commit, decide};
-pub use endings::{apply_at, prepare_at};
+pub use endings::{apply_at, ask_any, prepare_at};
 pub use fault::LineFault;
 pub use operations::{read_file, write_file};
 pub use reading::Reading;
+pub use tq_part::{Answered, AskFault};
 pub use tq_states::{DeskTold, Ended, NodeTold, Open, Ready, TxnFault, Voting};
 pub use txn::{Abortion, Decision, Txn};

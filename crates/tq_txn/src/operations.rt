@@ -1,11 +1,10 @@
 ghost use Rattle.std.specs.Prelude.{◌≡◌, ◌==◌, ◌++◌, [], true, IfOk, OnErr};
 ghost use Rattle.std.specs.List.{list_all};
 ghost use Rattle.tq_coterie.specs.Coterie.{numbers_of};
-ghost use Rattle.tq_txn.specs.Line as line;
+ghost use Rattle.tq_txn.specs.Dialogue as line;
 ghost use Rattle.tq_txn.specs.Lines as spec;
 ghost use Rattle.tq_txn.specs.States as open_spec;
 
-use crate::asks::{ask_node, ask_view};
 use crate::{Asker, LineFault, NodeTold, Open, Reading, TxnFault};
 use std::alloc::Global;
 use tq_coterie::Quorum;
@@ -43,13 +42,13 @@ fn chosen(levels: Levels, reply: ViewReply) -> Result<Quorum, LineFault>
 
 /// A quorum from the view.
 fn choose<A: Asker>(asker: &mut A, alloc: Global, levels: Levels) -> Result<Quorum, LineFault>
-    ensures asks { line.Went (spec.choose_line levels) (A.told asker.old) (A.told asker.new) (line.ended_by (spec.servers_of result) tt) }
+    ensures asks { line.Follows (spec.choose_line levels) (A.told asker.old) (A.told asker.new) (line.ended_by (spec.servers_of result) tt) }
     ensures quorum { IfOk result (λ quorum. quorum.levels ≡ levels) }
     ensures tree { A.levels asker.new ≡ A.levels asker.old }
 {
-    match ask_view(asker, alloc, ViewAsk::Choose) {
+    match asker.view(alloc, ViewAsk::Choose) {
         Ok(told) => chosen(levels, told.reply),
-        Err(fault) => Err(fault),
+        Err(fault) => Err(LineFault::from(fault)),
     }
 }
 
@@ -79,21 +78,17 @@ fn lock_at<A: Asker>(
     server: ServerId,
 ) -> Result<NodeTold, LineFault>
     requires { server.levels ≡ A.levels asker.old }
-    ensures asks { line.Went (spec.lock_line open.now.txn file.now mode server.number) (A.told asker.old) (A.told asker.new) (line.ended_by result tt) }
+    ensures asks { line.Follows (spec.lock_line open.now.txn file.now mode server.number) (A.told asker.old) (A.told asker.new) (line.ended_by result tt) }
     ensures tree { A.levels asker.new ≡ A.levels asker.old }
 {
-    match ask_node(
-        asker,
-        alloc,
-        server,
-        NodeAsk::Work(WorkAsk::Lock {
-            txn: open.txn(),
-            file: *file,
-            mode,
-        }),
-    ) {
+    let ask = NodeAsk::Work(WorkAsk::Lock {
+        txn: open.txn(),
+        file: *file,
+        mode,
+    });
+    match asker.node(alloc, server, ask) {
         Ok(told) => granted(told),
-        Err(fault) => Err(fault),
+        Err(fault) => Err(LineFault::from(fault)),
     }
 }
 
@@ -109,7 +104,7 @@ fn lock_next<A: Asker>(
 ) -> Result<(), LineFault>
     requires same { open.old.levels ≡ A.levels asker.old }
     requires of_tree { server.levels ≡ A.levels asker.old }
-    ensures asks { line.Went (spec.next_lock file.now mode server.number (record { answers = answers.old.items; txn = open.old })) (A.told asker.old) (A.told asker.new)
+    ensures asks { line.Follows (spec.next_lock file.now mode server.number (record { answers = answers.old.items; txn = open.old })) (A.told asker.old) (A.told asker.new)
         (line.ended_by result (record { answers = answers.new.items; txn = open.new })) }
     ensures levels { open.new.levels ≡ open.old.levels }
     ensures kept { open_spec.IsTouched open.old open.new }
@@ -143,7 +138,7 @@ fn lock_each<A: Asker>(
 ) -> Result<(), LineFault>
     requires same { open.old.levels ≡ A.levels asker.old }
     requires of_tree { list_all (λ id. id.levels == A.levels asker.old) servers.now ≡ true }
-    ensures asks { line.Went (spec.locks_line file.now mode (numbers_of servers.now) (record { answers = answers.old.items; txn = open.old })) (A.told asker.old) (A.told asker.new)
+    ensures asks { line.Follows (spec.locks_line file.now mode (numbers_of servers.now) (record { answers = answers.old.items; txn = open.old })) (A.told asker.old) (A.told asker.new)
         (line.ended_by result (record { answers = answers.new.items; txn = open.new })) }
     ensures levels { open.new.levels ≡ open.old.levels }
     ensures kept { open_spec.IsTouched open.old open.new }
@@ -167,7 +162,7 @@ fn lock_quorum<A: Asker>(
     mode: Mode,
 ) -> Result<Seq<NodeTold>, LineFault>
     requires { open.old.levels ≡ A.levels asker.old }
-    ensures asks { line.Went (spec.quorum_line file.now mode open.old) (A.told asker.old) (A.told asker.new) (line.ended_by result open.new) }
+    ensures asks { line.Follows (spec.quorum_line file.now mode open.old) (A.told asker.old) (A.told asker.new) (line.ended_by result open.new) }
     ensures levels { open.new.levels ≡ open.old.levels }
     ensures kept { open_spec.IsTouched open.old open.new }
     ensures tree { A.levels asker.new ≡ A.levels asker.old }
@@ -200,7 +195,7 @@ pub fn read_file<A: Asker>(
     file: &FileName,
 ) -> Result<Reading, LineFault>
     requires { open.old.levels ≡ A.levels asker.old }
-    ensures asks { line.Went (spec.read_line open.old file.now) (A.told asker.old) (A.told asker.new) (line.ended_by result open.new) }
+    ensures asks { line.Follows (spec.read_line open.old file.now) (A.told asker.old) (A.told asker.new) (line.ended_by result open.new) }
     ensures levels { open.new.levels ≡ open.old.levels }
     ensures err { OnErr result (open_spec.IsTouched open.old open.new) }
     ensures tree { A.levels asker.new ≡ A.levels asker.old }
@@ -228,7 +223,7 @@ fn read_at_quorum<A: Asker>(
     file: &FileName,
 ) -> Result<Reading, LineFault>
     requires { open.old.levels ≡ A.levels asker.old }
-    ensures asks { line.Went (spec.quorum_read open.old file.now) (A.told asker.old) (A.told asker.new) (line.ended_by result open.new) }
+    ensures asks { line.Follows (spec.quorum_read open.old file.now) (A.told asker.old) (A.told asker.new) (line.ended_by result open.new) }
     ensures levels { open.new.levels ≡ open.old.levels }
     ensures err { OnErr result (open_spec.IsTouched open.old open.new) }
     ensures tree { A.levels asker.new ≡ A.levels asker.old }
@@ -253,7 +248,7 @@ pub fn write_file<A: Asker>(
     content: Content,
 ) -> Result<u64, LineFault>
     requires { open.old.levels ≡ A.levels asker.old }
-    ensures asks { line.Went (spec.write_line open.old file.now content) (A.told asker.old) (A.told asker.new) (line.ended_by result open.new) }
+    ensures asks { line.Follows (spec.write_line open.old file.now content) (A.told asker.old) (A.told asker.new) (line.ended_by result open.new) }
     ensures levels { open.new.levels ≡ open.old.levels }
     ensures err { OnErr result (open_spec.IsTouched open.old open.new) }
     ensures tree { A.levels asker.new ≡ A.levels asker.old }
@@ -278,7 +273,7 @@ fn write_at_quorum<A: Asker>(
     content: Content,
 ) -> Result<u64, LineFault>
     requires { open.old.levels ≡ A.levels asker.old }
-    ensures asks { line.Went (spec.quorum_write open.old file.now content) (A.told asker.old) (A.told asker.new) (line.ended_by result open.new) }
+    ensures asks { line.Follows (spec.quorum_write open.old file.now content) (A.told asker.old) (A.told asker.new) (line.ended_by result open.new) }
     ensures levels { open.new.levels ≡ open.old.levels }
     ensures err { OnErr result (open_spec.IsTouched open.old open.new) }
     ensures tree { A.levels asker.new ≡ A.levels asker.old }

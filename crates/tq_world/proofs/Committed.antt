@@ -13,7 +13,7 @@ use Rattle.tq_evidence.specs.declared.grant.Grant.{Grant}
 use Rattle.tq_evidence.specs.declared.op.Op.{Op}
 use Rattle.tq_evidence.specs.declared.vote.Vote.{Vote}
 use Rattle.tq_evidence.specs.Evidence.{is_write, servers_of}
-use Rattle.tq_desk.specs.Log.{cited}
+use Rattle.tq_desk.specs.DeskStep.{cited}
 use Rattle.tq_shape.specs.Journal.{entry_at, Has}
 use Rattle.tq_node.specs.NodeJournal.{NodeEntry, IsCited, HasHeld}
 use Rattle.tq_desk.specs.DeskJournal.{DeskBounds, DeskEntry, IsLegalDesk, final, Commit, with_commit, commits, count, last_write, IsNumbered, AreNumbered, IsWritten}

@@ -23,14 +23,12 @@ use Rattle.tq_desk.specs.declared.ask.DeskReply.{DeskReply}
 use Rattle.tq_desk.specs.declared.ask.DeskReply.TheVariants as desk_replies
 use Rattle.tq_evidence.specs.declared.grant.Grant.{Grant}
 use Rattle.tq_evidence.specs.declared.vote.Vote.{Vote}
-use Rattle.tq_evidence.specs.Evidence.{same_name}
-use Rattle.tq_desk.specs.Log.{citation}
-use Rattle.tq_desk.specs.Log as log
+use Rattle.tq_store.specs.Names.{same_name}
+use Rattle.tq_desk.specs.DeskStep.{citation}
+use Rattle.tq_desk.specs.DeskStep as log
 use Rattle.tq_desk.specs.DeskJournal.{gives_verdict}
 use Rattle.tq_world.specs.Founded.{same_mode, same_lock, same_write, same_vote, same_verdict, cites, cites_votes, is_granted, is_voted, is_peeked, is_ended}
-
-name-is : (a b : List ℕ) → same_name a b ≡ true → a ≡ b
-name-is a b same = same_text a b (sym same)
+use Rattle.tq_store.proofs.SameName.{same_name-is}
 
 mode-is : (a b : Mode) → same_mode a b ≡ true → a ≡ b
 mode-is Shared Shared same = refl
@@ -58,7 +56,7 @@ lock-is : (a b : HeldLock) → same_lock a b ≡ true → a ≡ b
 lock-is a b same =
     let rest = and_parts (same_name a.file b.file && same_mode a.mode b.mode) (a.since == b.since) same in
     let first = and_parts (same_name a.file b.file) (same_mode a.mode b.mode) rest.0 in
-    let file = name-is a.file b.file first.0 in
+    let file = same_name-is a.file b.file first.0 in
     let mode = mode-is a.mode b.mode first.1 in
     let since = eqb-true a.since b.since rest.1 in
     λ i. record { file = file i; mode = mode i; since = since i }
@@ -67,9 +65,9 @@ write-is : (a b : Write) → same_write a b ≡ true → a ≡ b
 write-is a b same =
     let rest = and_parts (same_name a.file b.file && a.version == b.version) (same_name a.content b.content) same in
     let first = and_parts (same_name a.file b.file) (a.version == b.version) rest.0 in
-    let file = name-is a.file b.file first.0 in
+    let file = same_name-is a.file b.file first.0 in
     let version = eqb-true a.version b.version first.1 in
-    let content = name-is a.content b.content rest.1 in
+    let content = same_name-is a.content b.content rest.1 in
     λ i. record { file = file i; version = version i; content = content i }
 
 vote-is : (a b : CitedVote) → same_vote a b ≡ true → a ≡ b
@@ -106,10 +104,10 @@ granted-is txn file grant (node_asks.Work (work.Lock t f mode)) (node_replies.Gr
     let c = and_parts (t == txn && same_name f file) (same_mode mode grant.mode) b.0 in
     let d = and_parts (t == txn) (same_name f file) c.0 in
     let t_is = eqb-true t txn d.0 in
-    let f_is = name-is f file d.1 in
+    let f_is = same_name-is f file d.1 in
     let mode_is = mode-is mode grant.mode c.1 in
     let version_is = eqb-true version grant.version b.1 in
-    let content_is = name-is content grant.content a.1 in
+    let content_is = same_name-is content grant.content a.1 in
     ((λ i. node_asks.Work (work.Lock (t_is i) (f_is i) (mode_is i))), (λ i. node_replies.Granted (version_is i) (content_is i)))
 granted-is txn file grant ask reply is = absurd (false≢true is)
 
@@ -129,9 +127,9 @@ pub peeked-is : (file : List ℕ) (version : ℕ) (content : List ℕ) (ask : No
 peeked-is file version content (node_asks.Work (work.Peek f)) (node_replies.Copy v c) is =
     let a = and_parts (same_name f file && v == version) (same_name c content) is in
     let b = and_parts (same_name f file) (v == version) a.0 in
-    let f_is = name-is f file b.0 in
+    let f_is = same_name-is f file b.0 in
     let v_is = eqb-true v version b.1 in
-    let c_is = name-is c content a.1 in
+    let c_is = same_name-is c content a.1 in
     ((λ i. node_asks.Work (work.Peek (f_is i))), (λ i. node_replies.Copy (v_is i) (c_is i)))
 peeked-is file version content ask reply is = absurd (false≢true is)
 

@@ -15,25 +15,27 @@ use Rattle.tq_node.specs.declared.ask.Verdict.{Verdict}
 use Rattle.tq_node.specs.declared.ask.WorkAsk.{WorkAsk}
 use Rattle.tq_node.specs.declared.ask.WorkAsk.TheVariants as work
 use Rattle.tq_node.specs.Records.{NodeState, node_reply, node_after}
-use Rattle.tq_node.specs.NodeJournal.{nothing_stored, node_state, inner}
+use Rattle.tq_node.specs.NodeJournal.{nothing_stored, node_state, inner, NodeEntry}
 use Rattle.tq_desk.specs.declared.ask.DeskAsk.{DeskAsk}
 use Rattle.tq_desk.specs.declared.ask.DeskAsk.TheVariants as desk_asks
 use Rattle.tq_evidence.specs.declared.grant.Grant.{Grant}
 use Rattle.tq_evidence.specs.declared.op.Op.{Op}
 use Rattle.tq_evidence.specs.declared.vote.Vote.{Vote}
-use Rattle.tq_desk.specs.Log.{DeskView, desk_reply}
-use Rattle.tq_desk.specs.DeskJournal.{DeskBounds, desk_state, opened, step_reply, step_after, VerdictAt}
-use Rattle.tq_tables.specs.Journals.{JournalsView, ServerEntry, EntryOfDesk}
+use Rattle.tq_desk.specs.DeskStep.{DeskView, desk_reply}
+use Rattle.tq_desk.specs.DeskJournal.{DeskBounds, desk_state, opened, step_reply, step_after, VerdictAt, DeskEntry}
+use Rattle.tq_tables.specs.Journals.{JournalsView}
 use Rattle.tq_world.specs.declared.answer.Refusal.{Refusal}
 use Rattle.tq_world.specs.declared.answer.Step.{Step}
 use Rattle.tq_world.specs.declared.answer.Step.TheVariants as steps
 use Rattle.tq_world.specs.declared.citation.Citation.{Citation}
 use Rattle.tq_world.specs.World.{item_at, server_entry, empty_world, node_at, desk_at}
-use Rattle.tq_world.specs.Founded.{is_founded_grant, is_founded_vote, is_founded_copy, is_founded_verdict, is_granted, is_voted, is_peeked, is_ended, cited_grant, cited_vote, first_of, unless, unfounded_grant, unfounded_op, unfounded_vote, unfounded_in_desk_ask, unfounded_in_node_ask, unfounded_in_work}
-use Rattle.tq_world.specs.Steps.{refuse_unfounded, refuse_at, refusal, server_journal, node_entry, desk_entry, grown, world_at, world_after, run_from, run}
+use Rattle.tq_world.specs.Founded.{is_founded_grant, is_founded_vote, is_founded_copy, is_founded_verdict, is_granted, is_voted, is_peeked, is_ended, cited_grant, cited_vote, unless, unfounded_grant, unfounded_op, unfounded_vote, unfounded_in_desk_ask, unfounded_in_node_ask, unfounded_in_work}
+use Rattle.tq_shape.specs.Steps.{or_else, state_at}
+use Rattle.tq_world.specs.Steps.{refuse_unfounded, refuse_at, refusal, server_journal, node_entry, desk_entry, grown, world_after, run_from, run}
 use Rattle.tq_world.proofs.Contents.{granted-is, voted-is, peeked-is, ended-is, tested-is}
 use Rattle.tq_world.proofs.Events.{Event, AtNode, AtDesk, node_journal, desk_journal, IsFoundedGrant, IsFoundedVote, IsFoundedSource, IsFoundedWork, IsFoundedAsk, IsRun}
 use Rattle.tq_world.proofs.Rooms.{HasRoom, node_room, item_above}
+use Rattle.tq_shape.proofs.Options.{map-none, or_else-none}
 
 abbrev pub bounds_of : JournalsView → DeskBounds
 bounds_of world = record { levels = world.levels; limits = world.limits }
@@ -53,21 +55,21 @@ entry_of {E} entries number e is =
     let place : number ≡ suc (number - 1) = omega arith in
     ap (λ (n : ℕ). entry_at (reverse entries) n) place ∙ at-reverse entries (number - 1) ∙ above.1
 
-server_entry_of : (servers : Option (List ServerEntry)) (number : ℕ) (e : ServerEntry) → option_and_then (λ entries. item_at entries number) servers ≡ Some e
+server_entry_of : (servers : Option (List NodeEntry)) (number : ℕ) (e : NodeEntry) → option_and_then (λ entries. item_at entries number) servers ≡ Some e
     → entry_at (reverse (unwrap_or servers [])) number ≡ Some e
-server_entry_of None number e is = absurd (let none : Path (Option ServerEntry) None (Some e) = is in cc)
+server_entry_of None number e is = absurd (let none : Path (Option NodeEntry) None (Some e) = is in cc)
 server_entry_of (Some entries) number e is = entry_of entries number e is
 
 -- ---- what a test finds founded is founded
 
 module _ (events : List Event) (world : JournalsView) (journaled : IsJournaled events world) where
-  node_entry_at : (server number : ℕ) (e : ServerEntry) → server_entry world server number ≡ Some e → entry_at (node_journal events server) number ≡ Some e
+  node_entry_at : (server number : ℕ) (e : NodeEntry) → server_entry world server number ≡ Some e → entry_at (node_journal events server) number ≡ Some e
   node_entry_at server number e is =
-      ap (λ (J : List ServerEntry). entry_at J number) (journaled.nodes server) ∙ server_entry_of (item_at world.servers server) number e is
+      ap (λ (J : List NodeEntry). entry_at J number) (journaled.nodes server) ∙ server_entry_of (item_at world.servers server) number e is
 
   grant-is : (txn : ℕ) (file : List ℕ) (grant : Grant) → is_founded_grant world txn file grant ≡ true → IsFoundedGrant events txn file grant
   grant-is txn file grant is =
-      let found = tested-is (λ (e : ServerEntry). is_granted txn file grant e.ask e.reply) (server_entry world grant.server grant.number) is in
+      let found = tested-is (λ (e : NodeEntry). is_granted txn file grant e.ask e.reply) (server_entry world grant.server grant.number) is in
       let e = found.0 in
       let same = granted-is txn file grant e.ask e.reply found.2 in
       node_entry_at grant.server grant.number e found.1
@@ -75,7 +77,7 @@ module _ (events : List Event) (world : JournalsView) (journaled : IsJournaled e
 
   vote-is : (txn : ℕ) (vote : Vote) → is_founded_vote world txn vote ≡ true → IsFoundedVote events txn vote
   vote-is txn vote is =
-      let found = tested-is (λ (e : ServerEntry). is_voted txn vote e.ask e.reply) (server_entry world vote.server vote.number) is in
+      let found = tested-is (λ (e : NodeEntry). is_voted txn vote e.ask e.reply) (server_entry world vote.server vote.number) is in
       let e = found.0 in
       let same = voted-is txn vote e.ask e.reply found.2 in
       record {
@@ -86,7 +88,7 @@ module _ (events : List Event) (world : JournalsView) (journaled : IsJournaled e
 
   copy-is : (file : List ℕ) (version : ℕ) (content : List ℕ) (from : CitedVote) → is_founded_copy world file version content from ≡ true → IsFoundedSource events file version content from
   copy-is file version content from is =
-      let found = tested-is (λ (e : ServerEntry). is_peeked file version content e.ask e.reply) (server_entry world from.server from.number) is in
+      let found = tested-is (λ (e : NodeEntry). is_peeked file version content e.ask e.reply) (server_entry world from.server from.number) is in
       let e = found.0 in
       let same = peeked-is file version content e.ask e.reply found.2 in
       node_entry_at from.server from.number e found.1
@@ -94,11 +96,11 @@ module _ (events : List Event) (world : JournalsView) (journaled : IsJournaled e
 
   verdict-is : (txn : ℕ) (verdict : Verdict) (cite : ℕ) → is_founded_verdict world txn verdict cite ≡ true → VerdictAt (desk_journal events) cite txn verdict
   verdict-is txn verdict cite is =
-      let found = tested-is (λ (e : EntryOfDesk). is_ended txn verdict e.ask e.reply) (item_at world.desk cite) is in
+      let found = tested-is (λ (e : DeskEntry). is_ended txn verdict e.ask e.reply) (item_at world.desk cite) is in
       let e = found.0 in
       record {
         entry = e;
-        is_there = ap (λ (J : List EntryOfDesk). entry_at J cite) journaled.desk ∙ entry_of world.desk cite e found.1;
+        is_there = ap (λ (J : List DeskEntry). entry_at J cite) journaled.desk ∙ entry_of world.desk cite e found.1;
         gives = ended-is txn verdict e.ask e.reply found.2;
       }
 
@@ -121,10 +123,6 @@ module _ (events : List Event) (world : JournalsView) (journaled : IsJournaled e
   node_ask-is node_asks.Crash none = tt
   node_ask-is node_asks.Return none = tt
 
-  map_none : {A B : Type 0} (f : A → B) (o : Option A) → option_map f o ≡ None → o ≡ None
-  map_none f None none = refl
-  map_none {A} {B} f (Some x) none = absurd (let some : Path (Option B) (Some (f x)) None = none in cc)
-
   none_unfounded : {A : Type 0} (founded : A → Bool) (xs : List A) → find (λ x. not (founded x)) xs ≡ None → (x : A) → Has xs x → founded x ≡ true
   none_unfounded founded xs none x has = by (founded x) (none-Has (λ y. not (founded y)) xs none x has)
     where
@@ -132,25 +130,21 @@ module _ (events : List Event) (world : JournalsView) (journaled : IsJournaled e
       by true never = refl
       by false never = absurd (never refl)
 
-  first_none : (a b : Option Citation) → first_of a b ≡ None → (a ≡ None) × (b ≡ None)
-  first_none None b none = (refl, none)
-  first_none (Some citation) b none = absurd (let some : Path (Option Citation) (Some citation) None = none in cc)
-
   ops-is : (txn : ℕ) (ops : List Op) → unfounded_op world txn ops ≡ None → (op : Op) → Has ops op → (grant : Grant) → Has op.grants grant → IsFoundedGrant events txn op.file grant
   ops-is txn [] none op has grant has_grant = absurd has
   ops-is txn (first ∷ ops) none op (inl same) grant has_grant =
-      let both = first_none (unfounded_grant world txn first.file first.grants) (unfounded_op world txn ops) none in
-      let clean = map_none cited_grant (find (λ (g : Grant). not (is_founded_grant world txn first.file g)) first.grants) both.0 in
+      let both = or_else-none (unfounded_grant world txn first.file first.grants) (unfounded_op world txn ops) none in
+      let clean = map-none cited_grant (find (λ (g : Grant). not (is_founded_grant world txn first.file g)) first.grants) both.0 in
       let here : Has first.grants grant = subst (λ (o : Op). Has o.grants grant) (sym same) has_grant in
       subst (λ (o : Op). IsFoundedGrant events txn o.file grant) same
       (grant-is txn first.file grant (none_unfounded (is_founded_grant world txn first.file) first.grants clean grant here))
   ops-is txn (first ∷ ops) none op (inr has) grant has_grant =
-      ops-is txn ops (first_none (unfounded_grant world txn first.file first.grants) (unfounded_op world txn ops) none).1 op has grant has_grant
+      ops-is txn ops (or_else-none (unfounded_grant world txn first.file first.grants) (unfounded_op world txn ops) none).1 op has grant has_grant
 
   desk_ask-is : (ask : DeskAsk) → unfounded_in_desk_ask world ask ≡ None → IsFoundedAsk events ask
   desk_ask-is (desk_asks.Commit txn ops votes) none =
-      let both = first_none (unfounded_op world txn ops) (unfounded_vote world txn votes) none in
-      let clean = map_none cited_vote (find (λ (v : Vote). not (is_founded_vote world txn v)) votes) both.1 in
+      let both = or_else-none (unfounded_op world txn ops) (unfounded_vote world txn votes) none in
+      let clean = map-none cited_vote (find (λ (v : Vote). not (is_founded_vote world txn v)) votes) both.1 in
       record {
         grants = ops-is txn ops both.0;
         each_vote = λ vote has. vote-is txn vote (none_unfounded (is_founded_vote world txn) votes clean vote has);
@@ -168,7 +162,7 @@ passed : (full : Bool) (part : Rattle.tq_shape.specs.declared.part.Part.Part) (c
 passed true part citation none = absurd (let some : Path (Option Refusal) (Some (Rattle.tq_world.specs.declared.answer.Refusal.TheVariants.JournalFull part)) None = none in cc)
 passed false part citation none = no_citation citation none
 
-passed_at : (world : JournalsView) (server : ℕ) (entries : Option (List ServerEntry)) (citation : Option Citation) → refuse_at world server entries citation ≡ None → citation ≡ None
+passed_at : (world : JournalsView) (server : ℕ) (entries : Option (List NodeEntry)) (citation : Option Citation) → refuse_at world server entries citation ≡ None → citation ≡ None
 passed_at world server None citation none = absurd (let some : Path (Option Refusal) (Some Rattle.tq_world.specs.declared.answer.Refusal.TheVariants.NoSuchServer) None = none in cc)
 passed_at world server (Some entries) citation none = passed (nat_le world.limits.entries (length entries)) (Rattle.tq_shape.specs.declared.part.Part.TheVariants.Server server) citation none
 
@@ -185,7 +179,7 @@ get_set_other (x ∷ xs) (suc i) zero y apart = refl
 get_set_other (x ∷ xs) (suc i) (suc j) y apart = get_set_other xs i j y (λ same. apart (ap (λ (n : ℕ). suc n) same))
 
 -- the journal of a server after one entry more at a server
-item_set_same : (servers : List (List ServerEntry)) (server : ℕ) (entries : List ServerEntry) → 0 < server → server - 1 < length servers
+item_set_same : (servers : List (List NodeEntry)) (server : ℕ) (entries : List NodeEntry) → 0 < server → server - 1 < length servers
     → item_at (set servers (server - 1) entries) server ≡ Some entries
 item_set_same servers server entries above within = by (nat_lt 0 server) refl
   where
@@ -193,7 +187,7 @@ item_set_same servers server entries above within = by (nat_lt 0 server) refl
     by true t = get_set_same servers (server - 1) entries within
     by false t = absurd (grind (arith, t, above))
 
-item_set_other : (servers : List (List ServerEntry)) (server other : ℕ) (entries : List ServerEntry) → 0 < server → server ≢ other
+item_set_other : (servers : List (List NodeEntry)) (server other : ℕ) (entries : List NodeEntry) → 0 < server → server ≢ other
     → item_at (set servers (server - 1) entries) other ≡ item_at servers other
 item_set_other servers server other entries above apart = by (nat_lt 0 other) refl
   where
@@ -203,10 +197,10 @@ item_set_other servers server other entries above apart = by (nat_lt 0 other) re
         get_set_other servers (server - 1) (other - 1) entries (λ same. apart (omega arith))
     by false t = refl
 
-node_state-is : (server : ℕ) (entries : List ServerEntry) → node_at server entries ≡ node_state server (reverse entries)
+node_state-is : (server : ℕ) (entries : List NodeEntry) → node_at server entries ≡ node_state server (reverse entries)
 node_state-is server entries = state-reverse (λ old number ask. node_reply server old ask) (node_after server) nothing_stored entries
 
-desk_state-is : (bounds : DeskBounds) (entries : List EntryOfDesk) → desk_at bounds.levels bounds.limits entries ≡ desk_state bounds (reverse entries)
+desk_state-is : (bounds : DeskBounds) (entries : List DeskEntry) → desk_at bounds.levels bounds.limits entries ≡ desk_state bounds (reverse entries)
 desk_state-is bounds entries = state-reverse step_reply step_after (opened bounds) entries
 
 node_step : (events : List Event) (world : JournalsView) (server : ℕ) (ask : NodeAsk) → IsJournaled events world → refusal world (steps.Node server ask) ≡ None
@@ -226,15 +220,15 @@ node_step events world server ask journaled none =
         → cond b (node_entry world server ask ∷ node_journal events other) (node_journal events other) ≡ reverse (server_journal (grown world (steps.Node server ask)) other)
     by other room true t =
         let same = eqb-true server other t in
-        ap (λ (J : List ServerEntry). node_entry world server ask ∷ J) (ap (node_journal events) (sym same) ∙ journaled.nodes server)
+        ap (λ (J : List NodeEntry). node_entry world server ask ∷ J) (ap (node_journal events) (sym same) ∙ journaled.nodes server)
         ∙ sym (reverse-push (server_journal world server) (node_entry world server ask))
-        ∙ ap (λ (o : Option (List ServerEntry)). reverse (unwrap_or o []))
+        ∙ ap (λ (o : Option (List NodeEntry)). reverse (unwrap_or o []))
         (sym (item_set_same world.servers server (server_journal world server ++ node_entry world server ask ∷ []) room.above room.within))
         ∙ ap (λ (n : ℕ). reverse (server_journal (grown world (steps.Node server ask)) n)) same
     by other room false t =
         let apart : server ≢ other = λ same. absurd (false≢true (sym t ∙ eq-eqb server other same)) in
         journaled.nodes other
-        ∙ ap (λ (o : Option (List ServerEntry)). reverse (unwrap_or o []))
+        ∙ ap (λ (o : Option (List NodeEntry)). reverse (unwrap_or o []))
         (sym (item_set_other world.servers server other (server_journal world server ++ node_entry world server ask ∷ []) room.above apart))
 
 desk_step : (events : List Event) (world : JournalsView) (ask : DeskAsk) → IsJournaled events world → refusal world (steps.Desk ask) ≡ None
@@ -246,7 +240,7 @@ desk_step events world ask journaled none =
     record {
       ran = (journaled.ran, ap (λ (d : DeskView). desk_reply d ask) state, founded);
       nodes = journaled.nodes;
-      desk = ap (λ (J : List EntryOfDesk). desk_entry world ask ∷ J) journaled.desk ∙ sym (reverse-push world.desk (desk_entry world ask));
+      desk = ap (λ (J : List DeskEntry). desk_entry world ask ∷ J) journaled.desk ∙ sym (reverse-push world.desk (desk_entry world ask));
     }
 
 -- some events make the world
@@ -261,7 +255,7 @@ grown_step world (steps.View ask) has none = (has.0, record { ran = has.1.ran; n
 one_step : (world : JournalsView) (step : Step) → HasEvents world → HasEvents (world_after world step)
 one_step world step has = by (refusal world step) refl
   where
-    by : (refused : Option Refusal) → refusal world step ≡ refused → HasEvents (world_at refused world (grown world step))
+    by : (refused : Option Refusal) → refusal world step ≡ refused → HasEvents (state_at refused world (grown world step))
     by None none = grown_step world step has none
     by (Some reason) is = has
 
@@ -269,15 +263,15 @@ all_steps : (world : JournalsView) (steps : List Step) → HasEvents world → H
 all_steps world [] has = has
 all_steps world (step ∷ steps) has = all_steps (world_after world step) steps (one_step world step has)
 
-none_there : (count place : ℕ) → unwrap_or (slice_get (replicate {A = List ServerEntry} count []) place) [] ≡ []
+none_there : (count place : ℕ) → unwrap_or (slice_get (replicate {A = List NodeEntry} count []) place) [] ≡ []
 none_there zero place = refl
 none_there (suc count) zero = refl
 none_there (suc count) (suc place) = none_there count place
 
-none_at : (count number : ℕ) → unwrap_or (item_at (replicate {A = List ServerEntry} count []) number) [] ≡ []
+none_at : (count number : ℕ) → unwrap_or (item_at (replicate {A = List NodeEntry} count []) number) [] ≡ []
 none_at count number = by (nat_lt 0 number)
   where
-    by : (b : Bool) → unwrap_or (cond b (slice_get (replicate {A = List ServerEntry} count []) (number - 1)) None) [] ≡ []
+    by : (b : Bool) → unwrap_or (cond b (slice_get (replicate {A = List NodeEntry} count []) (number - 1)) None) [] ≡ []
     by true = none_there count (number - 1)
     by false = refl
 

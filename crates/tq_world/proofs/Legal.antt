@@ -11,7 +11,7 @@ use Rattle.tq_live.specs.View.{view_reply, view_reply_at, view_after_at, view_st
 use Rattle.tq_live.proofs.Journal.{replays}
 use Rattle.tq_live.specs.declared.view.ViewAsk.{ViewAsk}
 use Rattle.tq_live.specs.declared.view.ViewAsk.TheVariants as asks
-use Rattle.tq_tables.specs.Journals.{JournalsView, ServerEntry, EntryOfView}
+use Rattle.tq_tables.specs.Journals.{JournalsView, ViewEntry}
 use Rattle.tq_tables.specs.Parts.{AreLegal, AreLegalServers}
 use Rattle.tq_tables.specs.Tables.{TablesView, tables_of}
 use Rattle.tq_world.specs.declared.answer.Answer.{Answer}
@@ -23,7 +23,8 @@ use Rattle.tq_world.specs.Headline.{AreOffered, Headline}
 use Rattle.tq_world.specs.Offered.{OffersBest}
 use Rattle.tq_world.specs.Steps.{IsOfRun}
 use Rattle.tq_world.specs.World.{empty_world, item_at, view_at}
-use Rattle.tq_world.specs.Steps.{answer, refusal, grown, world_at, world_after, run_from, run, view_entry, server_journal, told_at, is_memory, IsTold, AreTold}
+use Rattle.tq_world.specs.Steps.{answer, refusal, grown, world_after, run_from, run, view_entry, server_journal, told_at, is_memory, IsTold, AreTold}
+use Rattle.tq_shape.specs.Steps.{state_at}
 use Rattle.tq_world.proofs.Journaled.{bounds_of, HasEvents, run_events}
 use Rattle.tq_world.proofs.Offers.{view_offers}
 use Rattle.tq_world.proofs.ReadsOfRun.{reads_of_run}
@@ -48,7 +49,7 @@ grown_view world (steps.View ask) legal = view_grown world ask legal
 one_view : (world : JournalsView) (step : Step) → HasLegalView world → HasLegalView (world_after world step)
 one_view world step legal = by (refusal world step)
   where
-    by : (refused : Option Refusal) → HasLegalView (world_at refused world (grown world step))
+    by : (refused : Option Refusal) → HasLegalView (state_at refused world (grown world step))
     by None = grown_view world step legal
     by (Some reason) = legal
 
@@ -62,7 +63,7 @@ run_view levels limits steps = all_views (empty_world levels limits) steps tt
 
 -- ---- the servers' journals
 
-legal_servers : (first : ℕ) (servers : List (List ServerEntry)) → ((i : ℕ) → IsLegalNode (first + i) (reverse (unwrap_or (slice_get servers i) []))) → AreLegalServers first servers
+legal_servers : (first : ℕ) (servers : List (List NodeEntry)) → ((i : ℕ) → IsLegalNode (first + i) (reverse (unwrap_or (slice_get servers i) []))) → AreLegalServers first servers
 legal_servers first [] legal = tt
 legal_servers first (entries ∷ servers) legal = (
   subst (λ (n : ℕ). IsLegalNode n (reverse entries)) (plain first) (legal 0),
@@ -82,7 +83,7 @@ at_number {E} items i =
     ap (λ b. cond b (slice_get items ((1 + i) - 1)) None) above ∙ ap (slice_get items) place
 
 journal_of_number : (world : JournalsView) (i : ℕ) → server_journal world (1 + i) ≡ unwrap_or (slice_get world.servers i) []
-journal_of_number world i = ap (λ (o : Option (List ServerEntry)). unwrap_or o []) (at_number world.servers i)
+journal_of_number world i = ap (λ (o : Option (List NodeEntry)). unwrap_or o []) (at_number world.servers i)
 
 -- ---- all of them
 

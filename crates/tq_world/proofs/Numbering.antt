@@ -4,23 +4,18 @@ use Rattle.std.specs.List.{find}
 use Rattle.std.specs.Cmp.Lexicographic.{same_text}
 use Rattle.std.proofs.lemmas.Bool.{and_parts, and_from, eq-eqb}
 use Rattle.tq_evidence.specs.declared.op.Op.{Op}
-use Rattle.tq_evidence.specs.Evidence.{is_write, same_name}
+use Rattle.tq_evidence.specs.Evidence.{is_write, writes_file}
+use Rattle.tq_store.specs.Names.{same_name}
 use Rattle.tq_shape.specs.Journal.{Has}
-use Rattle.tq_desk.specs.DeskJournal.{Commit, writes_file, count_one, count, last_one, last_write, IsNumbered, AreNumbered, IsWritten}
+use Rattle.tq_desk.specs.DeskJournal.{Commit, count_one, count, last_one, last_write, IsNumbered, AreNumbered, IsWritten}
 use Rattle.tq_shape.proofs.Places.{find-Has, none-Has}
-
-pub same_name-is : (a b : List ℕ) → same_name a b ≡ true → a ≡ b
-same_name-is a b h = same_text a b (sym h)
-
-pub is-same_name : (a : List ℕ) → same_name a a ≡ true
-is-same_name [] = refl
-is-same_name (x ∷ a) = and_from _ _ (eq-eqb x x refl) (is-same_name a)
+use Rattle.tq_store.proofs.SameName.{same_name-is, same_name-refl}
 
 pub writes_file-is : (file : List ℕ) (op : Op) → writes_file file op ≡ true → (is_write op ≡ true) × (op.file ≡ file)
 writes_file-is file op h = let p = and_parts (is_write op) (same_name op.file file) h in (p.0, same_name-is op.file file p.1)
 
 pub is-writes_file : (file : List ℕ) (op : Op) → is_write op ≡ true → op.file ≡ file → writes_file file op ≡ true
-is-writes_file file op w e = and_from _ _ w (subst (λ (f : List ℕ). same_name op.file f ≡ true) e (is-same_name op.file))
+is-writes_file file op w e = and_from _ _ w (subst (λ (f : List ℕ). same_name op.file f ≡ true) e (same_name-refl op.file))
 
 -- one write op of a file at most in each of the commits
 abbrev pub AreOnce : List Commit → Type 0

@@ -32,11 +32,6 @@ reads_of_more old new ran more is =
     subst (λ (w : JournalsView). HasCommittedReads w) (sym (is ∙ ap (λ (w : JournalsView). run_from w more) ran.1 ∙ sym (run_from-append (empty_world old.levels old.limits) ran.0 more)))
     (reads (run old.levels old.limits (ran.0 ++ more)) (run_events old.levels old.limits (ran.0 ++ more)))
 
-pub reads_of_step : (old new : JournalsView) → IsOfRun old → (step : Step) (result : Result Answer Refusal)
-    → OnOk result (new ≡ world_after old step) → OnErr result (new ≡ old) → HasCommittedReads new
-reads_of_step old new ran step (Ok answer) after same = reads_of_more old new ran (step ∷ []) after
-reads_of_step old new ran step (Err reason) after same = reads_of_more old new ran [] same
-
 -- what a service sees of its fields is a run, and so is the service
 pub seen_run : (seen now : JournalsView) → seen ≡ now → IsOfRun seen → IsOfRun now
 seen_run seen now same ran = subst IsOfRun same ran

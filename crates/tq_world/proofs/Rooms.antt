@@ -4,7 +4,8 @@ use Rattle.std.specs.Prelude.{slice_get, if◌then◌else◌}
 use Rattle.std.specs.Option.{unwrap_or}
 use Rattle.tq_shape.specs.declared.part.Part.{Part}
 use Rattle.tq_shape.specs.declared.part.Part.TheVariants as parts
-use Rattle.tq_tables.specs.Journals.{JournalsView, ServerEntry}
+use Rattle.tq_tables.specs.Journals.{JournalsView}
+use Rattle.tq_node.specs.NodeJournal.{NodeEntry}
 use Rattle.tq_world.specs.declared.answer.Refusal.{Refusal}
 use Rattle.tq_world.specs.declared.answer.Refusal.TheVariants as refusals
 use Rattle.tq_world.specs.declared.citation.Citation.{Citation}
@@ -44,15 +45,15 @@ get_within (y ∷ items) (suc place) x is = let less = get_within items place x 
 pub node_room : (world : JournalsView) (server : ℕ) (citation : Option Citation) → refuse_at world server (item_at world.servers server) citation ≡ None → HasRoom world server
 node_room world server citation none = by (item_at world.servers server) refl none
   where
-    by : (entries : Option (List ServerEntry)) → item_at world.servers server ≡ entries → refuse_at world server entries citation ≡ None → HasRoom world server
+    by : (entries : Option (List NodeEntry)) → item_at world.servers server ≡ entries → refuse_at world server entries citation ≡ None → HasRoom world server
     by None is refused = absurd (let no : Path (Option Refusal) (Some refusals.NoSuchServer) None = refused in cc)
     by (Some entries) is refused =
         let here = item_above world.servers server entries is in
-        let same : server_journal world server ≡ entries = ap (λ (o : Option (List ServerEntry)). unwrap_or o []) is in
+        let same : server_journal world server ≡ entries = ap (λ (o : Option (List NodeEntry)). unwrap_or o []) is in
         let room = entry_room world (parts.Server server) (length entries) citation refused in
         record {
           above = here.0;
           within = get_within world.servers (server - 1) entries here.1;
           is_there = here.1 ∙ ap (λ x. Some x) (sym same);
-          room = subst (λ (x : List ServerEntry). length x < world.limits.entries) (sym same) room;
+          room = subst (λ (x : List NodeEntry). length x < world.limits.entries) (sym same) room;
         }

@@ -3,7 +3,8 @@ use Rattle.std.proofs.Common.{◌≡◌, ℕ, Bool, true, false, List, [], ◌�
 use Rattle.std.specs.Prelude.{Result, Ok, Err, OnOk, OnErr, if◌then◌else◌}
 use Rattle.std.proofs.lemmas.List.Sums.{fold-append}
 use Rattle.tq_shape.specs.declared.part.Part.{Part}
-use Rattle.tq_tables.specs.Journals.{JournalsView, ServerEntry}
+use Rattle.tq_tables.specs.Journals.{JournalsView}
+use Rattle.tq_node.specs.NodeJournal.{NodeEntry}
 use Rattle.tq_world.specs.declared.answer.Answer.{Answer}
 use Rattle.tq_world.specs.declared.answer.Refusal.{Refusal}
 use Rattle.tq_world.specs.declared.answer.Refusal.TheVariants.{Memory, NoSuchServer, JournalFull, Unfounded}
@@ -12,7 +13,8 @@ use Rattle.tq_world.specs.declared.answer.Step.TheVariants as steps
 use Rattle.tq_world.specs.declared.citation.Citation.{Citation}
 use Rattle.tq_world.specs.World.{item_at}
 use Rattle.tq_world.specs.Founded.{unfounded_in_node_ask, unfounded_in_desk_ask}
-use Rattle.tq_world.specs.Steps.{refuse_unfounded, refuse_at, refusal, answer, grown, told_at, world_at, world_after, run_from, is_memory, taken, IsTold, AreTold}
+use Rattle.tq_world.specs.Steps.{refuse_unfounded, refuse_at, refusal, answer, grown, told_at, world_after, run_from, is_memory, taken, IsTold, AreTold}
+use Rattle.tq_shape.specs.Steps.{state_at}
 
 -- ---- no step is refused for want of memory
 
@@ -31,7 +33,7 @@ unfolding is_for_memory
 entry_for part true citation = refl
 entry_for part false citation = citation_for citation
 
-at_for : (world : JournalsView) (server : ℕ) (entries : Option (List ServerEntry)) (citation : Option Citation) → is_for_memory (refuse_at world server entries citation) ≡ false
+at_for : (world : JournalsView) (server : ℕ) (entries : Option (List NodeEntry)) (citation : Option Citation) → is_for_memory (refuse_at world server entries citation) ≡ false
 unfolding is_for_memory
 at_for world server None citation = refl
 at_for world server (Some entries) citation = entry_for (Rattle.tq_shape.specs.declared.part.Part.TheVariants.Server server) (nat_le world.limits.entries (length entries)) citation
@@ -59,13 +61,9 @@ pub told_answer : (world : JournalsView) (step : Step) (answered : Answer) → r
 told_answer world step answered none is = ap (λ a. Ok a) is ∙ sym (ap (λ r. told_at r (answer world step)) none)
 
 pub world_grown : (world : JournalsView) (step : Step) → refusal world step ≡ None → world_after world step ≡ grown world step
-world_grown world step none = ap (λ r. world_at r world (grown world step)) none
+world_grown world step none = ap (λ r. state_at r world (grown world step)) none
 
 -- ---- steps
-
--- the world after a step that was told so
-told_world : JournalsView → Step → Result Answer Refusal → JournalsView
-told_world world step result = if is_memory result then world else world_after world step
 
 pub told-push : (world : JournalsView) (steps : List Step) (results : List (Result Answer Refusal)) (step : Step) (result : Result Answer Refusal)
     → AreTold world steps results → IsTold (run_from world (taken steps results)) step result
@@ -119,7 +117,7 @@ run-push world steps results step result told =
     by false = refl
 
 -- a step that was told a reason left the world as it was
-told_same : (old new : JournalsView) (refused : Option Refusal) (answered : Answer) (reason : Refusal) → Err reason ≡ told_at refused answered → world_at refused old new ≡ old
+told_same : (old new : JournalsView) (refused : Option Refusal) (answered : Answer) (reason : Refusal) → Err reason ≡ told_at refused answered → state_at refused old new ≡ old
 told_same old new None answered reason is = absurd (let apart : Path (Result Answer Refusal) (Err reason) (Ok answered) = is in cc)
 told_same old new (Some other) answered reason is = refl
 

@@ -16,7 +16,7 @@ use Rattle.tq_desk.specs.declared.ask.DeskReply.TheVariants as replies
 use Rattle.tq_evidence.specs.declared.op.Op.{Op}
 use Rattle.tq_evidence.specs.declared.vote.Vote.{Vote}
 use Rattle.tq_evidence.specs.Evidence.{is_write}
-use Rattle.tq_desk.specs.Log.{cited}
+use Rattle.tq_desk.specs.DeskStep.{cited}
 use Rattle.tq_shape.specs.Journal.{Has}
 use Rattle.tq_node.specs.NodeJournal.{NodeEntry, IsLegalNode, IsCited, inner, TellsAt, YesAt, InnerAt, DecisionAt, HasWrite}
 use Rattle.tq_desk.specs.DeskJournal.{DeskBounds, DeskEntry, IsLegalDesk, final, Commit, with_commit, commits, IsWritten}

@@ -24,10 +24,11 @@ use Rattle.tq_desk.specs.declared.ask.DeskReply.TheVariants as desk_replies
 use Rattle.tq_evidence.specs.declared.grant.Grant.{Grant}
 use Rattle.tq_evidence.specs.declared.op.Op.{Op}
 use Rattle.tq_evidence.specs.declared.vote.Vote.{Vote}
-use Rattle.tq_evidence.specs.Evidence.{same_name}
+use Rattle.tq_store.specs.Names.{same_name}
 use Rattle.tq_tables.specs.Journals.{JournalsView}
 use Rattle.tq_world.specs.declared.citation.Citation.{Citation}
 use Rattle.tq_world.specs.World.{item_at, server_entry}
+use Rattle.tq_shape.specs.Steps.{or_else}
 
 -- ---- equal contents
 
@@ -111,20 +112,16 @@ cited_vote vote = record { part = Server vote.server; number = vote.number }
 abbrev pub unfounded_grant : JournalsView → ℕ → List ℕ → List Grant → Option Citation
 unfounded_grant world txn file grants = option_map cited_grant (find (λ grant. not (is_founded_grant world txn file grant)) grants)
 
-abbrev pub first_of : Option Citation → Option Citation → Option Citation
-first_of None next = next
-first_of (Some citation) next = Some citation
-
 abbrev pub unfounded_op : JournalsView → ℕ → List Op → Option Citation
 unfounded_op world txn [] = None
-unfounded_op world txn (op ∷ ops) = first_of (unfounded_grant world txn op.file op.grants) (unfounded_op world txn ops)
+unfounded_op world txn (op ∷ ops) = or_else (unfounded_grant world txn op.file op.grants) (unfounded_op world txn ops)
 
 abbrev pub unfounded_vote : JournalsView → ℕ → List Vote → Option Citation
 unfounded_vote world txn votes = option_map cited_vote (find (λ vote. not (is_founded_vote world txn vote)) votes)
 
 -- a Commit cites its grants, op by op, and then its votes
 abbrev pub unfounded_in_desk_ask : JournalsView → DeskAsk → Option Citation
-unfounded_in_desk_ask world (desk_asks.Commit txn ops votes) = first_of (unfounded_op world txn ops) (unfounded_vote world txn votes)
+unfounded_in_desk_ask world (desk_asks.Commit txn ops votes) = or_else (unfounded_op world txn ops) (unfounded_vote world txn votes)
 unfounded_in_desk_ask world ask = None
 
 -- the citation, unless it is founded

@@ -3,16 +3,18 @@ use Rattle.std.specs.Prelude.{List, Option, Some}
 use Rattle.std.specs.Option.{option_map}
 use Rattle.tq_shape.specs.declared.part.Part.{Part}
 use Rattle.tq_shape.specs.declared.part.Part.TheVariants as parts
-use Rattle.tq_tables.specs.Journals.{JournalsView, ServerEntry, EntryOfDesk, EntryOfView}
+use Rattle.tq_tables.specs.Journals.{JournalsView, ViewEntry}
+use Rattle.tq_desk.specs.DeskJournal.{DeskEntry}
+use Rattle.tq_node.specs.NodeJournal.{NodeEntry}
 use Rattle.tq_world.specs.declared.answer.Journal.{Journal}
 use Rattle.tq_world.specs.declared.answer.Journal.TheVariants as lent
 use Rattle.tq_world.specs.World.{item_at}
 
 -- the entries of a server, of the desk or of the view
 pub data Entries : Type 0 where
-  OfServer : List ServerEntry → Entries
-  OfDesk : List EntryOfDesk → Entries
-  OfView : List EntryOfView → Entries
+  OfServer : List NodeEntry → Entries
+  OfDesk : List DeskEntry → Entries
+  OfView : List ViewEntry → Entries
 
 -- the entries that are lent
 abbrev pub entries_of : Journal → Entries

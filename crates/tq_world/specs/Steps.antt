@@ -8,10 +8,12 @@ use Rattle.tq_shape.specs.declared.part.Part.TheVariants.{Server, Desk, View}
 use Rattle.tq_node.specs.declared.ask.NodeAsk.{NodeAsk}
 use Rattle.tq_node.specs.Records.{node_reply}
 use Rattle.tq_desk.specs.declared.ask.DeskAsk.{DeskAsk}
-use Rattle.tq_desk.specs.Log.{desk_reply}
+use Rattle.tq_desk.specs.DeskStep.{desk_reply}
 use Rattle.tq_live.specs.declared.view.ViewAsk.{ViewAsk}
 use Rattle.tq_live.specs.View.{view_reply}
-use Rattle.tq_tables.specs.Journals.{JournalsView, ServerEntry, EntryOfDesk, EntryOfView}
+use Rattle.tq_tables.specs.Journals.{JournalsView, ViewEntry}
+use Rattle.tq_desk.specs.DeskJournal.{DeskEntry}
+use Rattle.tq_node.specs.NodeJournal.{NodeEntry}
 use Rattle.tq_world.specs.declared.answer.Answer.{Answer}
 use Rattle.tq_world.specs.declared.answer.Refusal.{Refusal}
 use Rattle.tq_world.specs.declared.answer.Refusal.TheVariants.{Memory, NoSuchServer, JournalFull, Unfounded}
@@ -21,6 +23,7 @@ use Rattle.tq_world.specs.declared.answer.Step.TheVariants as steps
 use Rattle.tq_world.specs.declared.citation.Citation.{Citation}
 use Rattle.tq_world.specs.World.{item_at, empty_world, node_at, desk_at, view_at}
 use Rattle.tq_world.specs.Founded.{unfounded_in_node_ask, unfounded_in_desk_ask}
+use Rattle.tq_shape.specs.Steps.{state_at}
 
 -- ---- what a step is refused for
 
@@ -32,7 +35,7 @@ refuse_unfounded (Some citation) = Some (Unfounded citation.part citation.number
 abbrev pub refuse_entry : JournalsView → Part → ℕ → Option Citation → Option Refusal
 refuse_entry world part entries unfounded = if nat_le world.limits.entries entries then Some (JournalFull part) else refuse_unfounded unfounded
 
-abbrev pub refuse_at : JournalsView → ℕ → Option (List ServerEntry) → Option Citation → Option Refusal
+abbrev pub refuse_at : JournalsView → ℕ → Option (List NodeEntry) → Option Citation → Option Refusal
 refuse_at world server None unfounded = Some NoSuchServer
 refuse_at world server (Some entries) unfounded = refuse_entry world (Server server) (length entries) unfounded
 
@@ -44,16 +47,16 @@ refusal world (steps.View ask) = refuse_entry world View (length world.view) Non
 
 -- ---- what it is answered, where it is not refused: the part's own reply, after the entries of its journal
 
-abbrev pub server_journal : JournalsView → ℕ → List ServerEntry
+abbrev pub server_journal : JournalsView → ℕ → List NodeEntry
 server_journal world server = unwrap_or (item_at world.servers server) []
 
-abbrev pub node_entry : JournalsView → ℕ → NodeAsk → ServerEntry
+abbrev pub node_entry : JournalsView → ℕ → NodeAsk → NodeEntry
 node_entry world server ask = entry ask (node_reply server (node_at server (server_journal world server)) ask)
 
-abbrev pub desk_entry : JournalsView → DeskAsk → EntryOfDesk
+abbrev pub desk_entry : JournalsView → DeskAsk → DeskEntry
 desk_entry world ask = entry ask (desk_reply (desk_at world.levels world.limits world.desk) ask)
 
-abbrev pub view_entry : JournalsView → ViewAsk → EntryOfView
+abbrev pub view_entry : JournalsView → ViewAsk → ViewEntry
 view_entry world ask = entry ask (view_reply (view_at world.levels world.view) ask)
 
 abbrev pub answer : JournalsView → Step → Answer
@@ -80,17 +83,13 @@ abbrev pub told_at : Option Refusal → Answer → Result Answer Refusal
 told_at None answered = Ok answered
 told_at (Some reason) answered = Err reason
 
-abbrev pub world_at : Option Refusal → JournalsView → JournalsView → JournalsView
-world_at None old new = new
-world_at (Some reason) old new = old
-
 -- what the step is told
 abbrev pub outcome : JournalsView → Step → Result Answer Refusal
 outcome world step = told_at (refusal world step) (answer world step)
 
 -- the world after the step: a refusal leaves it as it was
 abbrev pub world_after : JournalsView → Step → JournalsView
-world_after world step = world_at (refusal world step) world (grown world step)
+world_after world step = state_at (refusal world step) world (grown world step)
 
 abbrev pub run_from : JournalsView → List Step → JournalsView
 run_from world steps = fold world_after world steps

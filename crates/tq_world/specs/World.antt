@@ -2,7 +2,8 @@
 use Rattle.std.specs.Prelude.{◌-◌, ℕ, cond, nat_lt, List, [], Option, None, slice_get, replicate, ◌^◌}
 use Rattle.std.specs.Option.{option_and_then}
 use Rattle.tq_shape.specs.Limits.{LimitsView}
-use Rattle.tq_tables.specs.Journals.{JournalsView, ServerEntry}
+use Rattle.tq_tables.specs.Journals.{JournalsView}
+use Rattle.tq_node.specs.NodeJournal.{NodeEntry}
 pub use Rattle.tq_tables.specs.Parts.{node_at, desk_at, view_at}
 
 -- the item of a number, from 1
@@ -14,5 +15,5 @@ abbrev pub empty_world : ℕ → LimitsView → JournalsView
 empty_world levels limits = record { levels = levels; limits = limits; servers = replicate (2 ^ levels - 1) []; desk = []; view = [] }
 
 -- the entry of a number in a server's journal
-abbrev pub server_entry : JournalsView → ℕ → ℕ → Option ServerEntry
+abbrev pub server_entry : JournalsView → ℕ → ℕ → Option NodeEntry
 server_entry world server number = option_and_then (λ entries. item_at entries number) (item_at world.servers server)

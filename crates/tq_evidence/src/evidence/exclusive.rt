@@ -3,7 +3,6 @@
 ghost use Rattle.std.specs.Prelude.{◌≡◌};
 ghost use Rattle.tq_evidence.specs.Evidence as spec;
 
-use crate::evidence::is_write;
 use crate::{Grant, Op};
 use tq_locks::Mode;
 
@@ -16,7 +15,7 @@ pub(crate) fn are_exclusive(ops: &[Op]) -> bool
 fn has_exclusive_grants(op: &Op) -> bool
     ensures { result ≡ spec.has_exclusive_grants op.now }
 {
-    !is_write(op) || is_exclusively_granted(op.grants.as_slice())
+    !op.is_write() || is_exclusively_granted(op.grants.as_slice())
 }
 
 fn is_exclusively_granted(grants: &[Grant]) -> bool

@@ -3,7 +3,7 @@
 ghost use Rattle.std.specs.Prelude.{◌≡◌, IfOk};
 ghost use Rattle.tq_evidence.specs.Evidence as spec;
 
-use crate::Op;
+use crate::{Op, granters, rises};
 use std::alloc::Global;
 use tq_coterie::is_quorum;
 use tq_shape::{Levels, Memory};
@@ -25,23 +25,6 @@ pub(crate) fn are_quorums(alloc: Global, levels: Levels, ops: &[Op]) -> Result<b
 fn has_quorum(alloc: Global, levels: Levels, op: &Op) -> Result<bool, Memory>
     ensures { IfOk result (λ holds. holds ≡ spec.has_quorum levels op.now) }
 {
-    let servers = servers_of(alloc, op)?;
+    let servers = granters(alloc, op.grants.as_slice())?;
     Ok(rises(servers.as_slice()) && is_quorum(levels, servers.as_slice()))
-}
-
-fn servers_of(alloc: Global, op: &Op) -> Result<Vec<u64>, Memory>
-    ensures { IfOk result (λ servers. servers.items ≡ spec.servers_of op.now) }
-{
-    let grants = op.grants.as_slice();
-    grants.iter().map(|grant| grant.server).collect(alloc)
-}
-
-fn rises(numbers: &[u64]) -> bool
-    ensures { result ≡ spec.rises numbers.now }
-{
-    match numbers {
-        [] => true,
-        [_] => true,
-        [first, second, ..] => *first < *second && rises(&numbers[1..]),
-    }
 }

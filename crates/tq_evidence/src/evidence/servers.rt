@@ -13,12 +13,12 @@ pub(crate) fn is_server_of(ops: &[Op], server: u64) -> bool
 {
     match ops {
         [] => false,
-        [op, ..] => has_server(op, server) || is_server_of(&ops[1..], server),
+        [op, ..] => finds_server(op, server) || is_server_of(&ops[1..], server),
     }
 }
 
-/// Whether the op has the server.
-pub(crate) fn has_server(op: &Op, server: u64) -> bool
+/// Whether the op has the server, as `has_server` says, by halving.
+pub(crate) fn finds_server(op: &Op, server: u64) -> bool
     requires { spec.rises (spec.servers_of op.now) ≡ true }
     ensures { result ≡ spec.has_server op.now server }
 {
@@ -27,7 +27,7 @@ pub(crate) fn has_server(op: &Op, server: u64) -> bool
 }
 
 fn is_granted(grants: &[Grant], server: u64) -> bool
-    requires { spec.rises (order.granters grants.now) ≡ true }
+    requires { spec.rises (spec.granters grants.now) ≡ true }
     ensures { result ≡ order.is_granter grants.now server }
 {
     if grants.is_empty() {

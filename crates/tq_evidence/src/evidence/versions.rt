@@ -1,11 +1,9 @@
 //! Rule 5: the ops ascend by file, a read before a write and one of each at most, and have their versions.
 
 ghost use Rattle.std.specs.Prelude.{◌≡◌, ◌+◌, ◌==◌, Some};
-ghost use Rattle.std.specs.Option.{option_copied};
 ghost use Rattle.tq_evidence.specs.Evidence as spec;
 
-use crate::evidence::is_write;
-use crate::{Grant, Op, OpKind};
+use crate::{Grant, Op, OpKind, greatest_version, newest};
 
 pub(crate) fn have_versions(ops: &[Op]) -> bool
     ensures { result ≡ spec.have_versions ops.now }
@@ -27,7 +25,7 @@ fn stands_before(first: &Op, second: &Op) -> bool
     ensures { result ≡ spec.stands_before first.now second.now }
 {
     let order = first.file.cmp(&second.file);
-    order.is_lt() || (order.is_eq() && !is_write(first) && is_write(second))
+    order.is_lt() || (order.is_eq() && !first.is_write() && second.is_write())
 }
 
 fn are_versions(ops: &[Op]) -> bool
@@ -67,18 +65,4 @@ fn reads(op: &Op, grant: &Grant) -> bool
     ensures { result ≡ spec.reads_copy op.now (Some grant.now) }
 {
     op.version == grant.version && op.content == grant.content
-}
-
-/// The first grant of the greatest version.
-fn newest(grants: &[Grant]) -> Option<&Grant>
-    ensures { option_copied result ≡ spec.newest grants.now }
-{
-    let greatest = greatest_version(grants);
-    grants.iter().find(|grant| grant.version == greatest)
-}
-
-fn greatest_version(grants: &[Grant]) -> u64
-    ensures { result ≡ spec.greatest grants.now }
-{
-    grants.iter().fold(0, |most, grant| most.max(grant.version))
 }

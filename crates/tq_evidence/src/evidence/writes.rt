@@ -5,8 +5,7 @@ ghost use Rattle.std.specs.List.{list_all};
 ghost use Rattle.tq_evidence.specs.Evidence as spec;
 ghost use Rattle.tq_evidence.specs.InOrder as order;
 
-use crate::evidence::is_write;
-use crate::evidence::servers::has_server;
+use crate::evidence::servers::finds_server;
 use crate::{Op, Vote};
 use std::alloc::Global;
 use tq_shape::Memory;
@@ -46,7 +45,7 @@ fn write_ops<'a>(alloc: Global, ops: &'a [Op]) -> Result<Vec<&'a Op>, Memory>
 {
     let mut writes = Vec::new(alloc);
     for op in ops {
-        if is_write(op) {
+        if op.is_write() {
             writes.push(op)?;
         }
     }
@@ -67,20 +66,13 @@ fn are_writes_at(server: u64, voted: &[Write], writes: &[&Op]) -> bool
     match writes {
         [] => voted.is_empty(),
         [op, ..] => {
-            if !has_server(op, server) {
+            if !finds_server(op, server) {
                 return are_writes_at(server, voted, &writes[1..]);
             }
             match voted {
                 [] => false,
-                [write, ..] => is_write_of(write, op)
-                    && are_writes_at(server, &voted[1..], &writes[1..]),
+                [write, ..] => op.makes(write) && are_writes_at(server, &voted[1..], &writes[1..]),
             }
         }
     }
-}
-
-fn is_write_of(write: &Write, op: &Op) -> bool
-    ensures { result ≡ spec.is_write_of write.now op.now }
-{
-    write.file == op.file && write.version == op.version && write.content == op.content
 }

@@ -36,13 +36,13 @@ fn is_kept_at(tree: &LiveTree, plain: &Plain, number: u64) -> bool {
 /// Fails where the two disagree on any subtree, or on the choice of the whole tree.
 fn agree(alloc: Global, tree: &LiveTree, plain: &Plain) -> Result<(), Wrong> {
     for number in 1..64u64 {
-        check(is_kept_at(tree, plain, number), Wrong::Kept)?;
-        check(is_same_at(alloc, tree, plain, number)?, Wrong::Offer)?;
+        check(is_kept_at(tree, plain, number), "not kept")?;
+        check(is_same_at(alloc, tree, plain, number)?, "another offer")?;
     }
     let choice = tree.choose(alloc)?;
     let offer = offer_of(&choice);
     let wanted = plain.best(1);
-    check(offer.0 == wanted.0 && offer.1 == wanted.1, Wrong::Offer)
+    check(offer.0 == wanted.0 && offer.1 == wanted.1, "another offer")
 }
 
 /// A cost or a mark at random, in both.
@@ -62,7 +62,7 @@ fn change_both(tree: &mut LiveTree, plain: &mut Plain, dice: &mut Dice) -> Resul
 
 /// Fails where the two ever disagree in so many changes.
 fn walk(alloc: Global, count: u32, changes: u64) -> Result<(), Wrong> {
-    let levels = Levels::new(count).ok_or(Wrong::Levels)?;
+    let levels = Levels::new(count).ok_or("levels")?;
     let mut tree = LiveTree::new(alloc, levels)?;
     let mut plain = Plain::new(levels);
     let mut dice = Dice::new(u64::from(count));

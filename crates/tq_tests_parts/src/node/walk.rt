@@ -109,7 +109,12 @@ impl Walk {
     }
 
     fn wanted(&mut self, ask: &NodeAsk) -> Result<NodeReply, Wrong> {
-        let number = self.server.node.last().checked_add(1).ok_or(Wrong::Number)?;
+        let number = self
+            .server
+            .node
+            .last()
+            .checked_add(1)
+            .ok_or("another number")?;
         Ok(self.plain.answer(number, ask)?)
     }
 
@@ -126,7 +131,7 @@ impl Walk {
         for _ in 0..steps {
             self.step()?;
         }
-        check(self.installed && self.discarded, Wrong::Walk)?;
+        check(self.installed && self.discarded, "a walk of one kind")?;
         self.server.keeps(self.plain.stable.as_slice())
     }
 }

@@ -6,14 +6,14 @@ use Rattle.tq_txn.specs.declared.txn.Txn.TheVariants as states
 use Rattle.tq_client.specs.declared.kept.Kept.{Kept}
 use Rattle.tq_client.specs.Known.{in_state}
 use Rattle.tq_print.specs.Print.{printed}
-use Rattle.tq_client.proofs.Spoken.{spoken_by}
+use Rattle.tq_client.proofs.Answered.{answered_by}
 use Rattle.tq_client.proofs.endings.apply_ending.Goals as goal
 
-pub returns-clause-spoken : goal.returns-clause-spoken
-returns-clause-spoken c =
+pub returns-clause-answered : goal.returns-clause-answered
+returns-clause-answered c =
     λ kept.
     let result = c.apply_at-answer.result in
     let before = c.args.text.now.items in
-    spoken_by (apply_line c.args.number c.args.ending.verdict c.args.ending.cite c.args.server.number) (λ none. kept) no_servers (told_text c.args.server.number) c.args.recorder.now c.apply_at-answer.new.asker result tt
-    before c.say_told.new.text.items kept c.led.ensures c.led-2.ensures c.apply_at-answer.ensures.tree c.apply_at-answer.ensures.asks c.in_ok-say_told.ensures.memory
+    answered_by (apply_line c.args.number c.args.ending.verdict c.args.ending.cite c.args.server.number) (λ none. kept) no_servers (told_text c.args.server.number) c.args.recorder.now c.apply_at-answer.new.asker result tt
+    before c.say_told.new.text.items kept c.replayed.ensures c.replayed-2.ensures c.apply_at-answer.ensures.tree c.apply_at-answer.ensures.asks c.in_ok-say_told.ensures.memory
     (c.in_ok-say_told.ensures.text ∙ ap (λ n. before ++ printed (result_text [] (λ applied. applied_text n applied) result)) c.number.ensures.value) refl

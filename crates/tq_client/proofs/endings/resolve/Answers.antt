@@ -2,22 +2,22 @@ use Rattle.std.proofs.Common.{◌≡◌, Ok, Err, refl, sym, subst}
 use Rattle.tq_desk.specs.declared.ask.DeskAsk.{DeskAsk}
 use Rattle.tq_desk.specs.declared.ask.DeskAsk.TheVariants.{Resolve}
 use Rattle.tq_txn.specs.declared.fault.LineFault.{LineFault}
-use Rattle.tq_txn.specs.Line.{Went, desk_line, ended_by}
+use Rattle.tq_txn.specs.Dialogue.{Follows, desk_line, ended_by}
 use Rattle.tq_txn.proofs.LineLaws.{told_desk, refused_desk}
 use Rattle.tq_client.specs.TxnAsked.{resolve_end}
-use Rattle.tq_client.proofs.Spoken.{said_by}
+use Rattle.tq_client.proofs.Answered.{said_by}
 use Rattle.tq_client.proofs.endings.resolve.Goals as goal
 
-pub returns-in_ok-resolved-in-Ok-clause-spoken : goal.returns-in_ok-resolved-in-Ok-clause-spoken
-returns-in_ok-resolved-in-Ok-clause-spoken c =
+pub returns-in_ok-resolved-in-Ok-clause-answered : goal.returns-in_ok-resolved-in-Ok-clause-answered
+returns-in_ok-resolved-in-Ok-clause-answered c =
     let ask : DeskAsk = Resolve c.args.number in
     said_by (desk_line ask) (λ end. resolve_end c.args.kept end.answer) c.args.recorder.now c.desk-answer.new.self (Ok c.in-Ok.told) tt c.args.text.now.items c.resolved.new.text.items c.in_ok-resolved-in-Ok.field-0
-    c.led.ensures c.led-2.ensures c.in-Ok.ensures.tree (told_desk ask c.in-Ok.told c.args.recorder.now.told c.desk-answer.new.self.told c.in-Ok.ensures.heard c.in-Ok.ensures.same) refl c.in_ok-resolved-in-Ok.ensures.text c.in_ok-resolved-in-Ok.ensures.kept
+    c.replayed.ensures c.replayed-2.ensures c.in-Ok.ensures.tree (told_desk ask c.in-Ok.told c.args.recorder.now.told c.desk-answer.new.self.told c.in-Ok.ensures.exchanges c.in-Ok.ensures.same) refl c.in_ok-resolved-in-Ok.ensures.text c.in_ok-resolved-in-Ok.ensures.kept
 
-pub returns-in_ok-say_fault-in-Err-clause-spoken : goal.returns-in_ok-say_fault-in-Err-clause-spoken
-returns-in_ok-say_fault-in-Err-clause-spoken c =
+pub returns-in_ok-say_fault-in-Err-clause-answered : goal.returns-in_ok-say_fault-in-Err-clause-answered
+returns-in_ok-say_fault-in-Err-clause-answered c =
     let ask : DeskAsk = Resolve c.args.number in
-    let P : LineFault → Type 0 = λ f. Went (desk_line ask) c.args.recorder.now.told c.desk-answer.new.self.told (ended_by (Err f) tt) in
+    let P : LineFault → Type 0 = λ f. Follows (desk_line ask) c.args.recorder.now.told c.desk-answer.new.self.told (ended_by (Err f) tt) in
     said_by (desk_line ask) (λ end. resolve_end c.args.kept end.answer) c.args.recorder.now c.desk-answer.new.self (Err c.from.result) tt c.args.text.now.items c.say_fault.new.text.items c.args.kept
-    c.led.ensures c.led-2.ensures c.in-Err.ensures.tree (subst P (sym c.from.ensures) (refused_desk ask c.in-Err.fault c.args.recorder.now.told c.desk-answer.new.self.told c.in-Err.ensures.heard)) c.in_ok-say_fault-in-Err.ensures.memory
+    c.replayed.ensures c.replayed-2.ensures c.in-Err.ensures.tree (subst P (sym c.from.ensures) (refused_desk ask c.in-Err.fault c.args.recorder.now.told c.desk-answer.new.self.told c.in-Err.ensures.exchanges)) c.in_ok-say_fault-in-Err.ensures.memory
     c.in_ok-say_fault-in-Err.ensures.text refl

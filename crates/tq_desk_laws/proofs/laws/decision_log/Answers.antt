@@ -1,5 +1,5 @@
 use Rattle.tq_desk_laws.proofs.DeskFinal as final
-use Rattle.tq_desk.proofs.DeskLog as log
+use Rattle.tq_desk.proofs.DecisionLog as log
 use Rattle.tq_desk.proofs.WrittenNames as names
 use Rattle.tq_desk_laws.proofs.laws.decision_log.Goals as goal
 

@@ -1,6 +1,6 @@
 use Rattle.tq_txn.specs.Aborts.{abort_end, resolved}
-use Rattle.tq_txn.proofs.LineLaws.{went_memory}
+use Rattle.tq_txn.proofs.LineLaws.{follows_memory}
 use Rattle.tq_txn.proofs.aborts.resolve_and_end.Goals as goal
 
 pub returns-in-Err-clause-asks : goal.returns-in-Err-clause-asks
-returns-in-Err-clause-asks g c = went_memory (abort_end c.args.told.reply (resolved c.args.txn c.args.told)) (g.A.Asker.told c.args.asker.now)
+returns-in-Err-clause-asks g c = follows_memory (abort_end c.args.told.reply (resolved c.args.txn c.args.told)) (g.A.Asker.told c.args.asker.now)

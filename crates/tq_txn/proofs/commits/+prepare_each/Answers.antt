@@ -1,5 +1,5 @@
 use Rattle.std.proofs.Common.{◌-◌, length, take, drop}
-use Rattle.tq_txn.specs.Line.{ended_by}
+use Rattle.tq_txn.specs.Dialogue.{ended_by}
 use Rattle.tq_txn.proofs.LineLaws.{first_rest}
 use Rattle.tq_txn.proofs.CommitLaws.{prepares_on, prepares_off}
 use Rattle.tq_txn.proofs.commits.+prepare_each.Goals as goal

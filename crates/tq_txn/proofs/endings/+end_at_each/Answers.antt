@@ -1,5 +1,5 @@
 use Rattle.std.proofs.Common.{◌-◌, length, take, drop}
-use Rattle.tq_txn.specs.Line.{ended_by}
+use Rattle.tq_txn.specs.Dialogue.{ended_by}
 use Rattle.tq_txn.proofs.LineLaws.{first_rest, ending_on, ending_off}
 use Rattle.tq_txn.proofs.endings.+end_at_each.Goals as goal
 

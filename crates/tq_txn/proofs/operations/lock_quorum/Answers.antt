@@ -1,7 +1,7 @@
 use Rattle.std.proofs.Common.{◌≡◌, ◌==◌, ◌∙◌, ℕ, List, true, sym, subst, Some, Ok}
 use Rattle.std.specs.List.{list_all}
 use Rattle.tq_states.specs.declared.told.NodeTold.{NodeTold}
-use Rattle.tq_txn.specs.Line.{Went}
+use Rattle.tq_txn.specs.Dialogue.{Follows}
 use Rattle.tq_txn.specs.Lines.{quorum_line}
 use Rattle.tq_txn.proofs.LineLaws.{quorum_off, quorum_stopped, quorum_locked}
 use Rattle.tq_states.proofs.Tested.{of_tree}
@@ -19,7 +19,7 @@ lock_each-requires-clause-of_tree g c =
 
 pub returns-in-Ok-lock_each-clause-asks : goal.returns-in-Ok-lock_each-clause-asks
 returns-in-Ok-lock_each-clause-asks g c =
-    let P : List NodeTold → Type 0 = λ xs. Went (quorum_line c.args.file.now c.args.mode c.args.open.now) (g.A.Asker.told c.args.asker.now) (g.A.Asker.told c.lock_each.new.asker) (Some (record { answer = Ok xs; after = c.lock_each.new.open })) in
+    let P : List NodeTold → Type 0 = λ xs. Follows (quorum_line c.args.file.now c.args.mode c.args.open.now) (g.A.Asker.told c.args.asker.now) (g.A.Asker.told c.lock_each.new.asker) (Some (record { answer = Ok xs; after = c.lock_each.new.open })) in
     subst P (sym c.from_vec.ensures)
     (quorum_locked c.args.file.now c.args.mode c.levels.result c.args.open.now c.levels.ensures c.in-Ok.quorum.servers c.servers.result.now c.new-answers.result.items c.servers.ensures.numbers c.new-answers.ensures.items
     (g.A.Asker.told c.args.asker.now) (g.A.Asker.told c.choose.new.asker) c.in-Ok.ensures.asks record { answers = c.lock_each.new.answers.items; txn = c.lock_each.new.open } (g.A.Asker.told c.lock_each.new.asker) c.in-Ok-lock_each.ensures.asks)

@@ -1,25 +1,25 @@
 use Rattle.std.proofs.Common.{Some, Ok, Err, refl}
 use Rattle.tq_locks.specs.declared.mode.Mode.TheVariants.{Shared}
 use Rattle.tq_txn.specs.declared.reading.Reading.TheVariants.{Copy}
-use Rattle.tq_txn.specs.Line.{ended_by}
+use Rattle.tq_txn.specs.Dialogue.{ended_by}
 use Rattle.tq_txn.specs.Lines.{quorum_line, read_end}
-use Rattle.tq_txn.proofs.LineLaws.{went_off, went_on, read_ended, read_refused}
+use Rattle.tq_txn.proofs.LineLaws.{follows_off, follows_on, read_ended, read_refused}
 use Rattle.tq_txn.proofs.operations.read_at_quorum.Goals as goal
 
 pub returns-in-Err-clause-asks : goal.returns-in-Err-clause-asks
 returns-in-Err-clause-asks g c =
-    went_off (quorum_line c.args.file.now Shared c.args.open.now) (λ new. new) (λ told new. read_end c.args.file.now told new) c.in-Err.fault c.lock_quorum.new.open c.lock_quorum.new.open (g.A.Asker.told c.args.asker.now) (g.A.Asker.told c.lock_quorum.new.asker) refl c.in-Err.ensures.asks
+    follows_off (quorum_line c.args.file.now Shared c.args.open.now) (λ new. new) (λ told new. read_end c.args.file.now told new) c.in-Err.fault c.lock_quorum.new.open c.lock_quorum.new.open (g.A.Asker.told c.args.asker.now) (g.A.Asker.told c.lock_quorum.new.asker) refl c.in-Err.ensures.asks
 
 pub returns-in-Ok-read-clause-asks : goal.returns-in-Ok-read-clause-asks
 returns-in-Ok-read-clause-asks g c =
     let told = g.A.Asker.told c.lock_quorum.new.asker in
-    went_on (quorum_line c.args.file.now Shared c.args.open.now) (λ new. new) (λ told new. read_end c.args.file.now told new) c.in-Ok.answers c.lock_quorum.new.open (g.A.Asker.told c.args.asker.now) told told
+    follows_on (quorum_line c.args.file.now Shared c.args.open.now) (λ new. new) (λ told new. read_end c.args.file.now told new) c.in-Ok.answers c.lock_quorum.new.open (g.A.Asker.told c.args.asker.now) told told
     (Some (record { answer = Ok (Copy c.in-Ok-read.copy); after = c.read.new.self })) c.in-Ok.ensures.asks
     (read_ended c.args.file.now c.in-Ok.answers c.as_slice.result.now c.lock_quorum.new.open c.read.new.self c.in-Ok-read.copy told c.as_slice.ensures c.in-Ok-read.ensures.succeeds c.in-Ok-read.ensures.value c.in-Ok-read.ensures.after)
 
 pub returns-clause-asks : goal.returns-clause-asks
 returns-clause-asks g c =
     let told = g.A.Asker.told c.lock_quorum.new.asker in
-    went_on (quorum_line c.args.file.now Shared c.args.open.now) (λ new. new) (λ told new. read_end c.args.file.now told new) c.in-Ok.answers c.lock_quorum.new.open (g.A.Asker.told c.args.asker.now) told told
+    follows_on (quorum_line c.args.file.now Shared c.args.open.now) (λ new. new) (λ told new. read_end c.args.file.now told new) c.in-Ok.answers c.lock_quorum.new.open (g.A.Asker.told c.args.asker.now) told told
     (ended_by (Err c.from.result) c.read.new.self) c.in-Ok.ensures.asks
     (read_refused c.args.file.now c.in-Ok.answers c.as_slice.result.now c.lock_quorum.new.open c.read.new.self c.in-Err-read.fault c.from.result told c.as_slice.ensures c.in-Err-read.ensures.fault c.in-Err-read.ensures.err c.from.ensures)

@@ -1,45 +1,42 @@
-use Rattle.std.proofs.Common.{◌≡◌, ◌∙◌, ◌++◌, ◌∷◌, [], refl, sym, ap}
-use Rattle.tq_txn.specs.declared.asker.Heard.TheVariants as heard
-use Rattle.tq_txn.specs.declared.asker.Told.TheVariants as told
+use Rattle.std.proofs.Common.{◌≡◌, ◌∙◌, ◌++◌, ◌∷◌, [], ℕ, Ok, Err, refl, sym, ap, subst}
+use Rattle.tq_txn.specs.declared.asker.Exchange.TheVariants as exchanges
+use Rattle.tq_txn.specs.Dialogue.{unless_memory}
 use Rattle.tq_asking.specs.Recorded.{RecorderView}
-use Rattle.tq_asking.proofs.Recording.{asked_desk, asked_fault}
+use Rattle.tq_asking.proofs.Recording.{asked_desk, desk_fault}
 use Rattle.tq_asking.proofs.recorder.RecorderAsker.desk.Goals as goal
 
-pub invariant_of-self-in-Answer : goal.invariant_of-self-in-Answer
-invariant_of-self-in-Answer c =
-    (asked_desk c.self.inside.service c.step_desk.new.service c.self.inside.faults.items c.make_room.new.faults.items c.self.inside.order.items c.make_room.new.order.items c.push_reserved.new.self.items c.in-Answer.number c.args.ask c.in-Answer.reply
-    c.self.invariant c.make_room.ensures.faults c.make_room.ensures.order c.push_reserved.ensures.items (sym c.in-Answer.is ∙ c.in-Ok-step_desk.ensures.0, c.in-Ok-step_desk.ensures.1)).kept
+pub invariant_of-self-in-Ok : goal.invariant_of-self-in-Ok
+invariant_of-self-in-Ok c =
+    let asked = asked_desk c.self.inside.service c.ask_desk.new.self c.self.inside.faults.items c.make_room.new.faults.items c.self.inside.order.items c.make_room.new.order.items c.self.invariant c.make_room.ensures.faults c.make_room.ensures.order
+    c.push_reserved.new.self.items c.args.ask c.in-Ok.told c.push_reserved.ensures.items c.in-Ok.ensures.told c.in-Ok.ensures.after in
+    asked.kept
 
-pub returns-in-Answer-clause-heard : goal.returns-in-Answer-clause-heard
-returns-in-Answer-clause-heard c =
-    (asked_desk c.self.inside.service c.step_desk.new.service c.self.inside.faults.items c.make_room.new.faults.items c.self.inside.order.items c.make_room.new.order.items c.push_reserved.new.self.items c.in-Answer.number c.args.ask c.in-Answer.reply
-    c.self.invariant c.make_room.ensures.faults c.make_room.ensures.order c.push_reserved.ensures.items (sym c.in-Answer.is ∙ c.in-Ok-step_desk.ensures.0, c.in-Ok-step_desk.ensures.1)).told
-    ∙ ap (λ (v : RecorderView). v.told ++ heard.Desk c.args.ask (told.Answer c.in-Answer.number c.in-Answer.reply) ∷ []) c.self.view_is
+pub returns-in-Ok-clause-exchanges : goal.returns-in-Ok-clause-exchanges
+returns-in-Ok-clause-exchanges c =
+    let asked = asked_desk c.self.inside.service c.ask_desk.new.self c.self.inside.faults.items c.make_room.new.faults.items c.self.inside.order.items c.make_room.new.order.items c.self.invariant c.make_room.ensures.faults c.make_room.ensures.order
+    c.push_reserved.new.self.items c.args.ask c.in-Ok.told c.push_reserved.ensures.items c.in-Ok.ensures.told c.in-Ok.ensures.after in
+    asked.told ∙ ap (λ (v : RecorderView). v.told ++ exchanges.Desk c.args.ask (Ok c.in-Ok.told) ∷ []) c.self.view_is
 
-pub returns-in-Answer-clause-tree : goal.returns-in-Answer-clause-tree
-returns-in-Answer-clause-tree c =
-    (asked_desk c.self.inside.service c.step_desk.new.service c.self.inside.faults.items c.make_room.new.faults.items c.self.inside.order.items c.make_room.new.order.items c.push_reserved.new.self.items c.in-Answer.number c.args.ask c.in-Answer.reply
-    c.self.invariant c.make_room.ensures.faults c.make_room.ensures.order c.push_reserved.ensures.items (sym c.in-Answer.is ∙ c.in-Ok-step_desk.ensures.0, c.in-Ok-step_desk.ensures.1)).tree
-    ∙ ap (λ (v : RecorderView). v.journals.levels) c.self.view_is
+pub returns-in-Ok-clause-tree : goal.returns-in-Ok-clause-tree
+returns-in-Ok-clause-tree c =
+    let asked = asked_desk c.self.inside.service c.ask_desk.new.self c.self.inside.faults.items c.make_room.new.faults.items c.self.inside.order.items c.make_room.new.order.items c.self.invariant c.make_room.ensures.faults c.make_room.ensures.order
+    c.push_reserved.new.self.items c.args.ask c.in-Ok.told c.push_reserved.ensures.items c.in-Ok.ensures.told c.in-Ok.ensures.after in
+    asked.tree ∙ ap (λ (v : RecorderView). v.journals.levels) c.self.view_is
 
-pub invariant_of-self-in-Full : goal.invariant_of-self-in-Full
-invariant_of-self-in-Full c =
-    (asked_fault c.self.inside.service c.step_desk.new.service c.self.inside.faults.items c.make_room.new.faults.items c.note_fault.new.faults.items c.self.inside.order.items c.make_room.new.order.items c.note_fault.new.order.items _ (heard.Desk c.args.ask (told.Full c.in-Full.part))
-    c.self.invariant c.make_room.ensures.faults c.make_room.ensures.order refl (c.note_fault.ensures.faults ∙ ap (λ a. c.make_room.new.faults.items ++ heard.Desk a (told.Full c.in-Full.part) ∷ []) c.in-Ok.ensures) c.note_fault.ensures.order (sym c.in-Full.is ∙ c.in-Ok-step_desk.ensures.0) c.in-Ok-step_desk.ensures.1).kept
+pub invariant_of-self-in-Err : goal.invariant_of-self-in-Err
+invariant_of-self-in-Err c =
+    let asked = desk_fault c.self.inside.service c.ask_desk.new.self c.self.inside.faults.items c.make_room.new.faults.items c.self.inside.order.items c.make_room.new.order.items c.self.invariant c.make_room.ensures.faults c.make_room.ensures.order
+    c.note_fault.new.faults.items c.note_fault.new.order.items c.in-Err.ensures.err c.args.ask c.in-Err.fault c.in-Err.ensures.told (c.note_fault.ensures.faults ∙ ap (λ a. c.make_room.new.faults.items ++ unless_memory c.in-Err.fault (exchanges.Desk a (Err c.in-Err.fault))) c.in_ok-copy.ensures) c.note_fault.ensures.order in
+    asked.kept
 
-pub returns-in-Full-clause-heard : goal.returns-in-Full-clause-heard
-returns-in-Full-clause-heard c =
-    (asked_fault c.self.inside.service c.step_desk.new.service c.self.inside.faults.items c.make_room.new.faults.items c.note_fault.new.faults.items c.self.inside.order.items c.make_room.new.order.items c.note_fault.new.order.items _ (heard.Desk c.args.ask (told.Full c.in-Full.part))
-    c.self.invariant c.make_room.ensures.faults c.make_room.ensures.order refl (c.note_fault.ensures.faults ∙ ap (λ a. c.make_room.new.faults.items ++ heard.Desk a (told.Full c.in-Full.part) ∷ []) c.in-Ok.ensures) c.note_fault.ensures.order (sym c.in-Full.is ∙ c.in-Ok-step_desk.ensures.0) c.in-Ok-step_desk.ensures.1).told
-    ∙ ap (λ (v : RecorderView). v.told ++ heard.Desk c.args.ask (told.Full c.in-Full.part) ∷ []) c.self.view_is
+pub returns-in-Err-clause-exchanges : goal.returns-in-Err-clause-exchanges
+returns-in-Err-clause-exchanges c =
+    let asked = desk_fault c.self.inside.service c.ask_desk.new.self c.self.inside.faults.items c.make_room.new.faults.items c.self.inside.order.items c.make_room.new.order.items c.self.invariant c.make_room.ensures.faults c.make_room.ensures.order
+    c.note_fault.new.faults.items c.note_fault.new.order.items c.in-Err.ensures.err c.args.ask c.in-Err.fault c.in-Err.ensures.told (c.note_fault.ensures.faults ∙ ap (λ a. c.make_room.new.faults.items ++ unless_memory c.in-Err.fault (exchanges.Desk a (Err c.in-Err.fault))) c.in_ok-copy.ensures) c.note_fault.ensures.order in
+    asked.told ∙ ap (λ (v : RecorderView). v.told ++ unless_memory c.in-Err.fault (exchanges.Desk c.args.ask (Err c.in-Err.fault))) c.self.view_is
 
-pub invariant_of-self-in-NotFounded : goal.invariant_of-self-in-NotFounded
-invariant_of-self-in-NotFounded c =
-    (asked_fault c.self.inside.service c.step_desk.new.service c.self.inside.faults.items c.make_room.new.faults.items c.note_fault-in-NotFounded.new.faults.items c.self.inside.order.items c.make_room.new.order.items c.note_fault-in-NotFounded.new.order.items _ (heard.Desk c.args.ask (told.NotFounded c.in-NotFounded.part c.in-NotFounded.number))
-    c.self.invariant c.make_room.ensures.faults c.make_room.ensures.order refl (c.note_fault-in-NotFounded.ensures.faults ∙ ap (λ a. c.make_room.new.faults.items ++ heard.Desk a (told.NotFounded c.in-NotFounded.part c.in-NotFounded.number) ∷ []) c.in-Ok.ensures) c.note_fault-in-NotFounded.ensures.order (sym c.in-NotFounded.is ∙ c.in-Ok-step_desk.ensures.0) c.in-Ok-step_desk.ensures.1).kept
-
-pub returns-in-NotFounded-clause-heard : goal.returns-in-NotFounded-clause-heard
-returns-in-NotFounded-clause-heard c =
-    (asked_fault c.self.inside.service c.step_desk.new.service c.self.inside.faults.items c.make_room.new.faults.items c.note_fault-in-NotFounded.new.faults.items c.self.inside.order.items c.make_room.new.order.items c.note_fault-in-NotFounded.new.order.items _ (heard.Desk c.args.ask (told.NotFounded c.in-NotFounded.part c.in-NotFounded.number))
-    c.self.invariant c.make_room.ensures.faults c.make_room.ensures.order refl (c.note_fault-in-NotFounded.ensures.faults ∙ ap (λ a. c.make_room.new.faults.items ++ heard.Desk a (told.NotFounded c.in-NotFounded.part c.in-NotFounded.number) ∷ []) c.in-Ok.ensures) c.note_fault-in-NotFounded.ensures.order (sym c.in-NotFounded.is ∙ c.in-Ok-step_desk.ensures.0) c.in-Ok-step_desk.ensures.1).told
-    ∙ ap (λ (v : RecorderView). v.told ++ heard.Desk c.args.ask (told.NotFounded c.in-NotFounded.part c.in-NotFounded.number) ∷ []) c.self.view_is
+pub returns-in-Err-clause-tree : goal.returns-in-Err-clause-tree
+returns-in-Err-clause-tree c =
+    let asked = desk_fault c.self.inside.service c.ask_desk.new.self c.self.inside.faults.items c.make_room.new.faults.items c.self.inside.order.items c.make_room.new.order.items c.self.invariant c.make_room.ensures.faults c.make_room.ensures.order
+    c.note_fault.new.faults.items c.note_fault.new.order.items c.in-Err.ensures.err c.args.ask c.in-Err.fault c.in-Err.ensures.told (c.note_fault.ensures.faults ∙ ap (λ a. c.make_room.new.faults.items ++ unless_memory c.in-Err.fault (exchanges.Desk a (Err c.in-Err.fault))) c.in_ok-copy.ensures) c.note_fault.ensures.order in
+    asked.tree ∙ ap (λ (v : RecorderView). v.journals.levels) c.self.view_is

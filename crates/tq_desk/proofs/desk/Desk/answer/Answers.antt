@@ -1,7 +1,7 @@
 use Rattle.std.proofs.Common.{◌∙◌, ap}
 use Rattle.tq_desk.specs.DeskChanges.{desk_changed}
-use Rattle.tq_desk.specs.DeskStep.{change_leads}
-use Rattle.tq_desk.proofs.DeskLog.{answers}
+use Rattle.tq_desk.specs.DeskPlans.{change_leads}
+use Rattle.tq_desk.proofs.DecisionLog.{answers}
 use Rattle.tq_desk.proofs.desk.Desk.answer.Goals as goal
 
 pub returns-clause-after : goal.returns-clause-after

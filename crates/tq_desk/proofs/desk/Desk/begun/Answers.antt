@@ -1,5 +1,5 @@
 use Rattle.std.proofs.Common.{ap, ◌∙◌}
-use Rattle.tq_desk.proofs.DeskLog.{desk_keeps}
+use Rattle.tq_desk.proofs.DecisionLog.{desk_keeps}
 use Rattle.tq_desk.proofs.desk.Desk.begun.Goals as goal
 
 pub returns-clause-journal : goal.returns-clause-journal

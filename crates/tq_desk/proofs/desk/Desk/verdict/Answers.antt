@@ -1,6 +1,6 @@
 use Rattle.std.proofs.Common.{ap, ◌∙◌}
 use Rattle.std.specs.FinMap as fin
-use Rattle.tq_desk.proofs.DeskLog.{desk_keeps}
+use Rattle.tq_desk.proofs.DecisionLog.{desk_keeps}
 use Rattle.tq_desk.proofs.desk.Desk.verdict.Goals as goal
 
 pub returns-clause-journal : goal.returns-clause-journal

@@ -1,6 +1,6 @@
 use Rattle.std.proofs.Common.{◌≡◌, drop}
 use Rattle.std.specs.FinMap as fin
-use Rattle.tq_desk.specs.Log.{with_files}
+use Rattle.tq_desk.specs.DeskStep.{with_files}
 use Rattle.tq_tables.proofs.file_names.FileNames.written.Given as goal
 
 abbrev pub invariant-loop-op : goal.invariant-loop-op

@@ -3,10 +3,11 @@ use Rattle.std.proofs.Common.{◌+◌, ◌<◌, ◌^◌, ℕ, map, refl, ap, sym
 use Rattle.std.proofs.lemmas.Map.Iter.{rest_more}
 use Rattle.std.specs.FinMap as fin
 use Rattle.std.specs.Map.Iter.{deref_pair}
-use Rattle.tq_evidence.specs.Evidence.{same_name}
+use Rattle.tq_store.specs.Names.{same_name}
 use Rattle.tq_tables.specs.Counted as spec
 use Rattle.tq_tables.proofs.Counting.{count_in-other}
-use Rattle.tq_tables.proofs.Names.{Apart, Apart-keys, differ, is_in, or_true, same_name-refl}
+use Rattle.tq_tables.proofs.Names.{Apart, Apart-keys, differ, is_in, or_true}
+use Rattle.tq_store.proofs.SameName.{same_name-refl}
 use Rattle.tq_tables.proofs.write_counts.WriteCounts.count_all.Goals as goal
 
 pub loop-name-init : goal.loop-name-init

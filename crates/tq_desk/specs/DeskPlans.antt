@@ -1,0 +1,93 @@
+-- The desk's plans may be made, and lead where its asks do; its settings stay, and at most one transaction begins.
+use Rattle.std.specs.Prelude.{not, nat_lt}
+use Rattle.std.proofs.Common.{◌≡◌, ◌≤◌, ◌<◌, ◌+◌, ℕ, Bool, true, false, List, [], ◌∷◌, Option, Some, None, map, filter, fold, cond, length, refl, ap, arith}
+use Rattle.std.specs.FinMap as fin
+use Rattle.tq_shape.specs.Limits.{LimitsView}
+use Rattle.tq_node.specs.declared.ask.Verdict.{Verdict}
+use Rattle.tq_desk.specs.declared.ask.DeskAsk.{DeskAsk}
+use Rattle.tq_desk.specs.declared.ask.DeskAsk.TheVariants as asks
+use Rattle.tq_desk.specs.declared.ask.DeskRefusal.{DeskRefusal}
+use Rattle.tq_desk.specs.declared.ask.DeskRefusal.TheVariants as refusals
+use Rattle.tq_evidence.specs.declared.op.Op.{Op}
+use Rattle.tq_evidence.specs.declared.vote.Vote.{Vote}
+use Rattle.tq_desk.specs.declared.change.DeskChange.{DeskChange}
+use Rattle.tq_desk.specs.declared.change.DeskChange.TheVariants as changes
+use Rattle.tq_evidence.specs.Evidence.{failed_rule, is_write}
+use Rattle.tq_desk.specs.DeskStep.{DeskView, FileSet, committed, desk_after, desk_answered, desk_refusal, is_begun, opening, resolved, with_file, with_files}
+use Rattle.tq_shape.specs.Steps.{refuse, refuse_for, state_at}
+use Rattle.tq_desk.specs.DeskChanges.{abort_unless, change_at, change_of, desk_change, desk_changed, names_written, with_names, DeskFits}
+use Rattle.tq_shape.specs.Unrefused.{refuse-none, refuse_for-none}
+
+-- ---- a plan may be made
+
+not_ended : (old : DeskView) (txn : ℕ) (ops : List Op) (votes : List Vote) → desk_refusal old (asks.Commit txn ops votes) ≡ None → fin.get old.finals txn ≡ None
+not_ended old txn ops votes h = (refuse_for-none (fin.get old.finals txn) refusals.Decided _ (refuse-none (not (is_begun old txn)) refusals.NoSuchTxn _ h).1).0
+
+abort_fits : (old : DeskView) (txn : ℕ) (ended : Option Verdict) → fin.get old.finals txn ≡ ended → DeskFits old (abort_unless ended txn)
+abort_fits old txn None h = h
+abort_fits old txn (Some verdict) h = tt
+
+fits_at : (old : DeskView) (change : DeskChange) (reason : Option DeskRefusal) → (reason ≡ None → DeskFits old change) → DeskFits old (change_at reason change)
+fits_at old change None h = h refl
+fits_at old change (Some reason) h = tt
+
+pub change_fits : (old : DeskView) (ask : DeskAsk) → DeskFits old (desk_change old ask)
+change_fits old asks.Begin = tt
+change_fits old (asks.Resolve txn) =
+    fits_at old (change_of old (asks.Resolve txn)) (desk_refusal old (asks.Resolve txn)) (λ h. abort_fits old txn (fin.get old.finals txn) refl)
+change_fits old (asks.Commit txn ops votes) =
+    fits_at old (change_of old (asks.Commit txn ops votes)) (desk_refusal old (asks.Commit txn ops votes)) (not_ended old txn ops votes)
+
+-- ---- a plan leads where its ask does
+
+pub names_same : (files : FileSet) (ops : List Op) → with_names files (names_written ops) ≡ with_files files ops
+names_same files ops = fused files (filter is_write ops)
+  where
+    fused : (files : FileSet) (ops : List Op) → fold with_file files (map (λ op. op.file) ops) ≡ fold (λ done op. with_file done op.file) files ops
+    fused files [] = refl
+    fused files (op ∷ ops) = fused (with_file files op.file) ops
+
+abort_leads : (old : DeskView) (txn : ℕ) (ended : Option Verdict) → desk_changed old (abort_unless ended txn) ≡ record old { finals = resolved ended old.finals txn }
+abort_leads old txn None = refl
+abort_leads old txn (Some verdict) = refl
+
+leads_of : (old : DeskView) (ask : DeskAsk) → desk_changed old (change_of old ask) ≡ desk_answered old ask
+leads_of old asks.Begin = refl
+leads_of old (asks.Resolve txn) = abort_leads old txn (fin.get old.finals txn)
+leads_of old (asks.Commit txn ops votes) = ap (λ files. record (committed old txn ops votes) { files = files }) (names_same old.files ops)
+
+leads_at : (old new : DeskView) (change : DeskChange) (reason : Option DeskRefusal) → desk_changed old change ≡ new → desk_changed old (change_at reason change) ≡ state_at reason old new
+leads_at old new change None h = h
+leads_at old new change (Some reason) h = refl
+
+pub change_leads : (old : DeskView) (ask : DeskAsk) → desk_changed old (desk_change old ask) ≡ desk_after old ask
+change_leads old ask = leads_at old (desk_answered old ask) (change_of old ask) (desk_refusal old ask) (leads_of old ask)
+
+-- ---- what stays
+
+opens_same : (old new : DeskView) (reason : Option DeskRefusal) → opening new.levels new.limits ≡ opening old.levels old.limits → opening (state_at reason old new).levels (state_at reason old new).limits ≡ opening old.levels old.limits
+opens_same old new None h = h
+opens_same old new (Some reason) h = refl
+
+answered_opens : (old : DeskView) (ask : DeskAsk) → opening (desk_answered old ask).levels (desk_answered old ask).limits ≡ opening old.levels old.limits
+answered_opens old asks.Begin = refl
+answered_opens old (asks.Resolve txn) = refl
+answered_opens old (asks.Commit txn ops votes) = refl
+
+pub keeps_settings : (old : DeskView) (ask : DeskAsk) → opening (desk_after old ask).levels (desk_after old ask).limits ≡ opening old.levels old.limits
+keeps_settings old ask = opens_same old (desk_answered old ask) (desk_refusal old ask) (answered_opens old ask)
+
+one_at : (old new : DeskView) (n : ℕ) (reason : Option DeskRefusal) → old.begun < n → new.begun ≤ old.begun + 1 → (state_at reason old new).begun < n + 1
+one_at old new n None less most = omega arith
+one_at old new n (Some reason) less most = omega arith
+
+one_more : (old : DeskView) (ask : DeskAsk) → (desk_answered old ask).begun ≤ old.begun + 1
+one_more old asks.Begin = omega arith
+one_more old (asks.Resolve txn) = omega arith
+one_more old (asks.Commit txn ops votes) = omega arith
+
+pub stays_ready : (old : DeskView) (n : ℕ) (ask : DeskAsk) → old.begun < n → (desk_after old ask).begun < n + 1
+stays_ready old n ask less = one_at old (desk_answered old ask) n (desk_refusal old ask) less (one_more old ask)
+
+pub opens_ready : (levels : ℕ) (limits : LimitsView) → (opening levels limits).begun < 1
+opens_ready levels limits = omega arith

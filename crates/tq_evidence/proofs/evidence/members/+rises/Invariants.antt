@@ -1,5 +1,0 @@
-use Rattle.std.proofs.Common.{length}
-use Rattle.tq_evidence.proofs.evidence.members.+rises.Given as goal
-
-abbrev pub decreases-rises : goal.decreases-rises
-decreases-rises l = length l.numbers.now
