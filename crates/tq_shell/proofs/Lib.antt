@@ -1,4 +1,5 @@
 mod StreamLaws
+mod Pieces
 mod Written
 mod RunLaws
 mod Answering

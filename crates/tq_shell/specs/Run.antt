@@ -2,7 +2,7 @@
 use Rattle.std.specs.Prelude.{◌≡◌, ℕ, ◌+◌, ◌<◌, ◌≤◌, List, ◌++◌, Option, Result, Ok, Err, length, take}
 use Rattle.std.specs.Io.KnownBytes.{Appends}
 use Rattle.tq_shell.specs.Text.{text_of, whole_text}
-use Rattle.tq_shell.specs.Stream.{Heard, silence, heard_all, said_all}
+use Rattle.tq_shell.specs.Stream.{Received, nothing_received, received_all, answers_to}
 use Rattle.tq_shell.specs.declared.runner.TheConstants.{INPUT_LIMIT}
 use Rattle.tq_shell.specs.declared.runner.RunFault.{RunFault}
 use Rattle.tq_shell.specs.declared.runner.RunFault.TheVariants.{Memory, Read, Write, TooLong}
@@ -34,10 +34,10 @@ IsWritten (Err Memory) bytes taken taken_after failed failed_after = ⊥
 IsWritten (Err Read) bytes taken taken_after failed failed_after = ⊥
 IsWritten (Err TooLong) bytes taken taken_after failed failed_after = ⊥
 
--- where a run stands before a read: what the source has given is heard, and what that says is written
-pub record IsGoing (levels : ℕ) (given given_now taken taken_now : Option (List ℕ)) (heard : Heard) (left : ℕ) : Type 0 where
+-- where a run stands before a read: what the source has given is received, and what that says is written
+pub record IsGoing (levels : ℕ) (given given_now taken taken_now : Option (List ℕ)) (received : Received) (left : ℕ) : Type 0 where
   pub bytes : List ℕ
   pub read : Appends given given_now bytes
-  pub wrote : Appends taken taken_now (said_all (silence levels) bytes)
-  pub heard_is : heard ≡ heard_all (silence levels) bytes
+  pub wrote : Appends taken taken_now (answers_to (nothing_received levels) bytes)
+  pub received_is : received ≡ received_all (nothing_received levels) bytes
   pub room : length bytes + left ≡ INPUT_LIMIT

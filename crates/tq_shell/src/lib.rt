@@ -1,7 +1,7 @@
 //! Lines in, answers out: the shell of a tree of servers.
 #![tactic(auto)]
 
-mod listener;
+mod receiver;
 mod runner;
 mod shell;
 

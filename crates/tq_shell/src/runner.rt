@@ -3,10 +3,10 @@ ghost use Rattle.std.specs.Io.KnownBytes.{Appends};
 ghost use Rattle.tq_shell.specs.Answer.{opening};
 ghost use Rattle.tq_shell.specs.History.{IsLearned};
 ghost use Rattle.tq_shell.specs.Run.{IsRunText, IsRunCount, IsWritten};
-ghost use Rattle.tq_shell.specs.Stream.{silence};
+ghost use Rattle.tq_shell.specs.Stream.{nothing_received};
 ghost use Rattle.tq_lines.specs.declared.line.Line.{Line};
 
-use crate::listener::Listener;
+use crate::receiver::Receiver;
 use std::alloc::{AllocError, Global};
 use thiserror::Error;
 use tq_devices::{Failed, Sink, Source};
@@ -61,19 +61,19 @@ pub fn run<R: Source, W: Sink>(
     ensures counts { IsRunCount result (R.failed reader.old) (R.failed reader.new) (W.failed writer.old) (W.failed writer.new) }
     ensures learned { (lines : List Line) → IsLearned (opening levels) lines }
 {
-    let mut listener = Listener::new(alloc, levels)?;
-    answer_pieces(alloc, levels, &mut listener, reader, writer)
+    let mut receiver = Receiver::new(alloc, levels)?;
+    answer_pieces(alloc, levels, &mut receiver, reader, writer)
 }
 
-/// Answers what the source gives, a piece after another, by a listener that heard nothing yet.
+/// Answers what the source gives, a piece after another, by a receiver that received nothing yet.
 fn answer_pieces<R: Source, W: Sink>(
     alloc: Global,
     levels: Levels,
-    listener: &mut Listener,
+    receiver: &mut Receiver,
     reader: &mut R,
     writer: &mut W,
 ) -> Result<(), RunFault>
-    requires new { listener.old ≡ silence levels }
+    requires new { receiver.old ≡ nothing_received levels }
     requires reads { R.failed reader.old < 2 ^ 64 - 1 }
     requires writes { W.failed writer.old < 2 ^ 64 - 1 }
     ensures text { (bytes : List ℕ) × (text : List ℕ) × Appends (R.given reader.old) (R.given reader.new) bytes
@@ -89,10 +89,10 @@ fn answer_pieces<R: Source, W: Sink>(
             return Err(RunFault::Read);
         };
         if count == 0 {
-            listener.finish(alloc, &mut text)?;
+            receiver.finish(alloc, &mut text)?;
             return write_out(writer, text.as_slice());
         }
-        listener.hear(alloc, &buffer[..count.min(left)], &mut text)?;
+        receiver.receive(alloc, &buffer[..count.min(left)], &mut text)?;
         write_out(writer, text.as_slice())?;
         if count > left {
             return Err(RunFault::TooLong);

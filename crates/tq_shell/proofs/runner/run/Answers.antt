@@ -5,14 +5,14 @@ use Rattle.tq_shell.proofs.Learned.{is_learned}
 use Rattle.tq_shell.proofs.RunLaws.{by_fault, ends_before}
 use Rattle.tq_shell.proofs.runner.run.Goals as goal
 
-pub returns-in_err-listener-clause-text : goal.returns-in_err-listener-clause-text
-returns-in_err-listener-clause-text g c =
+pub returns-in_err-receiver-clause-text : goal.returns-in_err-receiver-clause-text
+returns-in_err-receiver-clause-text g c =
     let given = g.R.Source.given in
     let taken = g.W.Sink.taken in
     by_fault c.from_residual.result Memory c.args.levels _ _ _ _ (search rules) (ends_before c.args.levels (given c.args.reader.now) (taken c.args.writer.now))
 
-pub returns-in_err-listener-clause-learned : goal.returns-in_err-listener-clause-learned
-returns-in_err-listener-clause-learned g c = λ lines. is_learned (opening c.args.levels) lines
+pub returns-in_err-receiver-clause-learned : goal.returns-in_err-receiver-clause-learned
+returns-in_err-receiver-clause-learned g c = λ lines. is_learned (opening c.args.levels) lines
 
 pub returns-clause-text : goal.returns-clause-text
 returns-clause-text g c = c.answer_pieces.ensures.text
