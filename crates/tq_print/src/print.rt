@@ -188,11 +188,7 @@ pub fn say_number(text: &mut Vec<u8>, words: &[u8], number: u64) -> Result<(), M
 pub(crate) fn push_number(text: &mut Vec<u8>, number: u64) -> Result<(), Memory>
     ensures { OnOk result (text.new.items ≡ text.old.items ++ decimal number) }
 {
-    if number < 10 {
-        text.push(b'0' + number as u8)?;
-        return Ok(());
-    }
-    push_number(text, number / 10)?;
-    text.push(b'0' + (number % 10) as u8)?;
+    let mut digits = itoa::Buffer::new();
+    text.extend_from_slice(digits.format(number).as_bytes())?;
     Ok(())
 }
