@@ -1,4 +1,4 @@
-ghost use Rattle.std.specs.Prelude.{◌≡◌, ◌++◌, OnOk, map};
+ghost use Rattle.std.specs.Prelude.{◌≡◌, ◌++◌, ◌+◌, ◌≤◌, length, vec_len, vec_capacity, OnOk, map};
 ghost use Rattle.std.specs.Fmt.{decimal};
 ghost use Rattle.std.specs.Option.{option_copied};
 ghost use Rattle.tq_coterie.specs.Coterie.{numbers_of};
@@ -184,11 +184,29 @@ pub fn say_number(text: &mut Vec<u8>, words: &[u8], number: u64) -> Result<(), M
     Ok(())
 }
 
+/// The most digits of a number of 64 bits.
+const MOST_DIGITS: usize = 20;
+
 /// Puts the number in decimal behind the text.
 pub(crate) fn push_number(text: &mut Vec<u8>, number: u64) -> Result<(), Memory>
     ensures { OnOk result (text.new.items ≡ text.old.items ++ decimal number) }
 {
-    let mut digits = itoa::Buffer::new();
-    text.extend_from_slice(digits.format(number).as_bytes())?;
+    text.reserve(MOST_DIGITS)?;
+    push_digits(text, number);
     Ok(())
+}
+
+/// Puts the number in decimal behind the text, which has room for its digits.
+fn push_digits(text: &mut Vec<u8>, number: u64)
+    requires { vec_len text.old + length (decimal number) ≤ vec_capacity text.old }
+    ensures items { text.new.items ≡ text.old.items ++ decimal number }
+    ensures len { vec_len text.new ≡ vec_len text.old + length (decimal number) }
+    ensures capacity { vec_capacity text.new ≡ vec_capacity text.old }
+{
+    if number < 10 {
+        text.push_reserved(b'0' + number as u8);
+        return;
+    }
+    push_digits(text, number / 10);
+    text.push_reserved(b'0' + (number % 10) as u8);
 }
