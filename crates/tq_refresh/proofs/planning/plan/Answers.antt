@@ -1,4 +1,4 @@
-use Rattle.std.proofs.Common.{◌≡◌, List, sym, subst}
+use Rattle.std.proofs.Common.{◌≡◌, List, sym, subst, rules}
 use Rattle.std.specs.List.{All, flat_map}
 use Rattle.std.proofs.lemmas.Result.{IfOk-weaker}
 use Rattle.tq_refresh.specs.declared.job.Job.{Job}
@@ -13,3 +13,6 @@ returns-clause-of_tree c =
     let made = flat_map (jobs_of c.tree.result.now) c.files.result.now in
     IfOk-weaker c.plan_rows.result (λ jobs. jobs.items ≡ made) (λ jobs. OfTree jobs.items)
     (λ jobs are. subst OfTree (sym are) (jobs-of_tree levels c.tree.result.now c.files.result.now c.files.ensures.of_tree)) c.plan_rows.ensures
+
+pub returns-clause-value : goal.returns-clause-value
+returns-clause-value c = search rules

@@ -1,4 +1,4 @@
-use Rattle.std.proofs.Common.{List}
+use Rattle.std.proofs.Common.{List, rules}
 use Rattle.tq_states.specs.declared.told.NodeTold.{NodeTold}
 use Rattle.tq_states.specs.Cited.{KeepsOnly}
 use Rattle.tq_states.specs.Open.{OpenView}
@@ -10,3 +10,6 @@ returns-clause-cited c =
     let old : OpenView = record { levels = f.levels; limits = f.limits; txn = f.txn; ops = f.ops.items; voters = f.voters.servers; touched = f.touched.servers } in
     let keeps : (told : List NodeTold) → KeepsOnly told c.args.self.now → KeepsOnly told old = rw (← c.self.view_is) λ told is. is in
     keeps
+
+pub returns-clause-ok : goal.returns-clause-ok
+returns-clause-ok c = search rules

@@ -14,3 +14,9 @@ take-requires-clause-good c =
 pub returns-clause-cited : goal.returns-clause-cited
 returns-clause-cited c =
     taken_cited kinds.Write c.args.self.now c.take.new.self (record { file = c.args.file.now; kind = kinds.Write; version = c.in-Some.version; content = c.args.content; grants = c.in_ok-grants.field-0.grants }) c.args.answers.now c.in_ok-take.ensures.after c.in_ok-grants.ensures.grants
+
+pub returns-clause-value : goal.returns-clause-value
+returns-clause-value c = search rules
+
+pub returns-clause-after : goal.returns-clause-after
+returns-clause-after c = search rules

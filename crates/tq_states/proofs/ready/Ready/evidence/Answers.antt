@@ -1,4 +1,4 @@
-use Rattle.std.proofs.Common.{subst, ◌∙◌, ap}
+use Rattle.std.proofs.Common.{subst, ◌∙◌, ap, rules}
 use Rattle.tq_states.specs.Open.{OpenView, IsOpen}
 use Rattle.tq_states.proofs.CitedLaws.{evidence_cited}
 use Rattle.tq_states.proofs.GoodEvidence.{good_evidence}
@@ -23,3 +23,6 @@ pub returns-clause-cited : goal.returns-clause-cited
 returns-clause-cited c =
     rw (← c.self.view_is)
     (evidence_cited c.self.inside.voting c.txn.result c.in_ok-ops.ops c.in_ok-votes.votes (c.txn.ensures ∙ ap (λ (v : OpenView). v.txn) c.txn-txn.ensures) (c.in_ok-ops.ensures ∙ ap (λ (v : OpenView). v.ops) c.txn-txn.ensures) c.in_ok-votes.ensures)
+
+pub returns-clause-value : goal.returns-clause-value
+returns-clause-value c = search rules

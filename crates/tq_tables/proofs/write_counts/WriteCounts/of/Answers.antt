@@ -1,3 +1,4 @@
+use Rattle.std.proofs.lemmas.Grind.{common_steps}
 use Rattle.std.specs.Prelude.{reverse}
 use Rattle.std.proofs.Common.{◌≡◌, ◌+◌, ◌<◌, take, length, ap, subst, sym, ◌∙◌, arith, rules, length-take-le}
 use Rattle.std.proofs.lemmas.List.{length-reverse}
@@ -21,3 +22,6 @@ pub loop-entry-preserved : goal.loop-entry-preserved
 loop-entry-preserved c =
     c.in_ok-note.ensures (commits (reverse (take c.loop-entry.entry-index c.args.entries.now))) c.loop-entry.invariant
     ∙ ap spec.counted (commits-next c.args.entries.now c.loop-entry.entry-index c.entry-item.result c.loop-entry-test.true c.entry-item.is)
+
+pub returns : goal.returns
+returns c = grind (arith, common_steps)

@@ -1,0 +1,6 @@
+use Rattle.std.proofs.lemmas.Grind.{common_steps}
+use Rattle.std.proofs.Common.{arith}
+use Rattle.tq_print.proofs.print.say_verdict.Goals as goal
+
+pub returns-in-Commit : goal.returns-in-Commit
+returns-in-Commit c = grind (arith, common_steps)
