@@ -1,4 +1,4 @@
-use Rattle.std.proofs.Common.{sym, subst}
+use Rattle.std.proofs.Common.{sym, subst, rules}
 use Rattle.tq_locks.specs.Locks.{Locks}
 use Rattle.tq_node.specs.Node.{IsSound}
 use Rattle.tq_node.proofs.Sound.{sound-crashed}
@@ -9,3 +9,6 @@ invariant_of-self c =
     let inside = c.self.inside in
     subst (λ (table : Locks). IsSound inside.intents.records inside.last inside.copies.files table) (sym c.drop_unstable.ensures)
     (sound-crashed inside.intents.records inside.last inside.copies.files inside.locks c.self.invariant)
+
+pub returns : goal.returns
+returns c = search rules
