@@ -2,4 +2,5 @@ pub mod Ordered
 pub mod LockMaps
 pub mod Retained
 pub mod Found
+pub mod Placed
 pub mod Locked

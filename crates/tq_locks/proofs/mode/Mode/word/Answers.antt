@@ -1,0 +1,1 @@
+use Rattle.tq_locks.proofs.Placed.{insert-place}
