@@ -3,4 +3,5 @@ pub mod LockMaps
 pub mod Retained
 pub mod Found
 pub mod Placed
+pub mod Agreed
 pub mod Locked

@@ -1,1 +1,1 @@
-use Rattle.tq_locks.proofs.Placed.{insert-place}
+use Rattle.tq_locks.proofs.Agreed.{map-remove}
