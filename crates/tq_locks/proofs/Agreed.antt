@@ -114,20 +114,20 @@ module _ {A : Type 0} where
 abbrev Entry : Type 0
 Entry = LockKey × Lock
 
-itself : (q : LockKey) → eq_by_cmp lock_cmp q q ≡ true
+pub itself : (q : LockKey) → eq_by_cmp lock_cmp q q ≡ true
 itself q = (eq_by_cmp_equiv locks_total).refl q
 
-apart : (q r : LockKey) → q ≢ r → eq_by_cmp lock_cmp q r ≡ false
+pub apart : (q r : LockKey) → q ≢ r → eq_by_cmp lock_cmp q r ≡ false
 apart q r h = by_test (eq_by_cmp lock_cmp q r) refl
   where
     by_test : (b : Bool) → eq_by_cmp lock_cmp q r ≡ b → b ≡ false
     by_test true e = absurd (h (same_key q r e))
     by_test false e = refl
 
-differ : (q r : LockKey) → eq_by_cmp lock_cmp q r ≡ false → q ≢ r
+pub differ : (q r : LockKey) → eq_by_cmp lock_cmp q r ≡ false → q ≢ r
 differ q r e s = true≢false (sym (itself q) ∙ ap (eq_by_cmp lock_cmp q) s ∙ e)
 
-alike : (p : LockKey → Bool) (q x : LockKey) → lock_cmp q x ≡ Equal → p x ≡ p q
+pub alike : (p : LockKey → Bool) (q x : LockKey) → lock_cmp q x ≡ Equal → p x ≡ p q
 alike p q x e = ap p (sym (locks_same q x e))
 
 others_all : (q : LockKey) (xs : List Entry) → find lock_cmp q xs ≡ None → other_keys locks_total locks_same q xs ≡ xs

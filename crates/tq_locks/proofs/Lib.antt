@@ -4,4 +4,5 @@ pub mod Retained
 pub mod Found
 pub mod Placed
 pub mod Agreed
+pub mod Changed
 pub mod Locked

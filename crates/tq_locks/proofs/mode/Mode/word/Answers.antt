@@ -1,1 +1,1 @@
-use Rattle.tq_locks.proofs.Agreed.{map-remove}
+use Rattle.tq_locks.proofs.Changed.{Agrees-remove}
