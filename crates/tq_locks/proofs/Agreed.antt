@@ -45,17 +45,17 @@ module _ {A : Type 0} where
   Has-filter p [] y h = absurd h
   Has-filter p (x ∷ xs) y h = unfiltered_step p x xs y (p x) refl h (Has-filter p xs y)
 
-  head_of : (x y : Option A) (xs ys : List (Option A)) → x ∷ xs ≡ y ∷ ys → x ≡ y
+  pub head_of : (x y : Option A) (xs ys : List (Option A)) → x ∷ xs ≡ y ∷ ys → x ≡ y
   head_of x y xs ys e = ap (λ zs. first_or zs) e
     where
       first_or : List (Option A) → Option A
       first_or [] = None
       first_or (z ∷ zs) = z
 
-  tail_of : (x y : Option A) (xs ys : List (Option A)) → x ∷ xs ≡ y ∷ ys → xs ≡ ys
+  pub tail_of : (x y : Option A) (xs ys : List (Option A)) → x ∷ xs ≡ y ∷ ys → xs ≡ ys
   tail_of x y xs ys e = ap (drop 1) e
 
-  nil_cons : (x : Option A) (xs : List (Option A)) → [] ≡ x ∷ xs → ⊥
+  pub nil_cons : (x : Option A) (xs : List (Option A)) → [] ≡ x ∷ xs → ⊥
   nil_cons x xs e = true≢false (ap (λ zs. is_nil zs) e)
     where
       is_nil : List (Option A) → Bool

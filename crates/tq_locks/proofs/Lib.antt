@@ -4,5 +4,7 @@ pub mod Retained
 pub mod Found
 pub mod Placed
 pub mod Agreed
+pub mod Partition
 pub mod Changed
+pub mod Applied
 pub mod Locked

@@ -19,7 +19,7 @@ not_true : (b : Bool) → b ≡ false → not b ≡ true
 not_true b e = ap not e
 
 module _ {K : Type 0} {R : K → K → Ordering} (o : IsTotalOrder R) where
-  turned : (a b : K) (r : Ordering) → R a b ≡ r → R b a ≡ ordering_reverse r
+  pub turned : (a b : K) (r : Ordering) → R a b ≡ r → R b a ≡ ordering_reverse r
   turned a b r e = o.antisymm b a ∙ ap ordering_reverse e
 
 module _ {K X : Type 0} {R : K → K → Ordering} (o : IsTotalOrder R) (same : IsAntisymmetric R) where

@@ -1,5 +1,5 @@
 -- The locks of a table as it keeps them: entries under keys, and the keys of each file and of each transaction.
-use Rattle.std.specs.Prelude.{◌≡◌, ℕ, ◌==◌, Bool, List, map, filter, Option, Some}
+use Rattle.std.specs.Prelude.{◌≡◌, ℕ, ◌==◌, T, List, map, filter, Some}
 use Rattle.std.specs.FinMap as fin
 use Rattle.std.specs.Ordering.{nat_cmp}
 use Rattle.slab.specs.Slab.{Slab, get, values}
@@ -7,8 +7,8 @@ use Rattle.tq_store.specs.Copies.{name_cmp}
 use Rattle.tq_store.specs.Names.{same_name}
 use Rattle.tq_locks.specs.declared.keyed.KeyedLocks.{KeyedLocks}
 use Rattle.tq_locks.specs.declared.mode.Lock.{Lock}
-use Rattle.tq_locks.specs.Locks.{LockKey, Locks, held_of}
-use Rattle.tq_locks.specs.Keys.{keys_at}
+use Rattle.tq_locks.specs.Locks.{LockKey, Locks, lock_cmp, held_of}
+use Rattle.tq_locks.specs.Keys.{keys_at, place}
 
 -- the entries that are kept, as a set of locks
 abbrev pub locks_in : KeyedLocks → Locks
@@ -30,3 +30,11 @@ pub record Agrees (kept : KeyedLocks) (locks : Locks) : Type 0 where
   -- each index has the keys of all the locks of a file, and of a transaction
   pub of_file : (file : List ℕ) → AreKeysOf kept.entries (keys_at name_cmp kept.by_file file) (on_file locks file)
   pub of_txn : (txn : ℕ) → AreKeysOf kept.entries (keys_at nat_cmp kept.by_txn txn) (held_of locks txn)
+
+-- where the entries of the keys rise, so many of them are below a key of the set
+abbrev pub RisesTo : Slab (LockKey × Lock) → List ℕ → LockKey → ℕ → Type 0
+RisesTo slab keys key count = (entries : List (LockKey × Lock)) → AreKeysOf slab keys entries → T (fin.is_sorted lock_cmp entries) → count ≡ place lock_cmp key entries
+
+-- the entry under a key is the lock of this file and transaction
+abbrev pub IsOf : Slab (LockKey × Lock) → ℕ → LockKey → Type 0
+IsOf slab key name = (lock : Lock) × (get slab key ≡ Some (name, lock))

@@ -1,15 +1,17 @@
 //! The entries of a table in a slab, with the keys of each file and of each transaction.
-ghost use Rattle.std.specs.Prelude.{◌≡◌};
-ghost use Rattle.std.specs.Option.{option_copied};
-ghost use Rattle.std.specs.Ordering.{nat_cmp};
+ghost use Rattle.std.specs.Prelude.{◌≡◌, ◌≤◌, ◌==◌, ℕ, if◌then◌else◌, List, None, Some, IfSome, IfNone, OnOk, OnErr, false, length};
+ghost use Rattle.std.specs.FinMap as fin;
+ghost use Rattle.std.specs.Option.{option_copied, option_map, option_map_or};
+ghost use Rattle.std.specs.Ordering.{nat_cmp, is_lt};
 ghost use Rattle.tq_store.specs.Copies.{name_cmp};
-ghost use Rattle.slab.specs.Slab.{get};
-ghost use Rattle.tq_locks.specs.Keys.{keys_at};
+ghost use Rattle.slab.specs.Slab.{get, Updates};
+ghost use Rattle.tq_locks.specs.Locks.{LockKey, lock_cmp};
+ghost use Rattle.tq_locks.specs.Keys.{keys_at, place};
 
-use crate::LockEntry;
-use crate::lists::listed;
+use crate::lists::{listed, make_room, put_at, take_at};
+use crate::{Lock, LockEntry};
 use slab::Slab;
-use std::alloc::Global;
+use std::alloc::{AllocError, Global};
 use std::collections::BTreeMap;
 use tq_store::FileName;
 
@@ -23,7 +25,11 @@ pub(crate) struct KeyedLocks {
 }
 
 impl KeyedLocks {
-    pub(crate) fn new(alloc: Global) -> KeyedLocks {
+    ghost use Rattle.tq_locks.specs.Kept.{locks_in, on_file, Agrees, AreKeysOf, IsOf, RisesTo};
+
+    pub(crate) fn new(alloc: Global) -> KeyedLocks
+        ensures { Agrees result fin.empty }
+    {
         KeyedLocks {
             entries: Slab::new(alloc),
             by_file: BTreeMap::new(alloc),
@@ -51,5 +57,89 @@ impl KeyedLocks {
         ensures { result.now ≡ keys_at nat_cmp self.now.by_txn txn }
     {
         listed(&self.by_txn, &txn)
+    }
+
+    // Whether the entry under a key comes before the place of this file and transaction.
+    fn is_below(&self, key: usize, file: &FileName, txn: u64) -> bool
+        ensures { result ≡ option_map_or (λ entry. is_lt (lock_cmp entry.0 (file.now, txn))) (get self.now.entries key) false }
+    {
+        match self.entries.get(key) {
+            Some(entry) => entry.file.cmp(file).then(entry.txn.cmp(&txn)).is_lt(),
+            None => false,
+        }
+    }
+
+    // The place of this file and transaction among keys whose entries rise.
+    fn place(&self, keys: &[usize], file: &FileName, txn: u64) -> usize
+        ensures within { result ≤ length keys.now }
+        ensures place { RisesTo self.now.entries keys.now (file.now, txn) result }
+    {
+        keys.partition_point(|key| self.is_below(*key, file, txn))
+    }
+
+    /// The key of the entry of a file and a transaction.
+    pub(crate) fn find(&self, file: &FileName, txn: u64) -> Option<usize>
+        ensures some { Agrees self.now (locks_in self.now) → IfSome result (λ key. IsOf self.now.entries key (file.now, txn)) }
+        ensures none { Agrees self.now (locks_in self.now) → IfNone result (fin.get (locks_in self.now) (file.now, txn) ≡ None) }
+    {
+        let keys = self.keys_of_txn(txn);
+        let key = *keys.get(self.place(keys, file, txn))?;
+        let entry = self.entry(key)?;
+        if entry.file == *file {
+            Some(key)
+        } else {
+            None
+        }
+    }
+
+    /// Keeps a new entry. Without memory the locks stay as they were.
+    pub(crate) fn insert(&mut self, entry: LockEntry) -> Result<(), AllocError>
+        requires agreed { Agrees self.old (locks_in self.old) }
+        requires absent { fin.get (locks_in self.old) entry.0 ≡ None }
+        ensures ok { OnOk result (Agrees self.new (fin.insert (locks_in self.old) entry.0 entry.1)) }
+        ensures err { OnErr result (Agrees self.new (locks_in self.old)) }
+    {
+        let file = entry.file;
+        let txn = entry.txn;
+        self.entries.reserve(1)?;
+        make_room(self.alloc, &mut self.by_file, file)?;
+        make_room(self.alloc, &mut self.by_txn, txn)?;
+        let in_file = self.place(self.keys_of_file(&file), &file, txn);
+        let in_txn = self.place(self.keys_of_txn(txn), &file, txn);
+        let key = self.entries.insert_reserved(entry);
+        put_at(&mut self.by_file, &file, in_file, key);
+        put_at(&mut self.by_txn, &txn, in_txn, key);
+        Ok(())
+    }
+
+    /// Puts a new lock into the entry under a key.
+    pub(crate) fn set_lock(&mut self, key: usize, lock: Lock)
+        requires { Agrees self.old (locks_in self.old) }
+        ensures agreed { (name : LockKey) → IsOf self.old.entries key name → Agrees self.new (fin.insert (locks_in self.old) name lock) }
+        ensures by_txn { (txn : ℕ) → keys_at nat_cmp self.new.by_txn txn ≡ keys_at nat_cmp self.old.by_txn txn }
+        ensures entries { (other : ℕ) → get self.new.entries other ≡ (if other == key then option_map (λ entry. (entry.0, lock)) (get self.old.entries key) else get self.old.entries other) }
+    {
+        if let Some(entry) = self.entries.get_mut(key) {
+            entry.lock = lock;
+        }
+    }
+
+    /// Takes the entry under a key out of the slab and of both indexes.
+    pub(crate) fn remove(&mut self, key: usize)
+        requires { Agrees self.old (locks_in self.old) }
+        ensures agreed { (name : LockKey) → IsOf self.old.entries key name → Agrees self.new (fin.remove (locks_in self.old) name) }
+        ensures absent { get self.old.entries key ≡ None → Agrees self.new (locks_in self.old) }
+        ensures entries { Updates self.old.entries self.new.entries key None }
+    {
+        let Some(entry) = self.entries.get(key).copied() else {
+            return;
+        };
+        let file = entry.file;
+        let txn = entry.txn;
+        let in_file = self.place(self.keys_of_file(&file), &file, txn);
+        let in_txn = self.place(self.keys_of_txn(txn), &file, txn);
+        let _ = self.entries.try_remove(key);
+        take_at(&mut self.by_file, &file, in_file);
+        take_at(&mut self.by_txn, &txn, in_txn);
     }
 }

@@ -1,1 +1,1 @@
-use Rattle.tq_locks.proofs.Changed.{Agrees-remove}
+use Rattle.tq_locks.proofs.Applied.{txn_of_key}
