@@ -7,6 +7,8 @@ use Rattle.std.specs.BTreeMap.{is_at}
 use Rattle.std.specs.FinMap as fin
 use Rattle.std.specs.FinMap.Entries.{find, is_sorted, is_sorted-where_key, find-where_key}
 use Rattle.std.specs.List.{insert, remove, slice_get}
+use Rattle.std.specs.Map.{lookup}
+use Rattle.std.specs.Option.{option_map_or}
 use Rattle.std.specs.Ordering.{is_lt, is_eq, nat_cmp}
 use Rattle.std.specs.declared.cmp.Ordering.{Ordering}
 use Rattle.std.specs.declared.cmp.Ordering.TheVariants.{Less, Equal, Greater}
@@ -53,8 +55,8 @@ Agrees-empty new slots files txns =
     record {
       sound = λ k e f. absurd (none_some e (sym (vacant k) ∙ f));
       once = λ j k x y f g s. absurd (none_some x (sym (vacant j) ∙ f));
-      of_file = λ f. ap (λ es. map (get new.entries) (keys_at name_cmp (record { entries = es }) f)) files ∙ ap (λ es. map Some (filter (λ (e : Entry). same_name f e.0.0) es)) (sym no_entries);
-      of_txn = λ t. ap (λ es. map (get new.entries) (keys_at nat_cmp (record { entries = es }) t)) txns ∙ ap (λ es. map Some (filter (λ (e : Entry). e.0.1 == t) es)) (sym no_entries);
+      of_file = λ f. ap (λ es. map (get new.entries) (option_map_or (λ keys. keys.items) (lookup (is_at (name_cmp f)) es) [])) files ∙ ap (λ es. map Some (filter (λ (e : Entry). same_name f e.0.0) es)) (sym no_entries);
+      of_txn = λ t. ap (λ es. map (get new.entries) (option_map_or (λ keys. keys.items) (lookup (is_at (nat_cmp t)) es) [])) txns ∙ ap (λ es. map Some (filter (λ (e : Entry). e.0.1 == t) es)) (sym no_entries);
     }
   where
     empty_entries : fin.entries (fin.empty {X = Lock} {R = lock_cmp}) ≡ []

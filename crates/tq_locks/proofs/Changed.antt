@@ -1,5 +1,5 @@
 -- A slab and its indexes still agree with the set of locks after a change of one entry.
-use Rattle.std.proofs.Common.{◌≡◌, ◌≢◌, ℕ, ◌==◌, Bool, true, false, cond, not, List, [], ◌∷◌, map, filter, Option, Some, None, refl, ap, sym, subst, ◌∙◌, ◌⊎◌, inl, inr, nat_eq, arith}
+use Rattle.std.proofs.Common.{◌≡◌, ◌≢◌, ℕ, ◌==◌, Bool, true, false, cond, not, ◌||◌, List, [], ◌∷◌, map, filter, Option, Some, None, refl, ap, sym, subst, ◌∙◌, ◌⊎◌, inl, inr, nat_eq, arith}
 use mathlib.Core.Bool.{true≢false}
 use Rattle.std.proofs.lemmas.Bool.{cases_eq}
 use Rattle.std.proofs.lemmas.Bool.Decides.{nat_tests}
@@ -11,6 +11,7 @@ use Rattle.std.specs.FinMap as fin
 use Rattle.std.specs.FinMap.{slice_cmp-IsAntisymmetric, nat_cmp-IsAntisymmetric}
 use Rattle.std.specs.FinMap.Entries.{put, find, where_key, is_sorted, is_sorted-where_key, find-where_key, same_entries}
 use Rattle.std.specs.List.{insert, remove, filter_map}
+use Rattle.std.specs.Option.{option_map, option_map_or}
 use Rattle.std.specs.Ordering.{is_eq, eq_by_cmp, nat_cmp}
 use Rattle.std.specs.declared.cmp.Ordering.TheVariants.{Equal}
 use Rattle.slab.specs.Slab.{Slab, get, values, Updates}
@@ -20,12 +21,12 @@ use Rattle.tq_shape.proofs.Orderings.{is_eq-Equal}
 use Rattle.tq_shape.specs.Journal.{Has}
 use Rattle.tq_locks.specs.declared.keyed.KeyedLocks.{KeyedLocks}
 use Rattle.tq_locks.specs.declared.mode.Lock.{Lock}
-use Rattle.tq_locks.specs.Locks.{LockKey, Locks, lock_cmp, held_of}
+use Rattle.tq_locks.specs.Locks.{LockKey, Locks, lock_cmp, held_of, released, only_stable, kept, stabilised, HasNoConflict}
 use Rattle.tq_locks.specs.Keys.{keys_at, place}
-use Rattle.tq_locks.specs.Kept.{locks_in, on_file, AreKeysOf, Agrees}
+use Rattle.tq_locks.specs.Kept.{locks_in, on_file, AreKeysOf, Agrees, steady}
 use Rattle.tq_locks.proofs.LockMaps.{locks_total, locks_same}
 use Rattle.tq_locks.proofs.Found.{none_some, some_same, Has-looked_up, entry_of, get-entry_of}
-use Rattle.tq_locks.proofs.Locked.{same_key}
+use Rattle.tq_locks.proofs.Locked.{same_key, get-released, get-only_stable, get-kept}
 use Rattle.tq_locks.proofs.Placed.{other_keys}
 use Rattle.tq_locks.proofs.Agreed.{put_listed, set_listed, remove_listed, filter-Has, Has-filter, key_of, item_of, Has-values, values-Has, itself, apart, differ, alike}
 
@@ -238,3 +239,100 @@ module _ (old new : KeyedLocks) (locks : Locks) (a : Agrees old locks) (q : Lock
 
       still : (k : ℕ) (e : Entry) → get new.entries k ≡ Some e → (k ≢ key) × (get old.entries k ≡ Some e)
       still k e f = elim (was_there None u k e f) [ inl c ↦ absurd (none_some e c.1) | inr c ↦ c ]
+
+-- ---- what changes of one entry come to
+
+pub closed : (kept : KeyedLocks) (locks : Locks) → Agrees kept locks → HasNoConflict locks → Agrees kept (locks_in kept) × HasNoConflict (locks_in kept)
+closed kept locks a h = let e = sym (locks_in-agreed kept locks a) in (subst (Agrees kept) e a, subst HasNoConflict e h)
+
+same_sets : (m n : Locks) → ((q : LockKey) → fin.get m q ≡ fin.get n q) → m ≡ n
+same_sets = fin.same_map locks_total locks_same
+
+cut_same : (test c : Bool) (o : Option Lock) → (c ≡ true → test ≡ false) → cond test (cond c None o) None ≡ cond test o None
+cut_same true true o h = absurd (true≢false (h refl))
+cut_same true false o h = refl
+cut_same false c o h = refl
+
+-- one of the locks that are to go may go first
+pub released-remove : (locks : Locks) (q : LockKey) → released (fin.remove locks q) q.1 ≡ released locks q.1
+released-remove locks q = same_sets _ _ (λ r.
+    get-released (fin.remove locks q) q.1 r
+    ∙ ap (λ o. cond (not (r.1 == q.1)) o None) (fin.get-remove locks_total locks q r)
+    ∙ cut_same (not (r.1 == q.1)) (eq_by_cmp lock_cmp r q) (fin.get locks r) (λ h. ap (λ (k : LockKey). not (k.1 == q.1)) (same_key r q h) ∙ ap not (itself_number q.1))
+    ∙ sym (get-released locks q.1 r))
+  where
+    itself_number : (n : ℕ) → (n == n) ≡ true
+    itself_number n = grind (arith, nat_tests)
+
+nothing_held : (locks : Locks) (txn : ℕ) → held_of locks txn ≡ [] → (q : LockKey) (l : Lock) → (q.1 == txn) ≡ true → fin.get locks q ≡ Some l → ⊥
+nothing_held locks txn e q l t f = subst (λ es. Has es (q, l)) e (filter-Has (λ (x : Entry). x.0.1 == txn) (fin.entries locks) (q, l) (entry_of locks_total locks_same locks q l f) t)
+
+-- where a transaction holds nothing there is nothing to release
+pub released-none : (locks : Locks) (txn : ℕ) → held_of locks txn ≡ [] → released locks txn ≡ locks
+released-none locks txn e = same_sets _ _ (λ q. get-released locks txn q ∙ by_look q (q.1 == txn) refl (fin.get locks q) refl)
+  where
+    by_look : (q : LockKey) (b : Bool) → (q.1 == txn) ≡ b → (o : Option Lock) → fin.get locks q ≡ o → cond (not b) o None ≡ o
+    by_look q true t None f = refl
+    by_look q true t (Some l) f = absurd (nothing_held locks txn e q l t f)
+    by_look q false t o f = refl
+
+pub only_stable-remove : (locks : Locks) (q : LockKey) (l : Lock) → fin.get locks q ≡ Some l → l.stable ≡ false → only_stable (fin.remove locks q) ≡ only_stable locks
+only_stable-remove locks q l f h = same_sets _ _ (λ r.
+    get-only_stable (fin.remove locks q) r
+    ∙ ap (λ o. cond (option_map_or (λ (x : Lock). x.stable) o false) o None) (fin.get-remove locks_total locks q r)
+    ∙ by_test r (eq_by_cmp lock_cmp r q) refl
+    ∙ sym (get-only_stable locks r))
+  where
+    by_test : (r : LockKey) (b : Bool) → eq_by_cmp lock_cmp r q ≡ b → cond (option_map_or (λ (x : Lock). x.stable) (cond b None (fin.get locks r)) false) (cond b None (fin.get locks r)) None ≡ cond (option_map_or (λ (x : Lock). x.stable) (fin.get locks r) false) (fin.get locks r) None
+    by_test r true e = sym (ap (λ o. cond (option_map_or (λ (x : Lock). x.stable) o false) o None) (ap (fin.get locks) (same_key r q e) ∙ f) ∙ ap (λ b. cond b (Some l) None) h)
+    by_test r false e = refl
+
+-- where each lock is stable, all are kept
+pub only_stable-all : (locks : Locks) → ((q : LockKey) (l : Lock) → fin.get locks q ≡ Some l → l.stable ≡ true) → only_stable locks ≡ locks
+only_stable-all locks all = same_sets _ _ (λ q. get-only_stable locks q ∙ by_look q (fin.get locks q) refl)
+  where
+    by_look : (q : LockKey) (o : Option Lock) → fin.get locks q ≡ o → cond (option_map_or (λ (x : Lock). x.stable) o false) o None ≡ o
+    by_look q None f = refl
+    by_look q (Some l) f = ap (λ b. cond b (Some l) None) (all q l f)
+
+steady_or : (l : Lock) → l.stable ≡ true → steady l ≡ l
+steady_or l h = λ i. record { mode = l.mode; since = l.since; version = l.version; stable = sym h i }
+
+marked_steady : (l : Lock) (b : Bool) → b ≡ true → (l.stable || b) ≡ true
+marked_steady l true h = by_stable l.stable
+  where
+    by_stable : (s : Bool) → (s || true) ≡ true
+    by_stable true = refl
+    by_stable false = refl
+marked_steady l false h = absurd (true≢false (sym h))
+
+-- one of the locks that are to be stable may be so first
+pub kept-steady : (locks : Locks) (q : LockKey) (l : Lock) → fin.get locks q ≡ Some l → kept (fin.insert locks q (steady l)) q.1 ≡ kept locks q.1
+kept-steady locks q l f = same_sets _ _ (λ r.
+    get-kept (fin.insert locks q (steady l)) q.1 r
+    ∙ ap (option_map (λ (x : Lock). (stabilised q.1 (r, x)).1)) (fin.get-insert locks_total locks q (steady l) r)
+    ∙ by_test r (eq_by_cmp lock_cmp r q) refl
+    ∙ sym (get-kept locks q.1 r))
+  where
+    itself_number : (n : ℕ) → (n == n) ≡ true
+    itself_number n = grind (arith, nat_tests)
+
+    by_test : (r : LockKey) (b : Bool) → eq_by_cmp lock_cmp r q ≡ b → option_map (λ (x : Lock). (stabilised q.1 (r, x)).1) (cond b (Some (steady l)) (fin.get locks r)) ≡ option_map (λ (x : Lock). (stabilised q.1 (r, x)).1) (fin.get locks r)
+    by_test r false e = refl
+    by_test r true e =
+        let here = ap (λ (k : LockKey). k.1 == q.1) (same_key r q e) ∙ itself_number q.1 in
+        (λ i. Some (record { mode = l.mode; since = l.since; version = l.version; stable = sym (marked_steady l (r.1 == q.1) here) i }))
+        ∙ ap (option_map (λ (x : Lock). (stabilised q.1 (r, x)).1)) (sym (ap (fin.get locks) (same_key r q e) ∙ f))
+
+-- where each lock of a transaction is stable there is nothing to keep
+pub kept-all : (locks : Locks) (txn : ℕ) → ((q : LockKey) (l : Lock) → (q.1 == txn) ≡ true → fin.get locks q ≡ Some l → l.stable ≡ true) → kept locks txn ≡ locks
+kept-all locks txn all = same_sets _ _ (λ q. get-kept locks txn q ∙ by_look q (fin.get locks q) refl (q.1 == txn) refl)
+  where
+    or_false : (s : Bool) → (s || false) ≡ s
+    or_false true = refl
+    or_false false = refl
+
+    by_look : (q : LockKey) (o : Option Lock) → fin.get locks q ≡ o → (b : Bool) → (q.1 == txn) ≡ b → option_map (λ (x : Lock). record { mode = x.mode; since = x.since; version = x.version; stable = x.stable || b }) o ≡ o
+    by_look q None f b t = refl
+    by_look q (Some l) f true t = λ i. Some (record { mode = l.mode; since = l.since; version = l.version; stable = (marked_steady l true refl ∙ sym (all q l t f)) i })
+    by_look q (Some l) f false t = λ i. Some (record { mode = l.mode; since = l.since; version = l.version; stable = or_false l.stable i })

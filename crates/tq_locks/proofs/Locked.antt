@@ -208,3 +208,6 @@ module _ (locks : Locks) (file : List ℕ) (txn : ℕ) (mode : Mode) (number ver
 
   pub HasNoConflict-granted : HasNoConflict (granted locks file txn mode number version)
   HasNoConflict-granted f s t a b other x y = both_at f s t a b other (at (f, s) a x) (at (f, t) b y)
+
+pub HasNoConflict-empty : HasNoConflict fin.empty
+HasNoConflict-empty file s t a b other f g = absurd (none_some a (sym (fin.get-empty lock_cmp (key file s)) ∙ f))

@@ -1,11 +1,11 @@
 //! The entries of a table in a slab, with the keys of each file and of each transaction.
-ghost use Rattle.std.specs.Prelude.{◌≡◌, ◌≤◌, ◌==◌, ℕ, if◌then◌else◌, List, None, Some, IfSome, IfNone, OnOk, OnErr, false, length};
+ghost use Rattle.std.specs.Prelude.{◌≡◌, ◌+◌, ◌≤◌, ◌==◌, ℕ, if◌then◌else◌, List, None, Some, IsSome, IfSome, IfNone, IfOk, OnOk, OnErr, false, [], ◌∷◌, length};
 ghost use Rattle.std.specs.FinMap as fin;
 ghost use Rattle.std.specs.Option.{option_copied, option_map, option_map_or};
 ghost use Rattle.std.specs.Ordering.{nat_cmp, is_lt};
 ghost use Rattle.tq_store.specs.Copies.{name_cmp};
-ghost use Rattle.slab.specs.Slab.{get, Updates};
-ghost use Rattle.tq_locks.specs.Locks.{LockKey, lock_cmp};
+ghost use Rattle.slab.specs.Slab.{get, slab_len, Updates};
+ghost use Rattle.tq_locks.specs.Locks.{LockKey, Locks, lock_cmp, kept, released, only_stable};
 ghost use Rattle.tq_locks.specs.Keys.{keys_at, place};
 
 use crate::lists::{listed, make_room, put_at, take_at};
@@ -25,7 +25,8 @@ pub(crate) struct KeyedLocks {
 }
 
 impl KeyedLocks {
-    ghost use Rattle.tq_locks.specs.Kept.{locks_in, on_file, Agrees, AreKeysOf, IsOf, RisesTo};
+    ghost use Rattle.tq_locks.specs.Kept.{locks_in, on_file, Agrees, AreKeysOf, IsOf, RisesTo, steady, told};
+    ghost use Rattle.tq_locks.specs.declared.mode.Lock.{Lock};
 
     pub(crate) fn new(alloc: Global) -> KeyedLocks
         ensures { Agrees result fin.empty }
@@ -75,6 +76,22 @@ impl KeyedLocks {
         ensures place { RisesTo self.now.entries keys.now (file.now, txn) result }
     {
         keys.partition_point(|key| self.is_below(*key, file, txn))
+    }
+
+    /// The first entry under the keys, and the keys after it.
+    pub(crate) fn first_of<'a>(&self, keys: &'a [usize]) -> (Option<LockEntry>, &'a [usize])
+        ensures some { IfSome result.0 (λ entry. told self.now.entries keys.now ≡ entry ∷ told self.now.entries result.1.now) }
+        ensures none { IfNone result.0 (told self.now.entries keys.now ≡ []) }
+        ensures all { IfNone result.0 (result.1.now ≡ []) }
+    {
+        let mut left = keys;
+        while let Some((key, rest)) = left.split_first() {
+            left = rest;
+            if let Some(entry) = self.entry(*key) {
+                return (Some(*entry), left);
+            }
+        }
+        (None, left)
     }
 
     /// The key of the entry of a file and a transaction.
@@ -130,6 +147,7 @@ impl KeyedLocks {
         ensures agreed { (name : LockKey) → IsOf self.old.entries key name → Agrees self.new (fin.remove (locks_in self.old) name) }
         ensures absent { get self.old.entries key ≡ None → Agrees self.new (locks_in self.old) }
         ensures entries { Updates self.old.entries self.new.entries key None }
+        ensures fewer { IsSome (get self.old.entries key) → slab_len self.new.entries + 1 ≡ slab_len self.old.entries }
     {
         let Some(entry) = self.entries.get(key).copied() else {
             return;
@@ -141,5 +159,75 @@ impl KeyedLocks {
         let _ = self.entries.try_remove(key);
         take_at(&mut self.by_file, &file, in_file);
         take_at(&mut self.by_txn, &txn, in_txn);
+    }
+
+    /// An equal one, with memory of its own.
+    pub(crate) fn copy(&self) -> Result<KeyedLocks, AllocError>
+        ensures { (locks : Locks) → Agrees self.now locks → IfOk result (λ copy. Agrees copy locks) }
+    {
+        Ok(KeyedLocks {
+            entries: self.entries.clone()?,
+            by_file: self.by_file.clone()?,
+            by_txn: self.by_txn.clone()?,
+            alloc: self.alloc,
+        })
+    }
+
+    // Makes the lock under a key stable.
+    fn stabilise(&mut self, key: usize)
+        requires { Agrees self.old (locks_in self.old) }
+        ensures agreed { (name : LockKey) (lock : Lock) → get self.old.entries key ≡ Some (name, lock) → Agrees self.new (fin.insert (locks_in self.old) name (steady lock)) }
+        ensures by_txn { (txn : ℕ) → keys_at nat_cmp self.new.by_txn txn ≡ keys_at nat_cmp self.old.by_txn txn }
+        ensures entries { (other : ℕ) → get self.new.entries other ≡ (if other == key then option_map (λ entry. (entry.0, steady entry.1)) (get self.old.entries key) else get self.old.entries other) }
+    {
+        let Some(entry) = self.entry(key) else {
+            return;
+        };
+        let lock = entry.lock;
+        self.set_lock(
+            key,
+            Lock {
+                mode: lock.mode,
+                since: lock.since,
+                version: lock.version,
+                stable: true,
+            },
+        );
+    }
+
+    /// Makes the locks of a transaction stable.
+    pub(crate) fn keep(&mut self, txn: u64)
+        requires { Agrees self.old (locks_in self.old) }
+        ensures { Agrees self.new (kept (locks_in self.old) txn) }
+    {
+        for place in 0..self.keys_of_txn(txn).len() {
+            if let Some(key) = self.keys_of_txn(txn).get(place).copied() {
+                self.stabilise(key);
+            }
+        }
+    }
+
+    /// Ends the locks of a transaction.
+    pub(crate) fn release(&mut self, txn: u64)
+        requires { Agrees self.old (locks_in self.old) }
+        ensures { Agrees self.new (released (locks_in self.old) txn) }
+    {
+        while let Some(key) = self.keys_of_txn(txn).last().copied() {
+            self.remove(key);
+        }
+    }
+
+    /// Ends the locks that aren't stable.
+    pub(crate) fn drop_unstable(&mut self)
+        requires { Agrees self.old (locks_in self.old) }
+        ensures { Agrees self.new (only_stable (locks_in self.old)) }
+    {
+        for key in 0..self.entries.capacity() {
+            if let Some(entry) = self.entry(key) {
+                if !entry.lock.stable {
+                    self.remove(key);
+                }
+            }
+        }
     }
 }

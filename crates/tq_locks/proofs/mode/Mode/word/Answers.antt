@@ -1,1 +1,0 @@
-use Rattle.tq_locks.proofs.Applied.{txn_of_key}
