@@ -1,7 +1,6 @@
 -- The locks of a table as it keeps them: entries under keys, and the keys of each file and of each transaction.
-use Rattle.std.specs.Prelude.{◌≡◌, ℕ, ◌==◌, T, List, [], ◌∷◌, ◌++◌, length, map, filter, filter_map, Some, true, nat_eq}
+use Rattle.std.specs.Prelude.{◌≡◌, ℕ, ◌==◌, T, List, length, map, filter, Some, true, nat_eq}
 use Rattle.std.specs.List.{IsDistinct}
-use Rattle.std.specs.declared.vec.Vec.{Vec}
 use Rattle.std.specs.FinMap as fin
 use Rattle.std.specs.Ordering.{nat_cmp}
 use Rattle.slab.specs.Slab.{Slab, get, values}
@@ -41,15 +40,6 @@ RisesTo slab keys key count = (entries : List (LockKey × Lock)) → AreKeysOf s
 abbrev pub IsOf : Slab (LockKey × Lock) → ℕ → LockKey → Type 0
 IsOf slab key name = (lock : Lock) × (get slab key ≡ Some (name, lock))
 
--- the entries under these keys
-abbrev pub told : Slab (LockKey × Lock) → List ℕ → List (LockKey × Lock)
-told slab keys = filter_map (get slab) keys
-
--- the entries under the keys of these lists
-abbrev pub told_of : {Z : Type 0} → Slab (LockKey × Lock) → List (Vec ℕ Z) → List (LockKey × Lock)
-told_of slab [] = []
-told_of slab (keys ∷ rest) = told slab keys.items ++ told_of slab rest
-
 -- no key stands twice, and there are as many as entries
 abbrev pub HasOneKeyEach : List ℕ → List (LockKey × Lock) → Type 0
 HasOneKeyEach keys entries = IsDistinct nat_eq keys × (length keys ≡ length entries)
@@ -57,3 +47,7 @@ HasOneKeyEach keys entries = IsDistinct nat_eq keys × (length keys ≡ length e
 -- the same lock, stable
 abbrev pub steady : Lock → Lock
 steady lock = record { mode = lock.mode; since = lock.since; version = lock.version; stable = true }
+
+-- the lock under a key, if there is one, is stable
+abbrev pub IsStableAt : Slab (LockKey × Lock) → ℕ → Type 0
+IsStableAt slab key = (entry : LockKey × Lock) → get slab key ≡ Some entry → entry.1.stable ≡ true

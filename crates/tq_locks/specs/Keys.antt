@@ -1,5 +1,6 @@
 -- Lists of keys, each under a name.
-use Rattle.std.specs.Prelude.{◌<◌, ℕ, suc, List, [], ◌∷◌, vec_len, vec_capacity, IsSomeAnd, if◌then◌else◌}
+use Rattle.std.specs.Prelude.{◌<◌, ℕ, suc, List, [], ◌∷◌, vec_len, vec_capacity, IsSomeAnd, if◌then◌else◌, ◌++◌, filter_map}
+use Rattle.slab.specs.Slab.{Slab, get as in_slab}
 use Rattle.std.specs.Option.{option_map_or}
 use Rattle.std.specs.declared.vec.Vec.{Vec}
 use Rattle.std.specs.BTreeMap.{BTreeMap, get}
@@ -19,3 +20,12 @@ module _ {K Z : Type 0} (cmp : K → K → Ordering) where
 abbrev pub place : {K X : Type 0} → (K → K → Ordering) → K → List (K × X) → ℕ
 place cmp key [] = 0
 place cmp key (entry ∷ rest) = if is_lt (cmp entry.0 key) then suc (place cmp key rest) else 0
+
+-- the entries under these keys
+abbrev pub told : {X : Type 0} → Slab X → List ℕ → List X
+told slab keys = filter_map (in_slab slab) keys
+
+-- the entries under the keys of these lists
+abbrev pub told_of : {X Z : Type 0} → Slab X → List (Vec ℕ Z) → List X
+told_of slab [] = []
+told_of slab (keys ∷ rest) = told slab keys.items ++ told_of slab rest

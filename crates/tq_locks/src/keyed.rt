@@ -1,18 +1,20 @@
 //! The entries of a table in a slab, with the keys of each file and of each transaction.
 ghost use Rattle.std.specs.Prelude.{◌≡◌, ◌+◌, ◌≤◌, ◌==◌, ℕ, if◌then◌else◌, List, None, Some, IsSome, IfSome, IfNone, IfOk, OnOk, OnErr, false, [], ◌∷◌, length};
 ghost use Rattle.std.specs.FinMap as fin;
+ghost use Rattle.std.specs.List.{slice_get};
 ghost use Rattle.std.specs.Option.{option_copied, option_map, option_map_or};
 ghost use Rattle.std.specs.Ordering.{nat_cmp, is_lt};
 ghost use Rattle.tq_store.specs.Copies.{name_cmp};
 ghost use Rattle.slab.specs.Slab.{get, slab_len, Updates};
 ghost use Rattle.tq_locks.specs.Locks.{LockKey, Locks, lock_cmp, kept, released, only_stable};
-ghost use Rattle.tq_locks.specs.Keys.{keys_at, place};
+ghost use Rattle.tq_locks.specs.Keys.{keys_at, place, told};
 
 use crate::lists::{listed, make_room, put_at, take_at};
 use crate::{Lock, LockEntry};
 use slab::Slab;
 use std::alloc::{AllocError, Global};
 use std::collections::BTreeMap;
+use std::marker::Model;
 use tq_store::FileName;
 
 /// The entries, each under its key, and the keys of each file and of each transaction.
@@ -25,7 +27,7 @@ pub(crate) struct KeyedLocks {
 }
 
 impl KeyedLocks {
-    ghost use Rattle.tq_locks.specs.Kept.{locks_in, on_file, Agrees, AreKeysOf, IsOf, RisesTo, steady, told};
+    ghost use Rattle.tq_locks.specs.Kept.{locks_in, on_file, Agrees, AreKeysOf, IsOf, IsStableAt, RisesTo, steady};
     ghost use Rattle.tq_locks.specs.declared.mode.Lock.{Lock};
 
     pub(crate) fn new(alloc: Global) -> KeyedLocks
@@ -78,20 +80,14 @@ impl KeyedLocks {
         keys.partition_point(|key| self.is_below(*key, file, txn))
     }
 
-    /// The first entry under the keys, and the keys after it.
-    pub(crate) fn first_of<'a>(&self, keys: &'a [usize]) -> (Option<LockEntry>, &'a [usize])
-        ensures some { IfSome result.0 (λ entry. told self.now.entries keys.now ≡ entry ∷ told self.now.entries result.1.now) }
-        ensures none { IfNone result.0 (told self.now.entries keys.now ≡ []) }
-        ensures all { IfNone result.0 (result.1.now ≡ []) }
+    /// The entries under these keys.
+    pub(crate) fn listed<'a>(&'a self, keys: &'a [usize]) -> Listed<'a>
+        ensures { result ≡ told self.now.entries keys.now }
     {
-        let mut left = keys;
-        while let Some((key, rest)) = left.split_first() {
-            left = rest;
-            if let Some(entry) = self.entry(*key) {
-                return (Some(*entry), left);
-            }
+        Listed {
+            entries: &self.entries,
+            keys,
         }
-        (None, left)
     }
 
     /// The key of the entry of a file and a transaction.
@@ -195,15 +191,28 @@ impl KeyedLocks {
         );
     }
 
+    // Makes the lock at a place of a transaction's keys stable.
+    fn stabilise_at(&mut self, txn: u64, place: usize)
+        requires { Agrees self.old (locks_in self.old) }
+        ensures agreed { Agrees self.new (locks_in self.new) }
+        ensures kept { kept (locks_in self.new) txn ≡ kept (locks_in self.old) txn }
+        ensures keys { keys_at nat_cmp self.new.by_txn txn ≡ keys_at nat_cmp self.old.by_txn txn }
+        ensures stable { (key : ℕ) → slice_get (keys_at nat_cmp self.old.by_txn txn) place ≡ Some key → IsStableAt self.new.entries key }
+        ensures others { (other : ℕ) → IsStableAt self.old.entries other → IsStableAt self.new.entries other }
+    {
+        let Some(key) = self.keys_of_txn(txn).get(place).copied() else {
+            return;
+        };
+        self.stabilise(key);
+    }
+
     /// Makes the locks of a transaction stable.
     pub(crate) fn keep(&mut self, txn: u64)
         requires { Agrees self.old (locks_in self.old) }
         ensures { Agrees self.new (kept (locks_in self.old) txn) }
     {
         for place in 0..self.keys_of_txn(txn).len() {
-            if let Some(key) = self.keys_of_txn(txn).get(place).copied() {
-                self.stabilise(key);
-            }
+            self.stabilise_at(txn, place);
         }
     }
 
@@ -217,17 +226,68 @@ impl KeyedLocks {
         }
     }
 
+    // Ends the lock under a key unless it is stable.
+    fn end_unstable(&mut self, key: usize)
+        requires { Agrees self.old (locks_in self.old) }
+        ensures agreed { Agrees self.new (locks_in self.new) }
+        ensures left { only_stable (locks_in self.new) ≡ only_stable (locks_in self.old) }
+        ensures stable { IsStableAt self.new.entries key }
+        ensures others { (other : ℕ) → IsStableAt self.old.entries other → IsStableAt self.new.entries other }
+    {
+        let Some(entry) = self.entry(key) else {
+            return;
+        };
+        if entry.lock.stable {
+            return;
+        }
+        self.remove(key);
+    }
+
     /// Ends the locks that aren't stable.
     pub(crate) fn drop_unstable(&mut self)
         requires { Agrees self.old (locks_in self.old) }
         ensures { Agrees self.new (only_stable (locks_in self.old)) }
     {
         for key in 0..self.entries.capacity() {
-            if let Some(entry) = self.entry(key) {
-                if !entry.lock.stable {
-                    self.remove(key);
-                }
+            self.end_unstable(key);
+        }
+    }
+}
+
+/// The entries under keys that are left to walk.
+#[derive(Drop)]
+pub(crate) struct Listed<'a> {
+    entries: &'a Slab<LockEntry>,
+    keys: &'a [usize],
+}
+
+impl<'a> Model for Listed<'a> {
+    ghost use Rattle.std.specs.Prelude.{List};
+    ghost use Rattle.tq_locks.specs.Locks.{LockKey};
+    ghost use Rattle.tq_locks.specs.declared.mode.Lock.{Lock};
+    ghost use Rattle.tq_locks.specs.Keys.{told};
+
+    ghost Value = { List (LockKey × Lock) };
+
+    ghost view = { λ it. told it.entries.now it.keys.now };
+}
+
+impl<'a> Iterator for Listed<'a> {
+    ghost use Rattle.std.specs.Iterator.{YieldsFirst, item_count};
+
+    type Item = LockEntry;
+
+    ghost next_gives = { YieldsFirst (λ rest. rest) };
+
+    ghost remaining = { item_count (λ rest. rest) };
+
+    fn next(&mut self) -> Option<LockEntry> {
+        while let Some((key, rest)) = self.keys.split_first() {
+            self.keys = rest;
+            if let Some(entry) = self.entries.get(*key) {
+                return Some(*entry);
             }
         }
+        None
     }
 }

@@ -1,7 +1,7 @@
 ghost use Rattle.std.specs.Prelude.{◌≡◌, OnOk, OnErr, IfOk, IfSome, IfNone, None, Some};
 ghost use Rattle.std.specs.FinMap as fin;
 
-use crate::keyed::KeyedLocks;
+use crate::keyed::{KeyedLocks, Listed};
 use crate::{Lock, Mode};
 use std::alloc::{AllocError, Global};
 use std::collections::btree_map::Values;
@@ -84,8 +84,8 @@ impl LockTable {
     {
         LockEntries {
             kept: &self.kept,
+            here: self.kept.listed(&[]),
             files: self.kept.by_file.values(),
-            keys: &[],
         }
     }
 
@@ -117,15 +117,13 @@ impl LockTable {
         ensures free { IfNone result (IsFree self.now file txn mode) }
     {
         // Locks on a file are in no conflict, so the first of another transaction decides for all.
-        for key in self.kept.keys_of_file(&file) {
-            if let Some(entry) = self.kept.entry(*key) {
-                if !(entry.txn == txn) {
-                    return if mode.conflicts_with(entry.lock.mode) {
-                        Some(entry.txn)
-                    } else {
-                        None
-                    };
-                }
+        for entry in self.kept.listed(self.kept.keys_of_file(&file)) {
+            if !(entry.txn == txn) {
+                return if mode.conflicts_with(entry.lock.mode) {
+                    Some(entry.txn)
+                } else {
+                    None
+                };
             }
         }
         None
@@ -194,10 +192,8 @@ impl LockTable {
         ensures { IfOk result (λ held. held.items ≡ held_of self.now txn) }
     {
         let mut held = Vec::new(alloc);
-        for key in self.kept.keys_of_txn(txn) {
-            if let Some(entry) = self.kept.entry(*key) {
-                held.push(*entry)?;
-            }
+        for entry in self.kept.listed(self.kept.keys_of_txn(txn)) {
+            held.push(entry)?;
         }
         Ok(held)
     }
@@ -235,21 +231,20 @@ impl LockTable {
 #[derive(Drop)]
 pub struct LockEntries<'a> {
     kept: &'a KeyedLocks,
-    // The keys of the files that are to come, and those of the file that is walked.
+    // Those of the file that is walked, and the keys of the files that are to come.
+    here: Listed<'a>,
     files: Values<'a, FileName, Vec<usize>>,
-    keys: &'a [usize],
 }
 
 impl<'a> Model for LockEntries<'a> {
-    ghost use Rattle.std.specs.Prelude.{List};
+    ghost use Rattle.std.specs.Prelude.{List, ◌++◌};
     ghost use Rattle.tq_locks.specs.Locks.{LockKey};
     ghost use Rattle.tq_locks.specs.declared.mode.Lock.{Lock};
-    ghost use Rattle.tq_locks.specs.Kept.{told, told_of};
-    ghost use Rattle.std.specs.Prelude.{◌++◌};
+    ghost use Rattle.tq_locks.specs.Keys.{told_of};
 
     ghost Value = { List (LockKey × Lock) };
 
-    ghost view = { λ it. told it.kept.now.entries it.keys.now ++ told_of it.kept.now.entries it.files };
+    ghost view = { λ it. it.here ++ told_of it.kept.now.entries it.files };
 }
 
 impl<'a> Iterator for LockEntries<'a> {
@@ -263,12 +258,11 @@ impl<'a> Iterator for LockEntries<'a> {
 
     fn next(&mut self) -> Option<LockEntry> {
         loop {
-            let (entry, rest) = self.kept.first_of(self.keys);
-            self.keys = rest;
+            let entry = self.here.next();
             if entry.is_some() {
                 return entry;
             }
-            self.keys = self.files.next()?.as_slice();
+            self.here = self.kept.listed(self.files.next()?);
         }
     }
 }
