@@ -1,14 +1,15 @@
 -- What the methods of the kept locks find and leave.
-use Rattle.std.proofs.Common.{◌≡◌, ◌≢◌, ℕ, zero, suc, ◌==◌, Bool, true, false, cond, List, [], ◌∷◌, map, filter, length, Option, Some, None, IfNone, Result, Ok, Err, OnErr, refl, ap, sym, subst, ◌∙◌, ◌⊎◌, inl, inr, ◌<◌, ltb, lt-ltb, ltb-true, get_or, arith}
+use Rattle.std.proofs.Common.{◌≡◌, ◌≢◌, ℕ, zero, suc, ◌==◌, Bool, true, false, cond, List, [], ◌∷◌, map, filter, length, Option, Some, None, is_some, IfNone, IfSome, Bor, Result, Ok, Err, OnErr, refl, ap, sym, subst, ◌∙◌, ◌⊎◌, inl, inr, ◌<◌, ◌-◌, nat_eq, ltb, lt-ltb, ltb-true, get_or, arith}
 use lib.Dec.{T}
 use mathlib.Core.Bool.{true≢false}
 use Rattle.std.proofs.lemmas.Bool.Decides.{nat_tests}
 use Rattle.std.specs.BTreeMap.{is_at}
 use Rattle.std.specs.FinMap as fin
-use Rattle.std.specs.FinMap.Entries.{find, is_sorted, is_sorted-where_key, find-where_key}
-use Rattle.std.specs.List.{insert, remove, slice_get}
+use Rattle.std.specs.FinMap.Entries.{find, is_sorted, below_all, is_sorted-where_key, find-where_key}
+use Rattle.std.specs.List.{insert, remove, slice_get, filter_map, cons_option, AllByRecursion, IsDistinct}
+use Rattle.std.proofs.lemmas.Cmp.{tied_itself}
 use Rattle.std.specs.Map.{lookup}
-use Rattle.std.specs.Option.{option_map_or}
+use Rattle.std.specs.Option.{option_map_or, option_copied}
 use Rattle.std.specs.Ordering.{is_lt, is_eq, nat_cmp}
 use Rattle.std.specs.declared.cmp.Ordering.{Ordering}
 use Rattle.std.specs.declared.cmp.Ordering.TheVariants.{Less, Equal, Greater}
@@ -22,7 +23,7 @@ use Rattle.tq_locks.specs.Locks.{LockKey, Locks, lock_cmp, held_of}
 use Rattle.tq_locks.specs.Keys.{keys_at, place}
 use Rattle.tq_locks.specs.Kept.{locks_in, on_file, AreKeysOf, Agrees, RisesTo}
 use Rattle.tq_locks.proofs.LockMaps.{locks_total, locks_same}
-use Rattle.tq_locks.proofs.Found.{none_some, some_same, first, second, below_each, Has-looked_up}
+use Rattle.tq_locks.proofs.Found.{none_some, some_same, first, second, less, below_each, Has-looked_up}
 use Rattle.tq_locks.proofs.Placed.{turned}
 use Rattle.tq_locks.proofs.Agreed.{head_of, tail_of, nil_cons, item_of, Has-filter, alike}
 use Rattle.tq_locks.proofs.Changed.{Agrees-put, Agrees-remove}
@@ -180,3 +181,79 @@ module _ (kept : KeyedLocks) (locks : Locks) (a : Agrees kept locks) (file : Lis
 pub OnErr-any : {A E : Type 0} (P : Type 0) (r : Result A E) → P → OnErr r P
 OnErr-any P (Ok x) p = tt
 OnErr-any P (Err x) p = p
+
+-- a key that a look-up in a list copied
+pub copied_at : (o : Option (Bor ℕ)) (keys : List ℕ) (i k : ℕ) → Some k ≡ option_copied o → is_some o ≡ ltb i (length keys) → IfSome o (λ x. x.now ≡ get_or keys i x.now) → slice_get keys i ≡ Some k
+copied_at None keys i k e l at = absurd (none_some k (sym e))
+copied_at (Some x) keys i k e l at =
+    let same : k ≡ x.now = some_same k x.now e in
+    looked_at keys i x.now l at ∙ ap Some (sym same)
+
+pub cond_same : {A : Type 0} (k : ℕ) (x y : A) → cond (k == k) x y ≡ x
+cond_same k x y = ap (λ b. cond b x y) (itself_number k)
+  where
+    itself_number : (n : ℕ) → (n == n) ≡ true
+    itself_number n = grind (arith, nat_tests)
+
+-- keys find all entries of a list
+pub told-listed : {A : Type 0} (f : ℕ → Option A) (keys : List ℕ) (xs : List A) → map f keys ≡ map Some xs → filter_map f keys ≡ xs
+told-listed f [] [] e = refl
+told-listed f [] (x ∷ xs) e = absurd (nil_cons (Some x) (map Some xs) e)
+told-listed f (k ∷ keys) [] e = absurd (nil_cons (f k) (map f keys) (sym e))
+told-listed f (k ∷ keys) (x ∷ xs) e = λ i. cons_option (head_of (f k) (Some x) (map f keys) (map Some xs) e i) (told-listed f keys xs (tail_of (f k) (Some x) (map f keys) (map Some xs) e) i)
+
+-- the entry under a key of a transaction's list
+pub entry_of_key : (kept : KeyedLocks) (locks : Locks) → Agrees kept locks → (txn : ℕ) (keys : List ℕ) (i k : ℕ) → keys ≡ keys_at nat_cmp kept.by_txn txn → slice_get keys i ≡ Some k → (e : Entry) × (e.0.1 ≡ txn) × (get kept.entries k ≡ Some e)
+entry_of_key kept locks a txn keys i k are at =
+    let x = item_of (get kept.entries) keys (held_of locks txn) k (ap (map (get kept.entries)) are ∙ a.of_txn txn) (Has-at keys i k at) in
+    (x.0, same_number x.0.0.1 (Has-filter (λ (y : Entry). y.0.1 == txn) (fin.entries locks) x.0 x.1).1, x.2)
+  where
+    same_number : (n : ℕ) → (n == txn) ≡ true → n ≡ txn
+    same_number n h = grind (arith, nat_tests)
+
+pub empty_keys : (kept : KeyedLocks) (locks : Locks) → Agrees kept locks → (txn : ℕ) → keys_at nat_cmp kept.by_txn txn ≡ [] → held_of locks txn ≡ []
+empty_keys kept locks a txn e = by_list (held_of locks txn) (sym (ap (map (get kept.entries)) e) ∙ a.of_txn txn)
+  where
+    by_list : (xs : List Entry) → [] ≡ map Some xs → xs ≡ []
+    by_list [] h = refl
+    by_list (x ∷ xs) h = absurd (nil_cons (Some x) (map Some xs) h)
+
+-- distinct entries are under distinct keys
+all_other : (f : ℕ → Option Entry) (k : ℕ) (x : Entry) (keys : List ℕ) (xs : List Entry) → f k ≡ Some x → map f keys ≡ map Some xs → T (below_all lock_cmp x.0 xs) → AllByRecursion (λ j. nat_eq k j ≡ false) keys
+all_other f k x [] xs e m t = tt
+all_other f k x (j ∷ keys) [] e m t = absurd (nil_cons (f j) (map f keys) (sym m))
+all_other f k x (j ∷ keys) (y ∷ xs) e m t =
+    (by_test (nat_eq k j) refl, all_other f k x keys xs e (tail_of (f j) (Some y) (map f keys) (map Some xs) m) (second (is_lt (lock_cmp x.0 y.0)) (below_all lock_cmp x.0 xs) t))
+  where
+    by_test : (b : Bool) → nat_eq k j ≡ b → b ≡ false
+    by_test false h = refl
+    by_test true h =
+        let one : k ≡ j = grind (arith, nat_tests) in
+        let same : x ≡ y = some_same x y (sym e ∙ ap f one ∙ head_of (f j) (Some y) (map f keys) (map Some xs) m) in
+        absurd (true≢false (ap is_lt (sym (less (lock_cmp x.0 y.0) (first (is_lt (lock_cmp x.0 y.0)) (below_all lock_cmp x.0 xs) t)) ∙ ap (λ (z : Entry). lock_cmp x.0 z.0) (sym same) ∙ tied_itself locks_total x.0)))
+
+pub distinct_keys : (f : ℕ → Option Entry) (keys : List ℕ) (xs : List Entry) → map f keys ≡ map Some xs → T (is_sorted lock_cmp xs) → IsDistinct nat_eq keys
+unfolding IsDistinct
+distinct_keys f [] xs e t = tt
+distinct_keys f (k ∷ keys) [] e t = absurd (nil_cons (f k) (map f keys) (sym e))
+distinct_keys f (k ∷ keys) (x ∷ xs) e t =
+    (all_other f k x keys xs (head_of (f k) (Some x) (map f keys) (map Some xs) e) (tail_of (f k) (Some x) (map f keys) (map Some xs) e) (first (below_all lock_cmp x.0 xs) (is_sorted lock_cmp xs) t),
+     distinct_keys f keys xs (tail_of (f k) (Some x) (map f keys) (map Some xs) e) (second (below_all lock_cmp x.0 xs) (is_sorted lock_cmp xs) t))
+
+pub as_many : (f : ℕ → Option Entry) (keys : List ℕ) (xs : List Entry) → map f keys ≡ map Some xs → length keys ≡ length xs
+as_many f [] [] e = refl
+as_many f [] (x ∷ xs) e = absurd (nil_cons (Some x) (map Some xs) e)
+as_many f (k ∷ keys) [] e = absurd (nil_cons (f k) (map f keys) (sym e))
+as_many f (k ∷ keys) (x ∷ xs) e = ap suc (as_many f keys xs (tail_of (f k) (Some x) (map f keys) (map Some xs) e))
+
+-- a list with no last item is empty
+pub no_last : (keys : List ℕ) → slice_get keys (length keys - 1) ≡ None → keys ≡ []
+no_last [] h = refl
+no_last (k ∷ keys) h = absurd (by_last k keys h)
+  where
+    by_last : (k : ℕ) (keys : List ℕ) → slice_get (k ∷ keys) (length (k ∷ keys) - 1) ≡ None → ⊥
+    by_last k keys h = let e : length (k ∷ keys) - 1 ≡ length keys = omega arith in past k keys (ap (slice_get (k ∷ keys)) (sym e) ∙ h)
+      where
+        past : (k : ℕ) (keys : List ℕ) → slice_get (k ∷ keys) (length keys) ≡ None → ⊥
+        past k [] h = none_some k (sym h)
+        past k (j ∷ keys) h = past j keys h

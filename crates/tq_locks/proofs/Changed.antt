@@ -245,6 +245,9 @@ module _ (old new : KeyedLocks) (locks : Locks) (a : Agrees old locks) (q : Lock
 pub closed : (kept : KeyedLocks) (locks : Locks) → Agrees kept locks → HasNoConflict locks → Agrees kept (locks_in kept) × HasNoConflict (locks_in kept)
 closed kept locks a h = let e = sym (locks_in-agreed kept locks a) in (subst (Agrees kept) e a, subst HasNoConflict e h)
 
+pub agreed_self : (kept : KeyedLocks) (locks : Locks) → Agrees kept locks → Agrees kept (locks_in kept)
+agreed_self kept locks a = subst (Agrees kept) (sym (locks_in-agreed kept locks a)) a
+
 same_sets : (m n : Locks) → ((q : LockKey) → fin.get m q ≡ fin.get n q) → m ≡ n
 same_sets = fin.same_map locks_total locks_same
 
