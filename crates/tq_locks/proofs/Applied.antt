@@ -1,7 +1,8 @@
 -- What the methods of the kept locks find and leave.
-use Rattle.std.proofs.Common.{◌≡◌, ◌≢◌, ℕ, zero, suc, ◌==◌, Bool, true, false, cond, List, [], ◌∷◌, map, filter, length, Option, Some, None, is_some, IfNone, IfSome, Bor, Result, Ok, Err, OnErr, refl, ap, sym, subst, ◌∙◌, ◌⊎◌, inl, inr, ◌<◌, ◌-◌, nat_eq, ltb, lt-ltb, ltb-true, get_or, arith}
+use Rattle.std.proofs.Common.{◌≡◌, ◌≢◌, ℕ, zero, suc, ◌==◌, Bool, true, false, cond, List, [], ◌∷◌, map, filter, length, Option, Some, None, is_some, IfNone, IfSome, Bor, Result, Ok, Err, OnErr, refl, ap, sym, subst, ◌∙◌, ◌⊎◌, inl, inr, ◌<◌, ◌≤◌, ◌-◌, nat_eq, ltb, lt-ltb, ltb-true, get_or, arith}
 use lib.Dec.{T}
 use mathlib.Core.Bool.{true≢false}
+use Rattle.std.proofs.lemmas.Bool.{cases_lt}
 use Rattle.std.proofs.lemmas.Bool.Decides.{nat_tests}
 use Rattle.std.specs.BTreeMap.{is_at}
 use Rattle.std.specs.FinMap as fin
@@ -26,7 +27,7 @@ use Rattle.tq_locks.proofs.LockMaps.{locks_total, locks_same}
 use Rattle.tq_locks.proofs.Found.{none_some, some_same, first, second, less, below_each, Has-looked_up}
 use Rattle.tq_locks.proofs.Placed.{turned}
 use Rattle.tq_locks.proofs.Agreed.{head_of, tail_of, nil_cons, item_of, Has-filter, alike}
-use Rattle.tq_locks.proofs.Changed.{Agrees-put, Agrees-remove}
+use Rattle.tq_locks.proofs.Changed.{Agrees-put, Agrees-remove, key_of_lock}
 
 abbrev Entry : Type 0
 Entry = LockKey × Lock
@@ -257,3 +258,27 @@ no_last (k ∷ keys) h = absurd (by_last k keys h)
         past : (k : ℕ) (keys : List ℕ) → slice_get (k ∷ keys) (length keys) ≡ None → ⊥
         past k [] h = none_some k (sym h)
         past k (j ∷ keys) h = past j keys h
+
+-- what holds below a place and from there on holds of all
+pub all_below : (P : ℕ → Type 0) (at end : ℕ) → ((k : ℕ) → k < at → P k) → ((k : ℕ) → end ≤ k → P k) → end ≤ at → (k : ℕ) → P k
+all_below P at end below above past k = elim (cases_lt k at) [
+    | inl less ↦ below k less
+    | inr more ↦ above k (omega (arith, more, past))
+  ]
+
+index_of : (keys : List ℕ) (k : ℕ) → Has keys k → (i : ℕ) × (i < length keys) × (slice_get keys i ≡ Some k)
+index_of [] k h = absurd h
+index_of (j ∷ keys) k (inl s) = (0, omega arith, ap Some s)
+index_of (j ∷ keys) k (inr h) = let r = index_of keys k h in (suc r.0, omega (arith, r.1), r.2)
+
+-- what holds at each of a transaction's keys holds of its locks
+pub at_each_key : (kept : KeyedLocks) (locks : Locks) → Agrees kept locks → (P : Lock → Type 0) (txn end : ℕ) (keys : List ℕ) → keys_at nat_cmp kept.by_txn txn ≡ keys → length keys ≤ end
+    → ((i k : ℕ) → i < end → slice_get keys i ≡ Some k → (e : Entry) → get kept.entries k ≡ Some e → P e.1) → (q : LockKey) (l : Lock) → (q.1 == txn) ≡ true → fin.get locks q ≡ Some l → P l
+at_each_key kept locks a P txn end keys are past each q l t f =
+    let one : q.1 ≡ txn = same_number q.1 t in
+    let at = key_of_lock kept locks a q l f in
+    let i = index_of keys at.0 (subst (λ ks. Has ks at.0) (ap (keys_at nat_cmp kept.by_txn) one ∙ are) at.1) in
+    each i.0 at.0 (omega (arith, i.1, past)) i.2 (q, l) at.2
+  where
+    same_number : (n : ℕ) → (n == txn) ≡ true → n ≡ txn
+    same_number n h = grind (arith, nat_tests)
