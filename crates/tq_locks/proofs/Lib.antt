@@ -7,4 +7,5 @@ pub mod Agreed
 pub mod Partition
 pub mod Changed
 pub mod Applied
+pub mod Walked
 pub mod Locked
