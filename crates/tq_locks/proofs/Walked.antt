@@ -10,6 +10,7 @@ use Rattle.std.specs.FinMap.{slice_cmp-IsAntisymmetric, nat_cmp-IsAntisymmetric}
 use Rattle.std.specs.FinMap.Entries.{is_sorted, below_all}
 use Rattle.std.specs.List.Sorted.{IsStrictlySortedBy}
 use Rattle.std.specs.Map.{lookup, keys_of, values_of}
+use Rattle.std.specs.Option.{option_map_or}
 use Rattle.std.specs.Ordering.{is_lt, nat_cmp, ordering_then, ordering_reverse}
 use Rattle.std.specs.declared.cmp.Ordering.{Ordering}
 use Rattle.std.specs.declared.cmp.Ordering.TheVariants.{Less, Equal, Greater}
@@ -32,8 +33,26 @@ use Rattle.tq_locks.proofs.Applied.{told-listed}
 abbrev Entry : Type 0
 Entry = LockKey × Lock
 
-on : List ℕ → Entry → Bool
-on f e = same_name f e.0.0
+no_block : (f : List ℕ) (es : List Entry) → ((e : Entry) → Has es e → same_name f e.0.0 ≡ false) → filter (λ e. same_name f e.0.0) es ≡ []
+no_block f [] off = refl
+no_block f (e ∷ es) off = ap (λ b. cond b (e ∷ filter (λ e. same_name f e.0.0) es) (filter (λ e. same_name f e.0.0) es)) (off e (inl refl)) ∙ no_block f es (λ x h. off x (inr h))
+
+unlike : (f g : List ℕ) → name_cmp f g ≡ Less → same_name g f ≡ false
+unlike f g h = by_test (same_name g f) refl
+  where
+    by_test : (b : Bool) → same_name g f ≡ b → b ≡ false
+    by_test false e = refl
+    by_test true e = absurd (true≢false (ap is_lt (sym h ∙ ap (name_cmp f) (same_text g f (sym e)) ∙ tied_itself nat_list_cmp_total f)))
+
+-- an entry of a file before another's is not above one of that
+not_before : (f : List ℕ) (e x : Entry) → name_cmp f e.0.0 ≡ Less → lock_cmp e.0 x.0 ≡ Less → same_name f x.0.0 ≡ false
+not_before f e x h below = by_test (same_name f x.0.0) refl
+  where
+    by_test : (b : Bool) → same_name f x.0.0 ≡ b → b ≡ false
+    by_test false t = refl
+    by_test true t =
+        let turned : name_cmp e.0.0 x.0.0 ≡ Greater = ap (name_cmp e.0.0) (sym (same_text f x.0.0 (sym t))) ∙ nat_list_cmp_total.antisymm e.0.0 f ∙ ap ordering_reverse h in
+        absurd (true≢false (ap is_lt (sym below ∙ ap (λ r. ordering_then r (nat_cmp e.0.1 x.0.1)) turned)))
 
 module _ {X : Type 0} where
   -- the entries of each file in turn
@@ -41,30 +60,9 @@ module _ {X : Type 0} where
   blocks_of [] es = []
   blocks_of (f ∷ fs) es = filter (λ e. same_name f.0 e.0.0) es ++ blocks_of fs es
 
-  no_block : (f : List ℕ) (es : List Entry) → ((e : Entry) → Has es e → same_name f e.0.0 ≡ false) → filter (λ e. same_name f e.0.0) es ≡ []
-  no_block f [] told = refl
-  no_block f (e ∷ es) told = ap (λ b. cond b (e ∷ filter (λ e. same_name f e.0.0) es) (filter (λ e. same_name f e.0.0) es)) (told e (inl refl)) ∙ no_block f es (λ x h. told x (inr h))
-
   skipped : (fs : List (List ℕ × X)) (e : Entry) (es : List Entry) → ((f : List ℕ × X) → Has fs f → same_name f.0 e.0.0 ≡ false) → blocks_of fs (e ∷ es) ≡ blocks_of fs es
   skipped [] e es told = refl
   skipped (f ∷ fs) e es told = λ i. cond (told f (inl refl) i) (e ∷ filter (λ x. same_name f.0 x.0.0) es) (filter (λ x. same_name f.0 x.0.0) es) ++ skipped fs e es (λ g h. told g (inr h)) i
-
-  unlike : (f g : List ℕ) → name_cmp f g ≡ Less → same_name g f ≡ false
-  unlike f g h = by_test (same_name g f) refl
-    where
-      by_test : (b : Bool) → same_name g f ≡ b → b ≡ false
-      by_test false e = refl
-      by_test true e = absurd (true≢false (ap is_lt (sym h ∙ ap (name_cmp f) (same_text g f (sym e)) ∙ tied_itself nat_list_cmp_total f)))
-
-  -- an entry of a file before another's is not above one of that
-  not_before : (f : List ℕ) (e x : Entry) → name_cmp f e.0.0 ≡ Less → lock_cmp e.0 x.0 ≡ Less → same_name f x.0.0 ≡ false
-  not_before f e x h below = by_test (same_name f x.0.0) refl
-    where
-      by_test : (b : Bool) → same_name f x.0.0 ≡ b → b ≡ false
-      by_test false t = refl
-      by_test true t =
-          let turned : name_cmp e.0.0 x.0.0 ≡ Greater = ap (name_cmp e.0.0) (sym (same_text f x.0.0 (sym t))) ∙ nat_list_cmp_total.antisymm e.0.0 f ∙ ap ordering_reverse h in
-          absurd (true≢false (ap is_lt (sym below ∙ ap (λ r. ordering_then r (nat_cmp e.0.1 x.0.1)) turned)))
 
   one_more : (fs : List (List ℕ × X)) (e : Entry) (es : List Entry) → T (is_sorted name_cmp fs) → (w : X) → Has fs (e.0.0, w) → ((x : Entry) → Has es x → lock_cmp e.0 x.0 ≡ Less) → blocks_of fs (e ∷ es) ≡ e ∷ blocks_of fs es
   one_more [] e es t w h below = absurd h
@@ -108,16 +106,12 @@ told_of-agreed kept locks a ordered =
     let sorted = sorted_test name_cmp files ordered in
     told_blocks kept.entries (fin.entries locks) files (λ f h.
     let found : lookup (is_at (name_cmp f.0)) files ≡ Some f.1 = sym (find_entry name_cmp files f.0) ∙ looked_up nat_list_cmp_total (slice_cmp-IsAntisymmetric nat_cmp-IsAntisymmetric) files f sorted h in
-    let keys : keys_at name_cmp kept.by_file f.0 ≡ f.1.items = ap (λ o. items_or o) found in
+    let keys : keys_at name_cmp kept.by_file f.0 ≡ f.1.items = ap (λ o. option_map_or (λ keys. keys.items) o []) found in
     told-listed (get kept.entries) f.1.items (on_file locks f.0) (ap (map (get kept.entries)) (sym keys) ∙ a.of_file f.0))
     ∙ all_blocks files (fin.entries locks) sorted (fin.entries_sorted locks) (λ e h. covers e h (lookup (is_at (name_cmp e.0.0)) files) refl)
   where
-    items_or : {Z : Type 0} → Option (Vec ℕ Z) → List ℕ
-    items_or None = []
-    items_or (Some keys) = keys.items
-
     covers : (e : Entry) → Has (fin.entries locks) e → (o : Option (Vec ℕ _)) → lookup (is_at (name_cmp e.0.0)) kept.by_file.entries ≡ o → (w : Vec ℕ _) × Has kept.by_file.entries (e.0.0, w)
     covers e h (Some w) f = (w, Has-looked_up nat_list_cmp_total (slice_cmp-IsAntisymmetric nat_cmp-IsAntisymmetric) kept.by_file.entries e.0.0 w (find_entry name_cmp kept.by_file.entries e.0.0 ∙ f))
     covers e h None f =
         let k = key_of (get kept.entries) (keys_at name_cmp kept.by_file e.0.0) (on_file locks e.0.0) e (a.of_file e.0.0) (filter-Has (λ (x : Entry). same_name e.0.0 x.0.0) (fin.entries locks) e h (nat_list_eq_equiv.refl e.0.0)) in
-        absurd (subst (λ ks. Has ks k.0) (ap (λ o. items_or o) f) k.1)
+        absurd (subst (λ ks. Has ks k.0) (ap (λ o. option_map_or (λ keys. keys.items) o []) f) k.1)
