@@ -1,5 +1,5 @@
 -- What the methods of the kept locks find and leave.
-use Rattle.std.proofs.Common.{◌≡◌, ◌≢◌, ℕ, zero, suc, ◌==◌, Bool, true, false, cond, List, [], ◌∷◌, map, filter, length, Option, Some, None, is_some, IfNone, IfSome, Bor, Result, Ok, Err, OnErr, refl, ap, sym, subst, ◌∙◌, ◌⊎◌, inl, inr, ◌<◌, ◌≤◌, ◌-◌, nat_eq, ltb, lt-ltb, ltb-true, get_or, arith}
+use Rattle.std.proofs.Common.{◌≡◌, ℕ, zero, suc, ◌==◌, Bool, true, false, cond, List, [], ◌∷◌, map, filter, length, Option, Some, None, is_some, IfNone, IfSome, Bor, Result, Ok, Err, OnErr, refl, ap, sym, subst, ◌∙◌, inl, inr, ◌<◌, ◌≤◌, ◌-◌, nat_eq, ltb, lt-ltb, ltb-true, get_or, arith}
 use lib.Dec.{T}
 use mathlib.Core.Bool.{true≢false}
 use Rattle.std.proofs.lemmas.Bool.{cases_lt}
@@ -14,7 +14,7 @@ use Rattle.std.specs.Option.{option_map_or, option_copied}
 use Rattle.std.specs.Ordering.{is_lt, is_eq, nat_cmp}
 use Rattle.std.specs.declared.cmp.Ordering.{Ordering}
 use Rattle.std.specs.declared.cmp.Ordering.TheVariants.{Less, Equal, Greater}
-use Rattle.slab.specs.Slab.{Slab, get, Updates}
+use Rattle.slab.specs.Slab.{get, Updates}
 use Rattle.tq_store.specs.Copies.{name_cmp}
 use Rattle.tq_store.specs.Names.{same_name}
 use Rattle.tq_shape.specs.Journal.{Has}
@@ -22,7 +22,7 @@ use Rattle.tq_locks.specs.declared.keyed.KeyedLocks.{KeyedLocks}
 use Rattle.tq_locks.specs.declared.mode.Lock.{Lock}
 use Rattle.tq_locks.specs.Locks.{LockKey, Locks, lock_cmp, held_of}
 use Rattle.tq_locks.specs.Keys.{keys_at, place}
-use Rattle.tq_locks.specs.Kept.{locks_in, on_file, AreKeysOf, Agrees, RisesTo}
+use Rattle.tq_locks.specs.Kept.{on_file, AreKeysOf, Agrees, RisesTo}
 use Rattle.tq_locks.proofs.LockMaps.{locks_total, locks_same}
 use Rattle.tq_locks.proofs.Found.{none_some, some_same, first, second, less, below_each, Has-looked_up}
 use Rattle.tq_locks.proofs.Placed.{turned}
@@ -237,9 +237,10 @@ pub distinct_keys : (f : ℕ → Option Entry) (keys : List ℕ) (xs : List Entr
 unfolding IsDistinct
 distinct_keys f [] xs e t = tt
 distinct_keys f (k ∷ keys) [] e t = absurd (nil_cons (f k) (map f keys) (sym e))
-distinct_keys f (k ∷ keys) (x ∷ xs) e t =
-    (all_other f k x keys xs (head_of (f k) (Some x) (map f keys) (map Some xs) e) (tail_of (f k) (Some x) (map f keys) (map Some xs) e) (first (below_all lock_cmp x.0 xs) (is_sorted lock_cmp xs) t),
-     distinct_keys f keys xs (tail_of (f k) (Some x) (map f keys) (map Some xs) e) (second (below_all lock_cmp x.0 xs) (is_sorted lock_cmp xs) t))
+distinct_keys f (k ∷ keys) (x ∷ xs) e t = (
+  all_other f k x keys xs (head_of (f k) (Some x) (map f keys) (map Some xs) e) (tail_of (f k) (Some x) (map f keys) (map Some xs) e) (first (below_all lock_cmp x.0 xs) (is_sorted lock_cmp xs) t),
+  distinct_keys f keys xs (tail_of (f k) (Some x) (map f keys) (map Some xs) e) (second (below_all lock_cmp x.0 xs) (is_sorted lock_cmp xs) t),
+)
 
 pub as_many : (f : ℕ → Option Entry) (keys : List ℕ) (xs : List Entry) → map f keys ≡ map Some xs → length keys ≡ length xs
 as_many f [] [] e = refl
@@ -262,9 +263,9 @@ no_last (k ∷ keys) h = absurd (by_last k keys h)
 -- what holds below a place and from there on holds of all
 pub all_below : (P : ℕ → Type 0) (at end : ℕ) → ((k : ℕ) → k < at → P k) → ((k : ℕ) → end ≤ k → P k) → end ≤ at → (k : ℕ) → P k
 all_below P at end below above past k = elim (cases_lt k at) [
-    | inl less ↦ below k less
-    | inr more ↦ above k (omega (arith, more, past))
-  ]
+  | inl less ↦ below k less
+  | inr more ↦ above k (omega (arith, more, past))
+]
 
 index_of : (keys : List ℕ) (k : ℕ) → Has keys k → (i : ℕ) × (i < length keys) × (slice_get keys i ≡ Some k)
 index_of [] k h = absurd h

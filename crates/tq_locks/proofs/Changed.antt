@@ -1,20 +1,19 @@
 -- A slab and its indexes still agree with the set of locks after a change of one entry.
-use Rattle.std.proofs.Common.{◌≡◌, ◌≢◌, ℕ, ◌==◌, Bool, true, false, cond, not, ◌||◌, List, [], ◌∷◌, map, filter, Option, Some, None, refl, ap, sym, subst, ◌∙◌, ◌⊎◌, inl, inr, nat_eq, arith}
+use Rattle.std.proofs.Common.{◌≡◌, ◌≢◌, ℕ, ◌==◌, Bool, true, false, cond, not, ◌||◌, List, [], ◌∷◌, map, filter, Option, Some, None, refl, ap, sym, subst, ◌∙◌, ◌⊎◌, inl, inr, arith}
 use mathlib.Core.Bool.{true≢false}
 use Rattle.std.proofs.lemmas.Bool.{cases_eq}
 use Rattle.std.proofs.lemmas.Bool.Decides.{nat_tests}
-use Rattle.std.proofs.lemmas.Cmp.{tied_itself, ranked}
+use Rattle.std.proofs.lemmas.Cmp.{tied_itself}
 use Rattle.std.specs.BTreeMap.{is_at}
 use Rattle.std.specs.Cmp.{eq_by_cmp_equiv, nat_cmp_total}
 use Rattle.std.specs.Cmp.Lexicographic.{same_text, nat_list_cmp_total, nat_list_eq_equiv}
 use Rattle.std.specs.FinMap as fin
 use Rattle.std.specs.FinMap.{slice_cmp-IsAntisymmetric, nat_cmp-IsAntisymmetric}
-use Rattle.std.specs.FinMap.Entries.{put, find, where_key, is_sorted, is_sorted-where_key, find-where_key, same_entries}
-use Rattle.std.specs.List.{insert, remove, filter_map}
+use Rattle.std.specs.FinMap.Entries.{find, is_sorted-where_key, find-where_key, same_entries}
+use Rattle.std.specs.List.{insert, remove}
 use Rattle.std.specs.Option.{option_map, option_map_or}
 use Rattle.std.specs.Ordering.{is_eq, eq_by_cmp, nat_cmp}
-use Rattle.std.specs.declared.cmp.Ordering.TheVariants.{Equal}
-use Rattle.slab.specs.Slab.{Slab, get, values, Updates}
+use Rattle.slab.specs.Slab.{get, values, Updates}
 use Rattle.tq_store.specs.Copies.{name_cmp}
 use Rattle.tq_store.specs.Names.{same_name}
 use Rattle.tq_shape.proofs.Orderings.{is_eq-Equal}
@@ -23,12 +22,12 @@ use Rattle.tq_locks.specs.declared.keyed.KeyedLocks.{KeyedLocks}
 use Rattle.tq_locks.specs.declared.mode.Lock.{Lock}
 use Rattle.tq_locks.specs.Locks.{LockKey, Locks, lock_cmp, held_of, released, only_stable, kept, stabilised, HasNoConflict}
 use Rattle.tq_locks.specs.Keys.{keys_at, place}
-use Rattle.tq_locks.specs.Kept.{locks_in, on_file, AreKeysOf, Agrees, steady}
+use Rattle.tq_locks.specs.Kept.{locks_in, on_file, Agrees, steady}
 use Rattle.tq_locks.proofs.LockMaps.{locks_total, locks_same}
-use Rattle.tq_locks.proofs.Found.{none_some, some_same, Has-looked_up, entry_of, get-entry_of}
+use Rattle.tq_locks.proofs.Found.{none_some, some_same, Has-looked_up, entry_of}
 use Rattle.tq_locks.proofs.Locked.{same_key, get-released, get-only_stable, get-kept}
 use Rattle.tq_locks.proofs.Placed.{other_keys}
-use Rattle.tq_locks.proofs.Agreed.{put_listed, set_listed, remove_listed, filter-Has, Has-filter, key_of, item_of, Has-values, values-Has, itself, apart, differ, alike}
+use Rattle.tq_locks.proofs.Agreed.{put_listed, set_listed, remove_listed, filter-Has, key_of, Has-values, values-Has, itself, apart, alike}
 
 abbrev Entry : Type 0
 Entry = LockKey × Lock

@@ -1,6 +1,5 @@
 pub mod Ordered
 pub mod LockMaps
-pub mod Retained
 pub mod Found
 pub mod Placed
 pub mod Agreed
@@ -8,4 +7,5 @@ pub mod Partition
 pub mod Changed
 pub mod Applied
 pub mod Walked
+pub mod Copied
 pub mod Locked

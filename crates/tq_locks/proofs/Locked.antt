@@ -296,9 +296,10 @@ Has-kept p (e ∷ es) x h = by_test (p e) refl h (Has-kept p es x)
 -- of locks that rise, those on a file are in no conflict
 agree_all : (locks : Locks) (file : List ℕ) → HasNoConflict locks → (es : List (LockKey × Lock)) → T (fin.is_sorted lock_cmp es) → ((e : LockKey × Lock) → Has es e → Has (fin.entries locks) e × (pointwise nat_eq file e.0.0 ≡ true)) → AllAgree es
 agree_all locks file h [] t from = tt
-agree_all locks file h (e ∷ es) t from =
-    (λ x g. two x g (from e (inl refl)) (from x (inr g)),
-     agree_all locks file h es (second (below_all lock_cmp e.0 es) (fin.is_sorted lock_cmp es) t) (λ x g. from x (inr g)))
+agree_all locks file h (e ∷ es) t from = (
+  λ x g. two x g (from e (inl refl)) (from x (inr g)),
+  agree_all locks file h es (second (below_all lock_cmp e.0 es) (fin.is_sorted lock_cmp es) t) (λ x g. from x (inr g)),
+)
   where
     two : (x : LockKey × Lock) → Has es x → Has (fin.entries locks) e × (pointwise nat_eq file e.0.0 ≡ true) → Has (fin.entries locks) x × (pointwise nat_eq file x.0.0 ≡ true) → conflicts e.1.mode x.1.mode ≡ false
     two x g a b =

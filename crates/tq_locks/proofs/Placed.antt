@@ -1,5 +1,5 @@
 -- Where a key goes in entries that rise, and what they are after a change there.
-use Rattle.std.proofs.Common.{◌≡◌, ℕ, zero, suc, ◌≤◌, ◌<◌, Bool, true, false, cond, not, ◌&&◌, List, [], ◌∷◌, ◌++◌, map, filter, length, take, drop, Option, Some, None, refl, ap, sym, subst, ◌∙◌, ◌⊎◌, inl, inr}
+use Rattle.std.proofs.Common.{◌≡◌, Bool, true, false, cond, not, ◌&&◌, List, [], ◌∷◌, map, Option, Some, None, refl, ap, sym, subst, ◌∙◌}
 use lib.Dec.{T}
 use mathlib.Core.Bool.{true≢false}
 use Rattle.std.specs.Cmp.{IsTotalOrder, eq_by_cmp_equiv}
@@ -11,9 +11,8 @@ use Rattle.std.specs.Ordering.{is_lt, is_eq, eq_by_cmp, ordering_reverse}
 use Rattle.std.specs.declared.cmp.Ordering.{Ordering}
 use Rattle.std.specs.declared.cmp.Ordering.TheVariants.{Less, Equal, Greater}
 use Rattle.tq_shape.proofs.Orderings.{is_eq-Equal}
-use Rattle.tq_shape.specs.Journal.{Has}
 use Rattle.tq_locks.specs.Keys.{place}
-use Rattle.tq_locks.proofs.Found.{none_some, some_same, first, second, less, below_each, Has-looked_up, looked_up}
+use Rattle.tq_locks.proofs.Found.{none_some, first, second, less, below_each, Has-looked_up}
 
 not_true : (b : Bool) → b ≡ false → not b ≡ true
 not_true b e = ap not e

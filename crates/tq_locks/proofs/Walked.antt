@@ -1,5 +1,5 @@
 -- A walk of the lists of an index, one after another, gives all entries in their order.
-use Rattle.std.proofs.Common.{◌≡◌, ℕ, Bool, true, false, cond, List, [], ◌∷◌, ◌++◌, map, filter, Option, Some, None, refl, ap, sym, subst, ◌∙◌, ◌⊎◌, inl, inr}
+use Rattle.std.proofs.Common.{◌≡◌, ℕ, Bool, true, false, cond, List, [], ◌∷◌, ◌++◌, map, filter, Option, Some, None, refl, ap, sym, subst, ◌∙◌, inl, inr}
 use lib.Dec.{T}
 use mathlib.Core.Bool.{true≢false}
 use Rattle.std.proofs.lemmas.Cmp.{tied_itself}
@@ -12,8 +12,7 @@ use Rattle.std.specs.List.Sorted.{IsStrictlySortedBy}
 use Rattle.std.specs.Map.{lookup, keys_of, values_of}
 use Rattle.std.specs.Option.{option_map_or}
 use Rattle.std.specs.Ordering.{is_lt, nat_cmp, ordering_then, ordering_reverse}
-use Rattle.std.specs.declared.cmp.Ordering.{Ordering}
-use Rattle.std.specs.declared.cmp.Ordering.TheVariants.{Less, Equal, Greater}
+use Rattle.std.specs.declared.cmp.Ordering.TheVariants.{Less, Greater}
 use Rattle.std.specs.declared.vec.Vec.{Vec}
 use Rattle.slab.specs.Slab.{Slab, get}
 use Rattle.tq_store.specs.Copies.{name_cmp}
@@ -23,11 +22,11 @@ use Rattle.tq_locks.specs.declared.keyed.KeyedLocks.{KeyedLocks}
 use Rattle.tq_locks.specs.declared.mode.Lock.{Lock}
 use Rattle.tq_locks.specs.Locks.{LockKey, Locks, lock_cmp}
 use Rattle.tq_locks.specs.Keys.{keys_at, told, told_of}
-use Rattle.tq_locks.specs.Kept.{on_file, AreKeysOf, Agrees}
+use Rattle.tq_locks.specs.Kept.{on_file, Agrees}
 use Rattle.tq_locks.proofs.LockMaps.{locks_total, locks_same}
-use Rattle.tq_locks.proofs.Found.{none_some, some_same, first, second, below_each, looked_up, Has-looked_up}
+use Rattle.tq_locks.proofs.Found.{first, second, below_each, looked_up, Has-looked_up}
 use Rattle.tq_locks.proofs.Ordered.{sorted_test, find_entry}
-use Rattle.tq_locks.proofs.Agreed.{filter-Has, nil_cons, key_of}
+use Rattle.tq_locks.proofs.Agreed.{filter-Has, key_of}
 use Rattle.tq_locks.proofs.Applied.{told-listed}
 
 abbrev Entry : Type 0

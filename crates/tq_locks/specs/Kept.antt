@@ -1,5 +1,5 @@
 -- The locks of a table as it keeps them: entries under keys, and the keys of each file and of each transaction.
-use Rattle.std.specs.Prelude.{◌≡◌, ℕ, ◌==◌, T, List, length, map, filter, Some, true, nat_eq}
+use Rattle.std.specs.Prelude.{◌≡◌, ℕ, T, List, length, map, filter, Some, true, nat_eq}
 use Rattle.std.specs.List.{IsDistinct}
 use Rattle.std.specs.FinMap as fin
 use Rattle.std.specs.Ordering.{nat_cmp}

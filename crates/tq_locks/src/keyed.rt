@@ -98,11 +98,7 @@ impl KeyedLocks {
         let keys = self.keys_of_txn(txn);
         let key = *keys.get(self.place(keys, file, txn))?;
         let entry = self.entry(key)?;
-        if entry.file == *file {
-            Some(key)
-        } else {
-            None
-        }
+        if entry.file == *file { Some(key) } else { None }
     }
 
     /// Keeps a new entry. Without memory the locks stay as they were.

@@ -8,10 +8,7 @@ use std::alloc::{AllocError, Global};
 use std::collections::BTreeMap;
 
 /// The keys under a name.
-pub(crate) fn listed<'a, K: Ord + Copy>(
-    lists: &'a BTreeMap<K, Vec<usize>>,
-    name: &K,
-) -> &'a [usize]
+pub(crate) fn listed<'a, K: Ord + Copy>(lists: &'a BTreeMap<K, Vec<usize>>, name: &K) -> &'a [usize]
     ensures { result.now ≡ keys_at K.cmp lists.now name.now }
 {
     match lists.get(name) {

@@ -1,6 +1,5 @@
-use Rattle.std.proofs.Common.{◌≡◌, ℕ, Some, ap, sym, ◌∙◌, refl}
+use Rattle.std.proofs.Common.{Some, ap, sym, ◌∙◌}
 use mathlib.Core.Bool.{true≢false}
-use Rattle.std.specs.FinMap as fin
 use Rattle.slab.specs.Slab.{get}
 use Rattle.tq_locks.specs.declared.mode.Lock.{Lock}
 use Rattle.tq_locks.specs.Locks.{LockKey}
@@ -28,7 +27,7 @@ returns-then-eq-clause-some c agreed =
     let key = c.in_ok-key.field-0.now in
     let at = looked_at c.keys_of_txn-keys.result.now c.place.result key c.in_ok-key.ensures.lookup.0 c.in_ok-key.ensures.lookup.1 in
     let number = ap (λ (e : LockKey × Lock). e.0.1) c.entry-2.view_is
-        ∙ txn_of_key kept (locks_in kept) agreed c.args.file.now c.args.txn c.keys_of_txn-keys.result.now c.place.result c.keys_of_txn-keys.ensures c.place.ensures.place key c.in_ok-entry.entry.now at (sym c.in_ok-entry.ensures) in
+    ∙ txn_of_key kept (locks_in kept) agreed c.args.file.now c.args.txn c.keys_of_txn-keys.result.now c.place.result c.keys_of_txn-keys.ensures c.place.ensures.place key c.in_ok-entry.entry.now at (sym c.in_ok-entry.ensures) in
     let name = c.eq.ensures.exact.0 c.if-eq.true in
     (c.entry-2.inside.lock, sym c.in_ok-entry.ensures ∙ ap Some (sym c.entry-2.view_is) ∙ (λ i. Some ((name i, number i), c.entry-2.inside.lock)))
 

@@ -1,4 +1,4 @@
-use Rattle.std.proofs.Common.{◌≡◌, ap, sym, subst, refl, ◌∙◌, Some}
+use Rattle.std.proofs.Common.{ap, sym, subst, refl, ◌∙◌, Some}
 use Rattle.std.specs.FinMap as fin
 use Rattle.slab.specs.Slab.{Slab, Updates}
 use Rattle.tq_locks.specs.declared.keyed.KeyedLocks.{KeyedLocks}

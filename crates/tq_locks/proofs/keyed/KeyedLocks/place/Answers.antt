@@ -1,4 +1,4 @@
-use Rattle.std.proofs.Common.{List, rules}
+use Rattle.std.proofs.Common.{rules}
 use Rattle.std.proofs.lemmas.List.Sorted.{IsPartitionPoint-from_clause}
 use Rattle.slab.specs.Slab.{get}
 use Rattle.tq_locks.specs.Locks.{LockKey}

@@ -1,6 +1,5 @@
-use Rattle.std.proofs.Common.{◌≡◌, ℕ, [], ◌∷◌, List, length, is_some, Some, None, ap, sym, subst, refl, ◌∙◌, arith}
+use Rattle.std.proofs.Common.{◌≡◌, [], is_some, ap, sym, subst, ◌∙◌, arith}
 use Rattle.std.specs.FinMap as fin
-use Rattle.std.specs.List.{slice_get}
 use Rattle.tq_locks.specs.Locks.{released}
 use Rattle.tq_locks.specs.Kept.{locks_in, Agrees}
 use Rattle.tq_locks.proofs.Applied.{entry_of_key, empty_keys, no_last}
@@ -23,8 +22,8 @@ loop-key-preserved c =
     let agreed = c.remove.ensures.agreed e.0.0 (e.0.1, e.2) in (
       agreed_self c.remove.new.self (fin.remove (locks_in old) e.0.0) agreed,
       ap (λ m. released m c.args.txn) (locks_in-agreed c.remove.new.self (fin.remove (locks_in old) e.0.0) agreed)
-      ∙ subst (λ t. released (fin.remove (locks_in old) e.0.0) t ≡ released (locks_in old) t) e.1 (released-remove (locks_in old) e.0.0)
-      ∙ c.loop-key.invariant.1,
+          ∙ subst (λ t. released (fin.remove (locks_in old) e.0.0) t ≡ released (locks_in old) t) e.1 (released-remove (locks_in old) e.0.0)
+          ∙ c.loop-key.invariant.1,
     )
 
 pub returns : goal.returns

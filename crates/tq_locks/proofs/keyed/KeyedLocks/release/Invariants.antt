@@ -1,4 +1,4 @@
-use Rattle.std.proofs.Common.{◌≡◌, ℕ}
+use Rattle.std.proofs.Common.{◌≡◌}
 use Rattle.slab.specs.Slab.{slab_len}
 use Rattle.tq_locks.specs.Locks.{released}
 use Rattle.tq_locks.specs.Kept.{locks_in, Agrees}

@@ -1,5 +1,5 @@
-use Rattle.std.proofs.Common.{◌≡◌, Some, is_some, ap, sym, refl, ◌∙◌}
-use Rattle.slab.specs.Slab.{get, with_value}
+use Rattle.std.proofs.Common.{◌≡◌, Some, is_some, ap, refl, ◌∙◌}
+use Rattle.slab.specs.Slab.{with_value}
 use Rattle.slab.proofs.SlabLemmas.{Updates-with_value}
 use Rattle.tq_locks.specs.declared.keyed.KeyedLocks.{KeyedLocks}
 use Rattle.tq_locks.specs.declared.mode.Lock.{Lock}

@@ -1,4 +1,4 @@
-use Rattle.std.proofs.Common.{◌≡◌, ℕ, length}
+use Rattle.std.proofs.Common.{◌≡◌, length}
 use Rattle.tq_locks.specs.Keys.{told}
 use Rattle.tq_locks.proofs.keyed.ListedIterator.next.Given as goal
 

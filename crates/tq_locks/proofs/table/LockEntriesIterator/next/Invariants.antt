@@ -1,4 +1,4 @@
-use Rattle.std.proofs.Common.{◌≡◌, ℕ, ◌++◌, length}
+use Rattle.std.proofs.Common.{◌≡◌, ◌++◌, length}
 use Rattle.tq_locks.specs.Keys.{told_of}
 use Rattle.tq_locks.proofs.table.LockEntriesIterator.next.Given as goal
 

@@ -1,4 +1,4 @@
-use Rattle.std.proofs.Common.{◌≡◌, ℕ, Option, IfSome, map, ap, sym, subst, ◌∙◌, rules}
+use Rattle.std.proofs.Common.{ℕ, Option, IfSome, map, ap, sym, subst, ◌∙◌, rules}
 use Rattle.slab.specs.Slab.{get}
 use Rattle.tq_locks.specs.Locks.{blocker, IsLeastBlocker}
 use Rattle.tq_locks.specs.Kept.{locks_in, on_file}

@@ -1,8 +1,7 @@
-use Rattle.std.proofs.Common.{◌≡◌, ◌++◌, map, ap, sym, ◌∙◌}
+use Rattle.std.proofs.Common.{◌++◌, map, ap, ◌∙◌}
 use Rattle.slab.specs.Slab.{get}
 use Rattle.tq_locks.specs.Locks.{held_of}
 use Rattle.tq_locks.specs.Kept.{locks_in}
-use Rattle.tq_locks.specs.Keys.{told}
 use Rattle.tq_locks.proofs.Applied.{told-listed}
 use Rattle.tq_locks.proofs.table.LockTable.held.Goals as goal
 

@@ -1,4 +1,4 @@
-use Rattle.std.proofs.Common.{◌≡◌, ◌++◌, ap, ◌∙◌}
+use Rattle.std.proofs.Common.{◌++◌, ap, ◌∙◌}
 use Rattle.std.specs.FinMap as fin
 use Rattle.tq_locks.specs.Keys.{told_of}
 use Rattle.tq_locks.specs.Kept.{locks_in}

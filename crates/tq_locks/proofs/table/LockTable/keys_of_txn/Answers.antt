@@ -1,4 +1,4 @@
-use Rattle.std.proofs.Common.{◌≡◌, Some, map, length, ap, ◌∙◌}
+use Rattle.std.proofs.Common.{map, length, ap, ◌∙◌}
 use Rattle.slab.specs.Slab.{get}
 use Rattle.tq_locks.specs.Locks.{held_of}
 use Rattle.tq_locks.specs.Kept.{locks_in, AreKeysOf}
