@@ -20,15 +20,15 @@ some_same x y e = ap (λ o. unwrap_or o x) e
 pub none_some : {A : Type 0} (x : A) → None ≡ Some x → ⊥
 none_some x e = absurd (true≢false (ap is_none e))
 
-first : (a b : Bool) → T (a && b) → T a
+pub first : (a b : Bool) → T (a && b) → T a
 first true b h = tt
 first false b h = absurd h
 
-second : (a b : Bool) → T (a && b) → T b
+pub second : (a b : Bool) → T (a && b) → T b
 second true b h = h
 second false b h = absurd h
 
-less : (r : Ordering) → T (is_lt r) → r ≡ Less
+pub less : (r : Ordering) → T (is_lt r) → r ≡ Less
 less Less h = refl
 less Equal h = absurd h
 less Greater h = absurd h

@@ -1,5 +1,11 @@
 pub mod Ordered
 pub mod LockMaps
-pub mod Retained
 pub mod Found
+pub mod Placed
+pub mod Agreed
+pub mod Partition
+pub mod Changed
+pub mod Applied
+pub mod Walked
+pub mod Copied
 pub mod Locked

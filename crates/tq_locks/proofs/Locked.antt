@@ -1,20 +1,22 @@
 -- What the table has at a file and a transaction after each change, and that no two of its locks are in conflict.
-use Rattle.std.proofs.Common.{◌≡◌, ◌≢◌, ◌≤◌, ◌<◌, ◌==◌, ◌&&◌, ℕ, Bool, true, false, cond, not, List, [], ◌∷◌, map, Option, Some, None, refl, ap, sym, ◌∙◌, ◌⊎◌, inl, inr, arith, nat_eq, IfSome}
+use Rattle.std.proofs.Common.{◌≡◌, ◌≢◌, ◌≤◌, ◌<◌, ◌==◌, ◌&&◌, ℕ, Bool, true, false, cond, not, List, [], ◌∷◌, map, Option, Some, None, refl, ap, sym, ◌∙◌, ◌⊎◌, inl, inr, arith, nat_eq, IfSome, filter}
+use lib.Dec.{T}
 use mathlib.Core.Bool.{true≢false}
 use Rattle.std.proofs.lemmas.Bool.Decides.{nat_tests}
 use Rattle.std.proofs.lemmas.Cmp.{ranked, tied_itself}
 use Rattle.std.specs.Cmp.Lexicographic.{pointwise, same_text, nat_list_cmp_total, nat_list_eq_equiv}
 use Rattle.std.specs.FinMap as fin
+use Rattle.std.specs.FinMap.Entries.{below_all, is_sorted-where_key}
 use Rattle.std.specs.List as lists
 use Rattle.std.specs.Option.{option_map, option_map_or}
-use Rattle.std.specs.Ordering.{nat_cmp, eq_by_cmp, ordering_then}
+use Rattle.std.specs.Ordering.{nat_cmp, is_lt, eq_by_cmp, ordering_then}
 use Rattle.std.specs.declared.cmp.Ordering.{Ordering}
 use Rattle.std.specs.declared.cmp.Ordering.TheVariants.{Less}
 use Rattle.tq_locks.specs.Locks.{LockKey, Locks, lock_cmp, conflicts, stronger, blocks, Blocks, IsFree, IsLeastBlocker, blocker, lock_after, granted, released, only_stable, stabilised, kept, HasNoConflict}
 use Rattle.tq_locks.specs.declared.mode.Mode.{Mode}
 use Rattle.tq_locks.specs.declared.mode.Mode.TheVariants.{Shared, Exclusive}
 use Rattle.tq_locks.specs.declared.mode.Lock.{Lock}
-use Rattle.tq_locks.proofs.Found.{some_same, none_some, none_passes, first_passes, entry_of, get-entry_of}
+use Rattle.tq_locks.proofs.Found.{first, second, below_each, some_same, none_some, none_passes, first_passes, entry_of, get-entry_of}
 use Rattle.tq_shape.proofs.Places.{find-Has}
 use Rattle.tq_locks.proofs.LockMaps.{locks_total, locks_same}
 use Rattle.tq_shape.specs.Journal.{Has}
@@ -208,3 +210,111 @@ module _ (locks : Locks) (file : List ℕ) (txn : ℕ) (mode : Mode) (number ver
 
   pub HasNoConflict-granted : HasNoConflict (granted locks file txn mode number version)
   HasNoConflict-granted f s t a b other x y = both_at f s t a b other (at (f, s) a x) (at (f, t) b y)
+
+pub HasNoConflict-empty : HasNoConflict fin.empty
+HasNoConflict-empty file s t a b other f g = absurd (none_some a (sym (fin.get-empty lock_cmp (key file s)) ∙ f))
+
+-- what the first lock of another transaction says: its transaction blocks, or none does
+abbrev pub decided : ℕ → Mode → List (LockKey × Lock) → Option ℕ
+decided txn mode [] = None
+decided txn mode (e ∷ es) = cond (e.0.1 == txn) (decided txn mode es) (cond (conflicts mode e.1.mode) (Some e.0.1) None)
+
+-- a lock that doesn't conflict with a mode is shared, and so is the mode
+both_shared : (m a b : Mode) → conflicts m a ≡ false → conflicts a b ≡ false → conflicts m b ≡ false
+both_shared Shared Shared Shared e f = refl
+both_shared Shared Shared Exclusive e f = f
+both_shared Shared Exclusive b e f = absurd (true≢false e)
+both_shared Exclusive a b e f = absurd (true≢false e)
+
+abbrev first_of : Option (LockKey × Lock) → Option ℕ
+first_of o = option_map (λ entry. entry.0.1) o
+
+-- where each later lock is shared, none blocks
+none_blocks : (file : List ℕ) (txn : ℕ) (mode : Mode) (es : List (LockKey × Lock)) → ((e : LockKey × Lock) → Has es e → (txn == e.0.1) ≡ false → conflicts mode e.1.mode ≡ false) → lists.find (blocks file txn mode) es ≡ None
+none_blocks file txn mode [] told = refl
+none_blocks file txn mode (e ∷ es) told = ap (λ b. cond b (Some e) (lists.find (blocks file txn mode) es)) passed ∙ none_blocks file txn mode es (λ x h. told x (inr h))
+  where
+    and_none : (a b c : Bool) → (b ≡ false → c ≡ false) → (a && not b && c) ≡ false
+    and_none true true c h = refl
+    and_none true false c h = h refl
+    and_none false b c h = refl
+
+    passed : blocks file txn mode e ≡ false
+    passed = and_none (pointwise nat_eq file e.0.0) (txn == e.0.1) (conflicts mode e.1.mode) (told e (inl refl))
+
+turned_number : (s t : ℕ) → (s == t) ≡ (t == s)
+turned_number s t = by_tests (s == t) (t == s) refl refl
+  where
+    by_tests : (b c : Bool) → (s == t) ≡ b → (t == s) ≡ c → b ≡ c
+    by_tests true true e f = refl
+    by_tests false false e f = refl
+    by_tests true false e f = absurd (grind (arith, nat_tests))
+    by_tests false true e f = absurd (grind (arith, nat_tests))
+
+decided_step : (file : List ℕ) (txn : ℕ) (mode : Mode) (e : LockKey × Lock) (es : List (LockKey × Lock)) → pointwise nat_eq file e.0.0 ≡ true → ((x : LockKey × Lock) → Has es x → conflicts e.1.mode x.1.mode ≡ false)
+    → decided txn mode es ≡ first_of (lists.find (blocks file txn mode) es) → decided txn mode (e ∷ es) ≡ first_of (lists.find (blocks file txn mode) (e ∷ es))
+decided_step file txn mode e es on agree next =
+    by_tests (e.0.1 == txn) (conflicts mode e.1.mode) refl refl
+    ∙ ap (λ b. first_of (cond b (Some e) (lists.find (blocks file txn mode) es))) (λ i. sym on i && not (turned_number e.0.1 txn i) && conflicts mode e.1.mode)
+  where
+    by_tests : (b c : Bool) → (e.0.1 == txn) ≡ b → conflicts mode e.1.mode ≡ c → cond b (decided txn mode es) (cond c (Some e.0.1) None) ≡ first_of (cond (true && not b && c) (Some e) (lists.find (blocks file txn mode) es))
+    by_tests true c s t = next
+    by_tests false true s t = refl
+    by_tests false false s t = sym (ap first_of (none_blocks file txn mode es (λ x h n. both_shared mode e.1.mode x.1.mode t (agree x h))))
+
+-- locks on a file, no two in conflict
+abbrev pub AllAgree : List (LockKey × Lock) → Type 0
+AllAgree [] = Unit {0}
+AllAgree (e ∷ es) = ((x : LockKey × Lock) → Has es x → conflicts e.1.mode x.1.mode ≡ false) × AllAgree es
+
+decided-blocks : (file : List ℕ) (txn : ℕ) (mode : Mode) (es : List (LockKey × Lock)) → ((e : LockKey × Lock) → Has es e → pointwise nat_eq file e.0.0 ≡ true) → AllAgree es → decided txn mode es ≡ first_of (lists.find (blocks file txn mode) es)
+decided-blocks file txn mode [] on agree = refl
+decided-blocks file txn mode (e ∷ es) on agree = decided_step file txn mode e es (on e (inl refl)) agree.0 (decided-blocks file txn mode es (λ x h. on x (inr h)) agree.1)
+
+on_this : (file : List ℕ) → LockKey × Lock → Bool
+on_this file e = pointwise nat_eq file e.0.0
+
+-- a search may leave out what its test leaves out
+find-filtered : (file : List ℕ) (txn : ℕ) (mode : Mode) (es : List (LockKey × Lock)) → lists.find (blocks file txn mode) (filter (λ e. pointwise nat_eq file e.0.0) es) ≡ lists.find (blocks file txn mode) es
+find-filtered file txn mode [] = refl
+find-filtered file txn mode (e ∷ es) = by_test (pointwise nat_eq file e.0.0) refl (find-filtered file txn mode es)
+  where
+    by_test : (b : Bool) → pointwise nat_eq file e.0.0 ≡ b → lists.find (blocks file txn mode) (filter (λ e. pointwise nat_eq file e.0.0) es) ≡ lists.find (blocks file txn mode) es
+        → lists.find (blocks file txn mode) (cond b (e ∷ filter (λ e. pointwise nat_eq file e.0.0) es) (filter (λ e. pointwise nat_eq file e.0.0) es)) ≡ lists.find (blocks file txn mode) (e ∷ es)
+    by_test true h next = ap (cond (blocks file txn mode e) (Some e)) next
+    by_test false h next = next ∙ ap (λ b. cond (b && not (txn == e.0.1) && conflicts mode e.1.mode) (Some e) (lists.find (blocks file txn mode) es)) (sym h)
+
+Has-kept : (p : LockKey × Lock → Bool) (es : List (LockKey × Lock)) (x : LockKey × Lock) → Has (filter p es) x → Has es x × (p x ≡ true)
+Has-kept p [] x h = absurd h
+Has-kept p (e ∷ es) x h = by_test (p e) refl h (Has-kept p es x)
+  where
+    by_test : (b : Bool) → p e ≡ b → Has (cond b (e ∷ filter p es) (filter p es)) x → (Has (filter p es) x → Has es x × (p x ≡ true)) → Has (e ∷ es) x × (p x ≡ true)
+    by_test true t (inl s) next = (inl s, ap p (sym s) ∙ t)
+    by_test true t (inr g) next = let r = next g in (inr r.0, r.1)
+    by_test false t g next = let r = next g in (inr r.0, r.1)
+
+-- of locks that rise, those on a file are in no conflict
+agree_all : (locks : Locks) (file : List ℕ) → HasNoConflict locks → (es : List (LockKey × Lock)) → T (fin.is_sorted lock_cmp es) → ((e : LockKey × Lock) → Has es e → Has (fin.entries locks) e × (pointwise nat_eq file e.0.0 ≡ true)) → AllAgree es
+agree_all locks file h [] t from = tt
+agree_all locks file h (e ∷ es) t from = (
+  λ x g. two x g (from e (inl refl)) (from x (inr g)),
+  agree_all locks file h es (second (below_all lock_cmp e.0 es) (fin.is_sorted lock_cmp es) t) (λ x g. from x (inr g)),
+)
+  where
+    two : (x : LockKey × Lock) → Has es x → Has (fin.entries locks) e × (pointwise nat_eq file e.0.0 ≡ true) → Has (fin.entries locks) x × (pointwise nat_eq file x.0.0 ≡ true) → conflicts e.1.mode x.1.mode ≡ false
+    two x g a b =
+        let below = below_each locks_total locks_same e.0 es x (first (below_all lock_cmp e.0 es) (fin.is_sorted lock_cmp es) t) g in
+        let one : file ≡ e.0.0 = same_text file e.0.0 (sym a.1) in
+        let other : file ≡ x.0.0 = same_text file x.0.0 (sym b.1) in
+        h file e.0.1 x.0.1 e.1 x.1
+        (λ s. true≢false (ap is_lt (sym below ∙ (λ i. lock_cmp e.0 ((sym other ∙ one) i, sym s i)) ∙ tied_itself locks_total e.0)))
+        (ap (λ f. fin.get locks (f, e.0.1)) one ∙ get-entry_of locks_total locks_same locks e a.0)
+        (ap (λ f. fin.get locks (f, x.0.1)) other ∙ get-entry_of locks_total locks_same locks x b.0)
+
+-- the first lock of another transaction on the file decides
+pub decided-blocker : (locks : Locks) (file : List ℕ) (txn : ℕ) (mode : Mode) → HasNoConflict locks → decided txn mode (filter (λ e. pointwise nat_eq file e.0.0) (fin.entries locks)) ≡ blocker locks file txn mode
+decided-blocker locks file txn mode h =
+    let es = filter (λ (e : LockKey × Lock). pointwise nat_eq file e.0.0) (fin.entries locks) in
+    let from = Has-kept (λ e. pointwise nat_eq file e.0.0) (fin.entries locks) in
+    decided-blocks file txn mode es (λ e g. (from e g).1) (agree_all locks file h es (is_sorted-where_key lock_cmp (λ k. pointwise nat_eq file k.0) (fin.entries locks) (fin.entries_sorted locks)) from)
+    ∙ ap first_of (find-filtered file txn mode (fin.entries locks))

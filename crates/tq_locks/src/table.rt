@@ -1,10 +1,10 @@
-ghost use Rattle.std.specs.Prelude.{◌≡◌, OnOk, OnErr, IfOk, IfSome, IfNone, None};
+ghost use Rattle.std.specs.Prelude.{◌≡◌, OnOk, OnErr, IfOk, IfSome, IfNone, None, Some};
 ghost use Rattle.std.specs.FinMap as fin;
 
+use crate::keyed::{KeyedLocks, Listed};
 use crate::{Lock, Mode};
 use std::alloc::{AllocError, Global};
-use std::collections::BTreeMap;
-use std::collections::btree_map::Iter;
+use std::collections::btree_map::Values;
 use std::marker::Model;
 use tq_store::FileName;
 
@@ -37,34 +37,36 @@ impl Model for LockEntry {
     ghost inverse = { λ entry. record { file = entry.0.0; txn = entry.0.1; lock = entry.1 } };
 }
 
-/// The locks at a server.
+/// The locks at a server. Each is under a key, which stays while the lock does.
 #[derive(Drop)]
 pub struct LockTable {
-    locks: BTreeMap<(FileName, u64), Lock>,
+    kept: KeyedLocks,
 }
 
 impl Model for LockTable {
-    ghost use Rattle.std.specs.FinMap as fin;
-    ghost use Rattle.tq_locks.specs.Locks.{HasNoConflict, Locks, lock_cmp, locks_code};
+    ghost use Rattle.tq_locks.specs.Locks.{HasNoConflict, Locks, locks_code};
 
     ghost Value = { Locks };
 
     ghost coded = { locks_code };
 
-    ghost view = { λ a. fin.from_entries a.locks.entries };
+    ghost use Rattle.tq_locks.specs.Kept.{locks_in, Agrees};
 
-    ghost invariant = { λ a. HasNoConflict (fin.from_entries a.locks.entries) };
+    ghost view = { λ a. locks_in a.kept };
+
+    ghost invariant = { λ a. Agrees a.kept (locks_in a.kept) × HasNoConflict (locks_in a.kept) };
 }
 
 impl LockTable {
     ghost use Rattle.tq_locks.specs.Locks.{HasNoConflict, IsFree, IsLeastBlocker, IsTold, asked, blocker, granted, held_of, holds_nothing, kept, only_stable, outcome, released};
+    ghost use Rattle.tq_locks.specs.Kept.{on_file, HasOneKeyEach};
 
     /// No transaction holds a lock.
     pub fn new(alloc: Global) -> LockTable
         ensures { result ≡ fin.empty }
     {
         LockTable {
-            locks: BTreeMap::new(alloc),
+            kept: KeyedLocks::new(alloc),
         }
     }
 
@@ -72,8 +74,8 @@ impl LockTable {
     pub fn copy(&self, _alloc: Global) -> Result<LockTable, AllocError>
         ensures { IfOk result (λ copy. copy ≡ self.now) }
     {
-        let locks = self.locks.clone()?;
-        Ok(LockTable { locks })
+        let kept = self.kept.copy()?;
+        Ok(LockTable { kept })
     }
 
     /// All locks, ascending by file and then by transaction.
@@ -81,8 +83,31 @@ impl LockTable {
         ensures { result ≡ fin.entries self.now }
     {
         LockEntries {
-            entries: self.locks.iter(),
+            kept: &self.kept,
+            here: self.kept.listed(&[]),
+            files: self.kept.by_file.values(),
         }
+    }
+
+    /// The keys of the locks on a file, each once, ascending by transaction.
+    pub fn keys_of_file(&self, file: &FileName) -> &[usize]
+        ensures { HasOneKeyEach result.now (on_file self.now file.now) }
+    {
+        self.kept.keys_of_file(file)
+    }
+
+    /// The keys of a transaction's locks, each once, ascending by file.
+    pub fn keys_of_txn(&self, txn: u64) -> &[usize]
+        ensures { HasOneKeyEach result.now (held_of self.now txn) }
+    {
+        self.kept.keys_of_txn(txn)
+    }
+
+    /// The lock under a key.
+    pub fn entry(&self, key: usize) -> Option<&LockEntry>
+        ensures { IfSome result (λ entry. fin.get self.now entry.now.0 ≡ Some entry.now.1) }
+    {
+        self.kept.entry(key)
     }
 
     /// The least transaction, other than this one, whose lock on the file conflicts with the mode.
@@ -91,9 +116,14 @@ impl LockTable {
         ensures least { IfSome result (IsLeastBlocker self.now file txn mode) }
         ensures free { IfNone result (IsFree self.now file txn mode) }
     {
-        for entry in self.iter() {
-            if file == entry.file && !(txn == entry.txn) && mode.conflicts_with(entry.lock.mode) {
-                return Some(entry.txn);
+        // Locks on a file are in no conflict, so the first of another transaction decides for all.
+        for entry in self.kept.listed(self.kept.keys_of_file(&file)) {
+            if !(entry.txn == txn) {
+                return if mode.conflicts_with(entry.lock.mode) {
+                    Some(entry.txn)
+                } else {
+                    None
+                };
             }
         }
         None
@@ -104,7 +134,9 @@ impl LockTable {
         ensures value { result ≡ fin.get self.now (file, txn) }
         ensures no_conflict { HasNoConflict self.now }
     {
-        self.locks.get(&(file, txn)).copied()
+        let key = self.kept.find(&file, txn)?;
+        let entry = self.kept.entry(key)?;
+        Some(entry.lock)
     }
 
     /// Grants a lock that nothing blocks. Without memory the table stays as it was.
@@ -122,7 +154,10 @@ impl LockTable {
         ensures err { OnErr result (self.new ≡ self.old) }
     {
         let lock = Lock::after(self.get(txn, file), mode, number, version);
-        self.locks.insert((file, txn), lock)?;
+        match self.kept.find(&file, txn) {
+            Some(key) => self.kept.set_lock(key, lock),
+            None => self.kept.insert(LockEntry { file, txn, lock })?,
+        }
         Ok(())
     }
 
@@ -142,7 +177,7 @@ impl LockTable {
         ensures no_conflict { HasNoConflict self.new }
         ensures err { OnErr result (self.new ≡ self.old) }
     {
-        let _ = &self.locks;
+        let _ = &self.kept;
         match self.blocker(txn, *file, mode) {
             Some(by) => Ok(LockOutcome::Held { by }),
             None => {
@@ -157,10 +192,8 @@ impl LockTable {
         ensures { IfOk result (λ held. held.items ≡ held_of self.now txn) }
     {
         let mut held = Vec::new(alloc);
-        for entry in self.iter() {
-            if entry.txn == txn {
-                held.push(entry)?;
-            }
+        for entry in self.kept.listed(self.kept.keys_of_txn(txn)) {
+            held.push(entry)?;
         }
         Ok(held)
     }
@@ -169,53 +202,49 @@ impl LockTable {
     pub fn keep(&mut self, txn: u64)
         ensures { self.new ≡ kept self.old txn }
     {
-        self.locks.retain(|key, lock| {
-            lock.stable = lock.stable || key.1 == txn;
-            true
-        });
+        self.kept.keep(txn);
     }
 
     /// Whether a transaction holds no lock.
     pub fn holds_nothing(&self, txn: u64) -> bool
         ensures { result ≡ holds_nothing self.now txn }
     {
-        for entry in self.iter() {
-            if entry.txn == txn {
-                return false;
-            }
-        }
-        true
+        self.kept.keys_of_txn(txn).is_empty()
     }
 
     /// Ends the locks of a transaction.
     pub fn release(&mut self, txn: u64)
         ensures { self.new ≡ released self.old txn }
     {
-        self.locks.retain(|key, _| !(key.1 == txn));
+        self.kept.release(txn);
     }
 
     /// Ends the locks that aren't stable.
     pub fn drop_unstable(&mut self)
         ensures { self.new ≡ only_stable self.old }
     {
-        self.locks.retain(|_, lock| lock.stable);
+        self.kept.drop_unstable();
     }
 }
 
 /// The locks of a table that are left to walk, ascending by file and then by transaction.
 #[derive(Drop)]
 pub struct LockEntries<'a> {
-    entries: Iter<'a, (FileName, u64), Lock>,
+    kept: &'a KeyedLocks,
+    // Those of the file that is walked, and the keys of the files that are to come.
+    here: Listed<'a>,
+    files: Values<'a, FileName, Vec<usize>>,
 }
 
 impl<'a> Model for LockEntries<'a> {
-    ghost use Rattle.std.specs.Prelude.{List};
+    ghost use Rattle.std.specs.Prelude.{List, ◌++◌};
     ghost use Rattle.tq_locks.specs.Locks.{LockKey};
     ghost use Rattle.tq_locks.specs.declared.mode.Lock.{Lock};
+    ghost use Rattle.tq_locks.specs.Keys.{told_of};
 
     ghost Value = { List (LockKey × Lock) };
 
-    ghost view = { λ it. it.entries };
+    ghost view = { λ it. it.here ++ told_of it.kept.now.entries it.files };
 }
 
 impl<'a> Iterator for LockEntries<'a> {
@@ -228,11 +257,12 @@ impl<'a> Iterator for LockEntries<'a> {
     ghost remaining = { item_count (λ rest. rest) };
 
     fn next(&mut self) -> Option<LockEntry> {
-        let (key, lock) = self.entries.next()?;
-        Some(LockEntry {
-            file: key.0,
-            txn: key.1,
-            lock: *lock,
-        })
+        loop {
+            let entry = self.here.next();
+            if entry.is_some() {
+                return entry;
+            }
+            self.here = self.kept.listed(self.files.next()?);
+        }
     }
 }

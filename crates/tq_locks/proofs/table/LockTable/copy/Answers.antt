@@ -1,14 +1,10 @@
-use Rattle.std.proofs.Common.{ap, rules, subst, sym, ◌∙◌}
-use Rattle.std.specs.FinMap as fin
-use Rattle.std.proofs.lemmas.Map.Entries.{entries_from_clone}
-use Rattle.tq_locks.specs.Locks.{HasNoConflict}
+use Rattle.std.proofs.Common.{◌∙◌}
+use Rattle.tq_locks.specs.Kept.{locks_in}
+use Rattle.tq_locks.proofs.Changed.{closed, locks_in-agreed}
 use Rattle.tq_locks.proofs.table.LockTable.copy.Goals as goal
 
 pub invariant_of-result : goal.invariant_of-result
-invariant_of-result c =
-    subst (λ es. HasNoConflict (fin.from_entries es)) (sym (entries_from_clone _ _ (search rules) (search rules) c.self.inside.locks.entries c.in_ok-locks.locks.entries c.in_ok-locks.ensures.cases)) c.self.invariant
+invariant_of-result c = closed c.in_ok-kept.kept (locks_in c.self.inside.kept) (c.in_ok-kept.ensures (locks_in c.self.inside.kept) c.self.invariant.0) c.self.invariant.1
 
 pub returns : goal.returns
-returns c =
-    ap fin.from_entries (entries_from_clone _ _ (search rules) (search rules) c.self.inside.locks.entries c.in_ok-locks.locks.entries c.in_ok-locks.ensures.cases)
-    ∙ c.self.view_is
+returns c = locks_in-agreed c.in_ok-kept.kept (locks_in c.self.inside.kept) (c.in_ok-kept.ensures (locks_in c.self.inside.kept) c.self.invariant.0) ∙ c.self.view_is

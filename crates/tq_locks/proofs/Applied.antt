@@ -1,0 +1,285 @@
+-- What the methods of the kept locks find and leave.
+use Rattle.std.proofs.Common.{◌≡◌, ℕ, zero, suc, ◌==◌, Bool, true, false, cond, List, [], ◌∷◌, map, filter, length, Option, Some, None, is_some, IfNone, IfSome, Bor, Result, Ok, Err, OnErr, refl, ap, sym, subst, ◌∙◌, inl, inr, ◌<◌, ◌≤◌, ◌-◌, nat_eq, ltb, lt-ltb, ltb-true, get_or, arith}
+use lib.Dec.{T}
+use mathlib.Core.Bool.{true≢false}
+use Rattle.std.proofs.lemmas.Bool.{cases_lt}
+use Rattle.std.proofs.lemmas.Bool.Decides.{nat_tests}
+use Rattle.std.specs.BTreeMap.{is_at}
+use Rattle.std.specs.FinMap as fin
+use Rattle.std.specs.FinMap.Entries.{find, is_sorted, below_all, is_sorted-where_key, find-where_key}
+use Rattle.std.specs.List.{insert, remove, slice_get, filter_map, cons_option, AllByRecursion, IsDistinct}
+use Rattle.std.proofs.lemmas.Cmp.{tied_itself}
+use Rattle.std.specs.Map.{lookup}
+use Rattle.std.specs.Option.{option_map_or, option_copied}
+use Rattle.std.specs.Ordering.{is_lt, is_eq, nat_cmp}
+use Rattle.std.specs.declared.cmp.Ordering.{Ordering}
+use Rattle.std.specs.declared.cmp.Ordering.TheVariants.{Less, Equal, Greater}
+use Rattle.slab.specs.Slab.{get, Updates}
+use Rattle.tq_store.specs.Copies.{name_cmp}
+use Rattle.tq_store.specs.Names.{same_name}
+use Rattle.tq_shape.specs.Journal.{Has}
+use Rattle.tq_locks.specs.declared.keyed.KeyedLocks.{KeyedLocks}
+use Rattle.tq_locks.specs.declared.mode.Lock.{Lock}
+use Rattle.tq_locks.specs.Locks.{LockKey, Locks, lock_cmp, held_of}
+use Rattle.tq_locks.specs.Keys.{keys_at, place}
+use Rattle.tq_locks.specs.Kept.{on_file, AreKeysOf, Agrees, RisesTo}
+use Rattle.tq_locks.proofs.LockMaps.{locks_total, locks_same}
+use Rattle.tq_locks.proofs.Found.{none_some, some_same, first, second, less, below_each, Has-looked_up}
+use Rattle.tq_locks.proofs.Placed.{turned}
+use Rattle.tq_locks.proofs.Agreed.{head_of, tail_of, nil_cons, item_of, Has-filter, alike}
+use Rattle.tq_locks.proofs.Changed.{Agrees-put, Agrees-remove, key_of_lock}
+
+abbrev Entry : Type 0
+Entry = LockKey × Lock
+
+pub sorted_on_file : (locks : Locks) (file : List ℕ) → T (is_sorted lock_cmp (on_file locks file))
+sorted_on_file locks file = is_sorted-where_key lock_cmp (λ k. same_name file k.0) (fin.entries locks) (fin.entries_sorted locks)
+
+pub sorted_held_of : (locks : Locks) (txn : ℕ) → T (is_sorted lock_cmp (held_of locks txn))
+sorted_held_of locks txn = is_sorted-where_key lock_cmp (λ k. k.1 == txn) (fin.entries locks) (fin.entries_sorted locks)
+
+-- the same entries under the same keys
+pub Agrees-same : (old new : KeyedLocks) (locks : Locks) → Agrees old locks → new.entries.slots ≡ old.entries.slots
+    → ((f : List ℕ) → keys_at name_cmp new.by_file f ≡ keys_at name_cmp old.by_file f) → ((t : ℕ) → keys_at nat_cmp new.by_txn t ≡ keys_at nat_cmp old.by_txn t) → Agrees new locks
+Agrees-same old new locks a same files txns =
+    let at : (k : ℕ) → get new.entries k ≡ get old.entries k = λ k. ap (λ (slots : List (Option Entry)). get (record { slots = slots; vacant_key = 0; capacity = 0 }) k) same in
+    record {
+      sound = λ k e f. a.sound k e (sym (at k) ∙ f);
+      once = λ j k x y f g s. a.once j k x y (sym (at j) ∙ f) (sym (at k) ∙ g) s;
+      of_file = λ f. (λ i. map (λ k. at k i) (files f i)) ∙ a.of_file f;
+      of_txn = λ t. (λ i. map (λ k. at k i) (txns t i)) ∙ a.of_txn t;
+    }
+
+pub Agrees-empty : (new : KeyedLocks) → new.entries.slots ≡ [] → new.by_file.entries ≡ [] → new.by_txn.entries ≡ [] → Agrees new fin.empty
+Agrees-empty new slots files txns =
+    let vacant : (k : ℕ) → get new.entries k ≡ None = λ k. ap (λ (s : List (Option Entry)). get (record { slots = s; vacant_key = 0; capacity = 0 }) k) slots in
+    let no_entries : fin.entries (fin.empty {X = Lock} {R = lock_cmp}) ≡ [] = empty_entries in
+    record {
+      sound = λ k e f. absurd (none_some e (sym (vacant k) ∙ f));
+      once = λ j k x y f g s. absurd (none_some x (sym (vacant j) ∙ f));
+      of_file = λ f. ap (λ es. map (get new.entries) (option_map_or (λ keys. keys.items) (lookup (is_at (name_cmp f)) es) [])) files ∙ ap (λ es. map Some (filter (λ (e : Entry). same_name f e.0.0) es)) (sym no_entries);
+      of_txn = λ t. ap (λ es. map (get new.entries) (option_map_or (λ keys. keys.items) (lookup (is_at (nat_cmp t)) es) [])) txns ∙ ap (λ es. map Some (filter (λ (e : Entry). e.0.1 == t) es)) (sym no_entries);
+    }
+  where
+    empty_entries : fin.entries (fin.empty {X = Lock} {R = lock_cmp}) ≡ []
+    empty_entries = ap fin.entries (fin.same_map locks_total locks_same (fin.empty {X = Lock} {R = lock_cmp}) (fin.from_sorted []) (λ q. fin.get-empty lock_cmp q ∙ sym (fin.get-from_sorted lock_cmp [] q tt))) ∙ fin.entries-from_sorted lock_cmp [] tt
+
+module _ (old new : KeyedLocks) (locks : Locks) (a : Agrees old locks) (file : List ℕ) (txn : ℕ) (l : Lock) (in_file in_txn key : ℕ) (in_files in_txns : List ℕ)
+    (file_keys : in_files ≡ keys_at name_cmp old.by_file file) (txn_keys : in_txns ≡ keys_at nat_cmp old.by_txn txn)
+    (file_place : RisesTo old.entries in_files (file, txn) in_file) (txn_place : RisesTo old.entries in_txns (file, txn) in_txn) where
+  at_file : in_file ≡ place lock_cmp (file, txn) (on_file locks file)
+  at_file = file_place (on_file locks file) (ap (map (get old.entries)) file_keys ∙ a.of_file file) (sorted_on_file locks file)
+
+  at_txn : in_txn ≡ place lock_cmp (file, txn) (held_of locks txn)
+  at_txn = txn_place (held_of locks txn) (ap (map (get old.entries)) txn_keys ∙ a.of_txn txn) (sorted_held_of locks txn)
+
+  pub Agrees-inserted : fin.get locks (file, txn) ≡ None → get old.entries key ≡ None → Updates old.entries new.entries key (Some ((file, txn), l))
+      → ((f : List ℕ) → keys_at name_cmp new.by_file f ≡ cond (is_at (name_cmp file) f) (insert (keys_at name_cmp old.by_file file) in_file key) (keys_at name_cmp old.by_file f))
+      → ((t : ℕ) → keys_at nat_cmp new.by_txn t ≡ cond (is_at (nat_cmp txn) t) (insert (keys_at nat_cmp old.by_txn txn) in_txn key) (keys_at nat_cmp old.by_txn t))
+      → Agrees new (fin.insert locks (file, txn) l)
+  Agrees-inserted absent vacant u files txns =
+      Agrees-put old new locks a (file, txn) l key absent vacant u
+      (λ f. files f ∙ ap (λ p. cond (is_at (name_cmp file) f) (insert (keys_at name_cmp old.by_file file) p key) (keys_at name_cmp old.by_file f)) at_file)
+      (λ t. txns t ∙ ap (λ p. cond (is_at (nat_cmp txn) t) (insert (keys_at nat_cmp old.by_txn txn) p key) (keys_at nat_cmp old.by_txn t)) at_txn)
+
+  pub Agrees-taken : get old.entries key ≡ Some ((file, txn), l) → Updates old.entries new.entries key None
+      → ((f : List ℕ) → keys_at name_cmp new.by_file f ≡ cond (is_at (name_cmp file) f) (remove (keys_at name_cmp old.by_file file) in_file) (keys_at name_cmp old.by_file f))
+      → ((t : ℕ) → keys_at nat_cmp new.by_txn t ≡ cond (is_at (nat_cmp txn) t) (remove (keys_at nat_cmp old.by_txn txn) in_txn) (keys_at nat_cmp old.by_txn t))
+      → Agrees new (fin.remove locks (file, txn))
+  Agrees-taken at u files txns =
+      Agrees-remove old new locks a (file, txn) l key at u
+      (λ f. files f ∙ ap (λ p. cond (is_at (name_cmp file) f) (remove (keys_at name_cmp old.by_file file) p) (keys_at name_cmp old.by_file f)) at_file)
+      (λ t. txns t ∙ ap (λ p. cond (is_at (nat_cmp txn) t) (remove (keys_at nat_cmp old.by_txn txn) p) (keys_at nat_cmp old.by_txn t)) at_txn)
+
+-- ---- what a look-up finds
+
+pub IfNone-any : {A : Type 0} (P : Type 0) (r : Option A) → P → IfNone r P
+IfNone-any P None p = p
+IfNone-any P (Some x) p = tt
+
+-- the entry in the place of its key
+entry_step : (q : LockKey) (l : Lock) (x : Entry) (xs : List Entry) (r : Ordering) → lock_cmp x.0 q ≡ r → T (is_sorted lock_cmp (x ∷ xs)) → find lock_cmp q (x ∷ xs) ≡ Some l
+    → (T (is_sorted lock_cmp xs) → find lock_cmp q xs ≡ Some l → slice_get xs (place lock_cmp q xs) ≡ Some (q, l)) → slice_get (x ∷ xs) (place lock_cmp q (x ∷ xs)) ≡ Some (q, l)
+entry_step q l x xs Less e t h next =
+    let back : lock_cmp q x.0 ≡ Greater = turned locks_total x.0 q Less e in
+    let rest : find lock_cmp q xs ≡ Some l = sym (ap (λ r. cond (is_eq r) (Some x.1) (find lock_cmp q xs)) back) ∙ h in
+    ap (λ r. slice_get (x ∷ xs) (cond (is_lt r) (suc (place lock_cmp q xs)) 0)) e ∙ next (second _ (is_sorted lock_cmp xs) t) rest
+entry_step q l x xs Equal e t h next =
+    let back : lock_cmp q x.0 ≡ Equal = turned locks_total x.0 q Equal e in
+    ap (λ r. slice_get (x ∷ xs) (cond (is_lt r) (suc (place lock_cmp q xs)) 0)) e
+    ∙ (λ i. Some (locks_same x.0 q e i, some_same x.1 l (sym (ap (λ r. cond (is_eq r) (Some x.1) (find lock_cmp q xs)) back) ∙ h) i))
+entry_step q l x xs Greater e t h next =
+    let back : lock_cmp q x.0 ≡ Less = turned locks_total x.0 q Greater e in
+    let rest : find lock_cmp q xs ≡ Some l = sym (ap (λ r. cond (is_eq r) (Some x.1) (find lock_cmp q xs)) back) ∙ h in
+    let under = below_each locks_total locks_same x.0 xs (q, l) (first _ (is_sorted lock_cmp xs) t) (Has-looked_up locks_total locks_same xs q l rest) in
+    absurd (true≢false (ap is_lt (sym under ∙ e)))
+
+entry_at_place : (q : LockKey) (l : Lock) (xs : List Entry) → T (is_sorted lock_cmp xs) → find lock_cmp q xs ≡ Some l → slice_get xs (place lock_cmp q xs) ≡ Some (q, l)
+entry_at_place q l [] t h = absurd (none_some l h)
+entry_at_place q l (x ∷ xs) t h = entry_step q l x xs (lock_cmp x.0 q) refl t h (entry_at_place q l xs)
+
+key_at : (f : ℕ → Option Entry) (keys : List ℕ) (xs : List Entry) (i : ℕ) (x : Entry) → map f keys ≡ map Some xs → slice_get xs i ≡ Some x → (k : ℕ) × (slice_get keys i ≡ Some k) × (f k ≡ Some x)
+key_at f keys [] i x e h = absurd (none_some x h)
+key_at f [] (y ∷ xs) i x e h = absurd (nil_cons (Some y) (map Some xs) e)
+key_at f (k ∷ keys) (y ∷ xs) zero x e h = (k, refl, head_of (f k) (Some y) (map f keys) (map Some xs) e ∙ h)
+key_at f (k ∷ keys) (y ∷ xs) (suc i) x e h = key_at f keys xs i x (tail_of (f k) (Some y) (map f keys) (map Some xs) e) h
+
+-- a look-up in a list, by an index that is in range
+within : (keys : List ℕ) (i k : ℕ) → slice_get keys i ≡ Some k → (i < length keys) × ((d : ℕ) → get_or keys i d ≡ k)
+within [] i k e = absurd (none_some k e)
+within (j ∷ keys) zero k e = (omega arith, λ d. some_same j k e)
+within (j ∷ keys) (suc i) k e = let r = within keys i k e in (omega (arith, r.0), r.1)
+
+pub in_range : (keys : List ℕ) (i k : ℕ) → slice_get keys i ≡ Some k → (ltb i (length keys) ≡ true) × ((d : ℕ) → get_or keys i d ≡ k)
+in_range keys i k e = let r = within keys i k e in (lt-ltb i (length keys) r.0, r.1)
+
+is_at_index : (keys : List ℕ) (i k : ℕ) → i < length keys → k ≡ get_or keys i k → slice_get keys i ≡ Some k
+is_at_index [] i k l e = absurd (omega (arith, l))
+is_at_index (j ∷ keys) zero k l e = ap Some (sym e)
+is_at_index (j ∷ keys) (suc i) k l e = is_at_index keys i k (omega (arith, l)) e
+
+pub looked_at : (keys : List ℕ) (i k : ℕ) → true ≡ ltb i (length keys) → k ≡ get_or keys i k → slice_get keys i ≡ Some k
+looked_at keys i k l e = is_at_index keys i k (ltb-true i (length keys) (sym l)) e
+
+pub Has-at : (keys : List ℕ) (i k : ℕ) → slice_get keys i ≡ Some k → Has keys k
+Has-at [] i k e = absurd (none_some k e)
+Has-at (j ∷ keys) zero k e = inl (some_same j k e)
+Has-at (j ∷ keys) (suc i) k e = inr (Has-at keys i k e)
+
+module _ (kept : KeyedLocks) (locks : Locks) (a : Agrees kept locks) (file : List ℕ) (txn : ℕ) (keys : List ℕ) (i : ℕ) (are : keys ≡ keys_at nat_cmp kept.by_txn txn) (at : RisesTo kept.entries keys (file, txn) i) where
+  listed : AreKeysOf kept.entries keys (held_of locks txn)
+  listed = ap (map (get kept.entries)) are ∙ a.of_txn txn
+
+  -- a lock of the transaction on the file is under the key in its place
+  pub key_in_place : (l : Lock) → fin.get locks (file, txn) ≡ Some l → (k : ℕ) × (slice_get keys i ≡ Some k) × (get kept.entries k ≡ Some ((file, txn), l))
+  key_in_place l h =
+      let found : find lock_cmp (file, txn) (held_of locks txn) ≡ Some l =
+      find-where_key lock_cmp (λ k. k.1 == txn) (file, txn) (alike (λ k. k.1 == txn) (file, txn)) (fin.entries locks)
+      ∙ (λ j. cond (same_txn j) ((sym (fin.get-entries locks (file, txn)) ∙ h) j) None) in
+      key_at (get kept.entries) keys (held_of locks txn) i ((file, txn), l) listed (ap (slice_get (held_of locks txn)) (at (held_of locks txn) listed (sorted_held_of locks txn)) ∙ entry_at_place (file, txn) l (held_of locks txn) (sorted_held_of locks txn) found)
+    where
+      same_txn : (txn == txn) ≡ true
+      same_txn = grind (arith, nat_tests)
+
+  -- where that key has no such entry there is no lock
+  pub nothing_in_place : ((k : ℕ) (l : Lock) → slice_get keys i ≡ Some k → get kept.entries k ≡ Some ((file, txn), l) → ⊥) → fin.get locks (file, txn) ≡ None
+  nothing_in_place other = by_look (fin.get locks (file, txn)) refl
+    where
+      by_look : (o : Option Lock) → fin.get locks (file, txn) ≡ o → o ≡ None
+      by_look None e = refl
+      by_look (Some l) e = let k = key_in_place l e in absurd (other k.0 l k.1 k.2)
+
+  -- the entry under a key of the list is the transaction's
+  pub txn_of_key : (k : ℕ) (e : Entry) → slice_get keys i ≡ Some k → get kept.entries k ≡ Some e → e.0.1 ≡ txn
+  txn_of_key k e h f =
+      let x = item_of (get kept.entries) keys (held_of locks txn) k listed (Has-at keys i k h) in
+      let passed = (Has-filter (λ (y : Entry). y.0.1 == txn) (fin.entries locks) x.0 x.1).1 in
+      ap (λ (y : Entry). y.0.1) (some_same e x.0 (sym f ∙ x.2)) ∙ same_number x.0.0.1 passed
+    where
+      same_number : (n : ℕ) → (n == txn) ≡ true → n ≡ txn
+      same_number n h = grind (arith, nat_tests)
+
+pub OnErr-any : {A E : Type 0} (P : Type 0) (r : Result A E) → P → OnErr r P
+OnErr-any P (Ok x) p = tt
+OnErr-any P (Err x) p = p
+
+-- a key that a look-up in a list copied
+pub copied_at : (o : Option (Bor ℕ)) (keys : List ℕ) (i k : ℕ) → Some k ≡ option_copied o → is_some o ≡ ltb i (length keys) → IfSome o (λ x. x.now ≡ get_or keys i x.now) → slice_get keys i ≡ Some k
+copied_at None keys i k e l at = absurd (none_some k (sym e))
+copied_at (Some x) keys i k e l at =
+    let same : k ≡ x.now = some_same k x.now e in
+    looked_at keys i x.now l at ∙ ap Some (sym same)
+
+pub cond_same : {A : Type 0} (k : ℕ) (x y : A) → cond (k == k) x y ≡ x
+cond_same k x y = ap (λ b. cond b x y) (itself_number k)
+  where
+    itself_number : (n : ℕ) → (n == n) ≡ true
+    itself_number n = grind (arith, nat_tests)
+
+-- keys find all entries of a list
+pub told-listed : {A : Type 0} (f : ℕ → Option A) (keys : List ℕ) (xs : List A) → map f keys ≡ map Some xs → filter_map f keys ≡ xs
+told-listed f [] [] e = refl
+told-listed f [] (x ∷ xs) e = absurd (nil_cons (Some x) (map Some xs) e)
+told-listed f (k ∷ keys) [] e = absurd (nil_cons (f k) (map f keys) (sym e))
+told-listed f (k ∷ keys) (x ∷ xs) e = λ i. cons_option (head_of (f k) (Some x) (map f keys) (map Some xs) e i) (told-listed f keys xs (tail_of (f k) (Some x) (map f keys) (map Some xs) e) i)
+
+-- the entry under a key of a transaction's list
+pub entry_of_key : (kept : KeyedLocks) (locks : Locks) → Agrees kept locks → (txn : ℕ) (keys : List ℕ) (i k : ℕ) → keys ≡ keys_at nat_cmp kept.by_txn txn → slice_get keys i ≡ Some k → (e : Entry) × (e.0.1 ≡ txn) × (get kept.entries k ≡ Some e)
+entry_of_key kept locks a txn keys i k are at =
+    let x = item_of (get kept.entries) keys (held_of locks txn) k (ap (map (get kept.entries)) are ∙ a.of_txn txn) (Has-at keys i k at) in
+    (x.0, same_number x.0.0.1 (Has-filter (λ (y : Entry). y.0.1 == txn) (fin.entries locks) x.0 x.1).1, x.2)
+  where
+    same_number : (n : ℕ) → (n == txn) ≡ true → n ≡ txn
+    same_number n h = grind (arith, nat_tests)
+
+pub empty_keys : (kept : KeyedLocks) (locks : Locks) → Agrees kept locks → (txn : ℕ) → keys_at nat_cmp kept.by_txn txn ≡ [] → held_of locks txn ≡ []
+empty_keys kept locks a txn e = by_list (held_of locks txn) (sym (ap (map (get kept.entries)) e) ∙ a.of_txn txn)
+  where
+    by_list : (xs : List Entry) → [] ≡ map Some xs → xs ≡ []
+    by_list [] h = refl
+    by_list (x ∷ xs) h = absurd (nil_cons (Some x) (map Some xs) h)
+
+-- distinct entries are under distinct keys
+all_other : (f : ℕ → Option Entry) (k : ℕ) (x : Entry) (keys : List ℕ) (xs : List Entry) → f k ≡ Some x → map f keys ≡ map Some xs → T (below_all lock_cmp x.0 xs) → AllByRecursion (λ j. nat_eq k j ≡ false) keys
+all_other f k x [] xs e m t = tt
+all_other f k x (j ∷ keys) [] e m t = absurd (nil_cons (f j) (map f keys) (sym m))
+all_other f k x (j ∷ keys) (y ∷ xs) e m t =
+    (by_test (nat_eq k j) refl, all_other f k x keys xs e (tail_of (f j) (Some y) (map f keys) (map Some xs) m) (second (is_lt (lock_cmp x.0 y.0)) (below_all lock_cmp x.0 xs) t))
+  where
+    by_test : (b : Bool) → nat_eq k j ≡ b → b ≡ false
+    by_test false h = refl
+    by_test true h =
+        let one : k ≡ j = grind (arith, nat_tests) in
+        let same : x ≡ y = some_same x y (sym e ∙ ap f one ∙ head_of (f j) (Some y) (map f keys) (map Some xs) m) in
+        absurd (true≢false (ap is_lt (sym (less (lock_cmp x.0 y.0) (first (is_lt (lock_cmp x.0 y.0)) (below_all lock_cmp x.0 xs) t)) ∙ ap (λ (z : Entry). lock_cmp x.0 z.0) (sym same) ∙ tied_itself locks_total x.0)))
+
+pub distinct_keys : (f : ℕ → Option Entry) (keys : List ℕ) (xs : List Entry) → map f keys ≡ map Some xs → T (is_sorted lock_cmp xs) → IsDistinct nat_eq keys
+unfolding IsDistinct
+distinct_keys f [] xs e t = tt
+distinct_keys f (k ∷ keys) [] e t = absurd (nil_cons (f k) (map f keys) (sym e))
+distinct_keys f (k ∷ keys) (x ∷ xs) e t = (
+  all_other f k x keys xs (head_of (f k) (Some x) (map f keys) (map Some xs) e) (tail_of (f k) (Some x) (map f keys) (map Some xs) e) (first (below_all lock_cmp x.0 xs) (is_sorted lock_cmp xs) t),
+  distinct_keys f keys xs (tail_of (f k) (Some x) (map f keys) (map Some xs) e) (second (below_all lock_cmp x.0 xs) (is_sorted lock_cmp xs) t),
+)
+
+pub as_many : (f : ℕ → Option Entry) (keys : List ℕ) (xs : List Entry) → map f keys ≡ map Some xs → length keys ≡ length xs
+as_many f [] [] e = refl
+as_many f [] (x ∷ xs) e = absurd (nil_cons (Some x) (map Some xs) e)
+as_many f (k ∷ keys) [] e = absurd (nil_cons (f k) (map f keys) (sym e))
+as_many f (k ∷ keys) (x ∷ xs) e = ap suc (as_many f keys xs (tail_of (f k) (Some x) (map f keys) (map Some xs) e))
+
+-- a list with no last item is empty
+pub no_last : (keys : List ℕ) → slice_get keys (length keys - 1) ≡ None → keys ≡ []
+no_last [] h = refl
+no_last (k ∷ keys) h = absurd (by_last k keys h)
+  where
+    by_last : (k : ℕ) (keys : List ℕ) → slice_get (k ∷ keys) (length (k ∷ keys) - 1) ≡ None → ⊥
+    by_last k keys h = let e : length (k ∷ keys) - 1 ≡ length keys = omega arith in past k keys (ap (slice_get (k ∷ keys)) (sym e) ∙ h)
+      where
+        past : (k : ℕ) (keys : List ℕ) → slice_get (k ∷ keys) (length keys) ≡ None → ⊥
+        past k [] h = none_some k (sym h)
+        past k (j ∷ keys) h = past j keys h
+
+-- what holds below a place and from there on holds of all
+pub all_below : (P : ℕ → Type 0) (at end : ℕ) → ((k : ℕ) → k < at → P k) → ((k : ℕ) → end ≤ k → P k) → end ≤ at → (k : ℕ) → P k
+all_below P at end below above past k = elim (cases_lt k at) [
+  | inl less ↦ below k less
+  | inr more ↦ above k (omega (arith, more, past))
+]
+
+index_of : (keys : List ℕ) (k : ℕ) → Has keys k → (i : ℕ) × (i < length keys) × (slice_get keys i ≡ Some k)
+index_of [] k h = absurd h
+index_of (j ∷ keys) k (inl s) = (0, omega arith, ap Some s)
+index_of (j ∷ keys) k (inr h) = let r = index_of keys k h in (suc r.0, omega (arith, r.1), r.2)
+
+-- what holds at each of a transaction's keys holds of its locks
+pub at_each_key : (kept : KeyedLocks) (locks : Locks) → Agrees kept locks → (P : Lock → Type 0) (txn end : ℕ) (keys : List ℕ) → keys_at nat_cmp kept.by_txn txn ≡ keys → length keys ≤ end
+    → ((i k : ℕ) → i < end → slice_get keys i ≡ Some k → (e : Entry) → get kept.entries k ≡ Some e → P e.1) → (q : LockKey) (l : Lock) → (q.1 == txn) ≡ true → fin.get locks q ≡ Some l → P l
+at_each_key kept locks a P txn end keys are past each q l t f =
+    let one : q.1 ≡ txn = same_number q.1 t in
+    let at = key_of_lock kept locks a q l f in
+    let i = index_of keys at.0 (subst (λ ks. Has ks at.0) (ap (keys_at nat_cmp kept.by_txn) one ∙ are) at.1) in
+    each i.0 at.0 (omega (arith, i.1, past)) i.2 (q, l) at.2
+  where
+    same_number : (n : ℕ) → (n == txn) ≡ true → n ≡ txn
+    same_number n h = grind (arith, nat_tests)

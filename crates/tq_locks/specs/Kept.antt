@@ -1,0 +1,53 @@
+-- The locks of a table as it keeps them: entries under keys, and the keys of each file and of each transaction.
+use Rattle.std.specs.Prelude.{◌≡◌, ℕ, T, List, length, map, filter, Some, true, nat_eq}
+use Rattle.std.specs.List.{IsDistinct}
+use Rattle.std.specs.FinMap as fin
+use Rattle.std.specs.Ordering.{nat_cmp}
+use Rattle.slab.specs.Slab.{Slab, get, values}
+use Rattle.tq_store.specs.Copies.{name_cmp}
+use Rattle.tq_store.specs.Names.{same_name}
+use Rattle.tq_locks.specs.declared.keyed.KeyedLocks.{KeyedLocks}
+use Rattle.tq_locks.specs.declared.mode.Lock.{Lock}
+use Rattle.tq_locks.specs.Locks.{LockKey, Locks, lock_cmp, held_of}
+use Rattle.tq_locks.specs.Keys.{keys_at, place}
+
+-- the entries that are kept, as a set of locks
+abbrev pub locks_in : KeyedLocks → Locks
+locks_in kept = fin.from_entries (values kept.entries)
+
+-- the locks on a file, ascending by transaction
+abbrev pub on_file : Locks → List ℕ → List (LockKey × Lock)
+on_file locks file = filter (λ entry. same_name file entry.0.0) (fin.entries locks)
+
+-- the keys are those of these entries, in this order
+abbrev pub AreKeysOf : Slab (LockKey × Lock) → List ℕ → List (LockKey × Lock) → Type 0
+AreKeysOf slab keys entries = map (get slab) keys ≡ map Some entries
+
+-- the slab and both indexes keep the same locks
+pub record Agrees (kept : KeyedLocks) (locks : Locks) : Type 0 where
+  -- each entry of the slab is a lock of the set, and no other key has it
+  pub sound : (key : ℕ) (entry : LockKey × Lock) → get kept.entries key ≡ Some entry → fin.get locks entry.0 ≡ Some entry.1
+  pub once : (key other : ℕ) (entry twin : LockKey × Lock) → get kept.entries key ≡ Some entry → get kept.entries other ≡ Some twin → entry.0 ≡ twin.0 → key ≡ other
+  -- each index has the keys of all the locks of a file, and of a transaction
+  pub of_file : (file : List ℕ) → AreKeysOf kept.entries (keys_at name_cmp kept.by_file file) (on_file locks file)
+  pub of_txn : (txn : ℕ) → AreKeysOf kept.entries (keys_at nat_cmp kept.by_txn txn) (held_of locks txn)
+
+-- where the entries of the keys rise, so many of them are below a key of the set
+abbrev pub RisesTo : Slab (LockKey × Lock) → List ℕ → LockKey → ℕ → Type 0
+RisesTo slab keys key count = (entries : List (LockKey × Lock)) → AreKeysOf slab keys entries → T (fin.is_sorted lock_cmp entries) → count ≡ place lock_cmp key entries
+
+-- the entry under a key is the lock of this file and transaction
+abbrev pub IsOf : Slab (LockKey × Lock) → ℕ → LockKey → Type 0
+IsOf slab key name = (lock : Lock) × (get slab key ≡ Some (name, lock))
+
+-- no key stands twice, and there are as many as entries
+abbrev pub HasOneKeyEach : List ℕ → List (LockKey × Lock) → Type 0
+HasOneKeyEach keys entries = IsDistinct nat_eq keys × (length keys ≡ length entries)
+
+-- the same lock, stable
+abbrev pub steady : Lock → Lock
+steady lock = record { mode = lock.mode; since = lock.since; version = lock.version; stable = true }
+
+-- the lock under a key, if there is one, is stable
+abbrev pub IsStableAt : Slab (LockKey × Lock) → ℕ → Type 0
+IsStableAt slab key = (entry : LockKey × Lock) → get slab key ≡ Some entry → entry.1.stable ≡ true

@@ -1,0 +1,31 @@
+-- Lists of keys, each under a name.
+use Rattle.std.specs.Prelude.{◌<◌, ℕ, suc, List, [], ◌∷◌, vec_len, vec_capacity, IsSomeAnd, if◌then◌else◌, ◌++◌, filter_map}
+use Rattle.slab.specs.Slab.{Slab, get as in_slab}
+use Rattle.std.specs.Option.{option_map_or}
+use Rattle.std.specs.declared.vec.Vec.{Vec}
+use Rattle.std.specs.BTreeMap.{BTreeMap, get}
+use Rattle.std.specs.Ordering.{is_lt}
+use Rattle.std.specs.declared.cmp.Ordering.{Ordering}
+
+module _ {K Z : Type 0} (cmp : K → K → Ordering) where
+  -- the keys under a name, in their order
+  abbrev pub keys_at : BTreeMap K (Vec ℕ Z) → K → List ℕ
+  keys_at lists name = option_map_or (λ keys. keys.items) (get cmp lists name) []
+
+  -- a name's list has room for one more key
+  abbrev pub HasRoomAt : BTreeMap K (Vec ℕ Z) → K → Type 0
+  HasRoomAt lists name = IsSomeAnd (get cmp lists name) (λ keys. vec_len keys < vec_capacity keys)
+
+-- how many of the first entries are below a key: where it goes in their order
+abbrev pub place : {K X : Type 0} → (K → K → Ordering) → K → List (K × X) → ℕ
+place cmp key [] = 0
+place cmp key (entry ∷ rest) = if is_lt (cmp entry.0 key) then suc (place cmp key rest) else 0
+
+-- the entries under these keys
+abbrev pub told : {X : Type 0} → Slab X → List ℕ → List X
+told slab keys = filter_map (in_slab slab) keys
+
+-- the entries under the keys of these lists
+abbrev pub told_of : {X Z : Type 0} → Slab X → List (Vec ℕ Z) → List X
+told_of slab [] = []
+told_of slab (keys ∷ rest) = told slab keys.items ++ told_of slab rest

@@ -1,0 +1,289 @@
+//! The entries of a table in a slab, with the keys of each file and of each transaction.
+ghost use Rattle.std.specs.Prelude.{◌≡◌, ◌+◌, ◌≤◌, ◌==◌, ℕ, if◌then◌else◌, List, None, Some, IsSome, IfSome, IfNone, IfOk, OnOk, OnErr, false, [], ◌∷◌, length};
+ghost use Rattle.std.specs.FinMap as fin;
+ghost use Rattle.std.specs.List.{slice_get};
+ghost use Rattle.std.specs.Option.{option_copied, option_map, option_map_or};
+ghost use Rattle.std.specs.Ordering.{nat_cmp, is_lt};
+ghost use Rattle.tq_store.specs.Copies.{name_cmp};
+ghost use Rattle.slab.specs.Slab.{get, slab_len, Updates};
+ghost use Rattle.tq_locks.specs.Locks.{LockKey, Locks, lock_cmp, kept, released, only_stable};
+ghost use Rattle.tq_locks.specs.Keys.{keys_at, place, told};
+
+use crate::lists::{listed, make_room, put_at, take_at};
+use crate::{Lock, LockEntry};
+use slab::Slab;
+use std::alloc::{AllocError, Global};
+use std::collections::BTreeMap;
+use std::marker::Model;
+use tq_store::FileName;
+
+/// The entries, each under its key, and the keys of each file and of each transaction.
+#[derive(Drop)]
+pub(crate) struct KeyedLocks {
+    pub(crate) entries: Slab<LockEntry>,
+    pub(crate) by_file: BTreeMap<FileName, Vec<usize>>,
+    pub(crate) by_txn: BTreeMap<u64, Vec<usize>>,
+    alloc: Global,
+}
+
+impl KeyedLocks {
+    ghost use Rattle.tq_locks.specs.Kept.{locks_in, on_file, Agrees, AreKeysOf, IsOf, IsStableAt, RisesTo, steady};
+    ghost use Rattle.tq_locks.specs.declared.mode.Lock.{Lock};
+
+    pub(crate) fn new(alloc: Global) -> KeyedLocks
+        ensures { Agrees result fin.empty }
+    {
+        KeyedLocks {
+            entries: Slab::new(alloc),
+            by_file: BTreeMap::new(alloc),
+            by_txn: BTreeMap::new(alloc),
+            alloc,
+        }
+    }
+
+    /// The entry under a key.
+    pub(crate) fn entry(&self, key: usize) -> Option<&LockEntry>
+        ensures { option_copied result ≡ get self.now.entries key }
+    {
+        self.entries.get(key)
+    }
+
+    /// The keys of a file's entries, ascending by transaction.
+    pub(crate) fn keys_of_file(&self, file: &FileName) -> &[usize]
+        ensures { result.now ≡ keys_at name_cmp self.now.by_file file.now }
+    {
+        listed(&self.by_file, file)
+    }
+
+    /// The keys of a transaction's entries, ascending by file.
+    pub(crate) fn keys_of_txn(&self, txn: u64) -> &[usize]
+        ensures { result.now ≡ keys_at nat_cmp self.now.by_txn txn }
+    {
+        listed(&self.by_txn, &txn)
+    }
+
+    // Whether the entry under a key comes before the place of this file and transaction.
+    fn is_below(&self, key: usize, file: &FileName, txn: u64) -> bool
+        ensures { result ≡ option_map_or (λ entry. is_lt (lock_cmp entry.0 (file.now, txn))) (get self.now.entries key) false }
+    {
+        match self.entries.get(key) {
+            Some(entry) => entry.file.cmp(file).then(entry.txn.cmp(&txn)).is_lt(),
+            None => false,
+        }
+    }
+
+    // The place of this file and transaction among keys whose entries rise.
+    fn place(&self, keys: &[usize], file: &FileName, txn: u64) -> usize
+        ensures within { result ≤ length keys.now }
+        ensures place { RisesTo self.now.entries keys.now (file.now, txn) result }
+    {
+        keys.partition_point(|key| self.is_below(*key, file, txn))
+    }
+
+    /// The entries under these keys.
+    pub(crate) fn listed<'a>(&'a self, keys: &'a [usize]) -> Listed<'a>
+        ensures { result ≡ told self.now.entries keys.now }
+    {
+        Listed {
+            entries: &self.entries,
+            keys,
+        }
+    }
+
+    /// The key of the entry of a file and a transaction.
+    pub(crate) fn find(&self, file: &FileName, txn: u64) -> Option<usize>
+        ensures some { Agrees self.now (locks_in self.now) → IfSome result (λ key. IsOf self.now.entries key (file.now, txn)) }
+        ensures none { Agrees self.now (locks_in self.now) → IfNone result (fin.get (locks_in self.now) (file.now, txn) ≡ None) }
+    {
+        let keys = self.keys_of_txn(txn);
+        let key = *keys.get(self.place(keys, file, txn))?;
+        let entry = self.entry(key)?;
+        if entry.file == *file { Some(key) } else { None }
+    }
+
+    /// Keeps a new entry. Without memory the locks stay as they were.
+    pub(crate) fn insert(&mut self, entry: LockEntry) -> Result<(), AllocError>
+        requires agreed { Agrees self.old (locks_in self.old) }
+        requires absent { fin.get (locks_in self.old) entry.0 ≡ None }
+        ensures ok { OnOk result (Agrees self.new (fin.insert (locks_in self.old) entry.0 entry.1)) }
+        ensures err { OnErr result (Agrees self.new (locks_in self.old)) }
+    {
+        let file = entry.file;
+        let txn = entry.txn;
+        self.entries.reserve(1)?;
+        make_room(self.alloc, &mut self.by_file, file)?;
+        make_room(self.alloc, &mut self.by_txn, txn)?;
+        let in_file = self.place(self.keys_of_file(&file), &file, txn);
+        let in_txn = self.place(self.keys_of_txn(txn), &file, txn);
+        let key = self.entries.insert_reserved(entry);
+        put_at(&mut self.by_file, &file, in_file, key);
+        put_at(&mut self.by_txn, &txn, in_txn, key);
+        Ok(())
+    }
+
+    /// Puts a new lock into the entry under a key.
+    pub(crate) fn set_lock(&mut self, key: usize, lock: Lock)
+        requires { Agrees self.old (locks_in self.old) }
+        ensures agreed { (name : LockKey) → IsOf self.old.entries key name → Agrees self.new (fin.insert (locks_in self.old) name lock) }
+        ensures by_txn { (txn : ℕ) → keys_at nat_cmp self.new.by_txn txn ≡ keys_at nat_cmp self.old.by_txn txn }
+        ensures entries { (other : ℕ) → get self.new.entries other ≡ (if other == key then option_map (λ entry. (entry.0, lock)) (get self.old.entries key) else get self.old.entries other) }
+    {
+        if let Some(entry) = self.entries.get_mut(key) {
+            entry.lock = lock;
+        }
+    }
+
+    /// Takes the entry under a key out of the slab and of both indexes.
+    pub(crate) fn remove(&mut self, key: usize)
+        requires { Agrees self.old (locks_in self.old) }
+        ensures agreed { (name : LockKey) → IsOf self.old.entries key name → Agrees self.new (fin.remove (locks_in self.old) name) }
+        ensures absent { get self.old.entries key ≡ None → Agrees self.new (locks_in self.old) }
+        ensures entries { Updates self.old.entries self.new.entries key None }
+        ensures fewer { IsSome (get self.old.entries key) → slab_len self.new.entries + 1 ≡ slab_len self.old.entries }
+    {
+        let Some(entry) = self.entries.get(key).copied() else {
+            return;
+        };
+        let file = entry.file;
+        let txn = entry.txn;
+        let in_file = self.place(self.keys_of_file(&file), &file, txn);
+        let in_txn = self.place(self.keys_of_txn(txn), &file, txn);
+        let _ = self.entries.try_remove(key);
+        take_at(&mut self.by_file, &file, in_file);
+        take_at(&mut self.by_txn, &txn, in_txn);
+    }
+
+    /// An equal one, with memory of its own.
+    pub(crate) fn copy(&self) -> Result<KeyedLocks, AllocError>
+        ensures { (locks : Locks) → Agrees self.now locks → IfOk result (λ copy. Agrees copy locks) }
+    {
+        Ok(KeyedLocks {
+            entries: self.entries.clone()?,
+            by_file: self.by_file.clone()?,
+            by_txn: self.by_txn.clone()?,
+            alloc: self.alloc,
+        })
+    }
+
+    // Makes the lock under a key stable.
+    fn stabilise(&mut self, key: usize)
+        requires { Agrees self.old (locks_in self.old) }
+        ensures agreed { (name : LockKey) (lock : Lock) → get self.old.entries key ≡ Some (name, lock) → Agrees self.new (fin.insert (locks_in self.old) name (steady lock)) }
+        ensures by_txn { (txn : ℕ) → keys_at nat_cmp self.new.by_txn txn ≡ keys_at nat_cmp self.old.by_txn txn }
+        ensures entries { (other : ℕ) → get self.new.entries other ≡ (if other == key then option_map (λ entry. (entry.0, steady entry.1)) (get self.old.entries key) else get self.old.entries other) }
+    {
+        let Some(entry) = self.entry(key) else {
+            return;
+        };
+        let lock = entry.lock;
+        self.set_lock(
+            key,
+            Lock {
+                mode: lock.mode,
+                since: lock.since,
+                version: lock.version,
+                stable: true,
+            },
+        );
+    }
+
+    // Makes the lock at a place of a transaction's keys stable.
+    fn stabilise_at(&mut self, txn: u64, place: usize)
+        requires { Agrees self.old (locks_in self.old) }
+        ensures agreed { Agrees self.new (locks_in self.new) }
+        ensures kept { kept (locks_in self.new) txn ≡ kept (locks_in self.old) txn }
+        ensures keys { keys_at nat_cmp self.new.by_txn txn ≡ keys_at nat_cmp self.old.by_txn txn }
+        ensures stable { (key : ℕ) → slice_get (keys_at nat_cmp self.old.by_txn txn) place ≡ Some key → IsStableAt self.new.entries key }
+        ensures others { (other : ℕ) → IsStableAt self.old.entries other → IsStableAt self.new.entries other }
+    {
+        let Some(key) = self.keys_of_txn(txn).get(place).copied() else {
+            return;
+        };
+        self.stabilise(key);
+    }
+
+    /// Makes the locks of a transaction stable.
+    pub(crate) fn keep(&mut self, txn: u64)
+        requires { Agrees self.old (locks_in self.old) }
+        ensures { Agrees self.new (kept (locks_in self.old) txn) }
+    {
+        for place in 0..self.keys_of_txn(txn).len() {
+            self.stabilise_at(txn, place);
+        }
+    }
+
+    /// Ends the locks of a transaction.
+    pub(crate) fn release(&mut self, txn: u64)
+        requires { Agrees self.old (locks_in self.old) }
+        ensures { Agrees self.new (released (locks_in self.old) txn) }
+    {
+        while let Some(key) = self.keys_of_txn(txn).last().copied() {
+            self.remove(key);
+        }
+    }
+
+    // Ends the lock under a key unless it is stable.
+    fn end_unstable(&mut self, key: usize)
+        requires { Agrees self.old (locks_in self.old) }
+        ensures agreed { Agrees self.new (locks_in self.new) }
+        ensures left { only_stable (locks_in self.new) ≡ only_stable (locks_in self.old) }
+        ensures stable { IsStableAt self.new.entries key }
+        ensures others { (other : ℕ) → IsStableAt self.old.entries other → IsStableAt self.new.entries other }
+    {
+        let Some(entry) = self.entry(key) else {
+            return;
+        };
+        if entry.lock.stable {
+            return;
+        }
+        self.remove(key);
+    }
+
+    /// Ends the locks that aren't stable.
+    pub(crate) fn drop_unstable(&mut self)
+        requires { Agrees self.old (locks_in self.old) }
+        ensures { Agrees self.new (only_stable (locks_in self.old)) }
+    {
+        for key in 0..self.entries.capacity() {
+            self.end_unstable(key);
+        }
+    }
+}
+
+/// The entries under keys that are left to walk.
+#[derive(Drop)]
+pub(crate) struct Listed<'a> {
+    entries: &'a Slab<LockEntry>,
+    keys: &'a [usize],
+}
+
+impl<'a> Model for Listed<'a> {
+    ghost use Rattle.std.specs.Prelude.{List};
+    ghost use Rattle.tq_locks.specs.Locks.{LockKey};
+    ghost use Rattle.tq_locks.specs.declared.mode.Lock.{Lock};
+    ghost use Rattle.tq_locks.specs.Keys.{told};
+
+    ghost Value = { List (LockKey × Lock) };
+
+    ghost view = { λ it. told it.entries.now it.keys.now };
+}
+
+impl<'a> Iterator for Listed<'a> {
+    ghost use Rattle.std.specs.Iterator.{YieldsFirst, item_count};
+
+    type Item = LockEntry;
+
+    ghost next_gives = { YieldsFirst (λ rest. rest) };
+
+    ghost remaining = { item_count (λ rest. rest) };
+
+    fn next(&mut self) -> Option<LockEntry> {
+        while let Some((key, rest)) = self.keys.split_first() {
+            self.keys = rest;
+            if let Some(entry) = self.entries.get(*key) {
+                return Some(*entry);
+            }
+        }
+        None
+    }
+}
