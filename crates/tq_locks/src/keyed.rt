@@ -233,7 +233,8 @@ impl KeyedLocks {
         let Some(entry) = self.entry(key) else {
             return;
         };
-        if entry.lock.stable {
+        let stays = entry.lock.stable;
+        if stays {
             return;
         }
         self.remove(key);

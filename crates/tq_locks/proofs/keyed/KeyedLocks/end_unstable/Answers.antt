@@ -16,4 +16,4 @@ returns-clause-left c =
     let e = c.in-Some.entry.now in
     let old = locks_in c.args.self.now in
     ap only_stable (locks_in-agreed c.remove.new.self (fin.remove old e.0) (c.remove.ensures.agreed e.0 (e.1, sym c.in-Some.ensures)))
-    ∙ only_stable-remove old e.0 e.1 (c.requires.sound c.args.key e (sym c.in-Some.ensures)) (ap (λ (x : LockKey × Lock). x.1.stable) (sym c.entry-2.view_is) ∙ c.if-entry.false)
+    ∙ only_stable-remove old e.0 e.1 (c.requires.sound c.args.key e (sym c.in-Some.ensures)) (ap (λ (x : LockKey × Lock). x.1.stable) (sym c.entry-2.view_is) ∙ c.if-stays.false)
