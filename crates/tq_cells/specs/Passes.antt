@@ -1,0 +1,33 @@
+-- What a caller of a cell was told.
+use Rattle.std.specs.Prelude.{◌≡◌, ◌≤◌, ◌-◌, ℕ, List, [], ◌∷◌, ◌++◌, slice_get, Some}
+use Rattle.tq_shape.specs.declared.entry.Entry.{Entry}
+use Rattle.tq_shape.specs.declared.part.Part.{Part}
+use Rattle.tq_shape.specs.Journal.{IsLegalFrom, entry}
+
+-- a receipt: the part that was asked, the number of the entry, the ask and the reply
+pub record Told (A R : Type 0) : Type 0 where
+  pub part : Part
+  pub number : ℕ
+  pub ask : A
+  pub reply : R
+
+abbrev pub told : {A R : Type 0} → Part → ℕ → A → R → Told A R
+told part number ask reply = record { part = part; number = number; ask = ask; reply = reply }
+
+-- one caller's receipts at one cell, in the order of its calls, and the greatest number that it was told
+pub record Seen (A R : Type 0) : Type 0 where
+  pub receipts : List (Told A R)
+  pub seen : ℕ
+
+abbrev pub seen_by : {A R : Type 0} → List (Told A R) → ℕ → Seen A R
+seen_by receipts seen = record { receipts = receipts; seen = seen }
+
+-- the receipts of the passes, pass by pass
+abbrev pub receipts_of : {A R : Type 0} → List (Seen A R) → List (Told A R)
+receipts_of [] = []
+receipts_of (p ∷ ps) = p.receipts ++ receipts_of ps
+
+-- a legal journal of some part of this kind has this entry at this number
+abbrev pub IsToldBy : {S A R : Type 0} → (S → ℕ → A → R) → (S → ℕ → A → S) → (S → S) → ℕ → A → R → Type 0
+IsToldBy {S} {A} {R} reply after opening number ask answer =
+    (s : S) × (journal : List (Entry A R)) × IsLegalFrom reply after (opening s) 1 journal × (1 ≤ number) × (slice_get journal (number - 1) ≡ Some (entry ask answer))

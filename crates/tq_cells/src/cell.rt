@@ -1,0 +1,138 @@
+ghost use Rattle.std.specs.Prelude.{◌≡◌, ◌+◌, ◌∷◌, ◌++◌, [], ◌≤◌, ◌<◌, List, drop, vec_len, IfOk, OnErr};
+ghost use Rattle.tq_shape.specs.declared.entry.Entry.{Entry};
+ghost use Rattle.tq_shape.specs.Journal.{IsLegalFrom};
+ghost use Rattle.tq_cells.specs.Passes.{IsToldBy, seen_by, receipts_of};
+
+use crate::CallFault;
+use crate::gate::Gate;
+use crate::held::Held;
+use crate::pass::Pass;
+use crate::receipt::Receipt;
+use std::alloc::Global;
+use std::marker::Model;
+use std::sync::{Mutex, Wait};
+use tq_part::{Answers, Journaled};
+use tq_shape::{Entry, Memory, Part};
+
+/// A part under a lock, beside its journal, which many threads may ask at once. Whenever the lock is free, the journal
+/// is legal and the part is its replay.
+///
+/// Contracts see a cell as the name of its part: nothing that lies under the lock can be named beside it.
+#[derive(Drop)]
+pub struct Cell<P: Answers> {
+    part: Part,
+    held: Mutex<Held<P>>,
+}
+
+impl<P: Answers> Model for Cell<P> {
+    ghost use Rattle.tq_shape.specs.declared.part.Part.{Part};
+
+    ghost Value = { Part };
+
+    ghost view = { λ cell. cell.part };
+}
+
+impl<P: Answers> Cell<P> {
+    /// A cell of that name, with a part that was asked nothing and an empty journal, which may have that many entries.
+    pub fn new(alloc: Global, part: Part, opening: P, entries: u32) -> Cell<P>
+        requires { opening ≡ P.opening opening }
+        ensures { result ≡ part }
+    {
+        Cell {
+            part,
+            held: Mutex::new(Held::new(alloc, opening, entries)),
+        }
+    }
+
+    /// A pass for a caller that was told nothing. It takes no memory.
+    pub fn pass(&self, alloc: Global) -> Pass<P>
+        ensures { result ≡ seen_by [] 0 }
+    {
+        Pass::new(alloc)
+    }
+
+    /// Asks the part, once it has its lock, under the next number of the journal. The receipt says the number and the
+    /// reply; one like it is the last of the pass. The gate is told once the lock is held, and once it is given back,
+    /// also where the answer is a fault. Answers `JournalFull` where the journal has as many entries as it may have,
+    /// and `Memory` where memory is refused: then part, journal and pass are as they were.
+    pub fn call<R: Wait, G: Gate>(
+        &self,
+        rt: &R,
+        alloc: Global,
+        pass: &mut Pass<P>,
+        gate: &G,
+        ask: P::Ask,
+    ) -> Result<Receipt<P>, CallFault>
+        ensures asked { IfOk result (λ r. (r.part ≡ self.now) × (r.ask ≡ ask)) }
+        ensures reply { IfOk result (λ r. IsToldBy P.reply P.after P.opening r.number r.ask r.reply) }
+        ensures pass { IfOk result (λ r. pass.new.receipts ≡ pass.old.receipts ++ r ∷ []) }
+        ensures told { IfOk result (λ r. r.number ≤ pass.new.seen) }
+        ensures seen { pass.old.seen ≤ pass.new.seen }
+        ensures err { OnErr result (pass.new ≡ pass.old) }
+    {
+        let mut held = self.held.lock(rt);
+        gate.holding(self.part);
+        let receipt = held.answer(alloc, self.part, pass, ask);
+        drop(held);
+        gate.answered(self.part);
+        receipt
+    }
+
+    /// The entries after a number, none where the journal has fewer; the greatest number that the pass was told is then
+    /// at least that of the last of them. Answers an error only where memory is refused, and the pass is as it was.
+    pub fn since<R: Wait>(
+        &self,
+        rt: &R,
+        alloc: Global,
+        pass: &mut Pass<P>,
+        number: u64,
+    ) -> Result<Vec<Entry<P::Ask, P::Reply>>, Memory>
+        ensures entries { IfOk result (λ v. (s : P) × (journal : List (Entry P.Ask P.Reply)) × IsLegalFrom P.reply P.after (P.opening s) 1 journal × (v.items ≡ drop number journal)) }
+        ensures receipts { pass.new.receipts ≡ pass.old.receipts }
+        ensures seen { pass.old.seen ≤ pass.new.seen }
+        ensures told { IfOk result (λ v. (0 < vec_len v) → (number + vec_len v ≤ pass.new.seen)) }
+        ensures err { OnErr result (pass.new ≡ pass.old) }
+    {
+        self.held.lock(rt).since(alloc, pass, number)
+    }
+
+    /// The journal, and the receipts of the passes, pass by pass. Answers an error only where memory is refused: then
+    /// the cell and the passes are gone.
+    pub fn into_journal(
+        self,
+        alloc: Global,
+        passes: Vec<Pass<P>>,
+    ) -> Result<(Vec<Entry<P::Ask, P::Reply>>, Vec<Receipt<P>>), Memory>
+        ensures legal { IfOk result (λ r. (s : P) × IsLegalFrom P.reply P.after (P.opening s) 1 r.0.items) }
+        ensures receipts { IfOk result (λ r. r.1.items ≡ receipts_of passes.items) }
+    {
+        let (journaled, receipts) = self.into_journaled(alloc, passes)?;
+        Ok((journaled.into_entries(), receipts))
+    }
+
+    /// As `into_journal`, with the part beside its journal.
+    pub fn into_journaled(
+        self,
+        alloc: Global,
+        passes: Vec<Pass<P>>,
+    ) -> Result<(Journaled<P>, Vec<Receipt<P>>), Memory>
+        ensures { IfOk result (λ r. r.1.items ≡ receipts_of passes.items) }
+    {
+        let receipts = joined(alloc, passes)?;
+        let Cell { part: _, held } = self;
+        Ok((held.into_inner().into_journaled(), receipts))
+    }
+}
+
+/// The receipts of the passes, pass by pass.
+#[tactic(auto, using(crate::proofs::Joined::receipts_snoc))]
+fn joined<P: Answers>(alloc: Global, passes: Vec<Pass<P>>) -> Result<Vec<Receipt<P>>, Memory>
+    ensures { IfOk result (λ v. v.items ≡ receipts_of passes.items) }
+{
+    let mut all = Vec::new(alloc);
+    for pass in passes {
+        let mut receipts = pass.into_receipts();
+        all.append(&mut receipts)?;
+    }
+    Ok(all)
+}

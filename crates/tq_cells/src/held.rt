@@ -1,0 +1,143 @@
+ghost use Rattle.std.specs.Prelude.{◌≡◌, ◌+◌, ◌∷◌, ◌++◌, [], ◌≤◌, ◌<◌, ◌↔◌, ℕ, length, drop, vec_len, IfOk, OnErr, IsErrOf};
+ghost use Rattle.tq_shape.specs.Journal.{IsLegalFrom, entry};
+ghost use Rattle.tq_part.specs.Agrees.{standing};
+ghost use Rattle.tq_cells.specs.Passes.{told};
+
+use crate::pass::Pass;
+use crate::receipt::Receipt;
+use std::alloc::Global;
+use std::marker::Model;
+use tq_part::{Answers, Fault, Journaled, foresee};
+use tq_shape::{Entry, Memory, Part};
+
+/// What lies under the lock of a cell: a part beside its journal. Contracts see it as that.
+#[derive(Drop)]
+pub(crate) struct Held<P: Answers> {
+    journaled: Journaled<P>,
+    /// How many entries the journal may have: so that a full one is known before any memory is asked for.
+    limit: u32,
+}
+
+impl<P: Answers> Model for Held<P> {
+    ghost use Rattle.std.specs.Prelude.{◌≡◌, ◌≤◌, length};
+    ghost use Rattle.tq_part.specs.Agrees.{Standing};
+
+    ghost Value = { Standing P P.Ask P.Reply };
+
+    ghost view = { λ held. held.journaled };
+
+    ghost invariant = { λ held. (held.journaled.limit ≡ held.limit) × (length held.journaled.journal ≤ held.limit) };
+}
+
+impl<P: Answers> Held<P> {
+    /// A part that was asked nothing, with an empty journal that may have that many entries.
+    pub(crate) fn new(alloc: Global, part: P, limit: u32) -> Held<P>
+        requires { part ≡ P.opening part }
+        ensures { result ≡ standing part [] limit }
+    {
+        Held {
+            journaled: Journaled::new(alloc, part, limit),
+            limit,
+        }
+    }
+
+    /// Asks the part under the next number, and enters what it replies into the journal and, as a receipt under the
+    /// part's name, into the caller's pass. Answers `JournalFull` where the journal has as many entries as its limit,
+    /// before any memory is asked for, and `Memory` where memory is refused. At a fault all is as it was.
+    pub(crate) fn answer(
+        &mut self,
+        alloc: Global,
+        part: Part,
+        pass: &mut Pass<P>,
+        ask: P::Ask,
+    ) -> Result<Receipt<P>, Fault>
+        ensures receipt { IfOk result (λ r. r ≡ told part (length self.old.journal + 1) ask (P.reply self.old.part (length self.old.journal + 1) ask)) }
+        ensures journal { IfOk result (λ r. self.new ≡ standing (P.after self.old.part r.number ask) (self.old.journal ++ entry ask r.reply ∷ []) self.old.limit) }
+        ensures pass { IfOk result (λ r. pass.new.receipts ≡ pass.old.receipts ++ r ∷ []) }
+        ensures told { IfOk result (λ r. r.number ≤ pass.new.seen) }
+        ensures seen { pass.old.seen ≤ pass.new.seen }
+        ensures legal { IsLegalFrom P.reply P.after (P.opening self.new.part) 1 self.new.journal }
+        ensures err { OnErr result ((self.new ≡ self.old) × (pass.new ≡ pass.old)) }
+        ensures full { IsErrOf result Fault.JournalFull ↔ (length self.old.journal ≡ self.old.limit) }
+    {
+        let entries = self.journaled.entries().len();
+        if entries == self.limit as usize {
+            return Err(Fault::JournalFull);
+        }
+        let number = entries as u64 + 1;
+        pass.receipts.reserve(1)?;
+        let asked = P::same_ask(alloc, &ask)?;
+        let foreseen = foreseen(alloc, self.journaled.part(), part, number, &ask)?;
+        let answered = self.journaled.ask(alloc, ask)?;
+        pass.receipts.push_reserved(foreseen);
+        pass.seen = number.max(pass.seen);
+        Ok(Receipt::new(part, number, asked, answered.reply))
+    }
+
+    /// The entries after a number, none where there are fewer; the caller has then seen the last of them.
+    pub(crate) fn since(
+        &self,
+        alloc: Global,
+        pass: &mut Pass<P>,
+        number: u64,
+    ) -> Result<Vec<Entry<P::Ask, P::Reply>>, Memory>
+        ensures entries { IfOk result (λ v. v.items ≡ drop number self.now.journal) }
+        ensures legal { IsLegalFrom P.reply P.after (P.opening self.now.part) 1 self.now.journal }
+        ensures receipts { pass.new.receipts ≡ pass.old.receipts }
+        ensures seen { pass.old.seen ≤ pass.new.seen }
+        ensures told { IfOk result (λ v. (0 < vec_len v) → (number + vec_len v ≤ pass.new.seen)) }
+        ensures err { OnErr result (pass.new ≡ pass.old) }
+    {
+        let entries = self.journaled.entries();
+        let last = entries.len() as u64;
+        if number >= last {
+            return Ok(Vec::new(alloc));
+        }
+        let copied = copied::<P>(alloc, &entries[number as usize..])?;
+        pass.seen = last.max(pass.seen);
+        Ok(copied)
+    }
+
+    /// The part beside its journal.
+    pub(crate) fn into_journaled(self) -> Journaled<P>
+        ensures { result ≡ self }
+    {
+        let Held {
+            journaled,
+            limit: _,
+        } = self;
+        journaled
+    }
+}
+
+/// The receipt for the ask under that number, before it is asked. Answers an error only where memory is refused.
+fn foreseen<P: Answers>(
+    alloc: Global,
+    asked: &P,
+    part: Part,
+    number: u64,
+    ask: &P::Ask,
+) -> Result<Receipt<P>, Memory>
+    requires { P.is_ready asked.now number }
+    ensures { IfOk result (λ r. r ≡ told part number ask.now (P.reply asked.now number ask.now)) }
+{
+    let reply = foresee(alloc, asked, number, ask)?;
+    let same = P::same_ask(alloc, ask)?;
+    Ok(Receipt::new(part, number, same, reply))
+}
+
+/// Equal entries. Answers an error only where memory is refused.
+fn copied<P: Answers>(
+    alloc: Global,
+    entries: &[Entry<P::Ask, P::Reply>],
+) -> Result<Vec<Entry<P::Ask, P::Reply>>, Memory>
+    ensures { IfOk result (λ v. v.items ≡ entries.now) }
+{
+    let mut copied = Vec::new(alloc);
+    for entry in entries {
+        let ask = P::same_ask(alloc, &entry.ask)?;
+        let reply = P::same_reply(alloc, &entry.reply)?;
+        copied.push(Entry { ask, reply })?;
+    }
+    Ok(copied)
+}

@@ -1,0 +1,78 @@
+ghost use Rattle.std.specs.Prelude.{◌≡◌, ℕ};
+ghost use Rattle.tq_cells.specs.Passes.{told};
+
+use std::marker::Model;
+use tq_part::{Answered, Answers};
+use tq_shape::Part;
+
+/// What a caller was told of an ask: which part was asked, under which number, and what it replied. Only a cell makes
+/// one.
+#[derive(Drop)]
+pub struct Receipt<P: Answers> {
+    part: Part,
+    number: u64,
+    ask: P::Ask,
+    reply: P::Reply,
+}
+
+impl<P: Answers> Model for Receipt<P> {
+    ghost use Rattle.tq_cells.specs.Passes.{Told, told};
+
+    ghost Value = { Told P.Ask P.Reply };
+
+    ghost view = { λ r. told r.part r.number r.ask r.reply };
+}
+
+impl<P: Answers> Receipt<P> {
+    pub(crate) fn new(part: Part, number: u64, ask: P::Ask, reply: P::Reply) -> Receipt<P>
+        ensures { result ≡ told part number ask reply }
+    {
+        Receipt {
+            part,
+            number,
+            ask,
+            reply,
+        }
+    }
+
+    /// The part that was asked.
+    pub fn part(&self) -> Part
+        ensures { result ≡ self.now.part }
+    {
+        self.part
+    }
+
+    /// The number of the ask's entry: its place in the journal of the part, from 1.
+    pub fn number(&self) -> u64
+        ensures { result ≡ self.now.number }
+    {
+        self.number
+    }
+
+    /// What was asked.
+    pub fn ask(&self) -> &P::Ask
+        ensures { result.now ≡ self.now.ask }
+    {
+        &self.ask
+    }
+
+    /// What the part replied.
+    pub fn reply(&self) -> &P::Reply
+        ensures { result.now ≡ self.now.reply }
+    {
+        &self.reply
+    }
+
+    /// The number with the reply, without what was asked.
+    pub fn into_answered(self) -> Answered<P::Reply>
+        ensures { result ≡ record { number = self.number; reply = self.reply } }
+    {
+        let Receipt {
+            part: _,
+            number,
+            ask: _,
+            reply,
+        } = self;
+        Answered { number, reply }
+    }
+}
