@@ -10,7 +10,7 @@ use Rattle.std.specs.FinMap.Entries.{find, is_sorted, below_all, is_sorted-where
 use Rattle.std.specs.List.{insert, remove, slice_get, filter_map, cons_option, AllByRecursion, IsDistinct}
 use Rattle.std.proofs.lemmas.Cmp.{tied_itself}
 use Rattle.std.specs.Map.{lookup}
-use Rattle.std.specs.Option.{option_map_or, option_copied}
+use Rattle.std.specs.Option.{option_map, option_map_or, option_copied}
 use Rattle.std.specs.Ordering.{is_lt, is_eq, nat_cmp}
 use Rattle.std.specs.declared.cmp.Ordering.{Ordering}
 use Rattle.std.specs.declared.cmp.Ordering.TheVariants.{Less, Equal, Greater}
@@ -22,7 +22,7 @@ use Rattle.tq_locks.specs.declared.keyed.KeyedLocks.{KeyedLocks}
 use Rattle.tq_locks.specs.declared.mode.Lock.{Lock}
 use Rattle.tq_locks.specs.Locks.{LockKey, Locks, lock_cmp, held_of}
 use Rattle.tq_locks.specs.Keys.{keys_at, place}
-use Rattle.tq_locks.specs.Kept.{on_file, AreKeysOf, Agrees, RisesTo}
+use Rattle.tq_locks.specs.Kept.{on_file, lock_found, AreKeysOf, Agrees, IsOf, RisesTo}
 use Rattle.tq_locks.proofs.LockMaps.{locks_total, locks_same}
 use Rattle.tq_locks.proofs.Found.{none_some, some_same, first, second, less, below_each, Has-looked_up}
 use Rattle.tq_locks.proofs.Placed.{turned}
@@ -49,6 +49,11 @@ Agrees-same old new locks a same files txns =
       of_file = λ f. (λ i. map (λ k. at k i) (files f i)) ∙ a.of_file f;
       of_txn = λ t. (λ i. map (λ k. at k i) (txns t i)) ∙ a.of_txn t;
     }
+
+-- what is under the key that a search found is the lock that the table has
+pub found_lock : (kept : KeyedLocks) (locks : Locks) (name : LockKey) (found : Option ℕ) → Agrees kept locks → IfSome found (λ key. IsOf kept.entries key name) → IfNone found (fin.get locks name ≡ None) → lock_found kept.entries found ≡ fin.get locks name
+found_lock kept locks name None a some none = sym none
+found_lock kept locks name (Some key) a (lock, at) none = ap (λ e. option_map (λ (e : Entry). e.1) e) at ∙ sym (a.sound key (name, lock) at)
 
 pub Agrees-empty : (new : KeyedLocks) → new.entries.slots ≡ [] → new.by_file.entries ≡ [] → new.by_txn.entries ≡ [] → Agrees new fin.empty
 Agrees-empty new slots files txns =

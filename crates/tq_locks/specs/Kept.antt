@@ -1,6 +1,7 @@
 -- The locks of a table as it keeps them: entries under keys, and the keys of each file and of each transaction.
-use Rattle.std.specs.Prelude.{◌≡◌, ℕ, T, List, length, map, filter, Some, true, nat_eq}
+use Rattle.std.specs.Prelude.{◌≡◌, ℕ, T, List, Option, length, map, filter, Some, true, nat_eq}
 use Rattle.std.specs.List.{IsDistinct}
+use Rattle.std.specs.Option.{option_map, option_and_then}
 use Rattle.std.specs.FinMap as fin
 use Rattle.std.specs.Ordering.{nat_cmp}
 use Rattle.slab.specs.Slab.{Slab, get, values}
@@ -18,6 +19,10 @@ locks_in kept = fin.from_entries (values kept.entries)
 -- the locks on a file, ascending by transaction
 abbrev pub on_file : Locks → List ℕ → List (LockKey × Lock)
 on_file locks file = filter (λ entry. same_name file entry.0.0) (fin.entries locks)
+
+-- the lock under a key, where one was found
+abbrev pub lock_found : Slab (LockKey × Lock) → Option ℕ → Option Lock
+lock_found slab found = option_map (λ entry. entry.1) (option_and_then (get slab) found)
 
 -- the keys are those of these entries, in this order
 abbrev pub AreKeysOf : Slab (LockKey × Lock) → List ℕ → List (LockKey × Lock) → Type 0

@@ -27,7 +27,7 @@ pub(crate) struct KeyedLocks {
 }
 
 impl KeyedLocks {
-    ghost use Rattle.tq_locks.specs.Kept.{locks_in, on_file, Agrees, AreKeysOf, IsOf, IsStableAt, RisesTo, steady};
+    ghost use Rattle.tq_locks.specs.Kept.{locks_in, lock_found, on_file, Agrees, AreKeysOf, IsOf, IsStableAt, RisesTo, steady};
     ghost use Rattle.tq_locks.specs.declared.mode.Lock.{Lock};
 
     pub(crate) fn new(alloc: Global) -> KeyedLocks
@@ -99,6 +99,14 @@ impl KeyedLocks {
         let key = *keys.get(self.place(keys, file, txn))?;
         let entry = self.entry(key)?;
         if entry.file == *file { Some(key) } else { None }
+    }
+
+    /// The lock under a key that was found.
+    pub(crate) fn lock_at(&self, found: Option<usize>) -> Option<Lock>
+        ensures { result ≡ lock_found self.now.entries found }
+    {
+        let entry = self.entry(found?)?;
+        Some(entry.lock)
     }
 
     /// Keeps a new entry. Without memory the locks stay as they were.

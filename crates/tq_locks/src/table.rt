@@ -134,9 +134,7 @@ impl LockTable {
         ensures value { result ≡ fin.get self.now (file, txn) }
         ensures no_conflict { HasNoConflict self.now }
     {
-        let key = self.kept.find(&file, txn)?;
-        let entry = self.kept.entry(key)?;
-        Some(entry.lock)
+        self.kept.lock_at(self.kept.find(&file, txn))
     }
 
     /// Grants a lock that nothing blocks. Without memory the table stays as it was.
@@ -153,8 +151,9 @@ impl LockTable {
         ensures no_conflict { HasNoConflict self.new }
         ensures err { OnErr result (self.new ≡ self.old) }
     {
-        let lock = Lock::after(self.get(txn, file), mode, number, version);
-        match self.kept.find(&file, txn) {
+        let found = self.kept.find(&file, txn);
+        let lock = Lock::after(self.kept.lock_at(found), mode, number, version);
+        match found {
             Some(key) => self.kept.set_lock(key, lock),
             None => self.kept.insert(LockEntry { file, txn, lock })?,
         }
