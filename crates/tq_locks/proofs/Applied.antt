@@ -130,7 +130,7 @@ key_at f (k ∷ keys) (y ∷ xs) zero x e h = (k, refl, head_of (f k) (Some y) (
 key_at f (k ∷ keys) (y ∷ xs) (suc i) x e h = key_at f keys xs i x (tail_of (f k) (Some y) (map f keys) (map Some xs) e) h
 
 -- a look-up in a list, by an index that is in range
-within : (keys : List ℕ) (i k : ℕ) → slice_get keys i ≡ Some k → (i < length keys) × ((d : ℕ) → get_or keys i d ≡ k)
+pub within : (keys : List ℕ) (i k : ℕ) → slice_get keys i ≡ Some k → (i < length keys) × ((d : ℕ) → get_or keys i d ≡ k)
 within [] i k e = absurd (none_some k e)
 within (j ∷ keys) zero k e = (omega arith, λ d. some_same j k e)
 within (j ∷ keys) (suc i) k e = let r = within keys i k e in (omega (arith, r.0), r.1)

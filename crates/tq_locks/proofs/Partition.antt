@@ -1,16 +1,19 @@
 -- The place that a binary search finds among keys whose entries rise.
-use Rattle.std.proofs.Common.{◌≡◌, ℕ, zero, suc, ◌≤◌, ◌<◌, Bool, true, false, cond, List, [], ◌∷◌, map, length, get_or, Option, Some, ap, sym, subst, ◌∙◌, arith}
+use Rattle.std.proofs.Common.{◌≡◌, ℕ, zero, suc, ◌≤◌, ◌<◌, ◌-◌, Bool, true, false, cond, List, [], ◌∷◌, map, length, get_or, Option, None, Some, refl, ap, sym, subst, ◌∙◌, arith}
 use lib.Dec.{T}
+use mathlib.Core.Bool.{true≢false}
 use Rattle.std.specs.Cmp.{IsTotalOrder}
 use Rattle.std.specs.FinMap.Entries.{is_sorted, below_all}
 use Rattle.std.specs.List.Sorted.{IsPartitionPoint, IsPartitionedBy}
 use Rattle.std.specs.Ordering.{is_lt}
+use Rattle.std.specs.List.{slice_get}
 use Rattle.std.specs.Option.{option_map_or}
 use Rattle.std.specs.declared.cmp.Ordering.{Ordering}
 use Rattle.std.specs.declared.cmp.Ordering.TheVariants.{Less}
 use Rattle.tq_locks.specs.Keys.{place}
 use Rattle.tq_locks.proofs.Found.{first, second, less}
 use Rattle.tq_locks.proofs.Agreed.{head_of, tail_of, nil_cons}
+use Rattle.tq_locks.proofs.Applied.{within}
 
 less_test : (r : Ordering) → is_lt r ≡ true → r ≡ Less
 less_test r h = less r (subst T (sym h) tt)
@@ -55,3 +58,13 @@ module _ {K X : Type 0} {R : K → K → Ordering} (o : IsTotalOrder R) (f : ℕ
       let found = under_found k y (head_of (f k) (Some y) (map f keys) (map Some xs) e) in
       let rest = point-place keys xs i (omega (arith, le)) (tail_of (f k) (Some y) (map f keys) (map Some xs) e) (λ j d a b. p.0 (suc j) d (omega arith) (omega (arith, b)), λ j d a b. p.1 (suc j) d (omega (arith, a)) (omega (arith, b))) in
       ap suc rest ∙ ap (λ b. cond b (suc (place R q xs)) 0) (sym (p.0 0 0 (omega arith) (omega arith)) ∙ found)
+
+  -- where the last entry is below q, all are
+  pub behind-place : (keys : List ℕ) (xs : List (K × X)) → option_map_or under (slice_get keys (length keys - 1)) false ≡ true → map f keys ≡ map Some xs → T (is_sorted R xs) → length keys ≡ place R q xs
+  behind-place keys xs u e t = by_last (slice_get keys (length keys - 1)) refl u
+    where
+      by_last : (last : Option ℕ) → slice_get keys (length keys - 1) ≡ last → option_map_or under last false ≡ true → length keys ≡ place R q xs
+      by_last None at u = absurd (true≢false (sym u))
+      by_last (Some k) at u =
+          let last = within keys (length keys - 1) k at in
+          point-place keys xs (length keys) (omega arith) e (λ i d a b. parted keys xs e t i (length keys - 1) d (omega (arith, b)) last.0 (ap under (last.1 d) ∙ u), λ i d a b. absurd (omega (arith, a, b)))

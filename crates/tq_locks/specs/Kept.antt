@@ -1,9 +1,9 @@
 -- The locks of a table as it keeps them: entries under keys, and the keys of each file and of each transaction.
-use Rattle.std.specs.Prelude.{◌≡◌, ℕ, T, List, Option, length, map, filter, Some, true, nat_eq}
+use Rattle.std.specs.Prelude.{◌≡◌, ℕ, T, Bool, List, Option, length, map, filter, Some, true, false, nat_eq}
 use Rattle.std.specs.List.{IsDistinct}
-use Rattle.std.specs.Option.{option_map, option_and_then}
+use Rattle.std.specs.Option.{option_map, option_map_or, option_and_then}
 use Rattle.std.specs.FinMap as fin
-use Rattle.std.specs.Ordering.{nat_cmp}
+use Rattle.std.specs.Ordering.{nat_cmp, is_lt}
 use Rattle.slab.specs.Slab.{Slab, get, values}
 use Rattle.tq_store.specs.Copies.{name_cmp}
 use Rattle.tq_store.specs.Names.{same_name}
@@ -36,6 +36,10 @@ pub record Agrees (kept : KeyedLocks) (locks : Locks) : Type 0 where
   -- each index has the keys of all the locks of a file, and of a transaction
   pub of_file : (file : List ℕ) → AreKeysOf kept.entries (keys_at name_cmp kept.by_file file) (on_file locks file)
   pub of_txn : (txn : ℕ) → AreKeysOf kept.entries (keys_at nat_cmp kept.by_txn txn) (held_of locks txn)
+
+-- the entry under a key comes before a place in the set
+abbrev pub is_under : Slab (LockKey × Lock) → LockKey → ℕ → Bool
+is_under slab name key = option_map_or (λ entry. is_lt (lock_cmp entry.0 name)) (get slab key) false
 
 -- where the entries of the keys rise, so many of them are below a key of the set
 abbrev pub RisesTo : Slab (LockKey × Lock) → List ℕ → LockKey → ℕ → Type 0

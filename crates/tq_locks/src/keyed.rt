@@ -1,5 +1,5 @@
 //! The entries of a table in a slab, with the keys of each file and of each transaction.
-ghost use Rattle.std.specs.Prelude.{◌≡◌, ◌+◌, ◌≤◌, ◌==◌, ℕ, if◌then◌else◌, List, None, Some, IsSome, IfSome, IfNone, IfOk, OnOk, OnErr, false, [], ◌∷◌, length};
+ghost use Rattle.std.specs.Prelude.{◌≡◌, ◌+◌, ◌-◌, ◌≤◌, ◌==◌, ℕ, if◌then◌else◌, List, None, Some, IsSome, IfSome, IfNone, IfOk, OnOk, OnErr, false, [], ◌∷◌, length};
 ghost use Rattle.std.specs.FinMap as fin;
 ghost use Rattle.std.specs.List.{slice_get};
 ghost use Rattle.std.specs.Option.{option_copied, option_map, option_map_or};
@@ -9,7 +9,7 @@ ghost use Rattle.slab.specs.Slab.{get, slab_len, Updates};
 ghost use Rattle.tq_locks.specs.Locks.{LockKey, Locks, lock_cmp, kept, released, only_stable};
 ghost use Rattle.tq_locks.specs.Keys.{keys_at, place, told};
 
-use crate::lists::{listed, make_room, put_at, take_at};
+use crate::lists::{end_empty, listed, make_room, put_at, take_at};
 use crate::{Lock, LockEntry};
 use slab::Slab;
 use std::alloc::{AllocError, Global};
@@ -27,7 +27,7 @@ pub(crate) struct KeyedLocks {
 }
 
 impl KeyedLocks {
-    ghost use Rattle.tq_locks.specs.Kept.{locks_in, lock_found, on_file, Agrees, AreKeysOf, IsOf, IsStableAt, RisesTo, steady};
+    ghost use Rattle.tq_locks.specs.Kept.{is_under, locks_in, lock_found, on_file, Agrees, AreKeysOf, IsOf, IsStableAt, RisesTo, steady};
     ghost use Rattle.tq_locks.specs.declared.mode.Lock.{Lock};
 
     pub(crate) fn new(alloc: Global) -> KeyedLocks
@@ -64,7 +64,7 @@ impl KeyedLocks {
 
     // Whether the entry under a key comes before the place of this file and transaction.
     fn is_below(&self, key: usize, file: &FileName, txn: u64) -> bool
-        ensures { result ≡ option_map_or (λ entry. is_lt (lock_cmp entry.0 (file.now, txn))) (get self.now.entries key) false }
+        ensures { result ≡ is_under self.now.entries (file.now, txn) key }
     {
         match self.entries.get(key) {
             Some(entry) => entry.file.cmp(file).then(entry.txn.cmp(&txn)).is_lt(),
@@ -77,7 +77,21 @@ impl KeyedLocks {
         ensures within { result ≤ length keys.now }
         ensures place { RisesTo self.now.entries keys.now (file.now, txn) result }
     {
+        // Most often a lock goes behind those that are there.
+        if self.ends_below(keys, file, txn) {
+            return keys.len();
+        }
         keys.partition_point(|key| self.is_below(*key, file, txn))
+    }
+
+    // Whether the entry under the last of the keys comes before the place of this file and transaction.
+    fn ends_below(&self, keys: &[usize], file: &FileName, txn: u64) -> bool
+        ensures { result ≡ option_map_or (is_under self.now.entries (file.now, txn)) (slice_get keys.now (length keys.now - 1)) false }
+    {
+        match keys.last() {
+            Some(key) => self.is_below(*key, file, txn),
+            None => false,
+        }
     }
 
     /// The entries under these keys.
@@ -159,6 +173,7 @@ impl KeyedLocks {
         let _ = self.entries.try_remove(key);
         take_at(&mut self.by_file, &file, in_file);
         take_at(&mut self.by_txn, &txn, in_txn);
+        end_empty(&mut self.by_txn, &txn);
     }
 
     /// An equal one, with memory of its own.

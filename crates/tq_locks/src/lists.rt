@@ -50,7 +50,7 @@ pub(crate) fn put_at<K: Ord + Copy + Drop>(
     }
 }
 
-/// Takes the key at a place out of a name's list, and the list with its last key.
+/// Takes the key at a place out of a name's list, which stays, even with no key.
 pub(crate) fn take_at<K: Ord + Copy + Drop>(
     lists: &mut BTreeMap<K, Vec<usize>>,
     name: &K,
@@ -62,9 +62,14 @@ pub(crate) fn take_at<K: Ord + Copy + Drop>(
         if place < keys.len() {
             keys.remove(place);
         }
-        if !keys.is_empty() {
-            return;
-        }
     }
-    lists.remove(name);
+}
+
+/// Ends a name's list if it has no key.
+pub(crate) fn end_empty<K: Ord + Copy + Drop>(lists: &mut BTreeMap<K, Vec<usize>>, name: &K)
+    ensures { (other : K) → keys_at K.cmp lists.new other ≡ keys_at K.cmp lists.old other }
+{
+    if listed(lists, name).is_empty() {
+        lists.remove(name);
+    }
 }
