@@ -66,12 +66,11 @@ impl<P: Answers> Held<P> {
         }
         let number = entries as u64 + 1;
         pass.receipts.reserve(1)?;
-        let asked = P::same_ask(alloc, &ask)?;
         let foreseen = foreseen(alloc, self.journaled.part(), part, number, &ask)?;
         let answered = self.journaled.ask(alloc, ask)?;
-        pass.receipts.push_reserved(foreseen);
+        pass.receipts.push_reserved(foreseen.receipt);
         pass.seen = number.max(pass.seen);
-        Ok(Receipt::new(part, number, asked, answered.reply))
+        Ok(Receipt::new(part, number, foreseen.ask, answered.reply))
     }
 
     /// The entries after a number, none where there are fewer; the caller has then seen the last of them.
@@ -110,20 +109,34 @@ impl<P: Answers> Held<P> {
     }
 }
 
-/// The receipt for the ask under that number, before it is asked. Answers an error only where memory is refused.
+/// What a caller is to be given, made before its ask is put: once it is answered nothing can fail.
+#[derive(Drop)]
+struct Copies<P: Answers> {
+    /// The receipt that its pass is to have.
+    receipt: Receipt<P>,
+    /// The ask once more, for the receipt that it is told.
+    ask: P::Ask,
+}
+
+/// What is to be told of an ask under that number. Nothing changes. Answers an error only where memory is refused.
 fn foreseen<P: Answers>(
     alloc: Global,
     asked: &P,
     part: Part,
     number: u64,
     ask: &P::Ask,
-) -> Result<Receipt<P>, Memory>
+) -> Result<Copies<P>, Memory>
     requires { P.is_ready asked.now number }
-    ensures { IfOk result (λ r. r ≡ told part number ask.now (P.reply asked.now number ask.now)) }
+    ensures receipt { IfOk result (λ f. f.receipt ≡ told part number ask.now (P.reply asked.now number ask.now)) }
+    ensures ask { IfOk result (λ f. f.ask ≡ ask.now) }
 {
     let reply = foresee(alloc, asked, number, ask)?;
     let same = P::same_ask(alloc, ask)?;
-    Ok(Receipt::new(part, number, same, reply))
+    let told = P::same_ask(alloc, ask)?;
+    Ok(Copies {
+        receipt: Receipt::new(part, number, same, reply),
+        ask: told,
+    })
 }
 
 /// Equal entries. Answers an error only where memory is refused.
