@@ -20,7 +20,7 @@ pub(crate) fn servers_at(alloc: Global, levels: Levels, bits: u64) -> Result<Ser
     requires { All (IsServer levels) (places_of bits) }
     ensures { IfOk result (λ ids. ids.items ≡ servers_of levels (places_of bits)) }
 {
-    let mut ids = ServerIds::with_capacity(alloc, bits.count_ones() as usize)?;
+    let mut ids = ServerIds::new(alloc);
     let mut rest = bits;
     while rest != 0 {
         let number = u64::from(rest.trailing_zeros());

@@ -1,4 +1,4 @@
-ghost use Rattle.std.specs.Prelude.{◌≡◌, ◌++◌, ◌+◌, ◌≤◌, length, vec_len, vec_capacity, OnOk, map};
+ghost use Rattle.std.specs.Prelude.{◌≡◌, ◌++◌, ◌∷◌, ◌+◌, ◌≤◌, length, vec_len, vec_capacity, OnOk, map};
 ghost use Rattle.std.specs.Fmt.{decimal};
 ghost use Rattle.std.specs.Option.{option_copied};
 ghost use Rattle.tq_coterie.specs.Coterie.{numbers_of};
@@ -36,8 +36,7 @@ pub(crate) fn push_servers(text: &mut Vec<u8>, servers: &[ServerId]) -> Result<(
     ensures { OnOk result (text.new.items ≡ text.old.items ++ numbers_text (numbers_of servers.now)) }
 {
     for server in servers {
-        text.extend_from_slice(b" ")?;
-        push_number(text, server.number())?;
+        push_spaced(text, server.number())?;
     }
     Ok(())
 }
@@ -47,8 +46,7 @@ pub(crate) fn push_numbers(text: &mut Vec<u8>, numbers: &[u64]) -> Result<(), Me
     ensures { OnOk result (text.new.items ≡ text.old.items ++ numbers_text numbers.now) }
 {
     for number in numbers {
-        text.extend_from_slice(b" ")?;
-        push_number(text, *number)?;
+        push_spaced(text, *number)?;
     }
     Ok(())
 }
@@ -58,8 +56,7 @@ fn push_grants(text: &mut Vec<u8>, grants: &[Grant]) -> Result<(), Memory>
     ensures { OnOk result (text.new.items ≡ text.old.items ++ numbers_text (map (λ grant. grant.server) grants.now)) }
 {
     for grant in grants {
-        text.extend_from_slice(b" ")?;
-        push_number(text, grant.server)?;
+        push_spaced(text, grant.server)?;
     }
     Ok(())
 }
@@ -192,6 +189,16 @@ pub(crate) fn push_number(text: &mut Vec<u8>, number: u64) -> Result<(), Memory>
     ensures { OnOk result (text.new.items ≡ text.old.items ++ decimal number) }
 {
     text.reserve(MOST_DIGITS)?;
+    push_digits(text, number);
+    Ok(())
+}
+
+/// Puts a space and the number in decimal behind the text.
+fn push_spaced(text: &mut Vec<u8>, number: u64) -> Result<(), Memory>
+    ensures { OnOk result (text.new.items ≡ text.old.items ++ 32 ∷ decimal number) }
+{
+    text.reserve(1 + MOST_DIGITS)?;
+    text.push_reserved(b' ');
     push_digits(text, number);
     Ok(())
 }

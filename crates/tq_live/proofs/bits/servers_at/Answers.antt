@@ -7,7 +7,7 @@ use Rattle.tq_live.proofs.bits.servers_at.Goals as goal
 pub loop-rest-init : goal.loop-rest-init
 loop-rest-init c =
     let all = servers_of c.args.levels (places_of c.args.bits) in
-    (sym (ap (λ xs. xs ++ all) c.in_ok-ids.ensures.items), c.requires)
+    (sym (ap (λ xs. xs ++ all) c.new-ids.ensures.items), c.requires)
 
 pub new-requires : goal.new-requires
 new-requires c =
