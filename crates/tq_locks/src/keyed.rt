@@ -173,7 +173,6 @@ impl KeyedLocks {
         let _ = self.entries.try_remove(key);
         take_at(&mut self.by_file, &file, in_file);
         take_at(&mut self.by_txn, &txn, in_txn);
-        end_empty(&mut self.by_txn, &txn);
     }
 
     /// An equal one, with memory of its own.
@@ -243,6 +242,7 @@ impl KeyedLocks {
         while let Some(key) = self.keys_of_txn(txn).last().copied() {
             self.remove(key);
         }
+        end_empty(&mut self.by_txn, &txn);
     }
 
     // Ends the lock under a key unless it is stable.
@@ -260,7 +260,9 @@ impl KeyedLocks {
         if stays {
             return;
         }
+        let txn = entry.txn;
         self.remove(key);
+        end_empty(&mut self.by_txn, &txn);
     }
 
     /// Ends the locks that aren't stable.

@@ -1,8 +1,9 @@
-use Rattle.std.proofs.Common.{◌≡◌, [], is_some, ap, sym, subst, ◌∙◌, arith}
+use Rattle.std.proofs.Common.{◌≡◌, [], is_some, refl, ap, sym, subst, ◌∙◌, arith}
 use Rattle.std.specs.FinMap as fin
+use Rattle.tq_locks.specs.declared.keyed.KeyedLocks.{KeyedLocks}
 use Rattle.tq_locks.specs.Locks.{released}
 use Rattle.tq_locks.specs.Kept.{locks_in, Agrees}
-use Rattle.tq_locks.proofs.Applied.{entry_of_key, empty_keys, no_last}
+use Rattle.tq_locks.proofs.Applied.{Agrees-same, entry_of_key, empty_keys, no_last}
 use Rattle.tq_locks.proofs.Changed.{agreed_self, locks_in-agreed, released-remove, released-none}
 use Rattle.tq_locks.proofs.keyed.KeyedLocks.release.Goals as goal
 
@@ -31,4 +32,5 @@ returns c =
     let old = c.loop-key.self in
     let none : c.keys_of_txn.result.now ≡ [] = no_last c.keys_of_txn.result.now (sym c.last.ensures.value ∙ sym c.in_default.ensures) in
     let held = empty_keys old (locks_in old) c.loop-key.invariant.0 c.args.txn (sym c.keys_of_txn.ensures ∙ none) in
-    subst (Agrees old) (sym (released-none (locks_in old) c.args.txn held) ∙ c.loop-key.invariant.1) c.loop-key.invariant.0
+    let new : KeyedLocks = record { entries = old.entries; by_file = old.by_file; by_txn = c.end_empty.new.lists; alloc = old.alloc } in
+    Agrees-same old new (released (locks_in c.args.self.now) c.args.txn) (subst (Agrees old) (sym (released-none (locks_in old) c.args.txn held) ∙ c.loop-key.invariant.1) c.loop-key.invariant.0) refl (λ f. refl) c.end_empty.ensures
