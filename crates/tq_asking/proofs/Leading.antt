@@ -57,7 +57,7 @@ makes_ran (AsksView ask next) old new told end made replays =
     ∙ ap (λ r. exchange_first (exchanges.View ask made.0) r) (makes_ran (next made.0) after new made.1 end made.3 replayed.1)
     ∙ ap (λ t. record { exchanges = t; end = end; after = new }) (sym made.2)
 
--- a line that follows from what one recorder was told to what the other was is run in the world of the first
+-- a line whose asks lead from what the one recorder was told to what the other was told is run in the world of the first
 pub follows_ran : {A : Type 0} (line : Dialogue A) (old new : RecorderView) (end : A) → IsReplayed old → IsReplayed new → new.journals.levels ≡ old.journals.levels → Follows line old.told new.told (Some end)
     → (more : List Exchange) × (run_line old.journals line ≡ record { exchanges = more; end = end; after = new.journals })
 follows_ran line old new end replayed_old replayed_new levels follows =

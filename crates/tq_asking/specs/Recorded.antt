@@ -61,11 +61,11 @@ Replays old (first ∷ rest) new = Matches old first × Replays (world_after old
 abbrev pub full_limits : LimitsView
 full_limits = record { files = MOST_FILES; ops = MOST_OPS; entries = MOST_ENTRIES }
 
--- what was told replayed from empty journals to these
+-- replaying what was told, from empty journals, leads to these
 abbrev pub IsReplayed : RecorderView → Type 0
 IsReplayed a = Replays (empty_world a.journals.levels full_limits) a.told a.journals
 
--- what a recorder keeps: the asks replayed from empty journals to these
+-- what a recorder keeps: replaying its asks, from empty journals, leads to these
 pub record IsRecorder (journals : JournalsView) (faults : List Exchange) (order : List Place) : Type 0 where
   pub there : stand journals faults order ≡ true
   pub replays : Replays (empty_world journals.levels full_limits) (told_in journals faults order) journals
