@@ -96,6 +96,33 @@ module _ (old new : KeyedLocks) (locks : Locks) (a : Agrees old locks) (file : L
       (λ f. files f ∙ ap (λ p. cond (is_at (name_cmp file) f) (remove (keys_at name_cmp old.by_file file) p) (keys_at name_cmp old.by_file f)) at_file)
       (λ t. txns t ∙ ap (λ p. cond (is_at (nat_cmp txn) t) (remove (keys_at nat_cmp old.by_txn txn) p) (keys_at nat_cmp old.by_txn t)) at_txn)
 
+-- the same of an entry whose file and transaction the lists are looked up by
+module _ (old new : KeyedLocks) (locks : Locks) (a : Agrees old locks) (e : Entry) (file : List ℕ) (txn : ℕ) (is_file : file ≡ e.0.0) (is_txn : txn ≡ e.0.1) (in_file in_txn key : ℕ)
+    (file_place : RisesTo old.entries (keys_at name_cmp old.by_file file) e.0 in_file) (txn_place : RisesTo old.entries (keys_at nat_cmp old.by_txn txn) e.0 in_txn) where
+  file_at : RisesTo old.entries (keys_at name_cmp old.by_file e.0.0) e.0 in_file
+  file_at = subst (λ f. RisesTo old.entries (keys_at name_cmp old.by_file f) e.0 in_file) is_file file_place
+
+  txn_at : RisesTo old.entries (keys_at nat_cmp old.by_txn e.0.1) e.0 in_txn
+  txn_at = subst (λ t. RisesTo old.entries (keys_at nat_cmp old.by_txn t) e.0 in_txn) is_txn txn_place
+
+  pub Agrees-entered : fin.get locks e.0 ≡ None → get old.entries key ≡ None → Updates old.entries new.entries key (Some e)
+      → ((f : List ℕ) → keys_at name_cmp new.by_file f ≡ cond (is_at (name_cmp file) f) (insert (keys_at name_cmp old.by_file file) in_file key) (keys_at name_cmp old.by_file f))
+      → ((t : ℕ) → keys_at nat_cmp new.by_txn t ≡ cond (is_at (nat_cmp txn) t) (insert (keys_at nat_cmp old.by_txn txn) in_txn key) (keys_at nat_cmp old.by_txn t))
+      → Agrees new (fin.insert locks e.0 e.1)
+  Agrees-entered absent vacant u files txns =
+      Agrees-inserted old new locks a e.0.0 e.0.1 e.1 in_file in_txn key (keys_at name_cmp old.by_file e.0.0) (keys_at nat_cmp old.by_txn e.0.1) refl refl file_at txn_at absent vacant u
+      (subst (λ name. (f : List ℕ) → keys_at name_cmp new.by_file f ≡ cond (is_at (name_cmp name) f) (insert (keys_at name_cmp old.by_file name) in_file key) (keys_at name_cmp old.by_file f)) is_file files)
+      (subst (λ name. (t : ℕ) → keys_at nat_cmp new.by_txn t ≡ cond (is_at (nat_cmp name) t) (insert (keys_at nat_cmp old.by_txn name) in_txn key) (keys_at nat_cmp old.by_txn t)) is_txn txns)
+
+  pub Agrees-left : get old.entries key ≡ Some e → Updates old.entries new.entries key None
+      → ((f : List ℕ) → keys_at name_cmp new.by_file f ≡ cond (is_at (name_cmp file) f) (remove (keys_at name_cmp old.by_file file) in_file) (keys_at name_cmp old.by_file f))
+      → ((t : ℕ) → keys_at nat_cmp new.by_txn t ≡ cond (is_at (nat_cmp txn) t) (remove (keys_at nat_cmp old.by_txn txn) in_txn) (keys_at nat_cmp old.by_txn t))
+      → Agrees new (fin.remove locks e.0)
+  Agrees-left at u files txns =
+      Agrees-taken old new locks a e.0.0 e.0.1 e.1 in_file in_txn key (keys_at name_cmp old.by_file e.0.0) (keys_at nat_cmp old.by_txn e.0.1) refl refl file_at txn_at at u
+      (subst (λ name. (f : List ℕ) → keys_at name_cmp new.by_file f ≡ cond (is_at (name_cmp name) f) (remove (keys_at name_cmp old.by_file name) in_file) (keys_at name_cmp old.by_file f)) is_file files)
+      (subst (λ name. (t : ℕ) → keys_at nat_cmp new.by_txn t ≡ cond (is_at (nat_cmp name) t) (remove (keys_at nat_cmp old.by_txn name) in_txn) (keys_at nat_cmp old.by_txn t)) is_txn txns)
+
 -- ---- what a look-up finds
 
 pub IfNone-any : {A : Type 0} (P : Type 0) (r : Option A) → P → IfNone r P

@@ -10,7 +10,11 @@ use Rattle.std.specs.List.{slice_get}
 use Rattle.std.specs.Option.{option_map_or}
 use Rattle.std.specs.declared.cmp.Ordering.{Ordering}
 use Rattle.std.specs.declared.cmp.Ordering.TheVariants.{Less}
+use Rattle.slab.specs.Slab.{Slab, get}
+use Rattle.tq_locks.specs.declared.mode.Lock.{Lock}
 use Rattle.tq_locks.specs.Keys.{place}
+use Rattle.tq_locks.specs.Kept.{RisesTo}
+use Rattle.tq_locks.specs.Locks.{LockKey, lock_cmp}
 use Rattle.tq_locks.proofs.Found.{first, second, less}
 use Rattle.tq_locks.proofs.Agreed.{head_of, tail_of, nil_cons}
 use Rattle.tq_locks.proofs.Applied.{within}
@@ -68,3 +72,11 @@ module _ {K X : Type 0} {R : K → K → Ordering} (o : IsTotalOrder R) (f : ℕ
       by_last (Some k) at u =
           let last = within keys (length keys - 1) k at in
           point-place keys xs (length keys) (omega arith) e (λ i d a b. parted keys xs e t i (length keys - 1) d (omega (arith, b)) last.0 (ap under (last.1 d) ∙ u), λ i d a b. absurd (omega (arith, a, b)))
+
+-- no key is below a place
+pub none_rises : (slab : Slab (LockKey × Lock)) (keys : List ℕ) (key : LockKey) → keys ≡ [] → RisesTo slab keys key 0
+none_rises slab keys key none entries listed sorted = by_entries entries (ap (map (get slab)) (sym none) ∙ listed)
+  where
+    by_entries : (entries : List (LockKey × Lock)) → [] ≡ map Some entries → 0 ≡ place lock_cmp key entries
+    by_entries [] e = refl
+    by_entries (entry ∷ entries) e = absurd (nil_cons (Some entry) (map Some entries) e)

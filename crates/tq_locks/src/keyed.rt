@@ -9,7 +9,7 @@ ghost use Rattle.slab.specs.Slab.{get, slab_len, Updates};
 ghost use Rattle.tq_locks.specs.Locks.{LockKey, Locks, lock_cmp, kept, released, only_stable};
 ghost use Rattle.tq_locks.specs.Keys.{keys_at, place, told};
 
-use crate::lists::{end_empty, listed, make_room, put_at, take_at};
+use crate::lists::{end_empty, listed, make_room, place, put, take};
 use crate::{Lock, LockEntry};
 use slab::Slab;
 use std::alloc::{AllocError, Global};
@@ -62,38 +62,6 @@ impl KeyedLocks {
         listed(&self.by_txn, &txn)
     }
 
-    // Whether the entry under a key comes before the place of this file and transaction.
-    fn is_below(&self, key: usize, file: &FileName, txn: u64) -> bool
-        ensures { result ≡ is_under self.now.entries (file.now, txn) key }
-    {
-        match self.entries.get(key) {
-            Some(entry) => entry.file.cmp(file).then(entry.txn.cmp(&txn)).is_lt(),
-            None => false,
-        }
-    }
-
-    // The place of this file and transaction among keys whose entries rise.
-    fn place(&self, keys: &[usize], file: &FileName, txn: u64) -> usize
-        ensures within { result ≤ length keys.now }
-        ensures place { RisesTo self.now.entries keys.now (file.now, txn) result }
-    {
-        // Most often a lock goes behind those that are there.
-        if self.ends_below(keys, file, txn) {
-            return keys.len();
-        }
-        keys.partition_point(|key| self.is_below(*key, file, txn))
-    }
-
-    // Whether the entry under the last of the keys comes before the place of this file and transaction.
-    fn ends_below(&self, keys: &[usize], file: &FileName, txn: u64) -> bool
-        ensures { result ≡ option_map_or (is_under self.now.entries (file.now, txn)) (slice_get keys.now (length keys.now - 1)) false }
-    {
-        match keys.last() {
-            Some(key) => self.is_below(*key, file, txn),
-            None => false,
-        }
-    }
-
     /// The entries under these keys.
     pub(crate) fn listed<'a>(&'a self, keys: &'a [usize]) -> Listed<'a>
         ensures { result ≡ told self.now.entries keys.now }
@@ -110,7 +78,7 @@ impl KeyedLocks {
         ensures none { Agrees self.now (locks_in self.now) → IfNone result (fin.get (locks_in self.now) (file.now, txn) ≡ None) }
     {
         let keys = self.keys_of_txn(txn);
-        let key = *keys.get(self.place(keys, file, txn))?;
+        let key = *keys.get(place(&self.entries, keys, file, txn))?;
         let entry = self.entry(key)?;
         if entry.file == *file { Some(key) } else { None }
     }
@@ -130,16 +98,13 @@ impl KeyedLocks {
         ensures ok { OnOk result (Agrees self.new (fin.insert (locks_in self.old) entry.0 entry.1)) }
         ensures err { OnErr result (Agrees self.new (locks_in self.old)) }
     {
-        let file = entry.file;
-        let txn = entry.txn;
         self.entries.reserve(1)?;
-        make_room(self.alloc, &mut self.by_file, file)?;
-        make_room(self.alloc, &mut self.by_txn, txn)?;
-        let in_file = self.place(self.keys_of_file(&file), &file, txn);
-        let in_txn = self.place(self.keys_of_txn(txn), &file, txn);
-        let key = self.entries.insert_reserved(entry);
-        put_at(&mut self.by_file, &file, in_file, key);
-        put_at(&mut self.by_txn, &txn, in_txn, key);
+        make_room(self.alloc, &mut self.by_file, entry.file)?;
+        make_room(self.alloc, &mut self.by_txn, entry.txn)?;
+        let key = self.entries.vacant_key();
+        put(&mut self.by_file, &self.entries, &entry.file, &entry, key);
+        put(&mut self.by_txn, &self.entries, &entry.txn, &entry, key);
+        self.entries.insert_reserved(entry);
         Ok(())
     }
 
@@ -166,13 +131,9 @@ impl KeyedLocks {
         let Some(entry) = self.entries.get(key).copied() else {
             return;
         };
-        let file = entry.file;
-        let txn = entry.txn;
-        let in_file = self.place(self.keys_of_file(&file), &file, txn);
-        let in_txn = self.place(self.keys_of_txn(txn), &file, txn);
+        take(&mut self.by_file, &self.entries, &entry.file, &entry);
+        take(&mut self.by_txn, &self.entries, &entry.txn, &entry);
         let _ = self.entries.try_remove(key);
-        take_at(&mut self.by_file, &file, in_file);
-        take_at(&mut self.by_txn, &txn, in_txn);
     }
 
     /// An equal one, with memory of its own.

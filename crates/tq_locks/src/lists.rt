@@ -1,11 +1,16 @@
 //! Lists of keys, each under a name: an index of a slab.
-ghost use Rattle.std.specs.Prelude.{◌≡◌, ◌<◌, ◌≤◌, length, OnOk, if◌then◌else◌};
-ghost use Rattle.std.specs.List.{insert, remove};
+ghost use Rattle.std.specs.Prelude.{◌≡◌, ◌-◌, ◌<◌, ◌≤◌, false, length, OnOk, if◌then◌else◌};
+ghost use Rattle.std.specs.List.{insert, remove, slice_get};
+ghost use Rattle.std.specs.Option.{option_map_or};
 ghost use Rattle.std.specs.BTreeMap.{IsOrdered, is_at};
 ghost use Rattle.tq_locks.specs.Keys.{keys_at, HasRoomAt};
+ghost use Rattle.tq_locks.specs.Kept.{is_under, RisesTo};
 
+use crate::LockEntry;
+use slab::Slab;
 use std::alloc::{AllocError, Global};
 use std::collections::BTreeMap;
+use tq_store::FileName;
 
 /// The keys under a name.
 pub(crate) fn listed<'a, K: Ord + Copy>(lists: &'a BTreeMap<K, Vec<usize>>, name: &K) -> &'a [usize]
@@ -34,34 +39,82 @@ pub(crate) fn make_room<K: Ord + Copy + Drop>(
     Ok(())
 }
 
-/// Puts a key into a place of a name's list, for which there is room.
-pub(crate) fn put_at<K: Ord + Copy + Drop>(
-    lists: &mut BTreeMap<K, Vec<usize>>,
-    name: &K,
-    place: usize,
-    key: usize,
-)
-    requires room { HasRoomAt K.cmp lists.old name.now }
-    requires within { place ≤ length (keys_at K.cmp lists.old name.now) }
-    ensures { (other : K) → keys_at K.cmp lists.new other ≡ (if is_at (K.cmp name.now) other then insert (keys_at K.cmp lists.old name.now) place key else keys_at K.cmp lists.old other) }
+/// Whether the entry under a key comes before the place of this file and transaction.
+fn is_below(entries: &Slab<LockEntry>, key: usize, file: &FileName, txn: u64) -> bool
+    ensures { result ≡ is_under entries.now (file.now, txn) key }
 {
-    if let Some(keys) = lists.get_mut(name) {
-        let _ = keys.insert(place, key);
+    match entries.get(key) {
+        Some(entry) => entry.file.cmp(file).then(entry.txn.cmp(&txn)).is_lt(),
+        None => false,
     }
 }
 
-/// Takes the key at a place out of a name's list, which stays, even with no key.
-pub(crate) fn take_at<K: Ord + Copy + Drop>(
-    lists: &mut BTreeMap<K, Vec<usize>>,
-    name: &K,
-    place: usize,
-)
-    ensures { (other : K) → keys_at K.cmp lists.new other ≡ (if is_at (K.cmp name.now) other then remove (keys_at K.cmp lists.old name.now) place else keys_at K.cmp lists.old other) }
+/// Whether the entry under the last of the keys comes before the place of this file and transaction.
+fn ends_below(entries: &Slab<LockEntry>, keys: &[usize], file: &FileName, txn: u64) -> bool
+    ensures { result ≡ option_map_or (is_under entries.now (file.now, txn)) (slice_get keys.now (length keys.now - 1)) false }
 {
-    if let Some(keys) = lists.get_mut(name) {
-        if place < keys.len() {
-            keys.remove(place);
-        }
+    match keys.last() {
+        Some(key) => is_below(entries, *key, file, txn),
+        None => false,
+    }
+}
+
+/// The place of this file and transaction among keys whose entries rise.
+pub(crate) fn place(entries: &Slab<LockEntry>, keys: &[usize], file: &FileName, txn: u64) -> usize
+    ensures within { result ≤ length keys.now }
+    ensures place { RisesTo entries.now keys.now (file.now, txn) result }
+{
+    // Most often a lock goes behind those that are there.
+    if ends_below(entries, keys, file, txn) {
+        return keys.len();
+    }
+    keys.partition_point(|key| is_below(entries, *key, file, txn))
+}
+
+/// Puts the key of an entry into its place in a name's list, for which there is room, and tells the place.
+pub(crate) fn put<K: Ord + Copy + Drop>(
+    lists: &mut BTreeMap<K, Vec<usize>>,
+    entries: &Slab<LockEntry>,
+    name: &K,
+    entry: &LockEntry,
+    key: usize,
+) -> usize
+    requires { HasRoomAt K.cmp lists.old name.now }
+    ensures place { RisesTo entries.now (keys_at K.cmp lists.old name.now) entry.now.0 result }
+    ensures after { (other : K) → keys_at K.cmp lists.new other ≡ (if is_at (K.cmp name.now) other then insert (keys_at K.cmp lists.old name.now) result key else keys_at K.cmp lists.old other) }
+{
+    let Some(keys) = lists.get_mut(name) else {
+        return 0;
+    };
+    let place = place(entries, keys.as_slice(), &entry.file, entry.txn);
+    let _ = keys.insert(place, key);
+    place
+}
+
+/// Takes the key in the place of an entry out of a name's list, which stays, even with no key, and tells the place.
+pub(crate) fn take<K: Ord + Copy + Drop>(
+    lists: &mut BTreeMap<K, Vec<usize>>,
+    entries: &Slab<LockEntry>,
+    name: &K,
+    entry: &LockEntry,
+) -> usize
+    ensures place { RisesTo entries.now (keys_at K.cmp lists.old name.now) entry.now.0 result }
+    ensures after { (other : K) → keys_at K.cmp lists.new other ≡ (if is_at (K.cmp name.now) other then remove (keys_at K.cmp lists.old name.now) result else keys_at K.cmp lists.old other) }
+{
+    let Some(keys) = lists.get_mut(name) else {
+        return 0;
+    };
+    let place = place(entries, keys.as_slice(), &entry.file, entry.txn);
+    take_out(keys, place);
+    place
+}
+
+/// Takes the key at a place out, where the list goes so far.
+fn take_out(keys: &mut Vec<usize>, place: usize)
+    ensures { keys.new.items ≡ remove keys.old.items place }
+{
+    if place < keys.len() {
+        keys.remove(place);
     }
 }
 
