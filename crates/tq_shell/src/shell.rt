@@ -124,7 +124,7 @@ impl Shell {
         self.recorder.replayed();
         let answer = self.recorder.view(alloc, ViewAsk::SetCost { server, cost });
         self.recorder.replayed();
-        say_ok(text, answer)?;
+        say_ok(text, &answer)?;
         Ok(())
     }
 
@@ -162,7 +162,7 @@ impl Shell {
         let _ = &reply;
         let answer = self.recorder.view(alloc, ViewAsk::Mark { server, up });
         self.recorder.replayed();
-        say_marked(text, server, up, answer)?;
+        say_marked(text, server, up, &answer)?;
         Ok(())
     }
 
@@ -173,7 +173,7 @@ impl Shell {
         self.recorder.replayed();
         let answer = self.recorder.view(alloc, ViewAsk::Choose);
         self.recorder.replayed();
-        say_chosen(text, answer)?;
+        say_chosen(text, &answer)?;
         Ok(())
     }
 
@@ -293,25 +293,25 @@ fn mark_ask(up: bool) -> NodeAsk
 }
 
 /// Puts that a cost was set behind the text, as a line, or why it was not.
-fn say_ok(text: &mut Vec<u8>, answer: Result<ViewTold, AskFault>) -> Result<(), Memory>
-    ensures text { OnOk result (text.new.items ≡ text.old.items ++ printed (said.result_text [] asked.ok_text (line_result answer))) }
-    ensures memory { OnOk result (said.is_refused_memory (line_result answer) ≡ false) }
+fn say_ok(text: &mut Vec<u8>, answer: &Result<ViewTold, AskFault>) -> Result<(), Memory>
+    ensures text { OnOk result (text.new.items ≡ text.old.items ++ printed (said.result_text [] asked.ok_text (line_result answer.now))) }
+    ensures memory { OnOk result (said.is_refused_memory (line_result answer.now) ≡ false) }
 {
     match answer {
         Ok(_told) => say_line(text, b"ok")?,
-        Err(fault) => say_fault(text, &[], LineFault::from(fault))?,
+        Err(fault) => say_fault(text, &[], LineFault::from(*fault))?,
     }
     Ok(())
 }
 
 /// Puts what the view chose behind the text, as a line, or why it did not.
-fn say_chosen(text: &mut Vec<u8>, answer: Result<ViewTold, AskFault>) -> Result<(), Memory>
-    ensures text { OnOk result (text.new.items ≡ text.old.items ++ printed (said.result_text [] asked.chosen_text (line_result answer))) }
-    ensures memory { OnOk result (said.is_refused_memory (line_result answer) ≡ false) }
+fn say_chosen(text: &mut Vec<u8>, answer: &Result<ViewTold, AskFault>) -> Result<(), Memory>
+    ensures text { OnOk result (text.new.items ≡ text.old.items ++ printed (said.result_text [] asked.chosen_text (line_result answer.now))) }
+    ensures memory { OnOk result (said.is_refused_memory (line_result answer.now) ≡ false) }
 {
     match answer {
         Ok(told) => say_choice(text, &told.reply)?,
-        Err(fault) => say_fault(text, &[], LineFault::from(fault))?,
+        Err(fault) => say_fault(text, &[], LineFault::from(*fault))?,
     }
     Ok(())
 }
@@ -321,14 +321,14 @@ fn say_marked(
     text: &mut Vec<u8>,
     server: u64,
     up: bool,
-    answer: Result<ViewTold, AskFault>,
+    answer: &Result<ViewTold, AskFault>,
 ) -> Result<(), Memory>
-    ensures text { OnOk result (text.new.items ≡ text.old.items ++ printed (said.result_text [] (asked.marked_text server up) (line_result answer))) }
-    ensures memory { OnOk result (said.is_refused_memory (line_result answer) ≡ false) }
+    ensures text { OnOk result (text.new.items ≡ text.old.items ++ printed (said.result_text [] (asked.marked_text server up) (line_result answer.now))) }
+    ensures memory { OnOk result (said.is_refused_memory (line_result answer.now) ≡ false) }
 {
     match answer {
         Ok(_told) => say_mark(text, server, up)?,
-        Err(fault) => say_fault(text, &[], LineFault::from(fault))?,
+        Err(fault) => say_fault(text, &[], LineFault::from(*fault))?,
     }
     Ok(())
 }
