@@ -3,7 +3,7 @@ ghost use Rattle.std.specs.FinMap as fin;
 
 use std::alloc::{AllocError, Global};
 use tq_check::{Wrong, check};
-use tq_locks::{LockOutcome, LockTable, Mode};
+use tq_locks::{LockEntry, LockOutcome, LockTable, Mode};
 use tq_store::FileName;
 
 fn a() -> FileName {
@@ -14,41 +14,62 @@ fn b() -> FileName {
     FileName::new(b"b").unwrap()
 }
 
-/// Asks for a lock, and fails where the outcome is another. The number is that of the ask, and the version that of the
-/// file's copy.
-fn ask(
-    locks: &mut LockTable,
-    alloc: Global,
+/// A request for a lock, as the table is asked.
+#[derive(Clone, Copy)]
+struct Request {
     txn: u64,
     file: FileName,
     mode: Mode,
+    /// The number of the ask.
     number: u64,
+    /// The version of the file's copy.
     version: u64,
-    wanted: LockOutcome,
-) -> Result<(), Wrong> {
-    let outcome = locks.ask(alloc, txn, &file, mode, number, version)?;
-    check(outcome == wanted, "another answer")
 }
 
-/// Asks for a lock on a file with no copy, which is granted.
-fn grant(
-    locks: &mut LockTable,
-    alloc: Global,
-    txn: u64,
-    file: FileName,
-    mode: Mode,
-    number: u64,
-) -> Result<(), Wrong> {
-    ask(
-        locks,
-        alloc,
+/// A request for a lock on a file with no copy.
+fn shared(txn: u64, file: FileName, number: u64) -> Request {
+    Request {
         txn,
         file,
-        mode,
+        mode: Mode::Shared,
         number,
-        0,
-        LockOutcome::Granted,
-    )
+        version: 0,
+    }
+}
+
+fn exclusive(txn: u64, file: FileName, number: u64) -> Request {
+    Request {
+        txn,
+        file,
+        mode: Mode::Exclusive,
+        number,
+        version: 0,
+    }
+}
+
+/// Asks for a lock. Answers whether the outcome is the one wanted.
+fn comes_to(locks: &mut LockTable, alloc: Global, wish: Request, wanted: LockOutcome) -> bool {
+    match locks.ask(
+        alloc,
+        wish.txn,
+        &wish.file,
+        wish.mode,
+        wish.number,
+        wish.version,
+    ) {
+        Ok(outcome) => outcome == wanted,
+        Err(_) => false,
+    }
+}
+
+/// Asks for a lock. Answers whether it is granted.
+fn grants(locks: &mut LockTable, alloc: Global, wish: Request) -> bool {
+    comes_to(locks, alloc, wish, LockOutcome::Granted)
+}
+
+/// Asks for a lock. Answers whether it is refused because of this transaction.
+fn is_held(locks: &mut LockTable, alloc: Global, wish: Request, by: u64) -> bool {
+    comes_to(locks, alloc, wish, LockOutcome::Held { by })
 }
 
 /// The `since` of each lock, in the table's order.
@@ -62,61 +83,22 @@ fn starts(alloc: Global, locks: &LockTable) -> Result<Vec<u64>, AllocError>
     Ok(starts)
 }
 
+fn names_the_least(alloc: Global) -> bool {
+    let mut locks = LockTable::new(alloc);
+    grants(&mut locks, alloc, shared(3, a(), 1))
+        && grants(&mut locks, alloc, shared(2, a(), 2))
+        && is_held(&mut locks, alloc, exclusive(1, a(), 3), 2)
+}
+
 /// Shared agrees with shared; of two that conflict with a request the least is named.
 #[test]
 fn least_holder_named(rt: HostRuntime) -> Result<(), Wrong> {
-    let mut locks = LockTable::new(rt.alloc());
-    names_the_least(&mut locks, rt.alloc())
+    check(names_the_least(rt.alloc()), "another answer")
 }
 
-fn names_the_least(locks: &mut LockTable, alloc: Global) -> Result<(), Wrong> {
-    grant(locks, alloc, 3, a(), Mode::Shared, 1)?;
-    grant(locks, alloc, 2, a(), Mode::Shared, 2)?;
-    let held = LockOutcome::Held { by: 2 };
-    ask(locks, alloc, 1, a(), Mode::Exclusive, 3, 0, held)
-}
-
-/// A sole shared holder goes to exclusive, and the lock keeps its first grant's number and version.
-#[test]
-fn shared_to_exclusive(rt: HostRuntime) -> Result<(), Wrong> {
-    let mut locks = LockTable::new(rt.alloc());
-    goes_to_exclusive(&mut locks, rt.alloc())
-}
-
-fn goes_to_exclusive(locks: &mut LockTable, alloc: Global) -> Result<(), Wrong> {
-    ask(
-        locks,
-        alloc,
-        7,
-        a(),
-        Mode::Shared,
-        1,
-        4,
-        LockOutcome::Granted,
-    )?;
-    ask(
-        locks,
-        alloc,
-        7,
-        a(),
-        Mode::Exclusive,
-        3,
-        5,
-        LockOutcome::Granted,
-    )?;
-    check(is_exclusive_since(locks, 7, a(), 1, 4), "another answer")?;
-    let held = LockOutcome::Held { by: 7 };
-    ask(locks, alloc, 9, a(), Mode::Shared, 4, 5, held)
-}
-
-fn is_exclusive_since(
-    locks: &LockTable,
-    txn: u64,
-    file: FileName,
-    since: u64,
-    version: u64,
-) -> bool {
-    match locks.get(txn, file) {
+/// Whether the lock of transaction 7 on `a` is exclusive, with this first number and version.
+fn is_exclusive_since(locks: &LockTable, since: u64, version: u64) -> bool {
+    match locks.get(7, a()) {
         None => false,
         Some(lock) => {
             lock.mode == Mode::Exclusive && lock.since == since && lock.version == version
@@ -124,85 +106,128 @@ fn is_exclusive_since(
     }
 }
 
+fn goes_to_exclusive(locks: &mut LockTable, alloc: Global) -> bool {
+    let mut first = shared(7, a(), 1);
+    first.version = 4;
+    let mut second = exclusive(7, a(), 3);
+    second.version = 5;
+    let mut other = shared(9, a(), 4);
+    other.version = 5;
+    grants(locks, alloc, first)
+        && grants(locks, alloc, second)
+        && is_exclusive_since(locks, 1, 4)
+        && is_held(locks, alloc, other, 7)
+}
+
+fn goes_up(alloc: Global) -> bool {
+    let mut locks = LockTable::new(alloc);
+    goes_to_exclusive(&mut locks, alloc)
+}
+
+/// A sole shared holder goes to exclusive, and the lock keeps its first grant's number and version.
+#[test]
+fn shared_to_exclusive(rt: HostRuntime) -> Result<(), Wrong> {
+    check(goes_up(rt.alloc()), "another answer")
+}
+
+fn stays_shared(alloc: Global) -> bool {
+    let mut locks = LockTable::new(alloc);
+    grants(&mut locks, alloc, shared(1, a(), 1))
+        && grants(&mut locks, alloc, shared(2, a(), 2))
+        && is_held(&mut locks, alloc, exclusive(1, a(), 3), 2)
+}
+
 /// Two holders of a shared lock: neither goes to exclusive.
 #[test]
 fn not_beside_a_shared_lock(rt: HostRuntime) -> Result<(), Wrong> {
-    let mut locks = LockTable::new(rt.alloc());
-    stays_shared(&mut locks, rt.alloc())
+    check(stays_shared(rt.alloc()), "another answer")
 }
 
-fn stays_shared(locks: &mut LockTable, alloc: Global) -> Result<(), Wrong> {
-    grant(locks, alloc, 1, a(), Mode::Shared, 1)?;
-    grant(locks, alloc, 2, a(), Mode::Shared, 2)?;
-    let held = LockOutcome::Held { by: 2 };
-    ask(locks, alloc, 1, a(), Mode::Exclusive, 3, 0, held)
+/// Whether transaction 7 holds `a` since 2 and then `b`.
+fn are_by_file(held: &[LockEntry]) -> bool {
+    match held {
+        [first, second] => { first.file == a() && first.lock.since == 2 && second.file == b() }
+        _ => false,
+    }
+}
+
+fn holds_by_file(locks: &LockTable, alloc: Global) -> bool {
+    match locks.held(alloc, 7) {
+        Ok(held) => are_by_file(held.as_slice()),
+        Err(_) => false,
+    }
+}
+
+fn come_by_file(alloc: Global) -> bool {
+    let mut locks = LockTable::new(alloc);
+    grants(&mut locks, alloc, exclusive(7, b(), 1))
+        && grants(&mut locks, alloc, shared(7, a(), 2))
+        && grants(&mut locks, alloc, shared(8, a(), 3))
+        && holds_by_file(&locks, alloc)
 }
 
 /// A transaction's locks come by file, whatever the order of their grants.
 #[test]
 fn locks_of_a_transaction(rt: HostRuntime) -> Result<(), Wrong> {
-    let mut locks = LockTable::new(rt.alloc());
-    come_by_file(&mut locks, rt.alloc())
+    check(come_by_file(rt.alloc()), "another answer")
 }
 
-fn come_by_file(locks: &mut LockTable, alloc: Global) -> Result<(), Wrong> {
-    grant(locks, alloc, 7, b(), Mode::Exclusive, 1)?;
-    grant(locks, alloc, 7, a(), Mode::Shared, 2)?;
-    grant(locks, alloc, 8, a(), Mode::Shared, 3)?;
-    let held = locks.held(alloc, 7)?;
-    match held.as_slice() {
-        [first, second] => check(
-            first.file == a() && first.lock.since == 2 && second.file == b(),
-            "another answer",
-        ),
-        _ => Err(Wrong::Is("nothing")),
-    }
+/// Transactions 7 and 8 share a lock.
+fn two_share(locks: &mut LockTable, alloc: Global) -> bool {
+    grants(locks, alloc, shared(7, a(), 1)) && grants(locks, alloc, shared(8, a(), 2))
+}
+
+/// Whether 7 holds a lock, and 8 none.
+fn is_left_alone(locks: &LockTable) -> bool {
+    !locks.holds_nothing(7) && locks.holds_nothing(8)
+}
+
+fn crashes(alloc: Global) -> bool {
+    let mut locks = LockTable::new(alloc);
+    let is_shared = two_share(&mut locks, alloc);
+    locks.keep(7);
+    locks.drop_unstable();
+    is_shared && is_left_alone(&locks)
 }
 
 /// A crash ends the locks that no vote made stable.
 #[test]
 fn stable_locks_stay(rt: HostRuntime) -> Result<(), Wrong> {
-    let mut locks = LockTable::new(rt.alloc());
-    two_share(&mut locks, rt.alloc())?;
-    locks.keep(7);
-    locks.drop_unstable();
-    check(
-        !locks.holds_nothing(7) && locks.holds_nothing(8),
-        "another answer",
-    )
+    check(crashes(rt.alloc()), "another answer")
 }
 
-/// Transactions 7 and 8 share a lock.
-fn two_share(locks: &mut LockTable, alloc: Global) -> Result<(), Wrong> {
-    grant(locks, alloc, 7, a(), Mode::Shared, 1)?;
-    grant(locks, alloc, 8, a(), Mode::Shared, 2)
+fn releases(alloc: Global) -> bool {
+    let mut locks = LockTable::new(alloc);
+    let is_shared = two_share(&mut locks, alloc);
+    locks.release(8);
+    is_shared && is_left_alone(&locks)
 }
 
 /// A release ends the locks of one transaction.
 #[test]
 fn released(rt: HostRuntime) -> Result<(), Wrong> {
-    let mut locks = LockTable::new(rt.alloc());
-    two_share(&mut locks, rt.alloc())?;
-    locks.release(8);
-    check(
-        locks.holds_nothing(8) && !locks.holds_nothing(7),
-        "another answer",
-    )
+    check(releases(rt.alloc()), "another answer")
+}
+
+fn starts_are(locks: &LockTable, alloc: Global, wanted: &[u64]) -> bool {
+    match starts(alloc, locks) {
+        Ok(starts) => starts.as_slice() == wanted,
+        Err(_) => false,
+    }
+}
+
+fn come_by_file_and_transaction(alloc: Global) -> bool {
+    let mut locks = LockTable::new(alloc);
+    grants(&mut locks, alloc, shared(7, b(), 1))
+        && grants(&mut locks, alloc, shared(8, a(), 2))
+        && grants(&mut locks, alloc, shared(7, a(), 3))
+        && starts_are(&locks, alloc, &[3, 2, 1])
 }
 
 /// All locks come by file, and those of a file by transaction.
 #[test]
 fn locks_of_a_table(rt: HostRuntime) -> Result<(), Wrong> {
-    let mut locks = LockTable::new(rt.alloc());
-    come_by_file_and_transaction(&mut locks, rt.alloc())
-}
-
-fn come_by_file_and_transaction(locks: &mut LockTable, alloc: Global) -> Result<(), Wrong> {
-    grant(locks, alloc, 7, b(), Mode::Shared, 1)?;
-    grant(locks, alloc, 8, a(), Mode::Shared, 2)?;
-    grant(locks, alloc, 7, a(), Mode::Shared, 3)?;
-    let starts = starts(alloc, locks)?;
-    check(starts.as_slice() == [3, 2, 1].as_slice(), "another answer")
+    check(come_by_file_and_transaction(rt.alloc()), "another answer")
 }
 
 /// Whether the keys of a file are those of these transactions' locks, in this order.
@@ -234,51 +259,66 @@ fn is_kept(locks: &LockTable, key: usize, file: FileName, txn: u64) -> bool {
     }
 }
 
-/// A place in the slab is used again, and both indexes go with each change.
-#[test]
-fn place_used_again(rt: HostRuntime) -> Result<(), Wrong> {
-    let mut locks = LockTable::new(rt.alloc());
-    shares_and_ends(&mut locks, rt.alloc())?;
-    takes_the_place(&mut locks, rt.alloc())?;
-    waits_for_the_first(&mut locks, rt.alloc())
-}
-
-fn shares_and_ends(locks: &mut LockTable, alloc: Global) -> Result<(), Wrong> {
-    grant(locks, alloc, 1, a(), Mode::Shared, 1)?;
-    check(is_on_file(locks, a(), &[1]), "1 has no key")?;
-    grant(locks, alloc, 2, a(), Mode::Shared, 2)?;
-    check(is_on_file(locks, a(), &[1, 2]), "2 has no key")?;
-    grant(locks, alloc, 2, b(), Mode::Exclusive, 3)?;
-    check(is_of_txn(locks, 2, &[a(), b()]), "2 has other keys")?;
+fn shares_and_ends(locks: &mut LockTable, alloc: Global) -> bool {
+    let has_first = grants(locks, alloc, shared(1, a(), 1)) && is_on_file(locks, a(), &[1]);
+    let has_second = grants(locks, alloc, shared(2, a(), 2)) && is_on_file(locks, a(), &[1, 2]);
+    let has_both = grants(locks, alloc, exclusive(2, b(), 3)) && is_of_txn(locks, 2, &[a(), b()]);
     locks.release(2);
-    check(is_of_txn(locks, 2, &[]), "2 has a key")
+    has_first && has_second && has_both && is_of_txn(locks, 2, &[])
 }
 
-fn takes_the_place(locks: &mut LockTable, alloc: Global) -> Result<(), Wrong> {
-    check(is_on_file(locks, a(), &[1]), "2 has a key on a")?;
-    check(is_on_file(locks, b(), &[]), "2 has a key on b")?;
-    grant(locks, alloc, 3, b(), Mode::Shared, 4)?;
-    check(is_on_file(locks, b(), &[3]), "3 has no key")?;
-    check(is_of_txn(locks, 3, &[b()]), "3 has other keys")?;
-    let is_used_again = locks.entry(3).is_none() && locks.keys_of_txn(3) != [0].as_slice();
-    check(is_used_again, "3 has a place of its own")?;
-    check(locks.held(alloc, 2)?.is_empty(), "2 holds a lock")?;
-    let held = locks.held(alloc, 3)?;
-    match held.as_slice() {
-        [only] => check(only.file == b() && only.txn == 3, "3 holds another"),
-        _ => Err(Wrong::Is("3 holds not one lock")),
+/// Whether the place of the key 0 is not that of transaction 3, and there is no third place.
+fn is_place_used_again(locks: &LockTable) -> bool {
+    locks.entry(3).is_none() && locks.keys_of_txn(3) != [0].as_slice()
+}
+
+fn is_the_lock_of_3(held: &[LockEntry]) -> bool {
+    match held {
+        [only] => only.file == b() && only.txn == 3,
+        _ => false,
     }
 }
 
-fn waits_for_the_first(locks: &mut LockTable, alloc: Global) -> Result<(), Wrong> {
-    let held = LockOutcome::Held { by: 1 };
-    ask(locks, alloc, 4, a(), Mode::Exclusive, 5, 0, held)?;
-    check(is_of_txn(locks, 4, &[]), "4 has a key")?;
+/// Whether 2 holds nothing and 3 one lock.
+fn holds_one(locks: &LockTable, alloc: Global) -> bool {
+    match (locks.held(alloc, 2), locks.held(alloc, 3)) {
+        (Ok(none), Ok(held)) => none.is_empty() && is_the_lock_of_3(held.as_slice()),
+        _ => false,
+    }
+}
+
+fn takes_the_place(locks: &mut LockTable, alloc: Global) -> bool {
+    is_on_file(locks, a(), &[1])
+        && is_on_file(locks, b(), &[])
+        && grants(locks, alloc, shared(3, b(), 4))
+        && is_on_file(locks, b(), &[3])
+        && is_of_txn(locks, 3, &[b()])
+        && is_place_used_again(locks)
+        && holds_one(locks, alloc)
+}
+
+fn waits_for_the_first(locks: &mut LockTable, alloc: Global) -> bool {
+    let waits = is_held(locks, alloc, exclusive(4, a(), 5), 1) && is_of_txn(locks, 4, &[]);
     locks.release(1);
-    check(is_on_file(locks, a(), &[]), "1 has a key")?;
-    grant(locks, alloc, 4, a(), Mode::Exclusive, 6)?;
-    check(is_on_file(locks, a(), &[4]), "4 has no key")?;
-    check(is_of_txn(locks, 4, &[a()]), "4 has other keys")
+    let is_ended = is_on_file(locks, a(), &[]);
+    waits
+        && is_ended
+        && grants(locks, alloc, exclusive(4, a(), 6))
+        && is_on_file(locks, a(), &[4])
+        && is_of_txn(locks, 4, &[a()])
+}
+
+fn uses_a_place_again(alloc: Global) -> bool {
+    let mut locks = LockTable::new(alloc);
+    shares_and_ends(&mut locks, alloc)
+        && takes_the_place(&mut locks, alloc)
+        && waits_for_the_first(&mut locks, alloc)
+}
+
+/// A place in the slab is used again, and both indexes go with each change.
+#[test]
+fn place_used_again(rt: HostRuntime) -> Result<(), Wrong> {
+    check(uses_a_place_again(rt.alloc()), "another answer")
 }
 
 /// A lock in a plain list: file, transaction, and whether it is exclusive.
@@ -304,16 +344,15 @@ fn plain_blocker(plain: &[Plain], file: FileName, txn: u64, is_exclusive: bool) 
     least
 }
 
-/// Grants a lock in a plain list.
-fn plain_grant(plain: &mut Vec<Plain>, wanted: Plain) -> Result<(), Wrong> {
+/// Grants a lock in a plain list. Answers whether there was memory for it.
+fn plain_grant(plain: &mut Vec<Plain>, wanted: Plain) -> bool {
     for lock in plain.iter_mut() {
         if lock.file == wanted.file && lock.txn == wanted.txn {
             lock.is_exclusive = lock.is_exclusive || wanted.is_exclusive;
-            return Ok(());
+            return true;
         }
     }
-    plain.push(wanted)?;
-    Ok(())
+    plain.push(wanted).is_ok()
 }
 
 /// Whether the keys of a table are those of the locks of a plain list.
@@ -340,53 +379,65 @@ fn agrees(locks: &LockTable, plain: &[Plain]) -> bool {
     count == plain.len()
 }
 
-/// One random call of a table and of a plain list: a request, or for one number in four a release.
-fn random_call(
-    locks: &mut LockTable,
-    plain: &mut Vec<Plain>,
-    alloc: Global,
-    number: u64,
-) -> Result<(), Wrong> {
-    let txn = number / 8 % 5;
-    if number % 4 == 0 {
-        locks.release(txn);
-        plain.retain(|lock| !(lock.txn == txn));
-        return Ok(());
-    }
-    let file = if number % 2 == 0 { a() } else { b() };
-    let is_exclusive = number / 64 % 2 == 0;
-    let mode = if is_exclusive {
-        Mode::Exclusive
-    } else {
-        Mode::Shared
-    };
-    let blocker = plain_blocker(plain.as_slice(), file, txn, is_exclusive);
-    match locks.ask(alloc, txn, &file, mode, number, 0)? {
-        LockOutcome::Held { by } => check(blocker == Some(by), "blocked by another"),
-        LockOutcome::Granted => {
-            check(blocker.is_none(), "granted though blocked")?;
+/// A request of both. Answers whether they come to the same.
+fn asks_both(locks: &mut LockTable, plain: &mut Vec<Plain>, alloc: Global, wish: Request) -> bool {
+    let is_exclusive = wish.mode == Mode::Exclusive;
+    match plain_blocker(plain.as_slice(), wish.file, wish.txn, is_exclusive) {
+        Some(by) => is_held(locks, alloc, wish, by),
+        None => {
             let wanted = Plain {
-                file,
-                txn,
+                file: wish.file,
+                txn: wish.txn,
                 is_exclusive,
             };
-            plain_grant(plain, wanted)
+            grants(locks, alloc, wish) && plain_grant(plain, wanted)
         }
     }
 }
 
-/// Random calls of a table and of a plain list come to the same.
-#[test]
-fn like_a_plain_list(rt: HostRuntime) -> Result<(), Wrong> {
-    let mut locks = LockTable::new(rt.alloc());
-    let mut plain = Vec::new(rt.alloc());
+fn plain_release(plain: &mut Vec<Plain>, txn: u64) {
+    plain.retain(|lock| !(lock.txn == txn));
+}
+
+/// One random call of a table and of a plain list: a request, or for one number in four a release. Answers whether they
+/// come to the same.
+fn random_call(locks: &mut LockTable, plain: &mut Vec<Plain>, alloc: Global, number: u64) -> bool {
+    let txn = number / 8 % 5;
+    if number % 4 == 0 {
+        locks.release(txn);
+        plain_release(plain, txn);
+        return true;
+    }
+    let file = if number % 2 == 0 { a() } else { b() };
+    let wish = if number / 64 % 2 == 0 {
+        exclusive(txn, file, number)
+    } else {
+        shared(txn, file, number)
+    };
+    asks_both(locks, plain, alloc, wish)
+}
+
+fn is_like(locks: &mut LockTable, plain: &mut Vec<Plain>, alloc: Global) -> bool {
     let mut seed = 1u64;
     for _ in 0..2000 {
         seed = seed
             .wrapping_mul(6364136223846793005)
             .wrapping_add(1442695040888963407);
-        random_call(&mut locks, &mut plain, rt.alloc(), seed >> 33)?;
-        check(agrees(&locks, plain.as_slice()), "another set of locks")?;
+        if !random_call(locks, plain, alloc, seed >> 33) || !agrees(locks, plain.as_slice()) {
+            return false;
+        }
     }
-    Ok(())
+    true
+}
+
+fn is_like_a_plain_list(alloc: Global) -> bool {
+    let mut locks = LockTable::new(alloc);
+    let mut plain = Vec::new(alloc);
+    is_like(&mut locks, &mut plain, alloc)
+}
+
+/// Random calls of a table and of a plain list come to the same.
+#[test]
+fn like_a_plain_list(rt: HostRuntime) -> Result<(), Wrong> {
+    check(is_like_a_plain_list(rt.alloc()), "another set of locks")
 }

@@ -69,57 +69,76 @@ impl Answers for Register {
     ghost keeps_settings = { λ s n a. refl };
 }
 
-/// The number and the reply of an ask, or the numbers 0 where the journal is full.
-fn told(alloc: Global, register: &mut Journaled<Register>, ask: u64) -> Result<(u64, u64), Wrong> {
+/// Asks. Answers whether the ask is entered under this number with this reply.
+fn is_told(
+    alloc: Global,
+    register: &mut Journaled<Register>,
+    ask: u64,
+    wanted: (u64, u64),
+) -> bool {
     match register.ask(alloc, ask) {
-        Ok(told) => Ok((told.number, told.reply)),
-        Err(Fault::JournalFull) => Ok((0, 0)),
-        Err(_) => Err(Wrong::from("not entered")),
+        Ok(told) => told.number == wanted.0 && told.reply == wanted.1,
+        Err(_) => false,
+    }
+}
+
+/// Asks. Answers whether the journal is full.
+fn is_full(alloc: Global, register: &mut Journaled<Register>, ask: u64) -> bool {
+    match register.ask(alloc, ask) {
+        Ok(_) => false,
+        Err(fault) => matches!(fault, Fault::JournalFull),
     }
 }
 
 /// Whether each ask is entered with its reply under the next number, until the journal is full.
-fn fills(alloc: Global, register: &mut Journaled<Register>) -> Result<bool, Wrong> {
-    let first = told(alloc, register, 5)?;
-    let second = told(alloc, register, 7)?;
-    let third = told(alloc, register, 9)?;
-    Ok(first == (1, 0) && second == (2, 5) && third == (0, 0))
+fn fills(alloc: Global, register: &mut Journaled<Register>) -> bool {
+    is_told(alloc, register, 5, (1, 0))
+        && is_told(alloc, register, 7, (2, 5))
+        && is_full(alloc, register, 9)
+}
+
+fn is_entry(entry: &Entry<u64, u64>, ask: u64, reply: u64) -> bool {
+    entry.ask == ask && entry.reply == reply
 }
 
 fn are_the_two(entries: &[Entry<u64, u64>]) -> bool {
     match entries {
-        [first, second] => {
-            (first.ask, first.reply) == (5, 0) && (second.ask, second.reply) == (7, 5)
-        }
+        [first, second] => is_entry(first, 5, 0) && is_entry(second, 7, 5),
         _ => false,
     }
 }
 
+fn is_entered_until_full(alloc: Global) -> bool {
+    let mut register = Journaled::new(alloc, Register { value: 0 }, 2);
+    fills(alloc, &mut register) && register.part().value == 7 && are_the_two(register.entries())
+}
+
 #[test]
 fn asks_are_entered_until_the_journal_is_full(rt: HostRuntime) -> Result<(), Wrong> {
-    let mut register = Journaled::new(rt.alloc(), Register { value: 0 }, 2);
-    check(fills(rt.alloc(), &mut register)?, "another answer")?;
-    check(
-        register.part().value == 7 && are_the_two(register.entries()),
-        "another answer",
-    )
+    check(is_entered_until_full(rt.alloc()), "another answer")
+}
+
+fn hands_out(alloc: Global) -> bool {
+    let mut register = Journaled::new(alloc, Register { value: 0 }, 2);
+    let is_filled = fills(alloc, &mut register);
+    is_filled && are_the_two(register.into_entries().as_slice())
 }
 
 #[test]
 fn entries_are_handed_out(rt: HostRuntime) -> Result<(), Wrong> {
-    let mut register = Journaled::new(rt.alloc(), Register { value: 0 }, 2);
-    let is_filled = fills(rt.alloc(), &mut register)?;
-    let entries = register.into_entries();
-    check(
-        is_filled && are_the_two(entries.as_slice()),
-        "another answer",
-    )
+    check(hands_out(rt.alloc()), "another answer")
 }
 
-/// What is foreseen is not entered.
+/// Whether what is foreseen is not entered.
+fn foresees(alloc: Global) -> bool {
+    let register = Register { value: 3 };
+    match foresee(alloc, &register, 1, &9) {
+        Ok(reply) => reply == 3 && register.value == 3,
+        Err(_) => false,
+    }
+}
+
 #[test]
 fn a_foreseen_ask_changes_nothing(rt: HostRuntime) -> Result<(), Wrong> {
-    let register = Register { value: 3 };
-    let reply = foresee(rt.alloc(), &register, 1, &9)?;
-    check(reply == 3 && register.value == 3, "another answer")
+    check(foresees(rt.alloc()), "another answer")
 }
