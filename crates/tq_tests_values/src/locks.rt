@@ -259,12 +259,40 @@ fn is_kept(locks: &LockTable, key: usize, file: FileName, txn: u64) -> bool {
     }
 }
 
+/// Whether the keys of a transaction are those of its locks, where it has one on `a` or not, and on `b` or not.
+fn is_held_by(locks: &LockTable, txn: u64, has_a: bool, has_b: bool) -> bool {
+    match (has_a, has_b) {
+        (true, true) => is_of_txn(locks, txn, &[a(), b()]),
+        (true, false) => is_of_txn(locks, txn, &[a()]),
+        (false, true) => is_of_txn(locks, txn, &[b()]),
+        (false, false) => is_of_txn(locks, txn, &[]),
+    }
+}
+
+/// Whether both indexes have the locks of these transactions on `a` and on `b`, and no others.
+fn are_indexed(locks: &LockTable, on_a: &[u64], on_b: &[u64]) -> bool {
+    for txn in 1..5 {
+        if !is_held_by(locks, txn, on_a.contains(&txn), on_b.contains(&txn)) {
+            return false;
+        }
+    }
+    is_on_file(locks, a(), on_a) && is_on_file(locks, b(), on_b)
+}
+
+/// A release, after which both indexes have the locks of these transactions alone.
+fn releases_all_of(locks: &mut LockTable, txn: u64, on_a: &[u64], on_b: &[u64]) -> bool {
+    locks.release(txn);
+    are_indexed(locks, on_a, on_b)
+}
+
 fn shares_and_ends(locks: &mut LockTable, alloc: Global) -> bool {
-    let has_first = grants(locks, alloc, shared(1, a(), 1)) && is_on_file(locks, a(), &[1]);
-    let has_second = grants(locks, alloc, shared(2, a(), 2)) && is_on_file(locks, a(), &[1, 2]);
-    let has_both = grants(locks, alloc, exclusive(2, b(), 3)) && is_of_txn(locks, 2, &[a(), b()]);
-    locks.release(2);
-    has_first && has_second && has_both && is_of_txn(locks, 2, &[])
+    grants(locks, alloc, shared(1, a(), 1))
+        && are_indexed(locks, &[1], &[])
+        && grants(locks, alloc, shared(2, a(), 2))
+        && are_indexed(locks, &[1, 2], &[])
+        && grants(locks, alloc, exclusive(2, b(), 3))
+        && are_indexed(locks, &[1, 2], &[2])
+        && releases_all_of(locks, 2, &[1], &[])
 }
 
 /// Whether the place of the key 0 is not that of transaction 3, and there is no third place.
@@ -288,24 +316,18 @@ fn holds_one(locks: &LockTable, alloc: Global) -> bool {
 }
 
 fn takes_the_place(locks: &mut LockTable, alloc: Global) -> bool {
-    is_on_file(locks, a(), &[1])
-        && is_on_file(locks, b(), &[])
-        && grants(locks, alloc, shared(3, b(), 4))
-        && is_on_file(locks, b(), &[3])
-        && is_of_txn(locks, 3, &[b()])
+    grants(locks, alloc, shared(3, b(), 4))
+        && are_indexed(locks, &[1], &[3])
         && is_place_used_again(locks)
         && holds_one(locks, alloc)
 }
 
 fn waits_for_the_first(locks: &mut LockTable, alloc: Global) -> bool {
-    let waits = is_held(locks, alloc, exclusive(4, a(), 5), 1) && is_of_txn(locks, 4, &[]);
-    locks.release(1);
-    let is_ended = is_on_file(locks, a(), &[]);
-    waits
-        && is_ended
+    is_held(locks, alloc, exclusive(4, a(), 5), 1)
+        && are_indexed(locks, &[1], &[3])
+        && releases_all_of(locks, 1, &[], &[3])
         && grants(locks, alloc, exclusive(4, a(), 6))
-        && is_on_file(locks, a(), &[4])
-        && is_of_txn(locks, 4, &[a()])
+        && are_indexed(locks, &[4], &[3])
 }
 
 fn uses_a_place_again(alloc: Global) -> bool {
@@ -315,7 +337,7 @@ fn uses_a_place_again(alloc: Global) -> bool {
         && waits_for_the_first(&mut locks, alloc)
 }
 
-/// A place in the slab is used again, and both indexes go with each change.
+/// A place in the slab is used again, and both indexes go with each call.
 #[test]
 fn place_used_again(rt: HostRuntime) -> Result<(), Wrong> {
     check(uses_a_place_again(rt.alloc()), "another answer")
