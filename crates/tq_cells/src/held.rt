@@ -1,4 +1,4 @@
-ghost use Rattle.std.specs.Prelude.{◌≡◌, ◌+◌, ◌∷◌, ◌++◌, [], ◌≤◌, ◌<◌, ◌↔◌, ℕ, length, drop, vec_len, IfOk, OnErr, IsErrOf};
+ghost use Rattle.std.specs.Prelude.{◌≡◌, ◌+◌, ◌∷◌, ◌++◌, [], ◌≤◌, ◌<◌, ◌↔◌, length, drop, vec_len, IfOk, OnErr, IsErrOf};
 ghost use Rattle.tq_shape.specs.Journal.{IsLegalFrom, entry};
 ghost use Rattle.tq_part.specs.Agrees.{standing};
 ghost use Rattle.tq_cells.specs.Passes.{told};
