@@ -109,24 +109,37 @@ fn tables_of_nothing(alloc: Global) -> Result<Tables, Memory>
     Ok(tables)
 }
 
+/// A view of two levels with server 1 down.
+fn view_without_1(alloc: Global) -> Result<View, Fail> {
+    let levels = Levels::new(2).ok_or("levels")?;
+    let mut view = View::new(alloc, levels)?;
+    let down = ViewAsk::Mark {
+        server: 1,
+        up: false,
+    };
+    view.answer(alloc, &down)?;
+    Ok(view)
+}
+
+/// Fails where another board is printed of tables of two levels beside this view.
+fn is_board(tables: &Tables, view: &View, alloc: Global, wanted: &str) -> Result<(), Fail>
+    requires { tables.now.levels ≡ 2 }
+{
+    if view.tree().levels().count() != 2 {
+        return Err(Fail::from("levels"));
+    }
+    let text = render(alloc, tables, view)?;
+    is_text(&text, wanted)
+}
+
 /// Fails where another board is printed of tables of two levels beside a view with server 1 down.
 fn is_board_beside_another_view(tables: &Tables, alloc: Global, wanted: &str) -> Result<(), Fail>
     requires { tables.now.levels ≡ 2 }
 {
-    let levels = Levels::new(2).ok_or("levels")?;
-    let mut view = View::new(alloc, levels)?;
-    view.answer(
-        alloc,
-        &ViewAsk::Mark {
-            server: 1,
-            up: false,
-        },
-    )?;
-    if view.tree().levels().count() != levels.count() {
-        return Err(Fail::from("levels"));
+    match view_without_1(alloc) {
+        Ok(view) => is_board(tables, &view, alloc, wanted),
+        Err(fail) => Err(fail),
     }
-    let text = render(alloc, tables, &view)?;
-    is_text(&text, wanted)
 }
 
 #[test]

@@ -1,7 +1,8 @@
 //! What a refresh asks a source and a stale server; sessions/refresh.txt has what it plans.
 
+use std::alloc::Global;
 use std::test::*;
-use tq_node::{CitedVote, NodeAsk, NodeRefusal, NodeReply, WorkAsk};
+use tq_node::{NodeAsk, NodeRefusal, NodeReply, WorkAsk};
 use tq_refresh::{Job, copy_ask, peek_ask};
 use tq_shape::{Levels, Seq};
 use tq_store::{Content, FileName};
@@ -29,36 +30,47 @@ fn the_source_is_asked_for_the_file(rt: HostRuntime) -> Result<(), Fail> {
     Ok(())
 }
 
-#[test]
-fn a_copy_is_taken_on_the_word_of_the_source(rt: HostRuntime) -> Result<(), Fail> {
-    let alloc = rt.alloc();
-    let job = third_from_second().ok_or("job")?;
+/// Whether the ask is for a refresh of this file, by what server 2 said in its entry 9.
+fn is_word_of_the_source(ask: &WorkAsk, job: &Job) -> bool {
+    match ask {
+        WorkAsk::Refresh {
+            file,
+            version,
+            content,
+            from,
+        } => {
+            *file == job.file
+                && content.as_bytes() == b"hello".as_slice()
+                && *version == 4
+                && from.server == 2
+                && from.number == 9
+        }
+        _ => false,
+    }
+}
+
+/// Whether the copy that server 2 tells is asked for.
+fn takes_the_copy(alloc: Global, job: &Job, reply: &NodeReply) -> bool {
+    match copy_ask(alloc, job, 9, reply) {
+        Ok(Some(NodeAsk::Work(ask))) => is_word_of_the_source(&ask, job),
+        _ => false,
+    }
+}
+
+/// What server 2 tells: a copy of version 4.
+fn told_copy(alloc: Global) -> Result<NodeReply, Fail> {
     let content = Content::new(Vec::from_slice(alloc, b"hello")?).ok_or("content")?;
-    let reply = NodeReply::Copy {
+    Ok(NodeReply::Copy {
         version: 4,
         content,
-    };
-    let Some(NodeAsk::Work(ask)) = copy_ask(alloc, &job, 9, &reply)? else {
-        return Err(Fail::from("no ask"));
-    };
-    let WorkAsk::Refresh {
-        file,
-        version,
-        content,
-        from,
-    } = ask
-    else {
-        return Err(Fail::from("another ask"));
-    };
-    assert!(rt; file == job.file && content.as_bytes() == b"hello".as_slice());
-    assert_eq!(rt; version, 4);
-    assert_eq!(rt;
-        from,
-        CitedVote {
-            server: 2,
-            number: 9
-        }
-    );
+    })
+}
+
+#[test]
+fn a_copy_is_taken_on_the_word_of_the_source(rt: HostRuntime) -> Result<(), Fail> {
+    let job = third_from_second().ok_or("job")?;
+    let reply = told_copy(rt.alloc())?;
+    assert!(rt; takes_the_copy(rt.alloc(), &job, &reply));
     Ok(())
 }
 

@@ -4,7 +4,7 @@ ghost use Rattle.tq_tables.specs.Parts.{AreLegal, AreOfTree};
 
 mod made;
 
-use self::made::{Asked, Told, file, journals, log};
+use self::made::{Asked, Told, journals, log};
 use std::alloc::Global;
 use std::test::*;
 use tq_desk::{DeskAsk, DeskReply, OpKind};
@@ -15,8 +15,8 @@ use tq_shape::{Levels, Limits, Memory, ServerSet};
 use tq_store::FileName;
 use tq_tables::rows::{file_rows, intent_rows, lock_rows, quorum_rows};
 use tq_tables::{
-    DeskEntry, Entry, FileRow, IntentRow, IntentState, Journals, LockRow, NodeEntry, Tables,
-    replay_desk, replay_nodes,
+    DeskEntry, Entry, FileRow, FileVersion, IntentRow, IntentState, Journals, LockRow, NodeEntry,
+    Tables, replay_desk, replay_nodes,
 };
 
 /// The servers of a tree after journals of these scripts.
@@ -42,15 +42,21 @@ fn digits_of(set: &ServerSet) -> u64 {
     digits
 }
 
+fn check(holds: bool, what: &'static str) -> Result<(), Fail> {
+    if holds { Ok(()) } else { Err(Fail::from(what)) }
+}
+
+/// Whether the name is this one letter.
+fn is_letter(name: FileName, letter: u8) -> bool {
+    name.as_bytes() == [letter].as_slice()
+}
+
 /// Whether the row is of this file and version, with the servers of these digits current and stale.
-fn is_file_row(row: &FileRow, name: FileName, version: u64, sides: (u64, u64)) -> bool {
-    if row.file != name {
-        return false;
-    }
-    if row.version != version {
-        return false;
-    }
-    (digits_of(&row.current), digits_of(&row.stale)) == sides
+fn is_file_row(row: &FileRow, letter: u8, version: u64, sides: (u64, u64)) -> bool {
+    is_letter(row.file, letter)
+        && row.version == version
+        && digits_of(&row.current) == sides.0
+        && digits_of(&row.stale) == sides.1
 }
 
 /// Server 1 has both files as they were committed last, server 2 an old `b` and a later `a`, and server 3 none.
@@ -69,26 +75,28 @@ const COMMITS: [Told; 5] = [
     Told::Commits(2, &[(OpKind::Write, b'a'), (OpKind::Write, b'b')], 2),
 ];
 
+fn rows_of_files(alloc: Global) -> Result<Vec<FileRow>, Fail> {
+    let levels = Levels::new(2).ok_or("levels")?;
+    let nodes = nodes_of(alloc, levels, COPIES.as_slice())?;
+    let log = log(alloc, COMMITS.as_slice())?;
+    Ok(file_rows(alloc, levels, nodes.as_slice(), log.as_slice())?)
+}
+
+/// Whether `b` and then `a` stand there as they were committed last.
+fn are_current_and_stale(rows: &[FileRow]) -> bool {
+    match rows {
+        [first, last] => is_file_row(first, b'b', 2, (1, 23))
+            && is_file_row(last, b'a', 1, (12, 3)),
+        _ => false,
+    }
+}
+
 #[test]
 fn a_file_is_current_where_its_last_write_is_and_stale_elsewhere(
     rt: HostRuntime,
 ) -> Result<(), Fail> {
-    let alloc = rt.alloc();
-    let levels = Levels::new(2).ok_or("levels")?;
-    let (a, b) = (file(b'a')?, file(b'b')?);
-    let nodes = nodes_of(alloc, levels, COPIES.as_slice())?;
-    let log = log(alloc, COMMITS.as_slice())?;
-    let rows = file_rows(alloc, levels, nodes.as_slice(), log.as_slice())?;
-    assert_eq!(rt; rows.len(), 2);
-    assert!(rt;
-        rows.first()
-            .is_some_and(|row| is_file_row(row, b, 2, (1, 23)))
-    );
-    assert!(rt;
-        rows.last()
-            .is_some_and(|row| is_file_row(row, a, 1, (12, 3)))
-    );
-    Ok(())
+    let rows = rows_of_files(rt.alloc())?;
+    check(are_current_and_stale(rows.as_slice()), "other files")
 }
 
 // ---- locks
@@ -108,31 +116,45 @@ const LOCKS: [&'static [Asked]; 3] = [
     &[],
 ];
 
-#[test]
-fn locks_stand_by_server_file_and_transaction(rt: HostRuntime) -> Result<(), Fail> {
-    let alloc = rt.alloc();
+fn rows_of_locks(alloc: Global) -> Result<Vec<LockRow>, Fail> {
     let levels = Levels::new(2).ok_or("levels")?;
     let nodes = nodes_of(alloc, levels, LOCKS.as_slice())?;
-    let rows = lock_rows(alloc, nodes.as_slice())?;
-    let mut rows = rows.iter();
-    for (server, letter, txn, mode, since, version) in [
-        (1, b'a', 1, Mode::Shared, 2, 0),
-        (1, b'a', 2, Mode::Shared, 1, 0),
-        (2, b'a', 1, Mode::Exclusive, 3, 0),
-        (2, b'b', 1, Mode::Exclusive, 2, 7),
-    ] {
-        let wanted = LockRow {
-            server: levels.server(server).ok_or("server")?,
-            file: file(letter)?,
-            txn,
-            mode,
-            since,
-            version,
-        };
-        assert!(rt; rows.next() == Some(&wanted));
+    Ok(lock_rows(alloc, nodes.as_slice())?)
+}
+
+/// Whether the row is of this server's lock on this file.
+fn is_lock_of(row: &LockRow, server: u64, letter: u8, txn: u64) -> bool {
+    row.server.levels().count() == 2
+        && row.server.number() == server
+        && row.txn == txn
+        && is_letter(row.file, letter)
+}
+
+/// Whether the lock is of this mode, first number and version.
+fn is_lock_since(row: &LockRow, mode: Mode, since: u64, version: u64) -> bool {
+    row.mode == mode && row.since == since && row.version == version
+}
+
+fn are_in_order(rows: &[LockRow]) -> bool {
+    match rows {
+        [first, second, third, fourth] => {
+            is_lock_of(first, 1, b'a', 1)
+                && is_lock_since(first, Mode::Shared, 2, 0)
+                && is_lock_of(second, 1, b'a', 2)
+                && is_lock_since(second, Mode::Shared, 1, 0)
+                && is_lock_of(third, 2, b'a', 1)
+                && is_lock_since(third, Mode::Exclusive, 3, 0)
+                && is_lock_of(fourth, 2, b'b', 1)
+                && is_lock_since(fourth, Mode::Exclusive, 2, 7)
+        }
+        _ => false,
     }
-    assert!(rt; rows.next().is_none());
-    Ok(())
+}
+
+#[test]
+fn locks_stand_by_server_file_and_transaction(rt: HostRuntime) -> Result<(), Fail> {
+    let rows = rows_of_locks(rt.alloc())?;
+    check(are_in_order(rows.as_slice()), "other locks")
 }
 
 // ---- intentions
@@ -163,48 +185,50 @@ const ENDS: [Told; 7] = [
     Told::Resolves(3),
 ];
 
-/// Whether the row is that of a vote of server 1 for the first write of one file.
-fn is_intent_row(
-    row: &IntentRow,
-    txn: u64,
-    number: u64,
-    name: FileName,
-    state: IntentState,
-) -> bool {
-    if (row.server.number(), row.txn, row.number) != (1, txn, number) {
-        return false;
-    }
-    if row.state != state {
-        return false;
-    }
-    match row.writes.as_slice() {
-        [write] => write.file == name && write.version == 1,
+/// Whether the writes are the first one of this file alone.
+fn is_first_write(writes: &[FileVersion], letter: u8) -> bool {
+    match writes {
+        [write] => is_letter(write.file, letter) && write.version == 1,
         _ => false,
     }
 }
 
-#[test]
-fn an_open_vote_stands_as_its_transaction_ended(rt: HostRuntime) -> Result<(), Fail> {
-    let alloc = rt.alloc();
+/// Whether the row at this place is that of a vote of server 1 for the first write of one file. The vote of transaction
+/// N has the number 2 N.
+fn is_intent(rows: &[IntentRow], txn: u64, letter: u8, state: IntentState) -> bool {
+    match rows.get(txn.wrapping_sub(1) as usize) {
+        Some(row) => {
+            row.server.number() == 1
+                && row.txn == txn
+                && row.number == txn.wrapping_mul(2)
+                && row.state == state
+                && is_first_write(row.writes.as_slice(), letter)
+        }
+        None => false,
+    }
+}
+
+fn rows_of_votes(alloc: Global) -> Result<Vec<IntentRow>, Fail> {
     let levels = Levels::new(1).ok_or("levels")?;
     let nodes = nodes_of(alloc, levels, VOTES.as_slice())?;
     let log = log(alloc, ENDS.as_slice())?;
     let desk = replay_desk(alloc, levels, Limits::full(), log.as_slice())?;
-    let rows = intent_rows(alloc, nodes.as_slice(), &desk)?;
-    let mut rows = rows.iter();
-    for (txn, number, letter, state) in [
-        (1, 2, b'a', IntentState::Install),
-        (2, 4, b'b', IntentState::Discard),
-        (3, 6, b'c', IntentState::Abort),
-        (4, 8, b'd', IntentState::Undecided),
-        (5, 10, b'e', IntentState::Unknown),
-    ] {
-        let name = file(letter)?;
-        let row = rows.next();
-        assert!(rt; row.is_some_and(|row| is_intent_row(row, txn, number, name, state)));
-    }
-    assert!(rt; rows.next().is_none());
-    Ok(())
+    Ok(intent_rows(alloc, nodes.as_slice(), &desk)?)
+}
+
+fn stand_as_they_ended(rows: &[IntentRow]) -> bool {
+    rows.len() == 5
+        && is_intent(rows, 1, b'a', IntentState::Install)
+        && is_intent(rows, 2, b'b', IntentState::Discard)
+        && is_intent(rows, 3, b'c', IntentState::Abort)
+        && is_intent(rows, 4, b'd', IntentState::Undecided)
+        && is_intent(rows, 5, b'e', IntentState::Unknown)
+}
+
+#[test]
+fn an_open_vote_stands_as_its_transaction_ended(rt: HostRuntime) -> Result<(), Fail> {
+    let rows = rows_of_votes(rt.alloc())?;
+    check(stand_as_they_ended(rows.as_slice()), "other votes")
 }
 
 // ---- quorums
@@ -221,35 +245,31 @@ fn told(least: &Option<Least>) -> (u64, u64) {
     (least.cost, digits)
 }
 
-/// Fails where another quorum is told for a server of two levels with these servers down.
-fn are_quorums(alloc: Global, down: &[u64], wanted: &[(u64, u64); 3]) -> Result<(), Fail> {
+/// A tree of two levels with these servers down.
+fn tree_without(alloc: Global, down: &[u64]) -> Result<LiveTree, Fail> {
     let levels = Levels::new(2).ok_or("levels")?;
     let mut tree = LiveTree::new(alloc, levels)?;
     for number in down {
-        let server = levels.server(*number).ok_or("server")?;
-        tree.set_mark(server, false, &mut Turns::new());
-    }
-    let rows = quorum_rows(alloc, &tree)?;
-    let mut rows = rows.iter();
-    for quorum in wanted {
-        if rows.next().map(|row| told(row)) != Some(*quorum) {
-            return Err(Fail::from("another quorum"));
+        if let Some(server) = levels.server(*number) {
+            tree.set_mark(server, false, &mut Turns::new());
         }
     }
-    Ok(())
+    Ok(tree)
+}
+
+/// Fails where another quorum is told for a server of two levels with these servers down.
+fn are_quorums(alloc: Global, down: &[u64], wanted: &[(u64, u64)]) -> Result<(), Fail> {
+    let tree = tree_without(alloc, down)?;
+    let rows = quorum_rows(alloc, &tree)?;
+    check(are_told(rows.as_slice(), wanted), "another quorum")
 }
 
 #[test]
 fn each_subtree_has_its_least_quorum(rt: HostRuntime) -> Result<(), Fail> {
-    for (down, wanted) in [
-        ([].as_slice(), [(2, 12), (1, 2), (1, 3)]),
-        ([1].as_slice(), [(2, 23), (1, 2), (1, 3)]),
-        ([2].as_slice(), [(2, 13), (0, 0), (1, 3)]),
-        ([2, 3].as_slice(), [(0, 0), (0, 0), (0, 0)]),
-    ] {
-        are_quorums(rt.alloc(), down, &wanted)?;
-    }
-    Ok(())
+    are_quorums(rt.alloc(), &[], &[(2, 12), (1, 2), (1, 3)])?;
+    are_quorums(rt.alloc(), &[1], &[(2, 23), (1, 2), (1, 3)])?;
+    are_quorums(rt.alloc(), &[2], &[(2, 13), (0, 0), (1, 3)])?;
+    are_quorums(rt.alloc(), &[2, 3], &[(0, 0), (0, 0), (0, 0)])
 }
 
 // ---- the tables as a whole
