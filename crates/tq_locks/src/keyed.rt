@@ -134,6 +134,7 @@ impl KeyedLocks {
         take(&mut self.by_file, &self.entries, &entry.file, &entry);
         take(&mut self.by_txn, &self.entries, &entry.txn, &entry);
         let _ = self.entries.try_remove(key);
+        end_empty(&mut self.by_file, &entry.file);
     }
 
     /// An equal one, with memory of its own.

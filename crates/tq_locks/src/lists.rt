@@ -91,7 +91,7 @@ pub(crate) fn put<K: Ord + Copy + Drop>(
     place
 }
 
-/// Takes the key in the place of an entry out of a name's list, which stays, even with no key, and tells the place.
+/// Takes the key in the place of an entry out of a name's list, and tells the place. The list stays, even with no key.
 pub(crate) fn take<K: Ord + Copy + Drop>(
     lists: &mut BTreeMap<K, Vec<usize>>,
     entries: &Slab<LockEntry>,
