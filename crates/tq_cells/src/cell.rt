@@ -11,7 +11,7 @@ use crate::receipt::Receipt;
 use std::alloc::Global;
 use std::marker::Model;
 use std::sync::{Mutex, Wait};
-use tq_part::{Answers, Journaled};
+use tq_part::Answers;
 use tq_shape::{Entry, Memory, Part};
 
 /// A part under a lock, beside its journal, which many threads may ask at once. Whenever the lock is free, the journal
@@ -106,21 +106,10 @@ impl<P: Answers> Cell<P> {
         ensures legal { IfOk result (λ r. (s : P) × IsLegalFrom P.reply P.after (P.opening s) 1 r.0.items) }
         ensures receipts { IfOk result (λ r. r.1.items ≡ receipts_of passes.items) }
     {
-        let (journaled, receipts) = self.into_journaled(alloc, passes)?;
-        Ok((journaled.into_entries(), receipts))
-    }
-
-    /// As `into_journal`, with the part beside its journal.
-    pub fn into_journaled(
-        self,
-        alloc: Global,
-        passes: Vec<Pass<P>>,
-    ) -> Result<(Journaled<P>, Vec<Receipt<P>>), Memory>
-        ensures { IfOk result (λ r. r.1.items ≡ receipts_of passes.items) }
-    {
         let receipts = joined(alloc, passes)?;
         let Cell { part: _, held } = self;
-        Ok((held.into_inner().into_journaled(), receipts))
+        let journal = held.into_inner().into_journaled().into_entries();
+        Ok((journal, receipts))
     }
 }
 

@@ -2,7 +2,7 @@ ghost use Rattle.std.specs.Prelude.{◌≡◌};
 ghost use Rattle.tq_cells.specs.Passes.{told};
 
 use std::marker::Model;
-use tq_part::{Answered, Answers};
+use tq_part::Answers;
 use tq_shape::Part;
 
 /// What a caller was told of an ask: which part was asked, under which number, and what it replied. Only a cell makes
@@ -61,18 +61,5 @@ impl<P: Answers> Receipt<P> {
         ensures { result.now ≡ self.now.reply }
     {
         &self.reply
-    }
-
-    /// The number with the reply, without what was asked.
-    pub fn into_answered(self) -> Answered<P::Reply>
-        ensures { result ≡ record { number = self.number; reply = self.reply } }
-    {
-        let Receipt {
-            part: _,
-            number,
-            ask: _,
-            reply,
-        } = self;
-        Answered { number, reply }
     }
 }

@@ -1,9 +1,9 @@
 -- What contracts see of a server.
-use Rattle.std.specs.Prelude.{◌≡◌, ℕ, Bool, true, false, List, [], ◌∷◌, Some, map, filter, ◌+◌, ◌++◌, take, refl}
+use Rattle.std.specs.Prelude.{◌≡◌, ℕ, Bool, true, false, List, [], ◌∷◌, Some, ◌+◌, ◌++◌, take, refl}
 use Rattle.std.specs.Coded.{Coded, code_by, coded×, coded_list, coded_ℕ, coded_bool}
 use Rattle.std.specs.FinMap as fin
 use Rattle.tq_shape.specs.Journal.{Has}
-use Rattle.tq_store.specs.Copies.{Files, files_code, installed_all, is_newer}
+use Rattle.tq_store.specs.Copies.{Files, files_code}
 use Rattle.tq_locks.specs.Locks.{Locks, locks_code, only_stable, released}
 use Rattle.tq_locks.specs.declared.mode.Lock.{Lock}
 use Rattle.tq_intents.specs.Kept.{Votes, HasOneVoteEach, IsAbove, kept_copies, kept_votes, stable_lock}
@@ -11,7 +11,7 @@ use Rattle.tq_intents.specs.declared.record.KeptLock.{KeptLock}
 use Rattle.tq_intents.specs.declared.record.OpenVote.{OpenVote}
 use Rattle.tq_intents.specs.declared.record.Record.{Record}
 use Rattle.tq_intents.specs.declared.record.Record.TheVariants as stable
-use Rattle.tq_node.specs.Records.{Records, NodeState, open_vote, work_after, work_writes, records_after, node_after, kept_records, work_refusal}
+use Rattle.tq_node.specs.Records.{Records, NodeState, open_vote, work_writes, records_after, node_after, kept_records, work_refusal}
 use Rattle.tq_shape.specs.Steps.{state_at}
 use Rattle.tq_node.specs.declared.ask.NodeAsk.{NodeAsk}
 use Rattle.tq_node.specs.declared.ask.WorkAsk.{WorkAsk}

@@ -1,8 +1,7 @@
 -- What an ask of a server is to change, the stable records that this writes, and the server with a change made.
-use Rattle.std.specs.Prelude.{◌≡◌, ◌<◌, ℕ, Bool, true, false, List, [], ◌∷◌, ◌++◌, map, filter, Option, Some, None, IsSome, if◌then◌else◌}
+use Rattle.std.specs.Prelude.{◌≡◌, ◌<◌, ℕ, Bool, true, false, List, [], ◌∷◌, ◌++◌, map, filter, None, IsSome}
 use Rattle.std.specs.FinMap as fin
 use Rattle.tq_store.specs.Copies.{copy_of, installed, installed_all, is_newer}
-use Rattle.tq_store.specs.declared.write.Write.{Write}
 use Rattle.tq_locks.specs.Locks.{blocker, granted, held_of, released, only_stable, kept as stabilised_locks}
 use Rattle.tq_intents.specs.Kept.{vote_records}
 use Rattle.tq_intents.specs.declared.record.Record.{Record}
@@ -14,7 +13,7 @@ use Rattle.tq_node.specs.declared.ask.WorkAsk.TheVariants as work
 use Rattle.tq_node.specs.declared.change.NodeChange.{NodeChange}
 use Rattle.tq_node.specs.declared.change.NodeStep.{NodeStep}
 use Rattle.tq_node.specs.declared.change.NodeStep.TheVariants.{Nothing, Lock, Vote, Discard, Install, Release, Refresh, Crash, Return}
-use Rattle.tq_node.specs.Records.{Records, NodeState, held_lock, kept_lock, open_vote, installs, refusal}
+use Rattle.tq_node.specs.Records.{Records, kept_lock, open_vote, installs, refusal}
 use Rattle.tq_shape.specs.Steps.{state_at}
 use Rattle.tq_node.specs.Node.{NodeView, numbered}
 

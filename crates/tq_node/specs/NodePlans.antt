@@ -16,10 +16,10 @@ use Rattle.tq_node.specs.declared.ask.NodeRefusal.{NodeRefusal}
 use Rattle.tq_node.specs.declared.ask.NodeRefusal.TheVariants as refusals
 use Rattle.tq_node.specs.declared.change.NodeStep.{NodeStep}
 use Rattle.tq_node.specs.declared.change.NodeStep.TheVariants as steps
-use Rattle.tq_node.specs.Records.{Records, NodeState, has_vote, installs, refusal, open_vote, work_after, work_refusal, work_writes, records_after, writes_of, node_after}
-use Rattle.tq_shape.specs.Steps.{refuse, refuse_for, state_at}
+use Rattle.tq_node.specs.Records.{Records, NodeState, has_vote, installs, refusal, open_vote, work_refusal, records_after, writes_of}
+use Rattle.tq_shape.specs.Steps.{state_at}
 use Rattle.tq_node.specs.Node.{NodeView, answered, opening}
-use Rattle.tq_node.specs.NodeChanges.{end_step, work_step, step_of, node_change, node_changed, records_of, stepped, unnoted, NodeFits, StepFits}
+use Rattle.tq_node.specs.NodeChanges.{end_step, work_step, step_of, node_change, node_changed, records_of, stepped, NodeFits, StepFits}
 use Rattle.tq_shape.specs.Unrefused.{refuse-none, refuse_for-none}
 
 -- ---- a plan may be made

@@ -20,7 +20,7 @@ use tq_intents::{Intents, KeptLock, OpenVote, Record};
 use tq_locks::{LockEntry, LockTable, Mode};
 use tq_part::Plan;
 use tq_shape::{Levels, Memory, Seq, ServerId};
-use tq_store::{Copies, FileName, Write};
+use tq_store::{Content, Copies, FileName, Write};
 
 /// A server: its copies, locks and open votes, the stable records that keep them, and whether it is down.
 #[derive(Drop)]
@@ -217,19 +217,7 @@ impl Node {
                 version,
                 content,
                 ..
-            } => {
-                let content = content.clone()?;
-                Ok(Plan {
-                    reply: NodeReply::Refreshed,
-                    change: NodeStep::Refresh {
-                        write: Write {
-                            file: *file,
-                            version: *version,
-                            content,
-                        },
-                    },
-                })
-            }
+            } => plan_refresh(*file, *version, content),
         }
     }
 
@@ -668,6 +656,28 @@ fn planned(number: u64, reply: NodeReply, step: NodeStep) -> Plan<NodeReply, Nod
         reply,
         change: NodeChange { number, step },
     }
+}
+
+/// The plan of a copy that is taken over.
+fn plan_refresh(
+    file: FileName,
+    version: u64,
+    content: &Content,
+) -> Result<Plan<NodeReply, NodeStep>, Memory>
+    ensures reply { IfOk result (λ plan. plan.reply ≡ NodeReply.Refreshed) }
+    ensures change { IfOk result (λ plan. plan.change ≡ NodeStep.Refresh (record { file = file; version = version; content = content.now })) }
+{
+    let content = content.clone()?;
+    Ok(Plan {
+        reply: NodeReply::Refreshed,
+        change: NodeStep::Refresh {
+            write: Write {
+                file,
+                version,
+                content,
+            },
+        },
+    })
 }
 
 /// Locks, as a vote lists them.

@@ -112,7 +112,7 @@ follows_then line next a old mid new None first rest = (first.0 ++ rest.0, furth
 follows_then line next a old mid new (Some end) first rest = (first.0 ++ rest.0, further old mid new first.0 rest.0 first.1 rest.1, makes_then line next first.0 rest.0 a end first.2 rest.2)
 
 module _ {A S B T : Type 0} (line : Dialogue (LineEnd A S)) (left : S → T) (next : A → S → Dialogue (LineEnd B T)) where
-  -- the first part follows well
+  -- where the first part ends well, the line goes on with the next
   pub follows_on : (a : A) (s : S) (old mid new : List Exchange) (end : Option (LineEnd B T)) → Follows line old mid (ended_by (Ok a) s) → Follows (next a s) mid new end → Follows (and_then line left next) old new end
   follows_on a s old mid new end first rest = follows_then line (λ e. go_on e.answer (left e.after) (λ x. next x e.after)) (record { answer = Ok a; after = s }) old mid new end first rest
 

@@ -1,10 +1,9 @@
 use Rattle.std.proofs.Common.{◌≡◌, ap, sym, subst, refl, ◌∙◌, Some}
-use Rattle.std.specs.FinMap as fin
 use Rattle.slab.specs.Slab.{Slab, Updates}
 use Rattle.tq_locks.specs.declared.keyed.KeyedLocks.{KeyedLocks}
 use Rattle.tq_locks.specs.declared.mode.Lock.{Lock}
 use Rattle.tq_locks.specs.Locks.{LockKey}
-use Rattle.tq_locks.specs.Kept.{locks_in, Agrees}
+use Rattle.tq_locks.specs.Kept.{locks_in}
 use Rattle.tq_locks.proofs.Applied.{Agrees-same, Agrees-entered, OnErr-any}
 use Rattle.tq_locks.proofs.keyed.KeyedLocks.insert.Goals as goal
 

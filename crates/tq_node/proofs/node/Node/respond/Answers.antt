@@ -1,6 +1,6 @@
-use Rattle.std.proofs.Common.{sym, ap, subst, ◌∙◌}
-use Rattle.tq_node.specs.NodeChanges.{node_changed, NodeFits}
-use Rattle.tq_node.specs.NodePlans.{change_fits, change_leads}
+use Rattle.std.proofs.Common.{sym, subst}
+use Rattle.tq_node.specs.NodeChanges.{NodeFits}
+use Rattle.tq_node.specs.NodePlans.{change_fits}
 use Rattle.tq_node.proofs.node.Node.respond.Goals as goal
 
 pub apply-requires : goal.apply-requires
