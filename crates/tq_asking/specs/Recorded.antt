@@ -3,7 +3,6 @@ use Rattle.std.specs.Prelude.{◌≡◌, ℕ, Bool, true, List, [], ◌∷◌, O
 use Rattle.std.specs.List.{list_all, filter_map}
 use Rattle.std.specs.Option.{option_map}
 use Rattle.tq_shape.specs.Limits.{LimitsView}
-use Rattle.tq_shape.specs.declared.limits.TheConstants.{MOST_FILES, MOST_OPS, MOST_ENTRIES}
 use Rattle.tq_tables.specs.Journals.{JournalsView, ViewEntry}
 use Rattle.tq_desk.specs.DeskJournal.{DeskEntry}
 use Rattle.tq_node.specs.NodeJournal.{NodeEntry}
@@ -59,7 +58,7 @@ Replays old [] new = new ≡ old
 Replays old (first ∷ rest) new = Matches old first × Replays (world_after old (step_of first)) rest new
 
 abbrev pub full_limits : LimitsView
-full_limits = record { files = MOST_FILES; ops = MOST_OPS; entries = MOST_ENTRIES }
+full_limits = record { files = 1000; ops = 64; entries = 1000000 }
 
 -- replaying what was told, from empty journals, leads to these
 abbrev pub IsReplayed : RecorderView → Type 0

@@ -4,9 +4,7 @@ use Rattle.std.specs.List.{list_all}
 use Rattle.std.specs.Option.{option_map, option_and_then}
 use Rattle.std.specs.Str.{bytes_eq}
 use Rattle.tq_store.specs.Names.{is_file_name}
-use Rattle.tq_store.specs.declared.content.TheConstants.{MAX_CONTENT}
 use Rattle.tq_lines.specs.Word.{number_of, word_of, rest_of}
-use Rattle.tq_lines.specs.declared.line.TheConstants.{LINE_LIMIT}
 use Rattle.tq_lines.specs.declared.line.Line.{Line}
 use Rattle.tq_lines.specs.declared.line.Line.TheVariants.{Empty, Bad, Cost, Mark, Choose, Begin, Refresh, Board, Txn}
 use Rattle.tq_lines.specs.declared.line.TxnLine.TheVariants.{Read, Write, Prepare, Decide, Apply, Commit, Abort, Resolve}
@@ -46,7 +44,7 @@ is_printed byte = nat_le 32 byte && nat_le byte 126
 
 -- a text: not too many bytes, each of which can be printed
 abbrev pub is_text : List ℕ → Bool
-is_text text = nat_le (length text) MAX_CONTENT && list_all is_printed text
+is_text text = nat_le (length text) 1000 && list_all is_printed text
 
 abbrev pub content_of : List ℕ → Option (List ℕ)
 content_of text = cond (is_text text) (Some text) None
@@ -133,4 +131,4 @@ short_line (byte ∷ bytes) = line_by (word_of (byte ∷ bytes)) (rest_of (byte 
 
 -- a line of more bytes than the limit is a bad line
 abbrev pub line_of : List ℕ → Line
-line_of bytes = cond (nat_lt LINE_LIMIT (length bytes)) Bad (short_line bytes)
+line_of bytes = cond (nat_lt 1200 (length bytes)) Bad (short_line bytes)

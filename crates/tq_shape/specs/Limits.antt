@@ -1,6 +1,5 @@
 -- The limits of a system: how much it may be asked to keep.
 use Rattle.std.specs.Prelude.{ℕ, ◌≤◌}
-use Rattle.tq_shape.specs.declared.limits.TheConstants.{MOST_FILES, MOST_OPS, MOST_ENTRIES}
 
 -- what callers see: the most files that commits write, operations of a transaction, and entries of a journal
 pub record LimitsView : Type 0 where
@@ -8,7 +7,7 @@ pub record LimitsView : Type 0 where
   pub ops : ℕ
   pub entries : ℕ
 
--- each limit is at least 1 and not too great
+-- 1 to 1,000 files, 1 to 64 operations, 1 to 1,000,000 entries
 abbrev pub AreLimits : ℕ → ℕ → ℕ → Type 0
 AreLimits files ops entries =
-    ((1 ≤ files) × (files ≤ MOST_FILES)) × ((1 ≤ ops) × (ops ≤ MOST_OPS)) × ((1 ≤ entries) × (entries ≤ MOST_ENTRIES))
+    ((1 ≤ files) × (files ≤ 1000)) × ((1 ≤ ops) × (ops ≤ 64)) × ((1 ≤ entries) × (entries ≤ 1000000))

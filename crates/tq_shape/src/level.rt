@@ -1,5 +1,4 @@
 ghost use Rattle.std.specs.Prelude.{◌≡◌, ℕ, ◌+◌, ◌-◌, ◌*◌, ◌^◌, ◌<◌, ◌≤◌};
-ghost use Rattle.tq_shape.specs.declared.level.TheConstants.{MOST_LEVELS};
 
 use std::marker::Model;
 
@@ -19,7 +18,7 @@ impl Model for Levels {
 
     ghost view = { λ levels. levels.count };
 
-    ghost invariant = { λ levels. (1 ≤ levels.count) × (levels.count ≤ MOST_LEVELS) };
+    ghost invariant = { λ levels. (1 ≤ levels.count) × (levels.count ≤ 6) };
 
     ghost inverse = { λ count. record { count = count } };
 }
@@ -30,7 +29,7 @@ impl Levels {
 
     /// The levels of that count, if there is such a tree: `None` for 0 and above [`MOST_LEVELS`].
     pub fn new(count: u32) -> Option<Levels>
-        ensures { SomeIff result ((1 ≤ count) × (count ≤ MOST_LEVELS)) count }
+        ensures { SomeIff result ((1 ≤ count) × (count ≤ 6)) count }
     {
         if 1 <= count && count <= MOST_LEVELS {
             Some(Levels { count: count as u8 })
@@ -43,7 +42,7 @@ impl Levels {
     pub fn count(self) -> u32
         ensures value { result ≡ self }
         ensures least { 1 ≤ result }
-        ensures most { result ≤ MOST_LEVELS }
+        ensures most { result ≤ 6 }
     {
         u32::from(self.count)
     }
@@ -51,7 +50,7 @@ impl Levels {
     /// The number of servers, which is also the greatest of their numbers.
     pub fn servers(self) -> u64
         ensures value { result + 1 ≡ 2 ^ self }
-        ensures most { result < 2 ^ MOST_LEVELS }
+        ensures most { result < 2 ^ 6 }
     {
         (1u64 << self.count) - 1
     }

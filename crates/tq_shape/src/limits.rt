@@ -1,7 +1,6 @@
 ghost use Rattle.std.specs.Prelude.{◌≡◌, ℕ, ◌≤◌, ◌↔◌, IsTrue};
 ghost use Rattle.std.specs.Option.{SomeIff};
 ghost use Rattle.tq_shape.specs.Limits.{AreLimits};
-ghost use Rattle.tq_shape.specs.declared.limits.TheConstants.{MOST_FILES, MOST_OPS, MOST_ENTRIES};
 
 use std::marker::Model;
 
@@ -57,7 +56,7 @@ impl Limits {
 
     /// The greatest limits.
     pub fn full() -> Limits
-        ensures { result ≡ record { files = MOST_FILES; ops = MOST_OPS; entries = MOST_ENTRIES } }
+        ensures { result ≡ record { files = 1000; ops = 64; entries = 1000000 } }
     {
         Limits {
             files: MOST_FILES,
@@ -69,7 +68,7 @@ impl Limits {
     /// The most files that commits write.
     pub fn files(self) -> u32
         ensures value { result ≡ self.files }
-        ensures within { (1 ≤ result) × (result ≤ MOST_FILES) }
+        ensures within { (1 ≤ result) × (result ≤ 1000) }
     {
         self.files
     }
@@ -77,7 +76,7 @@ impl Limits {
     /// The most operations of a transaction.
     pub fn ops(self) -> u32
         ensures value { result ≡ self.ops }
-        ensures within { (1 ≤ result) × (result ≤ MOST_OPS) }
+        ensures within { (1 ≤ result) × (result ≤ 64) }
     {
         self.ops
     }
@@ -85,7 +84,7 @@ impl Limits {
     /// The most entries of a journal.
     pub fn entries(self) -> u32
         ensures value { result ≡ self.entries }
-        ensures within { (1 ≤ result) × (result ≤ MOST_ENTRIES) }
+        ensures within { (1 ≤ result) × (result ≤ 1000000) }
     {
         self.entries
     }

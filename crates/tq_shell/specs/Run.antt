@@ -3,19 +3,18 @@ use Rattle.std.specs.Prelude.{◌≡◌, ℕ, ◌+◌, ◌<◌, ◌≤◌, List,
 use Rattle.std.specs.Io.KnownBytes.{Appends}
 use Rattle.tq_shell.specs.Text.{text_of, whole_text}
 use Rattle.tq_shell.specs.Stream.{Received, nothing_received, received_all, answers_to}
-use Rattle.tq_shell.specs.declared.runner.TheConstants.{INPUT_LIMIT}
 use Rattle.tq_shell.specs.declared.runner.RunFault.{RunFault}
 use Rattle.tq_shell.specs.declared.runner.RunFault.TheVariants.{Memory, Read, Write, TooLong}
 
 -- levels, bytes read, text written
 abbrev pub IsRunText : {T : Type 0} → Result T RunFault → ℕ → List ℕ → List ℕ → Type 0
-IsRunText (Ok done) levels bytes text = (length bytes ≤ INPUT_LIMIT) × (text ≡ text_of levels bytes)
+IsRunText (Ok done) levels bytes text = (length bytes ≤ 16777216) × (text ≡ text_of levels bytes)
 -- the text of some first lines, each whole
 IsRunText (Err Memory) levels bytes text = (count : ℕ) × (text ≡ whole_text levels (take count bytes))
 IsRunText (Err Read) levels bytes text = text ≡ whole_text levels bytes
 -- a prefix of the text
 IsRunText (Err Write) levels bytes text = (rest : List ℕ) × (text ++ rest ≡ text_of levels bytes)
-IsRunText (Err TooLong) levels bytes text = (INPUT_LIMIT < length bytes) × (text ≡ whole_text levels (take INPUT_LIMIT bytes))
+IsRunText (Err TooLong) levels bytes text = (16777216 < length bytes) × (text ≡ whole_text levels (take 16777216 bytes))
 
 -- failures of the source before and after, and of the sink
 abbrev pub IsRunCount : {T : Type 0} → Result T RunFault → ℕ → ℕ → ℕ → ℕ → Type 0
@@ -40,4 +39,4 @@ pub record IsGoing (levels : ℕ) (given given_now taken taken_now : Option (Lis
   pub read : Appends given given_now bytes
   pub wrote : Appends taken taken_now (answers_to (nothing_received levels) bytes)
   pub received_is : received ≡ received_all (nothing_received levels) bytes
-  pub room : length bytes + left ≡ INPUT_LIMIT
+  pub room : length bytes + left ≡ 16777216

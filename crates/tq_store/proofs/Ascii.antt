@@ -8,7 +8,6 @@ use Rattle.std.specs.Str.{IsAscii, IsUtf8}
 use Rattle.std.proofs.lemmas.Str.{IsUtf8-from_ascii}
 use Rattle.tq_store.specs.Names.{is_name_byte, is_file_name, starts_with_letter}
 use Rattle.std.specs.Prelude.{nat_le, length}
-use Rattle.tq_store.specs.declared.file_name.TheConstants.{MAX_NAME}
 
 small : (c : ℕ) → is_name_byte c ≡ true → c < 128
 small c h = grind (arith, nat_tests, h)
@@ -24,7 +23,7 @@ ascii_bytes (c ∷ rest) h =
 
 pub IsUtf8-name : (name : List ℕ) → IsTrue (is_file_name name) → IsUtf8 name
 IsUtf8-name name h =
-    let bytes = (both (starts_with_letter name && list_all is_name_byte name) (nat_le (length name) MAX_NAME) h).0 in
+    let bytes = (both (starts_with_letter name && list_all is_name_byte name) (nat_le (length name) 32) h).0 in
     IsUtf8-from_ascii name (ascii_bytes name (both (starts_with_letter name) (list_all is_name_byte name) bytes).1)
 
 -- a call that fails only where a fact doesn't hold

@@ -3,7 +3,6 @@ use Rattle.std.specs.Prelude.{◌≡◌, ℕ, ◌-◌, ◌≤◌, Bool, false, �
 use Rattle.std.specs.List.{list_all}
 use Rattle.std.specs.Option.{option_map_or}
 use Rattle.std.specs.Char.{is_ascii_lowercase, is_ascii_digit}
-use Rattle.tq_store.specs.declared.file_name.TheConstants.{MAX_NAME}
 use Rattle.std.proofs.Common.{ap, sym, ◌∙◌, length-take-le}
 use Rattle.std.proofs.lemmas.List.{take-append-drop}
 use Rattle.std.specs.Cmp.Lexicographic.{pointwise}
@@ -18,17 +17,17 @@ starts_with_letter name = option_map_or is_ascii_lowercase (slice_get name 0) fa
 
 -- 1 to 32 such bytes, a letter first
 abbrev pub is_file_name : List ℕ → Bool
-is_file_name name = starts_with_letter name && list_all is_name_byte name && nat_le (length name) MAX_NAME
+is_file_name name = starts_with_letter name && list_all is_name_byte name && nat_le (length name) 32
 
 -- the name in an array of the greatest length, filled up with zeros
 abbrev pub padded : List ℕ → List ℕ
-padded name = name ++ replicate (MAX_NAME - length name) 0
+padded name = name ++ replicate (32 - length name) 0
 
 -- an array of the greatest length, zero from this length on
 pub record IsPadded (bytes : List ℕ) (len : ℕ) : Type 0 where
   pub fits : len ≤ length bytes
-  pub all : length bytes ≡ MAX_NAME
-  pub rest : drop len bytes ≡ replicate (MAX_NAME - len) 0
+  pub all : length bytes ≡ 32
+  pub rest : drop len bytes ≡ replicate (32 - len) 0
 
 pub length-take_padded : (bytes : List ℕ) (len : ℕ) → IsPadded bytes len → length (take len bytes) ≡ len
 length-take_padded bytes len h = length-take-le len bytes h.fits
@@ -36,7 +35,7 @@ length-take_padded bytes len h = length-take-le len bytes h.fits
 -- a name filled up again
 pub padded-take : (bytes : List ℕ) (len : ℕ) → IsPadded bytes len → padded (take len bytes) ≡ bytes
 padded-take bytes len h =
-    ap (λ n. take len bytes ++ replicate (MAX_NAME - n) 0) (length-take_padded bytes len h)
+    ap (λ n. take len bytes ++ replicate (32 - n) 0) (length-take_padded bytes len h)
     ∙ ap (λ rest. take len bytes ++ rest) (sym h.rest)
     ∙ take-append-drop len bytes
 

@@ -17,7 +17,6 @@ pub struct Content {
 impl Model for Content {
     ghost use Rattle.std.specs.Prelude.{◌≤◌, List, ℕ, length};
     ghost use Rattle.std.specs.Coded.{coded_list, coded_ℕ};
-    ghost use Rattle.tq_store.specs.declared.content.TheConstants.{MAX_CONTENT};
 
     ghost Value = { List ℕ };
 
@@ -25,7 +24,7 @@ impl Model for Content {
 
     ghost view = { λ a. a.bytes.items };
 
-    ghost invariant = { λ a. length a.bytes.items ≤ MAX_CONTENT };
+    ghost invariant = { λ a. length a.bytes.items ≤ 1000 };
 }
 
 impl Content {
@@ -40,7 +39,7 @@ impl Content {
 
     /// The content of these bytes, unless there are too many. It takes no memory.
     pub fn new(bytes: Vec<u8>) -> Option<Content>
-        ensures exact { IsSome result ↔ (length bytes.items ≤ MAX_CONTENT) }
+        ensures exact { IsSome result ↔ (length bytes.items ≤ 1000) }
         ensures value { IfSome result (λ content. content ≡ bytes.items) }
     {
         if bytes.len() > MAX_CONTENT {
@@ -52,7 +51,7 @@ impl Content {
     /// The bytes, in order.
     pub fn as_bytes(&self) -> &[u8]
         ensures value { result.now ≡ self.now }
-        ensures short { length self.now ≤ MAX_CONTENT }
+        ensures short { length self.now ≤ 1000 }
     {
         self.bytes.as_slice()
     }
@@ -60,7 +59,7 @@ impl Content {
     /// How many bytes there are.
     pub fn len(&self) -> usize
         ensures value { result ≡ length self.now }
-        ensures short { result ≤ MAX_CONTENT }
+        ensures short { result ≤ 1000 }
     {
         self.bytes.len()
     }

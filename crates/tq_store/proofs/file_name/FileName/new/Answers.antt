@@ -2,7 +2,6 @@ use Rattle.std.proofs.Common.{◌≡◌, ◌≤◌, ◌+◌, ◌++◌, length, t
 use Rattle.std.proofs.lemmas.List.{drop-replicate}
 use Rattle.std.proofs.Math.Seq.{drop-append_seam, take-append_seam}
 use Rattle.tq_store.specs.Names.{IsPadded, is_file_name, is_name_byte, starts_with_letter}
-use Rattle.tq_store.specs.declared.file_name.TheConstants.{MAX_NAME}
 use Rattle.std.specs.List.{list_all}
 use Rattle.std.proofs.lemmas.Bool.Decides.{nat_tests}
 use Rattle.tq_store.proofs.file_name.FileName.new.Goals as goal
@@ -20,10 +19,10 @@ filled name short = record {
 named : (name : List ℕ) → true ≡ is_file_name name → IsTrue (is_file_name (take (length name) (name ++ zeros (length name))))
 named name text = ap is_file_name (take-append_seam name (zeros (length name))) ∙ sym text
 
-fits_name : (name : List ℕ) → true ≡ is_file_name name → length name ≤ MAX_NAME
+fits_name : (name : List ℕ) → true ≡ is_file_name name → length name ≤ 32
 fits_name name text = small (starts_with_letter name && list_all is_name_byte name) (length name) text
   where
-    small : (b : Bool) (n : ℕ) → true ≡ (b && nat_le n MAX_NAME) → n ≤ MAX_NAME
+    small : (b : Bool) (n : ℕ) → true ≡ (b && nat_le n 32) → n ≤ 32
     small b n h = grind (arith, nat_tests, h)
 
 copied : (name bytes : List ℕ) → name ≡ bytes → true ≡ is_file_name bytes → IsPadded (name ++ zeros (length bytes)) (length bytes) × IsTrue (is_file_name (take (length bytes) (name ++ zeros (length bytes))))
