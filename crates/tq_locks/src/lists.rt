@@ -1,5 +1,5 @@
 //! Lists of keys, each under a name: an index of a slab.
-ghost use Rattle.std.specs.Prelude.{◌≡◌, ◌-◌, ◌<◌, ◌≤◌, false, length, OnOk, if◌then◌else◌};
+ghost use Rattle.std.specs.Prelude.{◌≡◌, ◌-◌, ◌<◌, ◌≤◌, false, length, vec_len, vec_capacity, OnOk, if◌then◌else◌};
 ghost use Rattle.std.specs.List.{insert, remove, slice_get};
 ghost use Rattle.std.specs.Option.{option_map_or};
 ghost use Rattle.std.specs.BTreeMap.{IsOrdered, is_at};
@@ -83,12 +83,10 @@ pub(crate) fn put<K: Ord + Copy + Drop>(
     ensures place { RisesTo entries.now (keys_at K.cmp lists.old name.now) entry.now.0 result }
     ensures after { (other : K) → keys_at K.cmp lists.new other ≡ (if is_at (K.cmp name.now) other then insert (keys_at K.cmp lists.old name.now) result key else keys_at K.cmp lists.old other) }
 {
-    let Some(keys) = lists.get_mut(name) else {
-        return 0;
-    };
-    let place = place(entries, keys.as_slice(), &entry.file, entry.txn);
-    let _ = keys.insert(place, key);
-    place
+    match lists.get_mut(name) {
+        Some(keys) => enter(keys, entries, entry, key),
+        None => 0,
+    }
 }
 
 /// Takes the key in the place of an entry out of a name's list, and tells the place. The list stays, even with no key.
@@ -101,9 +99,33 @@ pub(crate) fn take<K: Ord + Copy + Drop>(
     ensures place { RisesTo entries.now (keys_at K.cmp lists.old name.now) entry.now.0 result }
     ensures after { (other : K) → keys_at K.cmp lists.new other ≡ (if is_at (K.cmp name.now) other then remove (keys_at K.cmp lists.old name.now) result else keys_at K.cmp lists.old other) }
 {
-    let Some(keys) = lists.get_mut(name) else {
-        return 0;
-    };
+    match lists.get_mut(name) {
+        Some(keys) => leave(keys, entries, entry),
+        None => 0,
+    }
+}
+
+/// Puts the key of an entry into its place in a list that has room, and tells the place.
+pub(crate) fn enter(
+    keys: &mut Vec<usize>,
+    entries: &Slab<LockEntry>,
+    entry: &LockEntry,
+    key: usize,
+) -> usize
+    requires { vec_len keys.old < vec_capacity keys.old }
+    ensures place { RisesTo entries.now keys.old.items entry.now.0 result }
+    ensures after { keys.new.items ≡ insert keys.old.items result key }
+{
+    let place = place(entries, keys.as_slice(), &entry.file, entry.txn);
+    let _ = keys.insert(place, key);
+    place
+}
+
+/// Takes the key in the place of an entry out of a list, and tells the place.
+pub(crate) fn leave(keys: &mut Vec<usize>, entries: &Slab<LockEntry>, entry: &LockEntry) -> usize
+    ensures place { RisesTo entries.now keys.old.items entry.now.0 result }
+    ensures after { keys.new.items ≡ remove keys.old.items result }
+{
     let place = place(entries, keys.as_slice(), &entry.file, entry.txn);
     take_out(keys, place);
     place
