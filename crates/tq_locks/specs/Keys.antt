@@ -13,10 +13,6 @@ module _ {K Z : Type 0} (cmp : K → K → Ordering) where
   abbrev pub keys_at : BTreeMap K (Vec ℕ Z) → K → List ℕ
   keys_at lists name = option_map_or (λ keys. keys.items) (get cmp lists name) []
 
-  -- a name's list has room for one more key
-  abbrev pub HasRoomAt : BTreeMap K (Vec ℕ Z) → K → Type 0
-  HasRoomAt lists name = IsSomeAnd (get cmp lists name) (λ keys. vec_len keys < vec_capacity keys)
-
 -- the keys under a number, in their order
 abbrev pub keys_under : {Z S : Type 0} → IndexMap ℕ (Vec ℕ Z) S → ℕ → List ℕ
 keys_under lists number = option_map_or (λ keys. keys.items) (get_hashed nat_eq lists number) []

@@ -9,7 +9,7 @@ ghost use Rattle.slab.specs.Slab.{get, slab_len, Updates};
 ghost use Rattle.tq_locks.specs.Locks.{LockKey, Locks, lock_cmp, kept, released, only_stable};
 ghost use Rattle.tq_locks.specs.Keys.{keys_at, keys_under, place, told};
 
-use crate::lists::{end_empty, listed, make_room, place, put, take};
+use crate::lists::{add, listed, place, take};
 use crate::numbered::{end_empty_under, listed_under, make_room_under, put_under, take_under};
 use crate::{Lock, LockEntry};
 use indexmap::IndexMap;
@@ -101,10 +101,17 @@ impl KeyedLocks {
         ensures err { OnErr result (Agrees self.new (locks_in self.old)) }
     {
         self.entries.reserve(1)?;
-        make_room(self.alloc, &mut self.by_file, entry.file)?;
         make_room_under(self.alloc, &mut self.by_txn, entry.txn)?;
         let key = self.entries.vacant_key();
-        put(&mut self.by_file, &self.entries, &entry.file, &entry, key);
+        // The last that can fail makes the first change.
+        add(
+            self.alloc,
+            &mut self.by_file,
+            &self.entries,
+            entry.file,
+            &entry,
+            key,
+        )?;
         put_under(&mut self.by_txn, &self.entries, entry.txn, &entry, key);
         self.entries.insert_reserved(entry);
         Ok(())
@@ -136,7 +143,6 @@ impl KeyedLocks {
         take(&mut self.by_file, &self.entries, &entry.file, &entry);
         take_under(&mut self.by_txn, &self.entries, entry.txn, &entry);
         let _ = self.entries.try_remove(key);
-        end_empty(&mut self.by_file, &entry.file);
     }
 
     /// An equal one, with memory of its own.
