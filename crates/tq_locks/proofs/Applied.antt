@@ -11,7 +11,7 @@ use Rattle.std.specs.List.{insert, remove, slice_get, filter_map, cons_option, A
 use Rattle.std.proofs.lemmas.Cmp.{tied_itself}
 use Rattle.std.specs.Map.{lookup}
 use Rattle.std.specs.Option.{option_map, option_map_or, option_copied}
-use Rattle.std.specs.Ordering.{is_lt, is_eq, nat_cmp}
+use Rattle.std.specs.Ordering.{is_lt, is_eq}
 use Rattle.std.specs.declared.cmp.Ordering.{Ordering}
 use Rattle.std.specs.declared.cmp.Ordering.TheVariants.{Less, Equal, Greater}
 use Rattle.slab.specs.Slab.{get, Updates}
@@ -21,7 +21,7 @@ use Rattle.tq_shape.specs.Journal.{Has}
 use Rattle.tq_locks.specs.declared.keyed.KeyedLocks.{KeyedLocks}
 use Rattle.tq_locks.specs.declared.mode.Lock.{Lock}
 use Rattle.tq_locks.specs.Locks.{LockKey, Locks, lock_cmp, held_of}
-use Rattle.tq_locks.specs.Keys.{keys_at, place}
+use Rattle.tq_locks.specs.Keys.{keys_at, place, keys_under}
 use Rattle.tq_locks.specs.Kept.{on_file, lock_found, AreKeysOf, Agrees, IsOf, RisesTo}
 use Rattle.tq_locks.proofs.LockMaps.{locks_total, locks_same}
 use Rattle.tq_locks.proofs.Found.{none_some, some_same, first, second, less, below_each, Has-looked_up}
@@ -40,7 +40,7 @@ sorted_held_of locks txn = is_sorted-where_key lock_cmp (λ k. k.1 == txn) (fin.
 
 -- the same entries under the same keys
 pub Agrees-same : (old new : KeyedLocks) (locks : Locks) → Agrees old locks → new.entries.slots ≡ old.entries.slots
-    → ((f : List ℕ) → keys_at name_cmp new.by_file f ≡ keys_at name_cmp old.by_file f) → ((t : ℕ) → keys_at nat_cmp new.by_txn t ≡ keys_at nat_cmp old.by_txn t) → Agrees new locks
+    → ((f : List ℕ) → keys_at name_cmp new.by_file f ≡ keys_at name_cmp old.by_file f) → ((t : ℕ) → keys_under new.by_txn t ≡ keys_under old.by_txn t) → Agrees new locks
 Agrees-same old new locks a same files txns =
     let at : (k : ℕ) → get new.entries k ≡ get old.entries k = λ k. ap (λ (slots : List (Option Entry)). get (record { slots = slots; vacant_key = 0; capacity = 0 }) k) same in
     record {
@@ -63,14 +63,14 @@ Agrees-empty new slots files txns =
       sound = λ k e f. absurd (none_some e (sym (vacant k) ∙ f));
       once = λ j k x y f g s. absurd (none_some x (sym (vacant j) ∙ f));
       of_file = λ f. ap (λ es. map (get new.entries) (option_map_or (λ keys. keys.items) (lookup (is_at (name_cmp f)) es) [])) files ∙ ap (λ es. map Some (filter (λ (e : Entry). same_name f e.0.0) es)) (sym no_entries);
-      of_txn = λ t. ap (λ es. map (get new.entries) (option_map_or (λ keys. keys.items) (lookup (is_at (nat_cmp t)) es) [])) txns ∙ ap (λ es. map Some (filter (λ (e : Entry). e.0.1 == t) es)) (sym no_entries);
+      of_txn = λ t. ap (λ es. map (get new.entries) (option_map_or (λ keys. keys.items) (lookup (nat_eq t) es) [])) txns ∙ ap (λ es. map Some (filter (λ (e : Entry). e.0.1 == t) es)) (sym no_entries);
     }
   where
     empty_entries : fin.entries (fin.empty {X = Lock} {R = lock_cmp}) ≡ []
     empty_entries = ap fin.entries (fin.same_map locks_total locks_same (fin.empty {X = Lock} {R = lock_cmp}) (fin.from_sorted []) (λ q. fin.get-empty lock_cmp q ∙ sym (fin.get-from_sorted lock_cmp [] q tt))) ∙ fin.entries-from_sorted lock_cmp [] tt
 
 module _ (old new : KeyedLocks) (locks : Locks) (a : Agrees old locks) (file : List ℕ) (txn : ℕ) (l : Lock) (in_file in_txn key : ℕ) (in_files in_txns : List ℕ)
-    (file_keys : in_files ≡ keys_at name_cmp old.by_file file) (txn_keys : in_txns ≡ keys_at nat_cmp old.by_txn txn)
+    (file_keys : in_files ≡ keys_at name_cmp old.by_file file) (txn_keys : in_txns ≡ keys_under old.by_txn txn)
     (file_place : RisesTo old.entries in_files (file, txn) in_file) (txn_place : RisesTo old.entries in_txns (file, txn) in_txn) where
   at_file : in_file ≡ place lock_cmp (file, txn) (on_file locks file)
   at_file = file_place (on_file locks file) (ap (map (get old.entries)) file_keys ∙ a.of_file file) (sorted_on_file locks file)
@@ -80,48 +80,48 @@ module _ (old new : KeyedLocks) (locks : Locks) (a : Agrees old locks) (file : L
 
   pub Agrees-inserted : fin.get locks (file, txn) ≡ None → get old.entries key ≡ None → Updates old.entries new.entries key (Some ((file, txn), l))
       → ((f : List ℕ) → keys_at name_cmp new.by_file f ≡ cond (is_at (name_cmp file) f) (insert (keys_at name_cmp old.by_file file) in_file key) (keys_at name_cmp old.by_file f))
-      → ((t : ℕ) → keys_at nat_cmp new.by_txn t ≡ cond (is_at (nat_cmp txn) t) (insert (keys_at nat_cmp old.by_txn txn) in_txn key) (keys_at nat_cmp old.by_txn t))
+      → ((t : ℕ) → keys_under new.by_txn t ≡ cond (txn == t) (insert (keys_under old.by_txn txn) in_txn key) (keys_under old.by_txn t))
       → Agrees new (fin.insert locks (file, txn) l)
   Agrees-inserted absent vacant u files txns =
       Agrees-put old new locks a (file, txn) l key absent vacant u
       (λ f. files f ∙ ap (λ p. cond (is_at (name_cmp file) f) (insert (keys_at name_cmp old.by_file file) p key) (keys_at name_cmp old.by_file f)) at_file)
-      (λ t. txns t ∙ ap (λ p. cond (is_at (nat_cmp txn) t) (insert (keys_at nat_cmp old.by_txn txn) p key) (keys_at nat_cmp old.by_txn t)) at_txn)
+      (λ t. txns t ∙ ap (λ p. cond (txn == t) (insert (keys_under old.by_txn txn) p key) (keys_under old.by_txn t)) at_txn)
 
   pub Agrees-taken : get old.entries key ≡ Some ((file, txn), l) → Updates old.entries new.entries key None
       → ((f : List ℕ) → keys_at name_cmp new.by_file f ≡ cond (is_at (name_cmp file) f) (remove (keys_at name_cmp old.by_file file) in_file) (keys_at name_cmp old.by_file f))
-      → ((t : ℕ) → keys_at nat_cmp new.by_txn t ≡ cond (is_at (nat_cmp txn) t) (remove (keys_at nat_cmp old.by_txn txn) in_txn) (keys_at nat_cmp old.by_txn t))
+      → ((t : ℕ) → keys_under new.by_txn t ≡ cond (txn == t) (remove (keys_under old.by_txn txn) in_txn) (keys_under old.by_txn t))
       → Agrees new (fin.remove locks (file, txn))
   Agrees-taken at u files txns =
       Agrees-remove old new locks a (file, txn) l key at u
       (λ f. files f ∙ ap (λ p. cond (is_at (name_cmp file) f) (remove (keys_at name_cmp old.by_file file) p) (keys_at name_cmp old.by_file f)) at_file)
-      (λ t. txns t ∙ ap (λ p. cond (is_at (nat_cmp txn) t) (remove (keys_at nat_cmp old.by_txn txn) p) (keys_at nat_cmp old.by_txn t)) at_txn)
+      (λ t. txns t ∙ ap (λ p. cond (txn == t) (remove (keys_under old.by_txn txn) p) (keys_under old.by_txn t)) at_txn)
 
 -- the same of an entry whose file and transaction the lists are looked up by
 module _ (old new : KeyedLocks) (locks : Locks) (a : Agrees old locks) (e : Entry) (file : List ℕ) (txn : ℕ) (is_file : file ≡ e.0.0) (is_txn : txn ≡ e.0.1) (in_file in_txn key : ℕ)
-    (file_place : RisesTo old.entries (keys_at name_cmp old.by_file file) e.0 in_file) (txn_place : RisesTo old.entries (keys_at nat_cmp old.by_txn txn) e.0 in_txn) where
+    (file_place : RisesTo old.entries (keys_at name_cmp old.by_file file) e.0 in_file) (txn_place : RisesTo old.entries (keys_under old.by_txn txn) e.0 in_txn) where
   file_at : RisesTo old.entries (keys_at name_cmp old.by_file e.0.0) e.0 in_file
   file_at = subst (λ f. RisesTo old.entries (keys_at name_cmp old.by_file f) e.0 in_file) is_file file_place
 
-  txn_at : RisesTo old.entries (keys_at nat_cmp old.by_txn e.0.1) e.0 in_txn
-  txn_at = subst (λ t. RisesTo old.entries (keys_at nat_cmp old.by_txn t) e.0 in_txn) is_txn txn_place
+  txn_at : RisesTo old.entries (keys_under old.by_txn e.0.1) e.0 in_txn
+  txn_at = subst (λ t. RisesTo old.entries (keys_under old.by_txn t) e.0 in_txn) is_txn txn_place
 
   pub Agrees-entered : fin.get locks e.0 ≡ None → get old.entries key ≡ None → Updates old.entries new.entries key (Some e)
       → ((f : List ℕ) → keys_at name_cmp new.by_file f ≡ cond (is_at (name_cmp file) f) (insert (keys_at name_cmp old.by_file file) in_file key) (keys_at name_cmp old.by_file f))
-      → ((t : ℕ) → keys_at nat_cmp new.by_txn t ≡ cond (is_at (nat_cmp txn) t) (insert (keys_at nat_cmp old.by_txn txn) in_txn key) (keys_at nat_cmp old.by_txn t))
+      → ((t : ℕ) → keys_under new.by_txn t ≡ cond (txn == t) (insert (keys_under old.by_txn txn) in_txn key) (keys_under old.by_txn t))
       → Agrees new (fin.insert locks e.0 e.1)
   Agrees-entered absent vacant u files txns =
-      Agrees-inserted old new locks a e.0.0 e.0.1 e.1 in_file in_txn key (keys_at name_cmp old.by_file e.0.0) (keys_at nat_cmp old.by_txn e.0.1) refl refl file_at txn_at absent vacant u
+      Agrees-inserted old new locks a e.0.0 e.0.1 e.1 in_file in_txn key (keys_at name_cmp old.by_file e.0.0) (keys_under old.by_txn e.0.1) refl refl file_at txn_at absent vacant u
       (subst (λ name. (f : List ℕ) → keys_at name_cmp new.by_file f ≡ cond (is_at (name_cmp name) f) (insert (keys_at name_cmp old.by_file name) in_file key) (keys_at name_cmp old.by_file f)) is_file files)
-      (subst (λ name. (t : ℕ) → keys_at nat_cmp new.by_txn t ≡ cond (is_at (nat_cmp name) t) (insert (keys_at nat_cmp old.by_txn name) in_txn key) (keys_at nat_cmp old.by_txn t)) is_txn txns)
+      (subst (λ name. (t : ℕ) → keys_under new.by_txn t ≡ cond (name == t) (insert (keys_under old.by_txn name) in_txn key) (keys_under old.by_txn t)) is_txn txns)
 
   pub Agrees-left : get old.entries key ≡ Some e → Updates old.entries new.entries key None
       → ((f : List ℕ) → keys_at name_cmp new.by_file f ≡ cond (is_at (name_cmp file) f) (remove (keys_at name_cmp old.by_file file) in_file) (keys_at name_cmp old.by_file f))
-      → ((t : ℕ) → keys_at nat_cmp new.by_txn t ≡ cond (is_at (nat_cmp txn) t) (remove (keys_at nat_cmp old.by_txn txn) in_txn) (keys_at nat_cmp old.by_txn t))
+      → ((t : ℕ) → keys_under new.by_txn t ≡ cond (txn == t) (remove (keys_under old.by_txn txn) in_txn) (keys_under old.by_txn t))
       → Agrees new (fin.remove locks e.0)
   Agrees-left at u files txns =
-      Agrees-taken old new locks a e.0.0 e.0.1 e.1 in_file in_txn key (keys_at name_cmp old.by_file e.0.0) (keys_at nat_cmp old.by_txn e.0.1) refl refl file_at txn_at at u
+      Agrees-taken old new locks a e.0.0 e.0.1 e.1 in_file in_txn key (keys_at name_cmp old.by_file e.0.0) (keys_under old.by_txn e.0.1) refl refl file_at txn_at at u
       (subst (λ name. (f : List ℕ) → keys_at name_cmp new.by_file f ≡ cond (is_at (name_cmp name) f) (remove (keys_at name_cmp old.by_file name) in_file) (keys_at name_cmp old.by_file f)) is_file files)
-      (subst (λ name. (t : ℕ) → keys_at nat_cmp new.by_txn t ≡ cond (is_at (nat_cmp name) t) (remove (keys_at nat_cmp old.by_txn name) in_txn) (keys_at nat_cmp old.by_txn t)) is_txn txns)
+      (subst (λ name. (t : ℕ) → keys_under new.by_txn t ≡ cond (name == t) (remove (keys_under old.by_txn name) in_txn) (keys_under old.by_txn t)) is_txn txns)
 
 -- ---- what a look-up finds
 
@@ -178,7 +178,7 @@ Has-at [] i k e = absurd (none_some k e)
 Has-at (j ∷ keys) zero k e = inl (some_same j k e)
 Has-at (j ∷ keys) (suc i) k e = inr (Has-at keys i k e)
 
-module _ (kept : KeyedLocks) (locks : Locks) (a : Agrees kept locks) (file : List ℕ) (txn : ℕ) (keys : List ℕ) (i : ℕ) (are : keys ≡ keys_at nat_cmp kept.by_txn txn) (at : RisesTo kept.entries keys (file, txn) i) where
+module _ (kept : KeyedLocks) (locks : Locks) (a : Agrees kept locks) (file : List ℕ) (txn : ℕ) (keys : List ℕ) (i : ℕ) (are : keys ≡ keys_under kept.by_txn txn) (at : RisesTo kept.entries keys (file, txn) i) where
   listed : AreKeysOf kept.entries keys (held_of locks txn)
   listed = ap (map (get kept.entries)) are ∙ a.of_txn txn
 
@@ -236,7 +236,7 @@ told-listed f (k ∷ keys) [] e = absurd (nil_cons (f k) (map f keys) (sym e))
 told-listed f (k ∷ keys) (x ∷ xs) e = λ i. cons_option (head_of (f k) (Some x) (map f keys) (map Some xs) e i) (told-listed f keys xs (tail_of (f k) (Some x) (map f keys) (map Some xs) e) i)
 
 -- the entry under a key of a transaction's list
-pub entry_of_key : (kept : KeyedLocks) (locks : Locks) → Agrees kept locks → (txn : ℕ) (keys : List ℕ) (i k : ℕ) → keys ≡ keys_at nat_cmp kept.by_txn txn → slice_get keys i ≡ Some k → (e : Entry) × (e.0.1 ≡ txn) × (get kept.entries k ≡ Some e)
+pub entry_of_key : (kept : KeyedLocks) (locks : Locks) → Agrees kept locks → (txn : ℕ) (keys : List ℕ) (i k : ℕ) → keys ≡ keys_under kept.by_txn txn → slice_get keys i ≡ Some k → (e : Entry) × (e.0.1 ≡ txn) × (get kept.entries k ≡ Some e)
 entry_of_key kept locks a txn keys i k are at =
     let x = item_of (get kept.entries) keys (held_of locks txn) k (ap (map (get kept.entries)) are ∙ a.of_txn txn) (Has-at keys i k at) in
     (x.0, same_number x.0.0.1 (Has-filter (λ (y : Entry). y.0.1 == txn) (fin.entries locks) x.0 x.1).1, x.2)
@@ -244,7 +244,7 @@ entry_of_key kept locks a txn keys i k are at =
     same_number : (n : ℕ) → (n == txn) ≡ true → n ≡ txn
     same_number n h = grind (arith, nat_tests)
 
-pub empty_keys : (kept : KeyedLocks) (locks : Locks) → Agrees kept locks → (txn : ℕ) → keys_at nat_cmp kept.by_txn txn ≡ [] → held_of locks txn ≡ []
+pub empty_keys : (kept : KeyedLocks) (locks : Locks) → Agrees kept locks → (txn : ℕ) → keys_under kept.by_txn txn ≡ [] → held_of locks txn ≡ []
 empty_keys kept locks a txn e = by_list (held_of locks txn) (sym (ap (map (get kept.entries)) e) ∙ a.of_txn txn)
   where
     by_list : (xs : List Entry) → [] ≡ map Some xs → xs ≡ []
@@ -305,12 +305,12 @@ index_of (j ∷ keys) k (inl s) = (0, omega arith, ap Some s)
 index_of (j ∷ keys) k (inr h) = let r = index_of keys k h in (suc r.0, omega (arith, r.1), r.2)
 
 -- what holds at each of a transaction's keys holds of its locks
-pub at_each_key : (kept : KeyedLocks) (locks : Locks) → Agrees kept locks → (P : Lock → Type 0) (txn end : ℕ) (keys : List ℕ) → keys_at nat_cmp kept.by_txn txn ≡ keys → length keys ≤ end
+pub at_each_key : (kept : KeyedLocks) (locks : Locks) → Agrees kept locks → (P : Lock → Type 0) (txn end : ℕ) (keys : List ℕ) → keys_under kept.by_txn txn ≡ keys → length keys ≤ end
     → ((i k : ℕ) → i < end → slice_get keys i ≡ Some k → (e : Entry) → get kept.entries k ≡ Some e → P e.1) → (q : LockKey) (l : Lock) → (q.1 == txn) ≡ true → fin.get locks q ≡ Some l → P l
 at_each_key kept locks a P txn end keys are past each q l t f =
     let one : q.1 ≡ txn = same_number q.1 t in
     let at = key_of_lock kept locks a q l f in
-    let i = index_of keys at.0 (subst (λ ks. Has ks at.0) (ap (keys_at nat_cmp kept.by_txn) one ∙ are) at.1) in
+    let i = index_of keys at.0 (subst (λ ks. Has ks at.0) (ap (keys_under kept.by_txn) one ∙ are) at.1) in
     each i.0 at.0 (omega (arith, i.1, past)) i.2 (q, l) at.2
   where
     same_number : (n : ℕ) → (n == txn) ≡ true → n ≡ txn

@@ -3,14 +3,14 @@ use Rattle.std.specs.Prelude.{◌≡◌, ℕ, T, Bool, List, Option, length, map
 use Rattle.std.specs.List.{IsDistinct}
 use Rattle.std.specs.Option.{option_map, option_map_or, option_and_then}
 use Rattle.std.specs.FinMap as fin
-use Rattle.std.specs.Ordering.{nat_cmp, is_lt}
+use Rattle.std.specs.Ordering.{is_lt}
 use Rattle.slab.specs.Slab.{Slab, get, values}
 use Rattle.tq_store.specs.Copies.{name_cmp}
 use Rattle.tq_store.specs.Names.{same_name}
 use Rattle.tq_locks.specs.declared.keyed.KeyedLocks.{KeyedLocks}
 use Rattle.tq_locks.specs.declared.mode.Lock.{Lock}
 use Rattle.tq_locks.specs.Locks.{LockKey, Locks, lock_cmp, held_of}
-use Rattle.tq_locks.specs.Keys.{keys_at, place}
+use Rattle.tq_locks.specs.Keys.{keys_at, keys_under, place}
 
 -- the entries that are kept, as a set of locks
 abbrev pub locks_in : KeyedLocks → Locks
@@ -35,7 +35,7 @@ pub record Agrees (kept : KeyedLocks) (locks : Locks) : Type 0 where
   pub once : (key other : ℕ) (entry twin : LockKey × Lock) → get kept.entries key ≡ Some entry → get kept.entries other ≡ Some twin → entry.0 ≡ twin.0 → key ≡ other
   -- each index has the keys of all the locks of a file, and of a transaction
   pub of_file : (file : List ℕ) → AreKeysOf kept.entries (keys_at name_cmp kept.by_file file) (on_file locks file)
-  pub of_txn : (txn : ℕ) → AreKeysOf kept.entries (keys_at nat_cmp kept.by_txn txn) (held_of locks txn)
+  pub of_txn : (txn : ℕ) → AreKeysOf kept.entries (keys_under kept.by_txn txn) (held_of locks txn)
 
 -- the entry under a key comes before a place in the set
 abbrev pub is_under : Slab (LockKey × Lock) → LockKey → ℕ → Bool

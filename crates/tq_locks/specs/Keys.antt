@@ -1,9 +1,10 @@
 -- Lists of keys, each under a name.
-use Rattle.std.specs.Prelude.{◌<◌, ℕ, suc, List, [], ◌∷◌, vec_len, vec_capacity, IsSomeAnd, if◌then◌else◌, ◌++◌, filter_map}
+use Rattle.std.specs.Prelude.{◌<◌, ℕ, suc, List, [], ◌∷◌, vec_len, vec_capacity, nat_eq, IsSomeAnd, if◌then◌else◌, ◌++◌, filter_map}
 use Rattle.slab.specs.Slab.{Slab, get as in_slab}
 use Rattle.std.specs.Option.{option_map_or}
 use Rattle.std.specs.declared.vec.Vec.{Vec}
 use Rattle.std.specs.BTreeMap.{BTreeMap, get}
+use Rattle.indexmap.specs.IndexMap.{IndexMap, get as get_hashed}
 use Rattle.std.specs.Ordering.{is_lt}
 use Rattle.std.specs.declared.cmp.Ordering.{Ordering}
 
@@ -12,9 +13,13 @@ module _ {K Z : Type 0} (cmp : K → K → Ordering) where
   abbrev pub keys_at : BTreeMap K (Vec ℕ Z) → K → List ℕ
   keys_at lists name = option_map_or (λ keys. keys.items) (get cmp lists name) []
 
-  -- a name's list has room for one more key
-  abbrev pub HasRoomAt : BTreeMap K (Vec ℕ Z) → K → Type 0
-  HasRoomAt lists name = IsSomeAnd (get cmp lists name) (λ keys. vec_len keys < vec_capacity keys)
+-- the keys under a number, in their order
+abbrev pub keys_under : {Z S : Type 0} → IndexMap ℕ (Vec ℕ Z) S → ℕ → List ℕ
+keys_under lists number = option_map_or (λ keys. keys.items) (get_hashed nat_eq lists number) []
+
+-- a number's list has room for one more key
+abbrev pub HasRoomUnder : {Z S : Type 0} → IndexMap ℕ (Vec ℕ Z) S → ℕ → Type 0
+HasRoomUnder lists number = IsSomeAnd (get_hashed nat_eq lists number) (λ keys. vec_len keys < vec_capacity keys)
 
 -- how many of the first entries are below a key: where it goes in their order
 abbrev pub place : {K X : Type 0} → (K → K → Ordering) → K → List (K × X) → ℕ

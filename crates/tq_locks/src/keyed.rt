@@ -3,14 +3,16 @@ ghost use Rattle.std.specs.Prelude.{◌≡◌, ◌+◌, ◌-◌, ◌≤◌, ◌=
 ghost use Rattle.std.specs.FinMap as fin;
 ghost use Rattle.std.specs.List.{slice_get};
 ghost use Rattle.std.specs.Option.{option_copied, option_map, option_map_or};
-ghost use Rattle.std.specs.Ordering.{nat_cmp, is_lt};
+ghost use Rattle.std.specs.Ordering.{is_lt};
 ghost use Rattle.tq_store.specs.Copies.{name_cmp};
 ghost use Rattle.slab.specs.Slab.{get, slab_len, Updates};
 ghost use Rattle.tq_locks.specs.Locks.{LockKey, Locks, lock_cmp, kept, released, only_stable};
-ghost use Rattle.tq_locks.specs.Keys.{keys_at, place, told};
+ghost use Rattle.tq_locks.specs.Keys.{keys_at, keys_under, place, told};
 
-use crate::lists::{end_empty, listed, make_room, place, put, take};
+use crate::lists::{add, listed, place, take};
+use crate::numbered::{end_empty_under, listed_under, make_room_under, put_under, take_under};
 use crate::{Lock, LockEntry};
+use indexmap::IndexMap;
 use slab::Slab;
 use std::alloc::{AllocError, Global};
 use std::collections::BTreeMap;
@@ -22,7 +24,7 @@ use tq_store::FileName;
 pub(crate) struct KeyedLocks {
     pub(crate) entries: Slab<LockEntry>,
     pub(crate) by_file: BTreeMap<FileName, Vec<usize>>,
-    pub(crate) by_txn: BTreeMap<u64, Vec<usize>>,
+    pub(crate) by_txn: IndexMap<u64, Vec<usize>>,
     alloc: Global,
 }
 
@@ -36,7 +38,7 @@ impl KeyedLocks {
         KeyedLocks {
             entries: Slab::new(alloc),
             by_file: BTreeMap::new(alloc),
-            by_txn: BTreeMap::new(alloc),
+            by_txn: IndexMap::new(alloc),
             alloc,
         }
     }
@@ -57,9 +59,9 @@ impl KeyedLocks {
 
     /// The keys of a transaction's entries, ascending by file.
     pub(crate) fn keys_of_txn(&self, txn: u64) -> &[usize]
-        ensures { result.now ≡ keys_at nat_cmp self.now.by_txn txn }
+        ensures { result.now ≡ keys_under self.now.by_txn txn }
     {
-        listed(&self.by_txn, &txn)
+        listed_under(&self.by_txn, txn)
     }
 
     /// The entries under these keys.
@@ -99,11 +101,18 @@ impl KeyedLocks {
         ensures err { OnErr result (Agrees self.new (locks_in self.old)) }
     {
         self.entries.reserve(1)?;
-        make_room(self.alloc, &mut self.by_file, entry.file)?;
-        make_room(self.alloc, &mut self.by_txn, entry.txn)?;
+        make_room_under(self.alloc, &mut self.by_txn, entry.txn)?;
         let key = self.entries.vacant_key();
-        put(&mut self.by_file, &self.entries, &entry.file, &entry, key);
-        put(&mut self.by_txn, &self.entries, &entry.txn, &entry, key);
+        // The last that can fail makes the first change.
+        add(
+            self.alloc,
+            &mut self.by_file,
+            &self.entries,
+            entry.file,
+            &entry,
+            key,
+        )?;
+        put_under(&mut self.by_txn, &self.entries, entry.txn, &entry, key);
         self.entries.insert_reserved(entry);
         Ok(())
     }
@@ -112,7 +121,7 @@ impl KeyedLocks {
     pub(crate) fn set_lock(&mut self, key: usize, lock: Lock)
         requires { Agrees self.old (locks_in self.old) }
         ensures agreed { (name : LockKey) → IsOf self.old.entries key name → Agrees self.new (fin.insert (locks_in self.old) name lock) }
-        ensures by_txn { (txn : ℕ) → keys_at nat_cmp self.new.by_txn txn ≡ keys_at nat_cmp self.old.by_txn txn }
+        ensures by_txn { (txn : ℕ) → keys_under self.new.by_txn txn ≡ keys_under self.old.by_txn txn }
         ensures entries { (other : ℕ) → get self.new.entries other ≡ (if other == key then option_map (λ entry. (entry.0, lock)) (get self.old.entries key) else get self.old.entries other) }
     {
         if let Some(entry) = self.entries.get_mut(key) {
@@ -132,9 +141,8 @@ impl KeyedLocks {
             return;
         };
         take(&mut self.by_file, &self.entries, &entry.file, &entry);
-        take(&mut self.by_txn, &self.entries, &entry.txn, &entry);
+        take_under(&mut self.by_txn, &self.entries, entry.txn, &entry);
         let _ = self.entries.try_remove(key);
-        end_empty(&mut self.by_file, &entry.file);
     }
 
     /// An equal one, with memory of its own.
@@ -153,7 +161,7 @@ impl KeyedLocks {
     fn stabilise(&mut self, key: usize)
         requires { Agrees self.old (locks_in self.old) }
         ensures agreed { (name : LockKey) (lock : Lock) → get self.old.entries key ≡ Some (name, lock) → Agrees self.new (fin.insert (locks_in self.old) name (steady lock)) }
-        ensures by_txn { (txn : ℕ) → keys_at nat_cmp self.new.by_txn txn ≡ keys_at nat_cmp self.old.by_txn txn }
+        ensures by_txn { (txn : ℕ) → keys_under self.new.by_txn txn ≡ keys_under self.old.by_txn txn }
         ensures entries { (other : ℕ) → get self.new.entries other ≡ (if other == key then option_map (λ entry. (entry.0, steady entry.1)) (get self.old.entries key) else get self.old.entries other) }
     {
         let Some(entry) = self.entry(key) else {
@@ -176,8 +184,8 @@ impl KeyedLocks {
         requires { Agrees self.old (locks_in self.old) }
         ensures agreed { Agrees self.new (locks_in self.new) }
         ensures kept { kept (locks_in self.new) txn ≡ kept (locks_in self.old) txn }
-        ensures keys { keys_at nat_cmp self.new.by_txn txn ≡ keys_at nat_cmp self.old.by_txn txn }
-        ensures stable { (key : ℕ) → slice_get (keys_at nat_cmp self.old.by_txn txn) place ≡ Some key → IsStableAt self.new.entries key }
+        ensures keys { keys_under self.new.by_txn txn ≡ keys_under self.old.by_txn txn }
+        ensures stable { (key : ℕ) → slice_get (keys_under self.old.by_txn txn) place ≡ Some key → IsStableAt self.new.entries key }
         ensures others { (other : ℕ) → IsStableAt self.old.entries other → IsStableAt self.new.entries other }
     {
         let Some(key) = self.keys_of_txn(txn).get(place).copied() else {
@@ -204,7 +212,7 @@ impl KeyedLocks {
         while let Some(key) = self.keys_of_txn(txn).last().copied() {
             self.remove(key);
         }
-        end_empty(&mut self.by_txn, &txn);
+        end_empty_under(&mut self.by_txn, txn);
     }
 
     // Ends the lock under a key unless it is stable.
@@ -224,7 +232,7 @@ impl KeyedLocks {
         }
         let txn = entry.txn;
         self.remove(key);
-        end_empty(&mut self.by_txn, &txn);
+        end_empty_under(&mut self.by_txn, txn);
     }
 
     /// Ends the locks that aren't stable.

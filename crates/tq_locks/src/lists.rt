@@ -1,9 +1,9 @@
 //! Lists of keys, each under a name: an index of a slab.
-ghost use Rattle.std.specs.Prelude.{◌≡◌, ◌-◌, ◌<◌, ◌≤◌, false, length, OnOk, if◌then◌else◌};
+ghost use Rattle.std.specs.Prelude.{◌≡◌, ◌-◌, ◌<◌, ◌≤◌, false, length, vec_len, vec_capacity, IfOk, OnErr, [], ◌∷◌, if◌then◌else◌};
 ghost use Rattle.std.specs.List.{insert, remove, slice_get};
 ghost use Rattle.std.specs.Option.{option_map_or};
 ghost use Rattle.std.specs.BTreeMap.{IsOrdered, is_at};
-ghost use Rattle.tq_locks.specs.Keys.{keys_at, HasRoomAt};
+ghost use Rattle.tq_locks.specs.Keys.{keys_at};
 ghost use Rattle.tq_locks.specs.Kept.{is_under, RisesTo};
 
 use crate::LockEntry;
@@ -20,23 +20,6 @@ pub(crate) fn listed<'a, K: Ord + Copy>(lists: &'a BTreeMap<K, Vec<usize>>, name
         Some(keys) => keys.as_slice(),
         None => &[],
     }
-}
-
-/// Makes room for one more key under a name.
-pub(crate) fn make_room<K: Ord + Copy + Drop>(
-    alloc: Global,
-    lists: &mut BTreeMap<K, Vec<usize>>,
-    name: K,
-) -> Result<(), AllocError>
-    ensures same { (other : K) → keys_at K.cmp lists.new other ≡ keys_at K.cmp lists.old other }
-    ensures room { OnOk result (HasRoomAt K.cmp lists.new name) }
-{
-    if let Some(keys) = lists.get_mut(&name) {
-        return keys.reserve(1);
-    }
-    let keys = Vec::with_capacity(alloc, 1)?;
-    lists.insert(name, keys)?;
-    Ok(())
 }
 
 /// Whether the entry under a key comes before the place of this file and transaction.
@@ -71,27 +54,37 @@ pub(crate) fn place(entries: &Slab<LockEntry>, keys: &[usize], file: &FileName, 
     keys.partition_point(|key| is_below(entries, *key, file, txn))
 }
 
-/// Puts the key of an entry into its place in a name's list, for which there is room, and tells the place.
-pub(crate) fn put<K: Ord + Copy + Drop>(
+/// Puts the key of an entry into its place in a name's list, and tells the place. Without memory all lists stay as they were.
+pub(crate) fn add<K: Ord + Copy + Drop>(
+    alloc: Global,
     lists: &mut BTreeMap<K, Vec<usize>>,
     entries: &Slab<LockEntry>,
-    name: &K,
+    name: K,
     entry: &LockEntry,
     key: usize,
-) -> usize
-    requires { HasRoomAt K.cmp lists.old name.now }
-    ensures place { RisesTo entries.now (keys_at K.cmp lists.old name.now) entry.now.0 result }
-    ensures after { (other : K) → keys_at K.cmp lists.new other ≡ (if is_at (K.cmp name.now) other then insert (keys_at K.cmp lists.old name.now) result key else keys_at K.cmp lists.old other) }
+) -> Result<usize, AllocError>
+    ensures place { IfOk result (λ place. RisesTo entries.now (keys_at K.cmp lists.old name) entry.now.0 place) }
+    ensures after { IfOk result (λ place. (other : K) → keys_at K.cmp lists.new other ≡ (if is_at (K.cmp name) other then insert (keys_at K.cmp lists.old name) place key else keys_at K.cmp lists.old other)) }
+    ensures err { OnErr result ((other : K) → keys_at K.cmp lists.new other ≡ keys_at K.cmp lists.old other) }
 {
-    let Some(keys) = lists.get_mut(name) else {
-        return 0;
-    };
-    let place = place(entries, keys.as_slice(), &entry.file, entry.txn);
-    let _ = keys.insert(place, key);
-    place
+    if let Some(keys) = lists.get_mut(&name) {
+        keys.reserve(1)?;
+        return Ok(enter(keys, entries, entry, key));
+    }
+    lists.insert(name, only(alloc, key)?)?;
+    Ok(0)
 }
 
-/// Takes the key in the place of an entry out of a name's list, and tells the place. The list stays, even with no key.
+/// A list of one key.
+fn only(alloc: Global, key: usize) -> Result<Vec<usize>, AllocError>
+    ensures { IfOk result (λ keys. keys.items ≡ key ∷ []) }
+{
+    let mut keys = Vec::with_capacity(alloc, 1)?;
+    keys.push_reserved(key);
+    Ok(keys)
+}
+
+/// Takes the key in the place of an entry out of a name's list, and tells the place. A list ends with its last key.
 pub(crate) fn take<K: Ord + Copy + Drop>(
     lists: &mut BTreeMap<K, Vec<usize>>,
     entries: &Slab<LockEntry>,
@@ -104,6 +97,34 @@ pub(crate) fn take<K: Ord + Copy + Drop>(
     let Some(keys) = lists.get_mut(name) else {
         return 0;
     };
+    let place = leave(keys, entries, entry);
+    if keys.is_empty() {
+        lists.remove(name);
+    }
+    place
+}
+
+/// Puts the key of an entry into its place in a list that has room, and tells the place.
+pub(crate) fn enter(
+    keys: &mut Vec<usize>,
+    entries: &Slab<LockEntry>,
+    entry: &LockEntry,
+    key: usize,
+) -> usize
+    requires { vec_len keys.old < vec_capacity keys.old }
+    ensures place { RisesTo entries.now keys.old.items entry.now.0 result }
+    ensures after { keys.new.items ≡ insert keys.old.items result key }
+{
+    let place = place(entries, keys.as_slice(), &entry.file, entry.txn);
+    let _ = keys.insert(place, key);
+    place
+}
+
+/// Takes the key in the place of an entry out of a list, and tells the place.
+pub(crate) fn leave(keys: &mut Vec<usize>, entries: &Slab<LockEntry>, entry: &LockEntry) -> usize
+    ensures place { RisesTo entries.now keys.old.items entry.now.0 result }
+    ensures after { keys.new.items ≡ remove keys.old.items result }
+{
     let place = place(entries, keys.as_slice(), &entry.file, entry.txn);
     take_out(keys, place);
     place
@@ -115,14 +136,5 @@ fn take_out(keys: &mut Vec<usize>, place: usize)
 {
     if place < keys.len() {
         keys.remove(place);
-    }
-}
-
-/// Ends a name's list if it has no key.
-pub(crate) fn end_empty<K: Ord + Copy + Drop>(lists: &mut BTreeMap<K, Vec<usize>>, name: &K)
-    ensures { (other : K) → keys_at K.cmp lists.new other ≡ keys_at K.cmp lists.old other }
-{
-    if listed(lists, name).is_empty() {
-        lists.remove(name);
     }
 }

@@ -1,6 +1,5 @@
-use Rattle.std.proofs.Common.{rules}
+use Rattle.std.proofs.Common.{rules, nat_eq}
 use Rattle.std.specs.BTreeMap.{is_at}
-use Rattle.std.specs.Ordering.{nat_cmp}
 use Rattle.tq_store.specs.Copies.{name_cmp}
 use Rattle.tq_locks.specs.declared.keyed.KeyedLocks.{KeyedLocks}
 use Rattle.tq_locks.proofs.Applied.{Agrees-same}
@@ -14,4 +13,4 @@ returns c locks a =
     Agrees-same old copy locks a
     (cloned_slots _ (search rules) old.entries.slots copy.entries.slots c.in_ok-clone.ensures.cases.slots)
     (λ f. cloned_lists _ (search rules) _ (search rules) (is_at (name_cmp f)) old.by_file.entries copy.by_file.entries c.in_ok-clone-2.ensures.cases)
-    (λ t. cloned_lists _ (search rules) _ (search rules) (is_at (nat_cmp t)) old.by_txn.entries copy.by_txn.entries c.in_ok-clone-3.ensures.cases)
+    (λ t. cloned_lists _ (search rules) _ (search rules) (nat_eq t) old.by_txn.entries copy.by_txn.entries c.in_ok-clone-3.ensures.cases)

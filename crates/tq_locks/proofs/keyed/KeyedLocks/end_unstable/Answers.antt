@@ -1,12 +1,11 @@
 use Rattle.std.proofs.Common.{◌≡◌, ℕ, refl, ap, sym, ◌∙◌}
 use Rattle.std.specs.FinMap as fin
-use Rattle.std.specs.Ordering.{nat_cmp}
 use Rattle.slab.specs.Slab.{Slab}
 use Rattle.tq_store.specs.Copies.{name_cmp}
 use Rattle.tq_locks.specs.declared.keyed.KeyedLocks.{KeyedLocks}
 use Rattle.tq_locks.specs.declared.mode.Lock.{Lock}
 use Rattle.tq_locks.specs.Locks.{LockKey, only_stable}
-use Rattle.tq_locks.specs.Keys.{keys_at}
+use Rattle.tq_locks.specs.Keys.{keys_at, keys_under}
 use Rattle.tq_locks.specs.Kept.{locks_in, Agrees}
 use Rattle.tq_locks.proofs.Applied.{Agrees-same}
 use Rattle.tq_locks.proofs.Changed.{agreed_self, locks_in-agreed, only_stable-remove}
@@ -14,20 +13,20 @@ use Rattle.tq_locks.proofs.keyed.KeyedLocks.end_unstable.Goals as goal
 
 -- the entry is taken, and the list of its transaction with its last key
 module _ (old removed new : KeyedLocks) (e : LockKey × Lock) (agreed : Agrees removed (fin.remove (locks_in old) e.0)) (entries : new.entries ≡ removed.entries) (files : new.by_file ≡ removed.by_file)
-    (txns : (t : ℕ) → keys_at nat_cmp new.by_txn t ≡ keys_at nat_cmp removed.by_txn t) where
+    (txns : (t : ℕ) → keys_under new.by_txn t ≡ keys_under removed.by_txn t) where
   pub taken : Agrees new (fin.remove (locks_in old) e.0)
   taken = Agrees-same removed new (fin.remove (locks_in old) e.0) agreed (ap (λ (s : Slab (LockKey × Lock)). s.slots) entries) (λ f. ap (λ lists. keys_at name_cmp lists f) files) txns
 
 pub returns-clause-agreed : goal.returns-clause-agreed
 returns-clause-agreed c =
     let e = c.in-Some.entry.now in
-    let new : KeyedLocks = record { entries = c.remove.new.self.entries; by_file = c.remove.new.self.by_file; by_txn = c.end_empty.new.lists; alloc = c.remove.new.self.alloc } in
-    agreed_self new (fin.remove (locks_in c.args.self.now) e.0) (taken c.args.self.now c.remove.new.self new e (c.remove.ensures.agreed e.0 (e.1, sym c.in-Some.ensures)) refl refl c.end_empty.ensures)
+    let new : KeyedLocks = record { entries = c.remove.new.self.entries; by_file = c.remove.new.self.by_file; by_txn = c.end_empty_under.new.lists; alloc = c.remove.new.self.alloc } in
+    agreed_self new (fin.remove (locks_in c.args.self.now) e.0) (taken c.args.self.now c.remove.new.self new e (c.remove.ensures.agreed e.0 (e.1, sym c.in-Some.ensures)) refl refl c.end_empty_under.ensures)
 
 pub returns-clause-left : goal.returns-clause-left
 returns-clause-left c =
     let e = c.in-Some.entry.now in
     let old = locks_in c.args.self.now in
-    let new : KeyedLocks = record { entries = c.remove.new.self.entries; by_file = c.remove.new.self.by_file; by_txn = c.end_empty.new.lists; alloc = c.remove.new.self.alloc } in
-    ap only_stable (locks_in-agreed new (fin.remove old e.0) (taken c.args.self.now c.remove.new.self new e (c.remove.ensures.agreed e.0 (e.1, sym c.in-Some.ensures)) refl refl c.end_empty.ensures))
+    let new : KeyedLocks = record { entries = c.remove.new.self.entries; by_file = c.remove.new.self.by_file; by_txn = c.end_empty_under.new.lists; alloc = c.remove.new.self.alloc } in
+    ap only_stable (locks_in-agreed new (fin.remove old e.0) (taken c.args.self.now c.remove.new.self new e (c.remove.ensures.agreed e.0 (e.1, sym c.in-Some.ensures)) refl refl c.end_empty_under.ensures))
     ∙ only_stable-remove old e.0 e.1 (c.requires.sound c.args.key e (sym c.in-Some.ensures)) (ap (λ (x : LockKey × Lock). x.1.stable) (sym c.entry-2.view_is) ∙ c.if-stays.false)

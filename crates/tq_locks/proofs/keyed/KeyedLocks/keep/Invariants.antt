@@ -1,8 +1,7 @@
 use Rattle.std.proofs.Common.{◌≡◌, ℕ, ◌<◌, Some, length}
 use Rattle.std.specs.List.{slice_get}
-use Rattle.std.specs.Ordering.{nat_cmp}
 use Rattle.tq_locks.specs.Locks.{kept}
-use Rattle.tq_locks.specs.Keys.{keys_at}
+use Rattle.tq_locks.specs.Keys.{keys_under}
 use Rattle.tq_locks.specs.Kept.{locks_in, Agrees, IsStableAt}
 use Rattle.tq_locks.proofs.keyed.KeyedLocks.keep.Given as goal
 
@@ -11,6 +10,6 @@ abbrev pub invariant-loop-place : goal.invariant-loop-place
 invariant-loop-place l =
     Agrees l.self (locks_in l.self)
     × (kept (locks_in l.self) l.txn ≡ kept (locks_in l.fn.self) l.txn)
-    × (keys_at nat_cmp l.self.by_txn l.txn ≡ keys_at nat_cmp l.fn.self.by_txn l.txn)
-    × (l.place-end ≡ length (keys_at nat_cmp l.fn.self.by_txn l.txn))
-    × ((i k : ℕ) → i < l.place → slice_get (keys_at nat_cmp l.fn.self.by_txn l.txn) i ≡ Some k → IsStableAt l.self.entries k)
+    × (keys_under l.self.by_txn l.txn ≡ keys_under l.fn.self.by_txn l.txn)
+    × (l.place-end ≡ length (keys_under l.fn.self.by_txn l.txn))
+    × ((i k : ℕ) → i < l.place → slice_get (keys_under l.fn.self.by_txn l.txn) i ≡ Some k → IsStableAt l.self.entries k)

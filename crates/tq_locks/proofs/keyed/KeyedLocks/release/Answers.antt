@@ -32,5 +32,5 @@ returns c =
     let old = c.loop-key.self in
     let none : c.keys_of_txn.result.now ≡ [] = no_last c.keys_of_txn.result.now (sym c.last.ensures.value ∙ sym c.in_default.ensures) in
     let held = empty_keys old (locks_in old) c.loop-key.invariant.0 c.args.txn (sym c.keys_of_txn.ensures ∙ none) in
-    let new : KeyedLocks = record { entries = old.entries; by_file = old.by_file; by_txn = c.end_empty.new.lists; alloc = old.alloc } in
-    Agrees-same old new (released (locks_in c.args.self.now) c.args.txn) (subst (Agrees old) (sym (released-none (locks_in old) c.args.txn held) ∙ c.loop-key.invariant.1) c.loop-key.invariant.0) refl (λ f. refl) c.end_empty.ensures
+    let new : KeyedLocks = record { entries = old.entries; by_file = old.by_file; by_txn = c.end_empty_under.new.lists; alloc = old.alloc } in
+    Agrees-same old new (released (locks_in c.args.self.now) c.args.txn) (subst (Agrees old) (sym (released-none (locks_in old) c.args.txn held) ∙ c.loop-key.invariant.1) c.loop-key.invariant.0) refl (λ f. refl) c.end_empty_under.ensures

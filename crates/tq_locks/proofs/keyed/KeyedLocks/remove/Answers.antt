@@ -11,9 +11,9 @@ use Rattle.tq_locks.proofs.keyed.KeyedLocks.remove.Goals as goal
 pub returns-clause-agreed : goal.returns-clause-agreed
 returns-clause-agreed c name is =
     let old = c.args.self.now in
-    let new : KeyedLocks = record { entries = c.try_remove.new.self; by_file = c.end_empty.new.lists; by_txn = c.take-2.new.lists; alloc = old.alloc } in
+    let new : KeyedLocks = record { entries = c.try_remove.new.self; by_file = c.take.new.lists; by_txn = c.take_under.new.lists; alloc = old.alloc } in
     let same : c.in-Some.entry ≡ (name, is.0) = some_same c.in-Some.entry (name, is.0) (c.in-Some.ensures ∙ c.get.ensures ∙ is.1) in
     let e = c.in-Some.entry in
     subst (λ (q : LockKey). Agrees new (fin.remove (locks_in old) q)) (ap (λ (x : LockKey × Lock). x.0) same)
     (Agrees-left old new (locks_in old) c.requires e c.entry.inside.file c.entry.inside.txn (ap (λ (x : LockKey × Lock). x.0.0) c.entry.view_is) (ap (λ (x : LockKey × Lock). x.0.1) c.entry.view_is)
-    c.take.result c.take-2.result c.args.key c.take.ensures.place c.take-2.ensures.place (is.1 ∙ ap Some (sym same)) c.try_remove.ensures.updates (λ f. c.end_empty.ensures f ∙ c.take.ensures.after f) c.take-2.ensures.after)
+    c.take.result c.take_under.result c.args.key c.take.ensures.place c.take_under.ensures.place (is.1 ∙ ap Some (sym same)) c.try_remove.ensures.updates c.take.ensures.after c.take_under.ensures.after)
