@@ -97,7 +97,8 @@ pub fn is_ended(entry: &DeskEntry, txn: u64, verdict: &Verdict) -> bool
     }
 }
 
-fn is_same_verdict(one: &Verdict, other: &Verdict) -> bool
+/// Whether the two verdicts are the same: both aborts, or commits of the same votes in the same order.
+pub fn is_same_verdict(one: &Verdict, other: &Verdict) -> bool
     ensures { result ≡ spec.same_verdict one.now other.now }
 {
     match one {

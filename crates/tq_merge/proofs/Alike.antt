@@ -1,7 +1,7 @@
 -- Replies that pass the test of being the same are the same, and the other way round.
-use Rattle.std.proofs.Common.{◌≡◌, ◌==◌, ◌&&◌, ℕ, Bool, true, List, [], ◌∷◌, refl, sym, ap, ◌∙◌}
-use Rattle.std.specs.Cmp.Lexicographic.{pointwise, same_text}
-use Rattle.std.proofs.lemmas.Bool.{and_parts, eqb-true, eq-eqb, false≢true}
+use Rattle.std.proofs.Common.{◌≡◌, ◌==◌, ◌&&◌, Bool, true, List, [], ◌∷◌, refl, sym, ap, ◌∙◌}
+use Rattle.std.specs.Cmp.Lexicographic.{pointwise}
+use Rattle.std.proofs.lemmas.Bool.{and_parts, and_from, eqb-true, eq-eqb, false≢true}
 use Rattle.tq_store.specs.declared.write.Write.{Write}
 use Rattle.tq_locks.specs.declared.mode.Mode.{Mode}
 use Rattle.tq_locks.specs.declared.mode.Mode.TheVariants.{Shared, Exclusive}
@@ -18,18 +18,9 @@ use Rattle.tq_desk.specs.declared.ask.DeskRefusal.TheVariants as desk_reasons
 use Rattle.tq_desk.specs.declared.ask.DeskReply.{DeskReply}
 use Rattle.tq_desk.specs.declared.ask.DeskReply.TheVariants as desk_replies
 use Rattle.tq_store.specs.Names.{same_name}
+use Rattle.tq_store.proofs.SameName.{same_name-is, same_name-refl}
 use Rattle.tq_world.specs.Founded.{same_mode, same_lock, same_write, same_vote, same_verdict}
 use Rattle.tq_merge.specs.Same.{same_reason, same_reply, same_desk_reason, same_desk_reply}
-
-both : (a b : Bool) → a ≡ true → b ≡ true → (a && b) ≡ true
-both a b p q = ap (λ x. x && b) p ∙ q
-
-name-is : (a b : List ℕ) → same_name a b ≡ true → a ≡ b
-name-is a b same = same_text a b (sym same)
-
-name-self : (a : List ℕ) → same_name a a ≡ true
-name-self [] = refl
-name-self (x ∷ a) = both (x == x) (same_name a a) (eq-eqb x x refl) (name-self a)
 
 mode-is : (a b : Mode) → same_mode a b ≡ true → a ≡ b
 mode-is Shared Shared same = refl
@@ -51,31 +42,31 @@ list-is test same (x ∷ xs) (y ∷ ys) is =
 
 list-self : {A : Type 0} (test : A → A → Bool) → ((a : A) → test a a ≡ true) → (xs : List A) → pointwise test xs xs ≡ true
 list-self test self [] = refl
-list-self test self (x ∷ xs) = both (test x x) (pointwise test xs xs) (self x) (list-self test self xs)
+list-self test self (x ∷ xs) = and_from (test x x) (pointwise test xs xs) (self x) (list-self test self xs)
 
 lock-is : (a b : HeldLock) → same_lock a b ≡ true → a ≡ b
 lock-is a b same =
     let rest = and_parts (same_name a.file b.file && same_mode a.mode b.mode) (a.since == b.since) same in
     let first = and_parts (same_name a.file b.file) (same_mode a.mode b.mode) rest.0 in
-    let file = name-is a.file b.file first.0 in
+    let file = same_name-is a.file b.file first.0 in
     let mode = mode-is a.mode b.mode first.1 in
     let since = eqb-true a.since b.since rest.1 in
     λ i. record { file = file i; mode = mode i; since = since i }
 
 lock-self : (a : HeldLock) → same_lock a a ≡ true
-lock-self a = both (same_name a.file a.file && same_mode a.mode a.mode) (a.since == a.since) (both (same_name a.file a.file) (same_mode a.mode a.mode) (name-self a.file) (mode-self a.mode)) (eq-eqb a.since a.since refl)
+lock-self a = and_from (same_name a.file a.file && same_mode a.mode a.mode) (a.since == a.since) (and_from (same_name a.file a.file) (same_mode a.mode a.mode) (same_name-refl a.file) (mode-self a.mode)) (eq-eqb a.since a.since refl)
 
 write-is : (a b : Write) → same_write a b ≡ true → a ≡ b
 write-is a b same =
     let rest = and_parts (same_name a.file b.file && a.version == b.version) (same_name a.content b.content) same in
     let first = and_parts (same_name a.file b.file) (a.version == b.version) rest.0 in
-    let file = name-is a.file b.file first.0 in
+    let file = same_name-is a.file b.file first.0 in
     let version = eqb-true a.version b.version first.1 in
-    let content = name-is a.content b.content rest.1 in
+    let content = same_name-is a.content b.content rest.1 in
     λ i. record { file = file i; version = version i; content = content i }
 
 write-self : (a : Write) → same_write a a ≡ true
-write-self a = both (same_name a.file a.file && a.version == a.version) (same_name a.content a.content) (both (same_name a.file a.file) (a.version == a.version) (name-self a.file) (eq-eqb a.version a.version refl)) (name-self a.content)
+write-self a = and_from (same_name a.file a.file && a.version == a.version) (same_name a.content a.content) (and_from (same_name a.file a.file) (a.version == a.version) (same_name-refl a.file) (eq-eqb a.version a.version refl)) (same_name-refl a.content)
 
 vote-is : (a b : CitedVote) → same_vote a b ≡ true → a ≡ b
 vote-is a b same =
@@ -85,7 +76,7 @@ vote-is a b same =
     λ i. record { server = server i; number = number i }
 
 vote-self : (a : CitedVote) → same_vote a a ≡ true
-vote-self a = both (a.server == a.server) (a.number == a.number) (eq-eqb a.server a.server refl) (eq-eqb a.number a.number refl)
+vote-self a = and_from (a.server == a.server) (a.number == a.number) (eq-eqb a.server a.server refl) (eq-eqb a.number a.number refl)
 
 verdict-is : (a b : Verdict) → same_verdict a b ≡ true → a ≡ b
 verdict-is verdicts.Abort verdicts.Abort same = refl
@@ -105,7 +96,7 @@ reason-is reasons.AlreadyUp reasons.AlreadyUp same = refl
 reason-is reasons.AlreadyDown reasons.AlreadyDown same = refl
 reason-is (reasons.Held a) (reasons.Held b) same = ap (λ n. reasons.Held n) (eqb-true a b same)
 reason-is reasons.Prepared reasons.Prepared same = refl
-reason-is (reasons.NotLocked a) (reasons.NotLocked b) same = ap (λ n. reasons.NotLocked n) (name-is a b same)
+reason-is (reasons.NotLocked a) (reasons.NotLocked b) same = ap (λ n. reasons.NotLocked n) (same_name-is a b same)
 reason-is reasons.BadWrites reasons.BadWrites same = refl
 reason-is reasons.NotNewer reasons.NotNewer same = refl
 reason-is reasons.NothingHere reasons.NothingHere same = refl
@@ -113,7 +104,7 @@ reason-is a b same = absurd (false≢true same)
 
 reason-self : (a : NodeRefusal) → same_reason a a ≡ true
 reason-self (reasons.Held a) = eq-eqb a a refl
-reason-self (reasons.NotLocked a) = name-self a
+reason-self (reasons.NotLocked a) = same_name-refl a
 reason-self reasons.Down = refl
 reason-self reasons.AlreadyUp = refl
 reason-self reasons.AlreadyDown = refl
@@ -126,7 +117,7 @@ pub reply-is : (a b : NodeReply) → same_reply a b ≡ true → a ≡ b
 reply-is (replies.Granted v c) (replies.Granted w d) same =
     let parts = and_parts (v == w) (same_name c d) same in
     let version = eqb-true v w parts.0 in
-    let content = name-is c d parts.1 in
+    let content = same_name-is c d parts.1 in
     λ i. replies.Granted (version i) (content i)
 reply-is (replies.Yes a b) (replies.Yes c d) same =
     let parts = and_parts (pointwise same_lock a c) (pointwise same_write b d) same in
@@ -139,7 +130,7 @@ reply-is replies.Released replies.Released same = refl
 reply-is (replies.Copy v c) (replies.Copy w d) same =
     let parts = and_parts (v == w) (same_name c d) same in
     let version = eqb-true v w parts.0 in
-    let content = name-is c d parts.1 in
+    let content = same_name-is c d parts.1 in
     λ i. replies.Copy (version i) (content i)
 reply-is replies.Refreshed replies.Refreshed same = refl
 reply-is replies.Crashed replies.Crashed same = refl
@@ -148,9 +139,9 @@ reply-is (replies.Refused a) (replies.Refused b) same = ap (λ r. replies.Refuse
 reply-is a b same = absurd (false≢true same)
 
 reply-self : (a : NodeReply) → same_reply a a ≡ true
-reply-self (replies.Granted v c) = both (v == v) (same_name c c) (eq-eqb v v refl) (name-self c)
-reply-self (replies.Yes a b) = both (pointwise same_lock a a) (pointwise same_write b b) (list-self same_lock lock-self a) (list-self same_write write-self b)
-reply-self (replies.Copy v c) = both (v == v) (same_name c c) (eq-eqb v v refl) (name-self c)
+reply-self (replies.Granted v c) = and_from (v == v) (same_name c c) (eq-eqb v v refl) (same_name-refl c)
+reply-self (replies.Yes a b) = and_from (pointwise same_lock a a) (pointwise same_write b b) (list-self same_lock lock-self a) (list-self same_write write-self b)
+reply-self (replies.Copy v c) = and_from (v == v) (same_name c c) (eq-eqb v v refl) (same_name-refl c)
 reply-self (replies.Refused a) = reason-self a
 reply-self replies.Installed = refl
 reply-self replies.Discarded = refl

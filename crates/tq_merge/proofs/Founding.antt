@@ -7,6 +7,7 @@ use Rattle.std.proofs.lemmas.Bool.{cond-false}
 use Rattle.tq_shape.specs.Journal.{Has}
 use Rattle.tq_shape.specs.declared.part.Part.{Part}
 use Rattle.tq_shape.specs.declared.part.Part.TheVariants as parts
+use Rattle.tq_shape.proofs.Options.{map-none, or_else-none}
 use Rattle.tq_shape.proofs.Places.{none-Has, append-Has, map-Has, Has-append, Has-map}
 use Rattle.tq_node.specs.declared.ask.NodeAsk.TheVariants as node_asks
 use Rattle.tq_node.specs.declared.ask.WorkAsk.{WorkAsk}
@@ -60,16 +61,8 @@ unless_true : (founded : Bool) (citation : Citation) → unless founded citation
 unless_true true citation none = refl
 unless_true false citation none = absurd (let some : Path (Option Citation) (Some citation) None = none in cc)
 
-map_none : {A B : Type 0} (f : A → B) (o : Option A) → option_map f o ≡ None → o ≡ None
-map_none f None none = refl
-map_none {A} {B} f (Some x) none = absurd (let some : Path (Option B) (Some (f x)) None = none in cc)
-
-first_none : (a b : Option Citation) → or_else a b ≡ None → (a ≡ None) × (b ≡ None)
-first_none None b none = (refl, none)
-first_none (Some citation) b none = absurd (let some : Path (Option Citation) (Some citation) None = none in cc)
-
 both_none : (a b : Option Citation) → a ≡ None → b ≡ None → or_else a b ≡ None
-both_none a b a_none b_none = ap (λ o. or_else o b) a_none ∙ b_none
+both_none a b left right = ap (λ o. or_else o b) left ∙ right
 
 all_founded : {A : Type 0} (founded : A → Bool) (xs : List A) → find (λ x. not (founded x)) xs ≡ None → (x : A) → Has xs x → founded x ≡ true
 all_founded founded xs none x has = by (founded x) (none-Has (λ y. not (founded y)) xs none x has)
@@ -96,7 +89,7 @@ module _ (world other : JournalsView) where
   grants_stay : (txn : ℕ) (file : List ℕ) (grants : List Grant) → ((c : Citation) → Has (map cited_grant grants) c → Stays world other c)
       → unfounded_grant world txn file grants ≡ None → unfounded_grant other txn file grants ≡ None
   grants_stay txn file grants stay none =
-      let clean = map_none cited_grant (find (λ (g : Grant). not (is_founded_grant world txn file g)) grants) none in
+      let clean = map-none cited_grant (find (λ (g : Grant). not (is_founded_grant world txn file g)) grants) none in
       ap (option_map cited_grant)
       (none_found (is_founded_grant other txn file) grants
       (λ g has. grant_stays txn file g (stay (cited_grant g) (map-Has cited_grant grants g has)) (all_founded (is_founded_grant world txn file) grants clean g has)))
@@ -104,14 +97,14 @@ module _ (world other : JournalsView) where
   ops_stay : (txn : ℕ) (ops : List Op) → ((c : Citation) → Has (cited_in_ops ops) c → Stays world other c) → unfounded_op world txn ops ≡ None → unfounded_op other txn ops ≡ None
   ops_stay txn [] stay none = refl
   ops_stay txn (op ∷ ops) stay none =
-      let both = first_none (unfounded_grant world txn op.file op.grants) (unfounded_op world txn ops) none in
+      let both = or_else-none (unfounded_grant world txn op.file op.grants) (unfounded_op world txn ops) none in
       both_none (unfounded_grant other txn op.file op.grants) (unfounded_op other txn ops)
       (grants_stay txn op.file op.grants (λ c has. stay c (append-Has (map cited_grant op.grants) (cited_in_ops ops) c (inl has))) both.0)
       (ops_stay txn ops (λ c has. stay c (append-Has (map cited_grant op.grants) (cited_in_ops ops) c (inr has))) both.1)
 
   votes_stay : (txn : ℕ) (votes : List Vote) → ((c : Citation) → Has (map cited_vote votes) c → Stays world other c) → unfounded_vote world txn votes ≡ None → unfounded_vote other txn votes ≡ None
   votes_stay txn votes stay none =
-      let clean = map_none cited_vote (find (λ (v : Vote). not (is_founded_vote world txn v)) votes) none in
+      let clean = map-none cited_vote (find (λ (v : Vote). not (is_founded_vote world txn v)) votes) none in
       ap (option_map cited_vote)
       (none_found (is_founded_vote other txn) votes
       (λ v has. vote_stays txn v (stay (cited_vote v) (map-Has cited_vote votes v has)) (all_founded (is_founded_vote world txn) votes clean v has)))
@@ -135,7 +128,7 @@ module _ (world other : JournalsView) where
   founded_stays (steps.Node server node_asks.Crash) stay none = refl
   founded_stays (steps.Node server node_asks.Return) stay none = refl
   founded_stays (steps.Desk (desk_asks.Commit txn ops votes)) stay none =
-      let both = first_none (unfounded_op world txn ops) (unfounded_vote world txn votes) none in
+      let both = or_else-none (unfounded_op world txn ops) (unfounded_vote world txn votes) none in
       both_none (unfounded_op other txn ops) (unfounded_vote other txn votes)
       (ops_stay txn ops (λ c has. stay c (append-Has (cited_in_ops ops) (map cited_vote votes) c (inl has))) both.0)
       (votes_stay txn votes (λ c has. stay c (append-Has (cited_in_ops ops) (map cited_vote votes) c (inr has))) both.1)
@@ -148,7 +141,7 @@ module _ (world other : JournalsView) where
 module _ (world : JournalsView) where
   grants_stand : (txn : ℕ) (file : List ℕ) (grants : List Grant) → unfounded_grant world txn file grants ≡ None → (c : Citation) → Has (map cited_grant grants) c → Stands world c
   grants_stand txn file grants none c has =
-      let clean = map_none cited_grant (find (λ (g : Grant). not (is_founded_grant world txn file g)) grants) none in
+      let clean = map-none cited_grant (find (λ (g : Grant). not (is_founded_grant world txn file g)) grants) none in
       let from = Has-map cited_grant grants c has in
       let g = from.0 in
       let found = tested-is (λ (e : NodeEntry). is_granted txn file g e.ask e.reply) (server_entry world g.server g.number) (all_founded (is_founded_grant world txn file) grants clean g from.1) in
@@ -157,7 +150,7 @@ module _ (world : JournalsView) where
   ops_stand : (txn : ℕ) (ops : List Op) → unfounded_op world txn ops ≡ None → (c : Citation) → Has (cited_in_ops ops) c → Stands world c
   ops_stand txn [] none c has = absurd has
   ops_stand txn (op ∷ ops) none c has =
-      let both = first_none (unfounded_grant world txn op.file op.grants) (unfounded_op world txn ops) none in
+      let both = or_else-none (unfounded_grant world txn op.file op.grants) (unfounded_op world txn ops) none in
       elim (Has-append (map cited_grant op.grants) (cited_in_ops ops) c has) [
         | inl here ↦ grants_stand txn op.file op.grants both.0 c here
         | inr there ↦ ops_stand txn ops both.1 c there
@@ -165,7 +158,7 @@ module _ (world : JournalsView) where
 
   votes_stand : (txn : ℕ) (votes : List Vote) → unfounded_vote world txn votes ≡ None → (c : Citation) → Has (map cited_vote votes) c → Stands world c
   votes_stand txn votes none c has =
-      let clean = map_none cited_vote (find (λ (v : Vote). not (is_founded_vote world txn v)) votes) none in
+      let clean = map-none cited_vote (find (λ (v : Vote). not (is_founded_vote world txn v)) votes) none in
       let from = Has-map cited_vote votes c has in
       let v = from.0 in
       let found = tested-is (λ (e : NodeEntry). is_voted txn v e.ask e.reply) (server_entry world v.server v.number) (all_founded (is_founded_vote world txn) votes clean v from.1) in
@@ -190,7 +183,7 @@ module _ (world : JournalsView) where
   cited_stands (steps.Node server node_asks.Crash) none c has = absurd has
   cited_stands (steps.Node server node_asks.Return) none c has = absurd has
   cited_stands (steps.Desk (desk_asks.Commit txn ops votes)) none c has =
-      let both = first_none (unfounded_op world txn ops) (unfounded_vote world txn votes) none in
+      let both = or_else-none (unfounded_op world txn ops) (unfounded_vote world txn votes) none in
       elim (Has-append (cited_in_ops ops) (map cited_vote votes) c has) [
         | inl here ↦ ops_stand txn ops both.0 c here
         | inr there ↦ votes_stand txn votes both.1 c there

@@ -13,10 +13,11 @@ use Rattle.tq_world.specs.declared.answer.Step.{Step}
 use Rattle.tq_world.specs.declared.answer.Step.TheVariants as steps
 use Rattle.tq_world.specs.World.{item_at, server_entry}
 use Rattle.tq_merge.specs.declared.counts.Counts.{Counts}
-use Rattle.tq_merge.specs.Order.{same_part, times, entries_of, counts_of, step_at, IsNext, ArePlaced, Explains, IsStuck}
+use Rattle.tq_merge.specs.Order.{same_part, times, entries_of, counts_of, step_at, IsNext, ArePlaced, IsStuck}
 use Rattle.tq_merge.proofs.Places.{same_part-is, same_part-refl, times-same, times-other}
 use Rattle.tq_merge.proofs.Founding.{founded_more}
-use Rattle.tq_merge.proofs.Runs.{mapped, chained, is_entry}
+use Rattle.tq_node.proofs.KeptLocks.{map-some}
+use Rattle.tq_merge.proofs.Runs.{chained, is_entry}
 
 cases_le : (a b : ℕ) → a ≤ b → (a < b) ⊎ (a ≡ b)
 cases_le a b le = by (nat_lt a b) refl
@@ -70,16 +71,16 @@ module _ (journals : JournalsView) where
 
   step_within : (part : Part) (count : ℕ) (step : Step) → step_at journals part (suc count) ≡ Some step → suc count ≤ entries_of journals part
   step_within (parts.Server server) count step is =
-      let made = mapped (λ (e : NodeEntry). steps.Node server e.ask) (server_entry journals server (suc count)) step is in
+      let made = map-some (λ (e : NodeEntry). steps.Node server e.ask) (server_entry journals server (suc count)) step is in
       let found = chained (λ (es : List NodeEntry). item_at es (suc count)) (item_at journals.servers server) made.0 made.1 in
       let less = (is_entry found.0 count made.0 found.2).less in
       let journal : entries_of journals (parts.Server server) ≡ length found.0 = ap (λ (o : Option (List NodeEntry)). length (unwrap_or o [])) found.1 in
       omega arith
   step_within parts.Desk count step is =
-      let made = mapped (λ (e : DeskEntry). steps.Desk e.ask) (item_at journals.desk (suc count)) step is in
+      let made = map-some (λ (e : DeskEntry). steps.Desk e.ask) (item_at journals.desk (suc count)) step is in
       let less = (is_entry journals.desk count made.0 made.1).less in omega arith
   step_within parts.View count step is =
-      let made = mapped (λ (e : ViewEntry). steps.View e.ask) (item_at journals.view (suc count)) step is in
+      let made = map-some (λ (e : ViewEntry). steps.View e.ask) (item_at journals.view (suc count)) step is in
       let less = (is_entry journals.view count made.0 made.1).less in omega arith
 
   within_from : (before order : List Part) → ((q : Part) → times before q ≤ entries_of journals q) → ArePlaced journals before order → (q : Part) → times (before ++ order) q ≤ entries_of journals q
@@ -97,9 +98,6 @@ module _ (journals : JournalsView) where
   within order done q = within_from [] order (λ r. omega arith) done q
 
   -- ---- order or none
-
-  pub explained : (order : List Part) → AreLegal journals → ArePlaced journals [] order → ((part : Part) → times order part ≡ entries_of journals part) → Explains journals order
-  explained order legal done all = record { legal = legal; all = all; founded = done }
 
   -- some part has an entry that isn't placed, and no part is next
   pub stuck : (order : List Part) (counts : Counts) → AreLegal journals → ArePlaced journals [] order → counts ≡ counts_of journals (times order) → ((p : Part) → IsNext journals order p → ⊥)

@@ -1,8 +1,8 @@
 -- Replaying a journal: it is legal so far, or the first entry that isn't is found.
-use Rattle.std.specs.Prelude.{slice_get}
-use Rattle.std.proofs.Common.{◌≡◌, ◌<◌, ◌+◌, ◌-◌, ℕ, zero, suc, List, [], ◌∷◌, ◌++◌, length, map, take, reverse, get_or, Option, Some, None, refl, sym, ap, subst, ◌∙◌, arith, length-take-le}
-use Rattle.std.proofs.lemmas.Option.{slice_get_read}
-use Rattle.std.proofs.lemmas.List.{length-map, map-append}
+use Rattle.std.proofs.Common.{◌≡◌, ◌<◌, ◌+◌, ◌-◌, ℕ, suc, List, [], ◌∷◌, ◌++◌, length, map, take, reverse, get_or, Some, refl, sym, ap, subst, ◌∙◌, arith, length-take-le}
+use Rattle.std.specs.Option.{option_map}
+use Rattle.std.proofs.lemmas.Option.{slice_get_read, slice_get-map}
+use Rattle.std.proofs.lemmas.List.{length-map, map-append, take-map}
 use Rattle.tq_shape.specs.Journal.{state_from, IsLegalFrom}
 use Rattle.tq_shape.specs.declared.entry.Entry.{Entry}
 use Rattle.tq_shape.proofs.Joined.{legal-push, legal-reverse}
@@ -104,17 +104,6 @@ legal_server-push first [] entries legal here = (subst (λ (n : ℕ). IsLegalNod
 legal_server-push first (x ∷ servers) entries legal here =
     (legal.0, legal_server-push (first + 1) servers entries legal.1 (subst (λ (n : ℕ). IsLegalNode n (reverse entries)) (omega arith) here))
 
-take_mapped : {A B : Type 0} (f : A → B) (xs : List A) (n : ℕ) → map f (take n xs) ≡ take n (map f xs)
-take_mapped f [] zero = refl
-take_mapped f [] (suc n) = refl
-take_mapped f (x ∷ xs) zero = refl
-take_mapped f (x ∷ xs) (suc n) = ap (λ rest. f x ∷ rest) (take_mapped f xs n)
-
-pub get_mapped : {A B : Type 0} (f : A → B) (xs : List A) (n : ℕ) (x : A) → slice_get xs n ≡ Some x → slice_get (map f xs) n ≡ Some (f x)
-get_mapped {A} f [] n x is = absurd (let none : Path (Option A) None (Some x) = is in cc)
-get_mapped {A} f (y ∷ xs) zero x is = let some : Path (Option A) (Some y) (Some x) = is in let e : y ≡ x = cc in ap (λ z. Some (f z)) e
-get_mapped f (y ∷ xs) (suc n) x is = get_mapped f xs n x is
-
 module _ {V : Type 0} (items : V → List NodeEntry) (servers : List V) (i : ℕ) (v : V) (less : i < length servers) (is : v ≡ get_or servers i v) (legal : AreLegalServers 1 (map items (take i servers)))
     (number : ℕ) (at : number ≡ i + 1) where
   pub servers_legal : IsLegalServer number (items v) → AreLegalServers 1 (map items (take (i + 1) servers))
@@ -129,6 +118,6 @@ module _ {V : Type 0} (items : V → List NodeEntry) (servers : List V) (i : ℕ
   servers_wrong wrong found =
       let before : number - 1 ≡ i = omega (arith, at) in
       let place : number ≡ suc i = omega (arith, at) in (
-        subst (λ (n : ℕ). AreLegalServers 1 (take n (map items servers))) (sym before) (subst (AreLegalServers 1) (take_mapped items servers i) legal),
-        (items v, ap (item_at (map items servers)) place ∙ item_at-suc (map items servers) i ∙ get_mapped items servers i v (slice_get_read servers (length servers) i v refl less is), found),
+        subst (λ (n : ℕ). AreLegalServers 1 (take n (map items servers))) (sym before) (subst (AreLegalServers 1) (sym (take-map items i servers)) legal),
+        (items v, ap (item_at (map items servers)) place ∙ item_at-suc (map items servers) i ∙ slice_get-map items servers i ∙ ap (option_map items) (slice_get_read servers (length servers) i v refl less is), found),
       )

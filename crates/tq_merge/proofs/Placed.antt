@@ -1,8 +1,9 @@
 -- Entries placed one after another: what is kept stays true.
 use Rattle.std.specs.Prelude.{slice_get, slice_set, is_none}
-use Rattle.std.proofs.Common.{◌≡◌, ◌≢◌, ◌≤◌, ◌+◌, ◌-◌, ◌&&◌, ℕ, zero, suc, Bool, true, false, List, [], ◌∷◌, ◌++◌, length, take, Option, Some, None, refl, sym, ap, subst, ◌∙◌, nat_le, ◌⊎◌, inl, inr, arith}
+use Rattle.std.proofs.Common.{◌≡◌, ◌≢◌, ◌≤◌, ◌+◌, ◌-◌, ℕ, zero, suc, Bool, true, false, List, [], ◌∷◌, ◌++◌, length, take, Option, Some, None, refl, sym, ap, subst, ◌∙◌, nat_le, ◌⊎◌, inl, inr, arith}
 use Rattle.std.specs.Option.{option_map, option_map_or, option_and_then}
-use Rattle.std.proofs.lemmas.Bool.{false≢true, and_parts}
+use Rattle.std.proofs.lemmas.Bool.{false≢true, and_parts, and_from, leb-true}
+use Rattle.tq_tables.proofs.RowLaws.{le-true}
 use Rattle.tq_shape.specs.Journal.{Has}
 use Rattle.tq_shape.specs.declared.part.Part.{Part}
 use Rattle.tq_shape.specs.declared.part.Part.TheVariants as parts
@@ -23,28 +24,18 @@ use Rattle.tq_world.specs.Founded.{unfounded_in_node_ask, unfounded_in_desk_ask}
 use Rattle.tq_merge.specs.Cited.{cited_in, cited_in_work, cited_in_node_ask, entry_cited}
 use Rattle.tq_merge.specs.Order.{times, each_from, counts_of, placed, step_at, unfounded, IsNext}
 use Rattle.tq_merge.specs.Placing.{is_placed, is_placed_in_work, is_placed_in_node_ask, is_ready, IsWanted, IsNextWanted, IsPlacing, added, left}
-use Rattle.tq_merge.proofs.Places.{times-more, times-same, times-other, item_at-suc, item_above, item_each, each_set, each_after, each_same, take_none}
+use Rattle.tq_merge.proofs.Places.{times-more, times-same, times-other, item_at-suc, item_each, each_set, each_after, each_same, take_none, take_past}
+use Rattle.tq_world.proofs.Rooms.{item_above}
 use Rattle.tq_merge.proofs.Founding.{cited_stands, entry_of_firsts, founded_whole, founded_cites, founded_firsts}
-use Rattle.tq_merge.proofs.Runs.{mapped, chained, is_entry}
+use Rattle.tq_node.proofs.KeptLocks.{map-some}
+use Rattle.tq_merge.proofs.Runs.{chained, is_entry}
 use Rattle.tq_merge.proofs.Greedy.{placed-more}
 
 -- ---- tests of numbers
 
-le_true : (a b : ℕ) → a ≤ b → nat_le a b ≡ true
-le_true a b less = grind (arith, less)
-
-true_le : (a b : ℕ) → nat_le a b ≡ true → a ≤ b
-true_le a b is = grind (arith, is)
-
 none_true : {A : Type 0} (o : Option A) → is_none o ≡ true → o ≡ None
 none_true None is = refl
 none_true (Some x) is = absurd (false≢true is)
-
-true_none : {A : Type 0} (o : Option A) → o ≡ None → is_none o ≡ true
-true_none o none = ap is_none none
-
-both : (a b : Bool) → a ≡ true → b ≡ true → (a && b) ≡ true
-both a b p q = ap (λ x. x && b) p ∙ q
 
 times_grow : (order : List Part) (part q : Part) → times order q ≤ times (order ++ part ∷ []) q
 times_grow order part q = let more = times-more order part q in omega (arith, more)
@@ -60,13 +51,13 @@ module _ (journals : JournalsView) (order : List Part) (servers : List ℕ) (cou
     where
       by : (o : Option (List NodeEntry)) → option_map_or (λ count. nat_le entry.number count) (option_map (λ (es : List NodeEntry). times order (parts.Server entry.server)) o) false ≡ true → entry.number ≤ times order (parts.Server entry.server)
       by None fails = absurd (false≢true fails)
-      by (Some es) holds = true_le entry.number (times order (parts.Server entry.server)) holds
+      by (Some es) holds = leb-true entry.number (times order (parts.Server entry.server)) holds
 
   pub number_placed : (entry : CitedVote) (es : List NodeEntry) → item_at journals.servers entry.server ≡ Some es → entry.number ≤ times order (parts.Server entry.server) → is_placed servers entry ≡ true
   number_placed entry es there most =
       ap (λ (o : Option ℕ). option_map_or (λ count. nat_le entry.number count) o false)
       (count_at entry.server ∙ ap (option_map (λ (es : List NodeEntry). times order (parts.Server entry.server))) there)
-      ∙ le_true entry.number (times order (parts.Server entry.server)) most
+      ∙ le-true entry.number (times order (parts.Server entry.server)) most
 
   -- an entry of a server that is cited by what is founded is placed
   pub cited_placed : (step : Step) → unfounded (placed journals order) step ≡ None → (entry : CitedVote) → Has (cited_in step) (entry_cited entry) → is_placed servers entry ≡ true
@@ -80,7 +71,7 @@ module _ (journals : JournalsView) (order : List Part) (servers : List ℕ) (cou
 
   work_numbers : (desk : ℕ) → desk ≡ times order parts.Desk → (ask : WorkAsk) → is_placed_in_work servers desk ask ≡ true → (c : Citation) → Has (cited_in_work ask) c → c.number ≤ times order c.part
   work_numbers desk is (work.Decide txn verdict cite) ready c (inl same) =
-      subst (λ (x : Citation). x.number ≤ times order x.part) same (let most = true_le cite desk ready in omega (arith, most, is))
+      subst (λ (x : Citation). x.number ≤ times order x.part) same (let most = leb-true cite desk ready in omega (arith, most, is))
   work_numbers desk is (work.Decide txn verdict cite) ready c (inr none) = absurd none
   work_numbers desk is (work.Refresh file version content from) ready c (inl same) = subst (λ (x : Citation). x.number ≤ times order x.part) same (placed_number from ready)
   work_numbers desk is (work.Refresh file version content from) ready c (inr none) = absurd none
@@ -102,7 +93,7 @@ module _ (journals : JournalsView) (order : List Part) (servers : List ℕ) (cou
   work_placed : (desk : ℕ) → desk ≡ times order parts.Desk → (server : ℕ) (ask : WorkAsk) → unfounded (placed journals order) (steps.Node server (node_asks.Work ask)) ≡ None → is_placed_in_work servers desk ask ≡ true
   work_placed desk is server (work.Decide txn verdict cite) none =
       let most = founded_cites journals (times order) (steps.Node server (node_asks.Work (work.Decide txn verdict cite))) none (record { part = parts.Desk; number = cite }) (inl refl) in
-      le_true cite desk (omega (arith, most, is))
+      le-true cite desk (omega (arith, most, is))
   work_placed desk is server (work.Refresh file version content from) none = cited_placed (steps.Node server (node_asks.Work (work.Refresh file version content from))) none from (inl refl)
   work_placed desk is server (work.Lock txn file mode) none = refl
   work_placed desk is server (work.Prepare txn writes) none = refl
@@ -116,8 +107,8 @@ module _ (journals : JournalsView) (order : List Part) (servers : List ℕ) (cou
 
   pub founded_ready : (desk : ℕ) → desk ≡ times order parts.Desk → (server : ℕ) (ask : NodeAsk) → unfounded (placed journals order) (steps.Node server ask) ≡ None → is_ready journals servers desk ask ≡ true
   founded_ready desk is server ask none =
-      both (is_placed_in_node_ask servers desk ask) (is_none (unfounded_in_node_ask journals ask))
-      (node_placed desk is server ask none) (true_none (unfounded_in_node_ask journals ask) (founded_whole journals (times order) (steps.Node server ask) none))
+      and_from (is_placed_in_node_ask servers desk ask) (is_none (unfounded_in_node_ask journals ask))
+      (node_placed desk is server ask none) (ap is_none (founded_whole journals (times order) (steps.Node server ask) none))
 
   -- ---- a desk's ask is founded exactly where all that it cites stands, and is placed
 
@@ -130,7 +121,7 @@ module _ (journals : JournalsView) (order : List Part) (servers : List ℕ) (cou
       subst (λ (x : Citation). x.number ≤ times order x.part) from.2 (seen from.0 from.1))
 
   pub founded_stand : (stands : Bool) (wanted : List CitedVote) (e : DeskEntry) → IsWanted journals stands wanted e → unfounded (placed journals order) (steps.Desk e.ask) ≡ None → stands ≡ true
-  founded_stand stands wanted e is none = is.stand ∙ true_none (unfounded_in_desk_ask journals e.ask) (founded_whole journals (times order) (steps.Desk e.ask) none)
+  founded_stand stands wanted e is none = is.stand ∙ ap is_none (founded_whole journals (times order) (steps.Desk e.ask) none)
 
   pub founded_met : (stands : Bool) (wanted : List CitedVote) (e : DeskEntry) → IsWanted journals stands wanted e → unfounded (placed journals order) (steps.Desk e.ask) ≡ None
       → (entry : CitedVote) → Has wanted entry → is_placed servers entry ≡ true
@@ -162,7 +153,7 @@ less_one a t u is most = omega (arith, is, most)
 
 pub left_less : (journals : JournalsView) (order : List Part) (part : Part) → part ≢ parts.View → IsNext journals order part → suc (left journals (order ++ part ∷ [])) ≡ left journals order
 left_less journals order (parts.Server server) apart next =
-    let split = mapped (λ (e : NodeEntry). steps.Node server e.ask) (server_entry journals server (suc (times order (parts.Server server)))) next.step next.is_there in
+    let split = map-some (λ (e : NodeEntry). steps.Node server e.ask) (server_entry journals server (suc (times order (parts.Server server)))) next.step next.is_there in
     let found = chained (λ (es : List NodeEntry). item_at es (suc (times order (parts.Server server)))) (item_at journals.servers server) split.0 split.1 in
     let above = item_above journals.servers server found.0 found.1 in
     let at : 1 + (server - 1) ≡ server = omega (arith, above.0) in
@@ -175,7 +166,7 @@ left_less journals order (parts.Server server) apart next =
     let desk = ap (λ (t : ℕ). length journals.desk - t) (times-other order (parts.Server server) parts.Desk (λ e. let h : Path Part parts.Desk (parts.Server server) = e in cc)) in
     omega (arith, servers, desk)
 left_less journals order parts.Desk apart next =
-    let split = mapped (λ (e : DeskEntry). steps.Desk e.ask) (item_at journals.desk (suc (times order parts.Desk))) next.step next.is_there in
+    let split = map-some (λ (e : DeskEntry). steps.Desk e.ask) (item_at journals.desk (suc (times order parts.Desk))) next.step next.is_there in
     let less = (is_entry journals.desk (times order parts.Desk) split.0 split.1).less in
     let one = less_one (length journals.desk) (times order parts.Desk) (times (order ++ parts.Desk ∷ []) parts.Desk) (times-same order parts.Desk) (omega (arith, less)) in
     let servers = ap added (each_same (λ n (es : List NodeEntry). length es - times (order ++ parts.Desk ∷ []) (parts.Server n)) (λ n (es : List NodeEntry). length es - times order (parts.Server n)) 1 journals.servers
@@ -190,7 +181,7 @@ module _ (journals : JournalsView) (order : List Part) (servers : List ℕ) (des
       → others ≡ slice_set servers (server - 1) (suc (times order (parts.Server server)))
       → IsPlacing journals (order ++ parts.Server server ∷ []) others desk stands wanted met
   server_more server others next made =
-      let split = mapped (λ (e : NodeEntry). steps.Node server e.ask) (server_entry journals server (suc (times order (parts.Server server)))) next.step next.is_there in
+      let split = map-some (λ (e : NodeEntry). steps.Node server e.ask) (server_entry journals server (suc (times order (parts.Server server)))) next.step next.is_there in
       let found = chained (λ (es : List NodeEntry). item_at es (suc (times order (parts.Server server)))) (item_at journals.servers server) split.0 split.1 in
       let above = item_above journals.servers server found.0 found.1 in
       let at : 1 + (server - 1) ≡ server = omega (arith, above.0) in
@@ -256,7 +247,7 @@ module _ (journals : JournalsView) (order : List Part) (servers : List ℕ) (des
   -- a server with no further entry, or with one that isn't ready
   pub server_last : (server : ℕ) (entries : List NodeEntry) → item_at journals.servers server ≡ Some entries → length entries ≤ times order (parts.Server server) → IsNext journals order (parts.Server server) → ⊥
   server_last server entries here short next =
-      let split = mapped (λ (e : NodeEntry). steps.Node server e.ask) (server_entry journals server (suc (times order (parts.Server server)))) next.step next.is_there in
+      let split = map-some (λ (e : NodeEntry). steps.Node server e.ask) (server_entry journals server (suc (times order (parts.Server server)))) next.step next.is_there in
       let found = chained (λ (es : List NodeEntry). item_at es (suc (times order (parts.Server server)))) (item_at journals.servers server) split.0 split.1 in
       let less = (is_entry found.0 (times order (parts.Server server)) split.0 found.2).less in
       let same : Path (Option (List NodeEntry)) (Some found.0) (Some entries) = sym found.1 ∙ here in
@@ -278,7 +269,7 @@ module _ (journals : JournalsView) (order : List Part) (servers : List ℕ) (des
   -- the view has no further entry
   pub view_last : IsNext journals order parts.View → ⊥
   view_last next =
-      let split = mapped (λ (e : ViewEntry). steps.View e.ask) (item_at journals.view (suc (times order parts.View))) next.step next.is_there in
+      let split = map-some (λ (e : ViewEntry). steps.View e.ask) (item_at journals.view (suc (times order parts.View))) next.step next.is_there in
       let less = (is_entry journals.view (times order parts.View) split.0 split.1).less in
       let all = is.of_view in
       absurd (omega (arith, less, all))
@@ -295,19 +286,6 @@ module _ (journals : JournalsView) (order : List Part) (servers : List ℕ) (des
     founded = wanted_founded journals order servers is.of_servers stands wanted e (is.next e (item_at-suc journals.desk desk ∙ there)) holds
         (λ entry has. is.seen entry (subst (λ (xs : List CitedVote). Has xs entry) (sym (take_past wanted met all)) has));
   }
-    where
-      take_past : (xs : List CitedVote) (n : ℕ) → length xs ≤ n → take n xs ≡ xs
-      take_past [] zero less = refl
-      take_past [] (suc n) less = refl
-      take_past (x ∷ xs) zero less = absurd (omega (arith, less))
-      take_past (x ∷ xs) (suc n) less = ap (λ rest. x ∷ rest) (take_past xs n (omega (arith, less)))
-
-  pub desk_last : length journals.desk ≤ desk → IsNext journals order parts.Desk → ⊥
-  desk_last short next =
-      let split = mapped (λ (e : DeskEntry). steps.Desk e.ask) (item_at journals.desk (suc (times order parts.Desk))) next.step next.is_there in
-      let less = (is_entry journals.desk (times order parts.Desk) split.0 split.1).less in
-      let count = is.of_desk in
-      absurd (omega (arith, less, short, count))
 
   desk_founded : (e : DeskEntry) → slice_get journals.desk desk ≡ Some e → IsNext journals order parts.Desk → unfounded (placed journals order) (steps.Desk e.ask) ≡ None
   desk_founded e there next =

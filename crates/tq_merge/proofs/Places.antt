@@ -2,11 +2,14 @@
 use Rattle.std.specs.Prelude.{slice_get, slice_set}
 use Rattle.std.proofs.Common.{◌≡◌, ◌≢◌, ◌≤◌, ◌<◌, ◌+◌, ◌-◌, ℕ, zero, suc, Bool, true, false, cond, List, [], ◌∷◌, ◌++◌, length, take, replicate, Option, Some, None, refl, sym, ap, ◌∙◌, nat_lt, arith}
 use Rattle.std.specs.Option.{option_map}
+use Rattle.std.proofs.Math.Seq.{take-suc}
 use Rattle.std.proofs.lemmas.List.Sums.{fold-append}
+use Rattle.std.proofs.lemmas.Option.{slice_get_within, get_or_from_slice_get}
 use Rattle.std.proofs.lemmas.Bool.{eqb-true, eq-eqb, false≢true}
 use Rattle.tq_shape.specs.declared.part.Part.{Part}
 use Rattle.tq_shape.specs.declared.part.Part.TheVariants.{Server, Desk, View}
 use Rattle.tq_world.specs.World.{item_at}
+use Rattle.tq_world.proofs.Rooms.{item_above}
 use Rattle.tq_merge.specs.Order.{same_part, times, each_from}
 
 -- ---- parts
@@ -50,24 +53,12 @@ item_at-suc {E} items i =
     let place : suc i - 1 ≡ i = omega arith in
     ap (λ b. cond b (slice_get items (suc i - 1)) None) above ∙ ap (slice_get items) place
 
-pub item_above : {E : Type 0} (items : List E) (number : ℕ) (x : E) → item_at items number ≡ Some x → (0 < number) × (slice_get items (number - 1) ≡ Some x)
-item_above {E} items number x is = by (nat_lt 0 number) refl is
-  where
-    by : (above : Bool) → nat_lt 0 number ≡ above → cond above (slice_get items (number - 1)) None ≡ Some x → (0 < number) × (slice_get items (number - 1) ≡ Some x)
-    by true less some = (grind (arith, less), some)
-    by false less some = absurd (let none : Path (Option E) None (Some x) = some in cc)
-
 pub item_below : {E : Type 0} (items : List E) (number : ℕ) (x : E) → 0 < number → slice_get items (number - 1) ≡ Some x → item_at items number ≡ Some x
 item_below {E} items number x above is =
     let less : nat_lt 0 number ≡ true = grind (arith, above) in
     ap (λ b. cond b (slice_get items (number - 1)) None) less ∙ is
 
 -- ---- the first entries
-
-pub get_within : {E : Type 0} (items : List E) (place : ℕ) (x : E) → slice_get items place ≡ Some x → place < length items
-get_within {E} [] place x is = absurd (let none : Path (Option E) None (Some x) = is in cc)
-get_within (y ∷ items) zero x is = omega arith
-get_within (y ∷ items) (suc place) x is = let less = get_within items place x is in omega arith
 
 pub take_get : {E : Type 0} (items : List E) (count place : ℕ) (x : E) → slice_get (take count items) place ≡ Some x → (slice_get items place ≡ Some x) × (place < count)
 take_get {E} [] zero place x is = absurd (let none : Path (Option E) None (Some x) = is in cc)
@@ -96,17 +87,18 @@ item_first items count number x is most =
 
 -- one entry more
 pub take_next : {E : Type 0} (items : List E) (count : ℕ) (x : E) → slice_get items count ≡ Some x → take (suc count) items ≡ take count items ++ x ∷ []
-take_next {E} [] count x is = absurd (let none : Path (Option E) None (Some x) = is in cc)
-take_next {E} (y ∷ items) zero x is = ap (λ z. z ∷ []) (let same : Path (Option E) (Some y) (Some x) = is in let e : y ≡ x = cc in e)
-take_next (y ∷ items) (suc count) x is = ap (λ rest. y ∷ rest) (take_next items count x is)
+take_next items count x is =
+    take-suc items count x (slice_get_within items count x is) ∙ ap (λ y. take count items ++ y ∷ []) (get_or_from_slice_get items count x x is)
 
 pub take_none : {E : Type 0} (items : List E) → take 0 items ≡ []
 take_none [] = refl
 take_none (y ∷ items) = refl
 
-pub take_whole : {E : Type 0} (items : List E) → take (length items) items ≡ items
-take_whole [] = refl
-take_whole (y ∷ items) = ap (λ rest. y ∷ rest) (take_whole items)
+pub take_past : {E : Type 0} (items : List E) (count : ℕ) → length items ≤ count → take count items ≡ items
+take_past [] zero less = refl
+take_past [] (suc count) less = refl
+take_past (y ∷ items) zero less = absurd (omega (arith, less))
+take_past (y ∷ items) (suc count) less = ap (λ rest. y ∷ rest) (take_past items count (omega (arith, less)))
 
 -- ---- lists made item by item
 

@@ -1,6 +1,6 @@
 -- Rounds: each part in its turn, until nothing can be placed.
 use Rattle.std.proofs.Common.{◌≡◌, ◌≤◌, ◌<◌, ◌+◌, ◌-◌, ℕ, suc, Bool, true, false, List, length, refl, sym, subst, ◌∙◌, nat_lt, ◌⊎◌, inl, inr, arith}
-use Rattle.std.proofs.lemmas.Bool.{false≢true}
+use Rattle.std.proofs.lemmas.Bool.{false≢true, cases_Bool}
 use Rattle.tq_shape.specs.declared.part.Part.{Part}
 use Rattle.tq_shape.specs.declared.part.Part.TheVariants as parts
 use Rattle.tq_tables.specs.Journals.{JournalsView}
@@ -9,23 +9,21 @@ use Rattle.tq_world.specs.declared.answer.Step.TheVariants as steps
 use Rattle.tq_world.specs.World.{item_at, server_entry}
 use Rattle.tq_merge.specs.Order.{times, IsNext}
 use Rattle.tq_merge.specs.Placing.{left, IsDone}
-use Rattle.tq_merge.proofs.Places.{item_above, get_within}
-use Rattle.tq_merge.proofs.Runs.{mapped, chained}
+use Rattle.tq_world.proofs.Rooms.{item_above}
+use Rattle.std.proofs.lemmas.Option.{slice_get_within}
+use Rattle.tq_node.proofs.KeptLocks.{map-some}
+use Rattle.tq_merge.proofs.Runs.{chained}
 
 -- the servers so far have no entry that can be placed
 abbrev pub AreBlocked : JournalsView → List Part → ℕ → Type 0
 AreBlocked journals order place = (k : ℕ) → k < place → IsNext journals order (parts.Server (suc k)) → ⊥
-
-cases_of : (b : Bool) → (b ≡ true) ⊎ (b ≡ false)
-cases_of true = inl refl
-cases_of false = inr refl
 
 module _ (first now after : JournalsView) (began order then : List Part) (place : ℕ) (moved placed : Bool)
     (same : now ≡ first) (fewer : moved ≡ true → left now order < left first began) (still : moved ≡ false → (order ≡ began) × AreBlocked first began place)
     (kept : after ≡ now) (less : placed ≡ true → left after then < left now order) (none : placed ≡ false → then ≡ order) (blocked : IsNext after then (parts.Server (suc place)) → ⊥) where
   -- so far no more was left than at first
   at_most : left now order ≤ left first began
-  at_most = by (cases_of moved)
+  at_most = by (cases_Bool moved)
     where
       by : (moved ≡ true) ⊎ (moved ≡ false) → left now order ≤ left first began
       by (inl t) = let l = fewer t in omega (arith, l)
@@ -64,10 +62,10 @@ module _ (first now after : JournalsView) (began order then : List Part) (place 
 pub all_done : (journals : JournalsView) (order : List Part) (count : ℕ) → count ≡ length journals.servers → AreBlocked journals order count → (IsNext journals order parts.Desk → ⊥) → (IsNext journals order parts.View → ⊥)
     → IsDone journals order
 all_done journals order count is servers desk view (parts.Server server) next =
-    let split = mapped (λ (e : NodeEntry). steps.Node server e.ask) (server_entry journals server (suc (times order (parts.Server server)))) next.step next.is_there in
+    let split = map-some (λ (e : NodeEntry). steps.Node server e.ask) (server_entry journals server (suc (times order (parts.Server server)))) next.step next.is_there in
     let found = chained (λ (es : List NodeEntry). item_at es (suc (times order (parts.Server server)))) (item_at journals.servers server) split.0 split.1 in
     let above = item_above journals.servers server found.0 found.1 in
-    let within = get_within journals.servers (server - 1) found.0 above.1 in
+    let within = slice_get_within journals.servers (server - 1) found.0 above.1 in
     let at : server ≡ suc (server - 1) = omega (arith, above.0) in
     servers (server - 1) (omega (arith, within, is)) (subst (λ (n : ℕ). IsNext journals order (parts.Server n)) at next)
 all_done journals order count is servers desk view parts.Desk next = desk next

@@ -31,10 +31,13 @@ use Rattle.tq_world.specs.declared.citation.Citation.{Citation}
 use Rattle.tq_world.specs.World.{item_at, server_entry, empty_world, node_at, desk_at, view_at}
 use Rattle.tq_world.specs.Founded.{unfounded_in_node_ask, unfounded_in_desk_ask}
 use Rattle.tq_world.specs.Steps.{refuse_entry, refuse_at, refusal, server_journal, node_entry, desk_entry, view_entry, grown, world_after, run_from, run}
-use Rattle.tq_shape.specs.Steps.{state_at}
 use Rattle.tq_world.specs.Steps.{IsOfRun}
+use Rattle.tq_world.proofs.Runs.{world_grown}
+use Rattle.tq_node.proofs.KeptLocks.{map-some}
 use Rattle.tq_merge.specs.Order.{times, entries_of, firsts, placed, step_at, unfounded, ArePlaced, Explains, steps_from, asks_of}
-use Rattle.tq_merge.proofs.Places.{times-same, times-other, item_at-suc, item_above, item_each, get_within, take_next, take_none, take_whole, each_same, each_set, each_is, each_none}
+use Rattle.tq_merge.proofs.Places.{times-same, times-other, item_at-suc, item_each, take_next, take_none, take_past, each_same, each_set, each_is, each_none}
+use Rattle.tq_world.proofs.Rooms.{item_above}
+use Rattle.std.proofs.lemmas.Option.{slice_get_within}
 
 -- ---- legal journals, entry by entry
 
@@ -78,20 +81,13 @@ not_refused world part count citation free none =
     ap (λ b. if b then Some (Rattle.tq_world.specs.declared.answer.Refusal.TheVariants.JournalFull part) else Rattle.tq_world.specs.Steps.refuse_unfounded citation) free
     ∙ ap Rattle.tq_world.specs.Steps.refuse_unfounded none
 
-goes_on : (world : JournalsView) (step : Step) → refusal world step ≡ None → world_after world step ≡ grown world step
-goes_on world step none = ap (λ r. state_at r world (grown world step)) none
-
 -- what an entry is that makes a step
 pub record IsEntry {E : Type 0} (entries : List E) (count : ℕ) (e : E) : Type 0 where
   pub is_there : slice_get entries count ≡ Some e
   pub less : count < length entries
 
 pub is_entry : {E : Type 0} (entries : List E) (count : ℕ) (e : E) → item_at entries (suc count) ≡ Some e → IsEntry entries count e
-is_entry entries count e is = let there = sym (item_at-suc entries count) ∙ is in record { is_there = there; less = get_within entries count e there }
-
-pub mapped : {A B : Type 0} (f : A → B) (o : Option A) (y : B) → option_map f o ≡ Some y → (x : A) × (o ≡ Some x) × (y ≡ f x)
-mapped {A} {B} f None y is = absurd (let none : Path (Option B) None (Some y) = is in cc)
-mapped {A} {B} f (Some x) y is = (x, refl, (let some : Path (Option B) (Some (f x)) (Some y) = is in let h : y ≡ f x = cc in h))
+is_entry entries count e is = let there = sym (item_at-suc entries count) ∙ is in record { is_there = there; less = slice_get_within entries count e there }
 
 pub chained : {A B : Type 0} (f : A → Option B) (o : Option A) (y : B) → option_and_then f o ≡ Some y → (x : A) × (o ≡ Some x) × (f x ≡ Some y)
 chained {A} {B} f None y is = absurd (let none : Path (Option B) None (Some y) = is in cc)
@@ -101,7 +97,7 @@ chained f (Some x) y is = (x, refl, is)
 within_limit : (journals : JournalsView) → AreJournals journals → (server : ℕ) (entries : List NodeEntry) → item_at journals.servers server ≡ Some entries → length entries ≤ journals.limits.entries
 within_limit journals are server entries here =
     let there = (item_above journals.servers server entries here).1 in
-    let less = get_within journals.servers (server - 1) entries there in
+    let less = slice_get_within journals.servers (server - 1) entries there in
     subst (λ (es : List NodeEntry). length es ≤ journals.limits.entries) (get_or_from_slice_get journals.servers (server - 1) entries [] there) (are.servers_fit (server - 1) [] less)
 
 -- ---- a step of a server
@@ -165,7 +161,7 @@ module _ (journals : JournalsView) (are : AreJournals journals) (legal : AreLega
       ap (λ (n : ℕ). take n journals.desk) (sym (same parts.Desk (λ e. let h : Path Part parts.Desk (parts.Server server) = e in cc))) in
       let view : take (count parts.View) journals.view ≡ take (other parts.View) journals.view =
       ap (λ (n : ℕ). take n journals.view) (sym (same parts.View (λ e. let h : Path Part parts.View (parts.Server server) = e in cc))) in
-      goes_on (firsts journals count) (steps.Node server e.ask)
+      world_grown (firsts journals count) (steps.Node server e.ask)
       (server_free (firsts journals count) server (take (count (parts.Server server)) entries) e.ask there (omega (arith, short, is.less, fits)) none)
       ∙ (λ i. record { levels = journals.levels; limits = journals.limits; servers = servers i; desk = desk i; view = view i })
 
@@ -186,7 +182,7 @@ module _ (journals : JournalsView) (are : AreJournals journals) (legal : AreLega
       (λ n es. ap (λ (c : ℕ). take c es) (sym (same (parts.Server n) (λ e. let h : Path Part (parts.Server n) parts.Desk = e in cc)))) in
       let view : take (count parts.View) journals.view ≡ take (other parts.View) journals.view =
       ap (λ (n : ℕ). take n journals.view) (sym (same parts.View (λ e. let h : Path Part parts.View parts.Desk = e in cc))) in
-      goes_on (firsts journals count) (steps.Desk e.ask)
+      world_grown (firsts journals count) (steps.Desk e.ask)
       (not_refused (firsts journals count) parts.Desk (length (take (count parts.Desk) journals.desk)) (unfounded_in_desk_ask (firsts journals count) e.ask)
       (room journals.limits.entries (length (take (count parts.Desk) journals.desk)) (omega (arith, short, is.less, are.desk_fits))) none)
       ∙ (λ i. record { levels = journals.levels; limits = journals.limits; servers = servers i; desk = desk i; view = view i })
@@ -209,7 +205,7 @@ module _ (journals : JournalsView) (are : AreJournals journals) (legal : AreLega
       (λ n es. ap (λ (c : ℕ). take c es) (sym (same (parts.Server n) (λ e. let h : Path Part (parts.Server n) parts.View = e in cc)))) in
       let desk : take (count parts.Desk) journals.desk ≡ take (other parts.Desk) journals.desk =
       ap (λ (n : ℕ). take n journals.desk) (sym (same parts.Desk (λ e. let h : Path Part parts.Desk parts.View = e in cc))) in
-      goes_on (firsts journals count) (steps.View e.ask)
+      world_grown (firsts journals count) (steps.View e.ask)
       (not_refused (firsts journals count) parts.View (length (take (count parts.View) journals.view)) None
       (room journals.limits.entries (length (take (count parts.View) journals.view)) (omega (arith, short, is.less, are.view_fits))) refl)
       ∙ (λ i. record { levels = journals.levels; limits = journals.limits; servers = servers i; desk = desk i; view = view i })
@@ -219,17 +215,17 @@ module _ (journals : JournalsView) (are : AreJournals journals) (legal : AreLega
       → other part ≡ suc (count part) → ((q : Part) → q ≢ part → other q ≡ count q)
       → world_after (firsts journals count) step ≡ firsts journals other
   step_more (parts.Server server) step is none more same =
-      let made = mapped (λ (e : NodeEntry). steps.Node server e.ask) (server_entry journals server (suc (count (parts.Server server)))) step is in
+      let made = map-some (λ (e : NodeEntry). steps.Node server e.ask) (server_entry journals server (suc (count (parts.Server server)))) step is in
       let found = chained (λ (es : List NodeEntry). item_at es (suc (count (parts.Server server)))) (item_at journals.servers server) made.0 made.1 in
-      ap (world_after (firsts journals count)) made.2
-      ∙ node_more server found.0 made.0 found.1 (is_entry found.0 (count (parts.Server server)) made.0 found.2) (ap (unfounded (firsts journals count)) (sym made.2) ∙ none) more same
+      ap (world_after (firsts journals count)) (sym made.2)
+      ∙ node_more server found.0 made.0 found.1 (is_entry found.0 (count (parts.Server server)) made.0 found.2) (ap (unfounded (firsts journals count)) made.2 ∙ none) more same
   step_more parts.Desk step is none more same =
-      let made = mapped (λ (e : DeskEntry). steps.Desk e.ask) (item_at journals.desk (suc (count parts.Desk))) step is in
-      ap (world_after (firsts journals count)) made.2
-      ∙ desk_more made.0 (is_entry journals.desk (count parts.Desk) made.0 made.1) (ap (unfounded (firsts journals count)) (sym made.2) ∙ none) more same
+      let made = map-some (λ (e : DeskEntry). steps.Desk e.ask) (item_at journals.desk (suc (count parts.Desk))) step is in
+      ap (world_after (firsts journals count)) (sym made.2)
+      ∙ desk_more made.0 (is_entry journals.desk (count parts.Desk) made.0 made.1) (ap (unfounded (firsts journals count)) made.2 ∙ none) more same
   step_more parts.View step is none more same =
-      let made = mapped (λ (e : ViewEntry). steps.View e.ask) (item_at journals.view (suc (count parts.View))) step is in
-      ap (world_after (firsts journals count)) made.2
+      let made = map-some (λ (e : ViewEntry). steps.View e.ask) (item_at journals.view (suc (count parts.View))) step is in
+      ap (world_after (firsts journals count)) (sym made.2)
       ∙ view_more made.0 (is_entry journals.view (count parts.View) made.0 made.1) more same
 
 -- ---- the whole order
@@ -248,9 +244,9 @@ all_first journals count all =
     (λ place es is.
     let journal : server_journal journals (1 + place) ≡ es =
     ap (λ (o : Option (List NodeEntry)). unwrap_or o []) (ap (item_at journals.servers) (omega arith) ∙ item_at-suc journals.servers place ∙ is) in
-    ap (λ (n : ℕ). take n es) (all (parts.Server (1 + place)) ∙ ap length journal) ∙ take_whole es) in
-    let desk = ap (λ (n : ℕ). take n journals.desk) (all parts.Desk) ∙ take_whole journals.desk in
-    let view = ap (λ (n : ℕ). take n journals.view) (all parts.View) ∙ take_whole journals.view in
+    ap (λ (n : ℕ). take n es) (all (parts.Server (1 + place)) ∙ ap length journal) ∙ take_past es (length es) (omega arith)) in
+    let desk = ap (λ (n : ℕ). take n journals.desk) (all parts.Desk) ∙ take_past journals.desk (length journals.desk) (omega arith) in
+    let view = ap (λ (n : ℕ). take n journals.view) (all parts.View) ∙ take_past journals.view (length journals.view) (omega arith) in
     λ i. record { levels = journals.levels; limits = journals.limits; servers = servers i; desk = desk i; view = view i }
 
 runs_from : (journals : JournalsView) → AreJournals journals → AreLegal journals → (before order : List Part) → ArePlaced journals before order

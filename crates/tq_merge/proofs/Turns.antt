@@ -16,7 +16,7 @@ use Rattle.tq_merge.specs.Order.{same_part, times, each_from, IsNext, ArePlaced}
 use Rattle.tq_merge.specs.Placing.{is_placed, is_ready, IsNextWanted, IsPlacing, left}
 use Rattle.tq_merge.proofs.Places.{times-more, item_at-suc, length_each, get_each, take_none}
 use Rattle.tq_merge.proofs.Greedy.{placed-more}
-use Rattle.tq_merge.proofs.Legality.{get_mapped}
+use Rattle.std.proofs.lemmas.Option.{slice_get-map}
 use Rattle.tq_merge.proofs.Placed.{server_more, server_last, server_next, server_waits, desk_more, desk_next, desk_never, desk_waits, met_more, left_less}
 
 -- ---- where it begins
@@ -82,7 +82,7 @@ server_here items vectors servers place v same less is =
     let size = ap length same in
     let count = length-map vectors items in
     item_at-suc servers place ∙ ap (λ (xs : List (List NodeEntry)). slice_get xs place) (sym same)
-    ∙ get_mapped items vectors place v (slice_get_read vectors (length vectors) place v refl (omega (arith, less, size, count)) is)
+    ∙ slice_get-map items vectors place ∙ ap (option_map items) (slice_get_read vectors (length vectors) place v refl (omega (arith, less, size, count)) is)
 
 module _ (journals : JournalsView) (order : List Part) (servers : List ℕ) (desk : ℕ) (stands : Bool) (wanted : List CitedVote) (met : ℕ) (is : IsPlacing journals order servers desk stands wanted met)
     (place : ℕ) (less : place < length journals.servers) where

@@ -1,7 +1,8 @@
 -- Whether all entries are placed, and what follows where they are or aren't.
 use Rattle.std.specs.Prelude.{slice_get}
-use Rattle.std.proofs.Common.{◌≡◌, ◌+◌, ◌-◌, ℕ, zero, suc, Bool, true, false, cond, List, [], ◌∷◌, length, map, Option, Some, None, refl, sym, ap, subst, ◌∙◌, nat_lt, arith}
+use Rattle.std.proofs.Common.{◌≡◌, ◌+◌, ◌-◌, ℕ, suc, Bool, true, false, cond, List, [], ◌∷◌, length, map, Option, Some, None, refl, sym, ap, subst, ◌∙◌, nat_lt, arith}
 use Rattle.std.specs.Option.{option_map, unwrap_or}
+use Rattle.std.proofs.lemmas.Option.{slice_get-map}
 use Rattle.tq_shape.specs.declared.part.Part.{Part}
 use Rattle.tq_shape.specs.declared.part.Part.TheVariants as parts
 use Rattle.tq_node.specs.declared.ask.CitedVote.{CitedVote}
@@ -19,16 +20,11 @@ use Rattle.tq_merge.proofs.Places.{item_at-suc, item_each}
 use Rattle.tq_merge.proofs.Greedy.{within, stuck}
 use Rattle.tq_merge.proofs.Runs.{run_is, of_run}
 
-get_map : {A B : Type 0} (f : A → B) (xs : List A) (i : ℕ) → slice_get (map f xs) i ≡ option_map f (slice_get xs i)
-get_map f [] i = refl
-get_map f (x ∷ xs) zero = refl
-get_map f (x ∷ xs) (suc i) = get_map f xs i
-
 item_map : {A B : Type 0} (f : A → B) (xs : List A) (number : ℕ) → item_at (map f xs) number ≡ option_map f (item_at xs number)
 item_map f xs number = by (nat_lt 0 number)
   where
     by : (b : Bool) → cond b (slice_get (map f xs) (number - 1)) None ≡ option_map f (cond b (slice_get xs (number - 1)) None)
-    by true = get_map f xs (number - 1)
+    by true = slice_get-map f xs (number - 1)
     by false = refl
 
 each_map : {A B : Type 0} (f : ℕ → A → B) (h : A → B) (first : ℕ) (items : List A) → ((place : ℕ) (x : A) → slice_get items place ≡ Some x → f (first + place) x ≡ h x) → each_from f first items ≡ map h items

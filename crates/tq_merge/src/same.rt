@@ -1,12 +1,12 @@
 //! Whether two replies are the same.
 ghost use Rattle.std.specs.Prelude.{◌≡◌, ◌↔◌, ◌==◌, ◌&&◌, IsTrue};
 ghost use Rattle.std.specs.Cmp.Lexicographic.{pointwise};
-ghost use Rattle.tq_world.specs.Founded.{same_verdict};
 ghost use Rattle.tq_merge.specs.Same as spec;
 
+use tq_core::is_same_verdict;
 use tq_desk::{DeskRefusal, DeskReply};
 use tq_live::ViewReply;
-use tq_node::{NodeRefusal, NodeReply, Verdict};
+use tq_node::{NodeRefusal, NodeReply};
 
 fn is_same_reason(one: NodeRefusal, other: NodeRefusal) -> bool
     ensures { result ≡ spec.same_reason one other }
@@ -72,18 +72,6 @@ pub(crate) fn is_same_of_node(one: &NodeReply, other: &NodeReply) -> bool
     ensures { IsTrue result ↔ (one.now ≡ other.now) }
 {
     test_of_node(one, other)
-}
-
-fn is_same_verdict(one: &Verdict, other: &Verdict) -> bool
-    ensures { result ≡ same_verdict one.now other.now }
-{
-    match one {
-        Verdict::Abort => matches!(other, Verdict::Abort),
-        Verdict::Commit { votes } => match other {
-            Verdict::Abort => false,
-            Verdict::Commit { votes: others } => *votes == *others,
-        },
-    }
 }
 
 fn is_same_desk_reason(one: &DeskRefusal, other: &DeskRefusal) -> bool
