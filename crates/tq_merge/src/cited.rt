@@ -1,12 +1,15 @@
 //! What a desk's ask cites.
 ghost use Rattle.std.specs.Prelude.{◌≡◌, ◌++◌, map, IfOk, OnOk};
 ghost use Rattle.tq_merge.specs.Cited as spec;
+ghost use Rattle.tq_merge.specs.Placing as kept;
 ghost use Rattle.tq_world.specs.Founded.{cited_grant, cited_vote};
 
+use crate::stands::stands;
 use std::alloc::Global;
 use tq_desk::{DeskAsk, Grant, Op, Vote};
 use tq_node::CitedVote;
 use tq_shape::Memory;
+use tq_tables::Journals;
 
 fn push_grants(wanted: &mut Vec<CitedVote>, grants: &[Grant]) -> Result<(), Memory>
     ensures { OnOk result (map spec.entry_cited wanted.new.items ≡ map spec.entry_cited wanted.old.items ++ map cited_grant grants.now) }
@@ -42,7 +45,7 @@ fn push_votes(wanted: &mut Vec<CitedVote>, votes: &[Vote]) -> Result<(), Memory>
 }
 
 /// The entries that the ask cites, in order.
-pub(crate) fn cited_in(alloc: Global, ask: &DeskAsk) -> Result<Vec<CitedVote>, Memory>
+fn cited_in(alloc: Global, ask: &DeskAsk) -> Result<Vec<CitedVote>, Memory>
     ensures { IfOk result (λ wanted. map spec.entry_cited wanted.items ≡ spec.cited_in_desk_ask ask.now) }
 {
     let mut wanted = Vec::new(alloc);
@@ -55,4 +58,29 @@ pub(crate) fn cited_in(alloc: Global, ask: &DeskAsk) -> Result<Vec<CitedVote>, M
         DeskAsk::Resolve { .. } => {}
     }
     Ok(wanted)
+}
+
+/// What an entry of the desk cites.
+#[derive(Drop)]
+pub(crate) struct Wanted {
+    /// Whether all of it stands in the journals.
+    pub(crate) stands: bool,
+    pub(crate) entries: Vec<CitedVote>,
+}
+
+/// What the desk's next entry cites, where so many are placed.
+pub(crate) fn wanted_at(alloc: Global, journals: &Journals, placed: u64) -> Result<Wanted, Memory>
+    ensures { IfOk result (λ wanted. kept.IsNextWanted journals.now placed wanted.stands wanted.entries.items) }
+{
+    match journals.desk().get(placed as usize) {
+        None => Ok(Wanted {
+            stands: true,
+            entries: Vec::new(alloc),
+        }),
+        Some(entry) => {
+            let stands = stands(journals, &entry.ask);
+            let entries = cited_in(alloc, &entry.ask)?;
+            Ok(Wanted { stands, entries })
+        }
+    }
 }

@@ -1,47 +1,19 @@
 //! Entries placed one after another, each once all that it cites is placed.
-ghost use Rattle.std.specs.Prelude.{◌≡◌, ◌<◌, ◌≤◌, ◌+◌, ◌++◌, ◌∷◌, ◌↔◌, [], ℕ, suc, true, false, Ok, Some, IsTrue, IfOk, OnOk, length, map, slice_get, slice_set};
-ghost use Rattle.tq_shape.specs.Journal.{Has};
+ghost use Rattle.std.specs.Prelude.{◌≡◌, ◌<◌, ◌+◌, ◌++◌, ◌∷◌, ◌↔◌, [], suc, true, false, Ok, Some, IsTrue, IfOk, OnOk, length, map};
 ghost use Rattle.tq_shape.specs.declared.part.Part.{Part};
 ghost use Rattle.tq_shape.specs.declared.part.Part.TheVariants as parts;
 ghost use Rattle.tq_node.specs.declared.ask.CitedVote.{CitedVote};
-ghost use Rattle.tq_world.specs.World as world;
 ghost use Rattle.tq_merge.specs.Order as spec;
 ghost use Rattle.tq_merge.specs.Placing as kept;
 
 use crate::Counts;
-use crate::cited::cited_in;
+use crate::cited::{Wanted, wanted_at};
 use crate::ready::{first_missing, is_ready};
-use crate::stands::stands;
 use std::alloc::Global;
 use std::marker::Model;
 use tq_node::CitedVote;
 use tq_shape::{Memory, Part, Seq};
 use tq_tables::{Journals, NodeEntry};
-
-/// What a desk's entry cites.
-#[derive(Drop)]
-pub(crate) struct Wanted {
-    /// Whether all of it stands in the journals.
-    pub(crate) stands: bool,
-    pub(crate) entries: Vec<CitedVote>,
-}
-
-/// What the desk's next entry cites, where so many are placed.
-fn wanted_at(alloc: Global, journals: &Journals, placed: u64) -> Result<Wanted, Memory>
-    ensures { IfOk result (λ wanted. kept.IsNextWanted journals.now placed wanted.stands wanted.entries.items) }
-{
-    match journals.desk().get(placed as usize) {
-        None => Ok(Wanted {
-            stands: true,
-            entries: Vec::new(alloc),
-        }),
-        Some(entry) => {
-            let stands = stands(journals, &entry.ask);
-            let entries = cited_in(alloc, &entry.ask)?;
-            Ok(Wanted { stands, entries })
-        }
-    }
-}
 
 /// What is placed of journals, and in which order.
 #[derive(Drop)]

@@ -1,5 +1,5 @@
 //! Whether a server's entry can be placed: what it cites is placed, and stands in the journals.
-ghost use Rattle.std.specs.Prelude.{◌≡◌, ◌≤◌, ◌<◌, ◌⊎◌, ◌&&◌, false, true, nat_le, is_none, length, take};
+ghost use Rattle.std.specs.Prelude.{◌≡◌, ◌≤◌, ◌<◌, ◌⊎◌, false, true, is_none, length, take};
 ghost use Rattle.tq_shape.specs.Journal.{Has};
 ghost use Rattle.tq_node.specs.declared.ask.CitedVote.{CitedVote};
 ghost use Rattle.tq_world.specs.Founded as founded;

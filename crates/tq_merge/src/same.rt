@@ -1,6 +1,5 @@
 //! Whether two replies are the same.
 ghost use Rattle.std.specs.Prelude.{◌≡◌, ◌↔◌, ◌==◌, ◌&&◌, IsTrue};
-ghost use Rattle.std.specs.Cmp.Lexicographic.{pointwise};
 ghost use Rattle.tq_merge.specs.Same as spec;
 
 use tq_core::is_same_verdict;
