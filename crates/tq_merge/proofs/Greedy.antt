@@ -99,7 +99,7 @@ module _ (journals : JournalsView) where
 
   -- ---- order or none
 
-  -- some part has an entry that isn't placed, and no part is next
+  -- some part has an entry that is not placed, and no part is next
   pub stuck : (order : List Part) (counts : Counts) → AreLegal journals → ArePlaced journals [] order → counts ≡ counts_of journals (times order) → ((p : Part) → IsNext journals order p → ⊥)
       → (((part : Part) → times order part ≡ entries_of journals part) → ⊥) → IsStuck journals counts
   stuck order counts legal done counted blocked left = record {

@@ -244,7 +244,7 @@ module _ (journals : JournalsView) (order : List Part) (servers : List ℕ) (des
     founded = ready_founded journals order servers is.of_servers desk is.of_desk server e.ask ready;
   }
 
-  -- a server with no further entry, or with one that isn't ready
+  -- a server with no further entry, or with one that is not ready
   pub server_last : (server : ℕ) (entries : List NodeEntry) → item_at journals.servers server ≡ Some entries → length entries ≤ times order (parts.Server server) → IsNext journals order (parts.Server server) → ⊥
   server_last server entries here short next =
       let split = map-some (λ (e : NodeEntry). steps.Node server e.ask) (server_entry journals server (suc (times order (parts.Server server)))) next.step next.is_there in

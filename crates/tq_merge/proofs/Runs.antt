@@ -72,7 +72,7 @@ legal_server first (x ∷ servers) (suc place) entries legal is =
 
 -- ---- one entry more
 
--- an entry of a journal that isn't above the limit is refused for nothing
+-- an entry of a journal that is not above the limit is refused for nothing
 room : (limit count : ℕ) → count < limit → nat_le limit count ≡ false
 room limit count less = grind (arith, less)
 

@@ -1,4 +1,4 @@
--- Whether all entries are placed, and what follows where they are or aren't.
+-- Whether all entries are placed, and what follows where they are or are not.
 use Rattle.std.specs.Prelude.{slice_get}
 use Rattle.std.proofs.Common.{◌≡◌, ◌+◌, ◌-◌, ℕ, suc, Bool, true, false, cond, List, [], ◌∷◌, length, map, Option, Some, None, refl, sym, ap, subst, ◌∙◌, nat_lt, arith}
 use Rattle.std.specs.Option.{option_map, unwrap_or}

@@ -64,7 +64,7 @@ step_at journals (Server server) number = option_map (λ entry. steps.Node serve
 step_at journals Desk number = option_map (λ entry. steps.Desk entry.ask) (item_at journals.desk number)
 step_at journals View number = option_map (λ entry. steps.View entry.ask) (item_at journals.view number)
 
--- the first citation of the step that doesn't stand in the world
+-- the first citation of the step that does not stand in the world
 abbrev pub unfounded : JournalsView → Step → Option Citation
 unfounded world (steps.Node server ask) = unfounded_in_node_ask world ask
 unfounded world (steps.Desk ask) = unfounded_in_desk_ask world ask

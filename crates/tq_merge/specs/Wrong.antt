@@ -1,4 +1,4 @@
--- The first entry of the journals that isn't legal.
+-- The first entry of the journals that is not legal.
 use Rattle.std.specs.Prelude.{◌≡◌, ◌≢◌, ℕ, ◌-◌, List, [], take, reverse, Some}
 use Rattle.tq_shape.specs.Journal.{state_from, IsLegalFrom}
 use Rattle.tq_shape.specs.declared.entry.Entry.{Entry}
@@ -14,7 +14,7 @@ use Rattle.tq_desk.specs.DeskJournal.{DeskEntry}
 use Rattle.tq_tables.specs.Parts.{AreLegalServers, bounds_of}
 use Rattle.tq_world.specs.World.{item_at}
 
--- the entry of the number isn't what the part gives there, and those before it are
+-- the entry of the number is not what the part gives there, and those before it are
 pub record IsFirstWrong {S A R : Type 0} (reply : S → ℕ → A → R) (after : S → ℕ → A → S) (opening : S) (entries : List (Entry A R)) (number : ℕ) : Type 0 where
   pub entry : Entry A R
   pub is_there : item_at entries number ≡ Some entry

@@ -11,6 +11,7 @@ use tq_node::CitedVote;
 use tq_shape::Memory;
 use tq_tables::Journals;
 
+/// Appends the entries that the grants cite.
 fn push_grants(wanted: &mut Vec<CitedVote>, grants: &[Grant]) -> Result<(), Memory>
     ensures { OnOk result (map spec.entry_cited wanted.new.items ≡ map spec.entry_cited wanted.old.items ++ map cited_grant grants.now) }
 {
@@ -23,6 +24,7 @@ fn push_grants(wanted: &mut Vec<CitedVote>, grants: &[Grant]) -> Result<(), Memo
     Ok(())
 }
 
+/// Appends the entries that these ops cite, op by op.
 fn push_ops(wanted: &mut Vec<CitedVote>, ops: &[Op]) -> Result<(), Memory>
     ensures { OnOk result (map spec.entry_cited wanted.new.items ≡ map spec.entry_cited wanted.old.items ++ spec.cited_in_ops ops.now) }
 {
@@ -32,6 +34,7 @@ fn push_ops(wanted: &mut Vec<CitedVote>, ops: &[Op]) -> Result<(), Memory>
     Ok(())
 }
 
+/// Appends the entries that the votes cite.
 fn push_votes(wanted: &mut Vec<CitedVote>, votes: &[Vote]) -> Result<(), Memory>
     ensures { OnOk result (map spec.entry_cited wanted.new.items ≡ map spec.entry_cited wanted.old.items ++ map cited_vote votes.now) }
 {

@@ -17,7 +17,8 @@ use tq_tables::Journals;
 pub type Order = Seq<Part>;
 
 /// An order of the entries of the journals in which each part's entries come as journaled and all that an entry cites stands
-/// before it; or why there is none.
+/// before it. Or why there is none: an entry that its part would not have given, or, where all would be given, how many
+/// entries can be placed. Any entries may be handed in; nothing is known of them but their types.
 pub fn explain(alloc: Global, journals: &Journals) -> Result<Order, Fault>
     ensures order { IfOk result (λ order. Explains journals.now order) }
     ensures fault { IfErr result (IsFault journals.now) }

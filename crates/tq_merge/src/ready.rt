@@ -20,6 +20,7 @@ pub(crate) fn is_placed(counts: &[u64], entry: CitedVote) -> bool
     }
 }
 
+/// Whether the entry that the ask cites is placed, where so many of each server and of the desk are.
 fn is_placed_in_work(counts: &[u64], desk: u64, ask: &WorkAsk) -> bool
     ensures { result ≡ spec.is_placed_in_work counts.now desk ask.now }
 {
@@ -33,6 +34,7 @@ fn is_placed_in_work(counts: &[u64], desk: u64, ask: &WorkAsk) -> bool
     }
 }
 
+/// Whether the entry that the ask cites stands in the journals.
 fn stands_work(journals: &Journals, ask: &WorkAsk) -> bool
     ensures { result ≡ is_none (founded.unfounded_in_work journals.now ask.now) }
 {

@@ -7,6 +7,7 @@ use tq_desk::{DeskRefusal, DeskReply};
 use tq_live::ViewReply;
 use tq_node::{NodeRefusal, NodeReply};
 
+/// Whether a server refuses for the same reason.
 fn is_same_reason(one: NodeRefusal, other: NodeRefusal) -> bool
     ensures { result ≡ spec.same_reason one other }
 {
@@ -29,6 +30,7 @@ fn is_same_reason(one: NodeRefusal, other: NodeRefusal) -> bool
     }
 }
 
+/// The test of a server's replies, case by case.
 fn test_of_node(one: &NodeReply, other: &NodeReply) -> bool
     ensures { result ≡ spec.same_reply one.now other.now }
 {
@@ -67,12 +69,14 @@ fn test_of_node(one: &NodeReply, other: &NodeReply) -> bool
     }
 }
 
+/// Whether the two replies of a server are the same.
 pub(crate) fn is_same_of_node(one: &NodeReply, other: &NodeReply) -> bool
     ensures { IsTrue result ↔ (one.now ≡ other.now) }
 {
     test_of_node(one, other)
 }
 
+/// Whether the desk refuses for the same reason.
 fn is_same_desk_reason(one: &DeskRefusal, other: &DeskRefusal) -> bool
     ensures { result ≡ spec.same_desk_reason one.now other.now }
 {
@@ -91,6 +95,7 @@ fn is_same_desk_reason(one: &DeskRefusal, other: &DeskRefusal) -> bool
     }
 }
 
+/// The test of the desk's replies, case by case.
 fn test_of_desk(one: &DeskReply, other: &DeskReply) -> bool
     ensures { result ≡ spec.same_desk_reply one.now other.now }
 {
@@ -114,12 +119,14 @@ fn test_of_desk(one: &DeskReply, other: &DeskReply) -> bool
     }
 }
 
+/// Whether the two replies of the desk are the same.
 pub(crate) fn is_same_of_desk(one: &DeskReply, other: &DeskReply) -> bool
     ensures { IsTrue result ↔ (one.now ≡ other.now) }
 {
     test_of_desk(one, other)
 }
 
+/// Whether the two replies of the view are the same.
 pub(crate) fn is_same_of_view(one: &ViewReply, other: &ViewReply) -> bool
     ensures { IsTrue result ↔ (one.now ≡ other.now) }
 {

@@ -20,6 +20,7 @@ fn server_entry(journals: &Journals, server: u64, number: u64) -> Option<&NodeEn
     }
 }
 
+/// Whether the server granted the lock so.
 fn stands_grant(journals: &Journals, txn: u64, file: FileName, grant: &Grant) -> bool
     ensures { result ≡ spec.is_founded_grant journals.now txn file grant.now }
 {
@@ -29,6 +30,7 @@ fn stands_grant(journals: &Journals, txn: u64, file: FileName, grant: &Grant) ->
     }
 }
 
+/// Whether the server gave the vote.
 fn stands_vote(journals: &Journals, txn: u64, vote: &Vote) -> bool
     ensures { result ≡ spec.is_founded_vote journals.now txn vote.now }
 {
