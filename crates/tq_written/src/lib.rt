@@ -1,0 +1,7 @@
+//! The journals of a system as JSON text: an open form that other tools read.
+#![tactic(auto)]
+
+mod formed;
+mod frame;
+
+pub use frame::FORMAT;
