@@ -3,5 +3,6 @@
 
 mod formed;
 mod frame;
+mod values;
 
 pub use frame::FORMAT;
