@@ -3,6 +3,7 @@
 
 mod formed;
 mod frame;
+mod nodes;
 mod values;
 
 pub use frame::FORMAT;

@@ -1,7 +1,7 @@
 //! Numbers, flags, texts, lists and entries.
 ghost use Rattle.std.specs.Prelude.{◌≡◌};
 
-use crate::formed::{Formed, close_object, open_object, put_list, put_member};
+use crate::formed::{Formed, close_member, open_member, put_list};
 use json::Writer;
 use std::alloc::Global;
 use tq_locks::Mode;
@@ -101,10 +101,8 @@ impl<A: Formed, R: Formed> Formed for Entry<A, R> {
     ghost value = { entry_value A.value R.value };
 
     fn put(&self, alloc: Global, out: &mut Writer<Global>) -> Result<(), Memory> {
-        open_object(out)?;
-        put_member(alloc, out, "ask", &self.ask)?;
-        put_member(alloc, out, "reply", &self.reply)?;
-        close_object(out)?;
+        open_member(alloc, out, "ask", &self.ask)?;
+        close_member(alloc, out, "reply", &self.reply)?;
         Ok(())
     }
 }
