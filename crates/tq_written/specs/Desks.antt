@@ -20,6 +20,9 @@ abbrev pub kind_text : OpKind → List ℕ
 kind_text Read = codes "read"
 kind_text Write = codes "write"
 
+abbrev pub op_kind_value : OpKind → Data
+op_kind_value kind = string (kind_text kind)
+
 abbrev pub grant_value : Grant → Data
 grant_value grant =
     object (member (codes "content") (content_value grant.content)
@@ -33,7 +36,7 @@ op_value op =
     object (member (codes "content") (content_value op.content)
     (member (codes "file") (string op.file)
     (member (codes "grants") (list_value grant_value op.grants)
-    (member (codes "kind") (string (kind_text op.kind))
+    (member (codes "kind") (op_kind_value op.kind)
     (member (codes "version") (whole op.version) no_members)))))
 
 abbrev pub vote_value : Vote → Data

@@ -56,11 +56,7 @@ impl Formed for HeldLock {
     }
 }
 
-fn put_commit(
-    alloc: Global,
-    out: &mut Writer<Global>,
-    votes: &Seq<CitedVote>,
-) -> Result<(), Memory>
+fn put_commit(alloc: Global, out: &mut Writer<Global>, votes: &Seq<CitedVote>) -> Result<(), Memory>
     ensures { Adds result out.old out.new (spelled (verdict_value (Verdict.Commit votes.now))) }
 {
     open_kind(out, "commit")?;

@@ -1,0 +1,8 @@
+use Rattle.serde_json.specs.Data.{array}
+use Rattle.tq_coterie.specs.Coterie.{numbers_of}
+use Rattle.tq_written.specs.Values.{whole}
+use Rattle.tq_written.proofs.Fused.{listed-map}
+use Rattle.tq_written.proofs.views.put_servers.Goals as goal
+
+pub returns : goal.returns
+returns c = rw (listed-map whole (λ server. server.number) c.args.servers.now) at c.in_ok-put_list.ensures
