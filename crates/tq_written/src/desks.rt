@@ -114,7 +114,7 @@ impl Formed for DeskAsk {
 fn put_decided(alloc: Global, out: &mut Writer<Global>, verdict: &Verdict) -> Result<(), Memory>
     ensures { Adds result out.old out.new (spelled (desk_refusal_value (DeskRefusal.Decided verdict.now))) }
 {
-    open_member(alloc, out, "code", &22)?;
+    open_member(alloc, out, "code", &22u64)?;
     put_kind(out, "refused")?;
     close_member(alloc, out, "verdict", verdict)?;
     Ok(())
@@ -123,9 +123,9 @@ fn put_decided(alloc: Global, out: &mut Writer<Global>, verdict: &Verdict) -> Re
 fn put_bad_evidence(alloc: Global, out: &mut Writer<Global>, rule: u8) -> Result<(), Memory>
     ensures { Adds result out.old out.new (spelled (desk_refusal_value (DeskRefusal.BadEvidence rule))) }
 {
-    open_member(alloc, out, "code", &23)?;
+    open_member(alloc, out, "code", &23u64)?;
     put_kind(out, "refused")?;
-    close_member(alloc, out, "rule", &u64::from(rule))?;
+    close_member(alloc, out, "rule", &rule)?;
     Ok(())
 }
 

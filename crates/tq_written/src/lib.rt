@@ -8,4 +8,4 @@ mod nodes;
 mod values;
 mod views;
 
-pub use frame::FORMAT;
+pub use frame::{FORMAT, journals_to_json};

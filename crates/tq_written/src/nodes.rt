@@ -199,7 +199,7 @@ fn put_held(alloc: Global, out: &mut Writer<Global>, by: u64) -> Result<(), Memo
     ensures { Adds result out.old out.new (spelled (node_refusal_value (NodeRefusal.Held by))) }
 {
     open_member(alloc, out, "by", &by)?;
-    put_member(alloc, out, "code", &14)?;
+    put_member(alloc, out, "code", &14u64)?;
     close_kind(out, "refused")?;
     Ok(())
 }
@@ -207,7 +207,7 @@ fn put_held(alloc: Global, out: &mut Writer<Global>, by: u64) -> Result<(), Memo
 fn put_not_locked(alloc: Global, out: &mut Writer<Global>, file: &FileName) -> Result<(), Memory>
     ensures { Adds result out.old out.new (spelled (node_refusal_value (NodeRefusal.NotLocked file.now))) }
 {
-    open_member(alloc, out, "code", &16)?;
+    open_member(alloc, out, "code", &16u64)?;
     put_member(alloc, out, "file", file)?;
     close_kind(out, "refused")?;
     Ok(())

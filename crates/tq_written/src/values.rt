@@ -19,6 +19,28 @@ impl Formed for u64 {
     }
 }
 
+impl Formed for u32 {
+    ghost use Rattle.tq_written.specs.Values.{whole};
+
+    ghost value = { whole };
+
+    fn put(&self, _alloc: Global, out: &mut Writer<Global>) -> Result<(), Memory> {
+        out.u64(u64::from(*self))?;
+        Ok(())
+    }
+}
+
+impl Formed for u8 {
+    ghost use Rattle.tq_written.specs.Values.{whole};
+
+    ghost value = { whole };
+
+    fn put(&self, _alloc: Global, out: &mut Writer<Global>) -> Result<(), Memory> {
+        out.u64(u64::from(*self))?;
+        Ok(())
+    }
+}
+
 impl Formed for bool {
     ghost use Rattle.serde_json.specs.Data.{boolean};
 

@@ -88,7 +88,7 @@ impl Formed for ViewAsk {
 fn put_blocked(alloc: Global, out: &mut Writer<Global>, blocker: &Blocker) -> Result<(), Memory>
     ensures { Adds result out.old out.new (spelled (view_refusal_value (ViewRefusal.Blocked blocker.now))) }
 {
-    open_member(alloc, out, "code", &33)?;
+    open_member(alloc, out, "code", &33u64)?;
     put_kind(out, "refused")?;
     close_member(alloc, out, "servers", blocker)?;
     Ok(())

@@ -1,5 +1,3 @@
-use Rattle.serde_json.specs.Data.{array}
-use Rattle.tq_coterie.specs.Coterie.{numbers_of}
 use Rattle.tq_written.specs.Values.{whole}
 use Rattle.tq_written.proofs.Fused.{listed-map}
 use Rattle.tq_written.proofs.views.put_servers.Goals as goal
