@@ -17,12 +17,6 @@ fn rule_of(alloc: Global, ops: &[Op], votes: &[Vote]) -> Option<u8> {
     }
 }
 
-/// The same by the plain judge.
-fn judged(alloc: Global, ops: &[Op], votes: &[Vote]) -> Option<u8> {
-    let files = [file(1), file(2), file(3)];
-    judge(alloc, &files, ops, votes).ok()
-}
-
 /// Whether evidence fails this rule.
 fn fails(alloc: Global, cells: &[u64], rule: u8) -> bool {
     match (ops(alloc, cells), votes(alloc, cells)) {
@@ -33,10 +27,8 @@ fn fails(alloc: Global, cells: &[u64], rule: u8) -> bool {
 
 /// Whether this evidence fails the rule that the plain judge says.
 fn is_same_rule(alloc: Global, ops: &[Op], votes: &[Vote]) -> bool {
-    match judged(alloc, ops, votes) {
-        Some(rule) => rule_of(alloc, ops, votes) == Some(rule),
-        None => false,
-    }
+    let files = [file(1), file(2), file(3)];
+    rule_of(alloc, ops, votes) == Some(judge(&files, ops, votes))
 }
 
 fn fails_as_judged(alloc: Global, cells: &[u64]) -> bool {
