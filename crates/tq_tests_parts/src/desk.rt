@@ -148,6 +148,37 @@ fn no_ops(rt: HostRuntime) -> Result<(), Wrong> {
     check(is_told(rt.alloc(), &[], 6), "another reply")
 }
 
+// ---- one desk for each test, owned by one function: each owner is dear to prove
+
+#[derive(Clone, Copy)]
+enum Trial {
+    Stranger,
+    Second,
+    Commit,
+    Abort,
+    End,
+    Copied,
+    Foreseen,
+}
+
+fn passes_by(desk: &mut Asked, trial: Trial) -> bool {
+    match trial {
+        Trial::Stranger => refuses_a_stranger(desk),
+        Trial::Second => refuses_a_second(desk),
+        Trial::Commit => commits_and_tells(desk),
+        Trial::Abort => aborts(desk),
+        Trial::End => shows_the_end(desk),
+        Trial::Copied => commits_and_copies_itself(desk),
+        Trial::Foreseen => foresees_and_begins(desk),
+    }
+}
+
+/// Whether a new desk of two levels passes.
+fn passes(alloc: Global, trial: Trial) -> bool {
+    let mut desk = Asked::at_two_levels(alloc);
+    passes_by(&mut desk, trial)
+}
+
 // ---- how a transaction ends
 
 fn refuses_a_stranger(desk: &mut Asked) -> bool {
@@ -157,8 +188,7 @@ fn refuses_a_stranger(desk: &mut Asked) -> bool {
 
 #[test]
 fn transaction_never_begun(rt: HostRuntime) -> Result<(), Wrong> {
-    let mut desk = Asked::at_two_levels(rt.alloc());
-    check(refuses_a_stranger(&mut desk), "another reply")
+    check(passes(rt.alloc(), Trial::Stranger), "another reply")
 }
 
 /// Whether a second commit is refused, with the verdict of the first.
@@ -179,8 +209,7 @@ fn refuses_a_second(desk: &mut Asked) -> bool {
 
 #[test]
 fn commits_once(rt: HostRuntime) -> Result<(), Wrong> {
-    let mut desk = Asked::at_two_levels(rt.alloc());
-    check(refuses_a_second(&mut desk), "another reply")
+    check(passes(rt.alloc(), Trial::Second), "another reply")
 }
 
 fn tells_the_commit(desk: &mut Asked) -> bool {
@@ -196,8 +225,7 @@ fn commits_and_tells(desk: &mut Asked) -> bool {
 
 #[test]
 fn resolves_to_the_commit(rt: HostRuntime) -> Result<(), Wrong> {
-    let mut desk = Asked::at_two_levels(rt.alloc());
-    check(commits_and_tells(&mut desk), "another reply")
+    check(passes(rt.alloc(), Trial::Commit), "another reply")
 }
 
 fn aborts(desk: &mut Asked) -> bool {
@@ -210,8 +238,7 @@ fn aborts(desk: &mut Asked) -> bool {
 
 #[test]
 fn resolves_to_abort(rt: HostRuntime) -> Result<(), Wrong> {
-    let mut desk = Asked::at_two_levels(rt.alloc());
-    check(aborts(&mut desk), "another reply")
+    check(passes(rt.alloc(), Trial::Abort), "another reply")
 }
 
 fn is_verdict(verdict: Option<&Verdict>, wanted: &Verdict) -> bool {
@@ -235,8 +262,7 @@ fn shows_the_end(desk: &mut Asked) -> bool {
 
 #[test]
 fn tells_how_a_transaction_ended(rt: HostRuntime) -> Result<(), Wrong> {
-    let mut desk = Asked::at_two_levels(rt.alloc());
-    check(shows_the_end(&mut desk), "another verdict")
+    check(passes(rt.alloc(), Trial::End), "another verdict")
 }
 
 fn copies_itself(asked: &Asked) -> bool {
@@ -256,8 +282,7 @@ fn commits_and_copies_itself(desk: &mut Asked) -> bool {
 
 #[test]
 fn copies_what_is_recorded(rt: HostRuntime) -> Result<(), Wrong> {
-    let mut desk = Asked::at_two_levels(rt.alloc());
-    check(commits_and_copies_itself(&mut desk), "another reply")
+    check(passes(rt.alloc(), Trial::Copied), "another reply")
 }
 
 // ---- limits
@@ -379,8 +404,7 @@ fn foresees_and_begins(desk: &mut Asked) -> bool {
 
 #[test]
 fn foresees_with_no_change(rt: HostRuntime) -> Result<(), Wrong> {
-    let mut desk = Asked::at_two_levels(rt.alloc());
-    check(foresees_and_begins(&mut desk), "another reply")
+    check(passes(rt.alloc(), Trial::Foreseen), "another reply")
 }
 
 #[test]

@@ -88,8 +88,8 @@ impl Numbered {
         )
     }
 
-    /// Asks for a vote. Answers whether there is a reply.
-    fn votes(&mut self, ask: Result<NodeAsk, Memory>) -> bool {
+    /// Asks. Answers whether there is a reply.
+    fn is_answered(&mut self, ask: Result<NodeAsk, Memory>) -> bool {
         match ask {
             Ok(ask) => self.ask(&ask).is_some(),
             Err(_) => false,
@@ -214,6 +214,36 @@ impl Files {
     }
 }
 
+// ---- one server for each test, owned by one function: each owner is dear to prove
+
+#[derive(Clone, Copy)]
+enum Trial {
+    Vote,
+    LeastHolder,
+    Refusals,
+    Shown,
+    Written,
+    Copied,
+}
+
+fn passes_by(server: &mut Numbered, trial: Trial) -> bool {
+    let files = Files::new();
+    match trial {
+        Trial::Vote => outlives_a_crash(server, &files),
+        Trial::LeastHolder => names_the_least_holder(server, files.a),
+        Trial::Refusals => gives_the_first_refusal(server, &files),
+        Trial::Shown => is_set_up_and_shown(server, &files),
+        Trial::Written => writes_its_records(server, &files),
+        Trial::Copied => votes_and_copies_itself(server, &files),
+    }
+}
+
+/// Whether a new server passes.
+fn passes(alloc: Global, trial: Trial) -> bool {
+    let mut server = Numbered::new(alloc);
+    passes_by(&mut server, trial)
+}
+
 // ---- a vote that outlives a crash
 
 fn takes_locks(server: &mut Numbered, files: &Files) -> bool {
@@ -317,11 +347,7 @@ fn outlives_a_crash(server: &mut Numbered, files: &Files) -> bool {
 
 #[test]
 fn a_vote_outlives_a_crash(rt: HostRuntime) -> Result<(), Wrong> {
-    let mut server = Numbered::new(rt.alloc());
-    check(
-        outlives_a_crash(&mut server, &Files::new()),
-        "another answer",
-    )
+    check(passes(rt.alloc(), Trial::Vote), "another answer")
 }
 
 fn names_the_least_holder(server: &mut Numbered, a: FileName) -> bool {
@@ -332,11 +358,7 @@ fn names_the_least_holder(server: &mut Numbered, a: FileName) -> bool {
 
 #[test]
 fn the_least_holder_is_named(rt: HostRuntime) -> Result<(), Wrong> {
-    let mut server = Numbered::new(rt.alloc());
-    check(
-        names_the_least_holder(&mut server, Files::new().a),
-        "another answer",
-    )
+    check(passes(rt.alloc(), Trial::LeastHolder), "another answer")
 }
 
 // ---- each refusal, and the first where two hold
@@ -346,7 +368,7 @@ fn is_set_up(server: &mut Numbered, files: &Files) -> bool {
     let alloc = server.alloc;
     server.grants(1, files.a, Mode::Exclusive)
         && server.grants(2, files.b, Mode::Exclusive)
-        && server.votes(prepare_one(alloc, 1, files.a, b'x'))
+        && server.is_answered(prepare_one(alloc, 1, files.a, b'x'))
         && server.replies_to(refresh(alloc, files.c, 2, b'z'), NodeReply::Refreshed)
 }
 
@@ -413,11 +435,7 @@ fn gives_the_first_refusal(server: &mut Numbered, files: &Files) -> bool {
 
 #[test]
 fn the_first_refusal_is_given(rt: HostRuntime) -> Result<(), Wrong> {
-    let mut server = Numbered::new(rt.alloc());
-    check(
-        gives_the_first_refusal(&mut server, &Files::new()),
-        "another answer",
-    )
+    check(passes(rt.alloc(), Trial::Refusals), "another answer")
 }
 
 // ---- what is shown
@@ -464,11 +482,7 @@ fn is_set_up_and_shown(server: &mut Numbered, files: &Files) -> bool {
 
 #[test]
 fn records_are_shown(rt: HostRuntime) -> Result<(), Wrong> {
-    let mut server = Numbered::new(rt.alloc());
-    check(
-        is_set_up_and_shown(&mut server, &Files::new()),
-        "shown otherwise",
-    )
+    check(passes(rt.alloc(), Trial::Shown), "shown otherwise")
 }
 
 // ---- what each ask writes
@@ -481,7 +495,7 @@ fn prepare_one_newer(alloc: Global, files: &Files) -> Result<NodeAsk, Memory> {
 }
 
 fn locks_both(server: &mut Numbered, files: &Files) -> bool {
-    server.ask(&lock(1, files.a, Mode::Exclusive)).is_some()
+    server.is_answered(Ok(lock(1, files.a, Mode::Exclusive)))
         && server.grants(1, files.b, Mode::Exclusive)
 }
 
@@ -490,7 +504,7 @@ fn votes_for_two(server: &mut Numbered, files: &Files) -> bool {
     let alloc = server.alloc;
     server.replies_to(refresh(alloc, files.a, 3, b'r'), NodeReply::Refreshed)
         && locks_both(server, files)
-        && server.votes(prepare_one_newer(alloc, files))
+        && server.is_answered(prepare_one_newer(alloc, files))
         && server.replies_to(commit(alloc, 1, 2, 4), NodeReply::Installed)
 }
 
@@ -500,7 +514,7 @@ fn discards_a_vote(server: &mut Numbered, files: &Files) -> bool {
     server.grants(2, files.d, Mode::Shared)
         && server.replies(release(2), NodeReply::Released)
         && server.grants(2, files.d, Mode::Shared)
-        && server.votes(Ok(prepare_none(alloc, 2)))
+        && server.is_answered(Ok(prepare_none(alloc, 2)))
         && server.replies_to(commit(alloc, 2, 1, 9), NodeReply::Discarded)
 }
 
@@ -577,11 +591,7 @@ fn writes_its_records(server: &mut Numbered, files: &Files) -> bool {
 
 #[test]
 fn each_ask_writes_its_records(rt: HostRuntime) -> Result<(), Wrong> {
-    let mut server = Numbered::new(rt.alloc());
-    check(
-        writes_its_records(&mut server, &Files::new()),
-        "another answer",
-    )
+    check(passes(rt.alloc(), Trial::Written), "another answer")
 }
 
 /// The copy goes on, and the server stays where it was.
@@ -609,9 +619,5 @@ fn votes_and_copies_itself(server: &mut Numbered, files: &Files) -> bool {
 
 #[test]
 fn a_copy_goes_on_alone(rt: HostRuntime) -> Result<(), Wrong> {
-    let mut server = Numbered::new(rt.alloc());
-    check(
-        votes_and_copies_itself(&mut server, &Files::new()),
-        "another answer",
-    )
+    check(passes(rt.alloc(), Trial::Copied), "another answer")
 }
