@@ -1,8 +1,10 @@
 //! What the desk is asked and what it replies.
+ghost use Rattle.std.specs.Prelude.{OnOk};
 ghost use Rattle.tq_desk.specs.declared.ask.DeskAsk.{DeskAsk};
 ghost use Rattle.tq_desk.specs.declared.ask.DeskRefusal.{DeskRefusal};
 ghost use Rattle.tq_desk.specs.declared.ask.DeskReply.{DeskReply};
 ghost use Rattle.tq_written.specs.Desks.{desk_ask_value, desk_refusal_value, desk_reply_value};
+ghost use Rattle.tq_written.specs.Fitting.{IsFitting};
 ghost use Rattle.tq_written.specs.Written.{Adds, spelled};
 
 use crate::formed::{
@@ -80,7 +82,8 @@ fn put_commit(
     ops: &Seq<Op>,
     votes: &Seq<Vote>,
 ) -> Result<(), Memory>
-    ensures { Adds result out.old out.new (spelled (desk_ask_value (DeskAsk.Commit txn ops.now votes.now))) }
+    ensures adds { Adds result out.old out.new (spelled (desk_ask_value (DeskAsk.Commit txn ops.now votes.now))) }
+    ensures fits { OnOk result (IsFitting (desk_ask_value (DeskAsk.Commit txn ops.now votes.now))) }
 {
     open_kind(out, "commit")?;
     put_member(alloc, out, "ops", ops)?;
@@ -90,7 +93,8 @@ fn put_commit(
 }
 
 fn put_resolve(alloc: Global, out: &mut Writer<Global>, txn: u64) -> Result<(), Memory>
-    ensures { Adds result out.old out.new (spelled (desk_ask_value (DeskAsk.Resolve txn))) }
+    ensures adds { Adds result out.old out.new (spelled (desk_ask_value (DeskAsk.Resolve txn))) }
+    ensures fits { OnOk result (IsFitting (desk_ask_value (DeskAsk.Resolve txn))) }
 {
     open_kind(out, "resolve")?;
     close_member(alloc, out, "txn", &txn)?;
@@ -112,7 +116,8 @@ impl Formed for DeskAsk {
 }
 
 fn put_decided(alloc: Global, out: &mut Writer<Global>, verdict: &Verdict) -> Result<(), Memory>
-    ensures { Adds result out.old out.new (spelled (desk_refusal_value (DeskRefusal.Decided verdict.now))) }
+    ensures adds { Adds result out.old out.new (spelled (desk_refusal_value (DeskRefusal.Decided verdict.now))) }
+    ensures fits { OnOk result (IsFitting (desk_refusal_value (DeskRefusal.Decided verdict.now))) }
 {
     open_member(alloc, out, "code", &22u64)?;
     put_kind(out, "refused")?;
@@ -121,7 +126,8 @@ fn put_decided(alloc: Global, out: &mut Writer<Global>, verdict: &Verdict) -> Re
 }
 
 fn put_bad_evidence(alloc: Global, out: &mut Writer<Global>, rule: u8) -> Result<(), Memory>
-    ensures { Adds result out.old out.new (spelled (desk_refusal_value (DeskRefusal.BadEvidence rule))) }
+    ensures adds { Adds result out.old out.new (spelled (desk_refusal_value (DeskRefusal.BadEvidence rule))) }
+    ensures fits { OnOk result (IsFitting (desk_refusal_value (DeskRefusal.BadEvidence rule))) }
 {
     open_member(alloc, out, "code", &23u64)?;
     put_kind(out, "refused")?;
@@ -146,7 +152,8 @@ impl Formed for DeskRefusal {
 }
 
 fn put_txn(alloc: Global, out: &mut Writer<Global>, txn: u64) -> Result<(), Memory>
-    ensures { Adds result out.old out.new (spelled (desk_reply_value (DeskReply.Txn txn))) }
+    ensures adds { Adds result out.old out.new (spelled (desk_reply_value (DeskReply.Txn txn))) }
+    ensures fits { OnOk result (IsFitting (desk_reply_value (DeskReply.Txn txn))) }
 {
     open_kind(out, "txn")?;
     close_member(alloc, out, "txn", &txn)?;
@@ -154,7 +161,8 @@ fn put_txn(alloc: Global, out: &mut Writer<Global>, txn: u64) -> Result<(), Memo
 }
 
 fn put_verdict(alloc: Global, out: &mut Writer<Global>, verdict: &Verdict) -> Result<(), Memory>
-    ensures { Adds result out.old out.new (spelled (desk_reply_value (DeskReply.Verdict verdict.now))) }
+    ensures adds { Adds result out.old out.new (spelled (desk_reply_value (DeskReply.Verdict verdict.now))) }
+    ensures fits { OnOk result (IsFitting (desk_reply_value (DeskReply.Verdict verdict.now))) }
 {
     open_kind(out, "verdict")?;
     close_member(alloc, out, "verdict", verdict)?;
@@ -162,7 +170,8 @@ fn put_verdict(alloc: Global, out: &mut Writer<Global>, verdict: &Verdict) -> Re
 }
 
 fn put_committed(alloc: Global, out: &mut Writer<Global>, serial: u64) -> Result<(), Memory>
-    ensures { Adds result out.old out.new (spelled (desk_reply_value (DeskReply.Committed serial))) }
+    ensures adds { Adds result out.old out.new (spelled (desk_reply_value (DeskReply.Committed serial))) }
+    ensures fits { OnOk result (IsFitting (desk_reply_value (DeskReply.Committed serial))) }
 {
     open_kind(out, "committed")?;
     close_member(alloc, out, "serial", &serial)?;

@@ -1,7 +1,8 @@
 //! What the form has a value for, and the objects and lists of such values.
-ghost use Rattle.std.specs.Prelude.{◌∷◌, [], ◌++◌, codes};
+ghost use Rattle.std.specs.Prelude.{◌∷◌, [], ◌++◌, codes, OnOk};
 ghost use Rattle.json.specs.Token.{key, begin_object, end_object, string as text};
 ghost use Rattle.tq_written.specs.Values.{code_value, kind_value, list_value};
+ghost use Rattle.tq_written.specs.Fitting.{IsFitting};
 ghost use Rattle.tq_written.specs.Written.{Adds, spelled};
 
 use json::Writer;
@@ -10,15 +11,18 @@ use tq_shape::Memory;
 
 /// What the form has a value for, so that it can be written.
 pub(crate) trait Formed {
+    ghost use Rattle.std.specs.Prelude.{OnOk};
     ghost use Rattle.serde_json.specs.Data.{Data};
+    ghost use Rattle.tq_written.specs.Fitting.{IsFitting};
     ghost use Rattle.tq_written.specs.Written.{Adds, spelled};
 
     /// The value of the form.
     ghost value: { Self → Data };
 
-    /// Writes the value.
+    /// Writes the value, whose numbers fit 64 bits.
     fn put(&self, alloc: Global, out: &mut Writer<Global>) -> Result<(), Memory>
-        ensures { Adds result out.old out.new (spelled (value self.now)) };
+        ensures adds { Adds result out.old out.new (spelled (value self.now)) }
+        ensures fits { OnOk result (IsFitting (value self.now)) };
 }
 
 /// A member of an object that is open.
@@ -28,7 +32,8 @@ pub(crate) fn put_member<T: Formed>(
     name: &str,
     member: &T,
 ) -> Result<(), Memory>
-    ensures { Adds result out.old out.new (key name.now ∷ spelled (T.value member.now)) }
+    ensures adds { Adds result out.old out.new (key name.now ∷ spelled (T.value member.now)) }
+    ensures fits { OnOk result (IsFitting (T.value member.now)) }
 {
     out.key(name)?;
     member.put(alloc, out)?;
@@ -42,7 +47,8 @@ pub(crate) fn open_member<T: Formed>(
     name: &str,
     member: &T,
 ) -> Result<(), Memory>
-    ensures { Adds result out.old out.new (begin_object ∷ key name.now ∷ spelled (T.value member.now)) }
+    ensures adds { Adds result out.old out.new (begin_object ∷ key name.now ∷ spelled (T.value member.now)) }
+    ensures fits { OnOk result (IsFitting (T.value member.now)) }
 {
     out.begin_object()?;
     put_member(alloc, out, name, member)?;
@@ -56,7 +62,8 @@ pub(crate) fn close_member<T: Formed>(
     name: &str,
     member: &T,
 ) -> Result<(), Memory>
-    ensures { Adds result out.old out.new (key name.now ∷ (spelled (T.value member.now) ++ end_object ∷ [])) }
+    ensures adds { Adds result out.old out.new (key name.now ∷ (spelled (T.value member.now) ++ end_object ∷ [])) }
+    ensures fits { OnOk result (IsFitting (T.value member.now)) }
 {
     put_member(alloc, out, name, member)?;
     out.end_object()?;
@@ -92,7 +99,8 @@ pub(crate) fn close_kind(out: &mut Writer<Global>, kind: &str) -> Result<(), Mem
 
 /// An object that has a kind alone.
 pub(crate) fn put_only_kind(out: &mut Writer<Global>, kind: &str) -> Result<(), Memory>
-    ensures { Adds result out.old out.new (spelled (kind_value kind.now)) }
+    ensures adds { Adds result out.old out.new (spelled (kind_value kind.now)) }
+    ensures fits { OnOk result (IsFitting (kind_value kind.now)) }
 {
     open_kind(out, kind)?;
     out.end_object()?;
@@ -101,7 +109,8 @@ pub(crate) fn put_only_kind(out: &mut Writer<Global>, kind: &str) -> Result<(), 
 
 /// A refusal that tells no more than its code.
 pub(crate) fn put_code(alloc: Global, out: &mut Writer<Global>, code: u64) -> Result<(), Memory>
-    ensures { Adds result out.old out.new (spelled (code_value code)) }
+    ensures adds { Adds result out.old out.new (spelled (code_value code)) }
+    ensures fits { OnOk result (IsFitting (code_value code)) }
 {
     open_member(alloc, out, "code", &code)?;
     close_kind(out, "refused")?;
@@ -114,7 +123,8 @@ pub(crate) fn put_list<T: Formed>(
     out: &mut Writer<Global>,
     items: &[T],
 ) -> Result<(), Memory>
-    ensures { Adds result out.old out.new (spelled (list_value T.value items.now)) }
+    ensures adds { Adds result out.old out.new (spelled (list_value T.value items.now)) }
+    ensures fits { OnOk result (IsFitting (list_value T.value items.now)) }
 {
     out.begin_array()?;
     for item in items {

@@ -1,5 +1,5 @@
 //! The journals of all parts as one text.
-ghost use Rattle.std.specs.Prelude.{◌≡◌, ◌∷◌, [], ◌++◌, IfOk, codes, map};
+ghost use Rattle.std.specs.Prelude.{◌≡◌, ◌∷◌, [], ◌++◌, IfOk, codes, map, OnOk};
 ghost use Rattle.std.specs.String.{string_bytes};
 ghost use Rattle.json.specs.Token.{key, begin_object, end_object};
 ghost use Rattle.serde_json.specs.Written.{compact_text};
@@ -8,6 +8,7 @@ ghost use Rattle.tq_written.specs.Form.{journals_value};
 ghost use Rattle.tq_written.specs.Nodes.{node_entry_value};
 ghost use Rattle.tq_written.specs.Values.{list_value, whole};
 ghost use Rattle.tq_written.specs.Views.{view_entry_value};
+ghost use Rattle.tq_written.specs.Fitting.{IsFitting};
 ghost use Rattle.tq_written.specs.Written.{Adds, spelled};
 
 use crate::formed::{Formed, close_member, open_member, put_list, put_member};
@@ -34,7 +35,8 @@ impl Formed for Limits {
 
 /// The beginning of the journals' object, with the entries of the desk.
 fn open_desk(alloc: Global, out: &mut Writer<Global>, journals: &Journals) -> Result<(), Memory>
-    ensures { Adds result out.old out.new (begin_object ∷ key (codes "desk") ∷ spelled (list_value desk_entry_value journals.now.desk)) }
+    ensures adds { Adds result out.old out.new (begin_object ∷ key (codes "desk") ∷ spelled (list_value desk_entry_value journals.now.desk)) }
+    ensures fits { OnOk result (IsFitting (list_value desk_entry_value journals.now.desk)) }
 {
     out.begin_object()?;
     out.key("desk")?;
@@ -48,7 +50,8 @@ fn put_lists(
     out: &mut Writer<Global>,
     lists: &[Vec<NodeEntry>],
 ) -> Result<(), Memory>
-    ensures { Adds result out.old out.new (spelled (list_value (list_value node_entry_value) (map (λ entries. entries.items) lists.now))) }
+    ensures adds { Adds result out.old out.new (spelled (list_value (list_value node_entry_value) (map (λ entries. entries.items) lists.now))) }
+    ensures fits { OnOk result (IsFitting (list_value (list_value node_entry_value) (map (λ entries. entries.items) lists.now))) }
 {
     put_list(alloc, out, lists)?;
     Ok(())
@@ -56,7 +59,8 @@ fn put_lists(
 
 /// The entries of the servers, a list for each.
 fn put_servers(alloc: Global, out: &mut Writer<Global>, journals: &Journals) -> Result<(), Memory>
-    ensures { Adds result out.old out.new (key (codes "servers") ∷ spelled (list_value (list_value node_entry_value) journals.now.servers)) }
+    ensures adds { Adds result out.old out.new (key (codes "servers") ∷ spelled (list_value (list_value node_entry_value) journals.now.servers)) }
+    ensures fits { OnOk result (IsFitting (list_value (list_value node_entry_value) journals.now.servers)) }
 {
     out.key("servers")?;
     put_lists(alloc, out, journals.servers())?;
@@ -65,7 +69,8 @@ fn put_servers(alloc: Global, out: &mut Writer<Global>, journals: &Journals) -> 
 
 /// The entries of the view, with the end of the journals' object.
 fn close_view(alloc: Global, out: &mut Writer<Global>, journals: &Journals) -> Result<(), Memory>
-    ensures { Adds result out.old out.new (key (codes "view") ∷ (spelled (list_value view_entry_value journals.now.view) ++ end_object ∷ [])) }
+    ensures adds { Adds result out.old out.new (key (codes "view") ∷ (spelled (list_value view_entry_value journals.now.view) ++ end_object ∷ [])) }
+    ensures fits { OnOk result (IsFitting (list_value view_entry_value journals.now.view)) }
 {
     out.key("view")?;
     put_list(alloc, out, journals.view())?;
@@ -75,7 +80,8 @@ fn close_view(alloc: Global, out: &mut Writer<Global>, journals: &Journals) -> R
 
 /// How many levels the tree has.
 fn put_levels(alloc: Global, out: &mut Writer<Global>, journals: &Journals) -> Result<(), Memory>
-    ensures { Adds result out.old out.new (key (codes "levels") ∷ spelled (whole journals.now.levels)) }
+    ensures adds { Adds result out.old out.new (key (codes "levels") ∷ spelled (whole journals.now.levels)) }
+    ensures fits { OnOk result (IsFitting (whole journals.now.levels)) }
 {
     put_member(alloc, out, "levels", &journals.levels().count())?;
     Ok(())
@@ -83,7 +89,8 @@ fn put_levels(alloc: Global, out: &mut Writer<Global>, journals: &Journals) -> R
 
 /// The journals as one object.
 fn put_journals(alloc: Global, out: &mut Writer<Global>, journals: &Journals) -> Result<(), Memory>
-    ensures { Adds result out.old out.new (spelled (journals_value journals.now)) }
+    ensures adds { Adds result out.old out.new (spelled (journals_value journals.now)) }
+    ensures fits { OnOk result (IsFitting (journals_value journals.now)) }
 {
     open_desk(alloc, out, journals)?;
     put_member(alloc, out, "format", &FORMAT)?;
@@ -95,10 +102,11 @@ fn put_journals(alloc: Global, out: &mut Writer<Global>, journals: &Journals) ->
 }
 
 /// The journals as JSON text with a line feed at its end: with no space, the members of each object in ascending order
-/// of their names, and contents in lower-case hexadecimal. Answers an error only where memory is refused; nothing has
-/// changed then.
+/// of their names, and contents in lower-case hexadecimal. Each number in it fits 64 bits. Answers an error only where
+/// memory is refused; nothing has changed then.
 pub fn journals_to_json(alloc: Global, journals: &Journals) -> Result<String, Memory>
-    ensures { IfOk result (λ text. string_bytes text ≡ compact_text (journals_value journals.now) ++ 10 ∷ []) }
+    ensures text { IfOk result (λ text. string_bytes text ≡ compact_text (journals_value journals.now) ++ 10 ∷ []) }
+    ensures fits { OnOk result (IsFitting (journals_value journals.now)) }
 {
     let mut out = Writer::new(Vec::new(alloc));
     put_journals(alloc, &mut out, journals)?;

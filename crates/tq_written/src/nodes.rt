@@ -1,10 +1,11 @@
 //! What servers are asked and what they reply.
-ghost use Rattle.std.specs.Prelude.{◌≡◌, codes};
+ghost use Rattle.std.specs.Prelude.{◌≡◌, codes, OnOk};
 ghost use Rattle.tq_node.specs.declared.ask.NodeRefusal.{NodeRefusal};
 ghost use Rattle.tq_node.specs.declared.ask.NodeReply.{NodeReply};
 ghost use Rattle.tq_node.specs.declared.ask.Verdict.{Verdict};
 ghost use Rattle.tq_node.specs.declared.ask.WorkAsk.{WorkAsk};
 ghost use Rattle.tq_written.specs.Nodes.{copy_value, node_refusal_value, node_reply_value, verdict_value, work_value};
+ghost use Rattle.tq_written.specs.Fitting.{IsFitting};
 ghost use Rattle.tq_written.specs.Written.{Adds, spelled};
 
 use crate::formed::{
@@ -57,7 +58,8 @@ impl Formed for HeldLock {
 }
 
 fn put_commit(alloc: Global, out: &mut Writer<Global>, votes: &Seq<CitedVote>) -> Result<(), Memory>
-    ensures { Adds result out.old out.new (spelled (verdict_value (Verdict.Commit votes.now))) }
+    ensures adds { Adds result out.old out.new (spelled (verdict_value (Verdict.Commit votes.now))) }
+    ensures fits { OnOk result (IsFitting (verdict_value (Verdict.Commit votes.now))) }
 {
     open_kind(out, "commit")?;
     close_member(alloc, out, "votes", votes)?;
@@ -84,7 +86,8 @@ fn put_lock(
     file: &FileName,
     mode: Mode,
 ) -> Result<(), Memory>
-    ensures { Adds result out.old out.new (spelled (work_value (WorkAsk.Lock txn file.now mode))) }
+    ensures adds { Adds result out.old out.new (spelled (work_value (WorkAsk.Lock txn file.now mode))) }
+    ensures fits { OnOk result (IsFitting (work_value (WorkAsk.Lock txn file.now mode))) }
 {
     open_member(alloc, out, "file", file)?;
     put_kind(out, "lock")?;
@@ -99,7 +102,8 @@ fn put_prepare(
     txn: u64,
     writes: &Seq<Write>,
 ) -> Result<(), Memory>
-    ensures { Adds result out.old out.new (spelled (work_value (WorkAsk.Prepare txn writes.now))) }
+    ensures adds { Adds result out.old out.new (spelled (work_value (WorkAsk.Prepare txn writes.now))) }
+    ensures fits { OnOk result (IsFitting (work_value (WorkAsk.Prepare txn writes.now))) }
 {
     open_kind(out, "prepare")?;
     put_member(alloc, out, "txn", &txn)?;
@@ -114,7 +118,8 @@ fn put_decide(
     verdict: &Verdict,
     cite: u64,
 ) -> Result<(), Memory>
-    ensures { Adds result out.old out.new (spelled (work_value (WorkAsk.Decide txn verdict.now cite))) }
+    ensures adds { Adds result out.old out.new (spelled (work_value (WorkAsk.Decide txn verdict.now cite))) }
+    ensures fits { OnOk result (IsFitting (work_value (WorkAsk.Decide txn verdict.now cite))) }
 {
     open_member(alloc, out, "cite", &cite)?;
     put_kind(out, "decide")?;
@@ -124,7 +129,8 @@ fn put_decide(
 }
 
 fn put_release(alloc: Global, out: &mut Writer<Global>, txn: u64) -> Result<(), Memory>
-    ensures { Adds result out.old out.new (spelled (work_value (WorkAsk.Release txn))) }
+    ensures adds { Adds result out.old out.new (spelled (work_value (WorkAsk.Release txn))) }
+    ensures fits { OnOk result (IsFitting (work_value (WorkAsk.Release txn))) }
 {
     open_kind(out, "release")?;
     close_member(alloc, out, "txn", &txn)?;
@@ -132,7 +138,8 @@ fn put_release(alloc: Global, out: &mut Writer<Global>, txn: u64) -> Result<(), 
 }
 
 fn put_peek(alloc: Global, out: &mut Writer<Global>, file: &FileName) -> Result<(), Memory>
-    ensures { Adds result out.old out.new (spelled (work_value (WorkAsk.Peek file.now))) }
+    ensures adds { Adds result out.old out.new (spelled (work_value (WorkAsk.Peek file.now))) }
+    ensures fits { OnOk result (IsFitting (work_value (WorkAsk.Peek file.now))) }
 {
     open_member(alloc, out, "file", file)?;
     close_kind(out, "peek")?;
@@ -147,7 +154,8 @@ fn put_refresh(
     content: &Content,
     from: &CitedVote,
 ) -> Result<(), Memory>
-    ensures { Adds result out.old out.new (spelled (work_value (WorkAsk.Refresh file.now version content.now from.now))) }
+    ensures adds { Adds result out.old out.new (spelled (work_value (WorkAsk.Refresh file.now version content.now from.now))) }
+    ensures fits { OnOk result (IsFitting (work_value (WorkAsk.Refresh file.now version content.now from.now))) }
 {
     open_member(alloc, out, "content", content)?;
     put_member(alloc, out, "file", file)?;
@@ -196,7 +204,8 @@ impl Formed for NodeAsk {
 }
 
 fn put_held(alloc: Global, out: &mut Writer<Global>, by: u64) -> Result<(), Memory>
-    ensures { Adds result out.old out.new (spelled (node_refusal_value (NodeRefusal.Held by))) }
+    ensures adds { Adds result out.old out.new (spelled (node_refusal_value (NodeRefusal.Held by))) }
+    ensures fits { OnOk result (IsFitting (node_refusal_value (NodeRefusal.Held by))) }
 {
     open_member(alloc, out, "by", &by)?;
     put_member(alloc, out, "code", &14u64)?;
@@ -205,7 +214,8 @@ fn put_held(alloc: Global, out: &mut Writer<Global>, by: u64) -> Result<(), Memo
 }
 
 fn put_not_locked(alloc: Global, out: &mut Writer<Global>, file: &FileName) -> Result<(), Memory>
-    ensures { Adds result out.old out.new (spelled (node_refusal_value (NodeRefusal.NotLocked file.now))) }
+    ensures adds { Adds result out.old out.new (spelled (node_refusal_value (NodeRefusal.NotLocked file.now))) }
+    ensures fits { OnOk result (IsFitting (node_refusal_value (NodeRefusal.NotLocked file.now))) }
 {
     open_member(alloc, out, "code", &16u64)?;
     put_member(alloc, out, "file", file)?;
@@ -241,7 +251,8 @@ fn put_copy(
     version: u64,
     content: &Content,
 ) -> Result<(), Memory>
-    ensures { Adds result out.old out.new (spelled (copy_value kind.now version content.now)) }
+    ensures adds { Adds result out.old out.new (spelled (copy_value kind.now version content.now)) }
+    ensures fits { OnOk result (IsFitting (copy_value kind.now version content.now)) }
 {
     open_member(alloc, out, "content", content)?;
     put_kind(out, kind)?;
@@ -255,7 +266,8 @@ fn put_yes(
     held: &Seq<HeldLock>,
     writes: &Seq<Write>,
 ) -> Result<(), Memory>
-    ensures { Adds result out.old out.new (spelled (node_reply_value (NodeReply.Yes held.now writes.now))) }
+    ensures adds { Adds result out.old out.new (spelled (node_reply_value (NodeReply.Yes held.now writes.now))) }
+    ensures fits { OnOk result (IsFitting (node_reply_value (NodeReply.Yes held.now writes.now))) }
 {
     open_member(alloc, out, "held", held)?;
     put_kind(out, "yes")?;

@@ -1,11 +1,12 @@
 //! What the view is asked and what it replies.
-ghost use Rattle.std.specs.Prelude.{◌≡◌};
+ghost use Rattle.std.specs.Prelude.{◌≡◌, OnOk};
 ghost use Rattle.tq_coterie.specs.Coterie.{numbers_of};
 ghost use Rattle.tq_live.specs.declared.view.ViewAsk.{ViewAsk};
 ghost use Rattle.tq_live.specs.declared.view.ViewRefusal.{ViewRefusal};
 ghost use Rattle.tq_live.specs.declared.view.ViewReply.{ViewReply};
 ghost use Rattle.tq_written.specs.Values.{list_value, whole};
 ghost use Rattle.tq_written.specs.Views.{view_ask_value, view_refusal_value, view_reply_value};
+ghost use Rattle.tq_written.specs.Fitting.{IsFitting};
 ghost use Rattle.tq_written.specs.Written.{Adds, spelled};
 
 use crate::formed::{
@@ -20,7 +21,8 @@ use tq_shape::{Memory, ServerId};
 
 /// The numbers of the servers.
 fn put_servers(alloc: Global, out: &mut Writer<Global>, servers: &[ServerId]) -> Result<(), Memory>
-    ensures { Adds result out.old out.new (spelled (list_value whole (numbers_of servers.now))) }
+    ensures adds { Adds result out.old out.new (spelled (list_value whole (numbers_of servers.now))) }
+    ensures fits { OnOk result (IsFitting (list_value whole (numbers_of servers.now))) }
 {
     put_list(alloc, out, servers)?;
     Ok(())
@@ -54,7 +56,8 @@ fn put_set_cost(
     server: u64,
     cost: u64,
 ) -> Result<(), Memory>
-    ensures { Adds result out.old out.new (spelled (view_ask_value (ViewAsk.SetCost server cost))) }
+    ensures adds { Adds result out.old out.new (spelled (view_ask_value (ViewAsk.SetCost server cost))) }
+    ensures fits { OnOk result (IsFitting (view_ask_value (ViewAsk.SetCost server cost))) }
 {
     open_member(alloc, out, "cost", &cost)?;
     put_kind(out, "setcost")?;
@@ -63,7 +66,8 @@ fn put_set_cost(
 }
 
 fn put_mark(alloc: Global, out: &mut Writer<Global>, server: u64, up: bool) -> Result<(), Memory>
-    ensures { Adds result out.old out.new (spelled (view_ask_value (ViewAsk.Mark server up))) }
+    ensures adds { Adds result out.old out.new (spelled (view_ask_value (ViewAsk.Mark server up))) }
+    ensures fits { OnOk result (IsFitting (view_ask_value (ViewAsk.Mark server up))) }
 {
     open_kind(out, "mark")?;
     put_member(alloc, out, "server", &server)?;
@@ -86,7 +90,8 @@ impl Formed for ViewAsk {
 }
 
 fn put_blocked(alloc: Global, out: &mut Writer<Global>, blocker: &Blocker) -> Result<(), Memory>
-    ensures { Adds result out.old out.new (spelled (view_refusal_value (ViewRefusal.Blocked blocker.now))) }
+    ensures adds { Adds result out.old out.new (spelled (view_refusal_value (ViewRefusal.Blocked blocker.now))) }
+    ensures fits { OnOk result (IsFitting (view_refusal_value (ViewRefusal.Blocked blocker.now))) }
 {
     open_member(alloc, out, "code", &33u64)?;
     put_kind(out, "refused")?;
@@ -114,7 +119,8 @@ fn put_chosen(
     quorum: &Quorum,
     cost: u64,
 ) -> Result<(), Memory>
-    ensures { Adds result out.old out.new (spelled (view_reply_value (ViewReply.Chosen quorum.now cost))) }
+    ensures adds { Adds result out.old out.new (spelled (view_reply_value (ViewReply.Chosen quorum.now cost))) }
+    ensures fits { OnOk result (IsFitting (view_reply_value (ViewReply.Chosen quorum.now cost))) }
 {
     open_member(alloc, out, "cost", &cost)?;
     put_kind(out, "chosen")?;
