@@ -6,7 +6,7 @@ use Rattle.json.specs.Lex.{tokens}
 use Rattle.json.specs.Json as json
 use Rattle.serde_json.specs.Data.{Num, Data, null, number, array, object, Items, item, Members, no_members, put}
 use Rattle.serde_json.specs.Read.{number_of, of_json, of_items, of_members, read}
-use Rattle.tq_value.specs.View.{data_of, items_data, members_data, number_data, fits, items_fit, members_fit}
+use Rattle.tq_value.specs.View.{data_of, items_data, members_data, fits, items_fit, members_fit}
 
 number_kept : (o : Option Num) → option_map number o ≡ cond (is_some o) (Some (unwrap_or (option_map number o) null)) None
 number_kept None = refl

@@ -1,5 +1,5 @@
 -- A number with a minus sign is no number of 64 bits without a sign.
-use Rattle.std.proofs.Common.{◌≡◌, ◌^◌, ◌&&◌, ℤ, Float, Bool, true, false, if◌then◌else◌, nat_lt, nat_le, Option, Some, None, refl}
+use Rattle.std.proofs.Common.{◌≡◌, ◌^◌, ◌&&◌, ℤ, Float, Bool, true, false, if◌then◌else◌, nat_lt, nat_le, Some, None, refl}
 use Rattle.std.specs.Option.{option_and_then}
 use Rattle.std.specs.Float.{binary64, float_is_finite}
 use Rattle.fast_float.specs.Text.{Parts, digits_of, nearest, with_sign}
