@@ -1,0 +1,6 @@
+//! The journals of a system from their text: the form of journal files, and its reader.
+#![tactic(auto)]
+
+mod content;
+mod locking;
+mod member;
