@@ -1,6 +1,9 @@
 //! The journals of a system from their text: the form of journal files, and its reader.
 #![tactic(auto)]
 
+mod commits;
 mod content;
 mod locking;
 mod member;
+mod node_ask;
+mod node_reply;
