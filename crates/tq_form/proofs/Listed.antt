@@ -26,3 +26,10 @@ module _ {A : Type 0} (form : Data → Option A) (xs : List Value) (i : ℕ) (x 
   pub each_more : i < length xs → (front : List A) (a : A) → form (view (get_or xs i x)) ≡ Some a
       → with_front front (each form (items_view (drop i xs))) ≡ with_front (front ++ a ∷ []) (each form (items_view (drop (i + 1) xs)))
   each_more within front a some = rw (drop_more xs i x within, some) (moved front a (each form (items_view (drop (i + 1) xs))))
+
+  -- one value more is read: what stays to be read is as it was
+  pub each_goes : i < length xs → x ≡ get_or xs i x → (front new : List A) (a : A) → form (view x) ≡ Some a → new ≡ front ++ a ∷ [] → (all : Option (List A))
+      → with_front front (each form (items_view (drop i xs))) ≡ all → with_front new (each form (items_view (drop (i + 1) xs))) ≡ all
+  each_goes within at front new a some pushed all before =
+      ap (λ items. with_front items (each form (items_view (drop (i + 1) xs)))) pushed
+      ∙ sym (each_more within front a (ap (λ v. form (view v)) (sym at) ∙ some)) ∙ before

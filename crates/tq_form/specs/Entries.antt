@@ -1,5 +1,5 @@
 -- Entries, and the journal of one part.
-use Rattle.std.specs.Prelude.{ℕ, suc, nat_le, List, Option, Some, None, cond, codes}
+use Rattle.std.specs.Prelude.{ℕ, suc, nat_lt, List, Option, Some, None, cond, codes}
 use Rattle.serde_json.specs.Data.{Data, Items, no_items, item}
 use Rattle.serde_json.specs.Find.{get, as_array}
 use Rattle.tq_shape.specs.declared.entry.Entry.{Entry}
@@ -37,11 +37,15 @@ abbrev pub count : Items → ℕ
 count no_items = 0
 count (item value rest) = suc (count rest)
 
+-- no more values than the limit
+abbrev pub few : ℕ → Items → Option Items
+few limit values = cond (nat_lt limit (count values)) None (Some values)
+
 -- a list of no more values than the limit
 abbrev pub within : ℕ → Data → Option Items
 within limit value = do
   values ← as_array value
-  cond (nat_le (count values) limit) (Some values) None
+  few limit values
 
 -- the entries, the oldest first, no more than the limit
 abbrev pub journal : {A : Type 0} → (Data → Option A) → ℕ → Data → Option (List A)

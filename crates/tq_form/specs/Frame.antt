@@ -10,11 +10,6 @@ use Rattle.tq_form.specs.Format.{Format, format_of}
 use Rattle.tq_form.specs.Member.{◌>>=◌, number_at, items_at, each}
 use Rattle.tq_form.specs.Entries.{journal, count, node_entry, desk_entry, view_entry}
 
-abbrev pub format_at : Data → Option Format
-format_at value = do
-  number ← number_at (codes "format") value
-  format_of number
-
 -- a number from 1 up to the most
 abbrev pub up_to_at : ℕ → List ℕ → Data → Option ℕ
 up_to_at most name value = do
@@ -71,8 +66,13 @@ journals_in format value = do
   view ← view_at levels limits.entries value
   Some (record { levels = levels; limits = limits; servers = servers; desk = desk; view = view })
 
+abbrev pub journals_by : ℕ → Data → Option JournalsView
+journals_by number value = do
+  format ← format_of number
+  journals_in format value
+
 -- the journals that a value of the form is
 abbrev pub journals_of : Data → Option JournalsView
 journals_of value = do
-  format ← format_at value
-  journals_in format value
+  number ← number_at (codes "format") value
+  journals_by number value

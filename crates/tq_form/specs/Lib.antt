@@ -9,3 +9,4 @@ pub mod Desks
 pub mod Views
 pub mod Entries
 pub mod Frame
+pub mod Faults

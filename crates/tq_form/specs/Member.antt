@@ -1,6 +1,6 @@
 -- What stands in an object of the form at a name.
 use Rattle.std.specs.Prelude.{ℕ, Bool, List, [], ◌∷◌, Option, Some, None}
-use Rattle.std.specs.Option.{option_map, option_and_then}
+use Rattle.std.specs.Option.{option_and_then}
 use Rattle.serde_json.specs.Data.{Data, Items, no_items, item}
 use Rattle.serde_json.specs.Find.{get, as_str, as_number, as_u64, as_bool, as_array}
 
@@ -33,4 +33,3 @@ each form (item value values) = do
   first ← form value
   rest ← each form values
   Some (first ∷ rest)
-

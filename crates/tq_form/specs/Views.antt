@@ -7,7 +7,6 @@ use Rattle.tq_live.specs.declared.view.ViewAsk.{ViewAsk}
 use Rattle.tq_live.specs.declared.view.ViewAsk.TheVariants.{SetCost, Mark, Choose}
 use Rattle.tq_live.specs.declared.view.ViewReply.{ViewReply}
 use Rattle.tq_live.specs.declared.view.ViewReply.TheVariants.{CostSet, Marked, Chosen, Refused}
-use Rattle.tq_live.specs.declared.view.ViewRefusal.{ViewRefusal}
 use Rattle.tq_live.specs.declared.view.ViewRefusal.TheVariants.{NoSuchServer, BadCost, Blocked}
 use Rattle.tq_form.specs.Member.{◌>>=◌, text_at, number_at, number_of, flag_at, items_at, each}
 
@@ -87,4 +86,3 @@ abbrev pub view_reply : ℕ → Data → Option ViewReply
 view_reply levels value = do
   kind ← text_at (codes "is") value
   view_reply_by levels kind value
-

@@ -11,7 +11,7 @@ use tq_desk::DeskAsk;
 use tq_shape::Memory;
 
 /// The ask of the desk that the value is: `None` where it is none.
-pub fn desk_ask(alloc: Global, value: &Value) -> Result<Option<DeskAsk>, Memory>
+pub(crate) fn desk_ask(alloc: Global, value: &Value) -> Result<Option<DeskAsk>, Memory>
     ensures { IfOk result (λ ask. ask ≡ spec.desk_ask one (view value.now)) }
 {
     let Some(kind) = text_at(value, "is") else {

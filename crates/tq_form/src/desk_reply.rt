@@ -10,7 +10,7 @@ use tq_desk::{DeskRefusal, DeskReply};
 use tq_shape::Memory;
 
 /// The reply of the desk that the value is: `None` where it is none.
-pub fn desk_reply(alloc: Global, value: &Value) -> Result<Option<DeskReply>, Memory>
+pub(crate) fn desk_reply(alloc: Global, value: &Value) -> Result<Option<DeskReply>, Memory>
     ensures { IfOk result (λ reply. reply ≡ spec.desk_reply (view value.now)) }
 {
     let Some(kind) = text_at(value, "is") else {

@@ -12,7 +12,7 @@ use tq_node::{CitedVote, NodeAsk, WorkAsk};
 use tq_shape::Memory;
 
 /// The ask of a server that the value is: `None` where it is none.
-pub fn node_ask(alloc: Global, value: &Value) -> Result<Option<NodeAsk>, Memory>
+pub(crate) fn node_ask(alloc: Global, value: &Value) -> Result<Option<NodeAsk>, Memory>
     ensures { IfOk result (λ ask. ask ≡ spec.node_ask one (view value.now)) }
 {
     let Some(kind) = text_at(value, "is") else {

@@ -12,7 +12,7 @@ use tq_node::{NodeRefusal, NodeReply};
 use tq_shape::Memory;
 
 /// The reply of a server that the value is: `None` where it is none.
-pub fn node_reply(alloc: Global, value: &Value) -> Result<Option<NodeReply>, Memory>
+pub(crate) fn node_reply(alloc: Global, value: &Value) -> Result<Option<NodeReply>, Memory>
     ensures { IfOk result (λ reply. reply ≡ spec.node_reply one (view value.now)) }
 {
     let Some(kind) = text_at(value, "is") else {

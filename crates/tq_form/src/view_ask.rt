@@ -7,7 +7,7 @@ use serde_json::Value;
 use tq_live::ViewAsk;
 
 /// The ask of the view that the value is: `None` where it is none.
-pub fn view_ask(value: &Value) -> Option<ViewAsk>
+pub(crate) fn view_ask(value: &Value) -> Option<ViewAsk>
     ensures { result ≡ spec.view_ask (view value.now) }
 {
     let kind = text_at(value, "is")?;

@@ -11,7 +11,11 @@ use tq_live::{ViewRefusal, ViewReply};
 use tq_shape::{Levels, Memory};
 
 /// The reply of the view that the value is, in a tree of so many levels: `None` where it is none.
-pub fn view_reply(alloc: Global, levels: Levels, value: &Value) -> Result<Option<ViewReply>, Memory>
+pub(crate) fn view_reply(
+    alloc: Global,
+    levels: Levels,
+    value: &Value,
+) -> Result<Option<ViewReply>, Memory>
     ensures { IfOk result (λ reply. reply ≡ spec.view_reply levels (view value.now)) }
 {
     let Some(kind) = text_at(value, "is") else {
