@@ -1,0 +1,3 @@
+mod Exact
+mod Found
+mod Whole

@@ -1,0 +1,13 @@
+//! A JSON text as a tree that borrows from it, seen as the data that `serde_json` reads.
+#![tactic(auto)]
+
+mod fault;
+mod look;
+mod number;
+mod range;
+mod reading;
+
+pub use fault::NotRead;
+pub use json::{Scratch, Value};
+pub use look::{flag_at, flag_of, get, items_at, items_of, number_at, number_of, text_at, text_of};
+pub use reading::read;
