@@ -1,6 +1,6 @@
 ghost use Rattle.std.specs.Prelude.{◌≡◌, option_map, IfOk};
 ghost use Rattle.std.specs.Str.{bytes_eq};
-ghost use Rattle.tq_value.specs.View.{view, items_view};
+ghost use Rattle.tq_value.specs.View.{items_view};
 ghost use Rattle.tq_form.specs.Member as spec;
 
 use std::alloc::Global;
