@@ -2,8 +2,8 @@
 use Rattle.std.proofs.Common.{◌≡◌, ◌<◌, ◌+◌, ℕ, List, [], ◌∷◌, ◌++◌, length, get_or, drop, Option, Some, None, refl, sym, ap, ◌∙◌, append_assoc}
 use Rattle.std.proofs.lemmas.List.{drop_more}
 use Rattle.serde_json.specs.Data.{Data}
-use Rattle.serde_json.specs.View.{view, items_view}
-use Rattle.serde_json.specs.declared.value.Value.{Value}
+use Rattle.tq_value.specs.View.{view, items_view}
+use Rattle.json.specs.declared.value.Value.{Value}
 use Rattle.tq_form.specs.Member.{◌>>=◌, each}
 
 -- what was read so far, before the rest
@@ -19,7 +19,7 @@ moved : {A : Type 0} (front : List A) (a : A) (o : Option (List A)) → with_fro
 moved front a None = refl
 moved front a (Some rest) = ap Some (sym (append_assoc front (a ∷ []) rest))
 
-module _ {A : Type 0} (form : Data → Option A) (xs : List Value) (i : ℕ) (x : Value) where
+module _ {G A : Type 0} (form : Data → Option A) (xs : List (Value G)) (i : ℕ) (x : Value G) where
   pub each_stops : i < length xs → form (view (get_or xs i x)) ≡ None → each form (items_view (drop i xs)) ≡ None
   each_stops within none = rw (drop_more xs i x within, none)
 

@@ -1,18 +1,18 @@
 ghost use Rattle.std.specs.Prelude.{◌≡◌, IfOk};
-ghost use Rattle.serde_json.specs.View.{view, items_view};
+ghost use Rattle.tq_value.specs.View.{view, items_view};
 ghost use Rattle.tq_form.specs.Format.{one};
 ghost use Rattle.tq_form.specs.Member.{each};
 ghost use Rattle.tq_form.specs.Commits as spec;
 
 use crate::content::{content_at, file_at};
 use crate::locking::{held_at, mode_at, writes_at};
-use crate::member::{is_text, items_at, number_at, text_at};
-use serde_json::Value;
+use crate::member::is_text;
 use std::alloc::Global;
 use tq_evidence::{Grant, Op, OpKind, Vote};
 use tq_shape::{Memory, Seq};
+use tq_value::{Value, items_at, number_at, text_at};
 
-fn grant(alloc: Global, value: &Value) -> Result<Option<Grant>, Memory>
+fn grant(alloc: Global, value: &Value<'_>) -> Result<Option<Grant>, Memory>
     ensures { IfOk result (λ grant. grant ≡ spec.grant one (view value.now)) }
 {
     let Some(mode) = mode_at(value) else {
@@ -39,7 +39,7 @@ fn grant(alloc: Global, value: &Value) -> Result<Option<Grant>, Memory>
     }))
 }
 
-fn grants_at(alloc: Global, value: &Value) -> Result<Option<Seq<Grant>>, Memory>
+fn grants_at(alloc: Global, value: &Value<'_>) -> Result<Option<Seq<Grant>>, Memory>
     ensures { IfOk result (λ grants. grants ≡ spec.grants_at one (view value.now)) }
 {
     let Some(values) = items_at(value, "grants") else {
@@ -48,7 +48,7 @@ fn grants_at(alloc: Global, value: &Value) -> Result<Option<Seq<Grant>>, Memory>
     Ok(grants(alloc, values)?)
 }
 
-fn grants(alloc: Global, values: &[Value]) -> Result<Option<Seq<Grant>>, Memory>
+fn grants(alloc: Global, values: &[Value<'_>]) -> Result<Option<Seq<Grant>>, Memory>
     ensures { IfOk result (λ grants. grants ≡ each (spec.grant one) (items_view values.now)) }
 {
     let mut grants = Vec::new(alloc);
@@ -61,7 +61,7 @@ fn grants(alloc: Global, values: &[Value]) -> Result<Option<Seq<Grant>>, Memory>
     Ok(Some(Seq::from_vec(grants)))
 }
 
-fn kind_at(value: &Value) -> Option<OpKind>
+fn kind_at(value: &Value<'_>) -> Option<OpKind>
     ensures { result ≡ spec.kind_at (view value.now) }
 {
     let text = text_at(value, "kind")?;
@@ -80,7 +80,7 @@ fn kind_of(text: &str) -> Option<OpKind>
     None
 }
 
-fn op(alloc: Global, value: &Value) -> Result<Option<Op>, Memory>
+fn op(alloc: Global, value: &Value<'_>) -> Result<Option<Op>, Memory>
     ensures { IfOk result (λ op. op ≡ spec.op one (view value.now)) }
 {
     let Some(file) = file_at(value, "file") else {
@@ -108,7 +108,7 @@ fn op(alloc: Global, value: &Value) -> Result<Option<Op>, Memory>
 }
 
 /// The operations that the object lists.
-pub(crate) fn ops_at(alloc: Global, value: &Value) -> Result<Option<Seq<Op>>, Memory>
+pub(crate) fn ops_at(alloc: Global, value: &Value<'_>) -> Result<Option<Seq<Op>>, Memory>
     ensures { IfOk result (λ ops. ops ≡ spec.ops_at one (view value.now)) }
 {
     let Some(values) = items_at(value, "ops") else {
@@ -117,7 +117,7 @@ pub(crate) fn ops_at(alloc: Global, value: &Value) -> Result<Option<Seq<Op>>, Me
     Ok(ops(alloc, values)?)
 }
 
-fn ops(alloc: Global, values: &[Value]) -> Result<Option<Seq<Op>>, Memory>
+fn ops(alloc: Global, values: &[Value<'_>]) -> Result<Option<Seq<Op>>, Memory>
     ensures { IfOk result (λ ops. ops ≡ each (spec.op one) (items_view values.now)) }
 {
     let mut ops = Vec::new(alloc);
@@ -130,7 +130,7 @@ fn ops(alloc: Global, values: &[Value]) -> Result<Option<Seq<Op>>, Memory>
     Ok(Some(Seq::from_vec(ops)))
 }
 
-fn vote(alloc: Global, value: &Value) -> Result<Option<Vote>, Memory>
+fn vote(alloc: Global, value: &Value<'_>) -> Result<Option<Vote>, Memory>
     ensures { IfOk result (λ vote. vote ≡ spec.vote one (view value.now)) }
 {
     let Some(number) = number_at(value, "number") else {
@@ -154,7 +154,7 @@ fn vote(alloc: Global, value: &Value) -> Result<Option<Vote>, Memory>
 }
 
 /// The votes that the object lists.
-pub(crate) fn votes_at(alloc: Global, value: &Value) -> Result<Option<Seq<Vote>>, Memory>
+pub(crate) fn votes_at(alloc: Global, value: &Value<'_>) -> Result<Option<Seq<Vote>>, Memory>
     ensures { IfOk result (λ votes. votes ≡ spec.votes_at one (view value.now)) }
 {
     let Some(values) = items_at(value, "votes") else {
@@ -163,7 +163,7 @@ pub(crate) fn votes_at(alloc: Global, value: &Value) -> Result<Option<Seq<Vote>>
     Ok(votes(alloc, values)?)
 }
 
-fn votes(alloc: Global, values: &[Value]) -> Result<Option<Seq<Vote>>, Memory>
+fn votes(alloc: Global, values: &[Value<'_>]) -> Result<Option<Seq<Vote>>, Memory>
     ensures { IfOk result (λ votes. votes ≡ each (spec.vote one) (items_view values.now)) }
 {
     let mut votes = Vec::new(alloc);

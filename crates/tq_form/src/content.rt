@@ -1,17 +1,16 @@
 ghost use Rattle.std.specs.Prelude.{◌≡◌, IfOk};
-ghost use Rattle.serde_json.specs.View.{view};
+ghost use Rattle.tq_value.specs.View.{view};
 ghost use Rattle.tq_form.specs.Format.{one};
 ghost use Rattle.tq_form.specs.Content as spec;
 
-use crate::member::text_at;
 use hex::FromHexError;
-use serde_json::Value;
 use std::alloc::{AllocError, Global};
 use tq_shape::Memory;
 use tq_store::{Content, FileName};
+use tq_value::{Value, text_at};
 
 /// The name of a file that the object has at the name.
-pub(crate) fn file_at(value: &Value, name: &str) -> Option<FileName>
+pub(crate) fn file_at(value: &Value<'_>, name: &str) -> Option<FileName>
     ensures { result ≡ spec.file_at name.now (view value.now) }
 {
     let text = text_at(value, name)?;
@@ -28,7 +27,7 @@ fn name_of(text: &str) -> Option<FileName>
 /// The content that the object has at the name.
 pub(crate) fn content_at(
     alloc: Global,
-    value: &Value,
+    value: &Value<'_>,
     name: &str,
 ) -> Result<Option<Content>, Memory>
     ensures { IfOk result (λ content. content ≡ spec.content_at one name.now (view value.now)) }

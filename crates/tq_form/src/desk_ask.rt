@@ -1,17 +1,17 @@
 ghost use Rattle.std.specs.Prelude.{◌≡◌, IfOk};
-ghost use Rattle.serde_json.specs.View.{view};
+ghost use Rattle.tq_value.specs.View.{view};
 ghost use Rattle.tq_form.specs.Format.{one};
 ghost use Rattle.tq_form.specs.Desks as spec;
 
 use crate::commits::{ops_at, votes_at};
-use crate::member::{is_text, number_at, text_at};
-use serde_json::Value;
+use crate::member::is_text;
 use std::alloc::Global;
 use tq_desk::DeskAsk;
 use tq_shape::Memory;
+use tq_value::{Value, number_at, text_at};
 
 /// The ask of the desk that the value is: `None` where it is none.
-pub(crate) fn desk_ask(alloc: Global, value: &Value) -> Result<Option<DeskAsk>, Memory>
+pub(crate) fn desk_ask(alloc: Global, value: &Value<'_>) -> Result<Option<DeskAsk>, Memory>
     ensures { IfOk result (λ ask. ask ≡ spec.desk_ask one (view value.now)) }
 {
     let Some(kind) = text_at(value, "is") else {
@@ -20,7 +20,7 @@ pub(crate) fn desk_ask(alloc: Global, value: &Value) -> Result<Option<DeskAsk>, 
     Ok(desk_ask_by(alloc, kind, value)?)
 }
 
-fn desk_ask_by(alloc: Global, kind: &str, value: &Value) -> Result<Option<DeskAsk>, Memory>
+fn desk_ask_by(alloc: Global, kind: &str, value: &Value<'_>) -> Result<Option<DeskAsk>, Memory>
     ensures { IfOk result (λ ask. ask ≡ spec.desk_ask_by one kind.now (view value.now)) }
 {
     if is_text(kind, "begin") {
@@ -35,7 +35,7 @@ fn desk_ask_by(alloc: Global, kind: &str, value: &Value) -> Result<Option<DeskAs
     Ok(None)
 }
 
-fn commit_ask(alloc: Global, value: &Value) -> Result<Option<DeskAsk>, Memory>
+fn commit_ask(alloc: Global, value: &Value<'_>) -> Result<Option<DeskAsk>, Memory>
     ensures { IfOk result (λ ask. ask ≡ spec.commit_ask one (view value.now)) }
 {
     let Some(txn) = number_at(value, "txn") else {
@@ -50,7 +50,7 @@ fn commit_ask(alloc: Global, value: &Value) -> Result<Option<DeskAsk>, Memory>
     Ok(Some(DeskAsk::Commit { txn, ops, votes }))
 }
 
-fn resolve(value: &Value) -> Option<DeskAsk>
+fn resolve(value: &Value<'_>) -> Option<DeskAsk>
     ensures { result ≡ spec.resolve (view value.now) }
 {
     let txn = number_at(value, "txn")?;

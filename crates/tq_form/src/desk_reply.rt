@@ -1,16 +1,16 @@
 ghost use Rattle.std.specs.Prelude.{◌≡◌, IfOk};
-ghost use Rattle.serde_json.specs.View.{view};
+ghost use Rattle.tq_value.specs.View.{view};
 ghost use Rattle.tq_form.specs.Desks as spec;
 
 use crate::locking::verdict_at;
-use crate::member::{is_text, number_at, text_at};
-use serde_json::Value;
+use crate::member::is_text;
 use std::alloc::Global;
 use tq_desk::{DeskRefusal, DeskReply};
 use tq_shape::Memory;
+use tq_value::{Value, number_at, text_at};
 
 /// The reply of the desk that the value is: `None` where it is none.
-pub(crate) fn desk_reply(alloc: Global, value: &Value) -> Result<Option<DeskReply>, Memory>
+pub(crate) fn desk_reply(alloc: Global, value: &Value<'_>) -> Result<Option<DeskReply>, Memory>
     ensures { IfOk result (λ reply. reply ≡ spec.desk_reply (view value.now)) }
 {
     let Some(kind) = text_at(value, "is") else {
@@ -19,7 +19,7 @@ pub(crate) fn desk_reply(alloc: Global, value: &Value) -> Result<Option<DeskRepl
     Ok(desk_reply_by(alloc, kind, value)?)
 }
 
-fn desk_reply_by(alloc: Global, kind: &str, value: &Value) -> Result<Option<DeskReply>, Memory>
+fn desk_reply_by(alloc: Global, kind: &str, value: &Value<'_>) -> Result<Option<DeskReply>, Memory>
     ensures { IfOk result (λ reply. reply ≡ spec.desk_reply_by kind.now (view value.now)) }
 {
     if is_text(kind, "txn") {
@@ -37,21 +37,21 @@ fn desk_reply_by(alloc: Global, kind: &str, value: &Value) -> Result<Option<Desk
     Ok(None)
 }
 
-fn begun(value: &Value) -> Option<DeskReply>
+fn begun(value: &Value<'_>) -> Option<DeskReply>
     ensures { result ≡ spec.begun (view value.now) }
 {
     let txn = number_at(value, "txn")?;
     Some(DeskReply::Txn(txn))
 }
 
-fn committed(value: &Value) -> Option<DeskReply>
+fn committed(value: &Value<'_>) -> Option<DeskReply>
     ensures { result ≡ spec.committed (view value.now) }
 {
     let serial = number_at(value, "serial")?;
     Some(DeskReply::Committed { serial })
 }
 
-fn told(alloc: Global, value: &Value) -> Result<Option<DeskReply>, Memory>
+fn told(alloc: Global, value: &Value<'_>) -> Result<Option<DeskReply>, Memory>
     ensures { IfOk result (λ reply. reply ≡ spec.told (view value.now)) }
 {
     let Some(verdict) = verdict_at(alloc, value)? else {
@@ -60,7 +60,7 @@ fn told(alloc: Global, value: &Value) -> Result<Option<DeskReply>, Memory>
     Ok(Some(DeskReply::Verdict(verdict)))
 }
 
-fn refused(alloc: Global, value: &Value) -> Result<Option<DeskReply>, Memory>
+fn refused(alloc: Global, value: &Value<'_>) -> Result<Option<DeskReply>, Memory>
     ensures { IfOk result (λ reply. reply ≡ spec.desk_refused (view value.now)) }
 {
     let Some(refusal) = refusal(alloc, value)? else {
@@ -69,7 +69,7 @@ fn refused(alloc: Global, value: &Value) -> Result<Option<DeskReply>, Memory>
     Ok(Some(DeskReply::Refused(refusal)))
 }
 
-fn refusal(alloc: Global, value: &Value) -> Result<Option<DeskRefusal>, Memory>
+fn refusal(alloc: Global, value: &Value<'_>) -> Result<Option<DeskRefusal>, Memory>
     ensures { IfOk result (λ refusal. refusal ≡ spec.desk_refusal (view value.now)) }
 {
     let Some(code) = number_at(value, "code") else {
@@ -78,7 +78,7 @@ fn refusal(alloc: Global, value: &Value) -> Result<Option<DeskRefusal>, Memory>
     Ok(refusal_by(alloc, code, value)?)
 }
 
-fn refusal_by(alloc: Global, code: u64, value: &Value) -> Result<Option<DeskRefusal>, Memory>
+fn refusal_by(alloc: Global, code: u64, value: &Value<'_>) -> Result<Option<DeskRefusal>, Memory>
     ensures { IfOk result (λ refusal. refusal ≡ spec.desk_refusal_by code (view value.now)) }
 {
     if code == 21 {
@@ -99,7 +99,7 @@ fn refusal_by(alloc: Global, code: u64, value: &Value) -> Result<Option<DeskRefu
     Ok(None)
 }
 
-fn decided(alloc: Global, value: &Value) -> Result<Option<DeskRefusal>, Memory>
+fn decided(alloc: Global, value: &Value<'_>) -> Result<Option<DeskRefusal>, Memory>
     ensures { IfOk result (λ refusal. refusal ≡ spec.decided (view value.now)) }
 {
     let Some(verdict) = verdict_at(alloc, value)? else {
@@ -108,7 +108,7 @@ fn decided(alloc: Global, value: &Value) -> Result<Option<DeskRefusal>, Memory>
     Ok(Some(DeskRefusal::Decided(verdict)))
 }
 
-fn bad_evidence(value: &Value) -> Option<DeskRefusal>
+fn bad_evidence(value: &Value<'_>) -> Option<DeskRefusal>
     ensures { result ≡ spec.bad_evidence (view value.now) }
 {
     let number = number_at(value, "rule")?;

@@ -1,18 +1,17 @@
 ghost use Rattle.std.specs.Prelude.{◌≡◌, ◌≤◌, IfOk, IfSome, map};
 ghost use Rattle.std.specs.Option.{option_map};
-ghost use Rattle.serde_json.specs.View.{view, items_view};
+ghost use Rattle.tq_value.specs.View.{view, items_view};
 ghost use Rattle.tq_form.specs.Format.{one};
 ghost use Rattle.tq_form.specs.Frame as spec;
 
 use crate::journals::{desk_journal, node_journals, view_journal};
-use crate::member::{items_at, number_at};
-use serde_json::Value;
 use std::alloc::Global;
 use tq_shape::{Levels, Limits, MOST_ENTRIES, MOST_FILES, MOST_LEVELS, MOST_OPS, Memory};
 use tq_tables::{DeskEntry, Journals, NodeEntry, ViewEntry};
+use tq_value::{Value, get, items_at, number_at};
 
 /// The number that the object has at the name, where it is from 1 up to the most.
-fn up_to_at(most: u32, name: &str, value: &Value) -> Option<u32>
+fn up_to_at(most: u32, name: &str, value: &Value<'_>) -> Option<u32>
     ensures value { result ≡ spec.up_to_at most name.now (view value.now) }
     ensures within { IfSome result (λ number. (1 ≤ number) × (number ≤ most)) }
 {
@@ -26,21 +25,21 @@ fn up_to_at(most: u32, name: &str, value: &Value) -> Option<u32>
     Some(number as u32)
 }
 
-fn levels_at(value: &Value) -> Option<Levels>
+fn levels_at(value: &Value<'_>) -> Option<Levels>
     ensures { result ≡ spec.levels_at one (view value.now) }
 {
     let count = up_to_at(MOST_LEVELS, "levels", value)?;
     Levels::new(count)
 }
 
-fn limits_at(value: &Value) -> Option<Limits>
+fn limits_at(value: &Value<'_>) -> Option<Limits>
     ensures { result ≡ spec.limits_at (view value.now) }
 {
-    let inner = value.get("limits")?;
+    let inner = get(value, "limits")?;
     limits(inner)
 }
 
-fn limits(value: &Value) -> Option<Limits>
+fn limits(value: &Value<'_>) -> Option<Limits>
     ensures { result ≡ spec.limits (view value.now) }
 {
     let entries = up_to_at(MOST_ENTRIES, "entries", value)?;
@@ -50,14 +49,14 @@ fn limits(value: &Value) -> Option<Limits>
 }
 
 /// The lists of the servers: `None` where there are more or fewer than servers in a tree of so many levels.
-fn server_lists_at<'a>(levels: Levels, value: &'a Value) -> Option<&'a [Value]>
+fn server_lists_at<'t, 'a>(levels: Levels, value: &'t Value<'a>) -> Option<&'t [Value<'a>]>
     ensures { option_map (λ v. items_view v.now) result ≡ spec.server_lists_at levels (view value.now) }
 {
     let values = items_at(value, "servers")?;
     one_each(levels, values)
 }
 
-fn one_each<'a>(levels: Levels, values: &'a [Value]) -> Option<&'a [Value]>
+fn one_each<'t, 'a>(levels: Levels, values: &'t [Value<'a>]) -> Option<&'t [Value<'a>]>
     ensures { option_map (λ v. items_view v.now) result ≡ spec.one_each levels (items_view values.now) }
 {
     if values.len() as u64 == levels.servers() {
@@ -70,7 +69,7 @@ fn servers_at(
     alloc: Global,
     levels: Levels,
     limit: u32,
-    value: &Value,
+    value: &Value<'_>,
 ) -> Result<Option<Vec<Vec<NodeEntry>>>, Memory>
     ensures { IfOk result (λ answer. option_map (λ v. map (λ journal. journal.items) v.items) answer ≡ spec.servers_at one levels limit (view value.now)) }
 {
@@ -80,10 +79,10 @@ fn servers_at(
     Ok(node_journals(alloc, limit, values)?)
 }
 
-fn desk_at(alloc: Global, limit: u32, value: &Value) -> Result<Option<Vec<DeskEntry>>, Memory>
+fn desk_at(alloc: Global, limit: u32, value: &Value<'_>) -> Result<Option<Vec<DeskEntry>>, Memory>
     ensures { IfOk result (λ answer. option_map (λ v. v.items) answer ≡ spec.desk_at one limit (view value.now)) }
 {
-    let Some(inner) = value.get("desk") else {
+    let Some(inner) = get(value, "desk") else {
         return Ok(None);
     };
     Ok(desk_journal(alloc, limit, inner)?)
@@ -93,18 +92,18 @@ fn view_at(
     alloc: Global,
     levels: Levels,
     limit: u32,
-    value: &Value,
+    value: &Value<'_>,
 ) -> Result<Option<Vec<ViewEntry>>, Memory>
     ensures { IfOk result (λ answer. option_map (λ v. v.items) answer ≡ spec.view_at levels limit (view value.now)) }
 {
-    let Some(inner) = value.get("view") else {
+    let Some(inner) = get(value, "view") else {
         return Ok(None);
     };
     Ok(view_journal(alloc, levels, limit, inner)?)
 }
 
 /// The journals that the value is in format 1, whatever number it gives for its format.
-fn journals_in_one(alloc: Global, value: &Value) -> Result<Option<Journals>, Memory>
+fn journals_in_one(alloc: Global, value: &Value<'_>) -> Result<Option<Journals>, Memory>
     ensures { IfOk result (λ journals. journals ≡ spec.journals_in one (view value.now)) }
 {
     let Some(levels) = levels_at(value) else {
@@ -127,7 +126,7 @@ fn journals_in_one(alloc: Global, value: &Value) -> Result<Option<Journals>, Mem
 }
 
 /// The journals that the value is: `None` where it is not of the form.
-pub(crate) fn journals_of(alloc: Global, value: &Value) -> Result<Option<Journals>, Memory>
+pub(crate) fn journals_of(alloc: Global, value: &Value<'_>) -> Result<Option<Journals>, Memory>
     ensures { IfOk result (λ journals. journals ≡ spec.journals_of (view value.now)) }
 {
     let Some(number) = number_at(value, "format") else {
@@ -136,7 +135,7 @@ pub(crate) fn journals_of(alloc: Global, value: &Value) -> Result<Option<Journal
     Ok(journals_by(alloc, number, value)?)
 }
 
-fn journals_by(alloc: Global, number: u64, value: &Value) -> Result<Option<Journals>, Memory>
+fn journals_by(alloc: Global, number: u64, value: &Value<'_>) -> Result<Option<Journals>, Memory>
     ensures { IfOk result (λ journals. journals ≡ spec.journals_by number (view value.now)) }
 {
     if number == 1 {

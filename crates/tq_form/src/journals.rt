@@ -1,25 +1,25 @@
 ghost use Rattle.std.specs.Prelude.{◌≡◌, IfOk, map};
 ghost use Rattle.std.specs.Option.{option_map};
-ghost use Rattle.serde_json.specs.View.{view, items_view};
+ghost use Rattle.tq_value.specs.View.{view, items_view};
 ghost use Rattle.tq_form.specs.Format.{one};
 ghost use Rattle.tq_form.specs.Member.{each};
 ghost use Rattle.tq_form.specs.Entries as spec;
 
 use crate::entries::{desk_entry, node_entry, view_entry};
-use serde_json::Value;
 use std::alloc::Global;
 use tq_shape::{Levels, Memory};
 use tq_tables::{DeskEntry, NodeEntry, ViewEntry};
+use tq_value::{Value, items_of};
 
 /// The values of a list: `None` where the value is no list, or has more values than the limit.
-fn within<'a>(limit: u32, value: &'a Value) -> Option<&'a [Value]>
+fn within<'t, 'a>(limit: u32, value: &'t Value<'a>) -> Option<&'t [Value<'a>]>
     ensures { option_map (λ v. items_view v.now) result ≡ spec.within limit (view value.now) }
 {
-    let values = value.as_array()?;
-    few(limit, values.as_slice())
+    let values = items_of(value)?;
+    few(limit, values)
 }
 
-fn few<'a>(limit: u32, values: &'a [Value]) -> Option<&'a [Value]>
+fn few<'t, 'a>(limit: u32, values: &'t [Value<'a>]) -> Option<&'t [Value<'a>]>
     ensures { option_map (λ v. items_view v.now) result ≡ spec.few limit (items_view values.now) }
 {
     if values.len() > limit as usize {
@@ -32,7 +32,7 @@ fn few<'a>(limit: u32, values: &'a [Value]) -> Option<&'a [Value]>
 pub(crate) fn node_journals(
     alloc: Global,
     limit: u32,
-    values: &[Value],
+    values: &[Value<'_>],
 ) -> Result<Option<Vec<Vec<NodeEntry>>>, Memory>
     ensures { IfOk result (λ answer. option_map (λ v. map (λ journal. journal.items) v.items) answer ≡ each (spec.journal (spec.node_entry one) limit) (items_view values.now)) }
 {
@@ -46,7 +46,11 @@ pub(crate) fn node_journals(
     Ok(Some(journals))
 }
 
-fn node_journal(alloc: Global, limit: u32, value: &Value) -> Result<Option<Vec<NodeEntry>>, Memory>
+fn node_journal(
+    alloc: Global,
+    limit: u32,
+    value: &Value<'_>,
+) -> Result<Option<Vec<NodeEntry>>, Memory>
     ensures { IfOk result (λ journal. option_map (λ v. v.items) journal ≡ spec.journal (spec.node_entry one) limit (view value.now)) }
 {
     let Some(values) = within(limit, value) else {
@@ -55,7 +59,7 @@ fn node_journal(alloc: Global, limit: u32, value: &Value) -> Result<Option<Vec<N
     Ok(node_entries(alloc, values)?)
 }
 
-fn node_entries(alloc: Global, values: &[Value]) -> Result<Option<Vec<NodeEntry>>, Memory>
+fn node_entries(alloc: Global, values: &[Value<'_>]) -> Result<Option<Vec<NodeEntry>>, Memory>
     ensures { IfOk result (λ journal. option_map (λ v. v.items) journal ≡ each (spec.node_entry one) (items_view values.now)) }
 {
     let mut entries = Vec::new(alloc);
@@ -72,7 +76,7 @@ fn node_entries(alloc: Global, values: &[Value]) -> Result<Option<Vec<NodeEntry>
 pub(crate) fn desk_journal(
     alloc: Global,
     limit: u32,
-    value: &Value,
+    value: &Value<'_>,
 ) -> Result<Option<Vec<DeskEntry>>, Memory>
     ensures { IfOk result (λ journal. option_map (λ v. v.items) journal ≡ spec.journal (spec.desk_entry one) limit (view value.now)) }
 {
@@ -82,7 +86,7 @@ pub(crate) fn desk_journal(
     Ok(desk_entries(alloc, values)?)
 }
 
-fn desk_entries(alloc: Global, values: &[Value]) -> Result<Option<Vec<DeskEntry>>, Memory>
+fn desk_entries(alloc: Global, values: &[Value<'_>]) -> Result<Option<Vec<DeskEntry>>, Memory>
     ensures { IfOk result (λ journal. option_map (λ v. v.items) journal ≡ each (spec.desk_entry one) (items_view values.now)) }
 {
     let mut entries = Vec::new(alloc);
@@ -101,7 +105,7 @@ pub(crate) fn view_journal(
     alloc: Global,
     levels: Levels,
     limit: u32,
-    value: &Value,
+    value: &Value<'_>,
 ) -> Result<Option<Vec<ViewEntry>>, Memory>
     ensures { IfOk result (λ journal. option_map (λ v. v.items) journal ≡ spec.journal (spec.view_entry levels) limit (view value.now)) }
 {
@@ -114,7 +118,7 @@ pub(crate) fn view_journal(
 fn view_entries(
     alloc: Global,
     levels: Levels,
-    values: &[Value],
+    values: &[Value<'_>],
 ) -> Result<Option<Vec<ViewEntry>>, Memory>
     ensures { IfOk result (λ journal. option_map (λ v. v.items) journal ≡ each (spec.view_entry levels) (items_view values.now)) }
 {

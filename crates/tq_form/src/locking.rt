@@ -1,20 +1,20 @@
 ghost use Rattle.std.specs.Prelude.{◌≡◌, IfOk};
-ghost use Rattle.serde_json.specs.View.{view, items_view};
+ghost use Rattle.tq_value.specs.View.{view, items_view};
 ghost use Rattle.tq_form.specs.Format.{one};
 ghost use Rattle.tq_form.specs.Member.{each};
 ghost use Rattle.tq_form.specs.Locking as spec;
 
 use crate::content::{content_at, file_at};
-use crate::member::{is_text, items_at, number_at, text_at};
-use serde_json::Value;
+use crate::member::is_text;
 use std::alloc::Global;
 use tq_locks::Mode;
 use tq_node::{CitedVote, HeldLock, Verdict};
 use tq_shape::{Memory, Seq};
 use tq_store::Write;
+use tq_value::{Value, get, items_at, number_at, text_at};
 
 /// The mode that the object has.
-pub(crate) fn mode_at(value: &Value) -> Option<Mode>
+pub(crate) fn mode_at(value: &Value<'_>) -> Option<Mode>
     ensures { result ≡ spec.mode_at (view value.now) }
 {
     let text = text_at(value, "mode")?;
@@ -33,7 +33,7 @@ fn mode_of(text: &str) -> Option<Mode>
     None
 }
 
-fn held_lock(value: &Value) -> Option<HeldLock>
+fn held_lock(value: &Value<'_>) -> Option<HeldLock>
     ensures { result ≡ spec.held_lock (view value.now) }
 {
     let file = file_at(value, "file")?;
@@ -43,7 +43,7 @@ fn held_lock(value: &Value) -> Option<HeldLock>
 }
 
 /// The locks that the object lists.
-pub(crate) fn held_at(alloc: Global, value: &Value) -> Result<Option<Seq<HeldLock>>, Memory>
+pub(crate) fn held_at(alloc: Global, value: &Value<'_>) -> Result<Option<Seq<HeldLock>>, Memory>
     ensures { IfOk result (λ held. held ≡ spec.held_at (view value.now)) }
 {
     let Some(values) = items_at(value, "held") else {
@@ -52,7 +52,7 @@ pub(crate) fn held_at(alloc: Global, value: &Value) -> Result<Option<Seq<HeldLoc
     Ok(held_locks(alloc, values)?)
 }
 
-fn held_locks(alloc: Global, values: &[Value]) -> Result<Option<Seq<HeldLock>>, Memory>
+fn held_locks(alloc: Global, values: &[Value<'_>]) -> Result<Option<Seq<HeldLock>>, Memory>
     ensures { IfOk result (λ held. held ≡ each spec.held_lock (items_view values.now)) }
 {
     let mut held = Vec::new(alloc);
@@ -65,7 +65,7 @@ fn held_locks(alloc: Global, values: &[Value]) -> Result<Option<Seq<HeldLock>>, 
     Ok(Some(Seq::from_vec(held)))
 }
 
-fn write(alloc: Global, value: &Value) -> Result<Option<Write>, Memory>
+fn write(alloc: Global, value: &Value<'_>) -> Result<Option<Write>, Memory>
     ensures { IfOk result (λ write. write ≡ spec.write one (view value.now)) }
 {
     let Some(content) = content_at(alloc, value, "content")? else {
@@ -85,7 +85,7 @@ fn write(alloc: Global, value: &Value) -> Result<Option<Write>, Memory>
 }
 
 /// The writes that the object lists.
-pub(crate) fn writes_at(alloc: Global, value: &Value) -> Result<Option<Seq<Write>>, Memory>
+pub(crate) fn writes_at(alloc: Global, value: &Value<'_>) -> Result<Option<Seq<Write>>, Memory>
     ensures { IfOk result (λ writes. writes ≡ spec.writes_at one (view value.now)) }
 {
     let Some(values) = items_at(value, "writes") else {
@@ -94,7 +94,7 @@ pub(crate) fn writes_at(alloc: Global, value: &Value) -> Result<Option<Seq<Write
     Ok(writes(alloc, values)?)
 }
 
-fn writes(alloc: Global, values: &[Value]) -> Result<Option<Seq<Write>>, Memory>
+fn writes(alloc: Global, values: &[Value<'_>]) -> Result<Option<Seq<Write>>, Memory>
     ensures { IfOk result (λ writes. writes ≡ each (spec.write one) (items_view values.now)) }
 {
     let mut writes = Vec::new(alloc);
@@ -108,7 +108,7 @@ fn writes(alloc: Global, values: &[Value]) -> Result<Option<Seq<Write>>, Memory>
 }
 
 /// The entry of a server that the object cites.
-pub(crate) fn citation(value: &Value) -> Option<CitedVote>
+pub(crate) fn citation(value: &Value<'_>) -> Option<CitedVote>
     ensures { result ≡ spec.citation (view value.now) }
 {
     let number = number_at(value, "number")?;
@@ -116,7 +116,7 @@ pub(crate) fn citation(value: &Value) -> Option<CitedVote>
     Some(CitedVote { server, number })
 }
 
-fn cited_at(alloc: Global, value: &Value) -> Result<Option<Seq<CitedVote>>, Memory>
+fn cited_at(alloc: Global, value: &Value<'_>) -> Result<Option<Seq<CitedVote>>, Memory>
     ensures { IfOk result (λ votes. votes ≡ spec.cited_at (view value.now)) }
 {
     let Some(values) = items_at(value, "votes") else {
@@ -125,7 +125,7 @@ fn cited_at(alloc: Global, value: &Value) -> Result<Option<Seq<CitedVote>>, Memo
     Ok(citations(alloc, values)?)
 }
 
-fn citations(alloc: Global, values: &[Value]) -> Result<Option<Seq<CitedVote>>, Memory>
+fn citations(alloc: Global, values: &[Value<'_>]) -> Result<Option<Seq<CitedVote>>, Memory>
     ensures { IfOk result (λ votes. votes ≡ each spec.citation (items_view values.now)) }
 {
     let mut votes = Vec::new(alloc);
@@ -138,7 +138,7 @@ fn citations(alloc: Global, values: &[Value]) -> Result<Option<Seq<CitedVote>>, 
     Ok(Some(Seq::from_vec(votes)))
 }
 
-fn commit(alloc: Global, value: &Value) -> Result<Option<Verdict>, Memory>
+fn commit(alloc: Global, value: &Value<'_>) -> Result<Option<Verdict>, Memory>
     ensures { IfOk result (λ verdict. verdict ≡ spec.commit (view value.now)) }
 {
     let Some(votes) = cited_at(alloc, value)? else {
@@ -147,7 +147,7 @@ fn commit(alloc: Global, value: &Value) -> Result<Option<Verdict>, Memory>
     Ok(Some(Verdict::Commit { votes }))
 }
 
-fn verdict_by(alloc: Global, kind: &str, value: &Value) -> Result<Option<Verdict>, Memory>
+fn verdict_by(alloc: Global, kind: &str, value: &Value<'_>) -> Result<Option<Verdict>, Memory>
     ensures { IfOk result (λ verdict. verdict ≡ spec.verdict_by kind.now (view value.now)) }
 {
     if is_text(kind, "abort") {
@@ -159,7 +159,7 @@ fn verdict_by(alloc: Global, kind: &str, value: &Value) -> Result<Option<Verdict
     Ok(None)
 }
 
-fn verdict(alloc: Global, value: &Value) -> Result<Option<Verdict>, Memory>
+fn verdict(alloc: Global, value: &Value<'_>) -> Result<Option<Verdict>, Memory>
     ensures { IfOk result (λ verdict. verdict ≡ spec.verdict (view value.now)) }
 {
     let Some(kind) = text_at(value, "is") else {
@@ -169,10 +169,10 @@ fn verdict(alloc: Global, value: &Value) -> Result<Option<Verdict>, Memory>
 }
 
 /// The verdict that the object has.
-pub(crate) fn verdict_at(alloc: Global, value: &Value) -> Result<Option<Verdict>, Memory>
+pub(crate) fn verdict_at(alloc: Global, value: &Value<'_>) -> Result<Option<Verdict>, Memory>
     ensures { IfOk result (λ verdict. verdict ≡ spec.verdict_at (view value.now)) }
 {
-    let Some(inner) = value.get("verdict") else {
+    let Some(inner) = get(value, "verdict") else {
         return Ok(None);
     };
     Ok(verdict(alloc, inner)?)

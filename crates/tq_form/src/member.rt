@@ -1,48 +1,19 @@
 ghost use Rattle.std.specs.Prelude.{◌≡◌, option_map, IfOk};
 ghost use Rattle.std.specs.Str.{bytes_eq};
-ghost use Rattle.serde_json.specs.View.{view, items_view};
+ghost use Rattle.tq_value.specs.View.{items_view};
 ghost use Rattle.tq_form.specs.Member as spec;
 
-use serde_json::Value;
 use std::alloc::Global;
 use tq_shape::Memory;
-
-/// The text that the object has at the name.
-pub(crate) fn text_at<'a>(value: &'a Value, name: &str) -> Option<&'a str>
-    ensures { option_map (λ s. s.now) result ≡ spec.text_at name.now (view value.now) }
-{
-    value.get(name).and_then(Value::as_str)
-}
-
-/// The number that the object has at the name.
-pub(crate) fn number_at(value: &Value, name: &str) -> Option<u64>
-    ensures { result ≡ spec.number_at name.now (view value.now) }
-{
-    value.get(name).and_then(Value::as_u64)
-}
-
-/// Whether the object has true or false at the name.
-pub(crate) fn flag_at(value: &Value, name: &str) -> Option<bool>
-    ensures { result ≡ spec.flag_at name.now (view value.now) }
-{
-    value.get(name).and_then(Value::as_bool)
-}
-
-/// The list that the object has at the name.
-pub(crate) fn items_at<'a>(value: &'a Value, name: &str) -> Option<&'a [Value]>
-    ensures { option_map (λ v. items_view v.now) result ≡ spec.items_at name.now (view value.now) }
-{
-    let items = value.get(name).and_then(Value::as_array)?;
-    Some(items.as_slice())
-}
+use tq_value::{Value, number_of};
 
 /// The numbers that the values are: `None` where one is no number.
-pub(crate) fn numbers(alloc: Global, values: &[Value]) -> Result<Option<Vec<u64>>, Memory>
+pub(crate) fn numbers(alloc: Global, values: &[Value<'_>]) -> Result<Option<Vec<u64>>, Memory>
     ensures { IfOk result (λ answer. option_map (λ v. v.items) answer ≡ spec.each spec.number_of (items_view values.now)) }
 {
     let mut numbers = Vec::new(alloc);
     for value in values {
-        let Some(number) = value.as_u64() else {
+        let Some(number) = number_of(value) else {
             return Ok(None);
         };
         numbers.push(number)?;

@@ -1,18 +1,18 @@
 ghost use Rattle.std.specs.Prelude.{◌≡◌, IfOk};
-ghost use Rattle.serde_json.specs.View.{view};
+ghost use Rattle.tq_value.specs.View.{view};
 ghost use Rattle.tq_form.specs.Format.{one};
 ghost use Rattle.tq_form.specs.NodeAsks as spec;
 
 use crate::content::{content_at, file_at};
 use crate::locking::{citation, mode_at, verdict_at, writes_at};
-use crate::member::{is_text, number_at, text_at};
-use serde_json::Value;
+use crate::member::is_text;
 use std::alloc::Global;
 use tq_node::{CitedVote, NodeAsk, WorkAsk};
 use tq_shape::Memory;
+use tq_value::{Value, get, number_at, text_at};
 
 /// The ask of a server that the value is: `None` where it is none.
-pub(crate) fn node_ask(alloc: Global, value: &Value) -> Result<Option<NodeAsk>, Memory>
+pub(crate) fn node_ask(alloc: Global, value: &Value<'_>) -> Result<Option<NodeAsk>, Memory>
     ensures { IfOk result (λ ask. ask ≡ spec.node_ask one (view value.now)) }
 {
     let Some(kind) = text_at(value, "is") else {
@@ -21,7 +21,7 @@ pub(crate) fn node_ask(alloc: Global, value: &Value) -> Result<Option<NodeAsk>, 
     Ok(node_ask_by(alloc, kind, value)?)
 }
 
-fn node_ask_by(alloc: Global, kind: &str, value: &Value) -> Result<Option<NodeAsk>, Memory>
+fn node_ask_by(alloc: Global, kind: &str, value: &Value<'_>) -> Result<Option<NodeAsk>, Memory>
     ensures { IfOk result (λ ask. ask ≡ spec.node_ask_by one kind.now (view value.now)) }
 {
     if is_text(kind, "crash") {
@@ -33,7 +33,7 @@ fn node_ask_by(alloc: Global, kind: &str, value: &Value) -> Result<Option<NodeAs
     Ok(work(alloc, kind, value)?)
 }
 
-fn work(alloc: Global, kind: &str, value: &Value) -> Result<Option<NodeAsk>, Memory>
+fn work(alloc: Global, kind: &str, value: &Value<'_>) -> Result<Option<NodeAsk>, Memory>
     ensures { IfOk result (λ ask. ask ≡ spec.work one kind.now (view value.now)) }
 {
     let Some(ask) = work_by(alloc, kind, value)? else {
@@ -42,7 +42,7 @@ fn work(alloc: Global, kind: &str, value: &Value) -> Result<Option<NodeAsk>, Mem
     Ok(Some(NodeAsk::Work(ask)))
 }
 
-fn work_by(alloc: Global, kind: &str, value: &Value) -> Result<Option<WorkAsk>, Memory>
+fn work_by(alloc: Global, kind: &str, value: &Value<'_>) -> Result<Option<WorkAsk>, Memory>
     ensures { IfOk result (λ ask. ask ≡ spec.work_by one kind.now (view value.now)) }
 {
     if is_text(kind, "lock") {
@@ -66,7 +66,7 @@ fn work_by(alloc: Global, kind: &str, value: &Value) -> Result<Option<WorkAsk>, 
     Ok(None)
 }
 
-fn lock(value: &Value) -> Option<WorkAsk>
+fn lock(value: &Value<'_>) -> Option<WorkAsk>
     ensures { result ≡ spec.lock (view value.now) }
 {
     let file = file_at(value, "file")?;
@@ -75,7 +75,7 @@ fn lock(value: &Value) -> Option<WorkAsk>
     Some(WorkAsk::Lock { txn, file, mode })
 }
 
-fn prepare(alloc: Global, value: &Value) -> Result<Option<WorkAsk>, Memory>
+fn prepare(alloc: Global, value: &Value<'_>) -> Result<Option<WorkAsk>, Memory>
     ensures { IfOk result (λ ask. ask ≡ spec.prepare one (view value.now)) }
 {
     let Some(txn) = number_at(value, "txn") else {
@@ -87,7 +87,7 @@ fn prepare(alloc: Global, value: &Value) -> Result<Option<WorkAsk>, Memory>
     Ok(Some(WorkAsk::Prepare { txn, writes }))
 }
 
-fn decide(alloc: Global, value: &Value) -> Result<Option<WorkAsk>, Memory>
+fn decide(alloc: Global, value: &Value<'_>) -> Result<Option<WorkAsk>, Memory>
     ensures { IfOk result (λ ask. ask ≡ spec.decide (view value.now)) }
 {
     let Some(cite) = number_at(value, "cite") else {
@@ -102,28 +102,28 @@ fn decide(alloc: Global, value: &Value) -> Result<Option<WorkAsk>, Memory>
     Ok(Some(WorkAsk::Decide { txn, verdict, cite }))
 }
 
-fn release(value: &Value) -> Option<WorkAsk>
+fn release(value: &Value<'_>) -> Option<WorkAsk>
     ensures { result ≡ spec.release (view value.now) }
 {
     let txn = number_at(value, "txn")?;
     Some(WorkAsk::Release { txn })
 }
 
-fn peek(value: &Value) -> Option<WorkAsk>
+fn peek(value: &Value<'_>) -> Option<WorkAsk>
     ensures { result ≡ spec.peek (view value.now) }
 {
     let file = file_at(value, "file")?;
     Some(WorkAsk::Peek { file })
 }
 
-fn from_at(value: &Value) -> Option<CitedVote>
+fn from_at(value: &Value<'_>) -> Option<CitedVote>
     ensures { result ≡ spec.from_at (view value.now) }
 {
-    let cited = value.get("from")?;
+    let cited = get(value, "from")?;
     citation(cited)
 }
 
-fn refresh(alloc: Global, value: &Value) -> Result<Option<WorkAsk>, Memory>
+fn refresh(alloc: Global, value: &Value<'_>) -> Result<Option<WorkAsk>, Memory>
     ensures { IfOk result (λ ask. ask ≡ spec.refresh one (view value.now)) }
 {
     let Some(file) = file_at(value, "file") else {

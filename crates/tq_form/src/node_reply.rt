@@ -1,18 +1,18 @@
 ghost use Rattle.std.specs.Prelude.{◌≡◌, IfOk};
-ghost use Rattle.serde_json.specs.View.{view};
+ghost use Rattle.tq_value.specs.View.{view};
 ghost use Rattle.tq_form.specs.Format.{one};
 ghost use Rattle.tq_form.specs.NodeReplies as spec;
 
 use crate::content::{content_at, file_at};
 use crate::locking::{held_at, writes_at};
-use crate::member::{is_text, number_at, text_at};
-use serde_json::Value;
+use crate::member::is_text;
 use std::alloc::Global;
 use tq_node::{NodeRefusal, NodeReply};
 use tq_shape::Memory;
+use tq_value::{Value, number_at, text_at};
 
 /// The reply of a server that the value is: `None` where it is none.
-pub(crate) fn node_reply(alloc: Global, value: &Value) -> Result<Option<NodeReply>, Memory>
+pub(crate) fn node_reply(alloc: Global, value: &Value<'_>) -> Result<Option<NodeReply>, Memory>
     ensures { IfOk result (λ reply. reply ≡ spec.node_reply one (view value.now)) }
 {
     let Some(kind) = text_at(value, "is") else {
@@ -21,7 +21,7 @@ pub(crate) fn node_reply(alloc: Global, value: &Value) -> Result<Option<NodeRepl
     Ok(node_reply_by(alloc, kind, value)?)
 }
 
-fn node_reply_by(alloc: Global, kind: &str, value: &Value) -> Result<Option<NodeReply>, Memory>
+fn node_reply_by(alloc: Global, kind: &str, value: &Value<'_>) -> Result<Option<NodeReply>, Memory>
     ensures { IfOk result (λ reply. reply ≡ spec.node_reply_by one kind.now (view value.now)) }
 {
     if is_text(kind, "granted") {
@@ -64,7 +64,7 @@ fn bare_reply(kind: &str) -> Option<NodeReply>
     None
 }
 
-fn granted(alloc: Global, value: &Value) -> Result<Option<NodeReply>, Memory>
+fn granted(alloc: Global, value: &Value<'_>) -> Result<Option<NodeReply>, Memory>
     ensures { IfOk result (λ reply. reply ≡ spec.granted one (view value.now)) }
 {
     let Some(version) = number_at(value, "version") else {
@@ -76,7 +76,7 @@ fn granted(alloc: Global, value: &Value) -> Result<Option<NodeReply>, Memory>
     Ok(Some(NodeReply::Granted { version, content }))
 }
 
-fn copy(alloc: Global, value: &Value) -> Result<Option<NodeReply>, Memory>
+fn copy(alloc: Global, value: &Value<'_>) -> Result<Option<NodeReply>, Memory>
     ensures { IfOk result (λ reply. reply ≡ spec.copy one (view value.now)) }
 {
     let Some(version) = number_at(value, "version") else {
@@ -88,7 +88,7 @@ fn copy(alloc: Global, value: &Value) -> Result<Option<NodeReply>, Memory>
     Ok(Some(NodeReply::Copy { version, content }))
 }
 
-fn yes_vote(alloc: Global, value: &Value) -> Result<Option<NodeReply>, Memory>
+fn yes_vote(alloc: Global, value: &Value<'_>) -> Result<Option<NodeReply>, Memory>
     ensures { IfOk result (λ reply. reply ≡ spec.yes_vote one (view value.now)) }
 {
     let Some(held) = held_at(alloc, value)? else {
@@ -100,21 +100,21 @@ fn yes_vote(alloc: Global, value: &Value) -> Result<Option<NodeReply>, Memory>
     Ok(Some(NodeReply::Yes { held, writes }))
 }
 
-fn refused(value: &Value) -> Option<NodeReply>
+fn refused(value: &Value<'_>) -> Option<NodeReply>
     ensures { result ≡ spec.node_refused (view value.now) }
 {
     let refusal = refusal(value)?;
     Some(NodeReply::Refused(refusal))
 }
 
-fn refusal(value: &Value) -> Option<NodeRefusal>
+fn refusal(value: &Value<'_>) -> Option<NodeRefusal>
     ensures { result ≡ spec.node_refusal (view value.now) }
 {
     let code = number_at(value, "code")?;
     refusal_by(code, value)
 }
 
-fn refusal_by(code: u64, value: &Value) -> Option<NodeRefusal>
+fn refusal_by(code: u64, value: &Value<'_>) -> Option<NodeRefusal>
     ensures { result ≡ spec.node_refusal_by code (view value.now) }
 {
     if code == 14 {
@@ -126,14 +126,14 @@ fn refusal_by(code: u64, value: &Value) -> Option<NodeRefusal>
     code_refusal(code)
 }
 
-fn held_by(value: &Value) -> Option<NodeRefusal>
+fn held_by(value: &Value<'_>) -> Option<NodeRefusal>
     ensures { result ≡ spec.held_by (view value.now) }
 {
     let by = number_at(value, "by")?;
     Some(NodeRefusal::Held { by })
 }
 
-fn not_locked(value: &Value) -> Option<NodeRefusal>
+fn not_locked(value: &Value<'_>) -> Option<NodeRefusal>
     ensures { result ≡ spec.not_locked (view value.now) }
 {
     let file = file_at(value, "file")?;

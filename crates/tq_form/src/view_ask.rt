@@ -1,20 +1,20 @@
 ghost use Rattle.std.specs.Prelude.{◌≡◌};
-ghost use Rattle.serde_json.specs.View.{view};
+ghost use Rattle.tq_value.specs.View.{view};
 ghost use Rattle.tq_form.specs.Views as spec;
 
-use crate::member::{flag_at, is_text, number_at, text_at};
-use serde_json::Value;
+use crate::member::is_text;
 use tq_live::ViewAsk;
+use tq_value::{Value, flag_at, number_at, text_at};
 
 /// The ask of the view that the value is: `None` where it is none.
-pub(crate) fn view_ask(value: &Value) -> Option<ViewAsk>
+pub(crate) fn view_ask(value: &Value<'_>) -> Option<ViewAsk>
     ensures { result ≡ spec.view_ask (view value.now) }
 {
     let kind = text_at(value, "is")?;
     view_ask_by(kind, value)
 }
 
-fn view_ask_by(kind: &str, value: &Value) -> Option<ViewAsk>
+fn view_ask_by(kind: &str, value: &Value<'_>) -> Option<ViewAsk>
     ensures { result ≡ spec.view_ask_by kind.now (view value.now) }
 {
     if is_text(kind, "setcost") {
@@ -29,7 +29,7 @@ fn view_ask_by(kind: &str, value: &Value) -> Option<ViewAsk>
     None
 }
 
-fn set_cost(value: &Value) -> Option<ViewAsk>
+fn set_cost(value: &Value<'_>) -> Option<ViewAsk>
     ensures { result ≡ spec.set_cost (view value.now) }
 {
     let cost = number_at(value, "cost")?;
@@ -37,7 +37,7 @@ fn set_cost(value: &Value) -> Option<ViewAsk>
     Some(ViewAsk::SetCost { server, cost })
 }
 
-fn mark(value: &Value) -> Option<ViewAsk>
+fn mark(value: &Value<'_>) -> Option<ViewAsk>
     ensures { result ≡ spec.mark (view value.now) }
 {
     let server = number_at(value, "server")?;

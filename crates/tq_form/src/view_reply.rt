@@ -1,20 +1,20 @@
 ghost use Rattle.std.specs.Prelude.{◌≡◌, IfOk};
 ghost use Rattle.std.specs.Option.{option_map};
-ghost use Rattle.serde_json.specs.View.{view};
+ghost use Rattle.tq_value.specs.View.{view};
 ghost use Rattle.tq_form.specs.Views as spec;
 
-use crate::member::{is_text, items_at, number_at, numbers, text_at};
-use serde_json::Value;
+use crate::member::{is_text, numbers};
 use std::alloc::Global;
 use tq_coterie::{Blocker, Quorum};
 use tq_live::{ViewRefusal, ViewReply};
 use tq_shape::{Levels, Memory};
+use tq_value::{Value, items_at, number_at, text_at};
 
 /// The reply of the view that the value is, in a tree of so many levels: `None` where it is none.
 pub(crate) fn view_reply(
     alloc: Global,
     levels: Levels,
-    value: &Value,
+    value: &Value<'_>,
 ) -> Result<Option<ViewReply>, Memory>
     ensures { IfOk result (λ reply. reply ≡ spec.view_reply levels (view value.now)) }
 {
@@ -28,7 +28,7 @@ fn view_reply_by(
     alloc: Global,
     levels: Levels,
     kind: &str,
-    value: &Value,
+    value: &Value<'_>,
 ) -> Result<Option<ViewReply>, Memory>
     ensures { IfOk result (λ reply. reply ≡ spec.view_reply_by levels kind.now (view value.now)) }
 {
@@ -47,7 +47,7 @@ fn view_reply_by(
     Ok(None)
 }
 
-fn chosen(alloc: Global, levels: Levels, value: &Value) -> Result<Option<ViewReply>, Memory>
+fn chosen(alloc: Global, levels: Levels, value: &Value<'_>) -> Result<Option<ViewReply>, Memory>
     ensures { IfOk result (λ reply. reply ≡ spec.chosen levels (view value.now)) }
 {
     let Some(cost) = number_at(value, "cost") else {
@@ -59,7 +59,7 @@ fn chosen(alloc: Global, levels: Levels, value: &Value) -> Result<Option<ViewRep
     Ok(Some(ViewReply::Chosen { quorum, cost }))
 }
 
-fn refused(alloc: Global, levels: Levels, value: &Value) -> Result<Option<ViewReply>, Memory>
+fn refused(alloc: Global, levels: Levels, value: &Value<'_>) -> Result<Option<ViewReply>, Memory>
     ensures { IfOk result (λ reply. reply ≡ spec.view_refused levels (view value.now)) }
 {
     let Some(code) = number_at(value, "code") else {
@@ -77,7 +77,7 @@ fn refused(alloc: Global, levels: Levels, value: &Value) -> Result<Option<ViewRe
     Ok(None)
 }
 
-fn blocked(alloc: Global, levels: Levels, value: &Value) -> Result<Option<ViewReply>, Memory>
+fn blocked(alloc: Global, levels: Levels, value: &Value<'_>) -> Result<Option<ViewReply>, Memory>
     ensures { IfOk result (λ reply. reply ≡ spec.blocked levels (view value.now)) }
 {
     let Some(blocker) = blocker_at(alloc, levels, value)? else {
@@ -86,7 +86,7 @@ fn blocked(alloc: Global, levels: Levels, value: &Value) -> Result<Option<ViewRe
     Ok(Some(ViewReply::Refused(ViewRefusal::Blocked(blocker))))
 }
 
-fn servers_at(alloc: Global, value: &Value) -> Result<Option<Vec<u64>>, Memory>
+fn servers_at(alloc: Global, value: &Value<'_>) -> Result<Option<Vec<u64>>, Memory>
     ensures { IfOk result (λ numbers. option_map (λ v. v.items) numbers ≡ spec.servers_at (view value.now)) }
 {
     let Some(values) = items_at(value, "servers") else {
@@ -95,7 +95,7 @@ fn servers_at(alloc: Global, value: &Value) -> Result<Option<Vec<u64>>, Memory>
     Ok(numbers(alloc, values)?)
 }
 
-fn quorum_at(alloc: Global, levels: Levels, value: &Value) -> Result<Option<Quorum>, Memory>
+fn quorum_at(alloc: Global, levels: Levels, value: &Value<'_>) -> Result<Option<Quorum>, Memory>
     ensures { IfOk result (λ quorum. quorum ≡ spec.member_at levels (view value.now)) }
 {
     let Some(numbers) = servers_at(alloc, value)? else {
@@ -110,7 +110,7 @@ fn quorum_of(alloc: Global, levels: Levels, numbers: &[u64]) -> Result<Option<Qu
     Ok(Quorum::of(alloc, levels, numbers)?)
 }
 
-fn blocker_at(alloc: Global, levels: Levels, value: &Value) -> Result<Option<Blocker>, Memory>
+fn blocker_at(alloc: Global, levels: Levels, value: &Value<'_>) -> Result<Option<Blocker>, Memory>
     ensures { IfOk result (λ blocker. blocker ≡ spec.member_at levels (view value.now)) }
 {
     let Some(numbers) = servers_at(alloc, value)? else {

@@ -1,4 +1,4 @@
-use Rattle.serde_json.specs.View.{view}
+use Rattle.tq_value.specs.View.{view}
 use Rattle.tq_form.proofs.Held.{read-are-journals}
 use Rattle.tq_form.proofs.frame.journals_in_one.Goals as goal
 

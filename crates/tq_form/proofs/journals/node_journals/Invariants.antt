@@ -1,5 +1,5 @@
 use Rattle.std.proofs.Common.{◌≡◌, drop, map}
-use Rattle.serde_json.specs.View.{items_view}
+use Rattle.tq_value.specs.View.{items_view}
 use Rattle.tq_form.specs.Format.{one}
 use Rattle.tq_form.specs.Member.{each}
 use Rattle.tq_form.specs.Entries.{journal, node_entry}

@@ -1,5 +1,5 @@
 use Rattle.std.proofs.Common.{◌≡◌, drop}
-use Rattle.serde_json.specs.View.{items_view}
+use Rattle.tq_value.specs.View.{items_view}
 use Rattle.tq_form.specs.Member.{each, number_of}
 use Rattle.tq_form.proofs.Listed.{with_front}
 use Rattle.tq_form.proofs.member.numbers.Given as goal
