@@ -1,4 +1,4 @@
-//! Tests of what an entry says.
+//! Tests of what an entry says: that it is what a citation has it to be.
 ghost use Rattle.std.specs.Prelude.{◌≡◌, ◌==◌, ◌&&◌};
 ghost use Rattle.std.specs.Cmp.Lexicographic.{pointwise};
 ghost use Rattle.tq_world.specs.Founded as spec;
@@ -9,8 +9,8 @@ use tq_node::{CitedVote, HeldLock, NodeAsk, NodeReply, Verdict, WorkAsk};
 use tq_store::{Content, FileName, Write};
 use tq_tables::{DeskEntry, NodeEntry};
 
-/// Whether the entry granted the lock, as the grant has it.
-pub(crate) fn is_granted(entry: &NodeEntry, txn: u64, file: FileName, grant: &Grant) -> bool
+/// Whether the entry granted to the transaction its lock on the file, with the mode, version and content that the grant has.
+pub fn is_granted(entry: &NodeEntry, txn: u64, file: FileName, grant: &Grant) -> bool
     ensures { result ≡ spec.is_granted txn file grant.now entry.now.ask entry.now.reply }
 {
     match &entry.ask {
@@ -43,8 +43,8 @@ fn is_same_mode(one: Mode, other: Mode) -> bool
     }
 }
 
-/// Whether the entry gave the vote.
-pub(crate) fn is_voted(entry: &NodeEntry, txn: u64, vote: &Vote) -> bool
+/// Whether the entry answered the transaction's Prepare with the locks and writes that the vote has.
+pub fn is_voted(entry: &NodeEntry, txn: u64, vote: &Vote) -> bool
     ensures { result ≡ spec.is_voted txn vote.now entry.now.ask entry.now.reply }
 {
     match &entry.ask {
@@ -58,8 +58,8 @@ pub(crate) fn is_voted(entry: &NodeEntry, txn: u64, vote: &Vote) -> bool
     }
 }
 
-/// Whether the entry told this copy to a peek.
-pub(crate) fn is_peeked(entry: &NodeEntry, file: FileName, version: u64, content: &Content) -> bool
+/// Whether the entry told this copy to a peek at the file.
+pub fn is_peeked(entry: &NodeEntry, file: FileName, version: u64, content: &Content) -> bool
     ensures { result ≡ spec.is_peeked file version content.now entry.now.ask entry.now.reply }
 {
     match &entry.ask {
@@ -74,8 +74,8 @@ pub(crate) fn is_peeked(entry: &NodeEntry, file: FileName, version: u64, content
     }
 }
 
-/// Whether the entry says that the transaction ended so.
-pub(crate) fn is_ended(entry: &DeskEntry, txn: u64, verdict: &Verdict) -> bool
+/// Whether the entry says that the transaction ended so: it recorded the commit of the votes cited, or told this verdict.
+pub fn is_ended(entry: &DeskEntry, txn: u64, verdict: &Verdict) -> bool
     ensures { result ≡ spec.is_ended txn verdict.now entry.now.ask entry.now.reply }
 {
     match &entry.ask {
@@ -97,7 +97,8 @@ pub(crate) fn is_ended(entry: &DeskEntry, txn: u64, verdict: &Verdict) -> bool
     }
 }
 
-fn is_same_verdict(one: &Verdict, other: &Verdict) -> bool
+/// Whether the two verdicts are the same: both aborts, or commits of the same votes in the same order.
+pub fn is_same_verdict(one: &Verdict, other: &Verdict) -> bool
     ensures { result ≡ spec.same_verdict one.now other.now }
 {
     match one {

@@ -13,8 +13,8 @@ use tq_store::{Content, FileName};
 use tq_tables::NodeEntry;
 use tq_world::Citation;
 
-/// The item of a number, from 1.
-pub(crate) fn item_at<T>(items: &[T], number: u64) -> Option<&T>
+/// The item of a number, from 1; none where the list has no such item.
+pub fn item_at<T>(items: &[T], number: u64) -> Option<&T>
     ensures { option_copied result ≡ world.item_at items.now number }
 {
     if number == 0 {

@@ -1,0 +1,187 @@
+-- Replies that pass the test of being the same are the same, and the other way round.
+use Rattle.std.proofs.Common.{◌≡◌, ◌==◌, ◌&&◌, Bool, true, List, [], ◌∷◌, refl, sym, ap, ◌∙◌}
+use Rattle.std.specs.Cmp.Lexicographic.{pointwise}
+use Rattle.std.proofs.lemmas.Bool.{and_parts, and_from, eqb-true, eq-eqb, false≢true}
+use Rattle.tq_store.specs.declared.write.Write.{Write}
+use Rattle.tq_locks.specs.declared.mode.Mode.{Mode}
+use Rattle.tq_locks.specs.declared.mode.Mode.TheVariants.{Shared, Exclusive}
+use Rattle.tq_node.specs.declared.ask.CitedVote.{CitedVote}
+use Rattle.tq_node.specs.declared.ask.HeldLock.{HeldLock}
+use Rattle.tq_node.specs.declared.ask.Verdict.{Verdict}
+use Rattle.tq_node.specs.declared.ask.Verdict.TheVariants as verdicts
+use Rattle.tq_node.specs.declared.ask.NodeRefusal.{NodeRefusal}
+use Rattle.tq_node.specs.declared.ask.NodeRefusal.TheVariants as reasons
+use Rattle.tq_node.specs.declared.ask.NodeReply.{NodeReply}
+use Rattle.tq_node.specs.declared.ask.NodeReply.TheVariants as replies
+use Rattle.tq_desk.specs.declared.ask.DeskRefusal.{DeskRefusal}
+use Rattle.tq_desk.specs.declared.ask.DeskRefusal.TheVariants as desk_reasons
+use Rattle.tq_desk.specs.declared.ask.DeskReply.{DeskReply}
+use Rattle.tq_desk.specs.declared.ask.DeskReply.TheVariants as desk_replies
+use Rattle.tq_store.specs.Names.{same_name}
+use Rattle.tq_store.proofs.SameName.{same_name-is, same_name-refl}
+use Rattle.tq_world.specs.Founded.{same_mode, same_lock, same_write, same_vote, same_verdict}
+use Rattle.tq_merge.specs.Same.{same_reason, same_reply, same_desk_reason, same_desk_reply}
+
+mode-is : (a b : Mode) → same_mode a b ≡ true → a ≡ b
+mode-is Shared Shared same = refl
+mode-is Exclusive Exclusive same = refl
+mode-is Shared Exclusive same = absurd (false≢true same)
+mode-is Exclusive Shared same = absurd (false≢true same)
+
+mode-self : (a : Mode) → same_mode a a ≡ true
+mode-self Shared = refl
+mode-self Exclusive = refl
+
+list-is : {A : Type 0} (test : A → A → Bool) → ((a b : A) → test a b ≡ true → a ≡ b) → (xs ys : List A) → pointwise test xs ys ≡ true → xs ≡ ys
+list-is test same [] [] is = refl
+list-is test same [] (y ∷ ys) is = absurd (false≢true is)
+list-is test same (x ∷ xs) [] is = absurd (false≢true is)
+list-is test same (x ∷ xs) (y ∷ ys) is =
+    let parts = and_parts (test x y) (pointwise test xs ys) is in
+    λ i. same x y parts.0 i ∷ list-is test same xs ys parts.1 i
+
+list-self : {A : Type 0} (test : A → A → Bool) → ((a : A) → test a a ≡ true) → (xs : List A) → pointwise test xs xs ≡ true
+list-self test self [] = refl
+list-self test self (x ∷ xs) = and_from (test x x) (pointwise test xs xs) (self x) (list-self test self xs)
+
+lock-is : (a b : HeldLock) → same_lock a b ≡ true → a ≡ b
+lock-is a b same =
+    let rest = and_parts (same_name a.file b.file && same_mode a.mode b.mode) (a.since == b.since) same in
+    let first = and_parts (same_name a.file b.file) (same_mode a.mode b.mode) rest.0 in
+    let file = same_name-is a.file b.file first.0 in
+    let mode = mode-is a.mode b.mode first.1 in
+    let since = eqb-true a.since b.since rest.1 in
+    λ i. record { file = file i; mode = mode i; since = since i }
+
+lock-self : (a : HeldLock) → same_lock a a ≡ true
+lock-self a = and_from (same_name a.file a.file && same_mode a.mode a.mode) (a.since == a.since) (and_from (same_name a.file a.file) (same_mode a.mode a.mode) (same_name-refl a.file) (mode-self a.mode)) (eq-eqb a.since a.since refl)
+
+write-is : (a b : Write) → same_write a b ≡ true → a ≡ b
+write-is a b same =
+    let rest = and_parts (same_name a.file b.file && a.version == b.version) (same_name a.content b.content) same in
+    let first = and_parts (same_name a.file b.file) (a.version == b.version) rest.0 in
+    let file = same_name-is a.file b.file first.0 in
+    let version = eqb-true a.version b.version first.1 in
+    let content = same_name-is a.content b.content rest.1 in
+    λ i. record { file = file i; version = version i; content = content i }
+
+write-self : (a : Write) → same_write a a ≡ true
+write-self a = and_from (same_name a.file a.file && a.version == a.version) (same_name a.content a.content) (and_from (same_name a.file a.file) (a.version == a.version) (same_name-refl a.file) (eq-eqb a.version a.version refl)) (same_name-refl a.content)
+
+vote-is : (a b : CitedVote) → same_vote a b ≡ true → a ≡ b
+vote-is a b same =
+    let parts = and_parts (a.server == b.server) (a.number == b.number) same in
+    let server = eqb-true a.server b.server parts.0 in
+    let number = eqb-true a.number b.number parts.1 in
+    λ i. record { server = server i; number = number i }
+
+vote-self : (a : CitedVote) → same_vote a a ≡ true
+vote-self a = and_from (a.server == a.server) (a.number == a.number) (eq-eqb a.server a.server refl) (eq-eqb a.number a.number refl)
+
+verdict-is : (a b : Verdict) → same_verdict a b ≡ true → a ≡ b
+verdict-is verdicts.Abort verdicts.Abort same = refl
+verdict-is (verdicts.Commit votes) (verdicts.Commit others) same = ap (λ v. verdicts.Commit v) (list-is same_vote vote-is votes others same)
+verdict-is verdicts.Abort (verdicts.Commit others) same = absurd (false≢true same)
+verdict-is (verdicts.Commit votes) verdicts.Abort same = absurd (false≢true same)
+
+verdict-self : (a : Verdict) → same_verdict a a ≡ true
+verdict-self verdicts.Abort = refl
+verdict-self (verdicts.Commit votes) = list-self same_vote vote-self votes
+
+-- ---- a server's replies
+
+reason-is : (a b : NodeRefusal) → same_reason a b ≡ true → a ≡ b
+reason-is reasons.Down reasons.Down same = refl
+reason-is reasons.AlreadyUp reasons.AlreadyUp same = refl
+reason-is reasons.AlreadyDown reasons.AlreadyDown same = refl
+reason-is (reasons.Held a) (reasons.Held b) same = ap (λ n. reasons.Held n) (eqb-true a b same)
+reason-is reasons.Prepared reasons.Prepared same = refl
+reason-is (reasons.NotLocked a) (reasons.NotLocked b) same = ap (λ n. reasons.NotLocked n) (same_name-is a b same)
+reason-is reasons.BadWrites reasons.BadWrites same = refl
+reason-is reasons.NotNewer reasons.NotNewer same = refl
+reason-is reasons.NothingHere reasons.NothingHere same = refl
+reason-is a b same = absurd (false≢true same)
+
+reason-self : (a : NodeRefusal) → same_reason a a ≡ true
+reason-self (reasons.Held a) = eq-eqb a a refl
+reason-self (reasons.NotLocked a) = same_name-refl a
+reason-self reasons.Down = refl
+reason-self reasons.AlreadyUp = refl
+reason-self reasons.AlreadyDown = refl
+reason-self reasons.Prepared = refl
+reason-self reasons.BadWrites = refl
+reason-self reasons.NotNewer = refl
+reason-self reasons.NothingHere = refl
+
+pub reply-is : (a b : NodeReply) → same_reply a b ≡ true → a ≡ b
+reply-is (replies.Granted v c) (replies.Granted w d) same =
+    let parts = and_parts (v == w) (same_name c d) same in
+    let version = eqb-true v w parts.0 in
+    let content = same_name-is c d parts.1 in
+    λ i. replies.Granted (version i) (content i)
+reply-is (replies.Yes a b) (replies.Yes c d) same =
+    let parts = and_parts (pointwise same_lock a c) (pointwise same_write b d) same in
+    let held = list-is same_lock lock-is a c parts.0 in
+    let writes = list-is same_write write-is b d parts.1 in
+    λ i. replies.Yes (held i) (writes i)
+reply-is replies.Installed replies.Installed same = refl
+reply-is replies.Discarded replies.Discarded same = refl
+reply-is replies.Released replies.Released same = refl
+reply-is (replies.Copy v c) (replies.Copy w d) same =
+    let parts = and_parts (v == w) (same_name c d) same in
+    let version = eqb-true v w parts.0 in
+    let content = same_name-is c d parts.1 in
+    λ i. replies.Copy (version i) (content i)
+reply-is replies.Refreshed replies.Refreshed same = refl
+reply-is replies.Crashed replies.Crashed same = refl
+reply-is replies.Returned replies.Returned same = refl
+reply-is (replies.Refused a) (replies.Refused b) same = ap (λ r. replies.Refused r) (reason-is a b same)
+reply-is a b same = absurd (false≢true same)
+
+reply-self : (a : NodeReply) → same_reply a a ≡ true
+reply-self (replies.Granted v c) = and_from (v == v) (same_name c c) (eq-eqb v v refl) (same_name-refl c)
+reply-self (replies.Yes a b) = and_from (pointwise same_lock a a) (pointwise same_write b b) (list-self same_lock lock-self a) (list-self same_write write-self b)
+reply-self (replies.Copy v c) = and_from (v == v) (same_name c c) (eq-eqb v v refl) (same_name-refl c)
+reply-self (replies.Refused a) = reason-self a
+reply-self replies.Installed = refl
+reply-self replies.Discarded = refl
+reply-self replies.Released = refl
+reply-self replies.Refreshed = refl
+reply-self replies.Crashed = refl
+reply-self replies.Returned = refl
+
+pub is-reply : (a b : NodeReply) → a ≡ b → same_reply a b ≡ true
+is-reply a b same = ap (λ x. same_reply a x) (sym same) ∙ reply-self a
+
+-- ---- the desk's replies
+
+desk_reason-is : (a b : DeskRefusal) → same_desk_reason a b ≡ true → a ≡ b
+desk_reason-is desk_reasons.NoSuchTxn desk_reasons.NoSuchTxn same = refl
+desk_reason-is (desk_reasons.Decided a) (desk_reasons.Decided b) same = ap (λ v. desk_reasons.Decided v) (verdict-is a b same)
+desk_reason-is desk_reasons.TooManyOps desk_reasons.TooManyOps same = refl
+desk_reason-is (desk_reasons.BadEvidence a) (desk_reasons.BadEvidence b) same = ap (λ n. desk_reasons.BadEvidence n) (eqb-true a b same)
+desk_reason-is desk_reasons.TooManyFiles desk_reasons.TooManyFiles same = refl
+desk_reason-is a b same = absurd (false≢true same)
+
+desk_reason-self : (a : DeskRefusal) → same_desk_reason a a ≡ true
+desk_reason-self desk_reasons.NoSuchTxn = refl
+desk_reason-self (desk_reasons.Decided a) = verdict-self a
+desk_reason-self desk_reasons.TooManyOps = refl
+desk_reason-self (desk_reasons.BadEvidence a) = eq-eqb a a refl
+desk_reason-self desk_reasons.TooManyFiles = refl
+
+pub desk_reply-is : (a b : DeskReply) → same_desk_reply a b ≡ true → a ≡ b
+desk_reply-is (desk_replies.Txn a) (desk_replies.Txn b) same = ap (λ n. desk_replies.Txn n) (eqb-true a b same)
+desk_reply-is (desk_replies.Verdict a) (desk_replies.Verdict b) same = ap (λ v. desk_replies.Verdict v) (verdict-is a b same)
+desk_reply-is (desk_replies.Committed a) (desk_replies.Committed b) same = ap (λ n. desk_replies.Committed n) (eqb-true a b same)
+desk_reply-is (desk_replies.Refused a) (desk_replies.Refused b) same = ap (λ r. desk_replies.Refused r) (desk_reason-is a b same)
+desk_reply-is a b same = absurd (false≢true same)
+
+desk_reply-self : (a : DeskReply) → same_desk_reply a a ≡ true
+desk_reply-self (desk_replies.Txn a) = eq-eqb a a refl
+desk_reply-self (desk_replies.Verdict a) = verdict-self a
+desk_reply-self (desk_replies.Committed a) = eq-eqb a a refl
+desk_reply-self (desk_replies.Refused a) = desk_reason-self a
+
+pub is-desk_reply : (a b : DeskReply) → a ≡ b → same_desk_reply a b ≡ true
+is-desk_reply a b same = ap (λ x. same_desk_reply a x) (sym same) ∙ desk_reply-self a

@@ -1,0 +1,259 @@
+-- What is founded stays founded: a step rests on the entries that it cites, and on nothing else of the world.
+use Rattle.std.specs.Prelude.{not}
+use Rattle.std.proofs.Common.{◌≡◌, ◌≤◌, ℕ, Bool, true, false, List, [], ◌∷◌, map, take, Option, Some, None, refl, sym, ap, subst, ◌∙◌, inl, inr, arith}
+use Rattle.std.specs.List.{find}
+use Rattle.std.specs.Option.{option_map, option_map_or, option_and_then}
+use Rattle.std.proofs.lemmas.Bool.{cond-false}
+use Rattle.tq_shape.specs.Journal.{Has}
+use Rattle.tq_shape.specs.declared.part.Part.{Part}
+use Rattle.tq_shape.specs.declared.part.Part.TheVariants as parts
+use Rattle.tq_shape.proofs.Options.{map-none, or_else-none}
+use Rattle.tq_shape.proofs.Places.{none-Has, append-Has, map-Has, Has-append, Has-map}
+use Rattle.tq_node.specs.declared.ask.NodeAsk.TheVariants as node_asks
+use Rattle.tq_node.specs.declared.ask.WorkAsk.{WorkAsk}
+use Rattle.tq_node.specs.declared.ask.WorkAsk.TheVariants as work
+use Rattle.tq_desk.specs.declared.ask.DeskAsk.TheVariants as desk_asks
+use Rattle.tq_evidence.specs.declared.grant.Grant.{Grant}
+use Rattle.tq_evidence.specs.declared.op.Op.{Op}
+use Rattle.tq_evidence.specs.declared.vote.Vote.{Vote}
+use Rattle.tq_tables.specs.Journals.{JournalsView, ViewEntry}
+use Rattle.tq_node.specs.NodeJournal.{NodeEntry}
+use Rattle.tq_desk.specs.DeskJournal.{DeskEntry}
+use Rattle.tq_world.specs.declared.answer.Step.{Step}
+use Rattle.tq_world.specs.declared.answer.Step.TheVariants as steps
+use Rattle.tq_world.specs.declared.citation.Citation.{Citation}
+use Rattle.tq_world.specs.World.{item_at, server_entry}
+use Rattle.tq_world.specs.Founded.{is_founded_grant, is_founded_vote, is_founded_copy, is_founded_verdict, is_granted, is_voted, is_peeked, is_ended, cited_grant, cited_vote, unless, unfounded_grant, unfounded_op, unfounded_vote, unfounded_in_work}
+use Rattle.tq_shape.specs.Steps.{or_else}
+use Rattle.tq_world.proofs.Contents.{tested-is}
+use Rattle.tq_merge.specs.Cited.{cited_in, cited_in_ops, cited_in_work}
+use Rattle.tq_merge.specs.Order.{firsts, unfounded}
+use Rattle.tq_merge.proofs.Places.{first_item, item_first, item_each}
+
+-- ---- the entries that are cited
+
+-- the entry of the number stands in the other world too, if it stands in the one
+abbrev pub StaysAt : JournalsView → JournalsView → Part → ℕ → Type 0
+StaysAt world other (parts.Server server) number = (e : NodeEntry) → server_entry world server number ≡ Some e → server_entry other server number ≡ Some e
+StaysAt world other parts.Desk number = (e : DeskEntry) → item_at world.desk number ≡ Some e → item_at other.desk number ≡ Some e
+StaysAt world other parts.View number = (e : ViewEntry) → item_at world.view number ≡ Some e → item_at other.view number ≡ Some e
+
+abbrev pub Stays : JournalsView → JournalsView → Citation → Type 0
+Stays world other citation = StaysAt world other citation.part citation.number
+
+-- there is an entry of the number
+abbrev pub StandsAt : JournalsView → Part → ℕ → Type 0
+StandsAt world (parts.Server server) number = (e : NodeEntry) × (server_entry world server number ≡ Some e)
+StandsAt world parts.Desk number = (e : DeskEntry) × (item_at world.desk number ≡ Some e)
+StandsAt world parts.View number = ⊥
+
+abbrev pub Stands : JournalsView → Citation → Type 0
+Stands world citation = StandsAt world citation.part citation.number
+
+-- ---- small facts of what is found
+
+test_stays : {E : Type 0} (test : E → Bool) (o other : Option E) → ((e : E) → o ≡ Some e → other ≡ Some e) → option_map_or test o false ≡ true → option_map_or test other false ≡ true
+test_stays test o other stays is =
+    let found = tested-is test o is in
+    ap (λ x. option_map_or test x false) (stays found.0 found.1) ∙ found.2
+
+unless_true : (founded : Bool) (citation : Citation) → unless founded citation ≡ None → founded ≡ true
+unless_true true citation none = refl
+unless_true false citation none = absurd (let some : Path (Option Citation) (Some citation) None = none in cc)
+
+both_none : (a b : Option Citation) → a ≡ None → b ≡ None → or_else a b ≡ None
+both_none a b left right = ap (λ o. or_else o b) left ∙ right
+
+all_founded : {A : Type 0} (founded : A → Bool) (xs : List A) → find (λ x. not (founded x)) xs ≡ None → (x : A) → Has xs x → founded x ≡ true
+all_founded founded xs none x has = by (founded x) (none-Has (λ y. not (founded y)) xs none x has)
+  where
+    by : (b : Bool) → (not b ≡ true → ⊥) → b ≡ true
+    by true never = refl
+    by false never = absurd (never refl)
+
+none_found : {A : Type 0} (founded : A → Bool) (xs : List A) → ((x : A) → Has xs x → founded x ≡ true) → find (λ x. not (founded x)) xs ≡ None
+none_found founded [] all = refl
+none_found founded (x ∷ xs) all =
+    cond-false (not (founded x)) (Some x) (find (λ y. not (founded y)) xs) (ap not (all x (inl refl)))
+    ∙ none_found founded xs (λ y has. all y (inr has))
+
+-- ---- a step is founded in another world in which the entries stand that it cites
+
+module _ (world other : JournalsView) where
+  grant_stays : (txn : ℕ) (file : List ℕ) (grant : Grant) → Stays world other (cited_grant grant) → is_founded_grant world txn file grant ≡ true → is_founded_grant other txn file grant ≡ true
+  grant_stays txn file grant stays is = test_stays (λ (e : NodeEntry). is_granted txn file grant e.ask e.reply) (server_entry world grant.server grant.number) (server_entry other grant.server grant.number) stays is
+
+  vote_stays : (txn : ℕ) (vote : Vote) → Stays world other (cited_vote vote) → is_founded_vote world txn vote ≡ true → is_founded_vote other txn vote ≡ true
+  vote_stays txn vote stays is = test_stays (λ (e : NodeEntry). is_voted txn vote e.ask e.reply) (server_entry world vote.server vote.number) (server_entry other vote.server vote.number) stays is
+
+  grants_stay : (txn : ℕ) (file : List ℕ) (grants : List Grant) → ((c : Citation) → Has (map cited_grant grants) c → Stays world other c)
+      → unfounded_grant world txn file grants ≡ None → unfounded_grant other txn file grants ≡ None
+  grants_stay txn file grants stay none =
+      let clean = map-none cited_grant (find (λ (g : Grant). not (is_founded_grant world txn file g)) grants) none in
+      ap (option_map cited_grant)
+      (none_found (is_founded_grant other txn file) grants
+      (λ g has. grant_stays txn file g (stay (cited_grant g) (map-Has cited_grant grants g has)) (all_founded (is_founded_grant world txn file) grants clean g has)))
+
+  ops_stay : (txn : ℕ) (ops : List Op) → ((c : Citation) → Has (cited_in_ops ops) c → Stays world other c) → unfounded_op world txn ops ≡ None → unfounded_op other txn ops ≡ None
+  ops_stay txn [] stay none = refl
+  ops_stay txn (op ∷ ops) stay none =
+      let both = or_else-none (unfounded_grant world txn op.file op.grants) (unfounded_op world txn ops) none in
+      both_none (unfounded_grant other txn op.file op.grants) (unfounded_op other txn ops)
+      (grants_stay txn op.file op.grants (λ c has. stay c (append-Has (map cited_grant op.grants) (cited_in_ops ops) c (inl has))) both.0)
+      (ops_stay txn ops (λ c has. stay c (append-Has (map cited_grant op.grants) (cited_in_ops ops) c (inr has))) both.1)
+
+  votes_stay : (txn : ℕ) (votes : List Vote) → ((c : Citation) → Has (map cited_vote votes) c → Stays world other c) → unfounded_vote world txn votes ≡ None → unfounded_vote other txn votes ≡ None
+  votes_stay txn votes stay none =
+      let clean = map-none cited_vote (find (λ (v : Vote). not (is_founded_vote world txn v)) votes) none in
+      ap (option_map cited_vote)
+      (none_found (is_founded_vote other txn) votes
+      (λ v has. vote_stays txn v (stay (cited_vote v) (map-Has cited_vote votes v has)) (all_founded (is_founded_vote world txn) votes clean v has)))
+
+  work_stays : (ask : WorkAsk) → ((c : Citation) → Has (cited_in_work ask) c → Stays world other c) → unfounded_in_work world ask ≡ None → unfounded_in_work other ask ≡ None
+  work_stays (work.Decide txn verdict cite) stay none =
+      ap (λ b. unless b (record { part = parts.Desk; number = cite }))
+      (test_stays (λ (e : DeskEntry). is_ended txn verdict e.ask e.reply) (item_at world.desk cite) (item_at other.desk cite)
+      (stay (record { part = parts.Desk; number = cite }) (inl refl)) (unless_true (is_founded_verdict world txn verdict cite) _ none))
+  work_stays (work.Refresh file version content from) stay none =
+      ap (λ b. unless b (record { part = parts.Server from.server; number = from.number }))
+      (test_stays (λ (e : NodeEntry). is_peeked file version content e.ask e.reply) (server_entry world from.server from.number) (server_entry other from.server from.number)
+      (stay (record { part = parts.Server from.server; number = from.number }) (inl refl)) (unless_true (is_founded_copy world file version content from) _ none))
+  work_stays (work.Lock txn file mode) stay none = refl
+  work_stays (work.Prepare txn writes) stay none = refl
+  work_stays (work.Release txn) stay none = refl
+  work_stays (work.Peek file) stay none = refl
+
+  pub founded_stays : (step : Step) → ((c : Citation) → Has (cited_in step) c → Stays world other c) → unfounded world step ≡ None → unfounded other step ≡ None
+  founded_stays (steps.Node server (node_asks.Work ask)) stay none = work_stays ask stay none
+  founded_stays (steps.Node server node_asks.Crash) stay none = refl
+  founded_stays (steps.Node server node_asks.Return) stay none = refl
+  founded_stays (steps.Desk (desk_asks.Commit txn ops votes)) stay none =
+      let both = or_else-none (unfounded_op world txn ops) (unfounded_vote world txn votes) none in
+      both_none (unfounded_op other txn ops) (unfounded_vote other txn votes)
+      (ops_stay txn ops (λ c has. stay c (append-Has (cited_in_ops ops) (map cited_vote votes) c (inl has))) both.0)
+      (votes_stay txn votes (λ c has. stay c (append-Has (cited_in_ops ops) (map cited_vote votes) c (inr has))) both.1)
+  founded_stays (steps.Desk desk_asks.Begin) stay none = refl
+  founded_stays (steps.Desk (desk_asks.Resolve txn)) stay none = refl
+  founded_stays (steps.View ask) stay none = refl
+
+-- ---- where a step is founded, each entry stands that it cites
+
+module _ (world : JournalsView) where
+  grants_stand : (txn : ℕ) (file : List ℕ) (grants : List Grant) → unfounded_grant world txn file grants ≡ None → (c : Citation) → Has (map cited_grant grants) c → Stands world c
+  grants_stand txn file grants none c has =
+      let clean = map-none cited_grant (find (λ (g : Grant). not (is_founded_grant world txn file g)) grants) none in
+      let from = Has-map cited_grant grants c has in
+      let g = from.0 in
+      let found = tested-is (λ (e : NodeEntry). is_granted txn file g e.ask e.reply) (server_entry world g.server g.number) (all_founded (is_founded_grant world txn file) grants clean g from.1) in
+      subst (Stands world) from.2 (found.0, found.1)
+
+  ops_stand : (txn : ℕ) (ops : List Op) → unfounded_op world txn ops ≡ None → (c : Citation) → Has (cited_in_ops ops) c → Stands world c
+  ops_stand txn [] none c has = absurd has
+  ops_stand txn (op ∷ ops) none c has =
+      let both = or_else-none (unfounded_grant world txn op.file op.grants) (unfounded_op world txn ops) none in
+      elim (Has-append (map cited_grant op.grants) (cited_in_ops ops) c has) [
+        | inl here ↦ grants_stand txn op.file op.grants both.0 c here
+        | inr there ↦ ops_stand txn ops both.1 c there
+      ]
+
+  votes_stand : (txn : ℕ) (votes : List Vote) → unfounded_vote world txn votes ≡ None → (c : Citation) → Has (map cited_vote votes) c → Stands world c
+  votes_stand txn votes none c has =
+      let clean = map-none cited_vote (find (λ (v : Vote). not (is_founded_vote world txn v)) votes) none in
+      let from = Has-map cited_vote votes c has in
+      let v = from.0 in
+      let found = tested-is (λ (e : NodeEntry). is_voted txn v e.ask e.reply) (server_entry world v.server v.number) (all_founded (is_founded_vote world txn) votes clean v from.1) in
+      subst (Stands world) from.2 (found.0, found.1)
+
+  work_stands : (ask : WorkAsk) → unfounded_in_work world ask ≡ None → (c : Citation) → Has (cited_in_work ask) c → Stands world c
+  work_stands (work.Decide txn verdict cite) none c (inl same) =
+      let found = tested-is (λ (e : DeskEntry). is_ended txn verdict e.ask e.reply) (item_at world.desk cite) (unless_true (is_founded_verdict world txn verdict cite) _ none) in
+      subst (Stands world) same (found.0, found.1)
+  work_stands (work.Decide txn verdict cite) none c (inr has) = absurd has
+  work_stands (work.Refresh file version content from) none c (inl same) =
+      let found = tested-is (λ (e : NodeEntry). is_peeked file version content e.ask e.reply) (server_entry world from.server from.number) (unless_true (is_founded_copy world file version content from) _ none) in
+      subst (Stands world) same (found.0, found.1)
+  work_stands (work.Refresh file version content from) none c (inr has) = absurd has
+  work_stands (work.Lock txn file mode) none c has = absurd has
+  work_stands (work.Prepare txn writes) none c has = absurd has
+  work_stands (work.Release txn) none c has = absurd has
+  work_stands (work.Peek file) none c has = absurd has
+
+  pub cited_stands : (step : Step) → unfounded world step ≡ None → (c : Citation) → Has (cited_in step) c → Stands world c
+  cited_stands (steps.Node server (node_asks.Work ask)) none c has = work_stands ask none c has
+  cited_stands (steps.Node server node_asks.Crash) none c has = absurd has
+  cited_stands (steps.Node server node_asks.Return) none c has = absurd has
+  cited_stands (steps.Desk (desk_asks.Commit txn ops votes)) none c has =
+      let both = or_else-none (unfounded_op world txn ops) (unfounded_vote world txn votes) none in
+      elim (Has-append (cited_in_ops ops) (map cited_vote votes) c has) [
+        | inl here ↦ ops_stand txn ops both.0 c here
+        | inr there ↦ votes_stand txn votes both.1 c there
+      ]
+  cited_stands (steps.Desk desk_asks.Begin) none c has = absurd has
+  cited_stands (steps.Desk (desk_asks.Resolve txn)) none c has = absurd has
+  cited_stands (steps.View ask) none c has = absurd has
+
+-- ---- the first entries of journals
+
+module _ (journals : JournalsView) where
+  -- an entry among the first of a server
+  pub entry_of_firsts : (count : Part → ℕ) (server number : ℕ) (e : NodeEntry) → server_entry (firsts journals count) server number ≡ Some e
+      → (server_entry journals server number ≡ Some e) × (number ≤ count (parts.Server server))
+  entry_of_firsts count server number e is =
+      by (item_at journals.servers server)
+      (ap (λ (o : Option (List NodeEntry)). option_and_then (λ entries. item_at entries number) o) (sym (item_each (λ n (entries : List NodeEntry). take (count (parts.Server n)) entries) journals.servers server)) ∙ is)
+    where
+      by : (o : Option (List NodeEntry)) → option_and_then (λ entries. item_at entries number) (option_map (λ (entries : List NodeEntry). take (count (parts.Server server)) entries) o) ≡ Some e
+          → (option_and_then (λ entries. item_at entries number) o ≡ Some e) × (number ≤ count (parts.Server server))
+      by None some = absurd (let none : Path (Option NodeEntry) None (Some e) = some in cc)
+      by (Some entries) some = first_item entries (count (parts.Server server)) number e some
+
+  pub entry_in_firsts : (count : Part → ℕ) (server number : ℕ) (e : NodeEntry) → server_entry journals server number ≡ Some e → number ≤ count (parts.Server server)
+      → server_entry (firsts journals count) server number ≡ Some e
+  entry_in_firsts count server number e is most =
+      ap (λ (o : Option (List NodeEntry)). option_and_then (λ entries. item_at entries number) o) (item_each (λ n (entries : List NodeEntry). take (count (parts.Server n)) entries) journals.servers server)
+      ∙ by (item_at journals.servers server) is
+    where
+      by : (o : Option (List NodeEntry)) → option_and_then (λ entries. item_at entries number) o ≡ Some e
+          → option_and_then (λ entries. item_at entries number) (option_map (λ (entries : List NodeEntry). take (count (parts.Server server)) entries) o) ≡ Some e
+      by None some = some
+      by (Some entries) some = item_first entries (count (parts.Server server)) number e some most
+
+  more_stays : (count other : Part → ℕ) (part : Part) (number : ℕ) → count part ≤ other part → StaysAt (firsts journals count) (firsts journals other) part number
+  more_stays count other (parts.Server server) number less = λ e is.
+      let there = entry_of_firsts count server number e is in
+      entry_in_firsts other server number e there.0 (omega (arith, there.1, less))
+  more_stays count other parts.Desk number less = λ e is.
+      let there = first_item journals.desk (count parts.Desk) number e is in
+      item_first journals.desk (other parts.Desk) number e there.0 (omega (arith, there.1, less))
+  more_stays count other parts.View number less = λ e is.
+      let there = first_item journals.view (count parts.View) number e is in
+      item_first journals.view (other parts.View) number e there.0 (omega (arith, there.1, less))
+
+  -- what is founded in the first entries is founded in more of them
+  pub founded_more : (count other : Part → ℕ) (step : Step) → ((part : Part) → count part ≤ other part) → unfounded (firsts journals count) step ≡ None → unfounded (firsts journals other) step ≡ None
+  founded_more count other step less none = founded_stays (firsts journals count) (firsts journals other) step (λ c has. more_stays count other c.part c.number (less c.part)) none
+
+  whole_stays : (count : Part → ℕ) (part : Part) (number : ℕ) → StaysAt (firsts journals count) journals part number
+  whole_stays count (parts.Server server) number = λ e is. (entry_of_firsts count server number e is).0
+  whole_stays count parts.Desk number = λ e is. (first_item journals.desk (count parts.Desk) number e is).0
+  whole_stays count parts.View number = λ e is. (first_item journals.view (count parts.View) number e is).0
+
+  first_stays : (count : Part → ℕ) (part : Part) (number : ℕ) → number ≤ count part → StaysAt journals (firsts journals count) part number
+  first_stays count (parts.Server server) number most = λ e is. entry_in_firsts count server number e is most
+  first_stays count parts.Desk number most = λ e is. item_first journals.desk (count parts.Desk) number e is most
+  first_stays count parts.View number most = λ e is. item_first journals.view (count parts.View) number e is most
+
+  first_stands : (count : Part → ℕ) (part : Part) (number : ℕ) → StandsAt (firsts journals count) part number → number ≤ count part
+  first_stands count (parts.Server server) number stands = (entry_of_firsts count server number stands.0 stands.1).1
+  first_stands count parts.Desk number stands = (first_item journals.desk (count parts.Desk) number stands.0 stands.1).1
+  first_stands count parts.View number stands = absurd stands
+
+  -- A step is founded in the first entries exactly where it is founded in all of them and cites these alone.
+  pub founded_whole : (count : Part → ℕ) (step : Step) → unfounded (firsts journals count) step ≡ None → unfounded journals step ≡ None
+  founded_whole count step none = founded_stays (firsts journals count) journals step (λ c has. whole_stays count c.part c.number) none
+
+  pub founded_cites : (count : Part → ℕ) (step : Step) → unfounded (firsts journals count) step ≡ None → (c : Citation) → Has (cited_in step) c → c.number ≤ count c.part
+  founded_cites count step none c has = first_stands count c.part c.number (cited_stands (firsts journals count) step none c has)
+
+  pub founded_firsts : (count : Part → ℕ) (step : Step) → unfounded journals step ≡ None → ((c : Citation) → Has (cited_in step) c → c.number ≤ count c.part) → unfounded (firsts journals count) step ≡ None
+  founded_firsts count step none most = founded_stays journals (firsts journals count) step (λ c has. first_stays count c.part c.number (most c has)) none

@@ -1,0 +1,72 @@
+-- Rounds: each part in its turn, until nothing can be placed.
+use Rattle.std.proofs.Common.{◌≡◌, ◌≤◌, ◌<◌, ◌+◌, ◌-◌, ℕ, suc, Bool, true, false, List, length, refl, sym, subst, ◌∙◌, nat_lt, ◌⊎◌, inl, inr, arith}
+use Rattle.std.proofs.lemmas.Bool.{false≢true, cases_Bool}
+use Rattle.tq_shape.specs.declared.part.Part.{Part}
+use Rattle.tq_shape.specs.declared.part.Part.TheVariants as parts
+use Rattle.tq_tables.specs.Journals.{JournalsView}
+use Rattle.tq_node.specs.NodeJournal.{NodeEntry}
+use Rattle.tq_world.specs.declared.answer.Step.TheVariants as steps
+use Rattle.tq_world.specs.World.{item_at, server_entry}
+use Rattle.tq_merge.specs.Order.{times, IsNext}
+use Rattle.tq_merge.specs.Placing.{left, IsDone}
+use Rattle.tq_world.proofs.Rooms.{item_above}
+use Rattle.std.proofs.lemmas.Option.{slice_get_within}
+use Rattle.tq_node.proofs.KeptLocks.{map-some}
+use Rattle.tq_merge.proofs.Runs.{chained}
+
+-- the servers so far have no entry that can be placed
+abbrev pub AreBlocked : JournalsView → List Part → ℕ → Type 0
+AreBlocked journals order place = (k : ℕ) → k < place → IsNext journals order (parts.Server (suc k)) → ⊥
+
+module _ (first now after : JournalsView) (began order then : List Part) (place : ℕ) (moved placed : Bool)
+    (same : now ≡ first) (fewer : moved ≡ true → left now order < left first began) (still : moved ≡ false → (order ≡ began) × AreBlocked first began place)
+    (kept : after ≡ now) (less : placed ≡ true → left after then < left now order) (none : placed ≡ false → then ≡ order) (blocked : IsNext after then (parts.Server (suc place)) → ⊥) where
+  -- so far no more was left than at first
+  at_most : left now order ≤ left first began
+  at_most = by (cases_Bool moved)
+    where
+      by : (moved ≡ true) ⊎ (moved ≡ false) → left now order ≤ left first began
+      by (inl t) = let l = fewer t in omega (arith, l)
+      by (inr f) = let e : left now order ≡ left first began = (λ i. left (same i) ((still f).0 i)) in omega (arith, e)
+
+  pub turn_placed : placed ≡ true → (newly : Bool) → newly ≡ true
+      → (after ≡ first) × (newly ≡ true → left after then < left first began) × (newly ≡ false → (then ≡ began) × AreBlocked first began (place + 1))
+  turn_placed is newly newly_is = (
+    kept ∙ same,
+    (λ _. let l = less is in let m = at_most in omega (arith, l, m)),
+    (λ f. absurd (false≢true (sym f ∙ newly_is))),
+  )
+
+  pub turn_still : placed ≡ false → (newly : Bool) → newly ≡ moved
+      → (after ≡ first) × (newly ≡ true → left after then < left first began) × (newly ≡ false → (then ≡ began) × AreBlocked first began (place + 1))
+  turn_still is newly newly_is =
+      let order_is = none is in
+      let left_is : left after then ≡ left now order = (λ i. left (kept i) (order_is i)) in (
+        kept ∙ same,
+        (λ t. let l = fewer (sym newly_is ∙ t) in omega (arith, l, left_is)),
+        (λ f. let old = still (sym newly_is ∙ f) in (order_is ∙ old.0, more (order_is ∙ old.0) old.1)),
+      )
+    where
+      more : then ≡ began → AreBlocked first began place → AreBlocked first began (place + 1)
+      more order_is old = λ k less next. by k next (nat_lt k place) refl less
+        where
+          by : (k : ℕ) → IsNext first began (parts.Server (suc k)) → (b : Bool) → nat_lt k place ≡ b → k < place + 1 → ⊥
+          by k next true t less = old k (grind (arith, t)) next
+          by k next false t less =
+              let at : k ≡ place = grind (arith, t, less) in
+              let w : IsNext after then (parts.Server (suc place)) = (let P : JournalsView → List Part → ℕ → Type 0 = λ j o n. IsNext j o (parts.Server (suc n)) in
+              subst (λ (n : ℕ). P after then n) at (subst (λ (o : List Part). P after o k) (sym order_is) (subst (λ (j : JournalsView). P j began k) (sym (kept ∙ same)) next))) in
+              blocked w
+
+-- every server, the desk and the view
+pub all_done : (journals : JournalsView) (order : List Part) (count : ℕ) → count ≡ length journals.servers → AreBlocked journals order count → (IsNext journals order parts.Desk → ⊥) → (IsNext journals order parts.View → ⊥)
+    → IsDone journals order
+all_done journals order count is servers desk view (parts.Server server) next =
+    let split = map-some (λ (e : NodeEntry). steps.Node server e.ask) (server_entry journals server (suc (times order (parts.Server server)))) next.step next.is_there in
+    let found = chained (λ (es : List NodeEntry). item_at es (suc (times order (parts.Server server)))) (item_at journals.servers server) split.0 split.1 in
+    let above = item_above journals.servers server found.0 found.1 in
+    let within = slice_get_within journals.servers (server - 1) found.0 above.1 in
+    let at : server ≡ suc (server - 1) = omega (arith, above.0) in
+    servers (server - 1) (omega (arith, within, is)) (subst (λ (n : ℕ). IsNext journals order (parts.Server n)) at next)
+all_done journals order count is servers desk view parts.Desk next = desk next
+all_done journals order count is servers desk view parts.View next = view next

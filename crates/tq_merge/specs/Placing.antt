@@ -1,0 +1,73 @@
+-- What is kept while entries are placed.
+use Rattle.std.specs.Prelude.{◌≡◌, ◌≤◌, ◌&&◌, ◌+◌, ◌-◌, ℕ, suc, Bool, true, false, nat_le, is_none, List, [], ◌∷◌, map, length, take, Some}
+use Rattle.std.specs.Option.{option_map_or}
+use Rattle.tq_shape.specs.Journal.{Has}
+use Rattle.tq_shape.specs.declared.part.Part.{Part}
+use Rattle.tq_shape.specs.declared.part.Part.TheVariants.{Server, Desk, View}
+use Rattle.tq_node.specs.declared.ask.CitedVote.{CitedVote}
+use Rattle.tq_node.specs.declared.ask.NodeAsk.{NodeAsk}
+use Rattle.tq_node.specs.declared.ask.NodeAsk.TheVariants as node_asks
+use Rattle.tq_node.specs.declared.ask.WorkAsk.{WorkAsk}
+use Rattle.tq_node.specs.declared.ask.WorkAsk.TheVariants as work
+use Rattle.tq_tables.specs.Journals.{JournalsView}
+use Rattle.tq_desk.specs.DeskJournal.{DeskEntry}
+use Rattle.tq_world.specs.World.{item_at}
+use Rattle.tq_world.specs.Founded.{unfounded_in_desk_ask, unfounded_in_node_ask}
+use Rattle.tq_merge.specs.Cited.{cited_in_desk_ask, entry_cited}
+use Rattle.tq_merge.specs.Order.{times, each_from, counts_of, IsNext, ArePlaced}
+
+-- the journals, and the order of the entries placed so far
+pub record PlacingView : Type 0 where
+  pub journals : JournalsView
+  pub order : List Part
+
+-- the entry is placed, where so many of each server are
+abbrev pub is_placed : List ℕ → CitedVote → Bool
+is_placed counts entry = option_map_or (λ count. nat_le entry.number count) (item_at counts entry.server) false
+
+-- the entry that a server's ask cites is placed, where so many of each server and of the desk are
+abbrev pub is_placed_in_work : List ℕ → ℕ → WorkAsk → Bool
+is_placed_in_work counts desk (work.Decide txn verdict cite) = nat_le cite desk
+is_placed_in_work counts desk (work.Refresh file version content from) = is_placed counts from
+is_placed_in_work counts desk ask = true
+
+abbrev pub is_placed_in_node_ask : List ℕ → ℕ → NodeAsk → Bool
+is_placed_in_node_ask counts desk (node_asks.Work ask) = is_placed_in_work counts desk ask
+is_placed_in_node_ask counts desk ask = true
+
+-- a server's ask can be placed: what it cites is placed, and stands in the journals
+abbrev pub is_ready : JournalsView → List ℕ → ℕ → NodeAsk → Bool
+is_ready journals counts desk ask = is_placed_in_node_ask counts desk ask && is_none (unfounded_in_node_ask journals ask)
+
+-- of a desk's entry: whether all that it cites stands in the journals, and the entries that it cites
+pub record IsWanted (journals : JournalsView) (stands : Bool) (wanted : List CitedVote) (next : DeskEntry) : Type 0 where
+  pub stand : stands ≡ is_none (unfounded_in_desk_ask journals next.ask)
+  pub cited : map entry_cited wanted ≡ cited_in_desk_ask next.ask
+
+-- the desk's next entry, where so many are placed, is that one
+abbrev pub IsNextWanted : JournalsView → ℕ → Bool → List CitedVote → Type 0
+IsNextWanted journals count stands wanted = (e : DeskEntry) → item_at journals.desk (suc count) ≡ Some e → IsWanted journals stands wanted e
+
+-- each entry of the order is placed in its turn; the counts are its own; all entries of the view are placed, and the first
+-- so many that the desk's next entry cites
+pub record IsPlacing (journals : JournalsView) (order : List Part) (servers : List ℕ) (desk : ℕ) (stands : Bool) (wanted : List CitedVote) (met : ℕ) : Type 0 where
+  pub founded : ArePlaced journals [] order
+  pub of_servers : servers ≡ (counts_of journals (times order)).servers
+  pub of_desk : desk ≡ times order Desk
+  pub of_view : times order View ≡ length journals.view
+  pub next : IsNextWanted journals desk stands wanted
+  pub seen : (entry : CitedVote) → Has (take met wanted) entry → entry.number ≤ times order (Server entry.server)
+  pub within : met ≤ length wanted
+
+abbrev pub added : List ℕ → ℕ
+added [] = 0
+added (n ∷ ns) = n + added ns
+
+-- how many entries of the servers and of the desk an order leaves
+abbrev pub left : JournalsView → List Part → ℕ
+left journals order =
+    added (each_from (λ server entries. length entries - times order (Server server)) 1 journals.servers) + (length journals.desk - times order Desk)
+
+-- no part has an entry that can be placed
+abbrev pub IsDone : JournalsView → List Part → Type 0
+IsDone journals order = (part : Part) → IsNext journals order part → ⊥

@@ -1,0 +1,52 @@
+ghost use Rattle.std.specs.Prelude.{◌≡◌, IfOk, IfErr};
+ghost use Rattle.tq_world.specs.Steps.{run};
+ghost use Rattle.tq_world.specs.CommittedReads.{HasCommittedReads};
+ghost use Rattle.tq_tables.specs.Journals.{AreJournals};
+ghost use Rattle.tq_tables.specs.Parts.{AreLegal};
+ghost use Rattle.tq_merge.specs.Order.{Explains, asks_of};
+ghost use Rattle.tq_merge.specs.Faults.{IsFault, BlamesNone};
+
+use crate::Fault;
+use crate::placing::Placing;
+use crate::wrong::{WrongEntry, first_wrong};
+use std::alloc::Global;
+use tq_shape::{Part, Seq};
+use tq_tables::Journals;
+
+/// Parts, as often as they have entries: the first naming of a part stands for its first entry, and so on.
+pub type Order = Seq<Part>;
+
+/// An order of the entries of the journals in which each part's entries come as journaled and all that an entry cites stands
+/// before it. Or why there is none: an entry that its part would not have given, or, where all would be given, how many
+/// entries can be placed. Any entries may be handed in; nothing is known of them but their types.
+pub fn explain(alloc: Global, journals: &Journals) -> Result<Order, Fault>
+    ensures order { IfOk result (λ order. Explains journals.now order) }
+    ensures fault { IfErr result (IsFault journals.now) }
+    ensures legal { AreLegal journals.now → IfErr result BlamesNone }
+
+    // The asks in that order, run one after another, make these journals; so what holds of each run holds of them.
+    ensures run { IfOk result (λ order. run journals.now.levels journals.now.limits (asks_of journals.now order) ≡ journals.now) }
+    ensures committed_reads { IfOk result (λ order. HasCommittedReads journals.now) }
+{
+    see_lists(journals);
+    if let Some(entry) = first_wrong(alloc, journals)? {
+        let WrongEntry { part, number } = entry;
+        return Err(Fault::Wrong { part, number });
+    }
+    let mut placing = Placing::new(alloc, journals)?;
+    placing.place_all(alloc)?;
+    if placing.is_whole() {
+        return Ok(Seq::from_vec(placing.into_order()));
+    }
+    let placed = placing.into_counts();
+    Err(Fault::Stuck { placed })
+}
+
+/// There is one list of entries for each server, and each list is within the limit.
+fn see_lists(journals: &Journals)
+    ensures { AreJournals journals.now }
+{
+    let _servers = journals.servers();
+    let _desk = journals.desk();
+    let _view = journals.view();
+}

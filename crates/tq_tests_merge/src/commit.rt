@@ -1,0 +1,139 @@
+//! The journals of a commit of one write at one server.
+use crate::made::{file, text};
+use std::alloc::Global;
+use std::test::*;
+use tq_check::{Wrong, check};
+use tq_core::{Service, Step};
+use tq_desk::{DeskAsk, Grant, Op, OpKind, Vote};
+use tq_live::ViewAsk;
+use tq_locks::Mode;
+use tq_merge::explain;
+use tq_node::{CitedVote, HeldLock, NodeAsk, Verdict, WorkAsk};
+use tq_shape::{Levels, Limits, Part, Seq};
+use tq_store::{Content, Write};
+use tq_tables::Journals;
+
+/// What the server was asked by its second entry: x becomes version 1 of the file a.
+fn writes(alloc: Global) -> Result<Seq<Write>, Wrong> {
+    let write = Write {
+        file: file(b'a')?,
+        version: 1,
+        content: text(alloc)?,
+    };
+    Ok(Seq::from_vec(vec![in alloc; write]?))
+}
+
+/// The write cites the server's first entry, which granted the lock.
+fn op(alloc: Global) -> Result<Op, Wrong> {
+    let grant = Grant {
+        server: 1,
+        number: 1,
+        mode: Mode::Exclusive,
+        version: 0,
+        content: Content::empty(alloc),
+    };
+    let grants = Seq::from_vec(vec![in alloc; grant]?);
+    Ok(Op {
+        file: file(b'a')?,
+        kind: OpKind::Write,
+        version: 1,
+        content: text(alloc)?,
+        grants,
+    })
+}
+
+fn vote(alloc: Global) -> Result<Vote, Wrong> {
+    let held = HeldLock {
+        file: file(b'a')?,
+        mode: Mode::Exclusive,
+        since: 1,
+    };
+    Ok(Vote {
+        server: 1,
+        number: 2,
+        held: Seq::from_vec(vec![in alloc; held]?),
+        writes: writes(alloc)?,
+    })
+}
+
+fn commit(alloc: Global) -> Result<DeskAsk, Wrong> {
+    let ops = Seq::from_vec(vec![in alloc; op(alloc)?]?);
+    let votes = Seq::from_vec(vec![in alloc; vote(alloc)?]?);
+    Ok(DeskAsk::Commit { txn: 1, ops, votes })
+}
+
+/// The server is told the commit, which is the desk's second entry.
+fn decide(alloc: Global) -> Result<WorkAsk, Wrong> {
+    let vote = CitedVote {
+        server: 1,
+        number: 2,
+    };
+    let votes = Seq::from_vec(vec![in alloc; vote]?);
+    Ok(WorkAsk::Decide {
+        txn: 1,
+        verdict: Verdict::Commit { votes },
+        cite: 2,
+    })
+}
+
+fn lock() -> Result<WorkAsk, Wrong> {
+    Ok(WorkAsk::Lock {
+        txn: 1,
+        file: file(b'a')?,
+        mode: Mode::Exclusive,
+    })
+}
+
+fn prepare(alloc: Global) -> Result<WorkAsk, Wrong> {
+    Ok(WorkAsk::Prepare {
+        txn: 1,
+        writes: writes(alloc)?,
+    })
+}
+
+fn at_server(ask: WorkAsk) -> Step {
+    Step::Node {
+        server: 1,
+        ask: NodeAsk::Work(ask),
+    }
+}
+
+fn steps(alloc: Global) -> Result<Vec<Step>, Wrong> {
+    let mut steps = Vec::new(alloc);
+    steps.push(Step::Desk(DeskAsk::Begin))?;
+    steps.push(Step::View(ViewAsk::Choose))?;
+    steps.push(at_server(lock()?))?;
+    steps.push(at_server(prepare(alloc)?))?;
+    steps.push(Step::Desk(commit(alloc)?))?;
+    steps.push(at_server(decide(alloc)?))?;
+    Ok(steps)
+}
+
+/// The journals that the service has after these steps.
+fn journals(alloc: Global) -> Result<Journals, Wrong> {
+    let levels = Levels::new(1).ok_or("levels")?;
+    let Ok(mut service) = Service::new(alloc, levels, Limits::full()) else {
+        return Err(Wrong::Memory);
+    };
+    let Ok(_told) = service.run(alloc, steps(alloc)?) else {
+        return Err(Wrong::Memory);
+    };
+    Ok(service.into_journals())
+}
+
+#[test]
+fn a_commit_is_explained(rt: HostRuntime) -> Result<(), Fail> {
+    let alloc = rt.alloc();
+    let journals = journals(alloc)?;
+    let order = explain(alloc, &journals).ok().ok_or("no order")?;
+    let wanted = [
+        Part::View,
+        Part::Server(1),
+        Part::Server(1),
+        Part::Desk,
+        Part::Desk,
+        Part::Server(1),
+    ];
+    check(order.as_slice() == wanted.as_slice(), "another order")?;
+    Ok(())
+}

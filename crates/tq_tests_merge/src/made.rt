@@ -1,0 +1,81 @@
+//! Journals made by hand.
+ghost use Rattle.std.specs.Prelude.{◌≤◌, ◌↔◌, IsTrue, All, length};
+
+use std::alloc::Global;
+use tq_check::Wrong;
+use tq_node::{CitedVote, NodeAsk, NodeReply, WorkAsk};
+use tq_shape::{Entry, Levels, Limits};
+use tq_store::{Content, FileName};
+use tq_tables::{Journals, NodeEntry};
+
+pub(crate) fn file(letter: u8) -> Result<FileName, Wrong> {
+    Ok(FileName::new([letter].as_slice()).ok_or("file")?)
+}
+
+/// The content x.
+pub(crate) fn text(alloc: Global) -> Result<Content, Wrong> {
+    let bytes = vec![in alloc; b'x']?;
+    Ok(Content::new(bytes).ok_or("content")?)
+}
+
+/// The server took x as version 1 of the file a, which the entry that it cites is to have told.
+pub(crate) fn took(alloc: Global, server: u64, number: u64) -> Result<NodeEntry, Wrong> {
+    let file = file(b'a')?;
+    let content = text(alloc)?;
+    let from = CitedVote { server, number };
+    let ask = NodeAsk::Work(WorkAsk::Refresh {
+        file,
+        version: 1,
+        content,
+        from,
+    });
+    let reply = NodeReply::Refreshed;
+    Ok(Entry { ask, reply })
+}
+
+/// The server told x as version 1 of the file a.
+pub(crate) fn told(alloc: Global) -> Result<NodeEntry, Wrong> {
+    let content = text(alloc)?;
+    peeked(b'a', 1, content)
+}
+
+/// The server told the file b, which was never written.
+pub(crate) fn told_nothing(alloc: Global) -> Result<NodeEntry, Wrong> {
+    peeked(b'b', 0, Content::empty(alloc))
+}
+
+fn peeked(letter: u8, version: u64, content: Content) -> Result<NodeEntry, Wrong> {
+    let file = file(letter)?;
+    let ask = NodeAsk::Work(WorkAsk::Peek { file });
+    let reply = NodeReply::Copy { version, content };
+    Ok(Entry { ask, reply })
+}
+
+/// Whether no list has more entries than a journal may have.
+fn are_short(servers: &[Vec<NodeEntry>]) -> bool
+    ensures { IsTrue result ↔ All (λ entries. length entries.items ≤ 1000000) servers.now }
+{
+    servers.iter().all(|entries| entries.len() <= 1_000_000)
+}
+
+/// Journals in which the servers alone have entries.
+pub(crate) fn journals(
+    alloc: Global,
+    levels: u32,
+    servers: Vec<Vec<NodeEntry>>,
+) -> Result<Journals, Wrong> {
+    let levels = Levels::new(levels).ok_or("levels")?;
+    if servers.len() as u64 != levels.servers() {
+        return Err(Wrong::Is("servers"));
+    }
+    if !are_short(servers.as_slice()) {
+        return Err(Wrong::Is("entries"));
+    }
+    Ok(Journals::new(
+        levels,
+        Limits::full(),
+        servers,
+        Vec::new(alloc),
+        Vec::new(alloc),
+    ))
+}
