@@ -5,9 +5,9 @@ mod receiver;
 mod runner;
 mod shell;
 
-pub use runner::{INPUT_LIMIT, RunFault, run};
+pub use runner::{INPUT_LIMIT, run};
 pub use shell::Shell;
 pub use tq_client::{Ending, Kept};
-pub use tq_devices::{Failed, MemorySink, MemorySource, Reading, Sink, Source, Writing};
+pub use tq_devices::{Failed, MemorySink, MemorySource, Reading, RunFault, Sink, Source, Writing};
 pub use tq_lines::{LINE_LIMIT, Line, TxnLine, numbers_are_read_again};
 pub use tq_words::{Words, WordsFault};
