@@ -1,4 +1,4 @@
-ghost use Rattle.std.specs.Prelude.{◌≡◌, ◌++◌, ◌≤◌, ◌+◌, length, vec_len, vec_capacity, IfOk, OnOk};
+ghost use Rattle.std.specs.Prelude.{◌≡◌, ◌++◌, ◌≤◌, ◌+◌, Err, length, vec_len, vec_capacity, IfOk, OnOk};
 ghost use Rattle.tq_txn.specs.Dialogue.{unless_memory};
 ghost use Rattle.tq_asking.specs.Recorded as spec;
 
@@ -116,6 +116,67 @@ fn note_fault(
     }
 }
 
+/// Notes an ask of a server that was not taken, as `note_fault` does. Here the exchange is made where there is a fault,
+/// so that an ask that is taken does not pay for its place.
+fn note_node_fault(
+    order: &mut Vec<Place>,
+    faults: &mut Vec<Exchange>,
+    server: u64,
+    ask: NodeAsk,
+    fault: AskFault,
+)
+    requires order_room { vec_len order.old + 1 ≤ vec_capacity order.old }
+    requires faults_room { vec_len faults.old + 1 ≤ vec_capacity faults.old }
+    ensures order { order.new.items ≡ order.old.items ++ spec.fault_place fault (length faults.old.items) }
+    ensures faults { faults.new.items ≡ faults.old.items ++ unless_memory fault (Exchange.Node server ask (Err fault)) }
+{
+    let answer = Err(fault);
+    note_fault(
+        order,
+        faults,
+        fault,
+        Exchange::Node {
+            server,
+            ask,
+            answer,
+        },
+    );
+}
+
+/// Notes an ask of the desk that was not taken, as `note_fault` does. Here the exchange is made where there is a fault,
+/// so that an ask that is taken does not pay for its place.
+fn note_desk_fault(
+    order: &mut Vec<Place>,
+    faults: &mut Vec<Exchange>,
+    ask: DeskAsk,
+    fault: AskFault,
+)
+    requires order_room { vec_len order.old + 1 ≤ vec_capacity order.old }
+    requires faults_room { vec_len faults.old + 1 ≤ vec_capacity faults.old }
+    ensures order { order.new.items ≡ order.old.items ++ spec.fault_place fault (length faults.old.items) }
+    ensures faults { faults.new.items ≡ faults.old.items ++ unless_memory fault (Exchange.Desk ask (Err fault)) }
+{
+    let answer = Err(fault);
+    note_fault(order, faults, fault, Exchange::Desk { ask, answer });
+}
+
+/// Notes an ask of the view that was not taken, as `note_fault` does. Here the exchange is made where there is a fault,
+/// so that an ask that is taken does not pay for its place.
+fn note_view_fault(
+    order: &mut Vec<Place>,
+    faults: &mut Vec<Exchange>,
+    ask: ViewAsk,
+    fault: AskFault,
+)
+    requires order_room { vec_len order.old + 1 ≤ vec_capacity order.old }
+    requires faults_room { vec_len faults.old + 1 ≤ vec_capacity faults.old }
+    ensures order { order.new.items ≡ order.old.items ++ spec.fault_place fault (length faults.old.items) }
+    ensures faults { faults.new.items ≡ faults.old.items ++ unless_memory fault (Exchange.View ask (Err fault)) }
+{
+    let answer = Err(fault);
+    note_fault(order, faults, fault, Exchange::View { ask, answer });
+}
+
 impl Asker for Recorder {
     ghost use Rattle.std.specs.Prelude.{◌≡◌, ◌++◌, IfOk};
     ghost use Rattle.tq_txn.specs.Dialogue.{node_exchange, desk_exchange, view_exchange};
@@ -147,12 +208,7 @@ impl Asker for Recorder {
                 })
             }
             Err(fault) => {
-                let exchange = Exchange::Node {
-                    server: number,
-                    ask: copy,
-                    answer: Err(fault),
-                };
-                note_fault(&mut self.order, &mut self.faults, fault, exchange);
+                note_node_fault(&mut self.order, &mut self.faults, number, copy, fault);
                 Err(fault)
             }
         }
@@ -177,11 +233,7 @@ impl Asker for Recorder {
                 })
             }
             Err(fault) => {
-                let exchange = Exchange::Desk {
-                    ask: copy,
-                    answer: Err(fault),
-                };
-                note_fault(&mut self.order, &mut self.faults, fault, exchange);
+                note_desk_fault(&mut self.order, &mut self.faults, copy, fault);
                 Err(fault)
             }
         }
@@ -205,11 +257,7 @@ impl Asker for Recorder {
                 })
             }
             Err(fault) => {
-                let exchange = Exchange::View {
-                    ask,
-                    answer: Err(fault),
-                };
-                note_fault(&mut self.order, &mut self.faults, fault, exchange);
+                note_view_fault(&mut self.order, &mut self.faults, ask, fault);
                 Err(fault)
             }
         }

@@ -1,4 +1,4 @@
-ghost use Rattle.std.specs.Prelude.{◌≡◌, ◌++◌, ◌∷◌, ◌+◌, ◌≤◌, length, vec_len, vec_capacity, OnOk, map};
+ghost use Rattle.std.specs.Prelude.{◌≡◌, ◌++◌, ◌∷◌, [], ◌+◌, ◌/◌, ◌%◌, ◌≤◌, length, vec_len, vec_capacity, OnOk, map};
 ghost use Rattle.std.specs.Fmt.{decimal};
 ghost use Rattle.std.specs.Option.{option_copied};
 ghost use Rattle.tq_coterie.specs.Coterie.{numbers_of};
@@ -203,7 +203,7 @@ fn push_spaced(text: &mut Vec<u8>, number: u64) -> Result<(), Memory>
     Ok(())
 }
 
-/// Puts the number in decimal behind the text, which has room for its digits.
+/// Puts the number in decimal behind the text, which has room for its digits: two digits a step.
 fn push_digits(text: &mut Vec<u8>, number: u64)
     requires { vec_len text.old + length (decimal number) ≤ vec_capacity text.old }
     ensures items { text.new.items ≡ text.old.items ++ decimal number }
@@ -214,6 +214,21 @@ fn push_digits(text: &mut Vec<u8>, number: u64)
         text.push_reserved(b'0' + number as u8);
         return;
     }
-    push_digits(text, number / 10);
+    if number < 100 {
+        push_pair(text, number);
+        return;
+    }
+    push_digits(text, number / 100);
+    push_pair(text, number);
+}
+
+/// Puts the last two digits of the number behind the text, which has room for them.
+fn push_pair(text: &mut Vec<u8>, number: u64)
+    requires { vec_len text.old + 2 ≤ vec_capacity text.old }
+    ensures items { text.new.items ≡ text.old.items ++ (48 + number / 10 % 10) ∷ (48 + number % 10) ∷ [] }
+    ensures len { vec_len text.new ≡ vec_len text.old + 2 }
+    ensures capacity { vec_capacity text.new ≡ vec_capacity text.old }
+{
+    text.push_reserved(b'0' + (number / 10 % 10) as u8);
     text.push_reserved(b'0' + (number % 10) as u8);
 }

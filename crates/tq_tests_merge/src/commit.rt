@@ -1,8 +1,7 @@
 //! The journals of a commit of one write at one server.
-use crate::made::{file, text};
+use crate::made::{check, file, text};
 use std::alloc::Global;
 use std::test::*;
-use tq_check::{Wrong, check};
 use tq_core::{Service, Step};
 use tq_desk::{DeskAsk, Grant, Op, OpKind, Vote};
 use tq_live::ViewAsk;
@@ -14,7 +13,7 @@ use tq_store::{Content, Write};
 use tq_tables::Journals;
 
 /// What the server was asked by its second entry: x becomes version 1 of the file a.
-fn writes(alloc: Global) -> Result<Seq<Write>, Wrong> {
+fn writes(alloc: Global) -> Result<Seq<Write>, Fail> {
     let write = Write {
         file: file(b'a')?,
         version: 1,
@@ -24,7 +23,7 @@ fn writes(alloc: Global) -> Result<Seq<Write>, Wrong> {
 }
 
 /// The write cites the server's first entry, which granted the lock.
-fn op(alloc: Global) -> Result<Op, Wrong> {
+fn op(alloc: Global) -> Result<Op, Fail> {
     let grant = Grant {
         server: 1,
         number: 1,
@@ -42,7 +41,7 @@ fn op(alloc: Global) -> Result<Op, Wrong> {
     })
 }
 
-fn vote(alloc: Global) -> Result<Vote, Wrong> {
+fn vote(alloc: Global) -> Result<Vote, Fail> {
     let held = HeldLock {
         file: file(b'a')?,
         mode: Mode::Exclusive,
@@ -56,14 +55,14 @@ fn vote(alloc: Global) -> Result<Vote, Wrong> {
     })
 }
 
-fn commit(alloc: Global) -> Result<DeskAsk, Wrong> {
+fn commit(alloc: Global) -> Result<DeskAsk, Fail> {
     let ops = Seq::from_vec(vec![in alloc; op(alloc)?]?);
     let votes = Seq::from_vec(vec![in alloc; vote(alloc)?]?);
     Ok(DeskAsk::Commit { txn: 1, ops, votes })
 }
 
 /// The server is told the commit, which is the desk's second entry.
-fn decide(alloc: Global) -> Result<WorkAsk, Wrong> {
+fn decide(alloc: Global) -> Result<WorkAsk, Fail> {
     let vote = CitedVote {
         server: 1,
         number: 2,
@@ -76,7 +75,7 @@ fn decide(alloc: Global) -> Result<WorkAsk, Wrong> {
     })
 }
 
-fn lock() -> Result<WorkAsk, Wrong> {
+fn lock() -> Result<WorkAsk, Fail> {
     Ok(WorkAsk::Lock {
         txn: 1,
         file: file(b'a')?,
@@ -84,7 +83,7 @@ fn lock() -> Result<WorkAsk, Wrong> {
     })
 }
 
-fn prepare(alloc: Global) -> Result<WorkAsk, Wrong> {
+fn prepare(alloc: Global) -> Result<WorkAsk, Fail> {
     Ok(WorkAsk::Prepare {
         txn: 1,
         writes: writes(alloc)?,
@@ -98,7 +97,7 @@ fn at_server(ask: WorkAsk) -> Step {
     }
 }
 
-fn steps(alloc: Global) -> Result<Vec<Step>, Wrong> {
+fn steps(alloc: Global) -> Result<Vec<Step>, Fail> {
     let mut steps = Vec::new(alloc);
     steps.push(Step::Desk(DeskAsk::Begin))?;
     steps.push(Step::View(ViewAsk::Choose))?;
@@ -110,14 +109,10 @@ fn steps(alloc: Global) -> Result<Vec<Step>, Wrong> {
 }
 
 /// The journals that the service has after these steps.
-fn journals(alloc: Global) -> Result<Journals, Wrong> {
+fn journals(alloc: Global) -> Result<Journals, Fail> {
     let levels = Levels::new(1).ok_or("levels")?;
-    let Ok(mut service) = Service::new(alloc, levels, Limits::full()) else {
-        return Err(Wrong::Memory);
-    };
-    let Ok(_told) = service.run(alloc, steps(alloc)?) else {
-        return Err(Wrong::Memory);
-    };
+    let mut service = Service::new(alloc, levels, Limits::full())?;
+    service.run(alloc, steps(alloc)?)?;
     Ok(service.into_journals())
 }
 
@@ -134,6 +129,5 @@ fn a_commit_is_explained(rt: HostRuntime) -> Result<(), Fail> {
         Part::Desk,
         Part::Server(1),
     ];
-    check(order.as_slice() == wanted.as_slice(), "another order")?;
-    Ok(())
+    check(order.as_slice() == wanted.as_slice(), "another order")
 }

@@ -2,24 +2,28 @@
 ghost use Rattle.std.specs.Prelude.{◌≤◌, ◌↔◌, IsTrue, All, length};
 
 use std::alloc::Global;
-use tq_check::Wrong;
+use std::test::*;
 use tq_node::{CitedVote, NodeAsk, NodeReply, WorkAsk};
 use tq_shape::{Entry, Levels, Limits};
 use tq_store::{Content, FileName};
 use tq_tables::{Journals, NodeEntry};
 
-pub(crate) fn file(letter: u8) -> Result<FileName, Wrong> {
+pub(crate) fn check(holds: bool, what: &'static str) -> Result<(), Fail> {
+    if holds { Ok(()) } else { Err(Fail::from(what)) }
+}
+
+pub(crate) fn file(letter: u8) -> Result<FileName, Fail> {
     Ok(FileName::new([letter].as_slice()).ok_or("file")?)
 }
 
 /// The content x.
-pub(crate) fn text(alloc: Global) -> Result<Content, Wrong> {
+pub(crate) fn text(alloc: Global) -> Result<Content, Fail> {
     let bytes = vec![in alloc; b'x']?;
     Ok(Content::new(bytes).ok_or("content")?)
 }
 
 /// The server took x as version 1 of the file a, which the entry that it cites is to have told.
-pub(crate) fn took(alloc: Global, server: u64, number: u64) -> Result<NodeEntry, Wrong> {
+pub(crate) fn took(alloc: Global, server: u64, number: u64) -> Result<NodeEntry, Fail> {
     let file = file(b'a')?;
     let content = text(alloc)?;
     let from = CitedVote { server, number };
@@ -34,17 +38,17 @@ pub(crate) fn took(alloc: Global, server: u64, number: u64) -> Result<NodeEntry,
 }
 
 /// The server told x as version 1 of the file a.
-pub(crate) fn told(alloc: Global) -> Result<NodeEntry, Wrong> {
+pub(crate) fn told(alloc: Global) -> Result<NodeEntry, Fail> {
     let content = text(alloc)?;
     peeked(b'a', 1, content)
 }
 
 /// The server told the file b, which was never written.
-pub(crate) fn told_nothing(alloc: Global) -> Result<NodeEntry, Wrong> {
+pub(crate) fn told_nothing(alloc: Global) -> Result<NodeEntry, Fail> {
     peeked(b'b', 0, Content::empty(alloc))
 }
 
-fn peeked(letter: u8, version: u64, content: Content) -> Result<NodeEntry, Wrong> {
+fn peeked(letter: u8, version: u64, content: Content) -> Result<NodeEntry, Fail> {
     let file = file(letter)?;
     let ask = NodeAsk::Work(WorkAsk::Peek { file });
     let reply = NodeReply::Copy { version, content };
@@ -63,13 +67,13 @@ pub(crate) fn journals(
     alloc: Global,
     levels: u32,
     servers: Vec<Vec<NodeEntry>>,
-) -> Result<Journals, Wrong> {
+) -> Result<Journals, Fail> {
     let levels = Levels::new(levels).ok_or("levels")?;
     if servers.len() as u64 != levels.servers() {
-        return Err(Wrong::Is("servers"));
+        return Err(Fail::from("servers"));
     }
     if !are_short(servers.as_slice()) {
-        return Err(Wrong::Is("entries"));
+        return Err(Fail::from("entries"));
     }
     Ok(Journals::new(
         levels,

@@ -12,7 +12,7 @@ use tq_node::{CitedVote, HeldLock, Verdict};
 use tq_shape::{Levels, Limits, Memory, Seq};
 use tq_store::{Content, Write};
 
-/// A desk that is asked. A test hands it on by reference: each exit of the function that owns it is dear to prove.
+/// A desk that is asked.
 #[derive(Drop)]
 struct Asked {
     alloc: Global,
@@ -29,36 +29,39 @@ impl Asked {
         Asked::new(alloc, Levels::new(2).unwrap(), Limits::full())
     }
 
-    fn copied(&self) -> Result<Asked, Memory> {
-        let alloc = self.alloc;
-        let desk = self.desk.copy(alloc)?;
-        Ok(Asked { alloc, desk })
-    }
-
-    /// What the desk answers, where it has not begun many transactions.
-    fn reply(&mut self, ask: &DeskAsk) -> Result<DeskReply, Wrong> {
+    /// What the desk answers, where it has not begun many transactions; none where memory is wanting.
+    fn reply(&mut self, ask: &DeskAsk) -> Option<DeskReply> {
         if self.desk.begun() > 100 {
-            return Err(Wrong::Is("begun"));
+            return None;
         }
-        Ok(self.desk.answer(self.alloc, ask)?)
+        self.desk.answer(self.alloc, ask).ok()
     }
 
-    /// Asks, and fails where the reply is another.
-    fn expect(&mut self, ask: DeskAsk, wanted: DeskReply) -> Result<(), Wrong> {
-        let reply = self.reply(&ask)?;
-        check(reply == wanted, "another reply")
+    /// Asks. Answers whether the reply is the one wanted.
+    fn replies(&mut self, ask: &DeskAsk, wanted: &DeskReply) -> bool {
+        match self.reply(ask) {
+            Some(reply) => reply == *wanted,
+            None => false,
+        }
+    }
+
+    /// The same of an ask that takes memory.
+    fn replies_to(&mut self, ask: Result<DeskAsk, Memory>, wanted: DeskReply) -> bool {
+        match ask {
+            Ok(ask) => self.replies(&ask, &wanted),
+            Err(_) => false,
+        }
     }
 
     /// Begins transaction 1.
-    fn begins(&mut self) -> Result<(), Wrong> {
-        self.expect(DeskAsk::Begin, DeskReply::Txn(1))
+    fn begins(&mut self) -> bool {
+        self.replies(&DeskAsk::Begin, &DeskReply::Txn(1))
     }
 
     /// Begins transaction 1 and commits it, by good evidence.
-    fn commits(&mut self) -> Result<(), Wrong> {
-        self.begins()?;
-        let ask = good(self.alloc, 1)?;
-        self.expect(ask, DeskReply::Committed { serial: 1 })
+    fn commits(&mut self) -> bool {
+        let ask = good(self.alloc, 1);
+        self.begins() && self.replies_to(ask, DeskReply::Committed { serial: 1 })
     }
 }
 
@@ -98,21 +101,25 @@ fn told(rule: u8) -> DeskReply {
     }
 }
 
-fn tells(desk: &mut Asked, cells: &[u64], rule: u8) -> Result<(), Wrong> {
-    desk.begins()?;
-    let ask = commit(desk.alloc, 1, cells)?;
-    desk.expect(ask, told(rule))
+fn tells(desk: &mut Asked, cells: &[u64], rule: u8) -> bool {
+    let alloc = desk.alloc;
+    desk.begins() && desk.replies_to(commit(alloc, 1, cells), told(rule))
 }
 
-fn is_told(alloc: Global, cells: &[u64], rule: u8) -> Result<(), Wrong> {
+fn is_told(alloc: Global, cells: &[u64], rule: u8) -> bool {
     let mut desk = Asked::at_two_levels(alloc);
     tells(&mut desk, cells, rule)
 }
 
-/// Good evidence; a server left out, a write by a shared grant, a vote as old as a grant, a vote with a write of no
-/// op, a read of a version not granted, and one of the later of two grants of equal versions.
-#[test]
-fn the_rule_that_fails_is_told(rt: HostRuntime) -> Result<(), Wrong> {
+/// Whether a desk tells the rule of good evidence with this change and this version that is read.
+fn is_change_told(alloc: Global, at: usize, value: u64, read: u64, rule: u8) -> bool {
+    let mut cells = GOOD;
+    set(&mut cells, at, value);
+    set(&mut cells, 3, read);
+    is_told(alloc, &cells, rule)
+}
+
+fn are_told(alloc: Global) -> bool {
     for (at, value, read, rule) in [
         (2, 3, 5, 0),
         (9, 0, 5, 1),
@@ -122,107 +129,160 @@ fn the_rule_that_fails_is_told(rt: HostRuntime) -> Result<(), Wrong> {
         (2, 4, 5, 5),
         (12, 3, 4, 5),
     ] {
-        let mut cells = GOOD;
-        set(&mut cells, at, value);
-        set(&mut cells, 3, read);
-        is_told(rt.alloc(), &cells, rule)?;
+        if !is_change_told(alloc, at, value, read, rule) {
+            return false;
+        }
     }
-    Ok(())
+    true
+}
+
+/// Good evidence; a server left out, a write by a shared grant, a vote as old as a grant, a vote with a write of no
+/// op, a read of a version not granted, and one of the later of two grants of equal versions.
+#[test]
+fn the_rule_that_fails_is_told(rt: HostRuntime) -> Result<(), Wrong> {
+    check(are_told(rt.alloc()), "another reply")
 }
 
 #[test]
 fn no_ops(rt: HostRuntime) -> Result<(), Wrong> {
-    is_told(rt.alloc(), &[], 6)
+    check(is_told(rt.alloc(), &[], 6), "another reply")
+}
+
+// ---- one desk for each test, owned by one function: each owner is dear to prove
+
+#[derive(Clone, Copy)]
+enum Trial {
+    Stranger,
+    Second,
+    Commit,
+    Abort,
+    End,
+    Copied,
+    Foreseen,
+}
+
+fn passes_by(desk: &mut Asked, trial: Trial) -> bool {
+    match trial {
+        Trial::Stranger => refuses_a_stranger(desk),
+        Trial::Second => refuses_a_second(desk),
+        Trial::Commit => commits_and_tells(desk),
+        Trial::Abort => aborts(desk),
+        Trial::End => shows_the_end(desk),
+        Trial::Copied => commits_and_copies_itself(desk),
+        Trial::Foreseen => foresees_and_begins(desk),
+    }
+}
+
+/// Whether a new desk of two levels passes.
+fn passes(alloc: Global, trial: Trial) -> bool {
+    let mut desk = Asked::at_two_levels(alloc);
+    passes_by(&mut desk, trial)
 }
 
 // ---- how a transaction ends
 
-fn refuses_a_stranger(desk: &mut Asked) -> Result<(), Wrong> {
-    desk.begins()?;
-    let ask = good(desk.alloc, 2)?;
-    desk.expect(ask, DeskReply::Refused(DeskRefusal::NoSuchTxn))
+fn refuses_a_stranger(desk: &mut Asked) -> bool {
+    let ask = good(desk.alloc, 2);
+    desk.begins() && desk.replies_to(ask, DeskReply::Refused(DeskRefusal::NoSuchTxn))
 }
 
 #[test]
 fn transaction_never_begun(rt: HostRuntime) -> Result<(), Wrong> {
-    let mut desk = Asked::at_two_levels(rt.alloc());
-    refuses_a_stranger(&mut desk)
+    check(passes(rt.alloc(), Trial::Stranger), "another reply")
 }
 
-fn refuses_a_second(desk: &mut Asked) -> Result<(), Wrong> {
-    desk.commits()?;
-    let decided = DeskRefusal::Decided(by_both(desk.alloc)?);
-    let ask = good(desk.alloc, 1)?;
-    desk.expect(ask, DeskReply::Refused(decided))
+/// Whether a second commit is refused, with the verdict of the first.
+fn tells_it_is_decided(desk: &mut Asked) -> bool {
+    let alloc = desk.alloc;
+    match by_both(alloc) {
+        Ok(verdict) => {
+            let decided = DeskReply::Refused(DeskRefusal::Decided(verdict));
+            desk.replies_to(good(alloc, 1), decided)
+        }
+        Err(_) => false,
+    }
+}
+
+fn refuses_a_second(desk: &mut Asked) -> bool {
+    desk.commits() && tells_it_is_decided(desk)
 }
 
 #[test]
 fn commits_once(rt: HostRuntime) -> Result<(), Wrong> {
-    let mut desk = Asked::at_two_levels(rt.alloc());
-    refuses_a_second(&mut desk)
+    check(passes(rt.alloc(), Trial::Second), "another reply")
 }
 
-fn tells_the_commit(desk: &mut Asked) -> Result<(), Wrong> {
-    let verdict = by_both(desk.alloc)?;
-    desk.expect(DeskAsk::Resolve { txn: 1 }, DeskReply::Verdict(verdict))
+fn tells_the_commit(desk: &mut Asked) -> bool {
+    match by_both(desk.alloc) {
+        Ok(verdict) => desk.replies(&DeskAsk::Resolve { txn: 1 }, &DeskReply::Verdict(verdict)),
+        Err(_) => false,
+    }
 }
 
-fn commits_and_tells(desk: &mut Asked) -> Result<(), Wrong> {
-    desk.commits()?;
-    tells_the_commit(desk)
+fn commits_and_tells(desk: &mut Asked) -> bool {
+    desk.commits() && tells_the_commit(desk)
 }
 
 #[test]
 fn resolves_to_the_commit(rt: HostRuntime) -> Result<(), Wrong> {
-    let mut desk = Asked::at_two_levels(rt.alloc());
-    commits_and_tells(&mut desk)
+    check(passes(rt.alloc(), Trial::Commit), "another reply")
 }
 
-fn aborts(desk: &mut Asked) -> Result<(), Wrong> {
-    desk.begins()?;
-    desk.expect(
-        DeskAsk::Resolve { txn: 1 },
-        DeskReply::Verdict(Verdict::Abort),
-    )
+fn aborts(desk: &mut Asked) -> bool {
+    desk.begins()
+        && desk.replies(
+            &DeskAsk::Resolve { txn: 1 },
+            &DeskReply::Verdict(Verdict::Abort),
+        )
 }
 
 #[test]
 fn resolves_to_abort(rt: HostRuntime) -> Result<(), Wrong> {
-    let mut desk = Asked::at_two_levels(rt.alloc());
-    aborts(&mut desk)
+    check(passes(rt.alloc(), Trial::Abort), "another reply")
 }
 
-/// Transaction 1 ended so, and of transaction 2 nothing is told.
-fn ended_so(desk: &Desk, wanted: &Verdict) -> Result<(), Wrong> {
-    check(desk.verdict(2).is_none(), "another verdict")?;
-    match desk.verdict(1) {
-        Some(verdict) => check(*verdict == *wanted, "another verdict"),
-        None => Err(Wrong::Is("another verdict")),
+fn is_verdict(verdict: Option<&Verdict>, wanted: &Verdict) -> bool {
+    match verdict {
+        Some(verdict) => *verdict == *wanted,
+        None => false,
     }
 }
 
-fn shows_the_end(desk: &mut Asked) -> Result<(), Wrong> {
-    desk.commits()?;
-    let wanted = by_both(desk.alloc)?;
-    ended_so(&desk.desk, &wanted)
+/// Whether transaction 1 ended by the commit, and of transaction 2 nothing is told.
+fn ended_by_the_commit(desk: &Desk, alloc: Global) -> bool {
+    match by_both(alloc) {
+        Ok(wanted) => desk.verdict(2).is_none() && is_verdict(desk.verdict(1), &wanted),
+        Err(_) => false,
+    }
+}
+
+fn shows_the_end(desk: &mut Asked) -> bool {
+    desk.commits() && ended_by_the_commit(&desk.desk, desk.alloc)
 }
 
 #[test]
 fn tells_how_a_transaction_ended(rt: HostRuntime) -> Result<(), Wrong> {
-    let mut desk = Asked::at_two_levels(rt.alloc());
-    shows_the_end(&mut desk)
+    check(passes(rt.alloc(), Trial::End), "another verdict")
 }
 
-fn copies_itself(desk: &mut Asked) -> Result<(), Wrong> {
-    desk.commits()?;
-    let mut copy = desk.copied()?;
-    tells_the_commit(&mut copy)
+fn copies_itself(asked: &Asked) -> bool {
+    let alloc = asked.alloc;
+    match asked.desk.copy(alloc) {
+        Ok(desk) => {
+            let mut copy = Asked { alloc, desk };
+            tells_the_commit(&mut copy)
+        }
+        Err(_) => false,
+    }
+}
+
+fn commits_and_copies_itself(desk: &mut Asked) -> bool {
+    desk.commits() && copies_itself(desk)
 }
 
 #[test]
 fn copies_what_is_recorded(rt: HostRuntime) -> Result<(), Wrong> {
-    let mut desk = Asked::at_two_levels(rt.alloc());
-    copies_itself(&mut desk)
+    check(passes(rt.alloc(), Trial::Copied), "another reply")
 }
 
 // ---- limits
@@ -294,52 +354,57 @@ fn two_writes(alloc: Global) -> Result<DeskAsk, Memory> {
     Ok(DeskAsk::Commit { txn: 1, ops, votes })
 }
 
-fn answers_two_writes(desk: &mut Asked, wanted: DeskReply) -> Result<(), Wrong> {
-    desk.begins()?;
-    let ask = two_writes(desk.alloc)?;
-    desk.expect(ask, wanted)
+fn answers_two_writes(desk: &mut Asked, wanted: DeskReply) -> bool {
+    let ask = two_writes(desk.alloc);
+    desk.begins() && desk.replies_to(ask, wanted)
+}
+
+/// Answers whether a desk with these limits replies so to a commit of writes of two files.
+fn limits_to(alloc: Global, limits: Limits, wanted: DeskReply) -> bool {
+    let mut desk = Asked::new(alloc, Levels::default(), limits);
+    answers_two_writes(&mut desk, wanted)
 }
 
 #[test]
 fn more_files_than_the_limit(rt: HostRuntime) -> Result<(), Wrong> {
     let limits = Limits::new(1, 64, 1_000_000).unwrap();
-    let mut desk = Asked::new(rt.alloc(), Levels::default(), limits);
-    answers_two_writes(&mut desk, DeskReply::Refused(DeskRefusal::TooManyFiles))
+    let wanted = DeskReply::Refused(DeskRefusal::TooManyFiles);
+    check(limits_to(rt.alloc(), limits, wanted), "another reply")
 }
 
 #[test]
 fn more_ops_than_the_limit(rt: HostRuntime) -> Result<(), Wrong> {
     let limits = Limits::new(1, 1, 1_000_000).unwrap();
-    let mut desk = Asked::new(rt.alloc(), Levels::default(), limits);
-    answers_two_writes(&mut desk, DeskReply::Refused(DeskRefusal::TooManyOps))
+    let wanted = DeskReply::Refused(DeskRefusal::TooManyOps);
+    check(limits_to(rt.alloc(), limits, wanted), "another reply")
 }
 
 #[test]
 fn as_many_files_as_the_limit(rt: HostRuntime) -> Result<(), Wrong> {
     let limits = Limits::new(2, 2, 1).unwrap();
-    let mut desk = Asked::new(rt.alloc(), Levels::default(), limits);
-    answers_two_writes(&mut desk, DeskReply::Committed { serial: 1 })
+    let wanted = DeskReply::Committed { serial: 1 };
+    check(limits_to(rt.alloc(), limits, wanted), "another reply")
 }
 
 // ---- what changes nothing
 
-fn foresees_the_first(desk: &Asked) -> Result<(), Wrong> {
+fn foresees_the_first(desk: &Asked) -> bool {
     if desk.desk.begun() != 0 {
-        return Err(Wrong::Is("begun"));
+        return false;
     }
-    let reply = desk.desk.foresee(desk.alloc, &DeskAsk::Begin)?;
-    check(reply == DeskReply::Txn(1), "another reply foreseen")
+    match desk.desk.foresee(desk.alloc, &DeskAsk::Begin) {
+        Ok(reply) => reply == DeskReply::Txn(1),
+        Err(_) => false,
+    }
 }
 
-fn foresees_and_begins(desk: &mut Asked) -> Result<(), Wrong> {
-    foresees_the_first(desk)?;
-    desk.begins()
+fn foresees_and_begins(desk: &mut Asked) -> bool {
+    foresees_the_first(desk) && desk.begins()
 }
 
 #[test]
 fn foresees_with_no_change(rt: HostRuntime) -> Result<(), Wrong> {
-    let mut desk = Asked::at_two_levels(rt.alloc());
-    foresees_and_begins(&mut desk)
+    check(passes(rt.alloc(), Trial::Foreseen), "another reply")
 }
 
 #[test]

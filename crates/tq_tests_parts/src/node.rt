@@ -3,14 +3,13 @@ mod walk;
 
 use std::alloc::Global;
 use tq_check::{Wrong, check};
-use tq_intents::{KeptLock, Record};
-use tq_locks::Mode;
+use tq_intents::{KeptLock, OpenVote, Record};
+use tq_locks::{LockEntry, Mode};
 use tq_node::{CitedVote, HeldLock, Node, NodeAsk, NodeRefusal, NodeReply, Verdict, WorkAsk};
 use tq_shape::{Levels, Memory, Seq, ServerId};
 use tq_store::{Content, FileName, Write};
 
-/// A server that numbers its asks itself. A test hands it on by reference: each exit of the function that owns it is
-/// dear to prove.
+/// A server that numbers its asks itself.
 #[derive(Drop)]
 struct Numbered {
     alloc: Global,
@@ -25,53 +24,62 @@ impl Numbered {
         Numbered { alloc, node }
     }
 
-    fn copied(&self) -> Result<Numbered, Memory> {
-        let alloc = self.alloc;
-        let node = self.node.copy(alloc)?;
-        Ok(Numbered { alloc, node })
-    }
-
     /// Asks. Where memory is wanting nothing changes, and the ask is put again.
-    fn ask(&mut self, ask: &NodeAsk) -> Result<NodeReply, Wrong> {
-        let number = self.node.last().checked_add(1).ok_or("another number")?;
+    fn ask(&mut self, ask: &NodeAsk) -> Option<NodeReply> {
+        let number = self.node.last().checked_add(1)?;
         match self.node.answer(self.alloc, number, ask) {
-            Ok(reply) => Ok(reply),
-            Err(_) => Ok(self.node.answer(self.alloc, number, ask)?),
+            Ok(reply) => Some(reply),
+            Err(_) => self.node.answer(self.alloc, number, ask).ok(),
         }
     }
 
-    fn foreseen(&self, ask: &NodeAsk) -> Result<NodeReply, Wrong> {
-        let number = self.node.last().checked_add(1).ok_or("another number")?;
+    fn foreseen(&self, ask: &NodeAsk) -> Option<NodeReply> {
+        let number = self.node.last().checked_add(1)?;
         match self.node.foresee(self.alloc, number, ask) {
-            Ok(reply) => Ok(reply),
-            Err(_) => Ok(self.node.foresee(self.alloc, number, ask)?),
+            Ok(reply) => Some(reply),
+            Err(_) => self.node.foresee(self.alloc, number, ask).ok(),
         }
     }
 
-    fn foresees(&self, ask: &NodeAsk, wanted: &NodeReply) -> Result<(), Wrong> {
-        let reply = self.foreseen(ask)?;
-        check(reply == *wanted, "another reply foreseen")
+    fn foresees(&self, ask: &NodeAsk, wanted: &NodeReply) -> bool {
+        match self.foreseen(ask) {
+            Some(reply) => reply == *wanted,
+            None => false,
+        }
     }
 
-    fn answers(&mut self, ask: &NodeAsk, wanted: &NodeReply) -> Result<(), Wrong> {
-        let reply = self.ask(ask)?;
-        check(reply == *wanted, "another reply")
+    fn answers(&mut self, ask: &NodeAsk, wanted: &NodeReply) -> bool {
+        match self.ask(ask) {
+            Some(reply) => reply == *wanted,
+            None => false,
+        }
     }
 
-    /// Asks, and fails where the reply is another, or another was foreseen.
-    fn expect(&mut self, ask: NodeAsk, wanted: NodeReply) -> Result<(), Wrong> {
-        self.foresees(&ask, &wanted)?;
-        self.answers(&ask, &wanted)
+    /// Asks. Answers whether the reply is the one wanted, and was foreseen.
+    fn replies(&mut self, ask: NodeAsk, wanted: NodeReply) -> bool {
+        self.foresees(&ask, &wanted) && self.answers(&ask, &wanted)
     }
 
-    fn refuses(&mut self, ask: NodeAsk, wanted: NodeRefusal) -> Result<(), Wrong> {
-        self.expect(ask, NodeReply::Refused(wanted))
+    /// The same of an ask that takes memory.
+    fn replies_to(&mut self, ask: Result<NodeAsk, Memory>, wanted: NodeReply) -> bool {
+        match ask {
+            Ok(ask) => self.replies(ask, wanted),
+            Err(_) => false,
+        }
+    }
+
+    fn refuses(&mut self, ask: NodeAsk, wanted: NodeRefusal) -> bool {
+        self.replies(ask, NodeReply::Refused(wanted))
+    }
+
+    fn refuses_to(&mut self, ask: Result<NodeAsk, Memory>, wanted: NodeRefusal) -> bool {
+        self.replies_to(ask, NodeReply::Refused(wanted))
     }
 
     /// Asks for a lock that is free, on a file that was never written.
-    fn grants(&mut self, txn: u64, file: FileName, mode: Mode) -> Result<(), Wrong> {
+    fn grants(&mut self, txn: u64, file: FileName, mode: Mode) -> bool {
         let content = Content::empty(self.alloc);
-        self.expect(
+        self.replies(
             lock(txn, file, mode),
             NodeReply::Granted {
                 version: 0,
@@ -80,15 +88,17 @@ impl Numbered {
         )
     }
 
-    /// Asks for a vote, which is granted.
-    fn votes(&mut self, txn: u64, writes: Seq<Write>) -> Result<(), Wrong> {
-        let _yes = self.ask(&prepare(txn, writes))?;
-        Ok(())
+    /// Asks. Answers whether there is a reply.
+    fn is_answered(&mut self, ask: Result<NodeAsk, Memory>) -> bool {
+        match ask {
+            Ok(ask) => self.ask(&ask).is_some(),
+            Err(_) => false,
+        }
     }
 
-    /// Fails where the stable list is another.
-    fn keeps(&self, wanted: &[Record]) -> Result<(), Wrong> {
-        check(self.node.stable() == wanted, "other records")
+    /// Whether the stable list is this one.
+    fn keeps(&self, wanted: &[Record]) -> bool {
+        self.node.stable() == wanted
     }
 }
 
@@ -110,11 +120,15 @@ fn one(alloc: Global, file: FileName, version: u64, byte: u8) -> Result<Seq<Writ
     Ok(Seq::from_vec(vec![in alloc; write]?))
 }
 
+fn pair(alloc: Global, first: Write, second: Write) -> Result<Seq<Write>, Memory> {
+    Ok(Seq::from_vec(vec![in alloc; first, second]?))
+}
+
 /// Writes of version 1 of two files.
 fn two(alloc: Global, first: FileName, second: FileName) -> Result<Seq<Write>, Memory> {
     let first = write(alloc, first, 1, b'x')?;
     let second = write(alloc, second, 1, b'y')?;
-    Ok(Seq::from_vec(vec![in alloc; first, second]?))
+    pair(alloc, first, second)
 }
 
 fn lock(txn: u64, file: FileName, mode: Mode) -> NodeAsk {
@@ -131,6 +145,25 @@ fn decide(txn: u64, verdict: Verdict) -> NodeAsk {
         verdict,
         cite: 1,
     })
+}
+
+/// A Prepare of one write of version 1.
+fn prepare_one(alloc: Global, txn: u64, file: FileName, byte: u8) -> Result<NodeAsk, Memory> {
+    Ok(prepare(txn, one(alloc, file, 1, byte)?))
+}
+
+/// A Prepare of writes of version 1 of two files.
+fn prepare_two(
+    alloc: Global,
+    txn: u64,
+    first: FileName,
+    second: FileName,
+) -> Result<NodeAsk, Memory> {
+    Ok(prepare(txn, two(alloc, first, second)?))
+}
+
+fn prepare_none(alloc: Global, txn: u64) -> NodeAsk {
+    prepare(txn, Seq::from_vec(Vec::new(alloc)))
 }
 
 /// A Decide by a Commit that cites one vote.
@@ -181,22 +214,51 @@ impl Files {
     }
 }
 
-// ---- a vote that outlives a crash
+// ---- one server for each test, owned by one function: each owner is dear to prove
 
-fn takes_locks(server: &mut Numbered, files: &Files) -> Result<(), Wrong> {
-    server.grants(7, files.a, Mode::Shared)?;
-    server.grants(7, files.b, Mode::Exclusive)?;
-    server.grants(7, files.a, Mode::Exclusive)
+#[derive(Clone, Copy)]
+enum Trial {
+    Vote,
+    LeastHolder,
+    Refusals,
+    Shown,
+    Written,
+    Copied,
 }
 
-fn refuses_writes(server: &mut Numbered, files: &Files) -> Result<(), Wrong> {
-    let turned = two(server.alloc, files.b, files.a)?;
-    server.refuses(prepare(7, turned), NodeRefusal::BadWrites)?;
-    let strange = two(server.alloc, files.a, files.c)?;
-    server.refuses(
-        prepare(7, strange),
-        NodeRefusal::NotLocked { file: files.c },
-    )
+fn passes_by(server: &mut Numbered, trial: Trial) -> bool {
+    let files = Files::new();
+    match trial {
+        Trial::Vote => outlives_a_crash(server, &files),
+        Trial::LeastHolder => names_the_least_holder(server, files.a),
+        Trial::Refusals => gives_the_first_refusal(server, &files),
+        Trial::Shown => is_set_up_and_shown(server, &files),
+        Trial::Written => writes_its_records(server, &files),
+        Trial::Copied => votes_and_copies_itself(server, &files),
+    }
+}
+
+/// Whether a new server passes.
+fn passes(alloc: Global, trial: Trial) -> bool {
+    let mut server = Numbered::new(alloc);
+    passes_by(&mut server, trial)
+}
+
+// ---- a vote that outlives a crash
+
+fn takes_locks(server: &mut Numbered, files: &Files) -> bool {
+    server.grants(7, files.a, Mode::Shared)
+        && server.grants(7, files.b, Mode::Exclusive)
+        && server.grants(7, files.a, Mode::Exclusive)
+}
+
+fn refuses_writes(server: &mut Numbered, files: &Files) -> bool {
+    let alloc = server.alloc;
+    let strange = NodeRefusal::NotLocked { file: files.c };
+    server.refuses_to(
+        prepare_two(alloc, 7, files.b, files.a),
+        NodeRefusal::BadWrites,
+    ) && server.refuses_to(prepare_two(alloc, 7, files.a, files.c), strange)
 }
 
 /// An exclusive lock, as a vote lists it.
@@ -215,28 +277,28 @@ fn yes(alloc: Global, files: &Files) -> Result<NodeReply, Memory> {
     Ok(NodeReply::Yes { held, writes })
 }
 
-fn votes(server: &mut Numbered, files: &Files) -> Result<(), Wrong> {
-    let wanted = yes(server.alloc, files)?;
-    let writes = one(server.alloc, files.a, 1, b'y')?;
-    server.expect(prepare(7, writes), wanted)
+fn votes(server: &mut Numbered, files: &Files) -> bool {
+    match yes(server.alloc, files) {
+        Ok(wanted) => server.replies_to(prepare_one(server.alloc, 7, files.a, b'y'), wanted),
+        Err(_) => false,
+    }
 }
 
-fn crashes(server: &mut Numbered, files: &Files) -> Result<(), Wrong> {
-    server.refuses(lock(7, files.c, Mode::Shared), NodeRefusal::Prepared)?;
-    server.grants(8, files.d, Mode::Shared)?;
-    server.expect(NodeAsk::Crash, NodeReply::Crashed)?;
-    server.refuses(lock(8, files.d, Mode::Shared), NodeRefusal::Down)?;
-    server.expect(NodeAsk::Return, NodeReply::Returned)?;
-    server.grants(9, files.d, Mode::Exclusive)
+fn crashes(server: &mut Numbered, files: &Files) -> bool {
+    server.refuses(lock(7, files.c, Mode::Shared), NodeRefusal::Prepared)
+        && server.grants(8, files.d, Mode::Shared)
+        && server.replies(NodeAsk::Crash, NodeReply::Crashed)
+        && server.refuses(lock(8, files.d, Mode::Shared), NodeRefusal::Down)
+        && server.replies(NodeAsk::Return, NodeReply::Returned)
+        && server.grants(9, files.d, Mode::Exclusive)
 }
 
-fn discards(server: &mut Numbered, files: &Files) -> Result<(), Wrong> {
-    server.refuses(lock(9, files.b, Mode::Shared), NodeRefusal::Held { by: 7 })?;
-    let discarded = commit(server.alloc, 7, 2, 5)?;
-    server.expect(discarded, NodeReply::Discarded)?;
-    server.grants(9, files.b, Mode::Shared)?;
-    let again = commit(server.alloc, 7, 2, 5)?;
-    server.refuses(again, NodeRefusal::NothingHere)
+fn discards(server: &mut Numbered, files: &Files) -> bool {
+    let alloc = server.alloc;
+    server.refuses(lock(9, files.b, Mode::Shared), NodeRefusal::Held { by: 7 })
+        && server.replies_to(commit(alloc, 7, 2, 5), NodeReply::Discarded)
+        && server.grants(9, files.b, Mode::Shared)
+        && server.refuses_to(commit(alloc, 7, 2, 5), NodeRefusal::NothingHere)
 }
 
 /// An exclusive lock that the vote of this number keeps.
@@ -266,218 +328,206 @@ fn vote_and_end(alloc: Global, files: &Files) -> Result<Vec<Record>, Memory> {
     ]?)
 }
 
-fn keeps_the_vote(server: &Numbered, files: &Files) -> Result<(), Wrong> {
-    let list = vote_and_end(server.alloc, files)?;
-    server.keeps(list.as_slice())
+fn keeps_the_vote(server: &Numbered, files: &Files) -> bool {
+    match vote_and_end(server.alloc, files) {
+        Ok(list) => server.keeps(list.as_slice()),
+        Err(_) => false,
+    }
 }
 
-fn outlives_a_crash(server: &mut Numbered, files: &Files) -> Result<(), Wrong> {
-    takes_locks(server, files)?;
-    refuses_writes(server, files)?;
-    votes(server, files)?;
-    crashes(server, files)?;
-    discards(server, files)?;
-    keeps_the_vote(server, files)?;
-    check(server.node.last() == 16, "another number")
+fn outlives_a_crash(server: &mut Numbered, files: &Files) -> bool {
+    takes_locks(server, files)
+        && refuses_writes(server, files)
+        && votes(server, files)
+        && crashes(server, files)
+        && discards(server, files)
+        && keeps_the_vote(server, files)
+        && server.node.last() == 16
 }
 
 #[test]
 fn a_vote_outlives_a_crash(rt: HostRuntime) -> Result<(), Wrong> {
-    let mut server = Numbered::new(rt.alloc());
-    outlives_a_crash(&mut server, &Files::new())
+    check(passes(rt.alloc(), Trial::Vote), "another answer")
 }
 
-fn names_the_least_holder(server: &mut Numbered, a: FileName) -> Result<(), Wrong> {
-    server.grants(3, a, Mode::Shared)?;
-    server.grants(2, a, Mode::Shared)?;
-    server.refuses(lock(1, a, Mode::Exclusive), NodeRefusal::Held { by: 2 })
+fn names_the_least_holder(server: &mut Numbered, a: FileName) -> bool {
+    server.grants(3, a, Mode::Shared)
+        && server.grants(2, a, Mode::Shared)
+        && server.refuses(lock(1, a, Mode::Exclusive), NodeRefusal::Held { by: 2 })
 }
 
 #[test]
 fn the_least_holder_is_named(rt: HostRuntime) -> Result<(), Wrong> {
-    let mut server = Numbered::new(rt.alloc());
-    names_the_least_holder(&mut server, Files::new().a)
+    check(passes(rt.alloc(), Trial::LeastHolder), "another answer")
 }
 
 // ---- each refusal, and the first where two hold
 
 /// Transaction 1 has an open vote with a, transaction 2 holds b, and c has a copy of version 2.
-fn set_up(server: &mut Numbered, files: &Files) -> Result<(), Wrong> {
-    server.grants(1, files.a, Mode::Exclusive)?;
-    server.grants(2, files.b, Mode::Exclusive)?;
-    let writes = one(server.alloc, files.a, 1, b'x')?;
-    server.votes(1, writes)?;
-    let newer = refresh(server.alloc, files.c, 2, b'z')?;
-    server.expect(newer, NodeReply::Refreshed)
+fn is_set_up(server: &mut Numbered, files: &Files) -> bool {
+    let alloc = server.alloc;
+    server.grants(1, files.a, Mode::Exclusive)
+        && server.grants(2, files.b, Mode::Exclusive)
+        && server.is_answered(prepare_one(alloc, 1, files.a, b'x'))
+        && server.replies_to(refresh(alloc, files.c, 2, b'z'), NodeReply::Refreshed)
 }
 
 /// An open vote comes before all that its transaction could be refused for besides.
-fn refuses_a_voter(server: &mut Numbered, files: &Files) -> Result<(), Wrong> {
-    server.refuses(lock(1, files.b, Mode::Shared), NodeRefusal::Prepared)?;
-    let turned = two(server.alloc, files.b, files.a)?;
-    server.refuses(prepare(1, turned), NodeRefusal::Prepared)?;
-    server.refuses(release(1), NodeRefusal::Prepared)
+fn refuses_a_voter(server: &mut Numbered, files: &Files) -> bool {
+    let alloc = server.alloc;
+    server.refuses(lock(1, files.b, Mode::Shared), NodeRefusal::Prepared)
+        && server.refuses_to(
+            prepare_two(alloc, 1, files.b, files.a),
+            NodeRefusal::Prepared,
+        )
+        && server.refuses(release(1), NodeRefusal::Prepared)
 }
 
-fn refuses_bad_writes(server: &mut Numbered, files: &Files) -> Result<(), Wrong> {
-    server.refuses(lock(3, files.b, Mode::Shared), NodeRefusal::Held { by: 2 })?;
-    let turned = two(server.alloc, files.b, files.a)?;
-    server.refuses(prepare(3, turned), NodeRefusal::BadWrites)
+fn refuses_bad_writes(server: &mut Numbered, files: &Files) -> bool {
+    let alloc = server.alloc;
+    server.refuses(lock(3, files.b, Mode::Shared), NodeRefusal::Held { by: 2 })
+        && server.refuses_to(
+            prepare_two(alloc, 3, files.b, files.a),
+            NodeRefusal::BadWrites,
+        )
 }
 
-fn refuses_a_stranger(server: &mut Numbered, files: &Files) -> Result<(), Wrong> {
-    let none = Seq::from_vec(Vec::new(server.alloc));
-    server.refuses(prepare(3, none), NodeRefusal::NothingHere)?;
-    let strange = one(server.alloc, files.b, 1, b'x')?;
-    server.refuses(
-        prepare(3, strange),
-        NodeRefusal::NotLocked { file: files.b },
-    )
+fn refuses_a_stranger(server: &mut Numbered, files: &Files) -> bool {
+    let alloc = server.alloc;
+    let strange = NodeRefusal::NotLocked { file: files.b };
+    server.refuses(prepare_none(alloc, 3), NodeRefusal::NothingHere)
+        && server.refuses_to(prepare_one(alloc, 3, files.b, b'x'), strange)
 }
 
-fn refuses_the_rest(server: &mut Numbered, files: &Files) -> Result<(), Wrong> {
-    server.refuses(decide(2, Verdict::Abort), NodeRefusal::NothingHere)?;
-    server.refuses(release(3), NodeRefusal::NothingHere)?;
-    server.refuses(NodeAsk::Return, NodeRefusal::AlreadyUp)?;
-    let equal = refresh(server.alloc, files.c, 2, b'y')?;
-    server.refuses(equal, NodeRefusal::NotNewer)?;
-    let older = refresh(server.alloc, files.c, 1, b'y')?;
-    server.refuses(older, NodeRefusal::NotNewer)
+fn refuses_the_rest(server: &mut Numbered, files: &Files) -> bool {
+    let alloc = server.alloc;
+    server.refuses(decide(2, Verdict::Abort), NodeRefusal::NothingHere)
+        && server.refuses(release(3), NodeRefusal::NothingHere)
+        && server.refuses(NodeAsk::Return, NodeRefusal::AlreadyUp)
+        && server.refuses_to(refresh(alloc, files.c, 2, b'y'), NodeRefusal::NotNewer)
+        && server.refuses_to(refresh(alloc, files.c, 1, b'y'), NodeRefusal::NotNewer)
 }
 
-fn crashes_twice(server: &mut Numbered, files: &Files) -> Result<(), Wrong> {
-    server.expect(NodeAsk::Crash, NodeReply::Crashed)?;
-    server.refuses(NodeAsk::Crash, NodeRefusal::AlreadyDown)?;
-    server.refuses(lock(1, files.b, Mode::Shared), NodeRefusal::Down)?;
-    server.refuses(release(1), NodeRefusal::Down)?;
-    server.refuses(peek(files.a), NodeRefusal::Down)
+fn crashes_twice(server: &mut Numbered, files: &Files) -> bool {
+    server.replies(NodeAsk::Crash, NodeReply::Crashed)
+        && server.refuses(NodeAsk::Crash, NodeRefusal::AlreadyDown)
+        && server.refuses(lock(1, files.b, Mode::Shared), NodeRefusal::Down)
+        && server.refuses(release(1), NodeRefusal::Down)
+        && server.refuses(peek(files.a), NodeRefusal::Down)
 }
 
-fn refuses_while_down(server: &mut Numbered, files: &Files) -> Result<(), Wrong> {
-    server.refuses(decide(3, Verdict::Abort), NodeRefusal::Down)?;
-    let turned = two(server.alloc, files.b, files.a)?;
-    server.refuses(prepare(1, turned), NodeRefusal::Down)?;
-    let older = refresh(server.alloc, files.c, 1, b'y')?;
-    server.refuses(older, NodeRefusal::Down)
+fn refuses_while_down(server: &mut Numbered, files: &Files) -> bool {
+    let alloc = server.alloc;
+    server.refuses(decide(3, Verdict::Abort), NodeRefusal::Down)
+        && server.refuses_to(prepare_two(alloc, 1, files.b, files.a), NodeRefusal::Down)
+        && server.refuses_to(refresh(alloc, files.c, 1, b'y'), NodeRefusal::Down)
 }
 
-fn gives_the_first_refusal(server: &mut Numbered, files: &Files) -> Result<(), Wrong> {
-    set_up(server, files)?;
-    refuses_a_voter(server, files)?;
-    refuses_bad_writes(server, files)?;
-    refuses_a_stranger(server, files)?;
-    refuses_the_rest(server, files)?;
-    crashes_twice(server, files)?;
-    refuses_while_down(server, files)
+fn gives_the_first_refusal(server: &mut Numbered, files: &Files) -> bool {
+    is_set_up(server, files)
+        && refuses_a_voter(server, files)
+        && refuses_bad_writes(server, files)
+        && refuses_a_stranger(server, files)
+        && refuses_the_rest(server, files)
+        && crashes_twice(server, files)
+        && refuses_while_down(server, files)
 }
 
 #[test]
 fn the_first_refusal_is_given(rt: HostRuntime) -> Result<(), Wrong> {
-    let mut server = Numbered::new(rt.alloc());
-    gives_the_first_refusal(&mut server, &Files::new())
+    check(passes(rt.alloc(), Trial::Refusals), "another answer")
 }
 
 // ---- what is shown
 
-/// The transaction and the first number of each lock.
-fn locks_of(alloc: Global, node: &Node) -> Result<Vec<(u64, u64)>, Memory> {
-    let mut list = Vec::new(alloc);
-    for entry in node.locks().iter() {
-        list.push((entry.txn, entry.lock.since))?;
+/// Whether it is a lock of this transaction with this first number.
+fn is_lock_since(entry: Option<LockEntry>, txn: u64, since: u64) -> bool {
+    match entry {
+        Some(entry) => entry.txn == txn && entry.lock.since == since,
+        None => false,
     }
-    Ok(list)
 }
 
-/// The transaction and the number of each open vote.
-fn votes_of(alloc: Global, node: &Node) -> Result<Vec<(u64, u64)>, Memory> {
-    let mut list = Vec::new(alloc);
-    for (txn, vote) in node.votes() {
-        list.push((*txn, vote.number))?;
+/// Whether locks of 1 since 1 and of 2 since 2 are shown, and no others.
+fn shows_its_locks(node: &Node) -> bool {
+    let mut locks = node.locks().iter();
+    is_lock_since(locks.next(), 1, 1) && is_lock_since(locks.next(), 2, 2) && locks.next().is_none()
+}
+
+/// Whether it is a vote of this transaction of this number.
+fn is_vote(entry: Option<(&u64, &OpenVote)>, txn: u64, number: u64) -> bool {
+    match entry {
+        Some((of, vote)) => *of == txn && vote.number == number,
+        None => false,
     }
-    Ok(list)
 }
 
-fn shows_its_locks(alloc: Global, node: &Node) -> Result<(), Wrong> {
-    let locks = locks_of(alloc, node)?;
-    check(
-        locks.as_slice() == [(1, 1), (2, 2)].as_slice(),
-        "shown otherwise",
-    )
+/// Whether the vote of 1 of number 3 is shown, and no other.
+fn shows_its_votes(node: &Node) -> bool {
+    let mut votes = node.votes();
+    is_vote(votes.next(), 1, 3) && votes.next().is_none()
 }
 
-fn shows_its_votes(alloc: Global, node: &Node) -> Result<(), Wrong> {
-    let votes = votes_of(alloc, node)?;
-    check(votes.as_slice() == [(1, 3)].as_slice(), "shown otherwise")
+fn shows_its_records(node: &Node, files: &Files) -> bool {
+    shows_its_locks(node)
+        && shows_its_votes(node)
+        && node.copies().get(&files.c).version == 2
+        && node.server().number() == 2
+        && !node.is_down()
 }
 
-fn shows_its_records(server: &mut Numbered, files: &Files) -> Result<(), Wrong> {
-    set_up(server, files)?;
-    let node = &server.node;
-    shows_its_locks(server.alloc, node)?;
-    shows_its_votes(server.alloc, node)?;
-    check(node.copies().get(&files.c).version == 2, "shown otherwise")?;
-    check(
-        node.server().number() == 2 && !node.is_down(),
-        "shown otherwise",
-    )
+fn is_set_up_and_shown(server: &mut Numbered, files: &Files) -> bool {
+    is_set_up(server, files) && shows_its_records(&server.node, files)
 }
 
 #[test]
 fn records_are_shown(rt: HostRuntime) -> Result<(), Wrong> {
-    let mut server = Numbered::new(rt.alloc());
-    shows_its_records(&mut server, &Files::new())
+    check(passes(rt.alloc(), Trial::Shown), "shown otherwise")
 }
 
 // ---- what each ask writes
 
-/// Writes of which one is newer than the copy that a refresh has left.
-fn one_newer(alloc: Global, files: &Files) -> Result<Seq<Write>, Memory> {
+/// A Prepare of writes of which one is newer than the copy that a refresh has left.
+fn prepare_one_newer(alloc: Global, files: &Files) -> Result<NodeAsk, Memory> {
     let first = write(alloc, files.a, 3, b'x')?;
     let second = write(alloc, files.b, 1, b'y')?;
-    Ok(Seq::from_vec(vec![in alloc; first, second]?))
+    Ok(prepare(1, pair(alloc, first, second)?))
 }
 
-fn locks_both(server: &mut Numbered, files: &Files) -> Result<(), Wrong> {
-    let _first = server.ask(&lock(1, files.a, Mode::Exclusive))?;
-    server.grants(1, files.b, Mode::Exclusive)
+fn locks_both(server: &mut Numbered, files: &Files) -> bool {
+    server.is_answered(Ok(lock(1, files.a, Mode::Exclusive)))
+        && server.grants(1, files.b, Mode::Exclusive)
 }
 
 /// A vote with two writes, of which one is newer than the copy here.
-fn votes_for_two(server: &mut Numbered, files: &Files) -> Result<(), Wrong> {
-    let newer = refresh(server.alloc, files.a, 3, b'r')?;
-    server.expect(newer, NodeReply::Refreshed)?;
-    locks_both(server, files)?;
-    let writes = one_newer(server.alloc, files)?;
-    server.votes(1, writes)?;
-    let decide = commit(server.alloc, 1, 2, 4)?;
-    server.expect(decide, NodeReply::Installed)
+fn votes_for_two(server: &mut Numbered, files: &Files) -> bool {
+    let alloc = server.alloc;
+    server.replies_to(refresh(alloc, files.a, 3, b'r'), NodeReply::Refreshed)
+        && locks_both(server, files)
+        && server.is_answered(prepare_one_newer(alloc, files))
+        && server.replies_to(commit(alloc, 1, 2, 4), NodeReply::Installed)
 }
 
 /// Asks that write nothing, and a vote that is discarded, though another server's was cited.
-fn discards_a_vote(server: &mut Numbered, files: &Files) -> Result<(), Wrong> {
-    server.grants(2, files.d, Mode::Shared)?;
-    server.expect(release(2), NodeReply::Released)?;
-    server.grants(2, files.d, Mode::Shared)?;
-    let none = Seq::from_vec(Vec::new(server.alloc));
-    server.votes(2, none)?;
-    let decide = commit(server.alloc, 2, 1, 9)?;
-    server.expect(decide, NodeReply::Discarded)
+fn discards_a_vote(server: &mut Numbered, files: &Files) -> bool {
+    let alloc = server.alloc;
+    server.grants(2, files.d, Mode::Shared)
+        && server.replies(release(2), NodeReply::Released)
+        && server.grants(2, files.d, Mode::Shared)
+        && server.is_answered(Ok(prepare_none(alloc, 2)))
+        && server.replies_to(commit(alloc, 2, 1, 9), NodeReply::Discarded)
 }
 
-fn tells_a_copy(
-    server: &mut Numbered,
-    file: FileName,
-    version: u64,
-    byte: u8,
-) -> Result<(), Wrong> {
-    let content = text(server.alloc, byte)?;
-    server.expect(peek(file), NodeReply::Copy { version, content })
+fn tells_a_copy(server: &mut Numbered, file: FileName, version: u64, byte: u8) -> bool {
+    match text(server.alloc, byte) {
+        Ok(content) => server.replies(peek(file), NodeReply::Copy { version, content }),
+        Err(_) => false,
+    }
 }
 
 /// The copies that are left: the one that was there at equal versions.
-fn copies_after(server: &mut Numbered, files: &Files) -> Result<(), Wrong> {
-    tells_a_copy(server, files.a, 3, b'r')?;
-    tells_a_copy(server, files.b, 1, b'y')
+fn tells_both_copies(server: &mut Numbered, files: &Files) -> bool {
+    tells_a_copy(server, files.a, 3, b'r') && tells_a_copy(server, files.b, 1, b'y')
 }
 
 /// What a refresh and a vote with two writes write.
@@ -517,41 +567,57 @@ fn ended(alloc: Global, files: &Files) -> Result<Vec<Record>, Memory> {
     ]?)
 }
 
-fn keeps_all(server: &Numbered, files: &Files) -> Result<(), Wrong> {
-    let mut list = given(server.alloc, files)?;
-    list.append(&mut ended(server.alloc, files)?)?;
-    server.keeps(list.as_slice())
+/// Whether a list is these records and then those.
+fn is_both(list: &[Record], first: &[Record], second: &[Record]) -> bool {
+    match list.split_at_checked(first.len()) {
+        Some((before, after)) => before == first && after == second,
+        None => false,
+    }
 }
 
-fn writes_its_records(server: &mut Numbered, files: &Files) -> Result<(), Wrong> {
-    votes_for_two(server, files)?;
-    discards_a_vote(server, files)?;
-    copies_after(server, files)?;
-    keeps_all(server, files)
+fn keeps_all(server: &Numbered, files: &Files) -> bool {
+    match (given(server.alloc, files), ended(server.alloc, files)) {
+        (Ok(given), Ok(ended)) => is_both(server.node.stable(), given.as_slice(), ended.as_slice()),
+        _ => false,
+    }
+}
+
+fn writes_its_records(server: &mut Numbered, files: &Files) -> bool {
+    votes_for_two(server, files)
+        && discards_a_vote(server, files)
+        && tells_both_copies(server, files)
+        && keeps_all(server, files)
 }
 
 #[test]
 fn each_ask_writes_its_records(rt: HostRuntime) -> Result<(), Wrong> {
-    let mut server = Numbered::new(rt.alloc());
-    writes_its_records(&mut server, &Files::new())
+    check(passes(rt.alloc(), Trial::Written), "another answer")
 }
 
 /// The copy goes on, and the server stays where it was.
-fn goes_on_alone(server: &Numbered, copy: &mut Numbered, files: &Files) -> Result<(), Wrong> {
-    copies_after(copy, files)?;
-    check(server.node.last() == 5, "another number")?;
-    check(copy.node.last() == 7, "another number")?;
-    copy.keeps(server.node.stable())
+fn goes_on_alone(server: &Numbered, copy: &mut Numbered, files: &Files) -> bool {
+    tells_both_copies(copy, files)
+        && server.node.last() == 5
+        && copy.node.last() == 7
+        && copy.keeps(server.node.stable())
 }
 
-fn copies_itself(server: &mut Numbered, files: &Files) -> Result<(), Wrong> {
-    votes_for_two(server, files)?;
-    let mut copy = server.copied()?;
-    goes_on_alone(server, &mut copy, files)
+fn copies_itself(server: &Numbered, files: &Files) -> bool {
+    let alloc = server.alloc;
+    match server.node.copy(alloc) {
+        Ok(node) => {
+            let mut copy = Numbered { alloc, node };
+            goes_on_alone(server, &mut copy, files)
+        }
+        Err(_) => false,
+    }
+}
+
+fn votes_and_copies_itself(server: &mut Numbered, files: &Files) -> bool {
+    votes_for_two(server, files) && copies_itself(server, files)
 }
 
 #[test]
 fn a_copy_goes_on_alone(rt: HostRuntime) -> Result<(), Wrong> {
-    let mut server = Numbered::new(rt.alloc());
-    copies_itself(&mut server, &Files::new())
+    check(passes(rt.alloc(), Trial::Copied), "another answer")
 }

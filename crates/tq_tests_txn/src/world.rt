@@ -28,9 +28,7 @@ struct ViewCell {
 /// exit of a function that owns them is dear to prove.
 #[derive(Drop)]
 struct Parts {
-    first: Node,
-    second: Node,
-    third: Node,
+    nodes: [Node; 3],
     desk: DeskCell,
     view: ViewCell,
     stopped: Option<Part>,
@@ -85,9 +83,9 @@ impl Parts {
             return Err(AskFault::Unfounded { part, number: 7 });
         }
         match server {
-            1 => node_answers(&mut self.first, alloc, part, ask),
-            2 => node_answers(&mut self.second, alloc, part, ask),
-            _ => node_answers(&mut self.third, alloc, part, ask),
+            1 => node_answers(&mut self.nodes[0], alloc, part, ask),
+            2 => node_answers(&mut self.nodes[1], alloc, part, ask),
+            _ => node_answers(&mut self.nodes[2], alloc, part, ask),
         }
     }
 
@@ -288,9 +286,11 @@ impl World {
             levels,
             exchanges: Vec::new(alloc),
             parts: Parts {
-                first: Node::new(alloc, levels, ServerId::new(levels, 1)),
-                second: Node::new(alloc, levels, ServerId::new(levels, 2)),
-                third: Node::new(alloc, levels, ServerId::new(levels, 3)),
+                nodes: [
+                    Node::new(alloc, levels, ServerId::new(levels, 1)),
+                    Node::new(alloc, levels, ServerId::new(levels, 2)),
+                    Node::new(alloc, levels, ServerId::new(levels, 3)),
+                ],
                 desk: DeskCell {
                     desk: Desk::new(alloc, levels, limits),
                     entries: 0,

@@ -88,15 +88,26 @@ fn grant(alloc: Global, cells: &[u64], at: usize) -> Result<Grant, Memory>
     })
 }
 
+fn push_grant(
+    alloc: Global,
+    grants: &mut Vec<Grant>,
+    cells: &[u64],
+    at: usize,
+) -> Result<(), Memory>
+    requires { at < 100 }
+{
+    if cell(cells, at) != 0 {
+        grants.push(grant(alloc, cells, at)?)?;
+    }
+    Ok(())
+}
+
 fn grants(alloc: Global, cells: &[u64], at: usize) -> Result<Vec<Grant>, Memory>
     requires { at < 90 }
 {
     let mut grants = Vec::new(alloc);
-    for place in [at, at + 5] {
-        if cell(cells, place) != 0 {
-            grants.push(grant(alloc, cells, place)?)?;
-        }
-    }
+    push_grant(alloc, &mut grants, cells, at)?;
+    push_grant(alloc, &mut grants, cells, at + 5)?;
     Ok(grants)
 }
 
@@ -121,15 +132,20 @@ fn op(alloc: Global, cells: &[u64], at: usize) -> Result<Op, Memory>
     })
 }
 
+fn push_op(alloc: Global, ops: &mut Vec<Op>, cells: &[u64], at: usize) -> Result<(), Memory>
+    requires { at < 50 }
+{
+    if cell(cells, at) != 0 {
+        ops.push(op(alloc, cells, at)?)?;
+    }
+    Ok(())
+}
+
 pub(super) fn ops(alloc: Global, cells: &[u64]) -> Result<Vec<Op>, Memory> {
-    let mut list = Vec::new(alloc);
-    if cell(cells, 0) != 0 {
-        list.push(op(alloc, cells, 0)?)?;
-    }
-    if cell(cells, 14) != 0 {
-        list.push(op(alloc, cells, 14)?)?;
-    }
-    Ok(list)
+    let mut ops = Vec::new(alloc);
+    push_op(alloc, &mut ops, cells, 0)?;
+    push_op(alloc, &mut ops, cells, 14)?;
+    Ok(ops)
 }
 
 fn lock(cells: &[u64], at: usize) -> HeldLock
@@ -181,13 +197,18 @@ fn vote(alloc: Global, cells: &[u64], at: usize) -> Result<Vote, Memory>
     })
 }
 
+fn push_vote(alloc: Global, votes: &mut Vec<Vote>, cells: &[u64], at: usize) -> Result<(), Memory>
+    requires { at < 50 }
+{
+    if cell(cells, at) != 0 {
+        votes.push(vote(alloc, cells, at)?)?;
+    }
+    Ok(())
+}
+
 pub(super) fn votes(alloc: Global, cells: &[u64]) -> Result<Vec<Vote>, Memory> {
-    let mut list = Vec::new(alloc);
-    if cell(cells, 28) != 0 {
-        list.push(vote(alloc, cells, 28)?)?;
-    }
-    if cell(cells, 37) != 0 {
-        list.push(vote(alloc, cells, 37)?)?;
-    }
-    Ok(list)
+    let mut votes = Vec::new(alloc);
+    push_vote(alloc, &mut votes, cells, 28)?;
+    push_vote(alloc, &mut votes, cells, 37)?;
+    Ok(votes)
 }

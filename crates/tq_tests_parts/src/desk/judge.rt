@@ -1,40 +1,29 @@
 //! The rules of evidence once more, at two levels, plain and slow: each as it is said, by going through everything.
 
-use std::alloc::Global;
 use std::cmp::Ordering;
 use tq_desk::{Grant, Op, OpKind, Vote};
 use tq_locks::Mode;
-use tq_shape::Memory;
+use tq_node::HeldLock;
 use tq_store::{FileName, Write};
 
 /// The first rule that fails, 0 where none does.
-pub(super) fn judge(
-    alloc: Global,
-    files: &[FileName],
-    ops: &[Op],
-    votes: &[Vote],
-) -> Result<u8, Memory> {
-    if !ops.iter().all(|op| is_pair(op.grants.as_slice())) {
-        return Ok(1);
+pub(super) fn judge(files: &[FileName], ops: &[Op], votes: &[Vote]) -> u8 {
+    if !are_of_pairs(ops) {
+        return 1;
     }
-    if !ops.iter().all(|op| is_exclusive(op)) {
-        return Ok(2);
+    if !are_exclusive(ops) {
+        return 2;
     }
     if !are_unbroken(ops, votes) {
-        return Ok(3);
+        return 3;
     }
-    for vote in votes {
-        if !is_voted(alloc, files, ops, vote)? {
-            return Ok(4);
-        }
+    if !are_voted(files, ops, votes) {
+        return 4;
     }
-    if !are_ordered(ops) || !ops.iter().all(|op| is_of_version(op)) {
-        return Ok(5);
+    if !are_ordered(ops) || !are_of_versions(ops) {
+        return 5;
     }
-    if ops.is_empty() {
-        return Ok(6);
-    }
-    Ok(0)
+    if ops.is_empty() { 6 } else { 0 }
 }
 
 fn writes(op: &Op) -> bool {
@@ -42,10 +31,21 @@ fn writes(op: &Op) -> bool {
 }
 
 fn is_at(op: &Op, server: u64) -> bool {
-    op.grants
-        .as_slice()
-        .iter()
-        .any(|grant| grant.server == server)
+    for grant in op.grants.as_slice() {
+        if grant.server == server {
+            return true;
+        }
+    }
+    false
+}
+
+fn are_of_pairs(ops: &[Op]) -> bool {
+    for op in ops {
+        if !is_pair(op.grants.as_slice()) {
+            return false;
+        }
+    }
+    true
 }
 
 /// The quorums of two levels are any two of the three servers.
@@ -59,27 +59,26 @@ fn is_pair(grants: &[Grant]) -> bool {
     }
 }
 
-fn is_exclusive(op: &Op) -> bool {
-    if !writes(op) {
-        return true;
+fn are_exclusive(ops: &[Op]) -> bool {
+    for op in ops {
+        if writes(op) && !is_exclusive(op.grants.as_slice()) {
+            return false;
+        }
     }
-    op.grants
-        .as_slice()
-        .iter()
-        .all(|grant| grant.mode == Mode::Exclusive)
+    true
+}
+
+fn is_exclusive(grants: &[Grant]) -> bool {
+    for grant in grants {
+        if grant.mode != Mode::Exclusive {
+            return false;
+        }
+    }
+    true
 }
 
 fn are_unbroken(ops: &[Op], votes: &[Vote]) -> bool {
-    if !rise(votes) {
-        return false;
-    }
-    if !votes
-        .iter()
-        .all(|vote| ops.iter().any(|op| is_at(op, vote.server)))
-    {
-        return false;
-    }
-    ops.iter().all(|op| is_unbroken(op, votes))
+    rise(votes) && are_of_ops(votes, ops) && are_held(ops, votes)
 }
 
 /// The servers of the votes rise, from 1 at least.
@@ -94,45 +93,73 @@ fn rise(votes: &[Vote]) -> bool {
     true
 }
 
-/// Each grant of the op is held by a vote.
-fn is_unbroken(op: &Op, votes: &[Vote]) -> bool {
-    op.grants.as_slice().iter().all(|grant| votes.iter().any(|vote| is_held(vote, op.file, grant)))
+/// Each vote is of a server of an op.
+fn are_of_ops(votes: &[Vote], ops: &[Op]) -> bool {
+    for vote in votes {
+        if !is_of_ops(ops, vote.server) {
+            return false;
+        }
+    }
+    true
+}
+
+fn is_of_ops(ops: &[Op], server: u64) -> bool {
+    for op in ops {
+        if is_at(op, server) {
+            return true;
+        }
+    }
+    false
+}
+
+/// Each grant of each op is held by a vote.
+fn are_held(ops: &[Op], votes: &[Vote]) -> bool {
+    for op in ops {
+        if !are_held_by(votes, op.file, op.grants.as_slice()) {
+            return false;
+        }
+    }
+    true
+}
+
+fn are_held_by(votes: &[Vote], file: FileName, grants: &[Grant]) -> bool {
+    for grant in grants {
+        if !is_held_by(votes, file, grant) {
+            return false;
+        }
+    }
+    true
+}
+
+fn is_held_by(votes: &[Vote], file: FileName, grant: &Grant) -> bool {
+    for vote in votes {
+        if is_held(vote, file, grant) {
+            return true;
+        }
+    }
+    false
 }
 
 fn is_held(vote: &Vote, file: FileName, grant: &Grant) -> bool {
-    if vote.server != grant.server || vote.number <= grant.number {
-        return false;
-    }
-    vote.held
-        .as_slice()
-        .iter()
-        .any(|lock| lock.file == file && lock.since <= grant.number)
+    vote.server == grant.server
+        && vote.number > grant.number
+        && is_locked(vote.held.as_slice(), file, grant.number)
 }
 
-/// The write ops of a server, file by file.
-fn wanted<'a>(
-    alloc: Global,
-    files: &[FileName],
-    ops: &'a [Op],
-    server: u64,
-) -> Result<Vec<&'a Op>, Memory> {
-    let mut wanted = Vec::new(alloc);
-    for file in files {
-        for op in ops {
-            if writes(op) && op.file == *file && is_at(op, server) {
-                wanted.push(op)?;
-            }
+/// The file was locked by an ask of this number or one before.
+fn is_locked(held: &[HeldLock], file: FileName, number: u64) -> bool {
+    for lock in held {
+        if lock.file == file && lock.since <= number {
+            return true;
         }
     }
-    Ok(wanted)
+    false
 }
 
-fn are_of(voted: &[Write], wanted: &[&Op]) -> bool {
-    if voted.len() != wanted.len() {
-        return false;
-    }
-    for (write, op) in voted.iter().zip(wanted.iter()) {
-        if write.file != op.file || write.version != op.version || write.content != op.content {
+/// The writes of each vote are those of its server.
+fn are_voted(files: &[FileName], ops: &[Op], votes: &[Vote]) -> bool {
+    for vote in votes {
+        if !is_voted(files, ops, vote) {
             return false;
         }
     }
@@ -140,9 +167,45 @@ fn are_of(voted: &[Write], wanted: &[&Op]) -> bool {
 }
 
 /// The writes of the vote are those of its server, file by file.
-fn is_voted(alloc: Global, files: &[FileName], ops: &[Op], vote: &Vote) -> Result<bool, Memory> {
-    let wanted = wanted(alloc, files, ops, vote.server)?;
-    Ok(are_of(vote.writes.as_slice(), wanted.as_slice()))
+fn is_voted(files: &[FileName], ops: &[Op], vote: &Vote) -> bool {
+    let voted = vote.writes.as_slice();
+    let mut at = 0usize;
+    for file in files {
+        match place_after(voted, at, *file, ops, vote.server) {
+            Some(after) => at = after,
+            None => return false,
+        }
+    }
+    at == voted.len()
+}
+
+/// The place after the writes of a server's ops on a file, where these stand from this place on.
+fn place_after(
+    voted: &[Write],
+    from: usize,
+    file: FileName,
+    ops: &[Op],
+    server: u64,
+) -> Option<usize> {
+    let mut at = from;
+    for op in ops {
+        if op.file == file && writes(op) && is_at(op, server) {
+            if !is_write_of(voted.get(at), op) {
+                return None;
+            }
+            at = at.wrapping_add(1);
+        }
+    }
+    Some(at)
+}
+
+fn is_write_of(write: Option<&Write>, op: &Op) -> bool {
+    match write {
+        Some(write) => {
+            write.file == op.file && write.version == op.version && write.content == op.content
+        }
+        None => false,
+    }
 }
 
 fn are_ordered(ops: &[Op]) -> bool {
@@ -174,6 +237,15 @@ fn newest(grants: &[Grant]) -> Option<&Grant> {
         }
     }
     newest
+}
+
+fn are_of_versions(ops: &[Op]) -> bool {
+    for op in ops {
+        if !is_of_version(op) {
+            return false;
+        }
+    }
+    true
 }
 
 fn is_of_version(op: &Op) -> bool {

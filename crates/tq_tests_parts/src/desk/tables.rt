@@ -3,30 +3,49 @@
 use super::cells::{GOOD, OUT_OF_ORDER, file, ops, set, votes};
 use super::judge::judge;
 use std::alloc::Global;
+use tq_check::{Wrong, check};
+use tq_desk::{Op, Vote};
 use tq_dice::Dice;
 use tq_evidence::failed_rule;
-use tq_shape::{Levels, Memory};
+use tq_shape::Levels;
 
-/// The rule that evidence at two levels fails, 0 where it is good.
-fn told(alloc: Global, cells: &[u64]) -> Result<u8, Memory> {
-    let levels = Levels::new(2).unwrap();
-    let ops = ops(alloc, cells)?;
-    let votes = votes(alloc, cells)?;
-    let failed = failed_rule(alloc, levels, ops.as_slice(), votes.as_slice())?;
-    Ok(failed.unwrap_or(0))
+/// The rule that evidence at two levels fails, 0 where it is good; none where memory is wanting.
+fn rule_of(alloc: Global, ops: &[Op], votes: &[Vote]) -> Option<u8> {
+    match failed_rule(alloc, Levels::new(2).unwrap(), ops, votes) {
+        Ok(failed) => Some(failed.unwrap_or(0)),
+        Err(_) => None,
+    }
 }
 
-/// The same by the plain judge.
-fn judged(alloc: Global, cells: &[u64]) -> Result<u8, Memory> {
+/// Whether evidence fails this rule.
+fn fails(alloc: Global, cells: &[u64], rule: u8) -> bool {
+    match (ops(alloc, cells), votes(alloc, cells)) {
+        (Ok(ops), Ok(votes)) => rule_of(alloc, ops.as_slice(), votes.as_slice()) == Some(rule),
+        _ => false,
+    }
+}
+
+/// Whether this evidence fails the rule that the plain judge says.
+fn is_same_rule(alloc: Global, ops: &[Op], votes: &[Vote]) -> bool {
     let files = [file(1), file(2), file(3)];
-    let ops = ops(alloc, cells)?;
-    let votes = votes(alloc, cells)?;
-    judge(alloc, &files, ops.as_slice(), votes.as_slice())
+    rule_of(alloc, ops, votes) == Some(judge(&files, ops, votes))
 }
 
-#[test]
-fn single_changes(rt: HostRuntime) -> Result<(), Memory> {
-    let alloc = rt.alloc();
+fn fails_as_judged(alloc: Global, cells: &[u64]) -> bool {
+    match (ops(alloc, cells), votes(alloc, cells)) {
+        (Ok(ops), Ok(votes)) => is_same_rule(alloc, ops.as_slice(), votes.as_slice()),
+        _ => false,
+    }
+}
+
+/// Whether good evidence with this change fails this rule.
+fn change_fails(alloc: Global, at: usize, value: u64, rule: u8) -> bool {
+    let mut cells = GOOD;
+    set(&mut cells, at, value);
+    fails(alloc, &cells, rule)
+}
+
+fn each_change_fails(alloc: Global) -> bool {
     for (at, value, rule) in [
         // a change that changes no rule
         (12, 3, 0),
@@ -75,51 +94,62 @@ fn single_changes(rt: HostRuntime) -> Result<(), Memory> {
         (26, 2, 5),
         (21, 0, 5),
     ] {
-        let mut cells = GOOD;
-        set(&mut cells, at, value);
-        assert_eq!(rt; told(alloc, &cells)?, rule, "cell {at} made {value}");
+        if !change_fails(alloc, at, value, rule) {
+            return false;
+        }
     }
-    Ok(())
+    true
 }
 
 #[test]
-fn good_evidence(rt: HostRuntime) -> Result<(), Memory> {
-    let alloc = rt.alloc();
-    assert_eq!(rt; told(alloc, &GOOD)?, 0);
-    assert_eq!(rt; told(alloc, &OUT_OF_ORDER)?, 5);
-    Ok(())
+fn single_changes(rt: HostRuntime) -> Result<(), Wrong> {
+    check(each_change_fails(rt.alloc()), "another rule")
 }
 
 #[test]
-fn no_op_and_no_vote(rt: HostRuntime) -> Result<(), Memory> {
-    let alloc = rt.alloc();
+fn good_evidence(rt: HostRuntime) -> Result<(), Wrong> {
+    check(
+        fails(rt.alloc(), &GOOD, 0) && fails(rt.alloc(), &OUT_OF_ORDER, 5),
+        "another rule",
+    )
+}
+
+fn fails_with_no_op(alloc: Global) -> bool {
     let mut cells = GOOD;
     for at in [0, 14, 28, 37] {
         set(&mut cells, at, 0);
     }
-    assert_eq!(rt; told(alloc, &cells)?, 6);
-    Ok(())
+    fails(alloc, &cells, 6)
+}
+
+#[test]
+fn no_op_and_no_vote(rt: HostRuntime) -> Result<(), Wrong> {
+    check(fails_with_no_op(rt.alloc()), "another rule")
+}
+
+/// Evidence with up to three numbers changed at random.
+fn any_cells(dice: &mut Dice, round: u64) -> [u64; 46] {
+    let mut cells = if round % 4 == 3 { OUT_OF_ORDER } else { GOOD };
+    for _ in 0..round % 3 + 1 {
+        let at = dice.roll(46);
+        set(&mut cells, at as usize, dice.roll(6));
+    }
+    cells
+}
+
+fn each_fails_as_judged(alloc: Global) -> bool {
+    let mut dice = Dice::new(20261122);
+    for round in 0..3000u64 {
+        let cells = any_cells(&mut dice, round);
+        if !fails_as_judged(alloc, &cells) {
+            return false;
+        }
+    }
+    true
 }
 
 /// Up to three numbers changed at random, against the plain judge.
 #[test]
-fn random_changes(rt: HostRuntime) -> Result<(), Memory> {
-    let alloc = rt.alloc();
-    let mut dice = Dice::new(20261122);
-    for round in 0..3000 {
-        let mut cells = GOOD;
-        if round % 4 == 3 {
-            cells = OUT_OF_ORDER;
-        }
-        for _ in 0..round % 3 + 1 {
-            let at = dice.roll(46);
-            set(&mut cells, at as usize, dice.roll(6));
-        }
-        assert_eq!(rt;
-            told(alloc, &cells)?,
-            judged(alloc, &cells)?,
-            "round {round}"
-        );
-    }
-    Ok(())
+fn random_changes(rt: HostRuntime) -> Result<(), Wrong> {
+    check(each_fails_as_judged(rt.alloc()), "another rule")
 }

@@ -4,22 +4,18 @@ use super::*;
 use tq_dice::Dice;
 
 /// Whether the two agree on the subtree of the server.
-fn is_same_at(
-    alloc: Global,
-    tree: &LiveTree,
-    plain: &Plain,
-    number: u64,
-) -> Result<bool, AllocError> {
+fn is_same_at(alloc: Global, tree: &LiveTree, plain: &Plain, number: u64) -> bool {
     let Some(server) = tree.levels().server(number) else {
-        return Ok(true);
+        return true;
     };
     let (servers, cost) = plain.best(number);
     if tree.best_cost(server) != cost {
-        return Ok(false);
+        return false;
     }
-    match tree.best(alloc, server)? {
-        Some(best) => Ok(bits_of(best.servers.as_slice()) == servers),
-        None => Ok(cost.is_none()),
+    match tree.best(alloc, server) {
+        Ok(Some(best)) => bits_of(best.servers.as_slice()) == servers,
+        Ok(None) => cost.is_none(),
+        Err(_) => false,
     }
 }
 
@@ -33,56 +29,84 @@ fn is_kept_at(tree: &LiveTree, plain: &Plain, number: u64) -> bool {
     }
 }
 
-/// Fails where the two disagree on any subtree, or on the choice of the whole tree.
-fn agree(alloc: Global, tree: &LiveTree, plain: &Plain) -> Result<(), Wrong> {
-    for number in 1..64u64 {
-        check(is_kept_at(tree, plain, number), "not kept")?;
-        check(is_same_at(alloc, tree, plain, number)?, "another offer")?;
-    }
-    let choice = tree.choose(alloc)?;
-    let offer = offer_of(&choice);
+/// Whether the two agree on the choice of the whole tree.
+fn is_same_choice(alloc: Global, tree: &LiveTree, plain: &Plain) -> bool {
     let wanted = plain.best(1);
-    check(offer.0 == wanted.0 && offer.1 == wanted.1, "another offer")
+    match tree.choose(alloc) {
+        Ok(choice) => is_offer(Some(offer_of(&choice)), wanted.0, wanted.1),
+        Err(_) => false,
+    }
 }
 
-/// A cost or a mark at random, in both.
-fn change_both(tree: &mut LiveTree, plain: &mut Plain, dice: &mut Dice) -> Result<(), Wrong> {
+/// Whether the two agree on each subtree, and on the choice of the whole tree.
+fn agree(alloc: Global, tree: &LiveTree, plain: &Plain) -> bool {
+    for number in 1..64u64 {
+        if !is_kept_at(tree, plain, number) || !is_same_at(alloc, tree, plain, number) {
+            return false;
+        }
+    }
+    is_same_choice(alloc, tree, plain)
+}
+
+/// A cost or a mark at random, in both. Answers whether the tree wrote as many caches as it must.
+fn changes_both(tree: &mut LiveTree, plain: &mut Plain, dice: &mut Dice) -> bool {
     let number = dice.roll(64) & tree.levels().servers();
     let value = 1 + dice.roll(6);
     if number == 0 {
-        return Ok(());
+        return true;
     }
     if dice.roll(2) == 0 {
         plain.set_cost(number, value);
-        return set_cost(tree, number, value, caches_of(number));
+        return sets_cost(tree, number, value, caches_of(number));
     }
     plain.set_mark(number, value > 3);
-    set_mark(tree, number, value > 3, caches_of(number))
+    sets_mark(tree, number, value > 3, caches_of(number))
 }
 
-/// Fails where the two ever disagree in so many changes.
-fn walk(alloc: Global, count: u32, changes: u64) -> Result<(), Wrong> {
-    let levels = Levels::new(count).ok_or("levels")?;
-    let mut tree = LiveTree::new(alloc, levels)?;
-    let mut plain = Plain::new(levels);
-    let mut dice = Dice::new(u64::from(count));
+/// Whether the two agree after each of so many changes.
+fn agree_all_along(alloc: Global, tree: &mut LiveTree, seed: u64, changes: u64) -> bool {
+    let mut plain = Plain::new(tree.levels());
+    let mut dice = Dice::new(seed);
     for _ in 0..changes {
-        change_both(&mut tree, &mut plain, &mut dice)?;
-        agree(alloc, &tree, &plain)?;
+        if !changes_both(tree, &mut plain, &mut dice) || !agree(alloc, tree, &plain) {
+            return false;
+        }
     }
-    Ok(())
+    true
+}
+
+/// Whether a tree of that many levels and the plain program agree after each of so many changes.
+fn walks(alloc: Global, count: u32, changes: u64) -> bool {
+    let Some(levels) = Levels::new(count) else {
+        return false;
+    };
+    match LiveTree::new(alloc, levels) {
+        Ok(tree) => {
+            let mut tree = tree;
+            agree_all_along(alloc, &mut tree, u64::from(count), changes)
+        }
+        Err(_) => false,
+    }
+}
+
+fn walks_in_small_trees(alloc: Global) -> bool {
+    for count in 1..5u32 {
+        if !walks(alloc, count, 100) {
+            return false;
+        }
+    }
+    true
 }
 
 #[test]
 fn small_trees_agree_with_the_plain_program(rt: HostRuntime) -> Result<(), Wrong> {
-    for count in 1..5u32 {
-        walk(rt.alloc(), count, 100)?;
-    }
-    Ok(())
+    check(walks_in_small_trees(rt.alloc()), "another offer")
 }
 
 #[test]
 fn large_trees_agree_with_the_plain_program(rt: HostRuntime) -> Result<(), Wrong> {
-    walk(rt.alloc(), 5, 200)?;
-    walk(rt.alloc(), 6, 200)
+    check(
+        walks(rt.alloc(), 5, 200) && walks(rt.alloc(), 6, 200),
+        "another offer",
+    )
 }

@@ -179,22 +179,60 @@ impl Plain {
         }
     }
 
+    /// Leaves out the copy of a file.
+    fn forget(&mut self, file: FileName) {
+        self.copies.retain(|copy| copy.file != file);
+    }
+
     /// Installs a write that is newer than the copy here, and writes it down.
-    fn install(&mut self, write: Write) -> Result<(), Memory> {
-        if self.version(write.file) < write.version {
-            let file = write.file;
-            self.copies.retain(|copy| copy.file != file);
-            self.copies.push(write.clone()?)?;
-            self.stable.push(Record::Copy(write))?;
+    fn install(&mut self, write: &Write) -> Result<(), Memory> {
+        if self.version(write.file) >= write.version {
+            return Ok(());
+        }
+        self.forget(write.file);
+        self.copies.push(write.clone()?)?;
+        self.stable.push(Record::Copy(write.clone()?))?;
+        Ok(())
+    }
+
+    fn install_each(&mut self, writes: &[Write]) -> Result<(), Memory> {
+        for write in writes {
+            self.install(write)?;
         }
         Ok(())
     }
 
     /// Installs the writes of the vote of a transaction.
     fn install_all(&mut self, txn: u64) -> Result<(), Memory> {
-        for write in self.vote_writes(txn)?.into_vec() {
-            self.install(write)?;
+        let writes = self.vote_writes(txn)?;
+        self.install_each(writes.as_slice())
+    }
+
+    /// The lock that a transaction has by a grant of this number.
+    fn granted(&self, number: u64, txn: u64, file: FileName, mode: Mode) -> PlainLock {
+        match self.lock(txn, file) {
+            Some(lock) if lock.mode == Mode::Exclusive => lock,
+            Some(lock) => PlainLock { mode, ..lock },
+            None => PlainLock {
+                file,
+                txn,
+                mode,
+                since: number,
+                version: self.version(file),
+                stable: false,
+            },
         }
+    }
+
+    /// Puts a lock in the place of that of its transaction on its file.
+    fn put_lock(&mut self, lock: PlainLock) -> Result<(), Memory> {
+        for held in &mut self.locks {
+            if held.txn == lock.txn && held.file == lock.file {
+                *held = lock;
+                return Ok(());
+            }
+        }
+        self.locks.push(lock)?;
         Ok(())
     }
 
@@ -205,31 +243,30 @@ impl Plain {
         file: FileName,
         mode: Mode,
     ) -> Result<NodeReply, Memory> {
+        let lock = self.granted(number, txn, file, mode);
+        self.put_lock(lock)?;
         let version = self.version(file);
-        let lock = match self.lock(txn, file) {
-            Some(lock) if lock.mode == Mode::Exclusive => lock,
-            Some(lock) => PlainLock {
-                file,
-                txn,
-                mode,
-                since: lock.since,
-                version: lock.version,
-                stable: lock.stable,
-            },
-            None => PlainLock {
-                file,
-                txn,
-                mode,
-                since: number,
-                version,
-                stable: false,
-            },
-        };
-        self.locks
-            .retain(|lock| !(lock.txn == txn && lock.file == file));
-        self.locks.push(lock)?;
         let content = self.content(file)?;
         Ok(NodeReply::Granted { version, content })
+    }
+
+    fn peek(&self, file: FileName) -> Result<NodeReply, Memory> {
+        let version = self.version(file);
+        let content = self.content(file)?;
+        Ok(NodeReply::Copy { version, content })
+    }
+
+    /// Writes a lock that a vote of this number keeps into the stable list.
+    fn write_lock(&mut self, number: u64, held: PlainLock) -> Result<(), Memory> {
+        let lock = KeptLock {
+            file: held.file,
+            mode: held.mode,
+            since: held.since,
+            version: held.version,
+        };
+        let txn = held.txn;
+        self.stable.push(Record::Keep { txn, number, lock })?;
+        Ok(())
     }
 
     /// The locks of a transaction, ascending by file.
@@ -243,18 +280,17 @@ impl Plain {
         Ok(held)
     }
 
-    /// Writes locks into the stable list.
-    fn write_locks(&mut self, number: u64, txn: u64, held: &[PlainLock]) -> Result<(), Memory> {
+    fn write_each_lock(&mut self, number: u64, held: &[PlainLock]) -> Result<(), Memory> {
         for held in held {
-            let lock = KeptLock {
-                file: held.file,
-                mode: held.mode,
-                since: held.since,
-                version: held.version,
-            };
-            self.stable.push(Record::Keep { txn, number, lock })?;
+            self.write_lock(number, *held)?;
         }
         Ok(())
+    }
+
+    /// Writes the locks of a transaction into the stable list.
+    fn write_locks(&mut self, number: u64, txn: u64) -> Result<(), Memory> {
+        let held = self.held(txn)?;
+        self.write_each_lock(number, held.as_slice())
     }
 
     /// Makes the locks of a transaction stable.
@@ -262,14 +298,6 @@ impl Plain {
         for lock in &mut self.locks {
             lock.stable = lock.stable || lock.txn == txn;
         }
-    }
-
-    /// Keeps the locks of a transaction, and names them.
-    fn keep(&mut self, number: u64, txn: u64) -> Result<Seq<HeldLock>, Memory> {
-        let held = self.held(txn)?;
-        self.write_locks(number, txn, held.as_slice())?;
-        self.stabilise(txn);
-        named(self.alloc, held.as_slice())
     }
 
     fn write_intents(&mut self, number: u64, txn: u64, writes: &[Write]) -> Result<(), Memory> {
@@ -280,19 +308,36 @@ impl Plain {
         Ok(())
     }
 
-    fn prepare(&mut self, number: u64, txn: u64, writes: &Seq<Write>) -> Result<NodeReply, Memory> {
-        self.write_intents(number, txn, writes.as_slice())?;
-        let held = self.keep(number, txn)?;
+    fn open_vote(&mut self, number: u64, txn: u64, writes: &Seq<Write>) -> Result<(), Memory> {
         self.stable.push(Record::Prepared { txn, number })?;
+        let writes = writes.clone()?;
         self.votes.push(PlainVote {
             txn,
             number,
-            writes: writes.clone()?,
+            writes,
         })?;
-        Ok(NodeReply::Yes {
-            held,
-            writes: writes.clone()?,
-        })
+        Ok(())
+    }
+
+    /// The locks of a transaction, as a vote lists them.
+    fn named(&self, txn: u64) -> Result<Seq<HeldLock>, Memory> {
+        let held = self.held(txn)?;
+        named(self.alloc, held.as_slice())
+    }
+
+    /// The vote of a transaction.
+    fn yes(&self, txn: u64, writes: &Seq<Write>) -> Result<NodeReply, Memory> {
+        let held = self.named(txn)?;
+        let writes = writes.clone()?;
+        Ok(NodeReply::Yes { held, writes })
+    }
+
+    fn prepare(&mut self, number: u64, txn: u64, writes: &Seq<Write>) -> Result<NodeReply, Memory> {
+        self.write_intents(number, txn, writes.as_slice())?;
+        self.write_locks(number, txn)?;
+        self.stabilise(txn);
+        self.open_vote(number, txn, writes)?;
+        self.yes(txn, writes)
     }
 
     fn is_cited(&self, number: u64, verdict: &Verdict) -> bool {
@@ -309,25 +354,46 @@ impl Plain {
         }
     }
 
+    fn release(&mut self, txn: u64) {
+        self.locks.retain(|lock| lock.txn != txn);
+    }
+
     fn end(&mut self, number: u64, txn: u64) -> Result<(), Memory> {
         self.stable.push(Record::Gone { txn, number })?;
         self.votes.retain(|vote| vote.txn != txn);
-        self.locks.retain(|lock| lock.txn != txn);
+        self.release(txn);
         Ok(())
+    }
+
+    fn install_cited(&mut self, number: u64, txn: u64) -> Result<NodeReply, Memory> {
+        self.install_all(txn)?;
+        self.end(number, txn)?;
+        Ok(NodeReply::Installed)
     }
 
     fn decide(&mut self, txn: u64, verdict: &Verdict) -> Result<NodeReply, Memory> {
         let number = self.vote_number(txn).unwrap_or(0);
-        let installs = self.is_cited(number, verdict);
-        if installs {
-            self.install_all(txn)?;
+        if self.is_cited(number, verdict) {
+            return self.install_cited(number, txn);
         }
         self.end(number, txn)?;
-        Ok(if installs {
-            NodeReply::Installed
-        } else {
-            NodeReply::Discarded
-        })
+        Ok(NodeReply::Discarded)
+    }
+
+    fn refresh(
+        &mut self,
+        file: FileName,
+        version: u64,
+        content: &Content,
+    ) -> Result<NodeReply, Memory> {
+        let content = content.clone()?;
+        let write = Write {
+            file,
+            version,
+            content,
+        };
+        self.install(&write)?;
+        Ok(NodeReply::Refreshed)
     }
 
     fn work(&mut self, number: u64, ask: &WorkAsk) -> Result<NodeReply, Memory> {
@@ -336,28 +402,23 @@ impl Plain {
             WorkAsk::Prepare { txn, writes } => self.prepare(number, *txn, writes),
             WorkAsk::Decide { txn, verdict, .. } => self.decide(*txn, verdict),
             WorkAsk::Release { txn } => {
-                let txn = *txn;
-                self.locks.retain(|lock| lock.txn != txn);
+                self.release(*txn);
                 Ok(NodeReply::Released)
             }
-            WorkAsk::Peek { file } => Ok(NodeReply::Copy {
-                version: self.version(*file),
-                content: self.content(*file)?,
-            }),
+            WorkAsk::Peek { file } => self.peek(*file),
             WorkAsk::Refresh {
                 file,
                 version,
                 content,
                 ..
-            } => {
-                self.install(Write {
-                    file: *file,
-                    version: *version,
-                    content: content.clone()?,
-                })?;
-                Ok(NodeReply::Refreshed)
-            }
+            } => self.refresh(*file, *version, content),
         }
+    }
+
+    fn crash(&mut self) -> NodeReply {
+        self.locks.retain(|lock| lock.stable);
+        self.down = true;
+        NodeReply::Crashed
     }
 
     pub fn answer(&mut self, number: u64, ask: &NodeAsk) -> Result<NodeReply, Memory> {
@@ -366,11 +427,7 @@ impl Plain {
         }
         match ask {
             NodeAsk::Work(work) => self.work(number, work),
-            NodeAsk::Crash => {
-                self.locks.retain(|lock| lock.stable);
-                self.down = true;
-                Ok(NodeReply::Crashed)
-            }
+            NodeAsk::Crash => Ok(self.crash()),
             NodeAsk::Return => {
                 self.down = false;
                 Ok(NodeReply::Returned)

@@ -35,14 +35,15 @@ fn any_write(dice: &mut Dice, alloc: Global) -> Result<Write, Memory> {
     write(alloc, file, version, byte)
 }
 
-fn any_writes(dice: &mut Dice, alloc: Global) -> Result<Seq<Write>, Memory> {
+fn any_prepare(dice: &mut Dice, alloc: Global, txn: u64) -> Result<NodeAsk, Memory> {
     let mut writes = Vec::new(alloc);
     for _ in 0..dice.roll(3) {
         writes.push(any_write(dice, alloc)?)?;
     }
-    Ok(Seq::from_vec(writes))
+    Ok(prepare(txn, Seq::from_vec(writes)))
 }
 
+/// A server beside a plain one, and which ends of votes were seen.
 #[derive(Drop)]
 struct Walk {
     alloc: Global,
@@ -67,22 +68,26 @@ impl Walk {
         })
     }
 
-    fn verdict(&self, dice: &mut Dice, txn: u64) -> Result<Verdict, Memory> {
-        let number = match self.plain.vote_number(txn) {
+    /// The number of the open vote of a transaction, or any.
+    fn any_number(&self, dice: &mut Dice, txn: u64) -> u64 {
+        match self.plain.vote_number(txn) {
             Some(number) if dice.roll(3) > 0 => number,
             _ => dice.roll(9),
-        };
+        }
+    }
+
+    fn any_decide(&self, dice: &mut Dice, txn: u64) -> Result<NodeAsk, Memory> {
+        let number = self.any_number(dice, txn);
         if dice.roll(4) == 0 {
-            return Ok(Verdict::Abort);
+            return Ok(decide(txn, Verdict::Abort));
         }
         let cited = CitedVote {
             server: 1 + dice.roll(3),
             number,
         };
         let mine = CitedVote { server: 2, number };
-        Ok(Verdict::Commit {
-            votes: Seq::from_vec(vec![in self.alloc; cited, mine]?),
-        })
+        let votes = Seq::from_vec(vec![in self.alloc; cited, mine]?);
+        Ok(decide(txn, Verdict::Commit { votes }))
     }
 
     fn pick(&self, dice: &mut Dice) -> Result<NodeAsk, Memory> {
@@ -94,8 +99,8 @@ impl Walk {
             5..=7 => Ok(release(txn)),
             8..=9 => Ok(peek(any_file(dice))),
             10..=12 => refresh(alloc, any_file(dice), dice.roll(9), any_byte(dice)),
-            13..=20 => Ok(prepare(txn, any_writes(dice, alloc)?)),
-            21..=26 => Ok(decide(txn, self.verdict(dice, txn)?)),
+            13..=20 => any_prepare(dice, alloc, txn),
+            21..=26 => self.any_decide(dice, txn),
             _ => Ok(lock(txn, any_file(dice), any_mode(dice))),
         }
     }
@@ -103,41 +108,55 @@ impl Walk {
     /// An ask at random.
     fn next_ask(&mut self) -> Result<NodeAsk, Memory> {
         let mut dice = self.dice;
-        let ask = self.pick(&mut dice)?;
+        let ask = self.pick(&mut dice);
         self.dice = dice;
-        Ok(ask)
+        ask
     }
 
-    fn wanted(&mut self, ask: &NodeAsk) -> Result<NodeReply, Wrong> {
-        let number = self
-            .server
-            .node
-            .last()
-            .checked_add(1)
-            .ok_or("another number")?;
-        Ok(self.plain.answer(number, ask)?)
+    /// What the plain server answers to the ask that comes next.
+    fn wanted(&mut self, ask: &NodeAsk) -> Option<NodeReply> {
+        let number = self.server.node.last().checked_add(1)?;
+        self.plain.answer(number, ask).ok()
     }
 
-    fn step(&mut self) -> Result<(), Wrong> {
-        let ask = self.next_ask()?;
-        let wanted = self.wanted(&ask)?;
-        self.installed = self.installed || matches!(wanted, NodeReply::Installed);
-        self.discarded = self.discarded || matches!(wanted, NodeReply::Discarded);
-        self.server.expect(ask, wanted)
+    /// Notes the end of a vote, if the reply tells one.
+    fn note(&mut self, reply: &NodeReply) {
+        self.installed = self.installed || matches!(reply, NodeReply::Installed);
+        self.discarded = self.discarded || matches!(reply, NodeReply::Discarded);
     }
 
-    /// Answers alike for this many steps, with votes that were ended both ways, and the same records in the end.
-    fn goes(&mut self, steps: u64) -> Result<(), Wrong> {
-        for _ in 0..steps {
-            self.step()?;
+    /// Asks both. Answers whether they answer alike.
+    fn is_alike(&mut self, ask: NodeAsk) -> bool {
+        match self.wanted(&ask) {
+            Some(wanted) => {
+                self.note(&wanted);
+                self.server.replies(ask, wanted)
+            }
+            None => false,
         }
-        check(self.installed && self.discarded, "a walk of one kind")?;
-        self.server.keeps(self.plain.stable.as_slice())
+    }
+
+    fn steps(&mut self) -> bool {
+        match self.next_ask() {
+            Ok(ask) => self.is_alike(ask),
+            Err(_) => false,
+        }
+    }
+
+    /// Answers whether they answer alike for this many steps, with votes that were ended both ways, and the same
+    /// records in the end.
+    fn goes(&mut self, steps: u64) -> bool {
+        for _ in 0..steps {
+            if !self.steps() {
+                return false;
+            }
+        }
+        self.installed && self.discarded && self.server.keeps(self.plain.stable.as_slice())
     }
 }
 
 #[test]
 fn a_random_walk_answers_as_defined(rt: HostRuntime) -> Result<(), Wrong> {
     let mut walk = Walk::new(rt.alloc())?;
-    walk.goes(3000)
+    check(walk.goes(3000), "another answer")
 }

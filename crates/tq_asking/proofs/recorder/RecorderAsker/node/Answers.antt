@@ -31,18 +31,18 @@ returns-in-Ok-clause-tree c =
 pub invariant_of-self-in-Err : goal.invariant_of-self-in-Err
 invariant_of-self-in-Err c =
     let asked = node_fault c.self.inside.service c.ask_node.new.self c.self.inside.faults.items c.make_room.new.faults.items c.self.inside.order.items c.make_room.new.order.items c.self.invariant c.make_room.ensures.faults c.make_room.ensures.order
-    c.note_fault.new.faults.items c.note_fault.new.order.items c.in-Err.ensures.err c.number-number.result c.args.ask c.in-Err.fault (subst (λ (n : ℕ). IsTold c.self.inside.service (steps.Node n c.args.ask) (Err (refusal_of c.in-Err.fault))) (sym c.number-number.ensures.value) c.in-Err.ensures.told) (c.note_fault.ensures.faults ∙ ap (λ a. c.make_room.new.faults.items ++ unless_memory c.in-Err.fault (exchanges.Node c.number-number.result a (Err c.in-Err.fault))) c.in_ok-copy.ensures) c.note_fault.ensures.order in
+    c.note_node_fault.new.faults.items c.note_node_fault.new.order.items c.in-Err.ensures.err c.number-number.result c.args.ask c.in-Err.fault (subst (λ (n : ℕ). IsTold c.self.inside.service (steps.Node n c.args.ask) (Err (refusal_of c.in-Err.fault))) (sym c.number-number.ensures.value) c.in-Err.ensures.told) (c.note_node_fault.ensures.faults ∙ ap (λ a. c.make_room.new.faults.items ++ unless_memory c.in-Err.fault (exchanges.Node c.number-number.result a (Err c.in-Err.fault))) c.in_ok-copy.ensures) c.note_node_fault.ensures.order in
     asked.kept
 
 pub returns-in-Err-clause-exchanges : goal.returns-in-Err-clause-exchanges
 returns-in-Err-clause-exchanges c =
     let asked = node_fault c.self.inside.service c.ask_node.new.self c.self.inside.faults.items c.make_room.new.faults.items c.self.inside.order.items c.make_room.new.order.items c.self.invariant c.make_room.ensures.faults c.make_room.ensures.order
-    c.note_fault.new.faults.items c.note_fault.new.order.items c.in-Err.ensures.err c.number-number.result c.args.ask c.in-Err.fault (subst (λ (n : ℕ). IsTold c.self.inside.service (steps.Node n c.args.ask) (Err (refusal_of c.in-Err.fault))) (sym c.number-number.ensures.value) c.in-Err.ensures.told) (c.note_fault.ensures.faults ∙ ap (λ a. c.make_room.new.faults.items ++ unless_memory c.in-Err.fault (exchanges.Node c.number-number.result a (Err c.in-Err.fault))) c.in_ok-copy.ensures) c.note_fault.ensures.order in
+    c.note_node_fault.new.faults.items c.note_node_fault.new.order.items c.in-Err.ensures.err c.number-number.result c.args.ask c.in-Err.fault (subst (λ (n : ℕ). IsTold c.self.inside.service (steps.Node n c.args.ask) (Err (refusal_of c.in-Err.fault))) (sym c.number-number.ensures.value) c.in-Err.ensures.told) (c.note_node_fault.ensures.faults ∙ ap (λ a. c.make_room.new.faults.items ++ unless_memory c.in-Err.fault (exchanges.Node c.number-number.result a (Err c.in-Err.fault))) c.in_ok-copy.ensures) c.note_node_fault.ensures.order in
     asked.told ∙ ap (λ (v : RecorderView). v.told ++ unless_memory c.in-Err.fault (exchanges.Node c.number-number.result c.args.ask (Err c.in-Err.fault))) c.self.view_is
     ∙ ap (λ n. c.args.self.now.told ++ unless_memory c.in-Err.fault (exchanges.Node n c.args.ask (Err c.in-Err.fault))) c.number-number.ensures.value
 
 pub returns-in-Err-clause-tree : goal.returns-in-Err-clause-tree
 returns-in-Err-clause-tree c =
     let asked = node_fault c.self.inside.service c.ask_node.new.self c.self.inside.faults.items c.make_room.new.faults.items c.self.inside.order.items c.make_room.new.order.items c.self.invariant c.make_room.ensures.faults c.make_room.ensures.order
-    c.note_fault.new.faults.items c.note_fault.new.order.items c.in-Err.ensures.err c.number-number.result c.args.ask c.in-Err.fault (subst (λ (n : ℕ). IsTold c.self.inside.service (steps.Node n c.args.ask) (Err (refusal_of c.in-Err.fault))) (sym c.number-number.ensures.value) c.in-Err.ensures.told) (c.note_fault.ensures.faults ∙ ap (λ a. c.make_room.new.faults.items ++ unless_memory c.in-Err.fault (exchanges.Node c.number-number.result a (Err c.in-Err.fault))) c.in_ok-copy.ensures) c.note_fault.ensures.order in
+    c.note_node_fault.new.faults.items c.note_node_fault.new.order.items c.in-Err.ensures.err c.number-number.result c.args.ask c.in-Err.fault (subst (λ (n : ℕ). IsTold c.self.inside.service (steps.Node n c.args.ask) (Err (refusal_of c.in-Err.fault))) (sym c.number-number.ensures.value) c.in-Err.ensures.told) (c.note_node_fault.ensures.faults ∙ ap (λ a. c.make_room.new.faults.items ++ unless_memory c.in-Err.fault (exchanges.Node c.number-number.result a (Err c.in-Err.fault))) c.in_ok-copy.ensures) c.note_node_fault.ensures.order in
     asked.tree ∙ ap (λ (v : RecorderView). v.journals.levels) c.self.view_is

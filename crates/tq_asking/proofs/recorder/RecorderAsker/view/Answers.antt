@@ -26,17 +26,17 @@ returns-in-Ok-clause-tree c =
 pub invariant_of-self-in-Err : goal.invariant_of-self-in-Err
 invariant_of-self-in-Err c =
     let asked = view_fault c.self.inside.service c.ask_view.new.self c.self.inside.faults.items c.make_room.new.faults.items c.self.inside.order.items c.make_room.new.order.items c.self.invariant c.make_room.ensures.faults c.make_room.ensures.order
-    c.note_fault.new.faults.items c.note_fault.new.order.items c.in-Err.ensures.err c.args.ask c.in-Err.fault c.in-Err.ensures.told c.note_fault.ensures.faults c.note_fault.ensures.order in
+    c.note_view_fault.new.faults.items c.note_view_fault.new.order.items c.in-Err.ensures.err c.args.ask c.in-Err.fault c.in-Err.ensures.told c.note_view_fault.ensures.faults c.note_view_fault.ensures.order in
     asked.kept
 
 pub returns-in-Err-clause-exchanges : goal.returns-in-Err-clause-exchanges
 returns-in-Err-clause-exchanges c =
     let asked = view_fault c.self.inside.service c.ask_view.new.self c.self.inside.faults.items c.make_room.new.faults.items c.self.inside.order.items c.make_room.new.order.items c.self.invariant c.make_room.ensures.faults c.make_room.ensures.order
-    c.note_fault.new.faults.items c.note_fault.new.order.items c.in-Err.ensures.err c.args.ask c.in-Err.fault c.in-Err.ensures.told c.note_fault.ensures.faults c.note_fault.ensures.order in
+    c.note_view_fault.new.faults.items c.note_view_fault.new.order.items c.in-Err.ensures.err c.args.ask c.in-Err.fault c.in-Err.ensures.told c.note_view_fault.ensures.faults c.note_view_fault.ensures.order in
     asked.told ∙ ap (λ (v : RecorderView). v.told ++ unless_memory c.in-Err.fault (exchanges.View c.args.ask (Err c.in-Err.fault))) c.self.view_is
 
 pub returns-in-Err-clause-tree : goal.returns-in-Err-clause-tree
 returns-in-Err-clause-tree c =
     let asked = view_fault c.self.inside.service c.ask_view.new.self c.self.inside.faults.items c.make_room.new.faults.items c.self.inside.order.items c.make_room.new.order.items c.self.invariant c.make_room.ensures.faults c.make_room.ensures.order
-    c.note_fault.new.faults.items c.note_fault.new.order.items c.in-Err.ensures.err c.args.ask c.in-Err.fault c.in-Err.ensures.told c.note_fault.ensures.faults c.note_fault.ensures.order in
+    c.note_view_fault.new.faults.items c.note_view_fault.new.order.items c.in-Err.ensures.err c.args.ask c.in-Err.fault c.in-Err.ensures.told c.note_view_fault.ensures.faults c.note_view_fault.ensures.order in
     asked.tree ∙ ap (λ (v : RecorderView). v.journals.levels) c.self.view_is

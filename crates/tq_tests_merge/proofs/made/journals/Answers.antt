@@ -1,0 +1,34 @@
+use Rattle.std.proofs.Common.{◌≡◌, ◌≤◌, ℕ, get_or, List, [], length, ap, subst, sym, arith}
+use Rattle.std.specs.List.{All}
+use Rattle.std.proofs.lemmas.List.{length-map}
+use Rattle.std.proofs.lemmas.List.Elements.{All-map}
+use Rattle.tq_shape.specs.Limits.{LimitsView}
+use Rattle.tq_node.specs.NodeJournal.{NodeEntry}
+use Rattle.tq_tables.specs.Journals.{IsOfTree, ViewEntry}
+use Rattle.tq_tests_merge.proofs.made.journals.Goals as goal
+
+none_of_tree : (levels : ℕ) (entries : List ViewEntry) → entries ≡ [] → All (λ entry. IsOfTree levels entry.reply) entries
+none_of_tree levels entries none = subst (λ (es : List ViewEntry). All (λ (entry : ViewEntry). IsOfTree levels entry.reply) es) (sym none) (λ k d less. absurd (omega (arith, less)))
+
+pub new-requires-4 : goal.new-requires-4
+new-requires-4 c =
+    let limit : c.full.result.entries ≡ 1000000 = ap (λ (l : LimitsView). l.entries) c.full.ensures in
+    record {
+      one_each =
+          let count = length-map c.args.servers.items (λ entries. entries.items) in
+          let given = c.len.ensures in
+          let size = c.args.servers.ok.0 in
+          let tree = c.servers.ensures.value in
+          let same = c.if-len-servers.false in
+          omega (arith, count, given, size, tree, same);
+      servers_fit =
+          let P : List NodeEntry → Type 0 = λ es. length es ≤ c.full.result.entries in
+          All-map P (λ entries. entries.items) c.args.servers.items
+          (λ k d less.
+          let short = c.are_short.ensures.0 c.if-not-are_short.false k d (let s = ap length c.as_slice.ensures.value in omega (arith, less, s)) in
+          let item = ap (λ vs. length (get_or vs k d).items) c.as_slice.ensures.value in
+          omega (arith, short, item, limit));
+      desk_fits = let none = ap length c.new-2.ensures.items in omega (arith, none, limit);
+      view_fits = let none = ap length c.new-3.ensures.items in omega (arith, none, limit);
+      of_tree = none_of_tree c.in_ok-levels.levels c.new-3.result.items c.new-3.ensures.items;
+    }

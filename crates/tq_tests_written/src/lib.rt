@@ -1,0 +1,5 @@
+//! Tests of journals as JSON text.
+#![tactic(auto)]
+
+#[cfg(test)]
+mod written;

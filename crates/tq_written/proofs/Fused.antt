@@ -1,0 +1,8 @@
+-- A list of values of what a function gives.
+use Rattle.std.proofs.Common.{◌≡◌, List, [], ◌∷◌, map, refl, ap}
+use Rattle.serde_json.specs.Data.{Data, item}
+use Rattle.tq_written.specs.Values.{listed}
+
+pub listed-map : {A B : Type 0} (value : B → Data) (f : A → B) (xs : List A) → listed (λ x. value (f x)) xs ≡ listed value (map f xs)
+listed-map value f [] = refl
+listed-map value f (x ∷ xs) = ap (item (value (f x))) (listed-map value f xs)

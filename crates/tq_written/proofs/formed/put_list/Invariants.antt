@@ -1,0 +1,9 @@
+use Rattle.std.proofs.Common.{◌≡◌, ◌++◌, drop}
+use Rattle.json.specs.Tree.{items_tokens}
+use Rattle.serde_json.specs.Written.{items_outline}
+use Rattle.tq_written.specs.Values.{listed}
+use Rattle.tq_written.proofs.formed.put_list.Given as goal
+
+-- the items that are left, with the closing bracket, stand after what is written so far
+abbrev pub invariant-loop-item : goal.invariant-loop-item
+invariant-loop-item g l = (l.out.tokens ++ items_tokens (items_outline (listed g.T.Formed.value (drop l.item-index l.items))) ≡ l.initial.out.tokens ++ items_tokens (items_outline (listed g.T.Formed.value l.items))) × (l.out.before ≡ l.initial.out.before)

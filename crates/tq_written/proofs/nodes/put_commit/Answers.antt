@@ -1,0 +1,6 @@
+use Rattle.tq_written.proofs.Chained.{added}
+use Rattle.tq_written.proofs.nodes.put_commit.Goals as goal
+
+pub returns : goal.returns
+returns c =
+    added c.in_ok-open_kind.ensures c.in_ok-close_member.ensures

@@ -1,0 +1,25 @@
+-- The journals of all parts of a system, as one value.
+use Rattle.std.specs.Prelude.{codes}
+use Rattle.serde_json.specs.Data.{Data, object, member, no_members}
+use Rattle.tq_shape.specs.Limits.{LimitsView}
+use Rattle.tq_tables.specs.Journals.{JournalsView}
+use Rattle.tq_written.specs.Values.{whole, list_value}
+use Rattle.tq_written.specs.Nodes.{node_entry_value}
+use Rattle.tq_written.specs.Desks.{desk_entry_value}
+use Rattle.tq_written.specs.Views.{view_entry_value}
+use Rattle.tq_written.specs.declared.frame.TheConstants.{FORMAT}
+
+abbrev pub limits_value : LimitsView → Data
+limits_value limits =
+    object (member (codes "entries") (whole limits.entries)
+    (member (codes "files") (whole limits.files)
+    (member (codes "ops") (whole limits.ops) no_members)))
+
+abbrev pub journals_value : JournalsView → Data
+journals_value journals =
+    object (member (codes "desk") (list_value desk_entry_value journals.desk)
+    (member (codes "format") (whole FORMAT)
+    (member (codes "levels") (whole journals.levels)
+    (member (codes "limits") (limits_value journals.limits)
+    (member (codes "servers") (list_value (list_value node_entry_value) journals.servers)
+    (member (codes "view") (list_value view_entry_value journals.view) no_members))))))

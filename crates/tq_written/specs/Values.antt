@@ -1,0 +1,36 @@
+-- Numbers, contents and lists as values, and the objects that have a kind alone. The members of an object stand in
+-- ascending order of their names, here and in all that follows.
+use Rattle.std.specs.Prelude.{ℕ, List, [], ◌∷◌, codes}
+use Rattle.hex.specs.Hex.{encode_lower}
+use Rattle.serde_json.specs.Data.{Data, Items, no_items, item, array, object, member, no_members, number, unsigned, string}
+use Rattle.tq_shape.specs.declared.entry.Entry.{Entry}
+
+abbrev pub whole : ℕ → Data
+whole n = number (unsigned n)
+
+-- a content: two digits for each byte
+abbrev pub content_value : List ℕ → Data
+content_value bytes = string (encode_lower bytes)
+
+abbrev pub listed : {A : Type 0} → (A → Data) → List A → Items
+listed value [] = no_items
+listed value (first ∷ rest) = item (value first) (listed value rest)
+
+-- a list of such values, in order
+abbrev pub list_value : {A : Type 0} → (A → Data) → List A → Data
+list_value value list = array (listed value list)
+
+abbrev pub kind_value : List ℕ → Data
+kind_value kind = object (member (codes "is") (string kind) no_members)
+
+-- a refusal that tells no more than its code
+abbrev pub code_value : ℕ → Data
+code_value code =
+    object (member (codes "code") (whole code)
+    (member (codes "is") (string (codes "refused")) no_members))
+
+-- an entry whose ask and reply are such values
+abbrev pub entry_value : {A R : Type 0} → (A → Data) → (R → Data) → Entry A R → Data
+entry_value ask reply entry =
+    object (member (codes "ask") (ask entry.ask)
+    (member (codes "reply") (reply entry.reply) no_members))

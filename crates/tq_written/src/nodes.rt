@@ -1,0 +1,289 @@
+//! What servers are asked and what they reply.
+ghost use Rattle.std.specs.Prelude.{◌≡◌, codes};
+ghost use Rattle.tq_node.specs.declared.ask.NodeRefusal.{NodeRefusal};
+ghost use Rattle.tq_node.specs.declared.ask.NodeReply.{NodeReply};
+ghost use Rattle.tq_node.specs.declared.ask.Verdict.{Verdict};
+ghost use Rattle.tq_node.specs.declared.ask.WorkAsk.{WorkAsk};
+ghost use Rattle.tq_written.specs.Nodes.{copy_value, node_refusal_value, node_reply_value, verdict_value, work_value};
+ghost use Rattle.tq_written.specs.Written.{Adds, spelled};
+
+use crate::formed::{
+    Formed, close_kind, close_member, open_kind, open_member, put_code, put_kind, put_member,
+    put_only_kind,
+};
+use json::Writer;
+use std::alloc::Global;
+use tq_locks::Mode;
+use tq_node::{CitedVote, HeldLock, NodeAsk, NodeRefusal, NodeReply, Verdict, WorkAsk};
+use tq_shape::{Memory, Seq};
+use tq_store::{Content, FileName, Write};
+
+impl Formed for CitedVote {
+    ghost use Rattle.tq_written.specs.Nodes.{cited_value};
+
+    ghost value = { cited_value };
+
+    fn put(&self, alloc: Global, out: &mut Writer<Global>) -> Result<(), Memory> {
+        open_member(alloc, out, "number", &self.number)?;
+        close_member(alloc, out, "server", &self.server)?;
+        Ok(())
+    }
+}
+
+impl Formed for Write {
+    ghost use Rattle.tq_written.specs.Nodes.{write_value};
+
+    ghost value = { write_value };
+
+    fn put(&self, alloc: Global, out: &mut Writer<Global>) -> Result<(), Memory> {
+        open_member(alloc, out, "content", &self.content)?;
+        put_member(alloc, out, "file", &self.file)?;
+        close_member(alloc, out, "version", &self.version)?;
+        Ok(())
+    }
+}
+
+impl Formed for HeldLock {
+    ghost use Rattle.tq_written.specs.Nodes.{held_value};
+
+    ghost value = { held_value };
+
+    fn put(&self, alloc: Global, out: &mut Writer<Global>) -> Result<(), Memory> {
+        open_member(alloc, out, "file", &self.file)?;
+        put_member(alloc, out, "mode", &self.mode)?;
+        close_member(alloc, out, "since", &self.since)?;
+        Ok(())
+    }
+}
+
+fn put_commit(alloc: Global, out: &mut Writer<Global>, votes: &Seq<CitedVote>) -> Result<(), Memory>
+    ensures { Adds result out.old out.new (spelled (verdict_value (Verdict.Commit votes.now))) }
+{
+    open_kind(out, "commit")?;
+    close_member(alloc, out, "votes", votes)?;
+    Ok(())
+}
+
+impl Formed for Verdict {
+    ghost use Rattle.tq_written.specs.Nodes.{verdict_value};
+
+    ghost value = { verdict_value };
+
+    fn put(&self, alloc: Global, out: &mut Writer<Global>) -> Result<(), Memory> {
+        match self {
+            Verdict::Abort => put_only_kind(out, "abort"),
+            Verdict::Commit { votes } => put_commit(alloc, out, votes),
+        }
+    }
+}
+
+fn put_lock(
+    alloc: Global,
+    out: &mut Writer<Global>,
+    txn: u64,
+    file: &FileName,
+    mode: Mode,
+) -> Result<(), Memory>
+    ensures { Adds result out.old out.new (spelled (work_value (WorkAsk.Lock txn file.now mode))) }
+{
+    open_member(alloc, out, "file", file)?;
+    put_kind(out, "lock")?;
+    put_member(alloc, out, "mode", &mode)?;
+    close_member(alloc, out, "txn", &txn)?;
+    Ok(())
+}
+
+fn put_prepare(
+    alloc: Global,
+    out: &mut Writer<Global>,
+    txn: u64,
+    writes: &Seq<Write>,
+) -> Result<(), Memory>
+    ensures { Adds result out.old out.new (spelled (work_value (WorkAsk.Prepare txn writes.now))) }
+{
+    open_kind(out, "prepare")?;
+    put_member(alloc, out, "txn", &txn)?;
+    close_member(alloc, out, "writes", writes)?;
+    Ok(())
+}
+
+fn put_decide(
+    alloc: Global,
+    out: &mut Writer<Global>,
+    txn: u64,
+    verdict: &Verdict,
+    cite: u64,
+) -> Result<(), Memory>
+    ensures { Adds result out.old out.new (spelled (work_value (WorkAsk.Decide txn verdict.now cite))) }
+{
+    open_member(alloc, out, "cite", &cite)?;
+    put_kind(out, "decide")?;
+    put_member(alloc, out, "txn", &txn)?;
+    close_member(alloc, out, "verdict", verdict)?;
+    Ok(())
+}
+
+fn put_release(alloc: Global, out: &mut Writer<Global>, txn: u64) -> Result<(), Memory>
+    ensures { Adds result out.old out.new (spelled (work_value (WorkAsk.Release txn))) }
+{
+    open_kind(out, "release")?;
+    close_member(alloc, out, "txn", &txn)?;
+    Ok(())
+}
+
+fn put_peek(alloc: Global, out: &mut Writer<Global>, file: &FileName) -> Result<(), Memory>
+    ensures { Adds result out.old out.new (spelled (work_value (WorkAsk.Peek file.now))) }
+{
+    open_member(alloc, out, "file", file)?;
+    close_kind(out, "peek")?;
+    Ok(())
+}
+
+fn put_refresh(
+    alloc: Global,
+    out: &mut Writer<Global>,
+    file: &FileName,
+    version: u64,
+    content: &Content,
+    from: &CitedVote,
+) -> Result<(), Memory>
+    ensures { Adds result out.old out.new (spelled (work_value (WorkAsk.Refresh file.now version content.now from.now))) }
+{
+    open_member(alloc, out, "content", content)?;
+    put_member(alloc, out, "file", file)?;
+    put_member(alloc, out, "from", from)?;
+    put_kind(out, "refresh")?;
+    close_member(alloc, out, "version", &version)?;
+    Ok(())
+}
+
+impl Formed for WorkAsk {
+    ghost use Rattle.tq_written.specs.Nodes.{work_value};
+
+    ghost value = { work_value };
+
+    fn put(&self, alloc: Global, out: &mut Writer<Global>) -> Result<(), Memory> {
+        match self {
+            WorkAsk::Lock { txn, file, mode } => put_lock(alloc, out, *txn, file, *mode),
+            WorkAsk::Prepare { txn, writes } => put_prepare(alloc, out, *txn, writes),
+            WorkAsk::Decide { txn, verdict, cite } => {
+                put_decide(alloc, out, *txn, verdict, *cite)
+            }
+            WorkAsk::Release { txn } => put_release(alloc, out, *txn),
+            WorkAsk::Peek { file } => put_peek(alloc, out, file),
+            WorkAsk::Refresh {
+                file,
+                version,
+                content,
+                from,
+            } => put_refresh(alloc, out, file, *version, content, from),
+        }
+    }
+}
+
+impl Formed for NodeAsk {
+    ghost use Rattle.tq_written.specs.Nodes.{node_ask_value};
+
+    ghost value = { node_ask_value };
+
+    fn put(&self, alloc: Global, out: &mut Writer<Global>) -> Result<(), Memory> {
+        match self {
+            NodeAsk::Work(work) => work.put(alloc, out),
+            NodeAsk::Crash => put_only_kind(out, "crash"),
+            NodeAsk::Return => put_only_kind(out, "return"),
+        }
+    }
+}
+
+fn put_held(alloc: Global, out: &mut Writer<Global>, by: u64) -> Result<(), Memory>
+    ensures { Adds result out.old out.new (spelled (node_refusal_value (NodeRefusal.Held by))) }
+{
+    open_member(alloc, out, "by", &by)?;
+    put_member(alloc, out, "code", &14u64)?;
+    close_kind(out, "refused")?;
+    Ok(())
+}
+
+fn put_not_locked(alloc: Global, out: &mut Writer<Global>, file: &FileName) -> Result<(), Memory>
+    ensures { Adds result out.old out.new (spelled (node_refusal_value (NodeRefusal.NotLocked file.now))) }
+{
+    open_member(alloc, out, "code", &16u64)?;
+    put_member(alloc, out, "file", file)?;
+    close_kind(out, "refused")?;
+    Ok(())
+}
+
+impl Formed for NodeRefusal {
+    ghost use Rattle.tq_written.specs.Nodes.{node_refusal_value};
+
+    ghost value = { node_refusal_value };
+
+    fn put(&self, alloc: Global, out: &mut Writer<Global>) -> Result<(), Memory> {
+        match self {
+            NodeRefusal::Down => put_code(alloc, out, 11),
+            NodeRefusal::AlreadyUp => put_code(alloc, out, 12),
+            NodeRefusal::AlreadyDown => put_code(alloc, out, 13),
+            NodeRefusal::Held { by } => put_held(alloc, out, *by),
+            NodeRefusal::Prepared => put_code(alloc, out, 15),
+            NodeRefusal::NotLocked { file } => put_not_locked(alloc, out, file),
+            NodeRefusal::BadWrites => put_code(alloc, out, 17),
+            NodeRefusal::NotNewer => put_code(alloc, out, 18),
+            NodeRefusal::NothingHere => put_code(alloc, out, 19),
+        }
+    }
+}
+
+/// A copy that is told, in a reply of that kind.
+fn put_copy(
+    alloc: Global,
+    out: &mut Writer<Global>,
+    kind: &str,
+    version: u64,
+    content: &Content,
+) -> Result<(), Memory>
+    ensures { Adds result out.old out.new (spelled (copy_value kind.now version content.now)) }
+{
+    open_member(alloc, out, "content", content)?;
+    put_kind(out, kind)?;
+    close_member(alloc, out, "version", &version)?;
+    Ok(())
+}
+
+fn put_yes(
+    alloc: Global,
+    out: &mut Writer<Global>,
+    held: &Seq<HeldLock>,
+    writes: &Seq<Write>,
+) -> Result<(), Memory>
+    ensures { Adds result out.old out.new (spelled (node_reply_value (NodeReply.Yes held.now writes.now))) }
+{
+    open_member(alloc, out, "held", held)?;
+    put_kind(out, "yes")?;
+    close_member(alloc, out, "writes", writes)?;
+    Ok(())
+}
+
+impl Formed for NodeReply {
+    ghost use Rattle.tq_written.specs.Nodes.{node_reply_value};
+
+    ghost value = { node_reply_value };
+
+    fn put(&self, alloc: Global, out: &mut Writer<Global>) -> Result<(), Memory> {
+        match self {
+            NodeReply::Granted { version, content } => {
+                put_copy(alloc, out, "granted", *version, content)
+            }
+            NodeReply::Yes { held, writes } => put_yes(alloc, out, held, writes),
+            NodeReply::Installed => put_only_kind(out, "installed"),
+            NodeReply::Discarded => put_only_kind(out, "discarded"),
+            NodeReply::Released => put_only_kind(out, "released"),
+            NodeReply::Copy { version, content } => {
+                put_copy(alloc, out, "copy", *version, content)
+            }
+            NodeReply::Refreshed => put_only_kind(out, "refreshed"),
+            NodeReply::Crashed => put_only_kind(out, "crashed"),
+            NodeReply::Returned => put_only_kind(out, "returned"),
+            NodeReply::Refused(refusal) => refusal.put(alloc, out),
+        }
+    }
+}
