@@ -1,0 +1,5 @@
+pub mod Listed
+pub mod Memberships
+pub mod Counted
+pub mod Held
+pub mod Texts

@@ -1,0 +1,11 @@
+use Rattle.std.proofs.Common.{◌≡◌, drop}
+use Rattle.serde_json.specs.View.{items_view}
+use Rattle.tq_form.specs.Format.{one}
+use Rattle.tq_form.specs.Member.{each}
+use Rattle.tq_form.specs.Commits.{op}
+use Rattle.tq_form.proofs.Listed.{with_front}
+use Rattle.tq_form.proofs.commits.ops.Given as goal
+
+-- what was read so far, before what is read of the values that are left, is what is read of all values
+abbrev pub invariant-loop-value : goal.invariant-loop-value
+invariant-loop-value l = with_front l.ops.items (each (op one) (items_view (drop l.value-index l.values))) ≡ each (op one) (items_view l.values)

@@ -1,0 +1,10 @@
+use Rattle.std.proofs.Common.{◌≡◌, drop}
+use Rattle.serde_json.specs.View.{items_view}
+use Rattle.tq_form.specs.Member.{each}
+use Rattle.tq_form.specs.Locking.{citation}
+use Rattle.tq_form.proofs.Listed.{with_front}
+use Rattle.tq_form.proofs.locking.citations.Given as goal
+
+-- what was read so far, before what is read of the values that are left, is what is read of all values
+abbrev pub invariant-loop-value : goal.invariant-loop-value
+invariant-loop-value l = with_front l.votes.items (each citation (items_view (drop l.value-index l.values))) ≡ each citation (items_view l.values)

@@ -1,0 +1,12 @@
+pub mod Format
+pub mod Member
+pub mod Content
+pub mod Locking
+pub mod NodeAsks
+pub mod NodeReplies
+pub mod Commits
+pub mod Desks
+pub mod Views
+pub mod Entries
+pub mod Frame
+pub mod Faults

@@ -1,0 +1,88 @@
+-- What the view is asked, and what it replies.
+use Rattle.std.specs.Prelude.{ℕ, ◌==◌, List, Option, Some, None, cond, codes}
+use Rattle.std.specs.Str.{bytes_eq}
+use Rattle.serde_json.specs.Data.{Data}
+use Rattle.tq_coterie.specs.Coterie.{ServerList, is_quorum}
+use Rattle.tq_live.specs.declared.view.ViewAsk.{ViewAsk}
+use Rattle.tq_live.specs.declared.view.ViewAsk.TheVariants.{SetCost, Mark, Choose}
+use Rattle.tq_live.specs.declared.view.ViewReply.{ViewReply}
+use Rattle.tq_live.specs.declared.view.ViewReply.TheVariants.{CostSet, Marked, Chosen, Refused}
+use Rattle.tq_live.specs.declared.view.ViewRefusal.TheVariants.{NoSuchServer, BadCost, Blocked}
+use Rattle.tq_form.specs.Member.{◌>>=◌, text_at, number_at, number_of, flag_at, items_at, each}
+
+-- ---- asks
+
+abbrev pub set_cost : Data → Option ViewAsk
+set_cost value = do
+  cost ← number_at (codes "cost") value
+  server ← number_at (codes "server") value
+  Some (SetCost server cost)
+
+abbrev pub mark : Data → Option ViewAsk
+mark value = do
+  server ← number_at (codes "server") value
+  up ← flag_at (codes "up") value
+  Some (Mark server up)
+
+abbrev pub view_ask_by : List ℕ → Data → Option ViewAsk
+view_ask_by kind value =
+    cond (bytes_eq kind (codes "setcost")) (set_cost value)
+    (cond (bytes_eq kind (codes "mark")) (mark value)
+    (cond (bytes_eq kind (codes "choose")) (Some Choose) None))
+
+-- the ask that a value of the form is
+abbrev pub view_ask : Data → Option ViewAsk
+view_ask value = do
+  kind ← text_at (codes "is") value
+  view_ask_by kind value
+
+-- ---- replies, in a tree of so many levels
+
+-- the member of the coterie that the numbers are, in this order
+abbrev pub member_of : ℕ → List ℕ → Option ServerList
+member_of levels numbers = cond (is_quorum levels numbers) (Some (record { servers = numbers; levels = levels })) None
+
+abbrev pub servers_at : Data → Option (List ℕ)
+servers_at value = do
+  values ← items_at (codes "servers") value
+  each number_of values
+
+abbrev pub member_at : ℕ → Data → Option ServerList
+member_at levels value = do
+  numbers ← servers_at value
+  member_of levels numbers
+
+abbrev pub chosen : ℕ → Data → Option ViewReply
+chosen levels value = do
+  cost ← number_at (codes "cost") value
+  quorum ← member_at levels value
+  Some (Chosen quorum cost)
+
+abbrev pub blocked : ℕ → Data → Option ViewReply
+blocked levels value = do
+  blocker ← member_at levels value
+  Some (Refused (Blocked blocker))
+
+abbrev pub view_refused_by : ℕ → ℕ → Data → Option ViewReply
+view_refused_by levels code value =
+    cond (code == 31) (Some (Refused NoSuchServer))
+    (cond (code == 32) (Some (Refused BadCost))
+    (cond (code == 33) (blocked levels value) None))
+
+abbrev pub view_refused : ℕ → Data → Option ViewReply
+view_refused levels value = do
+  code ← number_at (codes "code") value
+  view_refused_by levels code value
+
+abbrev pub view_reply_by : ℕ → List ℕ → Data → Option ViewReply
+view_reply_by levels kind value =
+    cond (bytes_eq kind (codes "costset")) (Some CostSet)
+    (cond (bytes_eq kind (codes "marked")) (Some Marked)
+    (cond (bytes_eq kind (codes "chosen")) (chosen levels value)
+    (cond (bytes_eq kind (codes "refused")) (view_refused levels value) None)))
+
+-- the reply that a value of the form is
+abbrev pub view_reply : ℕ → Data → Option ViewReply
+view_reply levels value = do
+  kind ← text_at (codes "is") value
+  view_reply_by levels kind value

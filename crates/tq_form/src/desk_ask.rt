@@ -1,0 +1,58 @@
+ghost use Rattle.std.specs.Prelude.{◌≡◌, IfOk};
+ghost use Rattle.serde_json.specs.View.{view};
+ghost use Rattle.tq_form.specs.Format.{one};
+ghost use Rattle.tq_form.specs.Desks as spec;
+
+use crate::commits::{ops_at, votes_at};
+use crate::member::{is_text, number_at, text_at};
+use serde_json::Value;
+use std::alloc::Global;
+use tq_desk::DeskAsk;
+use tq_shape::Memory;
+
+/// The ask of the desk that the value is: `None` where it is none.
+pub(crate) fn desk_ask(alloc: Global, value: &Value) -> Result<Option<DeskAsk>, Memory>
+    ensures { IfOk result (λ ask. ask ≡ spec.desk_ask one (view value.now)) }
+{
+    let Some(kind) = text_at(value, "is") else {
+        return Ok(None);
+    };
+    Ok(desk_ask_by(alloc, kind, value)?)
+}
+
+fn desk_ask_by(alloc: Global, kind: &str, value: &Value) -> Result<Option<DeskAsk>, Memory>
+    ensures { IfOk result (λ ask. ask ≡ spec.desk_ask_by one kind.now (view value.now)) }
+{
+    if is_text(kind, "begin") {
+        return Ok(Some(DeskAsk::Begin));
+    }
+    if is_text(kind, "commit") {
+        return Ok(commit_ask(alloc, value)?);
+    }
+    if is_text(kind, "resolve") {
+        return Ok(resolve(value));
+    }
+    Ok(None)
+}
+
+fn commit_ask(alloc: Global, value: &Value) -> Result<Option<DeskAsk>, Memory>
+    ensures { IfOk result (λ ask. ask ≡ spec.commit_ask one (view value.now)) }
+{
+    let Some(txn) = number_at(value, "txn") else {
+        return Ok(None);
+    };
+    let Some(ops) = ops_at(alloc, value)? else {
+        return Ok(None);
+    };
+    let Some(votes) = votes_at(alloc, value)? else {
+        return Ok(None);
+    };
+    Ok(Some(DeskAsk::Commit { txn, ops, votes }))
+}
+
+fn resolve(value: &Value) -> Option<DeskAsk>
+    ensures { result ≡ spec.resolve (view value.now) }
+{
+    let txn = number_at(value, "txn")?;
+    Some(DeskAsk::Resolve { txn })
+}

@@ -1,0 +1,146 @@
+ghost use Rattle.std.specs.Prelude.{◌≡◌, ◌≤◌, IfOk, IfSome, map};
+ghost use Rattle.std.specs.Option.{option_map};
+ghost use Rattle.serde_json.specs.View.{view, items_view};
+ghost use Rattle.tq_form.specs.Format.{one};
+ghost use Rattle.tq_form.specs.Frame as spec;
+
+use crate::journals::{desk_journal, node_journals, view_journal};
+use crate::member::{items_at, number_at};
+use serde_json::Value;
+use std::alloc::Global;
+use tq_shape::{Levels, Limits, MOST_ENTRIES, MOST_FILES, MOST_LEVELS, MOST_OPS, Memory};
+use tq_tables::{DeskEntry, Journals, NodeEntry, ViewEntry};
+
+/// The number that the object has at the name, where it is from 1 up to the most.
+fn up_to_at(most: u32, name: &str, value: &Value) -> Option<u32>
+    ensures value { result ≡ spec.up_to_at most name.now (view value.now) }
+    ensures within { IfSome result (λ number. (1 ≤ number) × (number ≤ most)) }
+{
+    let number = number_at(value, name)?;
+    if number < 1 {
+        return None;
+    }
+    if number > most as u64 {
+        return None;
+    }
+    Some(number as u32)
+}
+
+fn levels_at(value: &Value) -> Option<Levels>
+    ensures { result ≡ spec.levels_at one (view value.now) }
+{
+    let count = up_to_at(MOST_LEVELS, "levels", value)?;
+    Levels::new(count)
+}
+
+fn limits_at(value: &Value) -> Option<Limits>
+    ensures { result ≡ spec.limits_at (view value.now) }
+{
+    let inner = value.get("limits")?;
+    limits(inner)
+}
+
+fn limits(value: &Value) -> Option<Limits>
+    ensures { result ≡ spec.limits (view value.now) }
+{
+    let entries = up_to_at(MOST_ENTRIES, "entries", value)?;
+    let files = up_to_at(MOST_FILES, "files", value)?;
+    let ops = up_to_at(MOST_OPS, "ops", value)?;
+    Limits::new(files, ops, entries)
+}
+
+/// The lists of the servers: `None` where there are more or fewer than servers in a tree of so many levels.
+fn server_lists_at<'a>(levels: Levels, value: &'a Value) -> Option<&'a [Value]>
+    ensures { option_map (λ v. items_view v.now) result ≡ spec.server_lists_at levels (view value.now) }
+{
+    let values = items_at(value, "servers")?;
+    one_each(levels, values)
+}
+
+fn one_each<'a>(levels: Levels, values: &'a [Value]) -> Option<&'a [Value]>
+    ensures { option_map (λ v. items_view v.now) result ≡ spec.one_each levels (items_view values.now) }
+{
+    if values.len() as u64 == levels.servers() {
+        return Some(values);
+    }
+    None
+}
+
+fn servers_at(
+    alloc: Global,
+    levels: Levels,
+    limit: u32,
+    value: &Value,
+) -> Result<Option<Vec<Vec<NodeEntry>>>, Memory>
+    ensures { IfOk result (λ answer. option_map (λ v. map (λ journal. journal.items) v.items) answer ≡ spec.servers_at one levels limit (view value.now)) }
+{
+    let Some(values) = server_lists_at(levels, value) else {
+        return Ok(None);
+    };
+    Ok(node_journals(alloc, limit, values)?)
+}
+
+fn desk_at(alloc: Global, limit: u32, value: &Value) -> Result<Option<Vec<DeskEntry>>, Memory>
+    ensures { IfOk result (λ answer. option_map (λ v. v.items) answer ≡ spec.desk_at one limit (view value.now)) }
+{
+    let Some(inner) = value.get("desk") else {
+        return Ok(None);
+    };
+    Ok(desk_journal(alloc, limit, inner)?)
+}
+
+fn view_at(
+    alloc: Global,
+    levels: Levels,
+    limit: u32,
+    value: &Value,
+) -> Result<Option<Vec<ViewEntry>>, Memory>
+    ensures { IfOk result (λ answer. option_map (λ v. v.items) answer ≡ spec.view_at levels limit (view value.now)) }
+{
+    let Some(inner) = value.get("view") else {
+        return Ok(None);
+    };
+    Ok(view_journal(alloc, levels, limit, inner)?)
+}
+
+/// The journals that the value is in format 1, whatever number it gives for its format.
+fn journals_in_one(alloc: Global, value: &Value) -> Result<Option<Journals>, Memory>
+    ensures { IfOk result (λ journals. journals ≡ spec.journals_in one (view value.now)) }
+{
+    let Some(levels) = levels_at(value) else {
+        return Ok(None);
+    };
+    let Some(limits) = limits_at(value) else {
+        return Ok(None);
+    };
+    let limit = limits.entries();
+    let Some(servers) = servers_at(alloc, levels, limit, value)? else {
+        return Ok(None);
+    };
+    let Some(desk) = desk_at(alloc, limit, value)? else {
+        return Ok(None);
+    };
+    let Some(view) = view_at(alloc, levels, limit, value)? else {
+        return Ok(None);
+    };
+    Ok(Some(Journals::new(levels, limits, servers, desk, view)))
+}
+
+/// The journals that the value is: `None` where it is not of the form.
+pub(crate) fn journals_of(alloc: Global, value: &Value) -> Result<Option<Journals>, Memory>
+    ensures { IfOk result (λ journals. journals ≡ spec.journals_of (view value.now)) }
+{
+    let Some(number) = number_at(value, "format") else {
+        return Ok(None);
+    };
+    Ok(journals_by(alloc, number, value)?)
+}
+
+fn journals_by(alloc: Global, number: u64, value: &Value) -> Result<Option<Journals>, Memory>
+    ensures { IfOk result (λ journals. journals ≡ spec.journals_by number (view value.now)) }
+{
+    if number == 1 {
+        return Ok(journals_in_one(alloc, value)?);
+    }
+    Ok(None)
+}

@@ -1,0 +1,21 @@
+//! The journals of a system from their text: the form of journal files, and its reader.
+#![tactic(auto)]
+
+mod commits;
+mod content;
+mod desk_ask;
+mod desk_reply;
+mod entries;
+mod fault;
+mod frame;
+mod journals;
+mod locking;
+mod member;
+mod node_ask;
+mod node_reply;
+mod read;
+mod view_ask;
+mod view_reply;
+
+pub use fault::ReadFault;
+pub use read::journals_from_json;

@@ -1,0 +1,147 @@
+ghost use Rattle.std.specs.Prelude.{◌≡◌, IfOk};
+ghost use Rattle.serde_json.specs.View.{view};
+ghost use Rattle.tq_form.specs.Format.{one};
+ghost use Rattle.tq_form.specs.NodeAsks as spec;
+
+use crate::content::{content_at, file_at};
+use crate::locking::{citation, mode_at, verdict_at, writes_at};
+use crate::member::{is_text, number_at, text_at};
+use serde_json::Value;
+use std::alloc::Global;
+use tq_node::{CitedVote, NodeAsk, WorkAsk};
+use tq_shape::Memory;
+
+/// The ask of a server that the value is: `None` where it is none.
+pub(crate) fn node_ask(alloc: Global, value: &Value) -> Result<Option<NodeAsk>, Memory>
+    ensures { IfOk result (λ ask. ask ≡ spec.node_ask one (view value.now)) }
+{
+    let Some(kind) = text_at(value, "is") else {
+        return Ok(None);
+    };
+    Ok(node_ask_by(alloc, kind, value)?)
+}
+
+fn node_ask_by(alloc: Global, kind: &str, value: &Value) -> Result<Option<NodeAsk>, Memory>
+    ensures { IfOk result (λ ask. ask ≡ spec.node_ask_by one kind.now (view value.now)) }
+{
+    if is_text(kind, "crash") {
+        return Ok(Some(NodeAsk::Crash));
+    }
+    if is_text(kind, "return") {
+        return Ok(Some(NodeAsk::Return));
+    }
+    Ok(work(alloc, kind, value)?)
+}
+
+fn work(alloc: Global, kind: &str, value: &Value) -> Result<Option<NodeAsk>, Memory>
+    ensures { IfOk result (λ ask. ask ≡ spec.work one kind.now (view value.now)) }
+{
+    let Some(ask) = work_by(alloc, kind, value)? else {
+        return Ok(None);
+    };
+    Ok(Some(NodeAsk::Work(ask)))
+}
+
+fn work_by(alloc: Global, kind: &str, value: &Value) -> Result<Option<WorkAsk>, Memory>
+    ensures { IfOk result (λ ask. ask ≡ spec.work_by one kind.now (view value.now)) }
+{
+    if is_text(kind, "lock") {
+        return Ok(lock(value));
+    }
+    if is_text(kind, "prepare") {
+        return Ok(prepare(alloc, value)?);
+    }
+    if is_text(kind, "decide") {
+        return Ok(decide(alloc, value)?);
+    }
+    if is_text(kind, "release") {
+        return Ok(release(value));
+    }
+    if is_text(kind, "peek") {
+        return Ok(peek(value));
+    }
+    if is_text(kind, "refresh") {
+        return Ok(refresh(alloc, value)?);
+    }
+    Ok(None)
+}
+
+fn lock(value: &Value) -> Option<WorkAsk>
+    ensures { result ≡ spec.lock (view value.now) }
+{
+    let file = file_at(value, "file")?;
+    let mode = mode_at(value)?;
+    let txn = number_at(value, "txn")?;
+    Some(WorkAsk::Lock { txn, file, mode })
+}
+
+fn prepare(alloc: Global, value: &Value) -> Result<Option<WorkAsk>, Memory>
+    ensures { IfOk result (λ ask. ask ≡ spec.prepare one (view value.now)) }
+{
+    let Some(txn) = number_at(value, "txn") else {
+        return Ok(None);
+    };
+    let Some(writes) = writes_at(alloc, value)? else {
+        return Ok(None);
+    };
+    Ok(Some(WorkAsk::Prepare { txn, writes }))
+}
+
+fn decide(alloc: Global, value: &Value) -> Result<Option<WorkAsk>, Memory>
+    ensures { IfOk result (λ ask. ask ≡ spec.decide (view value.now)) }
+{
+    let Some(cite) = number_at(value, "cite") else {
+        return Ok(None);
+    };
+    let Some(txn) = number_at(value, "txn") else {
+        return Ok(None);
+    };
+    let Some(verdict) = verdict_at(alloc, value)? else {
+        return Ok(None);
+    };
+    Ok(Some(WorkAsk::Decide { txn, verdict, cite }))
+}
+
+fn release(value: &Value) -> Option<WorkAsk>
+    ensures { result ≡ spec.release (view value.now) }
+{
+    let txn = number_at(value, "txn")?;
+    Some(WorkAsk::Release { txn })
+}
+
+fn peek(value: &Value) -> Option<WorkAsk>
+    ensures { result ≡ spec.peek (view value.now) }
+{
+    let file = file_at(value, "file")?;
+    Some(WorkAsk::Peek { file })
+}
+
+fn from_at(value: &Value) -> Option<CitedVote>
+    ensures { result ≡ spec.from_at (view value.now) }
+{
+    let cited = value.get("from")?;
+    citation(cited)
+}
+
+fn refresh(alloc: Global, value: &Value) -> Result<Option<WorkAsk>, Memory>
+    ensures { IfOk result (λ ask. ask ≡ spec.refresh one (view value.now)) }
+{
+    let Some(file) = file_at(value, "file") else {
+        return Ok(None);
+    };
+    let Some(from) = from_at(value) else {
+        return Ok(None);
+    };
+    let Some(version) = number_at(value, "version") else {
+        return Ok(None);
+    };
+    let Some(content) = content_at(alloc, value, "content")? else {
+        return Ok(None);
+    };
+    Ok(Some(WorkAsk::Refresh {
+        file,
+        version,
+        content,
+        from,
+    }))
+}

@@ -1,0 +1,157 @@
+ghost use Rattle.std.specs.Prelude.{◌≡◌, IfOk};
+ghost use Rattle.serde_json.specs.View.{view};
+ghost use Rattle.tq_form.specs.Format.{one};
+ghost use Rattle.tq_form.specs.NodeReplies as spec;
+
+use crate::content::{content_at, file_at};
+use crate::locking::{held_at, writes_at};
+use crate::member::{is_text, number_at, text_at};
+use serde_json::Value;
+use std::alloc::Global;
+use tq_node::{NodeRefusal, NodeReply};
+use tq_shape::Memory;
+
+/// The reply of a server that the value is: `None` where it is none.
+pub(crate) fn node_reply(alloc: Global, value: &Value) -> Result<Option<NodeReply>, Memory>
+    ensures { IfOk result (λ reply. reply ≡ spec.node_reply one (view value.now)) }
+{
+    let Some(kind) = text_at(value, "is") else {
+        return Ok(None);
+    };
+    Ok(node_reply_by(alloc, kind, value)?)
+}
+
+fn node_reply_by(alloc: Global, kind: &str, value: &Value) -> Result<Option<NodeReply>, Memory>
+    ensures { IfOk result (λ reply. reply ≡ spec.node_reply_by one kind.now (view value.now)) }
+{
+    if is_text(kind, "granted") {
+        return Ok(granted(alloc, value)?);
+    }
+    if is_text(kind, "yes") {
+        return Ok(yes_vote(alloc, value)?);
+    }
+    if is_text(kind, "copy") {
+        return Ok(copy(alloc, value)?);
+    }
+    if is_text(kind, "refused") {
+        return Ok(refused(value));
+    }
+    Ok(bare_reply(kind))
+}
+
+/// The replies without further members.
+fn bare_reply(kind: &str) -> Option<NodeReply>
+    ensures { result ≡ spec.bare_reply kind.now }
+{
+    if is_text(kind, "installed") {
+        return Some(NodeReply::Installed);
+    }
+    if is_text(kind, "discarded") {
+        return Some(NodeReply::Discarded);
+    }
+    if is_text(kind, "released") {
+        return Some(NodeReply::Released);
+    }
+    if is_text(kind, "refreshed") {
+        return Some(NodeReply::Refreshed);
+    }
+    if is_text(kind, "crashed") {
+        return Some(NodeReply::Crashed);
+    }
+    if is_text(kind, "returned") {
+        return Some(NodeReply::Returned);
+    }
+    None
+}
+
+fn granted(alloc: Global, value: &Value) -> Result<Option<NodeReply>, Memory>
+    ensures { IfOk result (λ reply. reply ≡ spec.granted one (view value.now)) }
+{
+    let Some(version) = number_at(value, "version") else {
+        return Ok(None);
+    };
+    let Some(content) = content_at(alloc, value, "content")? else {
+        return Ok(None);
+    };
+    Ok(Some(NodeReply::Granted { version, content }))
+}
+
+fn copy(alloc: Global, value: &Value) -> Result<Option<NodeReply>, Memory>
+    ensures { IfOk result (λ reply. reply ≡ spec.copy one (view value.now)) }
+{
+    let Some(version) = number_at(value, "version") else {
+        return Ok(None);
+    };
+    let Some(content) = content_at(alloc, value, "content")? else {
+        return Ok(None);
+    };
+    Ok(Some(NodeReply::Copy { version, content }))
+}
+
+fn yes_vote(alloc: Global, value: &Value) -> Result<Option<NodeReply>, Memory>
+    ensures { IfOk result (λ reply. reply ≡ spec.yes_vote one (view value.now)) }
+{
+    let Some(held) = held_at(alloc, value)? else {
+        return Ok(None);
+    };
+    let Some(writes) = writes_at(alloc, value)? else {
+        return Ok(None);
+    };
+    Ok(Some(NodeReply::Yes { held, writes }))
+}
+
+fn refused(value: &Value) -> Option<NodeReply>
+    ensures { result ≡ spec.node_refused (view value.now) }
+{
+    let refusal = refusal(value)?;
+    Some(NodeReply::Refused(refusal))
+}
+
+fn refusal(value: &Value) -> Option<NodeRefusal>
+    ensures { result ≡ spec.node_refusal (view value.now) }
+{
+    let code = number_at(value, "code")?;
+    refusal_by(code, value)
+}
+
+fn refusal_by(code: u64, value: &Value) -> Option<NodeRefusal>
+    ensures { result ≡ spec.node_refusal_by code (view value.now) }
+{
+    if code == 14 {
+        return held_by(value);
+    }
+    if code == 16 {
+        return not_locked(value);
+    }
+    code_refusal(code)
+}
+
+fn held_by(value: &Value) -> Option<NodeRefusal>
+    ensures { result ≡ spec.held_by (view value.now) }
+{
+    let by = number_at(value, "by")?;
+    Some(NodeRefusal::Held { by })
+}
+
+fn not_locked(value: &Value) -> Option<NodeRefusal>
+    ensures { result ≡ spec.not_locked (view value.now) }
+{
+    let file = file_at(value, "file")?;
+    Some(NodeRefusal::NotLocked { file })
+}
+
+/// The refusals that tell no more than their code.
+fn code_refusal(code: u64) -> Option<NodeRefusal>
+    ensures { result ≡ spec.code_refusal code }
+{
+    match code {
+        11 => Some(NodeRefusal::Down),
+        12 => Some(NodeRefusal::AlreadyUp),
+        13 => Some(NodeRefusal::AlreadyDown),
+        15 => Some(NodeRefusal::Prepared),
+        17 => Some(NodeRefusal::BadWrites),
+        18 => Some(NodeRefusal::NotNewer),
+        19 => Some(NodeRefusal::NothingHere),
+        _ => None,
+    }
+}

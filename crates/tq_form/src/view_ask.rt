@@ -1,0 +1,46 @@
+ghost use Rattle.std.specs.Prelude.{◌≡◌};
+ghost use Rattle.serde_json.specs.View.{view};
+ghost use Rattle.tq_form.specs.Views as spec;
+
+use crate::member::{flag_at, is_text, number_at, text_at};
+use serde_json::Value;
+use tq_live::ViewAsk;
+
+/// The ask of the view that the value is: `None` where it is none.
+pub(crate) fn view_ask(value: &Value) -> Option<ViewAsk>
+    ensures { result ≡ spec.view_ask (view value.now) }
+{
+    let kind = text_at(value, "is")?;
+    view_ask_by(kind, value)
+}
+
+fn view_ask_by(kind: &str, value: &Value) -> Option<ViewAsk>
+    ensures { result ≡ spec.view_ask_by kind.now (view value.now) }
+{
+    if is_text(kind, "setcost") {
+        return set_cost(value);
+    }
+    if is_text(kind, "mark") {
+        return mark(value);
+    }
+    if is_text(kind, "choose") {
+        return Some(ViewAsk::Choose);
+    }
+    None
+}
+
+fn set_cost(value: &Value) -> Option<ViewAsk>
+    ensures { result ≡ spec.set_cost (view value.now) }
+{
+    let cost = number_at(value, "cost")?;
+    let server = number_at(value, "server")?;
+    Some(ViewAsk::SetCost { server, cost })
+}
+
+fn mark(value: &Value) -> Option<ViewAsk>
+    ensures { result ≡ spec.mark (view value.now) }
+{
+    let server = number_at(value, "server")?;
+    let up = flag_at(value, "up")?;
+    Some(ViewAsk::Mark { server, up })
+}
