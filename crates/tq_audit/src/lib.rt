@@ -2,3 +2,6 @@
 #![tactic(auto)]
 
 mod reading;
+mod verdict;
+
+pub use verdict::Verdict;

@@ -24,6 +24,6 @@ returns-in_err-extend_from_slice-clause-bytes g c =
     let piece = take c.in-Ok.count c.read.new.buffer in (
       bytes ++ piece,
       Appends-then (given c.args.reader.now) (given c.loop-count.reader) (given c.read.new.self) bytes piece c.loop-count.invariant.read c.in-Ok.ensures.bytes,
-      never_ok _ _ c.from_residual.result c.from_residual.ensures,
-      memory_fault c.from_residual.result _ _ _ c.from_residual.ensures (c.in-Ok.ensures.counts ∙ c.loop-count.invariant.same),
+      never_ok _ _ c.from_residual.result c.from_residual.ensures.1,
+      memory_fault c.from_residual.result _ _ _ c.from_residual.ensures.1 (c.in-Ok.ensures.counts ∙ c.loop-count.invariant.same),
     )
