@@ -1,4 +1,4 @@
-use Rattle.std.proofs.Common.{◌≡◌, ◌++◌, ◌∙◌, length, take, arith, length-append}
+use Rattle.std.proofs.Common.{◌++◌, ◌∙◌, take, arith, length-append}
 use Rattle.std.proofs.lemmas.List.{length-take-le}
 use Rattle.tq_devices.proofs.Written.{Appends-then}
 use Rattle.tq_audit.proofs.ReadingLaws.{memory_fault, never_ok}
