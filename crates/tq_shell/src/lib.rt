@@ -1,4 +1,4 @@
-//! Lines in, answers out: the shell of a tree of servers.
+//! Lines in, answers out: the shell of a tree of servers; and the audit of journal files.
 #![tactic(auto)]
 
 mod receiver;
@@ -7,6 +7,7 @@ mod shell;
 
 pub use runner::{INPUT_LIMIT, run};
 pub use shell::Shell;
+pub use tq_audit::audit;
 pub use tq_client::{Ending, Kept};
 pub use tq_devices::{Failed, MemorySink, MemorySource, Reading, RunFault, Sink, Source, Writing};
 pub use tq_lines::{LINE_LIMIT, Line, TxnLine, numbers_are_read_again};
