@@ -1,10 +1,10 @@
-//! The program `tq`: the shell of a tree of servers over the standard streams.
+//! The program `tq`: the shell of a tree of servers and the audit of journal files, over the standard streams.
 #![tactic(auto)]
 
 use std::process::ExitCode;
 use std::{env, io};
 use tq_shape::Levels;
-use tq_shell::{Reading, RunFault, Words, WordsFault, Writing, run};
+use tq_shell::{Reading, RunFault, Words, WordsFault, Writing, audit, run};
 
 /// The status of what was done.
 const DONE: u8 = 0;
@@ -47,6 +47,7 @@ fn refuse_unread(rt: &HostRuntime, error: io::Error) -> ExitCode {
 fn obey(rt: &HostRuntime, words: Words) -> ExitCode {
     match words {
         Words::Shell { levels } => shell(rt, levels),
+        Words::Audit => audit_file(rt),
     }
 }
 
@@ -55,6 +56,16 @@ fn shell(rt: &HostRuntime, levels: Levels) -> ExitCode {
     let mut writer = Writing::new(io::writer(rt));
     match run(rt.alloc(), levels, &mut reader, &mut writer) {
         Ok(()) => ExitCode::SUCCESS,
+        Err(fault) => say_fault(rt, fault),
+    }
+}
+
+/// Audits the journal file of the standard input.
+fn audit_file(rt: &HostRuntime) -> ExitCode {
+    let mut reader = Reading::new(rt.reader());
+    let mut writer = Writing::new(io::writer(rt));
+    match audit(rt.alloc(), &mut reader, &mut writer) {
+        Ok(status) => ExitCode::from(status),
         Err(fault) => say_fault(rt, fault),
     }
 }

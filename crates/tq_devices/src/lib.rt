@@ -2,9 +2,13 @@
 #![tactic(auto)]
 
 mod device;
+mod fault;
 mod memory;
 mod standard;
+mod writing;
 
 pub use device::{Failed, Sink, Source};
+pub use fault::RunFault;
 pub use memory::{MemorySink, MemorySource};
 pub use standard::{Reading, Writing};
+pub use writing::write_out;

@@ -1,6 +1,5 @@
 mod StreamLaws
 mod Pieces
-mod Written
 mod RunLaws
 mod Answering
 mod Learned

@@ -6,11 +6,12 @@ use Rattle.std.specs.Io.KnownBytes.{Appends, Keeps}
 use Rattle.tq_shell.specs.Text.{text_of, whole_text}
 use Rattle.tq_shell.specs.Stream.{Received, nothing_received, received_all, answers_to, answer_to_last}
 use Rattle.std.specs.Result.{IsErrAnd}
-use Rattle.tq_shell.specs.Run.{IsRunText, IsWritten, IsGoing}
-use Rattle.tq_shell.specs.declared.runner.RunFault.{RunFault}
-use Rattle.tq_shell.specs.declared.runner.RunFault.TheVariants.{Memory, Read, Write, TooLong}
+use Rattle.tq_devices.specs.Faults.{IsWritten}
+use Rattle.tq_shell.specs.Run.{IsRunText, IsGoing}
+use Rattle.tq_devices.specs.declared.fault.RunFault.{RunFault}
+use Rattle.tq_devices.specs.declared.fault.RunFault.TheVariants.{Memory, Read, Write, TooLong}
 use Rattle.tq_shell.proofs.StreamLaws.{received_all-append, answers_to-append, whole_text-answers, text_of-answers}
-use Rattle.tq_shell.proofs.Written.{Appends-kept, Appends-none, Appends-then}
+use Rattle.tq_devices.proofs.Written.{Appends-kept, Appends-none, Appends-then}
 
 -- the clause of a run
 abbrev pub HasRun : {T : Type 0} → Result T RunFault → ℕ → Option (List ℕ) → Option (List ℕ) → Option (List ℕ) → Option (List ℕ) → Type 0

@@ -3,8 +3,8 @@ use Rattle.std.specs.Prelude.{◌≡◌, ℕ, ◌+◌, ◌<◌, ◌≤◌, List,
 use Rattle.std.specs.Io.KnownBytes.{Appends}
 use Rattle.tq_shell.specs.Text.{text_of, whole_text}
 use Rattle.tq_shell.specs.Stream.{Received, nothing_received, received_all, answers_to}
-use Rattle.tq_shell.specs.declared.runner.RunFault.{RunFault}
-use Rattle.tq_shell.specs.declared.runner.RunFault.TheVariants.{Memory, Read, Write, TooLong}
+use Rattle.tq_devices.specs.declared.fault.RunFault.{RunFault}
+use Rattle.tq_devices.specs.declared.fault.RunFault.TheVariants.{Memory, Read, Write, TooLong}
 
 -- levels, bytes read, text written
 abbrev pub IsRunText : {T : Type 0} → Result T RunFault → ℕ → List ℕ → List ℕ → Type 0
@@ -15,23 +15,6 @@ IsRunText (Err Read) levels bytes text = text ≡ whole_text levels bytes
 -- a prefix of the text
 IsRunText (Err Write) levels bytes text = (rest : List ℕ) × (text ++ rest ≡ text_of levels bytes)
 IsRunText (Err TooLong) levels bytes text = (16777216 < length bytes) × (text ≡ whole_text levels (take 16777216 bytes))
-
--- failures of the source before and after, and of the sink
-abbrev pub IsRunCount : {T : Type 0} → Result T RunFault → ℕ → ℕ → ℕ → ℕ → Type 0
-IsRunCount (Ok done) reads reads_after writes writes_after = (reads_after ≡ reads) × (writes_after ≡ writes)
-IsRunCount (Err Memory) reads reads_after writes writes_after = (reads_after ≡ reads) × (writes_after ≡ writes)
-IsRunCount (Err Read) reads reads_after writes writes_after = (reads_after ≡ reads + 1) × (writes_after ≡ writes)
-IsRunCount (Err Write) reads reads_after writes writes_after = (reads_after ≡ reads) × (writes_after ≡ writes + 1)
-IsRunCount (Err TooLong) reads reads_after writes writes_after = (reads_after ≡ reads) × (writes_after ≡ writes)
-
--- all the bytes are written, or a front of them and the sink failed
-abbrev pub IsWritten : {T : Type 0} → Result T RunFault → List ℕ → Option (List ℕ) → Option (List ℕ) → ℕ → ℕ → Type 0
-IsWritten (Ok done) bytes taken taken_after failed failed_after = Appends taken taken_after bytes × (failed_after ≡ failed)
-IsWritten (Err Write) bytes taken taken_after failed failed_after =
-    (count : ℕ) × Appends taken taken_after (take count bytes) × (failed_after ≡ failed + 1)
-IsWritten (Err Memory) bytes taken taken_after failed failed_after = ⊥
-IsWritten (Err Read) bytes taken taken_after failed failed_after = ⊥
-IsWritten (Err TooLong) bytes taken taken_after failed failed_after = ⊥
 
 -- where a run stands before a read: what the source has given is received, and what that says is written
 pub record IsGoing (levels : ℕ) (given given_now taken taken_now : Option (List ℕ)) (received : Received) (left : ℕ) : Type 0 where

@@ -2,43 +2,15 @@ ghost use Rattle.std.specs.Prelude.{◌≡◌, ◌+◌, ◌-◌, ◌^◌, ◌<�
 ghost use Rattle.std.specs.Io.KnownBytes.{Appends};
 ghost use Rattle.tq_shell.specs.Answer.{opening};
 ghost use Rattle.tq_shell.specs.History.{IsLearned};
-ghost use Rattle.tq_shell.specs.Run.{IsRunText, IsRunCount, IsWritten};
+ghost use Rattle.tq_devices.specs.Faults.{IsRunCount};
+ghost use Rattle.tq_shell.specs.Run.{IsRunText};
 ghost use Rattle.tq_shell.specs.Stream.{nothing_received};
 ghost use Rattle.tq_lines.specs.declared.line.Line.{Line};
 
 use crate::receiver::Receiver;
-use std::alloc::{AllocError, Global};
-use thiserror::Error;
-use tq_devices::{Failed, Sink, Source};
+use std::alloc::Global;
+use tq_devices::{RunFault, Sink, Source, write_out};
 use tq_shape::Levels;
-
-/// Why a run ended before its source did.
-#[derive(Clone, Copy, Debug, PartialEq, Eq, Error)]
-pub enum RunFault {
-    /// Memory was refused.
-    #[error("fault memory")]
-    Memory,
-    /// The source failed.
-    #[error("fault read")]
-    Read,
-    /// The sink failed.
-    #[error("fault write")]
-    Write,
-    /// The source gave more bytes than a run takes.
-    #[error("fault too long")]
-    TooLong,
-}
-
-impl From<AllocError> for RunFault {
-    ghost use Rattle.std.specs.Prelude.{◌≡◌};
-    ghost use Rattle.tq_shell.specs.declared.runner.RunFault.TheVariants as variants;
-
-    ghost from_gives = { λ _ fault. fault ≡ variants.Memory };
-
-    fn from(_error: AllocError) -> RunFault {
-        RunFault::Memory
-    }
-}
 
 /// The most bytes that a run takes.
 pub const INPUT_LIMIT: usize = 16_777_216;
@@ -100,19 +72,4 @@ fn answer_pieces<R: Source, W: Sink>(
         text.clear();
         left -= count;
     }
-}
-
-/// Writes all the bytes, or a front of them where the sink fails.
-fn write_out<W: Sink>(writer: &mut W, bytes: &[u8]) -> Result<(), RunFault>
-    requires { W.failed writer.old < 2 ^ 64 - 1 }
-    ensures { IsWritten result bytes.now (W.taken writer.old) (W.taken writer.new) (W.failed writer.old) (W.failed writer.new) }
-{
-    let mut rest = bytes;
-    while !rest.is_empty() {
-        match writer.write(rest) {
-            Ok(count) => rest = &rest[count..],
-            Err(Failed) => return Err(RunFault::Write),
-        }
-    }
-    Ok(())
 }

@@ -28,7 +28,7 @@ use Rattle.clap.proofs.WalkLemmas.{one_text-rows}
 use Rattle.clap.proofs.ValueTestLemmas.{accepts-Accepts}
 use Rattle.clap.proofs.CallerReads.{signed_reads}
 use Rattle.tq_words.specs.declared.command.WordsFault.{WordsFault}
-use Rattle.tq_words.specs.Command.{CanAsk, IsRefused, fault_by, fault_for, HasNumber, IsGiven, number_rule, shell_app, tq_app}
+use Rattle.tq_words.specs.Command.{CanAsk, IsRefused, fault_by, fault_for, HasNumber, IsGiven, number_rule, audit_app, shell_app, tq_app}
 use Rattle.tq_words.proofs.ParseLaws.{Keeps, both_none, level_kept}
 
 -- a fact of each row
@@ -153,6 +153,10 @@ number_read E G bits found name least most read has reads only fits =
 abbrev shell : Shape
 shell = unwrap_or (slice_get (built tq_app).subs 0) shell_app.top
 
+-- and `audit`
+abbrev audit : Shape
+audit = unwrap_or (slice_get (built tq_app).subs 1) audit_app.top
+
 level_clean : (first below third fourth last : Kinds) → or_else first (or_else below (or_else third (or_else fourth last))) ≡ [] → (below ≡ []) × (last ≡ [])
 level_clean first below third fourth last clean =
     let walked = both_none first _ clean in
@@ -174,13 +178,21 @@ shell_has_levels words clean =
     let kept = level_kept (EachRow (Fits (codes "levels") 1 6)) shell (number_keeps (codes "levels") 1 6 true false, (help_keeps (codes "levels") 1 6 false, tt)) [] nothing_held words false [] clean tt in
     number_given (codes "levels") 1 6 rows kept.0 (given_by (is_given (codes "levels") rows) kept.1)
 
-shell_by : (words : List Text) (is : Bool) → option_map_or (λ s. level_fault s [] nothing_held words false []) (cond is (Some shell) None) [] ≡ [] → is_some (option_map (λ s. rows_at s words) (cond is (Some shell) None)) ≡ true → CanAsk (option_map (λ s. rows_at s words) (cond is (Some shell) None))
-shell_by words true clean there = ((rows_at shell words).1, refl, shell_has_levels words clean)
-shell_by words false clean there = absurd cc
+shell_by : (words : List Text) (is : Bool) (later : Option Shape) → (is_some (option_map (λ s. rows_at s words) later) ≡ true → CanAsk (option_map (λ s. rows_at s words) later))
+    → option_map_or (λ s. level_fault s [] nothing_held words false []) (cond is (Some shell) later) [] ≡ [] → is_some (option_map (λ s. rows_at s words) (cond is (Some shell) later)) ≡ true
+    → CanAsk (option_map (λ s. rows_at s words) (cond is (Some shell) later))
+shell_by words true later asks clean there = inl ((rows_at shell words).1, refl, shell_has_levels words clean)
+shell_by words false later asks clean there = asks there
+
+audit_by : (words : List Text) (is : Bool) → is_some (option_map (λ s. rows_at s words) (cond is (Some audit) None)) ≡ true → CanAsk (option_map (λ s. rows_at s words) (cond is (Some audit) None))
+audit_by words true there = inr ((rows_at audit words).1, refl)
+audit_by words false there = absurd cc
 
 stop_asks : (stop : Option (Text × List Text)) → entered_fault (built tq_app) stop ≡ [] → is_some (entered (built tq_app) stop) ≡ true → CanAsk (entered (built tq_app) stop)
 stop_asks None clean there = absurd cc
-stop_asks (Some p) clean there = shell_by p.1 (answers_to p.0 (label_of shell)) clean there
+stop_asks (Some p) clean there =
+    let is_audit = answers_to p.0 (label_of audit) in
+    shell_by p.1 (answers_to p.0 (label_of shell)) (cond is_audit (Some audit) None) (audit_by p.1 is_audit) clean there
 
 -- words without a fault name a subcommand, with the options that it needs
 pub can_ask : (words : List Text) → fault_of tq_app words ≡ [] → CanAsk (subcommand_of tq_app words)

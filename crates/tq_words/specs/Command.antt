@@ -1,5 +1,5 @@
 -- The words of the command line, as clap reads them.
-use Rattle.std.specs.Prelude.{◌≡◌, ℕ, Bool, true, List, [], map, String, Option, Some, pos, codes}
+use Rattle.std.specs.Prelude.{◌≡◌, ◌⊎◌, ℕ, Bool, true, List, [], map, String, Option, Some, pos, codes}
 use Rattle.std.specs.Str.Parse.{digits_value, without_leading_plus}
 use Rattle.clap.specs.Words.{App, IsAmong, IsSignedIn, Row, Rule, Text, fault_of, kind_of, new_app, new_rule, one_of, subcommand_of, with_rule, without_minus, with_subcommand}
 use Rattle.clap.specs.Simple.{on_top}
@@ -10,7 +10,7 @@ use Rattle.clap.specs.declared.error.kind.ErrorKind.{ErrorKind}
 use Rattle.clap.specs.declared.error.kind.ErrorKind.TheVariants.{OutOfMemory}
 use Rattle.std.specs.String.{string_bytes}
 use Rattle.tq_words.specs.declared.command.Words.{Words}
-use Rattle.tq_words.specs.declared.command.Words.TheVariants.{Shell}
+use Rattle.tq_words.specs.declared.command.Words.TheVariants.{Shell, Audit}
 use Rattle.tq_words.specs.declared.command.WordsFault.{WordsFault}
 use Rattle.tq_words.specs.declared.command.WordsFault.TheVariants.{Memory, Refused}
 
@@ -31,11 +31,15 @@ levels_rule = number_rule (codes "levels") 1 6 true
 abbrev pub shell_app : App
 shell_app = with_rule (new_app (codes "shell")) levels_rule
 
+-- `audit`, which has no options
+abbrev pub audit_app : App
+audit_app = new_app (codes "audit")
+
 -- the program's words: a subcommand with its options
 abbrev pub tq_app : App
 tq_app =
-    with_subcommand (on_top (λ top. record top { has_version = true; disable_help_subcommand = true; subcommand_required = true }) (new_app (codes "tq")))
-    shell_app.top
+    let tq = on_top (λ top. record top { has_version = true; disable_help_subcommand = true; subcommand_required = true }) (new_app (codes "tq")) in
+    with_subcommand (with_subcommand tq shell_app.top) audit_app.top
 
 -- the number that was given under this name
 abbrev pub IsGiven : Text → List Row → ℕ → Type 0
@@ -48,10 +52,13 @@ HasNumber name least most rows = (text : Text) × (one_of name rows ≡ Some (wi
 -- the subcommand that was found, with its options, asks for this
 abbrev pub AsksFor : Option (Text × List Row) → Words → Type 0
 AsksFor found (Shell levels) = (rows : List Row) × (found ≡ Some (codes "shell", rows)) × IsGiven (codes "levels") rows levels
+AsksFor found Audit = (rows : List Row) × (found ≡ Some (codes "audit", rows))
 
 -- a subcommand of the program was found, with the options that it needs
 abbrev pub CanAsk : Option (Text × List Row) → Type 0
-CanAsk found = (rows : List Row) × (found ≡ Some (codes "shell", rows)) × HasNumber (codes "levels") 1 6 rows
+CanAsk found =
+    ((rows : List Row) × (found ≡ Some (codes "shell", rows)) × HasNumber (codes "levels") 1 6 rows)
+    ⊎ ((rows : List Row) × (found ≡ Some (codes "audit", rows)))
 
 abbrev pub texts_of : {Z : Type 0} → List (String Z) → List Text
 texts_of words = map string_bytes words

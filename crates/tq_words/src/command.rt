@@ -1,7 +1,7 @@
 ghost use Rattle.std.specs.Prelude.{◌≡◌, IfOk, false, codes};
 ghost use Rattle.clap.specs.Words.{app_of, found_of, rows_of, rule_of};
 ghost use Rattle.clap.specs.declared.builder.command.Command.TheViews.{out-Command};
-ghost use Rattle.tq_words.specs.Command.{HasNumber, IsGiven, levels_rule, shell_app, tq_app};
+ghost use Rattle.tq_words.specs.Command.{HasNumber, IsGiven, audit_app, levels_rule, shell_app, tq_app};
 
 use clap::error::ErrorKind;
 use clap::{Arg, ArgAction, ArgMatches, Command, Error};
@@ -13,6 +13,8 @@ use tq_shape::Levels;
 pub enum Words {
     /// Lines are answered, over a tree of so many levels.
     Shell { levels: Levels },
+    /// A journal file is audited.
+    Audit,
 }
 
 /// Why words ask for nothing.
@@ -75,7 +77,7 @@ impl Words {
             Some(shell) => Words::Shell {
                 levels: levels_of(shell),
             },
-            None => unreachable!(),
+            None => Words::Audit,
         }
     }
 }
@@ -99,13 +101,15 @@ fn tq_command<'a>(alloc: Global) -> Result<Command<'a>, AllocError>
     ensures { IfOk result (λ command. app_of command ≡ tq_app) }
 {
     let shell = shell_command(alloc)?;
+    let audit = audit_command(alloc);
     Command::new(alloc, "tq")
         .about(ABOUT)
         .after_help(LINES)
         .version("0.1.0")
         .subcommand_required(true)
         .disable_help_subcommand(true)
-        .subcommand(shell)
+        .subcommand(shell)?
+        .subcommand(audit)
 }
 
 /// `shell --levels N`.
@@ -117,6 +121,16 @@ fn shell_command<'a>(alloc: Global) -> Result<Command<'a>, AllocError>
         .about("Reads lines from standard input and answers each")
         .after_help(LINES)
         .arg(levels_argument(alloc))
+}
+
+/// `audit`.
+fn audit_command<'a>(alloc: Global) -> Command<'a>
+    ensures app { app_of result ≡ audit_app }
+    ensures local { (out-Command result).has_globals ≡ false }
+{
+    Command::new(alloc, "audit")
+        .about("Reads a journal file from standard input and says whether one run explains it")
+        .after_help(AUDITS)
 }
 
 fn levels_argument<'a>(alloc: Global) -> Arg<'a>
@@ -169,3 +183,20 @@ prints
 
 Status: 0 at the end of the input, 1 after a fault (want of memory, a failed
 read or write, more than 16777216 bytes), 2 where the words are refused.";
+
+const AUDITS: &str = "\
+A journal file tells, as JSON, what each part of a system was asked and what it
+replied. One run explains it where each reply is the one that the part gives,
+and the asks can be put in one order so that each finds before it the entries
+of other parts that it cites.
+
+Answers, in one line:
+  explained E                 such an order exists, of all E entries
+  wrong P entry N             the part (server S, desk or view) does not give
+                              this reply, and gives all replies before it
+  stuck C.. desk D view V     all replies are given, but there is no such order;
+                              at most so many entries of each part have one
+  unreadable                  it is no journal file
+
+Status: 0 explained, 3 wrong or stuck, 4 unreadable, 1 after a fault (want of
+memory, a failed read or write, more than 67108864 bytes).";

@@ -1,6 +1,6 @@
 use Rattle.std.proofs.Common.{◌≡◌, ◌≤◌, ◌-◌, length, take, drop, ◌∙◌, arith, rules}
 use Rattle.std.proofs.lemmas.List.{length-take-le}
-use Rattle.tq_shell.specs.declared.runner.RunFault.TheVariants.{Memory}
+use Rattle.tq_devices.specs.declared.fault.RunFault.TheVariants.{Memory}
 use Rattle.tq_shell.proofs.RunLaws.{by_fault, piece_splits, behind_some, ends_read, ends_memory, ends_last, ends_piece, goes_on, ends_too_long}
 use Rattle.tq_shell.proofs.runner.answer_pieces.Goals as goal
 

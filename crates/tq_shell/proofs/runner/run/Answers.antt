@@ -1,6 +1,6 @@
 use Rattle.std.proofs.Common.{rules}
 use Rattle.tq_shell.specs.Answer.{opening}
-use Rattle.tq_shell.specs.declared.runner.RunFault.TheVariants.{Memory}
+use Rattle.tq_devices.specs.declared.fault.RunFault.TheVariants.{Memory}
 use Rattle.tq_shell.proofs.Learned.{is_learned}
 use Rattle.tq_shell.proofs.RunLaws.{by_fault, ends_before}
 use Rattle.tq_shell.proofs.runner.run.Goals as goal

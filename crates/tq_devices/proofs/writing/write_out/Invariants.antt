@@ -1,6 +1,6 @@
 use Rattle.std.proofs.Common.{◌≡◌, ℕ, length, take, drop}
 use Rattle.std.specs.Io.KnownBytes.{Appends}
-use Rattle.tq_shell.proofs.runner.write_out.Given as goal
+use Rattle.tq_devices.proofs.writing.write_out.Given as goal
 
 -- a front of the bytes is written, and the rest is left
 abbrev pub invariant-loop-rest : goal.invariant-loop-rest

@@ -1,6 +1,6 @@
 -- What devices gave and took, one call after another.
 use Rattle.std.proofs.Common.{◌≡◌, ℕ, ◌+◌, ◌-◌, ◌≤◌, List, [], ◌++◌, Some, None, Option, length, drop, take, sym, ap, subst, ◌∙◌, arith, append_assoc}
-use Rattle.std.proofs.lemmas.List.{append-nil, take-append-drop, take_all, take_at, drop-drop, length-drop, length-take-le}
+use Rattle.std.proofs.lemmas.List.{append-nil, take_all, drop-drop, length-drop}
 use Rattle.std.proofs.Math.Seq.{take-add}
 use Rattle.std.specs.Io.KnownBytes.{Appends, Keeps}
 
@@ -24,7 +24,6 @@ written_on bytes rest old mid new place count is within first then =
     let Q : List ℕ → Type 0 = λ list. Appends old new list in
     (place + count, all ∙ ap (drop count) is ∙ drop-drop count place bytes, subst Q (sym (take-add place count bytes)) both)
 
--- a piece of bytes in memory, copied into a buffer
 -- a call that moved no byte adds nothing
 pub Appends-kept : (old mid new : Option (List ℕ)) (bytes : List ℕ) → Appends old mid bytes → Keeps mid new → Appends old new bytes
 Appends-kept None mid new bytes first kept = tt

@@ -1,6 +1,6 @@
 use Rattle.std.proofs.Common.{◌∙◌}
-use Rattle.tq_shell.proofs.Written.{written_on}
-use Rattle.tq_shell.proofs.runner.write_out.Goals as goal
+use Rattle.tq_devices.proofs.Written.{written_on}
+use Rattle.tq_devices.proofs.writing.write_out.Goals as goal
 
 pub loop-rest-preserved : goal.loop-rest-preserved
 loop-rest-preserved g c =

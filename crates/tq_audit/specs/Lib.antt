@@ -1,0 +1,4 @@
+pub mod Reading
+pub mod Texts
+pub mod Verdicts
+pub mod Audit
