@@ -8,7 +8,7 @@ use Rattle.tq_txn.specs.Dialogue.{Ends, AsksNode, AsksDesk, AsksView}
 use Rattle.tq_shell.specs.Answer.{World, answer}
 use Rattle.tq_shell.specs.Asked.{asked}
 use Rattle.tq_asking.specs.Asking.{run_line, node_told, desk_told, view_told}
-use Rattle.tq_shell.specs.History.{end_of, known_by, learn, history, world_after, IsLearned}
+use Rattle.tq_shell.specs.History.{end_of, known_by, learn, history, IsLearned}
 use Rattle.tq_lines.specs.declared.line.Line.{Line}
 
 -- a line that was run ended as its asks and the answers say

@@ -1,6 +1,6 @@
 -- What is known of the transactions is learned from the lines, their asks and the answers, and from nothing else. (The
 -- journals are the asks before with their answers.)
-use Rattle.std.specs.Prelude.{◌≡◌, ℕ, List, [], ◌∷◌, Option, Some, None, fold}
+use Rattle.std.specs.Prelude.{◌≡◌, List, [], ◌∷◌, Option, Some, None, fold}
 use Rattle.tq_tables.specs.Journals.{JournalsView}
 use Rattle.tq_txn.specs.declared.asker.Exchange.{Exchange}
 use Rattle.tq_txn.specs.declared.asker.Exchange.TheVariants as exchanges

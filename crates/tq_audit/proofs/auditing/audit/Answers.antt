@@ -19,6 +19,6 @@ returns-in_err-write_out-clause-text g c =
     let P : List ℕ → Type 0 = λ bytes. IsVerdict bytes c.in_ok-verdict.verdict in
     let found = subst P (c.as_slice.ensures.value ∙ read.2.0) c.in_ok-verdict.ensures in
     let wrote =
-        ends_write fault read.0 c.as_slice-2.result.now c.in_ok-verdict.verdict (taken c.args.writer.now) (taken c.write_out.new.writer) (failed c.args.writer.now) (failed c.write_out.new.writer) found
-            (c.as_slice-2.ensures.value ∙ c.in_ok-line.ensures) read.2.1 c.in_err-write_out.ensures in
+    ends_write fault read.0 c.as_slice-2.result.now c.in_ok-verdict.verdict (taken c.args.writer.now) (taken c.write_out.new.writer) (failed c.args.writer.now) (failed c.write_out.new.writer) found
+    (c.as_slice-2.ensures.value ∙ c.in_ok-line.ensures) read.2.1 c.in_err-write_out.ensures in
     (read.0, wrote.0, read.1, wrote.1, by_fault c.from_residual-in_err-write_out.result fault read.0 wrote.0 c.from_residual-in_err-write_out.ensures.1 wrote.2)

@@ -1,4 +1,4 @@
-use Rattle.std.proofs.Common.{◌≡◌, ◌∙◌, ◌++◌, [], length, sym, ap, arith, append_assoc}
+use Rattle.std.proofs.Common.{◌≡◌, ◌∙◌, ◌++◌, [], sym, ap, arith, append_assoc}
 use Rattle.tq_shell.specs.Stream.{Received, grown, received_all, answers_to}
 use Rattle.tq_shell.proofs.Pieces.{grown-none, received-goes_on, answers-go_on, received-ends, answers-end}
 use Rattle.tq_shell.proofs.receiver.Receiver.receive.Goals as goal
