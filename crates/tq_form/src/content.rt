@@ -6,7 +6,7 @@ ghost use Rattle.tq_form.specs.Content as spec;
 use hex::FromHexError;
 use std::alloc::{AllocError, Global};
 use tq_shape::Memory;
-use tq_store::{Content, FileName};
+use tq_store::{Content, FileName, MAX_CONTENT};
 use tq_value::{Value, text_at};
 
 /// The name of a file that the object has at the name.
@@ -38,10 +38,13 @@ pub(crate) fn content_at(
     Ok(content_of(alloc, text)?)
 }
 
-/// The content that the text is.
+/// The content that the text is. A text with more digits than a content has takes no memory.
 fn content_of(alloc: Global, text: &str) -> Result<Option<Content>, Memory>
     ensures { IfOk result (λ content. content ≡ spec.content_of one text.now) }
 {
+    if text.len() > 2 * MAX_CONTENT {
+        return Ok(None);
+    }
     match hex::decode(alloc, text.as_bytes()) {
         Ok(bytes) => Ok(Content::new(bytes)),
         Err(FromHexError::OutOfMemory) => Err(AllocError),

@@ -1,2 +1,10 @@
 pub mod Chained
 pub mod Fused
+pub mod Shape
+pub mod Shapes
+pub mod LineFeeds
+pub mod ReadBack
+pub mod Again
+pub mod Parts
+pub mod Laws
+pub mod Members

@@ -5,3 +5,5 @@ pub mod Nodes
 pub mod Desks
 pub mod Views
 pub mod Form
+pub mod Sound
+pub mod Text

@@ -1,10 +1,12 @@
 //! What the desk is asked and what it replies.
 ghost use Rattle.std.specs.Prelude.{OnOk};
+ghost use Rattle.std.specs.List.{AllByRecursion};
 ghost use Rattle.tq_desk.specs.declared.ask.DeskAsk.{DeskAsk};
 ghost use Rattle.tq_desk.specs.declared.ask.DeskRefusal.{DeskRefusal};
 ghost use Rattle.tq_desk.specs.declared.ask.DeskReply.{DeskReply};
 ghost use Rattle.tq_written.specs.Desks.{desk_ask_value, desk_refusal_value, desk_reply_value};
 ghost use Rattle.tq_written.specs.Fitting.{IsFitting};
+ghost use Rattle.tq_written.specs.Sound.{IsOp, IsVote};
 ghost use Rattle.tq_written.specs.Written.{Adds, spelled};
 
 use crate::formed::{
@@ -19,8 +21,11 @@ use tq_shape::{Memory, Seq};
 
 impl Formed for OpKind {
     ghost use Rattle.tq_written.specs.Desks.{op_kind_value};
+    ghost use Rattle.tq_written.specs.Sound.{IsAny};
 
     ghost value = { op_kind_value };
+
+    ghost sound = { IsAny };
 
     fn put(&self, _alloc: Global, out: &mut Writer<Global>) -> Result<(), Memory> {
         match self {
@@ -33,8 +38,11 @@ impl Formed for OpKind {
 
 impl Formed for Grant {
     ghost use Rattle.tq_written.specs.Desks.{grant_value};
+    ghost use Rattle.tq_written.specs.Sound.{IsGrant};
 
     ghost value = { grant_value };
+
+    ghost sound = { IsGrant };
 
     fn put(&self, alloc: Global, out: &mut Writer<Global>) -> Result<(), Memory> {
         open_member(alloc, out, "content", &self.content)?;
@@ -48,8 +56,11 @@ impl Formed for Grant {
 
 impl Formed for Op {
     ghost use Rattle.tq_written.specs.Desks.{op_value};
+    ghost use Rattle.tq_written.specs.Sound.{IsOp};
 
     ghost value = { op_value };
+
+    ghost sound = { IsOp };
 
     fn put(&self, alloc: Global, out: &mut Writer<Global>) -> Result<(), Memory> {
         open_member(alloc, out, "content", &self.content)?;
@@ -63,8 +74,11 @@ impl Formed for Op {
 
 impl Formed for Vote {
     ghost use Rattle.tq_written.specs.Desks.{vote_value};
+    ghost use Rattle.tq_written.specs.Sound.{IsVote};
 
     ghost value = { vote_value };
+
+    ghost sound = { IsVote };
 
     fn put(&self, alloc: Global, out: &mut Writer<Global>) -> Result<(), Memory> {
         open_member(alloc, out, "held", &self.held)?;
@@ -84,6 +98,7 @@ fn put_commit(
 ) -> Result<(), Memory>
     ensures adds { Adds result out.old out.new (spelled (desk_ask_value (DeskAsk.Commit txn ops.now votes.now))) }
     ensures fits { OnOk result (IsFitting (desk_ask_value (DeskAsk.Commit txn ops.now votes.now))) }
+    ensures kept { OnOk result (AllByRecursion IsOp ops.now × AllByRecursion IsVote votes.now) }
 {
     open_kind(out, "commit")?;
     put_member(alloc, out, "ops", ops)?;
@@ -103,8 +118,11 @@ fn put_resolve(alloc: Global, out: &mut Writer<Global>, txn: u64) -> Result<(), 
 
 impl Formed for DeskAsk {
     ghost use Rattle.tq_written.specs.Desks.{desk_ask_value};
+    ghost use Rattle.tq_written.specs.Sound.{IsDeskAsk};
 
     ghost value = { desk_ask_value };
+
+    ghost sound = { IsDeskAsk };
 
     fn put(&self, alloc: Global, out: &mut Writer<Global>) -> Result<(), Memory> {
         match self {
@@ -137,8 +155,11 @@ fn put_bad_evidence(alloc: Global, out: &mut Writer<Global>, rule: u8) -> Result
 
 impl Formed for DeskRefusal {
     ghost use Rattle.tq_written.specs.Desks.{desk_refusal_value};
+    ghost use Rattle.tq_written.specs.Sound.{IsAny};
 
     ghost value = { desk_refusal_value };
+
+    ghost sound = { IsAny };
 
     fn put(&self, alloc: Global, out: &mut Writer<Global>) -> Result<(), Memory> {
         match self {
@@ -180,8 +201,11 @@ fn put_committed(alloc: Global, out: &mut Writer<Global>, serial: u64) -> Result
 
 impl Formed for DeskReply {
     ghost use Rattle.tq_written.specs.Desks.{desk_reply_value};
+    ghost use Rattle.tq_written.specs.Sound.{IsAny};
 
     ghost value = { desk_reply_value };
+
+    ghost sound = { IsAny };
 
     fn put(&self, alloc: Global, out: &mut Writer<Global>) -> Result<(), Memory> {
         match self {

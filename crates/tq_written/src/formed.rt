@@ -1,5 +1,6 @@
 //! What the form has a value for, and the objects and lists of such values.
 ghost use Rattle.std.specs.Prelude.{◌∷◌, [], ◌++◌, codes, OnOk};
+ghost use Rattle.std.specs.List.{AllByRecursion};
 ghost use Rattle.json.specs.Token.{key, begin_object, end_object, string as text};
 ghost use Rattle.tq_written.specs.Values.{code_value, kind_value, list_value};
 ghost use Rattle.tq_written.specs.Fitting.{IsFitting};
@@ -19,10 +20,14 @@ pub(crate) trait Formed {
     /// The value of the form.
     ghost value: { Self → Data };
 
+    /// What the type keeps.
+    ghost sound: { Self → Type 0 };
+
     /// Writes the value, whose numbers fit 64 bits.
     fn put(&self, alloc: Global, out: &mut Writer<Global>) -> Result<(), Memory>
         ensures adds { Adds result out.old out.new (spelled (value self.now)) }
-        ensures fits { OnOk result (IsFitting (value self.now)) };
+        ensures fits { OnOk result (IsFitting (value self.now)) }
+        ensures kept { OnOk result (sound self.now) };
 }
 
 /// A member of an object that is open.
@@ -34,6 +39,7 @@ pub(crate) fn put_member<T: Formed>(
 ) -> Result<(), Memory>
     ensures adds { Adds result out.old out.new (key name.now ∷ spelled (T.value member.now)) }
     ensures fits { OnOk result (IsFitting (T.value member.now)) }
+    ensures kept { OnOk result (T.sound member.now) }
 {
     out.key(name)?;
     member.put(alloc, out)?;
@@ -49,6 +55,7 @@ pub(crate) fn open_member<T: Formed>(
 ) -> Result<(), Memory>
     ensures adds { Adds result out.old out.new (begin_object ∷ key name.now ∷ spelled (T.value member.now)) }
     ensures fits { OnOk result (IsFitting (T.value member.now)) }
+    ensures kept { OnOk result (T.sound member.now) }
 {
     out.begin_object()?;
     put_member(alloc, out, name, member)?;
@@ -64,6 +71,7 @@ pub(crate) fn close_member<T: Formed>(
 ) -> Result<(), Memory>
     ensures adds { Adds result out.old out.new (key name.now ∷ (spelled (T.value member.now) ++ end_object ∷ [])) }
     ensures fits { OnOk result (IsFitting (T.value member.now)) }
+    ensures kept { OnOk result (T.sound member.now) }
 {
     put_member(alloc, out, name, member)?;
     out.end_object()?;
@@ -125,6 +133,7 @@ pub(crate) fn put_list<T: Formed>(
 ) -> Result<(), Memory>
     ensures adds { Adds result out.old out.new (spelled (list_value T.value items.now)) }
     ensures fits { OnOk result (IsFitting (list_value T.value items.now)) }
+    ensures kept { OnOk result (AllByRecursion T.sound items.now) }
 {
     out.begin_array()?;
     for item in items {

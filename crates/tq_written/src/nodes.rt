@@ -1,11 +1,13 @@
 //! What servers are asked and what they reply.
 ghost use Rattle.std.specs.Prelude.{◌≡◌, codes, OnOk};
+ghost use Rattle.std.specs.List.{AllByRecursion};
 ghost use Rattle.tq_node.specs.declared.ask.NodeRefusal.{NodeRefusal};
 ghost use Rattle.tq_node.specs.declared.ask.NodeReply.{NodeReply};
 ghost use Rattle.tq_node.specs.declared.ask.Verdict.{Verdict};
 ghost use Rattle.tq_node.specs.declared.ask.WorkAsk.{WorkAsk};
 ghost use Rattle.tq_written.specs.Nodes.{copy_value, node_refusal_value, node_reply_value, verdict_value, work_value};
 ghost use Rattle.tq_written.specs.Fitting.{IsFitting};
+ghost use Rattle.tq_written.specs.Sound.{IsContent, IsFile, IsHeldLock, IsWrite};
 ghost use Rattle.tq_written.specs.Written.{Adds, spelled};
 
 use crate::formed::{
@@ -21,8 +23,11 @@ use tq_store::{Content, FileName, Write};
 
 impl Formed for CitedVote {
     ghost use Rattle.tq_written.specs.Nodes.{cited_value};
+    ghost use Rattle.tq_written.specs.Sound.{IsAny};
 
     ghost value = { cited_value };
+
+    ghost sound = { IsAny };
 
     fn put(&self, alloc: Global, out: &mut Writer<Global>) -> Result<(), Memory> {
         open_member(alloc, out, "number", &self.number)?;
@@ -33,8 +38,11 @@ impl Formed for CitedVote {
 
 impl Formed for Write {
     ghost use Rattle.tq_written.specs.Nodes.{write_value};
+    ghost use Rattle.tq_written.specs.Sound.{IsWrite};
 
     ghost value = { write_value };
+
+    ghost sound = { IsWrite };
 
     fn put(&self, alloc: Global, out: &mut Writer<Global>) -> Result<(), Memory> {
         open_member(alloc, out, "content", &self.content)?;
@@ -46,8 +54,11 @@ impl Formed for Write {
 
 impl Formed for HeldLock {
     ghost use Rattle.tq_written.specs.Nodes.{held_value};
+    ghost use Rattle.tq_written.specs.Sound.{IsHeldLock};
 
     ghost value = { held_value };
+
+    ghost sound = { IsHeldLock };
 
     fn put(&self, alloc: Global, out: &mut Writer<Global>) -> Result<(), Memory> {
         open_member(alloc, out, "file", &self.file)?;
@@ -68,8 +79,11 @@ fn put_commit(alloc: Global, out: &mut Writer<Global>, votes: &Seq<CitedVote>) -
 
 impl Formed for Verdict {
     ghost use Rattle.tq_written.specs.Nodes.{verdict_value};
+    ghost use Rattle.tq_written.specs.Sound.{IsAny};
 
     ghost value = { verdict_value };
+
+    ghost sound = { IsAny };
 
     fn put(&self, alloc: Global, out: &mut Writer<Global>) -> Result<(), Memory> {
         match self {
@@ -88,6 +102,7 @@ fn put_lock(
 ) -> Result<(), Memory>
     ensures adds { Adds result out.old out.new (spelled (work_value (WorkAsk.Lock txn file.now mode))) }
     ensures fits { OnOk result (IsFitting (work_value (WorkAsk.Lock txn file.now mode))) }
+    ensures kept { OnOk result (IsFile file.now) }
 {
     open_member(alloc, out, "file", file)?;
     put_kind(out, "lock")?;
@@ -104,6 +119,7 @@ fn put_prepare(
 ) -> Result<(), Memory>
     ensures adds { Adds result out.old out.new (spelled (work_value (WorkAsk.Prepare txn writes.now))) }
     ensures fits { OnOk result (IsFitting (work_value (WorkAsk.Prepare txn writes.now))) }
+    ensures kept { OnOk result (AllByRecursion IsWrite writes.now) }
 {
     open_kind(out, "prepare")?;
     put_member(alloc, out, "txn", &txn)?;
@@ -140,6 +156,7 @@ fn put_release(alloc: Global, out: &mut Writer<Global>, txn: u64) -> Result<(), 
 fn put_peek(alloc: Global, out: &mut Writer<Global>, file: &FileName) -> Result<(), Memory>
     ensures adds { Adds result out.old out.new (spelled (work_value (WorkAsk.Peek file.now))) }
     ensures fits { OnOk result (IsFitting (work_value (WorkAsk.Peek file.now))) }
+    ensures kept { OnOk result (IsFile file.now) }
 {
     open_member(alloc, out, "file", file)?;
     close_kind(out, "peek")?;
@@ -156,6 +173,7 @@ fn put_refresh(
 ) -> Result<(), Memory>
     ensures adds { Adds result out.old out.new (spelled (work_value (WorkAsk.Refresh file.now version content.now from.now))) }
     ensures fits { OnOk result (IsFitting (work_value (WorkAsk.Refresh file.now version content.now from.now))) }
+    ensures kept { OnOk result (IsFile file.now × IsContent content.now) }
 {
     open_member(alloc, out, "content", content)?;
     put_member(alloc, out, "file", file)?;
@@ -167,8 +185,11 @@ fn put_refresh(
 
 impl Formed for WorkAsk {
     ghost use Rattle.tq_written.specs.Nodes.{work_value};
+    ghost use Rattle.tq_written.specs.Sound.{IsWork};
 
     ghost value = { work_value };
+
+    ghost sound = { IsWork };
 
     fn put(&self, alloc: Global, out: &mut Writer<Global>) -> Result<(), Memory> {
         match self {
@@ -191,8 +212,11 @@ impl Formed for WorkAsk {
 
 impl Formed for NodeAsk {
     ghost use Rattle.tq_written.specs.Nodes.{node_ask_value};
+    ghost use Rattle.tq_written.specs.Sound.{IsNodeAsk};
 
     ghost value = { node_ask_value };
+
+    ghost sound = { IsNodeAsk };
 
     fn put(&self, alloc: Global, out: &mut Writer<Global>) -> Result<(), Memory> {
         match self {
@@ -216,6 +240,7 @@ fn put_held(alloc: Global, out: &mut Writer<Global>, by: u64) -> Result<(), Memo
 fn put_not_locked(alloc: Global, out: &mut Writer<Global>, file: &FileName) -> Result<(), Memory>
     ensures adds { Adds result out.old out.new (spelled (node_refusal_value (NodeRefusal.NotLocked file.now))) }
     ensures fits { OnOk result (IsFitting (node_refusal_value (NodeRefusal.NotLocked file.now))) }
+    ensures kept { OnOk result (IsFile file.now) }
 {
     open_member(alloc, out, "code", &16u64)?;
     put_member(alloc, out, "file", file)?;
@@ -225,8 +250,11 @@ fn put_not_locked(alloc: Global, out: &mut Writer<Global>, file: &FileName) -> R
 
 impl Formed for NodeRefusal {
     ghost use Rattle.tq_written.specs.Nodes.{node_refusal_value};
+    ghost use Rattle.tq_written.specs.Sound.{IsNodeRefusal};
 
     ghost value = { node_refusal_value };
+
+    ghost sound = { IsNodeRefusal };
 
     fn put(&self, alloc: Global, out: &mut Writer<Global>) -> Result<(), Memory> {
         match self {
@@ -253,6 +281,7 @@ fn put_copy(
 ) -> Result<(), Memory>
     ensures adds { Adds result out.old out.new (spelled (copy_value kind.now version content.now)) }
     ensures fits { OnOk result (IsFitting (copy_value kind.now version content.now)) }
+    ensures kept { OnOk result (IsContent content.now) }
 {
     open_member(alloc, out, "content", content)?;
     put_kind(out, kind)?;
@@ -268,6 +297,7 @@ fn put_yes(
 ) -> Result<(), Memory>
     ensures adds { Adds result out.old out.new (spelled (node_reply_value (NodeReply.Yes held.now writes.now))) }
     ensures fits { OnOk result (IsFitting (node_reply_value (NodeReply.Yes held.now writes.now))) }
+    ensures kept { OnOk result (AllByRecursion IsHeldLock held.now × AllByRecursion IsWrite writes.now) }
 {
     open_member(alloc, out, "held", held)?;
     put_kind(out, "yes")?;
@@ -277,8 +307,11 @@ fn put_yes(
 
 impl Formed for NodeReply {
     ghost use Rattle.tq_written.specs.Nodes.{node_reply_value};
+    ghost use Rattle.tq_written.specs.Sound.{IsNodeReply};
 
     ghost value = { node_reply_value };
+
+    ghost sound = { IsNodeReply };
 
     fn put(&self, alloc: Global, out: &mut Writer<Global>) -> Result<(), Memory> {
         match self {

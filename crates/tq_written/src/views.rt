@@ -7,6 +7,7 @@ ghost use Rattle.tq_live.specs.declared.view.ViewReply.{ViewReply};
 ghost use Rattle.tq_written.specs.Values.{list_value, whole};
 ghost use Rattle.tq_written.specs.Views.{view_ask_value, view_refusal_value, view_reply_value};
 ghost use Rattle.tq_written.specs.Fitting.{IsFitting};
+ghost use Rattle.tq_written.specs.Sound.{IsMember};
 ghost use Rattle.tq_written.specs.Written.{Adds, spelled};
 
 use crate::formed::{
@@ -30,8 +31,11 @@ fn put_servers(alloc: Global, out: &mut Writer<Global>, servers: &[ServerId]) ->
 
 impl Formed for Quorum {
     ghost use Rattle.tq_written.specs.Views.{servers_value};
+    ghost use Rattle.tq_written.specs.Sound.{IsMember};
 
     ghost value = { servers_value };
+
+    ghost sound = { IsMember };
 
     fn put(&self, alloc: Global, out: &mut Writer<Global>) -> Result<(), Memory> {
         put_servers(alloc, out, self.servers())?;
@@ -41,8 +45,11 @@ impl Formed for Quorum {
 
 impl Formed for Blocker {
     ghost use Rattle.tq_written.specs.Views.{servers_value};
+    ghost use Rattle.tq_written.specs.Sound.{IsMember};
 
     ghost value = { servers_value };
+
+    ghost sound = { IsMember };
 
     fn put(&self, alloc: Global, out: &mut Writer<Global>) -> Result<(), Memory> {
         put_servers(alloc, out, self.servers())?;
@@ -77,8 +84,11 @@ fn put_mark(alloc: Global, out: &mut Writer<Global>, server: u64, up: bool) -> R
 
 impl Formed for ViewAsk {
     ghost use Rattle.tq_written.specs.Views.{view_ask_value};
+    ghost use Rattle.tq_written.specs.Sound.{IsAny};
 
     ghost value = { view_ask_value };
+
+    ghost sound = { IsAny };
 
     fn put(&self, alloc: Global, out: &mut Writer<Global>) -> Result<(), Memory> {
         match *self {
@@ -92,6 +102,7 @@ impl Formed for ViewAsk {
 fn put_blocked(alloc: Global, out: &mut Writer<Global>, blocker: &Blocker) -> Result<(), Memory>
     ensures adds { Adds result out.old out.new (spelled (view_refusal_value (ViewRefusal.Blocked blocker.now))) }
     ensures fits { OnOk result (IsFitting (view_refusal_value (ViewRefusal.Blocked blocker.now))) }
+    ensures kept { OnOk result (IsMember blocker.now) }
 {
     open_member(alloc, out, "code", &33u64)?;
     put_kind(out, "refused")?;
@@ -101,8 +112,11 @@ fn put_blocked(alloc: Global, out: &mut Writer<Global>, blocker: &Blocker) -> Re
 
 impl Formed for ViewRefusal {
     ghost use Rattle.tq_written.specs.Views.{view_refusal_value};
+    ghost use Rattle.tq_written.specs.Sound.{IsViewRefusal};
 
     ghost value = { view_refusal_value };
+
+    ghost sound = { IsViewRefusal };
 
     fn put(&self, alloc: Global, out: &mut Writer<Global>) -> Result<(), Memory> {
         match self {
@@ -121,6 +135,7 @@ fn put_chosen(
 ) -> Result<(), Memory>
     ensures adds { Adds result out.old out.new (spelled (view_reply_value (ViewReply.Chosen quorum.now cost))) }
     ensures fits { OnOk result (IsFitting (view_reply_value (ViewReply.Chosen quorum.now cost))) }
+    ensures kept { OnOk result (IsMember quorum.now) }
 {
     open_member(alloc, out, "cost", &cost)?;
     put_kind(out, "chosen")?;
@@ -130,8 +145,11 @@ fn put_chosen(
 
 impl Formed for ViewReply {
     ghost use Rattle.tq_written.specs.Views.{view_reply_value};
+    ghost use Rattle.tq_written.specs.Sound.{IsViewReply};
 
     ghost value = { view_reply_value };
+
+    ghost sound = { IsViewReply };
 
     fn put(&self, alloc: Global, out: &mut Writer<Global>) -> Result<(), Memory> {
         match self {

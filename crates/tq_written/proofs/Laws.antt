@@ -1,0 +1,66 @@
+-- The text of journals is read as the journals.
+use Rattle.std.specs.Prelude.{IsUtf8}
+use Rattle.std.proofs.Common.{◌≡◌, ◌≤◌, nat_le, ◌==◌, ◌&&◌, ◌+◌, ◌^◌, Bool, true, cond, codes, ℕ, List, [], ◌∷◌, ◌++◌, length, Some, None, refl, sym, ap, ◌∙◌}
+use Rattle.std.specs.List.{All, AllByRecursion}
+use Rattle.std.proofs.lemmas.Bool.{le-leb, eq-eqb}
+use Rattle.std.proofs.lemmas.List.Elements.{recursion_from_All}
+use Rattle.serde_json.specs.Data.{Items}
+use Rattle.serde_json.specs.Written.{compact_text}
+use Rattle.tq_shape.specs.Limits.{LimitsView}
+use Rattle.tq_node.specs.NodeJournal.{NodeEntry}
+use Rattle.tq_tables.specs.Journals.{JournalsView, IsOfTree}
+use Rattle.tq_form.specs.Format.{one}
+use Rattle.tq_form.specs.Entries.{count, journal, node_entry, desk_entry, view_entry}
+use Rattle.tq_form.specs.Frame as frame
+use Rattle.tq_form.specs.Member.{◌>>=◌, each}
+use Rattle.tq_written.specs.Values.{listed, list_value}
+use Rattle.tq_written.specs.Nodes.{node_entry_value}
+use Rattle.tq_written.specs.Desks.{desk_entry_value}
+use Rattle.tq_written.specs.Views.{view_entry_value}
+use Rattle.tq_written.specs.Form.{limits_value, journals_value}
+use Rattle.tq_written.specs.Fitting.{IsFitting}
+use Rattle.tq_written.specs.Sound.{AreSound, HasLimits, IsNodeEntry, IsDeskEntry, IsViewEntry}
+use Rattle.tq_written.specs.Text.{IsTextOf, NamesRule, NameRules}
+use Rattle.tq_written.proofs.Again.{both, count-listed, each-again, journal-again}
+use Rattle.tq_written.proofs.Parts.{node-entry-again, desk-entry-again, view-entry-again}
+use Rattle.tq_written.proofs.ReadBack.{read-line}
+use Rattle.tq_written.proofs.Shapes.{journals-shaped}
+
+two-tests : (a b : Bool) → a ≡ true → b ≡ true → (a && b) ≡ true
+two-tests a b p q = rw (p, q)
+
+within : (most n : ℕ) → 1 ≤ n → n ≤ most → cond (nat_le 1 n && nat_le n most) (Some n) None ≡ Some n
+within most n least top = ap (λ b. cond b (Some n) None) (two-tests (nat_le 1 n) (nat_le n most) (le-leb 1 n least) (le-leb n most top))
+
+limits-again : (limits : LimitsView) → HasLimits limits → frame.limits (limits_value limits) ≡ Some limits
+limits-again limits h =
+    rw (within 1000000 limits.entries h.2.0 h.2.1, within 1000 limits.files h.0.0 h.0.1, within 64 limits.ops h.1.0 h.1.1)
+
+one-each-again : (levels : ℕ) (values : Items) → count values + 1 ≡ 2 ^ levels → frame.one_each levels values ≡ Some values
+one-each-again levels values e = ap (λ b. cond b (Some values) None) (eq-eqb (count values + 1) (2 ^ levels) e)
+
+servers-again : (levels limit : ℕ) (servers : List (List NodeEntry)) → length servers + 1 ≡ 2 ^ levels → AllByRecursion (λ entries. length entries ≤ limit) servers → AllByRecursion (AllByRecursion IsNodeEntry) servers
+    → (frame.one_each levels (listed (list_value node_entry_value) servers) >>= each (journal (node_entry one) limit)) ≡ Some servers
+servers-again levels limit servers e few sound =
+    ap (λ o. o >>= each (journal (node_entry one) limit)) (one-each-again levels (listed (list_value node_entry_value) servers) (ap (λ n. n + 1) (count-listed (list_value node_entry_value) servers) ∙ e))
+    ∙ each-again (journal (node_entry one) limit) (list_value node_entry_value) (λ entries. (length entries ≤ limit) × AllByRecursion IsNodeEntry entries)
+      (λ entries h. journal-again (node_entry one) node_entry_value IsNodeEntry node-entry-again limit entries h.0 h.1)
+      servers (both (λ entries. length entries ≤ limit) (AllByRecursion IsNodeEntry) servers few sound)
+
+journals-again : (journals : JournalsView) → AreSound journals → NameRules journals → frame.journals_of (journals_value journals) ≡ Some journals
+journals-again journals h rules =
+    let limit = journals.limits.entries in
+    let levels = within 6 journals.levels h.levels.0 h.levels.1 in
+    let limits = limits-again journals.limits h.limits in
+    let servers = servers-again journals.levels limit journals.servers h.fit.one_each (recursion_from_All (λ entries. length entries ≤ limit) journals.servers h.fit.servers_fit) h.servers in
+    let named = both IsDeskEntry (λ entry. NamesRule entry.reply) journals.desk h.desk (recursion_from_All (λ entry. NamesRule entry.reply) journals.desk rules) in
+    let desk = journal-again (desk_entry one) desk_entry_value (λ entry. IsDeskEntry entry × NamesRule entry.reply) desk-entry-again limit journals.desk h.fit.desk_fits named in
+    let of_tree = both IsViewEntry (λ entry. IsOfTree journals.levels entry.reply) journals.view h.view (recursion_from_All (λ entry. IsOfTree journals.levels entry.reply) journals.view h.fit.of_tree) in
+    let view = journal-again (view_entry journals.levels) view_entry_value (λ entry. IsViewEntry entry × IsOfTree journals.levels entry.reply) (view-entry-again journals.levels) limit journals.view h.fit.view_fits of_tree in
+    rw (levels, limits, servers, desk, view)
+
+pub text-again : (journals : JournalsView) (text : List ℕ) → IsUtf8 text → text ≡ compact_text (journals_value journals) ++ 10 ∷ []
+    → IsFitting (journals_value journals) → AreSound journals → NameRules journals → IsTextOf text journals
+text-again journals text utf8 same fits sound rules =
+    let value = journals_value journals in
+    (value, (utf8, rw same (read-line value (journals-shaped journals) fits)), journals-again journals sound rules)
