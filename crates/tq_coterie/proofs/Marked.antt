@@ -1,9 +1,9 @@
 -- Marks of members, from the leaves up to the root.
 use Rattle.std.proofs.Common.{◌≡◌, ℕ, ◌+◌, ◌-◌, ◌*◌, ◌/◌, ◌%◌, ◌^◌, ◌<◌, ◌≤◌, zero, suc, List, Bool, true, false, ◌||◌, eqb, refl, sym, inl, inr, arith, ap, ◌∙◌, subst, w64}
-use Rattle.std.specs.Prelude.{bit_and, bit_or}
+use Rattle.std.specs.Prelude.{bit_or}
 use Rattle.std.specs.Int.{bit_at}
 use Rattle.std.proofs.lemmas.Bool.{cases_eq, cases_lt, eq-eqb, ne_eqb}
-use Rattle.std.proofs.lemmas.Nat.Bits.{shr_and_one, bit_at_set_same, bit_at_set_other}
+use Rattle.std.proofs.lemmas.Nat.Bits.{bit_at_set_same, bit_at_set_other}
 use Rattle.tq_shape.specs.Tree.{left_of, right_of}
 use Rattle.tq_shape.specs.Depth.{height_of}
 use Rattle.tq_shape.proofs.Depth.{height_of-side, height_of-leaf, right_within}
@@ -16,9 +16,6 @@ use Rattle.tq_coterie.proofs.Parts.{part_of-leaf, part_of-fork}
 
 -- ---- one mark
 
-pub tested_mark : (marks server : ℕ) → eqb (bit_and (marks / 2 ^ server) 1) 1 ≡ is_marked marks server
-tested_mark marks server = rw (shr_and_one marks server) refl
-
 pub one_more : (marks server other : ℕ) → server < 64 → is_marked (bit_or marks (1 * 2 ^ server % 2 ^ 64)) other ≡ (eqb server other || is_marked marks other)
 one_more marks server other within =
     elim (cases_eq server other) [
@@ -29,25 +26,6 @@ one_more marks server other within =
       | inr different ↦
           rw (bit_at_set_other w64 marks server within other (λ e. different (sym e)), ne_eqb server other different) refl
     ]
-
-pub raised-empty : (marks server : ℕ) → part_at marks server ≡ Empty → IsRaised marks server marks
-raised-empty marks server empty = record {
-  here = by (is_marked marks server) (is_marked marks (left_of server)) (is_marked marks (right_of server)) empty;
-  others = λ other different. refl;
-}
-  where
-    by : (here left right : Bool) → part_from_sides here (member_or_empty left) (member_or_empty right) ≡ Empty → part_from_sides here (member_or_empty left) (member_or_empty right) ≡ member_or_empty here
-    by false left right e = e
-    by true true true e = cc
-    by true true false e = cc
-    by true false true e = cc
-    by true false false e = cc
-
-pub raised-member : (marks server after : ℕ) → part_at marks server ≡ Member → ((other : ℕ) → is_marked after other ≡ (eqb server other || is_marked marks other)) → IsRaised marks server after
-raised-member marks server after member more = record {
-  here = let marked : is_marked after server ≡ true = more server ∙ rw (eq-eqb server server refl) refl in member ∙ ap member_or_empty (sym marked);
-  others = λ other different. more other ∙ rw (ne_eqb server other different) refl;
-}
 
 -- ---- the marks of one server after the other, downwards
 
