@@ -5,4 +5,4 @@ pub mod Complement
 pub mod Parts
 pub mod Tested
 pub mod Sameness
-mod Climbing
+mod Marked

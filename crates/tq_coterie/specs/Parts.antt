@@ -13,7 +13,11 @@ part_from_sides false Member Member = Member
 part_from_sides false Empty Empty = Empty
 part_from_sides top left right = Neither
 
+-- the part where the set has a member of the subtree, or else nothing of it
+abbrev pub member_or_empty : Bool → Part
+member_or_empty has_member = cond has_member Member Empty
+
 unfoldable pub part_of : ℕ → ℕ → List ℕ → Part
-part_of zero top servers = cond (has servers top) Member Empty
+part_of zero top servers = member_or_empty (has servers top)
 part_of (suc height) top servers =
     part_from_sides (has servers top) (part_of height (left_of top) servers) (part_of height (right_of top) servers)

@@ -9,6 +9,7 @@
 
 mod blocker;
 mod holding;
+mod marks;
 mod meeting;
 mod member;
 mod membership;

@@ -3,7 +3,8 @@ ghost use Rattle.tq_shape.specs.Tree.{IsServer};
 ghost use Rattle.tq_coterie.specs.Coterie.{coterie, Ascends};
 ghost use Rattle.tq_coterie.specs.Coterie as spec;
 
-use crate::part::{Part, part_under};
+use crate::marks::part_under_root;
+use crate::part::Part;
 use tq_shape::Levels;
 
 /// Whether the numbers are, in this order, the servers of a quorum. It takes no memory.
@@ -26,7 +27,7 @@ pub(crate) fn is_member(levels: Levels, numbers: &[u64]) -> bool
     if !is_within(levels, numbers) {
         return false;
     }
-    matches!(part_under(root, numbers), Part::Member)
+    matches!(part_under_root(root, numbers), Part::Member)
 }
 
 /// Whether no number is above those of the tree.

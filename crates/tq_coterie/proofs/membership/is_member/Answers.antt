@@ -38,7 +38,7 @@ returns-in_default-clause-member c =
       λ e. absurd (false≢true e),
       λ at.
           let part = (member-tested c.args.levels numbers c.root-root.ensures.levels at).part in
-          let is : c.part_under.result ≡ Member = c.part_under.ensures ∙ rw c.root-root.ensures.value part in
+          let is : c.part_under_root.result ≡ Member = c.part_under_root.ensures ∙ rw c.root-root.ensures.value part in
           absurd (c.in_default.not-Member is),
     )
 
@@ -46,3 +46,6 @@ pub returns-in-Member-clause-servers : goal.returns-in-Member-clause-servers
 returns-in-Member-clause-servers c = λ e.
     let numbers = c.args.numbers.now in
     member-servers c.args.levels numbers c.root-root.ensures.levels ((returns-in-Member-clause-member c).0 e)
+
+pub part_under_root-requires-clause-within : goal.part_under_root-requires-clause-within
+part_under_root-requires-clause-within c = rw c.root-root.ensures.value (c.is_within.ensures.0 c.if-not-is_within.false)

@@ -1,0 +1,19 @@
+use Rattle.std.proofs.Common.{◌^◌, arith, ap, sym}
+use Rattle.tq_coterie.proofs.Marked.{raised-leaves, raised-more, neither-root}
+use Rattle.tq_coterie.proofs.marks.part_under_root.Goals as goal
+
+pub loop-server-init : goal.loop-server-init
+loop-server-init c =
+    raised-leaves c.args.root.levels c.args.servers.now c.of-members.result.bits c.servers-greatest.result
+    (omega (arith, c.servers-greatest.ensures.value, ap (λ n. 2 ^ n) c.levels.ensures))
+    c.of-members.ensures
+
+pub loop-server-preserved : goal.loop-server-preserved
+loop-server-preserved c =
+    raised-more c.args.root.levels c.args.servers.now c.loop-server.members.bits c.loop-server.server c.in-Some.after.bits
+    (omega (arith, c.loop-server-test.true)) c.loop-server.invariant c.in-Some.ensures.raised
+
+pub returns-in-None : goal.returns-in-None
+returns-in-None c =
+    rw c.requires.root
+    (sym (neither-root c.args.root.levels c.args.servers.now c.loop-server.members.bits c.loop-server.server (omega (arith, c.loop-server-test.true)) c.loop-server.invariant c.in-None.ensures.neither))

@@ -1,0 +1,26 @@
+-- Servers as the bits of a word, bit n the mark of server n.
+use Rattle.std.specs.Prelude.{◌≡◌, ℕ, Bool, ◌==◌, List}
+use Rattle.std.specs.Int.{bit_at}
+use Rattle.tq_shape.specs.Tree.{left_of, right_of}
+use Rattle.tq_coterie.specs.Coterie.{has}
+use Rattle.tq_coterie.specs.Parts.{part_from_sides, member_or_empty}
+use Rattle.tq_coterie.specs.declared.part.Part.{Part}
+
+-- whether the server is marked
+abbrev pub is_marked : ℕ → ℕ → Bool
+is_marked marks server = bit_at marks server == 1
+
+-- the servers of the set are marked, and no others
+abbrev pub AreMarksOf : ℕ → List ℕ → Type 0
+AreMarksOf marks servers = (server : ℕ) → is_marked marks server ≡ has servers server
+
+-- how a set stands to the subtree over a server: the server's mark says whether it is in the set, those of its sides
+-- whether the set has a member of them or nothing
+abbrev pub part_at : ℕ → ℕ → Part
+part_at marks server =
+    part_from_sides (is_marked marks server) (member_or_empty (is_marked marks (left_of server))) (member_or_empty (is_marked marks (right_of server)))
+
+-- the server's mark has come to say that of the subtree over it; the others stay
+pub record IsRaised (before server after : ℕ) : Type 0 where
+  pub here : part_at before server ≡ member_or_empty (is_marked after server)
+  pub others : (other : ℕ) → (server ≡ other → ⊥) → is_marked after other ≡ is_marked before other
