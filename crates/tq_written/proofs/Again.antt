@@ -1,15 +1,15 @@
 -- Lists, names, contents and entries are read again from their values.
-use Rattle.std.proofs.Common.{◌≡◌, nat_le, nat_lt, ◌≤◌, suc, ℕ, Bool, true, false, cond, List, [], ◌∷◌, length, Option, Some, None, refl, sym, ap, ◌∙◌}
+use Rattle.std.proofs.Common.{◌≡◌, nat_lt, ◌≤◌, suc, ℕ, false, cond, List, [], ◌∷◌, length, Option, Some, None, refl, ap, ◌∙◌}
 use Rattle.std.specs.List.{AllByRecursion}
 use Rattle.std.proofs.lemmas.Bool.{le-leb, le-ltb}
-use Rattle.hex.specs.Hex.{encode_lower, decode_of}
+use Rattle.hex.specs.Hex.{encode_lower}
 use Rattle.hex.proofs.HexLemmas.{decode_of-encode_lower}
 use Rattle.serde_json.specs.Data.{Data}
 use Rattle.tq_shape.specs.declared.entry.Entry.{Entry}
 use Rattle.tq_form.specs.Format.{one}
 use Rattle.tq_form.specs.Content.{name_of, content_of, decoded, short_enough}
 use Rattle.tq_form.specs.Member.{◌>>=◌, each, number_of}
-use Rattle.tq_form.specs.Entries.{entry, count, few, journal}
+use Rattle.tq_form.specs.Entries.{entry, count, journal}
 use Rattle.tq_written.specs.Values.{whole, listed, list_value, entry_value}
 use Rattle.tq_written.specs.Sound.{IsFile, IsContent}
 

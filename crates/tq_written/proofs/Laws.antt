@@ -1,7 +1,7 @@
 -- The text of journals is read as the journals.
 use Rattle.std.specs.Prelude.{IsUtf8}
-use Rattle.std.proofs.Common.{◌≡◌, ◌≤◌, nat_le, ◌==◌, ◌&&◌, ◌+◌, ◌^◌, Bool, true, cond, codes, ℕ, List, [], ◌∷◌, ◌++◌, length, Some, None, refl, sym, ap, ◌∙◌}
-use Rattle.std.specs.List.{All, AllByRecursion}
+use Rattle.std.proofs.Common.{◌≡◌, ◌≤◌, nat_le, ◌&&◌, ◌+◌, ◌^◌, Bool, true, cond, ℕ, List, [], ◌∷◌, ◌++◌, length, Some, None, ap, ◌∙◌}
+use Rattle.std.specs.List.{AllByRecursion}
 use Rattle.std.proofs.lemmas.Bool.{le-leb, eq-eqb}
 use Rattle.std.proofs.lemmas.List.Elements.{recursion_from_All}
 use Rattle.serde_json.specs.Data.{Items}

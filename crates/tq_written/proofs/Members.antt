@@ -1,5 +1,5 @@
 -- A list of servers of a member is found in the coterie.
-use Rattle.std.proofs.Common.{◌≡◌, true, ℕ, List, ap, ◌∙◌, subst}
+use Rattle.std.proofs.Common.{◌≡◌, true, ℕ, List, subst}
 use Rattle.std.specs.Cmp.Lexicographic.{nat_list_eq_equiv}
 use Rattle.std.proofs.lemmas.Map.Views.{list_any-from_Contains}
 use Rattle.tq_shape.specs.Tree.{Server}

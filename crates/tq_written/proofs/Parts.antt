@@ -1,12 +1,11 @@
 -- What a part is asked and replies is read again from its value.
-use Rattle.std.proofs.Common.{◌≡◌, ◌≤◌, nat_le, ◌&&◌, Bool, true, cond, ℕ, List, [], ◌∷◌, Some, None, refl, sym, ap, ◌∙◌}
+use Rattle.std.proofs.Common.{◌≡◌, ◌≤◌, nat_le, ◌&&◌, Bool, true, cond, ℕ, List, Some, None, refl, sym, ap}
 use Rattle.std.specs.List.{AllByRecursion}
 use Rattle.std.proofs.lemmas.Bool.{le-leb}
 use Rattle.tq_store.specs.declared.write.Write.{Write}
 use Rattle.tq_locks.specs.declared.mode.Mode.{Mode}
 use Rattle.tq_locks.specs.declared.mode.Mode.TheVariants as mode
 use Rattle.tq_locks.specs.Locks.{mode_text}
-use Rattle.tq_coterie.specs.Coterie.{ServerList}
 use Rattle.tq_node.specs.declared.ask.CitedVote.{CitedVote}
 use Rattle.tq_node.specs.declared.ask.HeldLock.{HeldLock}
 use Rattle.tq_node.specs.declared.ask.NodeAsk.{NodeAsk}
@@ -17,7 +16,6 @@ use Rattle.tq_node.specs.declared.ask.NodeReply.{NodeReply}
 use Rattle.tq_node.specs.declared.ask.NodeReply.TheVariants as reply
 use Rattle.tq_node.specs.declared.ask.Verdict.{Verdict}
 use Rattle.tq_node.specs.declared.ask.Verdict.TheVariants as verdict
-use Rattle.tq_node.specs.declared.ask.WorkAsk.{WorkAsk}
 use Rattle.tq_node.specs.declared.ask.WorkAsk.TheVariants as work
 use Rattle.tq_node.specs.NodeJournal.{NodeEntry}
 use Rattle.tq_evidence.specs.declared.grant.Grant.{Grant}
@@ -51,7 +49,7 @@ use Rattle.tq_written.specs.Values.{listed}
 use Rattle.tq_written.specs.Nodes as nodes
 use Rattle.tq_written.specs.Desks as desks
 use Rattle.tq_written.specs.Views as views
-use Rattle.tq_written.specs.Sound.{IsAny, IsWrite, IsHeldLock, IsWork, IsNodeAsk, IsNodeRefusal, IsNodeReply, IsNodeEntry, IsGrant, IsOp, IsVote, IsDeskAsk, IsDeskEntry, IsViewReply, IsViewEntry}
+use Rattle.tq_written.specs.Sound.{IsAny, IsWrite, IsHeldLock, IsNodeAsk, IsNodeRefusal, IsNodeReply, IsNodeEntry, IsGrant, IsOp, IsVote, IsDeskAsk, IsDeskEntry, IsViewReply, IsViewEntry}
 use Rattle.tq_written.specs.Text.{NamesRule}
 use Rattle.tq_written.proofs.Again.{name-again, content-again, each-again, all, numbers-again, entry-again}
 

@@ -1,5 +1,5 @@
 -- The values that are written nest a few levels deep, and their members stand in order.
-use Rattle.std.proofs.Common.{◌≡◌, ◌<◌, ◌≤◌, ◌-◌, ℕ, List, [], ◌∷◌, codes, refl, arith}
+use Rattle.std.proofs.Common.{◌<◌, ◌≤◌, ◌-◌, ℕ, List, [], ◌∷◌, refl, arith}
 use Rattle.serde_json.specs.Data.{Data}
 use Rattle.tq_shape.specs.declared.entry.Entry.{Entry}
 use Rattle.tq_shape.specs.Limits.{LimitsView}
