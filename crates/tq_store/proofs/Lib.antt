@@ -1,4 +1,6 @@
 pub mod Ascii
 pub mod Installed
 pub mod Kept
+pub mod Padded
 pub mod SameName
+pub mod Spelled

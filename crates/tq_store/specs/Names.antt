@@ -1,11 +1,12 @@
 -- Names of files.
-use Rattle.std.specs.Prelude.{◌≡◌, ℕ, ◌-◌, ◌≤◌, Bool, false, ◌||◌, ◌&&◌, ◌==◌, List, ◌++◌, length, take, drop, replicate, nat_le, slice_get}
-use Rattle.std.specs.List.{list_all}
+use Rattle.std.specs.Prelude.{ℕ, ◌+◌, ◌-◌, Bool, false, ◌||◌, ◌&&◌, ◌==◌, List, [], ◌∷◌, ◌++◌, length, replicate, nat_le, slice_get, slice_index}
+use Rattle.std.specs.List.{list_all, before_first}
 use Rattle.std.specs.Option.{option_map_or}
 use Rattle.std.specs.Char.{is_ascii_lowercase, is_ascii_digit}
-use Rattle.std.proofs.Common.{ap, sym, ◌∙◌, length-take-le}
-use Rattle.std.proofs.lemmas.List.{take-append-drop}
+use Rattle.std.specs.Int.{w64, from_be_bytes}
 use Rattle.std.specs.Cmp.Lexicographic.{pointwise}
+use Rattle.std.specs.Hash as fed
+use Rattle.std.specs.Hash.{HashWrites}
 
 -- a byte that may stand in a file name: a letter, a digit, a dot, a low line or a dash
 abbrev pub is_name_byte : ℕ → Bool
@@ -23,21 +24,19 @@ is_file_name name = starts_with_letter name && list_all is_name_byte name && nat
 abbrev pub padded : List ℕ → List ℕ
 padded name = name ++ replicate (32 - length name) 0
 
--- an array of the greatest length, zero from this length on
-pub record IsPadded (bytes : List ℕ) (len : ℕ) : Type 0 where
-  pub fits : len ≤ length bytes
-  pub all : length bytes ≡ 32
-  pub rest : drop len bytes ≡ replicate (32 - len) 0
+-- the name that such an array holds: its bytes before the first zero
+unfoldable pub name_in : List ℕ → List ℕ
+name_in bytes = before_first (λ c. c == 0) bytes
 
-pub length-take_padded : (bytes : List ℕ) (len : ℕ) → IsPadded bytes len → length (take len bytes) ≡ len
-length-take_padded bytes len h = length-take-le len bytes h.fits
+-- eight bytes of an array, from a place on, as one number in which the first counts most
+abbrev pub word_at : List ℕ → ℕ → ℕ
+word_at bytes at = from_be_bytes w64
+    (slice_index bytes at ∷ slice_index bytes (at + 1) ∷ slice_index bytes (at + 2) ∷ slice_index bytes (at + 3)
+    ∷ slice_index bytes (at + 4) ∷ slice_index bytes (at + 5) ∷ slice_index bytes (at + 6) ∷ slice_index bytes (at + 7) ∷ [])
 
--- a name filled up again
-pub padded-take : (bytes : List ℕ) (len : ℕ) → IsPadded bytes len → padded (take len bytes) ≡ bytes
-padded-take bytes len h =
-    ap (λ n. take len bytes ++ replicate (32 - n) 0) (length-take_padded bytes len h)
-    ∙ ap (λ rest. take len bytes ++ rest) (sym h.rest)
-    ∙ take-append-drop len bytes
+-- what a hash of a name is fed: its words, in order
+abbrev pub hashed_words : List ℕ → HashWrites
+hashed_words name = fed.u64 (word_at (padded name) 0) ++ fed.u64 (word_at (padded name) 8) ++ fed.u64 (word_at (padded name) 16) ++ fed.u64 (word_at (padded name) 24)
 
 -- two names, or two contents, are the same bytes
 abbrev pub same_name : List ℕ → List ℕ → Bool

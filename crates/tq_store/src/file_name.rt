@@ -1,9 +1,9 @@
-ghost use Rattle.std.specs.Prelude.{◌≡◌, ◌↔◌, ◌≤◌, ◌++◌, IfSome, IsSome, IsTrue, length, nat_eq, take};
+ghost use Rattle.std.specs.Prelude.{◌≡◌, ◌↔◌, ◌+◌, ◌≤◌, ◌==◌, IfSome, IsSome, IsTrue, length, nat_eq};
 ghost use Rattle.std.specs.Ordering.{nat_cmp};
 ghost use Rattle.std.specs.Cmp.Lexicographic.{pointwise, slice_cmp};
-ghost use Rattle.tq_store.specs.Names.{is_file_name};
+ghost use Rattle.tq_store.specs.Names.{is_file_name, padded, word_at};
 ghost use Rattle.tq_store.specs.Names as names;
-ghost use Rattle.std.specs.List.{list_all};
+ghost use Rattle.std.specs.List.{list_all, position_or_len};
 
 use std::alloc::AllocError;
 use std::cmp::Ordering;
@@ -16,28 +16,29 @@ use tq_shape::ExactClone;
 pub const MAX_NAME: usize = 32;
 
 /// A file name: 1 to `MAX_NAME` bytes of `a-z 0-9 . _ -`, the first a letter. It takes no memory.
+///
+/// Zeros fill it up to `MAX_NAME`, so that names are compared and hashed a word at a time.
 #[derive(Clone, Copy)]
 pub struct FileName {
     bytes: [u8; MAX_NAME],
-    len: usize,
 }
 
 impl Model for FileName {
-    ghost use Rattle.std.specs.Prelude.{◌≡◌, List, ℕ, take, length, IsTrue};
+    ghost use Rattle.std.specs.Prelude.{◌≡◌, List, ℕ, IsTrue};
     ghost use Rattle.std.specs.Coded.{coded_list, coded_ℕ};
-    ghost use Rattle.tq_store.specs.Names.{IsPadded, is_file_name, padded, padded-take, length-take_padded};
+    ghost use Rattle.tq_store.specs.Names.{is_file_name, name_in, padded};
 
     ghost Value = { List ℕ };
 
     ghost coded = { coded_list coded_ℕ };
 
-    ghost view = { λ a. take a.len a.bytes };
+    ghost view = { λ a. name_in a.bytes };
 
-    ghost invariant = { λ a. IsPadded a.bytes a.len × IsTrue (is_file_name (take a.len a.bytes)) };
+    ghost invariant = { λ a. (padded (name_in a.bytes) ≡ a.bytes) × IsTrue (is_file_name (name_in a.bytes)) };
 
-    ghost inverse = { λ name. record { bytes = padded name; len = length name } };
+    ghost inverse = { λ name. record { bytes = padded name } };
 
-    ghost inverse_ok = { λ a h. λ i. record { bytes = padded-take a.bytes a.len h.0 i; len = length-take_padded a.bytes a.len h.0 i } };
+    ghost inverse_ok = { λ a h. λ i. record { bytes = h.0 i } };
 }
 
 impl FileName {
@@ -51,18 +52,16 @@ impl FileName {
         }
         let mut padded = [0; MAX_NAME];
         padded[..bytes.len()].copy_from_slice(bytes);
-        Some(FileName {
-            bytes: padded,
-            len: bytes.len(),
-        })
+        Some(FileName { bytes: padded })
     }
 
     /// The bytes, in order.
+    #[tactic(auto, unfolding(crate::specs::Names::name_in))]
     pub fn as_bytes(&self) -> &[u8]
         ensures value { result.now ≡ self.now }
         ensures name { IsTrue (is_file_name self.now) }
     {
-        &self.bytes[..self.len]
+        &self.bytes[..first_zero(&self.bytes)]
     }
 
     /// The name as text: its bytes are ASCII.
@@ -72,6 +71,40 @@ impl FileName {
     {
         str::from_utf8(self.as_bytes()).unwrap()
     }
+
+    /// The eight bytes from this place on, as a number that orders as they do.
+    fn word(&self, at: usize) -> u64
+        requires { at + 8 ≤ 32 }
+        ensures value { result ≡ word_at (padded self.now) at }
+        ensures name { IsTrue (is_file_name self.now) }
+    {
+        let bytes = &self.bytes;
+        u64::from_be_bytes([
+            bytes[at],
+            bytes[at + 1],
+            bytes[at + 2],
+            bytes[at + 3],
+            bytes[at + 4],
+            bytes[at + 5],
+            bytes[at + 6],
+            bytes[at + 7],
+        ])
+    }
+}
+
+// The place of the first zero, or the length.
+fn first_zero(bytes: &[u8]) -> usize
+    ensures value { result ≡ position_or_len (λ c. c == 0) bytes.now }
+    ensures bound { result ≤ length bytes.now }
+{
+    let mut at = 0;
+    while at < bytes.len() {
+        if bytes[at] == 0 {
+            return at;
+        }
+        at += 1;
+    }
+    at
 }
 
 fn is_name_byte(c: u8) -> bool
@@ -114,7 +147,10 @@ impl PartialEq for FileName {
         ensures test { result ≡ pointwise nat_eq self.now other.now }
         ensures exact { IsTrue result ↔ (self.now ≡ other.now) }
     {
-        self.as_bytes() == other.as_bytes()
+        (self.word(0) == other.word(0))
+            & (self.word(8) == other.word(8))
+            & (self.word(16) == other.word(16))
+            & (self.word(24) == other.word(24))
     }
 }
 
@@ -131,16 +167,20 @@ impl ExactClone for FileName {
 }
 
 impl Hash for FileName {
-    ghost use Rattle.std.specs.Hash as fed;
-    ghost use Rattle.std.proofs.Common.{rules};
+    ghost use Rattle.std.proofs.Common.{ap};
+    ghost use Rattle.std.specs.Cmp.Lexicographic.{bytes_decides};
+    ghost use Rattle.tq_store.specs.Names.{hashed_words};
 
-    ghost hash_input = { fed.slice fed.u8 };
+    ghost hash_input = { hashed_words };
+
+    ghost respects_eq = { λ x y h. ap hashed_words ((bytes_decides x y).0 h) };
 
     fn hash<H: Hasher>(&self, state: &mut H) {
-        self.as_bytes().hash(state)
+        self.word(0).hash(state);
+        self.word(8).hash(state);
+        self.word(16).hash(state);
+        self.word(24).hash(state);
     }
-
-    ghost respects_eq = { Prim.search rules };
 }
 
 impl Ord for FileName {
@@ -158,7 +198,16 @@ impl Ord for FileName {
     ghost matches_eq = { Prim.search (comparing, rules) };
 
     fn cmp(&self, other: &Self) -> Ordering {
-        self.as_bytes().cmp(&other.as_bytes())
+        if self.word(0) != other.word(0) {
+            return self.word(0).cmp(&other.word(0));
+        }
+        if self.word(8) != other.word(8) {
+            return self.word(8).cmp(&other.word(8));
+        }
+        if self.word(16) != other.word(16) {
+            return self.word(16).cmp(&other.word(16));
+        }
+        self.word(24).cmp(&other.word(24))
     }
 }
 
