@@ -29,7 +29,7 @@ use Rattle.tq_tables.proofs.Names.{is_in, Apart, or_false, or_nothing, either, o
 
 -- ---- names listed with a number each
 
-abbrev listed : (List ℕ → ℕ) → List (List ℕ) → List (List ℕ × ℕ)
+abbrev pub listed : (List ℕ → ℕ) → List (List ℕ) → List (List ℕ × ℕ)
 listed n names = map (λ name. (name, n name)) names
 
 listed-same : (n m : List ℕ → ℕ) → ((name : List ℕ) → n name ≡ m name) → (names : List (List ℕ)) → listed n names ≡ listed m names
@@ -278,7 +278,7 @@ pub count_in-counted : (list : List Commit) (name : List ℕ) → count_in (coun
 count_in-counted list name = count_in-listed (λ n. count n list) name (files_in list) (λ none. count-absent name list (sym (is_in-files_in name list) ∙ none))
 
 -- there are no more commits than entries
-count-most : (name : List ℕ) (list : List Commit) → count name list ≤ length list
+pub count-most : (name : List ℕ) (list : List Commit) → count name list ≤ length list
 count-most name [] = omega arith
 count-most name (commit ∷ earlier) = by (find (writes_file name) commit.ops) (count-most name earlier)
   where
@@ -286,7 +286,7 @@ count-most name (commit ∷ earlier) = by (find (writes_file name) commit.ops) (
     by None h = omega (arith, h)
     by (Some op) h = omega (arith, h)
 
-commits-most : (journal : List DeskEntry) → length (commits journal) ≤ length journal
+pub commits-most : (journal : List DeskEntry) → length (commits journal) ≤ length journal
 commits-most [] = omega arith
 commits-most (e ∷ earlier) = by e.ask e.reply (commits-most earlier)
   where

@@ -1,5 +1,5 @@
 -- The journals of a system, one for each part.
-use Rattle.std.specs.Prelude.{◌≡◌, ◌≤◌, ◌+◌, ◌^◌, ℕ, List, length, ⊤}
+use Rattle.std.specs.Prelude.{◌≡◌, ◌≤◌, ◌+◌, ◌^◌, ℕ, List, [], ◌∷◌, ◌++◌, length, ⊤}
 use Rattle.std.specs.List.{All}
 use Rattle.tq_shape.specs.Limits.{LimitsView}
 use Rattle.tq_shape.specs.declared.entry.Entry.{Entry}
@@ -36,3 +36,10 @@ pub record AreJournals (journals : JournalsView) : Type 0 where
   pub desk_fits : length journals.desk ≤ journals.limits.entries
   pub view_fits : length journals.view ≤ journals.limits.entries
   pub of_tree : All (λ entry. IsOfTree journals.levels entry.reply) journals.view
+
+-- the journals with one entry more at the end of the view's, and of the desk's
+abbrev pub with_view : JournalsView → ViewEntry → JournalsView
+with_view journals entry = record journals { view = journals.view ++ entry ∷ [] }
+
+abbrev pub with_desk : JournalsView → DeskEntry → JournalsView
+with_desk journals entry = record journals { desk = journals.desk ++ entry ∷ [] }

@@ -1,5 +1,5 @@
 -- The tables of a system: what they follow, and the rows.
-use Rattle.std.specs.Prelude.{◌≡◌, ℕ, ◌+◌, ◌^◌, Bool, List, length, reverse, Option, refl}
+use Rattle.std.specs.Prelude.{◌≡◌, ℕ, ◌+◌, ◌<◌, ◌^◌, Bool, List, length, reverse, Option, refl}
 use Rattle.std.specs.Coded.{Coded, code_by, coded×, coded_list, coded_option, coded_ℕ, coded_bool}
 use Rattle.std.specs.List.{All}
 use Rattle.tq_intents.specs.declared.record.OpenVote.{OpenVote}
@@ -14,8 +14,8 @@ use Rattle.tq_live.specs.declared.least.Least.{Least}
 use Rattle.tq_tables.specs.declared.file_row.FileRow.{FileRow}
 use Rattle.tq_tables.specs.declared.lock_row.LockRow.{LockRow}
 use Rattle.tq_tables.specs.declared.intent_row.IntentRow.{IntentRow}
-use Rattle.tq_tables.specs.Journals.{JournalsView}
-use Rattle.tq_tables.specs.Parts.{PartsView, live_code, parts_of}
+use Rattle.tq_tables.specs.Journals.{JournalsView, with_desk}
+use Rattle.tq_tables.specs.Parts.{AreLegal, PartsView, live_code, parts_of}
 use Rattle.tq_tables.specs.Rows.{quorum_rows, file_rows, lock_rows, intent_state, intent_rows}
 
 -- the servers, the desk and the view that the tables follow, and of them: for each server upwards the least quorum of its
@@ -53,6 +53,14 @@ pub record AreTables (tables : TablesView) : Type 0 where
   pub followed : tables.view.levels ≡ tables.levels
   pub one_each : length tables.quorums + 1 ≡ 2 ^ tables.levels
   pub of_tree : All (λ row. (row.current.levels ≡ tables.levels) × (row.stale.levels ≡ tables.levels)) tables.files
+
+-- they are the tables of journals that stay legal with that entry as the desk's next; the desk has fewer entries than a
+-- number of 64 bits can count
+pub record IsNextOfDesk (tables : TablesView) (entry : DeskEntry) : Type 0 where
+  pub journals : JournalsView
+  pub legal : AreLegal (with_desk journals entry)
+  pub stand : tables ≡ tables_of journals
+  pub few : length journals.desk + 1 < 2 ^ 64
 
 -- codes, by which a proof tells values apart
 abbrev pub tables_code : Coded Record → Coded OpenVote → Coded Verdict → Coded Least → Coded FileRow → Coded LockRow → Coded IntentRow → Coded TablesView

@@ -1,5 +1,6 @@
-ghost use Rattle.std.specs.Prelude.{◌≡◌, ◌++◌, map, IfOk, OnOk, reverse};
+ghost use Rattle.std.specs.Prelude.{◌≡◌, ◌+◌, ◌<◌, ◌^◌, ◌++◌, List, length, map, IfOk, OnOk, reverse};
 ghost use Rattle.tq_desk.specs.DeskJournal as log;
+ghost use Rattle.tq_desk.specs.DeskJournal.{Commit};
 ghost use Rattle.tq_tables.specs.Parts.{AreOfTree};
 ghost use Rattle.tq_tables.specs.Rows as spec;
 
@@ -24,6 +25,37 @@ pub fn file_rows(
     let mut rows = Vec::new(alloc);
     push_rows(alloc, &mut rows, levels, nodes, &counts)?;
     Ok(rows)
+}
+
+/// The rows after one entry more of the desk, where these are the rows before it.
+pub(crate) fn rows_after(
+    alloc: Global,
+    levels: Levels,
+    nodes: &[Node],
+    rows: &[FileRow],
+    entry: &DeskEntry,
+) -> Result<Vec<FileRow>, Memory>
+    requires of_tree { AreOfTree levels 1 nodes.now }
+    requires rows { (list : List Commit) × (rows.now ≡ spec.file_rows levels nodes.now list) × (length list + 1 < 2 ^ 64) }
+    ensures { IfOk result (λ after. (list : List Commit) → rows.now ≡ spec.file_rows levels nodes.now list
+        → after.items ≡ spec.file_rows levels nodes.now (log.with_commit entry.now.ask entry.now.reply list)) }
+{
+    let mut counts = WriteCounts::of_rows(alloc, rows)?;
+    counts.note(alloc, entry)?;
+    let mut after = Vec::new(alloc);
+    push_rows(alloc, &mut after, levels, nodes, &counts)?;
+    Ok(after)
+}
+
+/// Rows equal to these, with memory of their own.
+pub(crate) fn copy_files(alloc: Global, rows: &[FileRow]) -> Result<Vec<FileRow>, Memory>
+    ensures { IfOk result (λ copies. copies.items ≡ rows.now) }
+{
+    let mut copies = Vec::new(alloc);
+    for row in rows {
+        copies.push(row.copy()?)?;
+    }
+    Ok(copies)
 }
 
 /// Puts the rows of the files counted at the end.

@@ -1,10 +1,11 @@
-ghost use Rattle.std.specs.Prelude.{◌≡◌, IfOk};
+ghost use Rattle.std.specs.Prelude.{◌≡◌, ◌+◌, ◌<◌, ◌^◌, IfOk, OnOk, OnErr};
+ghost use Rattle.tq_desk.specs.DeskStep.{desk_after};
 
 use crate::Journals;
 use crate::replay::{replay_desk, replay_nodes, replay_view};
 use std::alloc::Global;
 use std::marker::Model;
-use tq_desk::Desk;
+use tq_desk::{Desk, DeskAsk};
 use tq_live::View;
 use tq_node::Node;
 use tq_shape::{Levels, Memory};
@@ -63,6 +64,25 @@ impl Parts {
         let desk = self.desk.copy(alloc)?;
         let view = self.view.copy(alloc)?;
         Ok(Parts { nodes, desk, view })
+    }
+
+    /// The desk answers one ask more. Out of memory leaves the parts as they were.
+    pub(crate) fn ask_desk(&mut self, alloc: Global, ask: &DeskAsk) -> Result<(), Memory>
+        requires { self.old.desk.begun + 1 < 2 ^ 64 }
+        ensures after { OnOk result (self.new ≡ record self.old { desk = desk_after self.old.desk ask.now }) }
+        ensures unchanged { OnErr result (self.new ≡ self.old) }
+    {
+        let _view = &self.view;
+        self.desk.answer(alloc, ask)?;
+        Ok(())
+    }
+
+    /// Puts a view of the same tree in the place of the view.
+    pub(crate) fn put_view(&mut self, view: View)
+        requires { view.levels ≡ self.old.view.levels }
+        ensures { self.new ≡ record self.old { view = view } }
+    {
+        self.view = view;
     }
 
     /// How many levels the tree of servers has.

@@ -1,13 +1,20 @@
-ghost use Rattle.std.specs.Prelude.{◌≡◌, ◌+◌, ◌^◌, length, reverse, IfOk};
+ghost use Rattle.std.specs.Prelude.{◌≡◌, ◌+◌, ◌<◌, ◌^◌, false, List, length, map, reverse, IfOk, OnOk, OnErr};
 ghost use Rattle.std.specs.List.{All};
-ghost use Rattle.tq_desk.specs.DeskJournal.{IsLegalDesk, desk_state};
+ghost use Rattle.tq_desk.specs.DeskJournal.{Commit, IsLegalDesk, desk_state, with_commit};
+ghost use Rattle.tq_desk.specs.DeskStep.{desk_after};
+ghost use Rattle.tq_tables.specs.DeskStates.{intent_state_at};
+ghost use Rattle.tq_live.specs.View.{view_after};
+ghost use Rattle.tq_tables.specs.Rows as spec;
 
+use crate::file_rows::{copy_files, rows_after};
+use crate::intent_rows::{copy_intents, restate};
+use crate::quorum_rows::{copy_quorums, quorum_rows};
 use crate::table_rows::TableRows;
-use crate::{DeskEntry, FileRow, IntentRow, Journals, LockRow, Parts};
+use crate::{DeskEntry, FileRow, IntentRow, Journals, LockRow, Parts, ViewEntry};
 use std::alloc::Global;
 use std::marker::Model;
-use tq_desk::Desk;
-use tq_live::{Least, View};
+use tq_desk::{Desk, DeskAsk, DeskReply};
+use tq_live::{Least, View, ViewAsk};
 use tq_node::Node;
 use tq_shape::{Levels, Memory};
 
@@ -61,8 +68,9 @@ impl Model for Tables {
 }
 
 impl Tables {
+    ghost use Rattle.tq_tables.specs.Journals.{JournalsView, with_desk, with_view};
     ghost use Rattle.tq_tables.specs.Parts.{AreLegal, bounds_of};
-    ghost use Rattle.tq_tables.specs.Tables.{tables_of, tables_over};
+    ghost use Rattle.tq_tables.specs.Tables.{IsNextOfDesk, tables_of, tables_over};
 
     /// The tables of these journals, which are legal: each reply is the one that its part gives there.
     pub fn of(alloc: Global, journals: &Journals) -> Result<Tables, Memory>
@@ -91,6 +99,87 @@ impl Tables {
             locks: rows.locks,
             intentions: rows.intentions,
         })
+    }
+
+    /// Equal tables, with memory of their own.
+    pub fn copy(&self, alloc: Global) -> Result<Tables, Memory>
+        ensures { IfOk result (λ copy. copy ≡ self.now) }
+    {
+        let levels = self.levels;
+        let parts = self.parts.copy(alloc)?;
+        let quorums = copy_quorums(alloc, self.quorums.as_slice())?;
+        let files = copy_files(alloc, self.files.as_slice())?;
+        let locks = Vec::from_slice(alloc, self.locks.as_slice())?;
+        let intentions = copy_intents(alloc, self.intentions.as_slice())?;
+        Ok(Tables {
+            levels,
+            parts,
+            quorums,
+            files,
+            locks,
+            intentions,
+        })
+    }
+
+    /// Follows the entry that the view's journal got next. Out of memory leaves the tables as they were.
+    pub fn note_view(&mut self, alloc: Global, entry: &ViewEntry) -> Result<(), Memory>
+        ensures noted { OnOk result ((journals : JournalsView) → AreLegal (with_view journals entry.now)
+            → self.old ≡ tables_of journals → self.new ≡ tables_of (with_view journals entry.now)) }
+        ensures unchanged { OnErr result (self.new ≡ self.old) }
+    {
+        match entry.ask {
+            ViewAsk::Choose => (),
+            _ => self.ask_view(alloc, &entry.ask)?,
+        }
+        Ok(())
+    }
+
+    /// The view answers one ask more, and the quorums are those of its costs and marks from then on.
+    fn ask_view(&mut self, alloc: Global, ask: &ViewAsk) -> Result<(), Memory>
+        ensures after { OnOk result (self.new ≡ record self.old {
+          view = view_after self.old.view ask.now;
+          quorums = spec.quorum_rows (view_after self.old.view ask.now);
+        }) }
+        ensures unchanged { OnErr result (self.new ≡ self.old) }
+    {
+        let mut view = self.parts.view().copy(alloc)?;
+        view.answer(alloc, ask)?;
+        let quorums = quorum_rows(alloc, view.tree())?;
+        self.parts.put_view(view);
+        self.quorums = quorums;
+        Ok(())
+    }
+
+    /// Follows the entry that the desk's journal got next. Out of memory leaves the tables as they were.
+    pub fn note_desk(&mut self, alloc: Global, entry: &DeskEntry) -> Result<(), Memory>
+        requires { IsNextOfDesk self.old entry.now }
+        ensures noted { OnOk result ((journals : JournalsView) → AreLegal (with_desk journals entry.now)
+            → self.old ≡ tables_of journals → self.new ≡ tables_of (with_desk journals entry.now)) }
+        ensures unchanged { OnErr result (self.new ≡ self.old) }
+    {
+        if !is_commit(entry) {
+            self.ask_desk(alloc, &entry.ask)?;
+            return Ok(());
+        }
+        let nodes = self.parts.nodes();
+        let files = rows_after(alloc, self.levels, nodes, self.files.as_slice(), entry)?;
+        self.ask_desk(alloc, &entry.ask)?;
+        self.files = files;
+        Ok(())
+    }
+
+    /// The desk answers one ask more, and the open votes have the states that its log gives them from then on.
+    fn ask_desk(&mut self, alloc: Global, ask: &DeskAsk) -> Result<(), Memory>
+        requires { self.old.desk.begun + 1 < 2 ^ 64 }
+        ensures after { OnOk result (self.new ≡ record self.old {
+          desk = desk_after self.old.desk ask.now;
+          intentions = map (spec.restated (intent_state_at (desk_after self.old.desk ask.now))) self.old.intentions;
+        }) }
+        ensures unchanged { OnErr result (self.new ≡ self.old) }
+    {
+        self.parts.ask_desk(alloc, ask)?;
+        restate(self.intentions.as_mut_slice(), self.parts.desk());
+        Ok(())
     }
 
     /// How many levels the tree of servers has.
@@ -153,5 +242,15 @@ impl Tables {
         ensures { result.now ≡ self.now.intentions }
     {
         self.intentions.as_slice()
+    }
+}
+
+/// Whether the entry records a commit.
+fn is_commit(entry: &DeskEntry) -> bool
+    ensures { result ≡ false → (earlier : List Commit) → with_commit entry.now.ask entry.now.reply earlier ≡ earlier }
+{
+    match &entry.ask {
+        DeskAsk::Commit { .. } => matches!(&entry.reply, DeskReply::Committed { .. }),
+        _ => false,
     }
 }

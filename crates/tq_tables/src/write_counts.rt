@@ -1,11 +1,13 @@
 //! How many commits write each file.
-ghost use Rattle.std.specs.Prelude.{◌≡◌, ◌+◌, ◌<◌, ◌^◌, ℕ, List, IfOk, OnOk, reverse};
+ghost use Rattle.std.specs.Cmp.Lexicographic.{pointwise};
+ghost use Rattle.std.specs.Prelude.{◌≡◌, ◌==◌, ◌+◌, ◌<◌, ◌^◌, ℕ, List, map, IfOk, OnOk, reverse};
+ghost use Rattle.indexmap.specs.IndexMap.{insert_entry};
 ghost use Rattle.tq_desk.specs.DeskJournal as log;
 ghost use Rattle.tq_desk.specs.DeskJournal.{Commit};
 ghost use Rattle.tq_tables.specs.Counted as spec;
 
-use crate::DeskEntry;
 use crate::file_names::FileNames;
+use crate::{DeskEntry, FileRow};
 use indexmap::IndexMap;
 use indexmap::map::Iter;
 use std::alloc::Global;
@@ -45,8 +47,29 @@ impl WriteCounts {
         Ok(counts)
     }
 
+    /// Those that rows of files say, the last row of a file counting.
+    pub(crate) fn of_rows(alloc: Global, rows: &[FileRow]) -> Result<WriteCounts, Memory>
+        ensures { IfOk result (λ counts. counts ≡ spec.told_by (map spec.version_of rows.now)) }
+    {
+        let mut told = WriteCounts {
+            counts: IndexMap::new(alloc),
+        };
+        for row in rows {
+            told.tell(row.file, row.version)?;
+        }
+        Ok(told)
+    }
+
+    /// The file has that number from then on.
+    fn tell(&mut self, name: FileName, number: u64) -> Result<(), Memory>
+        ensures { OnOk result (self.new ≡ insert_entry (pointwise (◌==◌)) self.old name number) }
+    {
+        self.counts.insert(name, number)?;
+        Ok(())
+    }
+
     /// Counts the entry, if it records a commit.
-    fn note(&mut self, alloc: Global, entry: &DeskEntry) -> Result<(), Memory>
+    pub(crate) fn note(&mut self, alloc: Global, entry: &DeskEntry) -> Result<(), Memory>
         requires { (file : List ℕ) → spec.count_in self.old file + 1 < 2 ^ 64 }
         ensures { OnOk result ((earlier : List Commit) → self.old ≡ spec.counted earlier
             → self.new ≡ spec.counted (log.with_commit entry.now.ask entry.now.reply earlier)) }
