@@ -44,8 +44,8 @@ servers-again : (levels limit : ℕ) (servers : List (List NodeEntry)) → lengt
 servers-again levels limit servers e few sound =
     ap (λ o. o >>= each (journal (node_entry one) limit)) (one-each-again levels (listed (list_value node_entry_value) servers) (ap (λ n. n + 1) (count-listed (list_value node_entry_value) servers) ∙ e))
     ∙ each-again (journal (node_entry one) limit) (list_value node_entry_value) (λ entries. (length entries ≤ limit) × AllByRecursion IsNodeEntry entries)
-      (λ entries h. journal-again (node_entry one) node_entry_value IsNodeEntry node-entry-again limit entries h.0 h.1)
-      servers (both (λ entries. length entries ≤ limit) (AllByRecursion IsNodeEntry) servers few sound)
+    (λ entries h. journal-again (node_entry one) node_entry_value IsNodeEntry node-entry-again limit entries h.0 h.1)
+    servers (both (λ entries. length entries ≤ limit) (AllByRecursion IsNodeEntry) servers few sound)
 
 journals-again : (journals : JournalsView) → AreSound journals → NameRules journals → frame.journals_of (journals_value journals) ≡ Some journals
 journals-again journals h rules =

@@ -181,10 +181,22 @@ limits-shaped limits = (omega arith, (tt, (tt, (tt, tt))), refl)
 
 pub journals-shaped : (journals : JournalsView) → IsShaped (journals_value journals) 127
 journals-shaped journals = (
-      omega arith,
-      (list-shaped desks.desk_entry_value 126 (omega arith) desk-entry-shaped journals.desk,
-      (tt, (tt, (limits-shaped journals.limits,
-      (list-shaped (list_value nodes.node_entry_value) 126 (omega arith) (list-shaped nodes.node_entry_value 125 (omega arith) node-entry-shaped) journals.servers,
-      (list-shaped views.view_entry_value 126 (omega arith) view-entry-shaped journals.view, tt)))))),
-      refl
-    )
+  omega arith,
+  (
+    list-shaped desks.desk_entry_value 126 (omega arith) desk-entry-shaped journals.desk,
+    (
+      tt,
+      (
+        tt,
+        (
+          limits-shaped journals.limits,
+          (
+            list-shaped (list_value nodes.node_entry_value) 126 (omega arith) (list-shaped nodes.node_entry_value 125 (omega arith) node-entry-shaped) journals.servers,
+            (list-shaped views.view_entry_value 126 (omega arith) view-entry-shaped journals.view, tt),
+          ),
+        ),
+      ),
+    ),
+  ),
+  refl,
+)
