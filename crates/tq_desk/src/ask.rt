@@ -1,4 +1,4 @@
-use tq_evidence::{Op, Vote};
+use tq_evidence::{Op, Rule, Vote};
 use tq_node::Verdict;
 use tq_shape::Seq;
 
@@ -29,7 +29,7 @@ pub enum DeskRefusal {
     /// There are more operations than the limit.
     TooManyOps,
     /// The evidence fails this rule, and none before it.
-    BadEvidence { rule: u8 },
+    BadEvidence { rule: Rule },
     /// The commits would have written more different files than the limit.
     TooManyFiles,
 }

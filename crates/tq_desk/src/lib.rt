@@ -11,4 +11,4 @@ mod finals;
 pub use ask::{DeskAsk, DeskRefusal, DeskReply};
 pub use change::DeskChange;
 pub use desk::Desk;
-pub use tq_evidence::{Grant, Op, OpKind, Vote};
+pub use tq_evidence::{Grant, Op, OpKind, Rule, Vote};

@@ -11,6 +11,8 @@ use Rattle.tq_coterie.specs.Coterie.{is_quorum}
 use Rattle.tq_evidence.specs.declared.grant.Grant.{Grant}
 use Rattle.tq_evidence.specs.declared.op.Op.{Op}
 use Rattle.tq_evidence.specs.declared.op.OpKind.TheVariants.{Read, Write}
+use Rattle.tq_evidence.specs.declared.rule.Rule.{Rule}
+use Rattle.tq_evidence.specs.declared.rule.Rule.TheVariants as rules
 use Rattle.tq_evidence.specs.declared.vote.Vote.{Vote}
 use Rattle.tq_store.specs.Names.{same_name}
 
@@ -156,18 +158,18 @@ abbrev pub is_some_op : List Op → Bool
 is_some_op [] = false
 is_some_op (op ∷ ops) = true
 
-abbrev pub failed : Bool → ℕ → Option ℕ → Option ℕ
+abbrev pub failed : Bool → Rule → Option Rule → Option Rule
 failed holds rule next = if holds then next else Some rule
 
 -- the first rule that fails
-abbrev pub failed_rule : ℕ → List Op → List Vote → Option ℕ
+abbrev pub failed_rule : ℕ → List Op → List Vote → Option Rule
 failed_rule levels ops votes =
-    failed (are_quorums levels ops) 1
-    (failed (are_exclusive ops) 2
-    (failed (are_covered ops votes) 3
-    (failed (have_writes ops votes) 4
-    (failed (have_versions ops) 5
-    (failed (is_some_op ops) 6 None)))))
+    failed (are_quorums levels ops) rules.Quorum
+    (failed (are_exclusive ops) rules.Exclusive
+    (failed (are_covered ops votes) rules.Covered
+    (failed (have_writes ops votes) rules.Writes
+    (failed (have_versions ops) rules.Versions
+    (failed (is_some_op ops) rules.SomeOp None)))))
 
 -- the evidence is good
 abbrev pub IsGood : ℕ → List Op → List Vote → Type 0

@@ -1,3 +1,4 @@
 pub mod Evidence
 pub mod Held
 pub mod InOrder
+pub mod Rules

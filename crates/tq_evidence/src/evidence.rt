@@ -12,7 +12,7 @@ mod servers;
 mod versions;
 mod writes;
 
-use crate::{Op, Vote};
+use crate::{Op, Rule, Vote};
 use coverage::are_covered;
 use exclusive::are_exclusive;
 use members::are_quorums;
@@ -21,32 +21,32 @@ use tq_shape::{Levels, Memory};
 use versions::have_versions;
 use writes::have_writes;
 
-/// The first rule that the evidence of a commit fails, from 1 to 6; `None` where it is good.
+/// The first rule that the evidence of a commit fails; `None` where it is good.
 pub fn failed_rule(
     alloc: Global,
     levels: Levels,
     ops: &[Op],
     votes: &[Vote],
-) -> Result<Option<u8>, Memory>
+) -> Result<Option<Rule>, Memory>
     ensures { IfOk result (λ rule. rule ≡ spec.failed_rule levels ops.now votes.now) }
 {
     if !are_quorums(alloc, levels, ops)? {
-        return Ok(Some(1));
+        return Ok(Some(Rule::Quorum));
     }
     if !are_exclusive(ops) {
-        return Ok(Some(2));
+        return Ok(Some(Rule::Exclusive));
     }
     if !are_covered(alloc, ops, votes)? {
-        return Ok(Some(3));
+        return Ok(Some(Rule::Covered));
     }
     if !have_writes(alloc, ops, votes)? {
-        return Ok(Some(4));
+        return Ok(Some(Rule::Writes));
     }
     if !have_versions(ops) {
-        return Ok(Some(5));
+        return Ok(Some(Rule::Versions));
     }
     if ops.is_empty() {
-        return Ok(Some(6));
+        return Ok(Some(Rule::SomeOp));
     }
     Ok(None)
 }

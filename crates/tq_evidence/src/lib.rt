@@ -5,10 +5,12 @@ mod evidence;
 mod grant;
 mod grants;
 mod op;
+mod rule;
 mod vote;
 
 pub use evidence::failed_rule;
 pub use grant::Grant;
 pub use grants::{granters, greatest_version, newest, rises};
 pub use op::{Op, OpKind};
+pub use rule::Rule;
 pub use vote::Vote;

@@ -1,7 +1,8 @@
 -- What the desk is asked, and what it replies.
-use Rattle.std.specs.Prelude.{ℕ, ◌==◌, ◌&&◌, nat_le, List, Option, Some, None, cond, codes}
+use Rattle.std.specs.Prelude.{ℕ, ◌==◌, List, Option, Some, None, cond, codes}
 use Rattle.std.specs.Str.{bytes_eq}
 use Rattle.serde_json.specs.Data.{Data}
+use Rattle.tq_evidence.specs.Rules.{rule_at}
 use Rattle.tq_desk.specs.declared.ask.DeskAsk.{DeskAsk}
 use Rattle.tq_desk.specs.declared.ask.DeskAsk.TheVariants.{Begin, Commit, Resolve}
 use Rattle.tq_desk.specs.declared.ask.DeskRefusal.{DeskRefusal}
@@ -47,13 +48,11 @@ decided value = do
   Some (Decided verdict)
 
 -- one of the six rules of evidence
-abbrev pub rule_of : ℕ → Option DeskRefusal
-rule_of number = cond (nat_le 1 number && nat_le number 6) (Some (BadEvidence number)) None
-
 abbrev pub bad_evidence : Data → Option DeskRefusal
 bad_evidence value = do
   number ← number_at (codes "rule") value
-  rule_of number
+  rule ← rule_at number
+  Some (BadEvidence rule)
 
 abbrev pub desk_refusal_by : ℕ → Data → Option DeskRefusal
 desk_refusal_by code value =

@@ -6,6 +6,7 @@ use crate::locking::verdict_at;
 use crate::member::is_text;
 use std::alloc::Global;
 use tq_desk::{DeskRefusal, DeskReply};
+use tq_evidence::Rule;
 use tq_shape::Memory;
 use tq_value::{Value, number_at, text_at};
 
@@ -112,17 +113,6 @@ fn bad_evidence(value: &Value<'_>) -> Option<DeskRefusal>
     ensures { result ≡ spec.bad_evidence (view value.now) }
 {
     let number = number_at(value, "rule")?;
-    rule_of(number)
-}
-
-fn rule_of(number: u64) -> Option<DeskRefusal>
-    ensures { result ≡ spec.rule_of number }
-{
-    if number < 1 {
-        return None;
-    }
-    if number > 6 {
-        return None;
-    }
-    Some(DeskRefusal::BadEvidence { rule: number as u8 })
+    let rule = Rule::at(number)?;
+    Some(DeskRefusal::BadEvidence { rule })
 }

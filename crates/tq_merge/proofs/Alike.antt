@@ -1,5 +1,5 @@
 -- Replies that pass the test of being the same are the same, and the other way round.
-use Rattle.std.proofs.Common.{◌≡◌, ◌==◌, ◌&&◌, Bool, true, List, [], ◌∷◌, refl, sym, ap, ◌∙◌}
+use Rattle.std.proofs.Common.{◌≡◌, ◌==◌, ◌&&◌, Bool, true, List, [], ◌∷◌, Some, refl, sym, ap, ◌∙◌}
 use Rattle.std.specs.Cmp.Lexicographic.{pointwise}
 use Rattle.std.proofs.lemmas.Bool.{and_parts, and_from, eqb-true, eq-eqb, false≢true}
 use Rattle.tq_store.specs.declared.write.Write.{Write}
@@ -13,6 +13,9 @@ use Rattle.tq_node.specs.declared.ask.NodeRefusal.{NodeRefusal}
 use Rattle.tq_node.specs.declared.ask.NodeRefusal.TheVariants as reasons
 use Rattle.tq_node.specs.declared.ask.NodeReply.{NodeReply}
 use Rattle.tq_node.specs.declared.ask.NodeReply.TheVariants as replies
+use Rattle.tq_evidence.specs.declared.rule.Rule.{Rule}
+use Rattle.tq_evidence.specs.declared.rule.Rule.TheVariants as rules
+use Rattle.tq_evidence.specs.Rules.{rule_number, rule_at}
 use Rattle.tq_desk.specs.declared.ask.DeskRefusal.{DeskRefusal}
 use Rattle.tq_desk.specs.declared.ask.DeskRefusal.TheVariants as desk_reasons
 use Rattle.tq_desk.specs.declared.ask.DeskReply.{DeskReply}
@@ -155,11 +158,24 @@ is-reply a b same = ap (λ x. same_reply a x) (sym same) ∙ reply-self a
 
 -- ---- the desk's replies
 
+rule-again : (rule : Rule) → rule_at (rule_number rule) ≡ Some rule
+rule-again rules.Quorum = refl
+rule-again rules.Exclusive = refl
+rule-again rules.Covered = refl
+rule-again rules.Writes = refl
+rule-again rules.Versions = refl
+rule-again rules.SomeOp = refl
+
+rule-is : (a b : Rule) → (rule_number a == rule_number b) ≡ true → a ≡ b
+rule-is a b same =
+    let numbered = sym (rule-again a) ∙ ap rule_at (eqb-true (rule_number a) (rule_number b) same) ∙ rule-again b in
+    cc
+
 desk_reason-is : (a b : DeskRefusal) → same_desk_reason a b ≡ true → a ≡ b
 desk_reason-is desk_reasons.NoSuchTxn desk_reasons.NoSuchTxn same = refl
 desk_reason-is (desk_reasons.Decided a) (desk_reasons.Decided b) same = ap (λ v. desk_reasons.Decided v) (verdict-is a b same)
 desk_reason-is desk_reasons.TooManyOps desk_reasons.TooManyOps same = refl
-desk_reason-is (desk_reasons.BadEvidence a) (desk_reasons.BadEvidence b) same = ap (λ n. desk_reasons.BadEvidence n) (eqb-true a b same)
+desk_reason-is (desk_reasons.BadEvidence a) (desk_reasons.BadEvidence b) same = ap (λ rule. desk_reasons.BadEvidence rule) (rule-is a b same)
 desk_reason-is desk_reasons.TooManyFiles desk_reasons.TooManyFiles same = refl
 desk_reason-is a b same = absurd (false≢true same)
 
@@ -167,7 +183,7 @@ desk_reason-self : (a : DeskRefusal) → same_desk_reason a a ≡ true
 desk_reason-self desk_reasons.NoSuchTxn = refl
 desk_reason-self (desk_reasons.Decided a) = verdict-self a
 desk_reason-self desk_reasons.TooManyOps = refl
-desk_reason-self (desk_reasons.BadEvidence a) = eq-eqb a a refl
+desk_reason-self (desk_reasons.BadEvidence a) = eq-eqb (rule_number a) (rule_number a) refl
 desk_reason-self desk_reasons.TooManyFiles = refl
 
 pub desk_reply-is : (a b : DeskReply) → same_desk_reply a b ≡ true → a ≡ b

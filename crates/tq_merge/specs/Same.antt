@@ -5,6 +5,7 @@ use Rattle.tq_node.specs.declared.ask.NodeRefusal.{NodeRefusal}
 use Rattle.tq_node.specs.declared.ask.NodeRefusal.TheVariants as reasons
 use Rattle.tq_node.specs.declared.ask.NodeReply.{NodeReply}
 use Rattle.tq_node.specs.declared.ask.NodeReply.TheVariants as replies
+use Rattle.tq_evidence.specs.Rules.{rule_number}
 use Rattle.tq_desk.specs.declared.ask.DeskRefusal.{DeskRefusal}
 use Rattle.tq_desk.specs.declared.ask.DeskRefusal.TheVariants as desk_reasons
 use Rattle.tq_desk.specs.declared.ask.DeskReply.{DeskReply}
@@ -41,7 +42,7 @@ abbrev pub same_desk_reason : DeskRefusal → DeskRefusal → Bool
 same_desk_reason desk_reasons.NoSuchTxn desk_reasons.NoSuchTxn = true
 same_desk_reason (desk_reasons.Decided a) (desk_reasons.Decided b) = same_verdict a b
 same_desk_reason desk_reasons.TooManyOps desk_reasons.TooManyOps = true
-same_desk_reason (desk_reasons.BadEvidence a) (desk_reasons.BadEvidence b) = a == b
+same_desk_reason (desk_reasons.BadEvidence a) (desk_reasons.BadEvidence b) = rule_number a == rule_number b
 same_desk_reason desk_reasons.TooManyFiles desk_reasons.TooManyFiles = true
 same_desk_reason a b = false
 

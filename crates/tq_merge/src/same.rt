@@ -88,7 +88,7 @@ fn is_same_desk_reason(one: &DeskRefusal, other: &DeskRefusal) -> bool
         },
         DeskRefusal::TooManyOps => matches!(other, DeskRefusal::TooManyOps),
         DeskRefusal::BadEvidence { rule } => match other {
-            DeskRefusal::BadEvidence { rule: number } => *rule == *number,
+            DeskRefusal::BadEvidence { rule: number } => rule.number() == number.number(),
             _ => false,
         },
         DeskRefusal::TooManyFiles => matches!(other, DeskRefusal::TooManyFiles),

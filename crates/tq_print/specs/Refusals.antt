@@ -7,6 +7,7 @@ use Rattle.tq_node.specs.declared.ask.Verdict.{Verdict}
 use Rattle.tq_node.specs.declared.ask.Verdict.TheVariants.{Abort, Commit}
 use Rattle.tq_node.specs.declared.ask.NodeRefusal.{NodeRefusal}
 use Rattle.tq_node.specs.declared.ask.NodeRefusal.TheVariants.{Down, AlreadyUp, AlreadyDown, Held, Prepared, NotLocked, BadWrites, NotNewer, NothingHere}
+use Rattle.tq_evidence.specs.Rules.{rule_number}
 use Rattle.tq_desk.specs.declared.ask.DeskRefusal.{DeskRefusal}
 use Rattle.tq_desk.specs.declared.ask.DeskRefusal.TheVariants as desk
 use Rattle.tq_live.specs.declared.view.ViewRefusal.{ViewRefusal}
@@ -43,7 +44,7 @@ abbrev pub desk_refusal_text : DeskRefusal → List ℕ
 desk_refusal_text desk.NoSuchTxn = codes "no such transaction"
 desk_refusal_text (desk.Decided verdict) = decided_text verdict
 desk_refusal_text desk.TooManyOps = codes "too many operations"
-desk_refusal_text (desk.BadEvidence rule) = codes "bad evidence " ++ decimal rule
+desk_refusal_text (desk.BadEvidence rule) = codes "bad evidence " ++ decimal (rule_number rule)
 desk_refusal_text desk.TooManyFiles = codes "too many files"
 
 abbrev pub view_refusal_text : ViewRefusal → List ℕ

@@ -96,7 +96,7 @@ pub fn push_desk_refusal(text: &mut Vec<u8>, refusal: &DeskRefusal) -> Result<()
         DeskRefusal::NoSuchTxn => text.extend_from_slice(b"no such transaction")?,
         DeskRefusal::Decided(verdict) => push_decided(text, verdict)?,
         DeskRefusal::TooManyOps => text.extend_from_slice(b"too many operations")?,
-        DeskRefusal::BadEvidence { rule } => push_at(text, b"bad evidence ", *rule as u64)?,
+        DeskRefusal::BadEvidence { rule } => push_at(text, b"bad evidence ", rule.number())?,
         DeskRefusal::TooManyFiles => text.extend_from_slice(b"too many files")?,
     }
     Ok(())

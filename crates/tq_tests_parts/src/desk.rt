@@ -5,7 +5,7 @@ mod tables;
 use self::cells::{GOOD, file, ops, set, text, votes};
 use std::alloc::Global;
 use tq_check::{Wrong, check};
-use tq_desk::{Desk, DeskAsk, DeskRefusal, DeskReply, Grant, Op, OpKind, Vote};
+use tq_desk::{Desk, DeskAsk, DeskRefusal, DeskReply, Grant, Op, OpKind, Rule, Vote};
 use tq_desk_laws::{decision_log, desk_laws};
 use tq_locks::Mode;
 use tq_node::{CitedVote, HeldLock, Verdict};
@@ -92,27 +92,26 @@ fn by_both(alloc: Global) -> Result<Verdict, Memory> {
 
 // ---- evidence
 
-/// What a desk answers to the first commit, where its evidence fails this rule, and none where that is 0.
-fn told(rule: u8) -> DeskReply {
-    if rule == 0 {
-        DeskReply::Committed { serial: 1 }
-    } else {
-        DeskReply::Refused(DeskRefusal::BadEvidence { rule })
+/// What a desk answers to the first commit, where its evidence fails the rule of this number, and none where that is 0.
+fn told(number: u64) -> DeskReply {
+    match Rule::at(number) {
+        Some(rule) => DeskReply::Refused(DeskRefusal::BadEvidence { rule }),
+        None => DeskReply::Committed { serial: 1 },
     }
 }
 
-fn tells(desk: &mut Asked, cells: &[u64], rule: u8) -> bool {
+fn tells(desk: &mut Asked, cells: &[u64], rule: u64) -> bool {
     let alloc = desk.alloc;
     desk.begins() && desk.replies_to(commit(alloc, 1, cells), told(rule))
 }
 
-fn is_told(alloc: Global, cells: &[u64], rule: u8) -> bool {
+fn is_told(alloc: Global, cells: &[u64], rule: u64) -> bool {
     let mut desk = Asked::at_two_levels(alloc);
     tells(&mut desk, cells, rule)
 }
 
 /// Whether a desk tells the rule of good evidence with this change and this version that is read.
-fn is_change_told(alloc: Global, at: usize, value: u64, read: u64, rule: u8) -> bool {
+fn is_change_told(alloc: Global, at: usize, value: u64, read: u64, rule: u64) -> bool {
     let mut cells = GOOD;
     set(&mut cells, at, value);
     set(&mut cells, 3, read);

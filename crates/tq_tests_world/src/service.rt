@@ -1,7 +1,7 @@
 use std::alloc::Global;
 use std::test::*;
 use tq_core::{Answer, Journal, Part, Refusal, Reply, Service, Step};
-use tq_desk::{DeskAsk, DeskRefusal, DeskReply, Grant, Op, OpKind, Vote};
+use tq_desk::{DeskAsk, DeskRefusal, DeskReply, Grant, Op, OpKind, Rule, Vote};
 use tq_live::{ViewAsk, ViewReply};
 use tq_locks::Mode;
 use tq_node::{CitedVote, HeldLock, NodeAsk, NodeReply, Verdict, WorkAsk};
@@ -279,7 +279,9 @@ fn vote_for_nothing(asked: &mut Asked) -> Result<(), Fail> {
 fn commit_by_each_grant(asked: &mut Asked) -> Result<(), Fail> {
     let alloc = asked.alloc;
     let broken = read_commit(alloc, 1)?;
-    let bad = DeskReply::Refused(DeskRefusal::BadEvidence { rule: 3 });
+    let bad = DeskReply::Refused(DeskRefusal::BadEvidence {
+        rule: Rule::Covered,
+    });
     asked.desk(broken, 2, bad)?;
     let held = read_commit(alloc, 3)?;
     asked.desk(held, 3, DeskReply::Committed { serial: 1 })

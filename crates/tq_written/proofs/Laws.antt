@@ -20,7 +20,7 @@ use Rattle.tq_written.specs.Views.{view_entry_value}
 use Rattle.tq_written.specs.Form.{limits_value, journals_value}
 use Rattle.tq_written.specs.Fitting.{IsFitting}
 use Rattle.tq_written.specs.Sound.{AreSound, HasLimits, IsNodeEntry, IsDeskEntry, IsViewEntry}
-use Rattle.tq_written.specs.Text.{IsTextOf, NamesRule, NameRules}
+use Rattle.tq_written.specs.Text.{IsTextOf}
 use Rattle.tq_written.proofs.Again.{both, count-listed, each-again, journal-again}
 use Rattle.tq_written.proofs.Parts.{node-entry-again, desk-entry-again, view-entry-again}
 use Rattle.tq_written.proofs.ReadBack.{read-line}
@@ -47,20 +47,19 @@ servers-again levels limit servers e few sound =
     (λ entries h. journal-again (node_entry one) node_entry_value IsNodeEntry node-entry-again limit entries h.0 h.1)
     servers (both (λ entries. length entries ≤ limit) (AllByRecursion IsNodeEntry) servers few sound)
 
-journals-again : (journals : JournalsView) → AreSound journals → NameRules journals → frame.journals_of (journals_value journals) ≡ Some journals
-journals-again journals h rules =
+journals-again : (journals : JournalsView) → AreSound journals → frame.journals_of (journals_value journals) ≡ Some journals
+journals-again journals h =
     let limit = journals.limits.entries in
     let levels = within 6 journals.levels h.levels.0 h.levels.1 in
     let limits = limits-again journals.limits h.limits in
     let servers = servers-again journals.levels limit journals.servers h.fit.one_each (recursion_from_All (λ entries. length entries ≤ limit) journals.servers h.fit.servers_fit) h.servers in
-    let named = both IsDeskEntry (λ entry. NamesRule entry.reply) journals.desk h.desk (recursion_from_All (λ entry. NamesRule entry.reply) journals.desk rules) in
-    let desk = journal-again (desk_entry one) desk_entry_value (λ entry. IsDeskEntry entry × NamesRule entry.reply) desk-entry-again limit journals.desk h.fit.desk_fits named in
+    let desk = journal-again (desk_entry one) desk_entry_value IsDeskEntry desk-entry-again limit journals.desk h.fit.desk_fits h.desk in
     let of_tree = both IsViewEntry (λ entry. IsOfTree journals.levels entry.reply) journals.view h.view (recursion_from_All (λ entry. IsOfTree journals.levels entry.reply) journals.view h.fit.of_tree) in
     let view = journal-again (view_entry journals.levels) view_entry_value (λ entry. IsViewEntry entry × IsOfTree journals.levels entry.reply) (view-entry-again journals.levels) limit journals.view h.fit.view_fits of_tree in
     rw (levels, limits, servers, desk, view)
 
 pub text-again : (journals : JournalsView) (text : List ℕ) → IsUtf8 text → text ≡ compact_text (journals_value journals) ++ 10 ∷ []
-    → IsFitting (journals_value journals) → AreSound journals → NameRules journals → IsTextOf text journals
-text-again journals text utf8 same fits sound rules =
+    → IsFitting (journals_value journals) → AreSound journals → IsTextOf text journals
+text-again journals text utf8 same fits sound =
     let value = journals_value journals in
-    (value, (utf8, rw same (read-line value (journals-shaped journals) fits)), journals-again journals sound rules)
+    (value, (utf8, rw same (read-line value (journals-shaped journals) fits)), journals-again journals sound)

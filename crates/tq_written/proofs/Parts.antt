@@ -1,5 +1,5 @@
 -- What a part is asked and replies is read again from its value.
-use Rattle.std.proofs.Common.{◌≡◌, ◌≤◌, nat_le, ◌&&◌, Bool, true, cond, ℕ, List, Some, None, refl, sym, ap}
+use Rattle.std.proofs.Common.{◌≡◌, Bool, true, cond, ℕ, List, Some, None, refl, sym, ap}
 use Rattle.std.specs.List.{AllByRecursion}
 use Rattle.std.proofs.lemmas.Bool.{le-leb}
 use Rattle.tq_store.specs.declared.write.Write.{Write}
@@ -22,7 +22,10 @@ use Rattle.tq_evidence.specs.declared.grant.Grant.{Grant}
 use Rattle.tq_evidence.specs.declared.op.Op.{Op}
 use Rattle.tq_evidence.specs.declared.op.OpKind.{OpKind}
 use Rattle.tq_evidence.specs.declared.op.OpKind.TheVariants as op_kind
+use Rattle.tq_evidence.specs.declared.rule.Rule.{Rule}
+use Rattle.tq_evidence.specs.declared.rule.Rule.TheVariants as rules
 use Rattle.tq_evidence.specs.declared.vote.Vote.{Vote}
+use Rattle.tq_evidence.specs.Rules.{rule_number, rule_at}
 use Rattle.tq_desk.specs.declared.ask.DeskAsk.{DeskAsk}
 use Rattle.tq_desk.specs.declared.ask.DeskAsk.TheVariants as desk
 use Rattle.tq_desk.specs.declared.ask.DeskRefusal.{DeskRefusal}
@@ -50,7 +53,6 @@ use Rattle.tq_written.specs.Nodes as nodes
 use Rattle.tq_written.specs.Desks as desks
 use Rattle.tq_written.specs.Views as views
 use Rattle.tq_written.specs.Sound.{IsAny, IsWrite, IsHeldLock, IsNodeAsk, IsNodeRefusal, IsNodeReply, IsNodeEntry, IsGrant, IsOp, IsVote, IsDeskAsk, IsDeskEntry, IsViewReply, IsViewEntry}
-use Rattle.tq_written.specs.Text.{NamesRule}
 use Rattle.tq_written.proofs.Again.{name-again, content-again, each-again, all, numbers-again, entry-again}
 
 -- ---- servers
@@ -147,29 +149,30 @@ desk-ask-again desk.Begin h = refl
 desk-ask-again (desk.Commit txn ops votes) h = rw (ops-again ops h.0, cast-votes-again votes h.1)
 desk-ask-again (desk.Resolve txn) h = refl
 
-two-tests : (a b : Bool) → a ≡ true → b ≡ true → (a && b) ≡ true
-two-tests a b p q = rw (p, q)
+rule-again : (rule : Rule) → rule_at (rule_number rule) ≡ Some rule
+rule-again rules.Quorum = refl
+rule-again rules.Exclusive = refl
+rule-again rules.Covered = refl
+rule-again rules.Writes = refl
+rule-again rules.Versions = refl
+rule-again rules.SomeOp = refl
 
-rule-again : (rule : ℕ) → (1 ≤ rule) × (rule ≤ 6) → desk_form.rule_of rule ≡ Some (desk_refusal.BadEvidence rule)
-rule-again rule h =
-    ap (λ b. cond b (Some (desk_refusal.BadEvidence rule)) None) (two-tests (nat_le 1 rule) (nat_le rule 6) (le-leb 1 rule h.0) (le-leb rule 6 h.1))
+desk-refusal-again : (r : DeskRefusal) → desk_form.desk_reply (desks.desk_refusal_value r) ≡ Some (desk_reply.Refused r)
+desk-refusal-again desk_refusal.NoSuchTxn = refl
+desk-refusal-again (desk_refusal.Decided v) = rw (verdict-again v)
+desk-refusal-again desk_refusal.TooManyOps = refl
+desk-refusal-again (desk_refusal.BadEvidence rule) = rw (rule-again rule)
+desk-refusal-again desk_refusal.TooManyFiles = refl
 
-desk-refusal-again : (r : DeskRefusal) → NamesRule (desk_reply.Refused r) → desk_form.desk_reply (desks.desk_refusal_value r) ≡ Some (desk_reply.Refused r)
-desk-refusal-again desk_refusal.NoSuchTxn h = refl
-desk-refusal-again (desk_refusal.Decided v) h = rw (verdict-again v)
-desk-refusal-again desk_refusal.TooManyOps h = refl
-desk-refusal-again (desk_refusal.BadEvidence rule) h = rw (rule-again rule h)
-desk-refusal-again desk_refusal.TooManyFiles h = refl
+desk-reply-again : (r : DeskReply) → desk_form.desk_reply (desks.desk_reply_value r) ≡ Some r
+desk-reply-again (desk_reply.Txn txn) = refl
+desk-reply-again (desk_reply.Verdict v) = rw (verdict-again v)
+desk-reply-again (desk_reply.Committed serial) = refl
+desk-reply-again (desk_reply.Refused r) = desk-refusal-again r
 
-desk-reply-again : (r : DeskReply) → NamesRule r → desk_form.desk_reply (desks.desk_reply_value r) ≡ Some r
-desk-reply-again (desk_reply.Txn txn) h = refl
-desk-reply-again (desk_reply.Verdict v) h = rw (verdict-again v)
-desk-reply-again (desk_reply.Committed serial) h = refl
-desk-reply-again (desk_reply.Refused r) h = desk-refusal-again r h
-
-pub desk-entry-again : (entry : DeskEntry) → IsDeskEntry entry × NamesRule entry.reply → desk_entry one (desks.desk_entry_value entry) ≡ Some entry
+pub desk-entry-again : (entry : DeskEntry) → IsDeskEntry entry → desk_entry one (desks.desk_entry_value entry) ≡ Some entry
 desk-entry-again entry h =
-    entry-again (desk_form.desk_ask one) desk_form.desk_reply desks.desk_ask_value desks.desk_reply_value entry (desk-ask-again entry.ask h.0.0) (desk-reply-again entry.reply h.1)
+    entry-again (desk_form.desk_ask one) desk_form.desk_reply desks.desk_ask_value desks.desk_reply_value entry (desk-ask-again entry.ask h.0) (desk-reply-again entry.reply)
 
 -- ---- the view
 

@@ -15,7 +15,7 @@ use crate::formed::{
 use json::Writer;
 use std::alloc::Global;
 use tq_desk::{DeskAsk, DeskRefusal, DeskReply};
-use tq_evidence::{Grant, Op, OpKind, Vote};
+use tq_evidence::{Grant, Op, OpKind, Rule, Vote};
 use tq_node::Verdict;
 use tq_shape::{Memory, Seq};
 
@@ -143,13 +143,13 @@ fn put_decided(alloc: Global, out: &mut Writer<Global>, verdict: &Verdict) -> Re
     Ok(())
 }
 
-fn put_bad_evidence(alloc: Global, out: &mut Writer<Global>, rule: u8) -> Result<(), Memory>
+fn put_bad_evidence(alloc: Global, out: &mut Writer<Global>, rule: Rule) -> Result<(), Memory>
     ensures adds { Adds result out.old out.new (spelled (desk_refusal_value (DeskRefusal.BadEvidence rule))) }
     ensures fits { OnOk result (IsFitting (desk_refusal_value (DeskRefusal.BadEvidence rule))) }
 {
     open_member(alloc, out, "code", &23u64)?;
     put_kind(out, "refused")?;
-    close_member(alloc, out, "rule", &rule)?;
+    close_member(alloc, out, "rule", &rule.number())?;
     Ok(())
 }
 

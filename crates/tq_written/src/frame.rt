@@ -12,7 +12,7 @@ ghost use Rattle.tq_written.specs.Views.{view_entry_value};
 ghost use Rattle.tq_tables.specs.Journals.{IsOfTree};
 ghost use Rattle.tq_written.specs.Fitting.{IsFitting};
 ghost use Rattle.tq_written.specs.Sound.{AreSound, IsDeskEntry, IsNodeEntry, IsViewEntry};
-ghost use Rattle.tq_written.specs.Text.{IsTextOf, NameRules};
+ghost use Rattle.tq_written.specs.Text.{IsTextOf};
 ghost use Rattle.tq_written.specs.Written.{Adds, spelled};
 
 use crate::formed::{Formed, close_member, open_member, put_list, put_member};
@@ -121,12 +121,11 @@ fn put_journals(alloc: Global, out: &mut Writer<Global>, journals: &Journals) ->
 
 /// The journals as JSON text with a line feed at its end: with no space, the members of each object in ascending order
 /// of their names, and contents in lower-case hexadecimal. Each number in it fits 64 bits. What is written is read as the
-/// same journals, where each refusal of evidence names one of the six rules. Answers an error only where memory is
-/// refused; nothing has changed then.
+/// same journals. Answers an error only where memory is refused; nothing has changed then.
 pub fn journals_to_json(alloc: Global, journals: &Journals) -> Result<String, Memory>
     ensures text { IfOk result (λ text. string_bytes text ≡ compact_text (journals_value journals.now) ++ 10 ∷ []) }
     ensures fits { OnOk result (IsFitting (journals_value journals.now)) }
-    ensures back { IfOk result (λ text. NameRules journals.now → IsTextOf (string_bytes text) journals.now) }
+    ensures back { IfOk result (λ text. IsTextOf (string_bytes text) journals.now) }
 {
     let mut out = Writer::new(Vec::new(alloc));
     put_journals(alloc, &mut out, journals)?;

@@ -7,7 +7,7 @@ use tq_node::HeldLock;
 use tq_store::{FileName, Write};
 
 /// The first rule that fails, 0 where none does.
-pub(super) fn judge(files: &[FileName], ops: &[Op], votes: &[Vote]) -> u8 {
+pub(super) fn judge(files: &[FileName], ops: &[Op], votes: &[Vote]) -> u64 {
     if !are_of_pairs(ops) {
         return 1;
     }

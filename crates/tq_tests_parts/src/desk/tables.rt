@@ -10,15 +10,16 @@ use tq_evidence::failed_rule;
 use tq_shape::Levels;
 
 /// The rule that evidence at two levels fails, 0 where it is good; none where memory is wanting.
-fn rule_of(alloc: Global, ops: &[Op], votes: &[Vote]) -> Option<u8> {
+fn rule_of(alloc: Global, ops: &[Op], votes: &[Vote]) -> Option<u64> {
     match failed_rule(alloc, Levels::new(2).unwrap(), ops, votes) {
-        Ok(failed) => Some(failed.unwrap_or(0)),
+        Ok(Some(rule)) => Some(rule.number()),
+        Ok(None) => Some(0),
         Err(_) => None,
     }
 }
 
 /// Whether evidence fails this rule.
-fn fails(alloc: Global, cells: &[u64], rule: u8) -> bool {
+fn fails(alloc: Global, cells: &[u64], rule: u64) -> bool {
     match (ops(alloc, cells), votes(alloc, cells)) {
         (Ok(ops), Ok(votes)) => rule_of(alloc, ops.as_slice(), votes.as_slice()) == Some(rule),
         _ => false,
@@ -39,7 +40,7 @@ fn fails_as_judged(alloc: Global, cells: &[u64]) -> bool {
 }
 
 /// Whether good evidence with this change fails this rule.
-fn change_fails(alloc: Global, at: usize, value: u64, rule: u8) -> bool {
+fn change_fails(alloc: Global, at: usize, value: u64, rule: u64) -> bool {
     let mut cells = GOOD;
     set(&mut cells, at, value);
     fails(alloc, &cells, rule)
