@@ -244,6 +244,15 @@ fn limits_beyond_their_edges(rt: HostRuntime) -> Result<(), Wrong> {
     Ok(())
 }
 
+/// One of the texts, which the dice choose.
+fn any_of<'a>(dice: &mut Dice, texts: &[&'a str]) -> &'a str {
+    let sides = texts.len() as u64;
+    if sides == 0 {
+        return "";
+    }
+    texts[dice.roll(sides) as usize]
+}
+
 /// Puts up to seven entries, of asks and replies that the dice choose, as a list.
 fn push_journal(
     text: &mut String,
@@ -252,12 +261,11 @@ fn push_journal(
     replies: &[&str],
 ) -> Result<(), Wrong> {
     text.push_str("[")?;
-    for place in 0..dice.below(8) {
+    for place in 0..dice.roll(8) {
         if place > 0 {
             text.push_str(",")?;
         }
-        let ask = asks[dice.below(asks.len() as u64) as usize];
-        let reply = replies[dice.below(replies.len() as u64) as usize];
+        let (ask, reply) = (any_of(dice, asks), any_of(dice, replies));
         push_entry(text, true, ask, reply)?;
     }
     text.push_str("]")?;
