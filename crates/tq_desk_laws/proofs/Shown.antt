@@ -15,6 +15,7 @@ use Rattle.tq_coterie.specs.Coterie.{is_quorum}
 use Rattle.tq_node.specs.declared.ask.HeldLock.{HeldLock}
 use Rattle.tq_evidence.specs.declared.grant.Grant.{Grant}
 use Rattle.tq_evidence.specs.declared.op.Op.{Op}
+use Rattle.tq_evidence.specs.declared.rule.Rule.{Rule}
 use Rattle.tq_evidence.specs.declared.vote.Vote.{Vote}
 use Rattle.tq_evidence.specs.Evidence.{is_write, servers_of, has_server, rises, are_quorums, are_exclusive, covers, are_covered, place_of, put_op, writes_by_file, is_write_of, are_writes_at, have_writes, greatest, stands_before, ops_rise, reads_copy, has_version, have_versions, failed, IsGood}
 use Rattle.tq_store.specs.Names.{same_name}
@@ -26,7 +27,7 @@ use Rattle.tq_store.proofs.SameName.{same_name-is}
 
 -- ---- the rules that hold
 
-failed-none : (holds : Bool) (rule : ℕ) (next : Option ℕ) → failed holds rule next ≡ None → (holds ≡ true) × (next ≡ None)
+failed-none : (holds : Bool) (rule : Rule) (next : Option Rule) → failed holds rule next ≡ None → (holds ≡ true) × (next ≡ None)
 failed-none true rule next h = (refl, h)
 failed-none false rule next h = cc
 
@@ -38,11 +39,11 @@ record AreKept (levels : ℕ) (ops : List Op) (votes : List Vote) : Type 0 where
 
 all_kept : (levels : ℕ) (ops : List Op) (votes : List Vote) → IsGood levels ops votes → AreKept levels ops votes
 all_kept levels ops votes good =
-    let a = failed-none (are_quorums levels ops) 1 _ good in
-    let b = failed-none (are_exclusive ops) 2 _ a.1 in
-    let c = failed-none (are_covered ops votes) 3 _ b.1 in
-    let d = failed-none (have_writes ops votes) 4 _ c.1 in
-    let e = failed-none (have_versions ops) 5 _ d.1 in
+    let a = failed-none (are_quorums levels ops) _ _ good in
+    let b = failed-none (are_exclusive ops) _ _ a.1 in
+    let c = failed-none (are_covered ops votes) _ _ b.1 in
+    let d = failed-none (have_writes ops votes) _ _ c.1 in
+    let e = failed-none (have_versions ops) _ _ d.1 in
     record { quorums = a.0; covered = c.0; writes = d.0; versions = e.0 }
 
 -- ---- coverage
