@@ -24,14 +24,13 @@ impl Model for Blocker {
 }
 
 impl Blocker {
-    /// The blocker of servers that are known to be a member of the coterie.
-    pub fn new(levels: Levels, servers: ServerIds) -> Blocker
+    /// The blocker of servers that are known to be a member of the coterie. Answers an error only where memory is refused.
+    pub fn new(alloc: Global, levels: Levels, servers: ServerIds) -> Result<Blocker, Memory>
         requires { IsMemberList levels servers.items }
-        ensures { result ≡ record { servers = numbers_of servers.items; levels = levels } }
+        ensures { IfOk result (λ blocker. blocker ≡ record { servers = numbers_of servers.items; levels = levels }) }
     {
-        Blocker {
-            member: Member::new(levels, servers),
-        }
+        let member = Member::new(alloc, levels, servers)?;
+        Ok(Blocker { member })
     }
 
     /// The blocker of these servers. It is there exactly where they are ascending and a member of the coterie.

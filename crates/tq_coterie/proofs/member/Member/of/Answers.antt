@@ -5,8 +5,8 @@ use Rattle.tq_coterie.proofs.member.Member.of.Goals as goal
 pub server_ids-requires : goal.server_ids-requires
 server_ids-requires c = c.is_member.ensures.servers c.if-not-is_member.false
 
-pub invariant_of-result : goal.invariant_of-result
-invariant_of-result c =
+pub new-requires : goal.new-requires
+new-requires c =
     let member = c.is_member.ensures.member.0 c.if-not-is_member.false in
     rw c.in_ok-servers.ensures (IsMemberList-servers_of c.args.levels c.args.numbers.now member)
 
@@ -14,7 +14,7 @@ pub returns-clause-exact : goal.returns-clause-exact
 returns-clause-exact c =
     let member = c.is_member.ensures.member.0 c.if-not-is_member.false in
     let same = numbers_of-servers_of c.args.levels c.args.numbers.now in
-    rw (c.in_ok-servers.ensures, same) (member, refl)
+    rw (c.in_ok-new.ensures, c.in_ok-servers.ensures, same) (member, refl)
 
 pub returns-clause-ascending : goal.returns-clause-ascending
 returns-clause-ascending c = c.is_member.ensures.ascending c.if-not-is_member.false
