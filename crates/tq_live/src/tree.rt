@@ -207,12 +207,13 @@ impl LiveTree {
         match self.best_cost(root) {
             Some(cost) => {
                 let servers = self.gathered(alloc, Sought::Quorum, root)?;
-                let quorum = Quorum::new(levels, servers);
+                let quorum = Quorum::new(alloc, levels, servers)?;
                 Ok(Choice::Quorum { quorum, cost })
             }
             None => {
                 let servers = self.gathered(alloc, Sought::Blocker, root)?;
-                Ok(Choice::Blocked(Blocker::new(levels, servers)))
+                let blocker = Blocker::new(alloc, levels, servers)?;
+                Ok(Choice::Blocked(blocker))
             }
         }
     }
