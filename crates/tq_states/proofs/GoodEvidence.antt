@@ -10,6 +10,7 @@ use Rattle.std.proofs.lemmas.Bool.{and_parts, and_from, or_left, or_right, eq-eq
 use Rattle.tq_store.specs.Copies.{name_cmp}
 use Rattle.tq_evidence.specs.declared.grant.Grant.{Grant}
 use Rattle.tq_evidence.specs.declared.op.Op.{Op}
+use Rattle.tq_evidence.specs.declared.rule.Rule.{Rule}
 use Rattle.tq_evidence.specs.declared.vote.Vote.{Vote}
 use Rattle.tq_evidence.specs.Evidence.{is_write, covers, is_grant_covered, is_covered, are_grants_covered, are_covered, has_server, is_server_of, put_op, writes_by_file, have_writes, stands_before, ops_rise, failed, IsGood}
 use Rattle.tq_states.specs.Open.{IsOpen}
@@ -129,7 +130,7 @@ sorted done (op ∷ ops) up all =
     ] refl
 
 -- the rules one after another
-passes : (holds : Bool) (rule : ℕ) (next : Option ℕ) → holds ≡ true → next ≡ None → failed holds rule next ≡ None
+passes : (holds : Bool) (rule : Rule) (next : Option Rule) → holds ≡ true → next ≡ None → failed holds rule next ≡ None
 passes true rule next is none = none
 passes false rule next is none = absurd (false≢true is)
 
@@ -141,9 +142,9 @@ good_evidence old ops votes all =
     and_from _ (are_grants_covered old.txn.ops old.votes) (and_from _ _ votes.rise votes.voters) (covered_ops old.votes old.txn.ops there votes.covered) in
     let in_order : writes_by_file old.txn.ops ≡ writes_in old.txn.ops = sorted [] old.txn.ops ops.rise refl in
     let writes : have_writes old.txn.ops old.votes ≡ true = rw in_order votes.writes in
-    passes _ 1 _ ops.quorums
-    (passes _ 2 _ ops.exclusive
-    (passes _ 3 _ covered
-    (passes _ 4 _ writes
-    (passes _ 5 _ (and_from _ _ ops.rise ops.versions)
-    (passes _ 6 _ votes.some refl)))))
+    passes _ _ _ ops.quorums
+    (passes _ _ _ ops.exclusive
+    (passes _ _ _ covered
+    (passes _ _ _ writes
+    (passes _ _ _ (and_from _ _ ops.rise ops.versions)
+    (passes _ _ _ votes.some refl)))))

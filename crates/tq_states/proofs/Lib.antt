@@ -5,4 +5,5 @@ pub mod GoodGrants
 pub mod GoodOps
 pub mod GoodVotes
 pub mod GoodEvidence
+pub mod KeptVotes
 pub mod CitedLaws

@@ -6,11 +6,15 @@ use Rattle.std.proofs.lemmas.Bool.Decides.{nat_tests}
 use Rattle.tq_coterie.specs.Coterie.{has, with_server}
 use Rattle.tq_coterie.proofs.Sets.{has-with_server}
 use Rattle.tq_evidence.specs.Evidence.{rises}
-use Rattle.tq_states.specs.Sets.{put, with_number, with_numbers}
+use Rattle.tq_states.specs.Sets.{IsWithin, put, with_number, with_numbers}
 
 absorbed : (a b : Bool) → (a ≡ true → b ≡ true) → b ≡ (a || b)
 absorbed true b h = h refl
 absorbed false b h = refl
+
+held : (a b : Bool) → b ≡ true → (a || b) ≡ true
+held true b h = refl
+held false b h = h
 
 pub has-with_number : (xs : List ℕ) (y n : ℕ) → has (with_number xs y) n ≡ ((y == n) || has xs n)
 has-with_number xs y n =
@@ -18,6 +22,10 @@ has-with_number xs y n =
       | true ↦ λ is. absorbed (y == n) (has xs n) (λ same. subst (λ m. has xs m ≡ true) (eqb-true y n same) is)
       | false ↦ λ is. has-with_server y n xs
     ] refl
+
+-- a set keeps its servers when one is put in
+pub within-with_number : (xs : List ℕ) (y : ℕ) → IsWithin xs (with_number xs y)
+within-with_number xs y n here = has-with_number xs y n ∙ held (y == n) (has xs n) here
 
 moved : (a b c : Bool) → (a || (b || c)) ≡ ((b || a) || c)
 moved true true c = refl

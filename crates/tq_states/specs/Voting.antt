@@ -80,6 +80,10 @@ vote_fault old told = refuse (not (is_server_of old.txn.ops told.server)) NotAVo
 abbrev pub has_vote : List Vote → ℕ → Bool
 has_vote votes server = list_any (λ vote. vote.server == server) votes
 
+-- each server whose vote was there has a vote there still
+abbrev pub KeepsVotes : List Vote → List Vote → Type 0
+KeepsVotes before after = (server : ℕ) → has_vote before server ≡ true → has_vote after server ≡ true
+
 abbrev pub is_of_server : ℕ → Vote → Bool
 is_of_server server vote = vote.server == server
 

@@ -4,6 +4,7 @@
 mod ended;
 mod fault;
 mod grants;
+mod noting;
 mod open;
 mod ready;
 mod servers;
@@ -13,6 +14,7 @@ mod voting;
 
 pub use ended::Ended;
 pub use fault::TxnFault;
+pub use noting::Noting;
 pub use open::Open;
 pub use ready::Ready;
 pub use told::{DeskTold, NodeTold};

@@ -14,7 +14,7 @@ ghost use Rattle.tq_states.specs.Voting as voting;
 
 use crate::grants::{grants_of, read_copy};
 use crate::servers::Servers;
-use crate::{DeskTold, Ended, NodeTold, TxnFault, Voting};
+use crate::{DeskTold, Ended, NodeTold, Noting, TxnFault, Voting};
 use std::alloc::Global;
 use std::marker::Model;
 use tq_coterie::Quorum;
@@ -161,6 +161,28 @@ impl Open {
         ensures err { OnErr result (self.new ≡ self.old) }
     {
         self.touched.insert(server)
+    }
+
+    /// Makes room to note a server, before it is asked for a lock.
+    pub fn room_for(&self, _alloc: Global, server: ServerId) -> Result<Noting, Memory>
+        requires { server.levels ≡ self.now.levels }
+        ensures value { IfOk result (λ noting. noting ≡ record { servers = sets.with_number self.now.touched server.number; levels = self.now.levels }) }
+        ensures kept { IfOk result (λ noting. sets.IsWithin self.now.touched noting.servers) }
+    {
+        let mut servers = self.touched.copy()?;
+        servers.insert(server)?;
+        Ok(Noting::new(servers))
+    }
+
+    /// Notes that the server for which room was made granted it a lock. It takes no memory.
+    pub fn note(&mut self, noting: Noting)
+        requires levels { noting.levels ≡ self.old.levels }
+        requires kept { sets.IsWithin self.old.touched noting.servers }
+        ensures after { self.new ≡ record self.old { touched = noting.servers } }
+        ensures cited { (told : List NodeTold) → KeepsOnly told self.old → KeepsOnly told self.new }
+        ensures still { spec.IsTouched self.old self.new }
+    {
+        self.touched = noting.into_servers();
     }
 
     /// Reads a file by the answers of a quorum: the first copy of the greatest version granted. A fault leaves the

@@ -99,6 +99,7 @@ impl Voting {
         ensures after { OnOk result (self.new ≡ spec.vote_after self.old told.now) }
         ensures cited { OnOk result ((before : List NodeTold) → VotesOnly before self.old → VotesOnly (before ++ told.now ∷ []) self.new) }
         ensures txn { self.new.txn ≡ self.old.txn }
+        ensures kept { OnOk result (spec.KeepsVotes self.old.votes self.new.votes) }
         ensures fault { IfErr result (λ fault. open_spec.ComesOf (spec.vote_fault self.old told.now) fault) }
         ensures err { OnErr result (self.new ≡ self.old) }
     {
@@ -130,6 +131,7 @@ impl Voting {
         requires { spec.IsGoodVote self.old.txn.ops vote }
         ensures after { OnOk result (self.new ≡ record self.old { votes = spec.with_vote vote self.old.votes }) }
         ensures txn { self.new.txn ≡ self.old.txn }
+        ensures kept { OnOk result (spec.KeepsVotes self.old.votes self.new.votes) }
         ensures err { OnErr result (self.new ≡ self.old) }
     {
         put_vote(&mut self.votes, vote)?;

@@ -85,6 +85,11 @@ abbrev pub ended_by : {A S : Type 0} → Result A LineFault → S → Option (Li
 ended_by (Err faults.Memory) after = None
 ended_by result after = Some (record { answer = result; after = after })
 
+-- where memory ran out nothing more was told: no answer came that could be forgotten
+abbrev pub IsUnasked : {A : Type 0} → Result A LineFault → List Exchange → List Exchange → Type 0
+IsUnasked (Err faults.Memory) old new = new ≡ old
+IsUnasked result old new = Unit {0}
+
 -- ---- faults
 
 abbrev pub fault_of_ask : AskFault → LineFault

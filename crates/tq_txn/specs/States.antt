@@ -34,11 +34,3 @@ abbrev pub IsStill : Txn → Txn → Type 0
 IsStill (states.Open old) new = IsOf old new
 IsStill (states.Voting old) new = IsOf old.txn new
 IsStill (states.Ended old) new = new ≡ states.Ended old
-
--- the transaction afterwards: more servers may have granted it a lock, and all else is as it was
-pub record IsTouched (old after : OpenView) : Type 0 where
-  pub levels : after.levels ≡ old.levels
-  pub limits : after.limits ≡ old.limits
-  pub txn : after.txn ≡ old.txn
-  pub ops : after.ops ≡ old.ops
-  pub voters : after.voters ≡ old.voters

@@ -1,9 +1,9 @@
-ghost use Rattle.std.specs.Prelude.{◌≡◌, ◌==◌, ◌++◌, [], true, IfOk, OnErr};
 ghost use Rattle.std.specs.List.{list_all};
+ghost use Rattle.std.specs.Prelude.{◌≡◌, ◌==◌, ◌++◌, [], true, IfOk, OnErr};
 ghost use Rattle.tq_coterie.specs.Coterie.{numbers_of};
+ghost use Rattle.tq_states.specs.Open as open_spec;
 ghost use Rattle.tq_txn.specs.Dialogue as line;
 ghost use Rattle.tq_txn.specs.Lines as spec;
-ghost use Rattle.tq_txn.specs.States as open_spec;
 
 use crate::{Asker, LineFault, NodeTold, Open, Reading, TxnFault};
 use std::alloc::Global;
@@ -79,6 +79,7 @@ fn lock_at<A: Asker>(
 ) -> Result<NodeTold, LineFault>
     requires { server.levels ≡ A.levels asker.old }
     ensures asks { line.Follows (spec.lock_line open.now.txn file.now mode server.number) (A.told asker.old) (A.told asker.new) (line.ended_by result tt) }
+    ensures unasked { line.IsUnasked result (A.told asker.old) (A.told asker.new) }
     ensures tree { A.levels asker.new ≡ A.levels asker.old }
 {
     let ask = NodeAsk::Work(WorkAsk::Lock {
@@ -92,7 +93,8 @@ fn lock_at<A: Asker>(
     }
 }
 
-/// A lock at one more server. The transaction notes the server if it granted it.
+/// A lock at one more server. The transaction notes the server if it granted it: where memory runs out, it was not
+/// asked, or did not answer.
 fn lock_next<A: Asker>(
     asker: &mut A,
     alloc: Global,
@@ -106,6 +108,7 @@ fn lock_next<A: Asker>(
     requires of_tree { server.levels ≡ A.levels asker.old }
     ensures asks { line.Follows (spec.next_lock file.now mode server.number (record { answers = answers.old.items; txn = open.old })) (A.told asker.old) (A.told asker.new)
         (line.ended_by result (record { answers = answers.new.items; txn = open.new })) }
+    ensures unasked { line.IsUnasked result (A.told asker.old) (A.told asker.new) }
     ensures levels { open.new.levels ≡ open.old.levels }
     ensures kept { open_spec.IsTouched open.old open.new }
     ensures tree { A.levels asker.new ≡ A.levels asker.old }
@@ -114,14 +117,15 @@ fn lock_next<A: Asker>(
         Ok(()) => {}
         Err(_) => return Err(LineFault::Memory),
     }
+    let noting = match open.room_for(alloc, server) {
+        Ok(noting) => noting,
+        Err(_) => return Err(LineFault::Memory),
+    };
     let told = match lock_at(asker, alloc, open, file, mode, server) {
         Ok(told) => told,
         Err(fault) => return Err(fault),
     };
-    match open.touch(alloc, server) {
-        Ok(()) => {}
-        Err(_) => return Err(LineFault::Memory),
-    }
+    open.note(noting);
     answers.push_reserved(told);
     Ok(())
 }
