@@ -6,6 +6,7 @@ use Rattle.tq_evidence.specs.declared.op.Op.{Op}
 use Rattle.tq_evidence.specs.declared.op.OpKind.{OpKind}
 use Rattle.tq_evidence.specs.declared.op.OpKind.TheVariants.{Read, Write}
 use Rattle.tq_evidence.specs.declared.vote.Vote.{Vote}
+use Rattle.tq_evidence.specs.declared.rule.Rule.{Rule}
 use Rattle.tq_evidence.specs.Rules.{rule_number}
 use Rattle.tq_desk.specs.declared.ask.DeskAsk.{DeskAsk}
 use Rattle.tq_desk.specs.declared.ask.DeskAsk.TheVariants.{Begin, Commit, Resolve}
@@ -58,6 +59,10 @@ desk_ask_value (Resolve txn) =
     object (member (codes "is") (string (codes "resolve"))
     (member (codes "txn") (whole txn) no_members))
 
+-- a rule by its number
+abbrev pub rule_value : Rule → Data
+rule_value rule = whole (rule_number rule)
+
 abbrev pub desk_refusal_value : DeskRefusal → Data
 desk_refusal_value NoSuchTxn = code_value 21
 desk_refusal_value (Decided verdict) =
@@ -68,7 +73,7 @@ desk_refusal_value TooManyOps = code_value 24
 desk_refusal_value (BadEvidence rule) =
     object (member (codes "code") (whole 23)
     (member (codes "is") (string (codes "refused"))
-    (member (codes "rule") (whole (rule_number rule)) no_members)))
+    (member (codes "rule") (rule_value rule) no_members)))
 desk_refusal_value TooManyFiles = code_value 25
 
 abbrev pub desk_reply_value : DeskReply → Data

@@ -149,8 +149,22 @@ fn put_bad_evidence(alloc: Global, out: &mut Writer<Global>, rule: Rule) -> Resu
 {
     open_member(alloc, out, "code", &23u64)?;
     put_kind(out, "refused")?;
-    close_member(alloc, out, "rule", &rule.number())?;
+    close_member(alloc, out, "rule", &rule)?;
     Ok(())
+}
+
+impl Formed for Rule {
+    ghost use Rattle.tq_written.specs.Desks.{rule_value};
+    ghost use Rattle.tq_written.specs.Sound.{IsAny};
+
+    ghost value = { rule_value };
+
+    ghost sound = { IsAny };
+
+    fn put(&self, _alloc: Global, out: &mut Writer<Global>) -> Result<(), Memory> {
+        out.u64(self.number())?;
+        Ok(())
+    }
 }
 
 impl Formed for DeskRefusal {

@@ -39,20 +39,6 @@ impl Formed for u32 {
     }
 }
 
-impl Formed for u8 {
-    ghost use Rattle.tq_written.specs.Values.{whole};
-    ghost use Rattle.tq_written.specs.Sound.{IsAny};
-
-    ghost value = { whole };
-
-    ghost sound = { IsAny };
-
-    fn put(&self, _alloc: Global, out: &mut Writer<Global>) -> Result<(), Memory> {
-        out.u64(u64::from(*self))?;
-        Ok(())
-    }
-}
-
 impl Formed for bool {
     ghost use Rattle.serde_json.specs.Data.{boolean};
     ghost use Rattle.tq_written.specs.Sound.{IsAny};
