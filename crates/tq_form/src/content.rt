@@ -46,7 +46,7 @@ fn content_of(alloc: Global, text: &str) -> Result<Option<Content>, Memory>
         return Ok(None);
     }
     match hex::decode(alloc, text.as_bytes()) {
-        Ok(bytes) => Ok(Content::new(bytes)),
+        Ok(bytes) => Content::new(bytes),
         Err(FromHexError::OutOfMemory) => Err(AllocError),
         Err(_) => Ok(None),
     }

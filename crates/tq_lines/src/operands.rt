@@ -92,7 +92,7 @@ fn content_of(alloc: Global, text: &[u8]) -> Result<Option<Content>, Memory>
     if !is_text(text) {
         return Ok(None);
     }
-    Ok(Content::new(Vec::from_slice(alloc, text)?))
+    Content::new(Vec::from_slice(alloc, text)?)
 }
 
 /// The text that follows a file.
@@ -101,6 +101,6 @@ pub(crate) fn text_of(alloc: Global, rest: Option<&[u8]>) -> Result<Option<Conte
 {
     match rest {
         Some(text) => Ok(content_of(alloc, text)?),
-        None => Ok(Some(Content::empty(alloc))),
+        None => Ok(Some(Content::empty())),
     }
 }

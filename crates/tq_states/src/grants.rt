@@ -81,7 +81,7 @@ fn fits(kind: OpKind, mode: Mode) -> bool
 }
 
 /// The copy of the first grant of the greatest version.
-pub(crate) fn read_copy(alloc: Global, grants: &[Grant]) -> Result<FileCopy, Memory>
+pub(crate) fn read_copy(grants: &[Grant]) -> Result<FileCopy, Memory>
     ensures { IfOk result (λ copy. copy ≡ spec.read_copy grants.now) }
 {
     match newest(grants) {
@@ -91,7 +91,7 @@ pub(crate) fn read_copy(alloc: Global, grants: &[Grant]) -> Result<FileCopy, Mem
         }),
         None => Ok(FileCopy {
             version: 0,
-            content: Content::empty(alloc),
+            content: Content::empty(),
         }),
     }
 }

@@ -204,7 +204,7 @@ impl Open {
             return Err(TxnFault::AlreadyThere);
         }
         let Granted { grants, quorum } = self.admit(alloc, OpKind::Read, file, answers)?;
-        let given = read_copy(alloc, grants.as_slice())?;
+        let given = read_copy(grants.as_slice())?;
         let kept = given.content.clone()?;
         let op = Op {
             file: *file,

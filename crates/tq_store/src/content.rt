@@ -1,51 +1,61 @@
-ghost use Rattle.std.specs.Prelude.{◌≡◌, ◌↔◌, ◌≤◌, [], IfSome, IsSome, IsTrue, length, nat_eq};
+ghost use Rattle.std.specs.Prelude.{◌≡◌, ◌↔◌, ◌≤◌, [], IfOk, IfSome, IsSome, IsTrue, length, nat_eq};
 ghost use Rattle.std.specs.Cmp.Lexicographic.{pointwise};
 
-use std::alloc::{AllocError, Global};
+use std::alloc::AllocError;
 use std::marker::Model;
+use std::sync::ArcSlice;
 use tq_shape::ExactClone;
 
 /// The most bytes that a content has.
 pub const MAX_CONTENT: usize = 1000;
 
-/// What a file holds: up to `MAX_CONTENT` bytes, of any kind.
+/// What a file holds: up to `MAX_CONTENT` bytes, of any kind. Clones share the bytes: a clone is a count, not a copy.
 #[derive(Debug, Drop)]
 pub struct Content {
-    bytes: Vec<u8>,
+    /// None where there is no byte.
+    bytes: Option<ArcSlice<u8>>,
 }
 
 impl Model for Content {
-    ghost use Rattle.std.specs.Prelude.{◌≤◌, List, ℕ, length};
+    ghost use Rattle.std.specs.Prelude.{◌≤◌, List, ℕ, [], length};
     ghost use Rattle.std.specs.Coded.{coded_list, coded_ℕ};
+    ghost use Rattle.std.specs.Arc.{arc_slice_items};
+    ghost use Rattle.std.specs.Option.{option_map_or};
 
     ghost Value = { List ℕ };
 
     ghost coded = { coded_list coded_ℕ };
 
-    ghost view = { λ a. a.bytes.items };
+    ghost view = { λ a. option_map_or arc_slice_items a.bytes [] };
 
-    ghost invariant = { λ a. length a.bytes.items ≤ 1000 };
+    ghost invariant = { λ a. length (option_map_or arc_slice_items a.bytes []) ≤ 1000 };
 }
 
 impl Content {
     /// The content of a file that was never written.
-    pub fn empty(alloc: Global) -> Content
+    pub fn empty() -> Content
         ensures { result ≡ [] }
     {
-        Content {
-            bytes: Vec::new(alloc),
-        }
+        Content { bytes: None }
     }
 
-    /// The content of these bytes, unless there are too many. It takes no memory.
-    pub fn new(bytes: Vec<u8>) -> Option<Content>
-        ensures exact { IsSome result ↔ (length bytes.items ≤ 1000) }
-        ensures value { IfSome result (λ content. content ≡ bytes.items) }
+    /// The content of these bytes, unless there are too many.
+    ///
+    /// # Errors
+    ///
+    /// Refuses where there is no memory for what clones will share.
+    pub fn new(bytes: Vec<u8>) -> Result<Option<Content>, AllocError>
+        ensures exact { IfOk result (λ content. IsSome content ↔ (length bytes.items ≤ 1000)) }
+        ensures value { IfOk result (λ content. IfSome content (λ content. content ≡ bytes.items)) }
     {
         if bytes.len() > MAX_CONTENT {
-            return None;
+            return Ok(None);
         }
-        Some(Content { bytes })
+        if bytes.is_empty() {
+            return Ok(Some(Content::empty()));
+        }
+        let bytes = Some(ArcSlice::from_vec(bytes)?);
+        Ok(Some(Content { bytes }))
     }
 
     /// The bytes, in order.
@@ -53,7 +63,10 @@ impl Content {
         ensures value { result.now ≡ self.now }
         ensures short { length self.now ≤ 1000 }
     {
-        self.bytes.as_slice()
+        match &self.bytes {
+            Some(bytes) => bytes.as_slice(),
+            None => &[],
+        }
     }
 
     /// How many bytes there are.
@@ -61,14 +74,14 @@ impl Content {
         ensures value { result ≡ length self.now }
         ensures short { result ≤ 1000 }
     {
-        self.bytes.len()
+        self.as_bytes().len()
     }
 
     /// Whether there is no byte.
     pub fn is_empty(&self) -> bool
         ensures { IsTrue result ↔ (self.now ≡ []) }
     {
-        self.bytes.is_empty()
+        self.as_bytes().is_empty()
     }
 }
 

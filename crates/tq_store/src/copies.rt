@@ -47,19 +47,19 @@ impl Copies {
             files: IndexMap::new(alloc),
             never_written: FileCopy {
                 version: 0,
-                content: Content::empty(alloc),
+                content: Content::empty(),
             },
         }
     }
 
     /// The same copies, with memory of their own.
-    pub fn copy(&self, alloc: Global) -> Result<Copies, AllocError>
+    pub fn copy(&self, _alloc: Global) -> Result<Copies, AllocError>
         ensures { IfOk result (λ copy. copy.files ≡ self.now.files) }
     {
         let files = self.files.clone()?;
         let never_written = FileCopy {
             version: 0,
-            content: Content::empty(alloc),
+            content: Content::empty(),
         };
         Ok(Copies {
             files,

@@ -29,7 +29,7 @@ fn op(alloc: Global) -> Result<Op, Fail> {
         number: 1,
         mode: Mode::Exclusive,
         version: 0,
-        content: Content::empty(alloc),
+        content: Content::empty(),
     };
     let grants = Seq::from_vec(vec![in alloc; grant]?);
     Ok(Op {

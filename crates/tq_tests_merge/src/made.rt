@@ -19,7 +19,7 @@ pub(crate) fn file(letter: u8) -> Result<FileName, Fail> {
 /// The content x.
 pub(crate) fn text(alloc: Global) -> Result<Content, Fail> {
     let bytes = vec![in alloc; b'x']?;
-    Ok(Content::new(bytes).ok_or("content")?)
+    Ok(Content::new(bytes)?.ok_or("content")?)
 }
 
 /// The server took x as version 1 of the file a, which the entry that it cites is to have told.
@@ -44,8 +44,8 @@ pub(crate) fn told(alloc: Global) -> Result<NodeEntry, Fail> {
 }
 
 /// The server told the file b, which was never written.
-pub(crate) fn told_nothing(alloc: Global) -> Result<NodeEntry, Fail> {
-    peeked(b'b', 0, Content::empty(alloc))
+pub(crate) fn told_nothing() -> Result<NodeEntry, Fail> {
+    peeked(b'b', 0, Content::empty())
 }
 
 fn peeked(letter: u8, version: u64, content: Content) -> Result<NodeEntry, Fail> {

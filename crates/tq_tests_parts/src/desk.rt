@@ -293,7 +293,7 @@ fn write_by_one(alloc: Global, number: u64) -> Result<Op, Memory> {
         number: 1,
         mode: Mode::Exclusive,
         version: 0,
-        content: Content::empty(alloc),
+        content: Content::empty(),
     };
     let grants = Seq::from_vec(vec![in alloc; grant]?);
     Ok(Op {

@@ -78,7 +78,7 @@ impl Numbered {
 
     /// Asks for a lock that is free, on a file that was never written.
     fn grants(&mut self, txn: u64, file: FileName, mode: Mode) -> bool {
-        let content = Content::empty(self.alloc);
+        let content = Content::empty();
         self.replies(
             lock(txn, file, mode),
             NodeReply::Granted {
@@ -103,7 +103,7 @@ impl Numbered {
 }
 
 fn text(alloc: Global, byte: u8) -> Result<Content, Memory> {
-    Ok(Content::new(vec![in alloc; byte]?).unwrap())
+    Ok(Content::new(vec![in alloc; byte]?)?.unwrap())
 }
 
 fn write(alloc: Global, file: FileName, version: u64, byte: u8) -> Result<Write, Memory> {

@@ -22,7 +22,7 @@ fn file(letter: u8) -> FileName {
 
 /// A content of one byte.
 fn content(alloc: Global, byte: u8) -> Result<Content, Memory> {
-    Ok(Content::new(vec![in alloc; byte]?).unwrap())
+    Ok(Content::new(vec![in alloc; byte]?)?.unwrap())
 }
 
 fn lost_lock(file: &FileName) -> &'static str {

@@ -92,7 +92,7 @@ fn name(file: File) -> FileName {
 }
 
 fn text(alloc: Global, byte: u8) -> Result<Content, Memory> {
-    Ok(Content::new(vec![in alloc; byte]?).unwrap())
+    Ok(Content::new(vec![in alloc; byte]?)?.unwrap())
 }
 
 // ---- how a line ended

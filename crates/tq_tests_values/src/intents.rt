@@ -19,7 +19,7 @@ fn b() -> FileName {
 
 /// A write of `a`, with a content of one byte.
 fn write(alloc: Global, version: u64, text: u8) -> Result<Write, AllocError> {
-    let content = Content::new(vec![in alloc; text]?).unwrap();
+    let content = Content::new(vec![in alloc; text]?)?.unwrap();
     Ok(Write {
         file: a(),
         version,

@@ -69,8 +69,9 @@ fn text_of_a_name(rt: HostRuntime) -> Result<(), Wrong> {
 fn has_length(alloc: Global, count: usize, length: Option<usize>) -> bool {
     match vec![in alloc; 255; count] {
         Ok(bytes) => match Content::new(bytes) {
-            Some(content) => length == Some(content.len()),
-            None => length.is_none(),
+            Ok(Some(content)) => length == Some(content.len()),
+            Ok(None) => length.is_none(),
+            Err(_) => false,
         },
         Err(_) => false,
     }
@@ -88,7 +89,7 @@ fn contents(rt: HostRuntime) -> Result<(), Wrong> {
 /// A content of one byte, or `None` where memory is refused.
 fn text(alloc: Global, byte: u8) -> Option<Content> {
     match vec![in alloc; byte] {
-        Ok(bytes) => Content::new(bytes),
+        Ok(bytes) => Content::new(bytes).ok()?,
         Err(_) => None,
     }
 }
@@ -110,7 +111,7 @@ fn are_copied(one: &Content, empty: &Content) -> bool {
 
 fn copies_contents(alloc: Global) -> bool {
     match text(alloc, 255) {
-        Some(one) => are_copied(&one, &Content::empty(alloc)),
+        Some(one) => are_copied(&one, &Content::empty()),
         None => false,
     }
 }
@@ -167,7 +168,7 @@ fn copies(rt: HostRuntime) -> Result<(), Wrong> {
 
 /// One write of an empty content, or `None` where memory is refused.
 fn writes_of(alloc: Global, file: FileName, version: u64) -> Option<Seq<Write>> {
-    let content = Content::empty(alloc);
+    let content = Content::empty();
     let write = Write {
         file,
         version,

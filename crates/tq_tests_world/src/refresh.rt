@@ -59,7 +59,7 @@ fn takes_the_copy(alloc: Global, job: &Job, reply: &NodeReply) -> bool {
 
 /// What server 2 tells: a copy of version 4.
 fn told_copy(alloc: Global) -> Result<NodeReply, Fail> {
-    let content = Content::new(Vec::from_slice(alloc, b"hello")?).ok_or("content")?;
+    let content = Content::new(Vec::from_slice(alloc, b"hello")?)?.ok_or("content")?;
     Ok(NodeReply::Copy {
         version: 4,
         content,
@@ -81,7 +81,7 @@ fn nothing_is_asked_after_another_reply(rt: HostRuntime) -> Result<(), Fail> {
     for reply in [
         NodeReply::Granted {
             version: 4,
-            content: Content::empty(alloc),
+            content: Content::empty(),
         },
         NodeReply::Yes {
             held: Seq::from_vec(Vec::new(alloc)),

@@ -72,7 +72,7 @@ fn file_a() -> Result<FileName, Fail> {
 
 fn text(alloc: Global, byte: u8) -> Result<Content, Fail> {
     let bytes = vec![in alloc; byte]?;
-    Ok(Content::new(bytes).ok_or("content")?)
+    Ok(Content::new(bytes)?.ok_or("content")?)
 }
 
 fn lock(mode: Mode) -> Result<WorkAsk, Fail> {
@@ -97,8 +97,8 @@ fn held(alloc: Global, mode: Mode, since: u64) -> Result<Seq<HeldLock>, Fail> {
 }
 
 /// What a server answers that grants a file that was never written.
-fn granted(alloc: Global) -> NodeReply {
-    let content = Content::empty(alloc);
+fn granted() -> NodeReply {
+    let content = Content::empty();
     NodeReply::Granted {
         version: 0,
         content,
@@ -106,7 +106,7 @@ fn granted(alloc: Global) -> NodeReply {
 }
 
 fn grants(alloc: Global, number: u64, mode: Mode) -> Result<Seq<Grant>, Fail> {
-    let content = Content::empty(alloc);
+    let content = Content::empty();
     let grant = Grant {
         server: 1,
         number,
@@ -142,7 +142,7 @@ fn first_commit(alloc: Global) -> Result<DeskAsk, Fail> {
 fn commit_first(asked: &mut Asked) -> Result<(), Fail> {
     let alloc = asked.alloc;
     asked.desk(DeskAsk::Begin, 1, DeskReply::Txn(1))?;
-    asked.node(lock(Mode::Exclusive)?, 1, granted(alloc))?;
+    asked.node(lock(Mode::Exclusive)?, 1, granted())?;
     let held = held(alloc, Mode::Exclusive, 1)?;
     let prepare = WorkAsk::Prepare {
         txn: 1,
@@ -237,7 +237,7 @@ fn read_commit(alloc: Global, number: u64) -> Result<DeskAsk, Fail> {
         file: file_a()?,
         kind: OpKind::Read,
         version: 0,
-        content: Content::empty(alloc),
+        content: Content::empty(),
         grants: grants(alloc, number, Mode::Shared)?,
     };
     let vote = Vote {
@@ -253,9 +253,9 @@ fn read_commit(alloc: Global, number: u64) -> Result<DeskAsk, Fail> {
 
 fn lock_twice(asked: &mut Asked) -> Result<(), Fail> {
     let alloc = asked.alloc;
-    asked.node(lock(Mode::Shared)?, 1, granted(alloc))?;
+    asked.node(lock(Mode::Shared)?, 1, granted())?;
     asked.node(WorkAsk::Release { txn: 1 }, 2, NodeReply::Released)?;
-    asked.node(lock(Mode::Shared)?, 3, granted(alloc))
+    asked.node(lock(Mode::Shared)?, 3, granted())
 }
 
 fn vote_for_nothing(asked: &mut Asked) -> Result<(), Fail> {

@@ -49,7 +49,7 @@ fn a_choice(rt: HostRuntime) -> Result<(), Wrong> {
 /// A copy of a file, told by the one server.
 fn peeked(alloc: Global) -> Result<NodeEntry, Wrong> {
     let file = FileName::new(b"a").ok_or("no name")?;
-    let content = Content::new(Vec::from_slice(alloc, b"hello")?).ok_or("no content")?;
+    let content = Content::new(Vec::from_slice(alloc, b"hello")?)?.ok_or("no content")?;
     Ok(Entry {
         ask: NodeAsk::Work(WorkAsk::Peek { file }),
         reply: NodeReply::Copy {

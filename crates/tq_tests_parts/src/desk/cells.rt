@@ -62,10 +62,10 @@ fn letter(number: u64) -> u8 {
 /// A content of one byte, and none for 0.
 pub(super) fn text(alloc: Global, number: u64) -> Result<Content, Memory> {
     if number == 0 {
-        return Ok(Content::empty(alloc));
+        return Ok(Content::empty());
     }
     let bytes = vec![in alloc; letter(number)]?;
-    Ok(Content::new(bytes).unwrap())
+    Ok(Content::new(bytes)?.unwrap())
 }
 
 fn mode(number: u64) -> Mode {

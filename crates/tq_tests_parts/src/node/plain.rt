@@ -79,7 +79,7 @@ impl Plain {
                 return Ok(copy.content.clone()?);
             }
         }
-        Ok(Content::empty(self.alloc))
+        Ok(Content::empty())
     }
 
     fn lock(&self, txn: u64, file: FileName) -> Option<PlainLock> {

@@ -55,7 +55,7 @@ fn journal(alloc: Global, asks: &[Asked]) -> Result<Vec<NodeEntry>, Fail> {
 
 fn work_of(alloc: Global, ask: Asked) -> Result<WorkAsk, Fail> {
     match ask {
-        Asked::Takes(letter, version) => take(alloc, letter, version),
+        Asked::Takes(letter, version) => take(letter, version),
         Asked::Locks(txn, letter, mode) => {
             let file = file(letter)?;
             Ok(WorkAsk::Lock { txn, file, mode })
@@ -67,7 +67,7 @@ fn work_of(alloc: Global, ask: Asked) -> Result<WorkAsk, Fail> {
     }
 }
 
-fn take(alloc: Global, letter: u8, version: u64) -> Result<WorkAsk, Fail> {
+fn take(letter: u8, version: u64) -> Result<WorkAsk, Fail> {
     let from = CitedVote {
         server: 1,
         number: 1,
@@ -75,7 +75,7 @@ fn take(alloc: Global, letter: u8, version: u64) -> Result<WorkAsk, Fail> {
     Ok(WorkAsk::Refresh {
         file: file(letter)?,
         version,
-        content: Content::empty(alloc),
+        content: Content::empty(),
         from,
     })
 }
@@ -140,13 +140,13 @@ fn op(alloc: Global, kind: OpKind, letter: u8, number: u64) -> Result<Op, Fail> 
         number,
         mode: Mode::Exclusive,
         version: 0,
-        content: Content::empty(alloc),
+        content: Content::empty(),
     };
     Ok(Op {
         file: file(letter)?,
         kind,
         version: if kind == OpKind::Write { 1 } else { 0 },
-        content: Content::empty(alloc),
+        content: Content::empty(),
         grants: Seq::from_vec(vec![in alloc; grant]?),
     })
 }
@@ -165,16 +165,16 @@ fn writes_of(alloc: Global, pairs: &[(OpKind, u8)]) -> Result<Seq<Write>, Fail> 
     let mut writes = Vec::new(alloc);
     for (kind, letter) in pairs {
         if *kind == OpKind::Write {
-            writes.push(write(alloc, *letter)?)?;
+            writes.push(write(*letter)?)?;
         }
     }
     Ok(Seq::from_vec(writes))
 }
 
-fn write(alloc: Global, letter: u8) -> Result<Write, Fail> {
+fn write(letter: u8) -> Result<Write, Fail> {
     Ok(Write {
         file: file(letter)?,
         version: 1,
-        content: Content::empty(alloc),
+        content: Content::empty(),
     })
 }
