@@ -30,7 +30,7 @@ fn resolved_open(alloc: Global, txn: Open, told: &DeskTold) -> Result<Txn, Txn>
 fn resolved_voting(alloc: Global, voting: Voting, told: &DeskTold) -> Result<Txn, Txn>
     ensures ok { IfOk result (λ txn. txn ≡ spec.resolved (Txn.Voting voting) told.now) }
     ensures tree { IfOk result (λ new. states.levels_of new ≡ voting.txn.levels) }
-    ensures still { IfOk result (λ new. states.IsOf voting.txn new) }
+    ensures still { IfOk result (λ new. states.IsGathered voting new) }
     ensures err { IfErr result (λ txn. txn ≡ Txn.Voting voting) }
 {
     match voting.end(alloc, told) {
@@ -123,7 +123,7 @@ fn is_abort(reply: &DeskReply) -> bool
 
 /// Aborts a transaction at the desk, and then ends it at the servers that granted it a lock. One that committed is
 /// answered with its verdict, and has no ending.
-/// After any fault it comes back in its state or in a later one.
+/// After any fault it comes back in its state, with the votes that it had gathered, or ended.
 pub fn abort<A: Asker>(asker: &mut A, alloc: Global, txn: Txn) -> Abortion
     requires { states.levels_of txn ≡ A.levels asker.old }
     ensures asks { line.Follows (spec.abort_line txn) (A.told asker.old) (A.told asker.new) (line.ended_by result.answer result.txn) }
