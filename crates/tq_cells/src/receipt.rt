@@ -1,9 +1,10 @@
 ghost use Rattle.std.specs.Prelude.{◌≡◌};
+ghost use Rattle.tq_shape.specs.Journal.{entry};
 ghost use Rattle.tq_cells.specs.Passes.{told};
 
 use std::marker::Model;
 use tq_part::Answers;
-use tq_shape::Part;
+use tq_shape::{Entry, Part};
 
 /// What a caller was told of an ask: which part was asked, under which number, and what it replied. Only a cell makes
 /// one.
@@ -61,5 +62,18 @@ impl<P: Answers> Receipt<P> {
         ensures { result.now ≡ self.now.reply }
     {
         &self.reply
+    }
+
+    /// What was asked, with what the part replied.
+    pub fn into_entry(self) -> Entry<P::Ask, P::Reply>
+        ensures { result ≡ entry self.ask self.reply }
+    {
+        let Receipt {
+            part: _,
+            number: _,
+            ask,
+            reply,
+        } = self;
+        Entry { ask, reply }
     }
 }

@@ -1,0 +1,49 @@
+-- What a caller of a cluster was told.
+use Rattle.std.specs.Prelude.{ℕ, List, [], Ok}
+use Rattle.tq_shape.specs.declared.part.Part.{Part}
+use Rattle.tq_shape.specs.declared.part.Part.TheVariants as parts
+use Rattle.tq_cells.specs.Passes.{IsToldBy}
+use Rattle.tq_node.specs.declared.ask.NodeAsk.{NodeAsk}
+use Rattle.tq_node.specs.declared.ask.NodeReply.{NodeReply}
+use Rattle.tq_node.specs.Records.{node_reply}
+use Rattle.tq_node.specs.Node.{NodeView, answered}
+use Rattle.tq_node.specs.Node as node
+use Rattle.tq_desk.specs.declared.ask.DeskAsk.{DeskAsk}
+use Rattle.tq_desk.specs.declared.ask.DeskReply.{DeskReply}
+use Rattle.tq_desk.specs.DeskStep.{DeskView, desk_reply, desk_after}
+use Rattle.tq_desk.specs.DeskStep as desk
+use Rattle.tq_live.specs.Live.{Live}
+use Rattle.tq_live.specs.View.{view_state, view_reply, view_after}
+use Rattle.tq_live.specs.declared.view.ViewAsk.{ViewAsk}
+use Rattle.tq_live.specs.declared.view.ViewReply.{ViewReply}
+use Rattle.tq_txn.specs.declared.asker.Exchange.{Exchange}
+use Rattle.tq_txn.specs.declared.asker.Exchange.TheVariants as exchanges
+use Rattle.tq_cluster.specs.declared.heard.Heard.{Heard}
+use Rattle.tq_cluster.specs.declared.heard.Heard.TheVariants as heard
+
+-- a caller asks the servers of a tree of those levels, and was told this of its asks, in their order
+pub record CallerView : Type 0 where
+  pub levels : ℕ
+  pub told : List Exchange
+
+-- the number of a server by its name, 0 for another part
+abbrev pub server_of : Part → ℕ
+server_of (parts.Server number) = number
+server_of other = 0
+
+-- the ask that was heard of, and what was told of it
+abbrev pub exchange_of : Heard → Exchange
+exchange_of (heard.Server r) = exchanges.Node (server_of r.part) r.ask (Ok (record { number = r.number; reply = r.reply }))
+exchange_of (heard.Desk r) = exchanges.Desk r.ask (Ok (record { number = r.number; reply = r.reply }))
+exchange_of (heard.View r) = exchanges.View r.ask (Ok (record { number = r.number; reply = r.reply }))
+exchange_of (heard.Full exchange) = exchange
+
+-- a legal journal of some server has this entry at this number; of some desk; of some view
+abbrev pub IsToldByServer : ℕ → NodeAsk → NodeReply → Type 0
+IsToldByServer = IsToldBy (λ (s : NodeView) (n : ℕ) (a : NodeAsk). node_reply s.server s.state a) (λ s n a. answered s n a) (λ s. node.opening s.levels s.server)
+
+abbrev pub IsToldByDesk : ℕ → DeskAsk → DeskReply → Type 0
+IsToldByDesk = IsToldBy (λ (s : DeskView) (n : ℕ) (a : DeskAsk). desk_reply s a) (λ s n a. desk_after s a) (λ s. desk.opening s.levels s.limits)
+
+abbrev pub IsToldByView : ℕ → ViewAsk → ViewReply → Type 0
+IsToldByView = IsToldBy (λ (s : Live) (n : ℕ) (a : ViewAsk). view_reply s a) (λ s n a. view_after s a) (λ s. view_state s.levels [])

@@ -1,0 +1,53 @@
+ghost use Rattle.std.specs.Prelude.{◌≡◌, ◌+◌, ◌^◌, [], vec_len};
+
+use crate::heard::Heard;
+use std::alloc::Global;
+use std::marker::Model;
+use tq_cells::Pass;
+use tq_desk::Desk;
+use tq_live::View;
+use tq_node::Node;
+use tq_shape::Levels;
+
+/// One who asks the parts of a cluster: a pass for each part, and what it was told of its asks, in their order.
+#[derive(Drop)]
+pub struct Caller {
+    levels: Levels,
+    pub(crate) servers: Vec<Pass<Node>>,
+    pub(crate) desk: Pass<Desk>,
+    pub(crate) view: Pass<View>,
+    pub(crate) heard: Vec<Heard>,
+}
+
+impl Model for Caller {
+    ghost use Rattle.std.specs.Prelude.{◌≡◌, ◌+◌, ◌^◌, length, map};
+    ghost use Rattle.tq_cluster.specs.Told.{CallerView, exchange_of};
+
+    ghost Value = { CallerView };
+
+    ghost view = { λ c. record { levels = c.levels; told = map exchange_of c.heard.items } };
+
+    ghost invariant = { λ c. length c.servers.items + 1 ≡ 2 ^ c.levels };
+}
+
+impl Caller {
+    /// A caller with these passes, which was told nothing.
+    pub(crate) fn new(
+        alloc: Global,
+        levels: Levels,
+        servers: Vec<Pass<Node>>,
+        desk: Pass<Desk>,
+        view: Pass<View>,
+    ) -> Caller
+        requires { vec_len servers + 1 ≡ 2 ^ levels }
+        ensures { result ≡ record { levels = levels; told = [] } }
+    {
+        Caller {
+            levels,
+            servers,
+            desk,
+            view,
+            heard: Vec::new(alloc),
+        }
+    }
+}

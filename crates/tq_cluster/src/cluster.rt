@@ -1,0 +1,252 @@
+ghost use Rattle.std.specs.Prelude.{◌≡◌, ◌++◌, ◌⊎◌, [], IfOk, IfErr};
+ghost use Rattle.tq_txn.specs.Dialogue.{node_exchange, desk_exchange, view_exchange};
+ghost use Rattle.tq_cluster.specs.Told.{IsToldByServer, IsToldByDesk, IsToldByView};
+
+use crate::call::call;
+use crate::caller::Caller;
+use crate::heard::Heard;
+use std::alloc::Global;
+use std::marker::Model;
+use std::sync::Wait;
+use tq_cells::{CallFault, Cell, Gate, Receipt};
+use tq_desk::{Desk, DeskAsk};
+use tq_live::{View, ViewAsk};
+use tq_node::{Node, NodeAsk};
+use tq_part::AskFault;
+use tq_shape::{Entry, Levels, Limits, Memory, Part, ServerId};
+use tq_txn::{DeskTold, Exchange, NodeTold, ViewTold};
+
+/// All parts of a system, each in a cell of its own: its servers, its desk and its view. Many threads may ask them at
+/// once. No cell is locked while another one is asked.
+#[derive(Drop)]
+pub struct Cluster<G: Gate + Drop> {
+    levels: Levels,
+    limits: Limits,
+    servers: Vec<Cell<Node>>,
+    desk: Cell<Desk>,
+    view: Cell<View>,
+    gate: G,
+}
+
+impl<G: Gate + Drop> Model for Cluster<G> {
+    ghost use Rattle.tq_cluster.specs.Cluster.{ClusterView, IsCluster};
+
+    ghost Value = { ClusterView };
+
+    ghost view = { λ c. record { levels = c.levels; limits = c.limits } };
+
+    ghost invariant = { λ c. IsCluster c.levels c.servers.items c.desk c.view };
+}
+
+impl<G: Gate + Drop> Cluster<G> {
+    /// A cluster that was asked nothing: each server has stored nothing, and is up at cost 1. The gate is told of each
+    /// call of a part. Answers an error only where memory is refused.
+    pub fn new(alloc: Global, levels: Levels, limits: Limits, gate: G) -> Result<Cluster<G>, Memory>
+        ensures { IfOk result (λ cluster. cluster ≡ record { levels = levels; limits = limits }) }
+    {
+        let view = View::new(alloc, levels)?;
+        let most = limits.entries();
+        let mut servers = Vec::new(alloc);
+        for place in 0..levels.servers() {
+            let server = ServerId::new(levels, place + 1);
+            let node = Node::new(alloc, levels, server);
+            let cell = Cell::new(alloc, Part::Server(place + 1), node, most);
+            servers.push(cell)?;
+        }
+        let desk = Desk::new(alloc, levels, limits);
+        let desk_cell = Cell::new(alloc, Part::Desk, desk, most);
+        let view_cell = Cell::new(alloc, Part::View, view, most);
+        Ok(Cluster {
+            levels,
+            limits,
+            servers,
+            desk: desk_cell,
+            view: view_cell,
+            gate,
+        })
+    }
+
+    /// A caller that was told nothing. Answers an error only where memory is refused.
+    pub fn caller(&self, alloc: Global) -> Result<Caller, Memory>
+        ensures { IfOk result (λ caller. caller ≡ record { levels = self.now.levels; told = [] }) }
+    {
+        let mut servers = Vec::new(alloc);
+        for cell in self.servers.as_slice() {
+            servers.push(cell.pass(alloc))?;
+        }
+        let desk = self.desk.pass(alloc);
+        let view = self.view.pass(alloc);
+        Ok(Caller::new(alloc, self.levels, servers, desk, view))
+    }
+
+    /// Asks a server, as `ask_desk` asks the desk.
+    pub fn ask_node<R: Wait>(
+        &self,
+        rt: &R,
+        alloc: Global,
+        caller: &mut Caller,
+        server: ServerId,
+        ask: NodeAsk,
+    ) -> Result<NodeTold, AskFault>
+        requires levels { caller.old.levels ≡ self.now.levels }
+        requires server { server.levels ≡ self.now.levels }
+        ensures exchanges { caller.new.told ≡ caller.old.told ++ node_exchange server.number ask result }
+        ensures same { IfOk result (λ t. (t.server ≡ server.number) × (t.ask ≡ ask)) }
+        ensures reply { IfOk result (λ t. IsToldByServer t.number t.ask t.reply) }
+        ensures fault { IfErr result (λ f. (f ≡ AskFault.Memory) ⊎ (f ≡ AskFault.JournalFull (Part.Server server.number))) }
+        ensures tree { caller.new.levels ≡ caller.old.levels }
+    {
+        let number = server.number();
+        let place = (number - 1) as usize;
+        caller.heard.reserve(1)?;
+        let asks = twice(ask)?;
+        match call(
+            rt,
+            alloc,
+            &self.servers[place],
+            &mut caller.servers[place],
+            &self.gate,
+            asks.put,
+        ) {
+            Ok(receipts) => {
+                drop(asks.kept);
+                caller.heard.push_reserved(Heard::Server(receipts.kept));
+                Ok(node_told(number, receipts.told))
+            }
+            Err(CallFault::Memory) => {
+                drop(asks.kept);
+                Err(AskFault::Memory)
+            }
+            Err(CallFault::JournalFull) => {
+                let part = Part::Server(number);
+                let fault = AskFault::JournalFull { part };
+                caller.heard.push_reserved(Heard::Full(Exchange::Node {
+                    server: number,
+                    ask: asks.kept,
+                    answer: Err(fault),
+                }));
+                Err(fault)
+            }
+        }
+    }
+
+    /// Asks the desk, once it has its lock: the reply is that of the desk after the entries of its journal, and the ask
+    /// is entered with it under the number that is told. Answers `JournalFull` where that journal is full, and `Memory`
+    /// where memory is refused: then the desk is as it was.
+    pub fn ask_desk<R: Wait>(
+        &self,
+        rt: &R,
+        alloc: Global,
+        caller: &mut Caller,
+        ask: DeskAsk,
+    ) -> Result<DeskTold, AskFault>
+        requires { caller.old.levels ≡ self.now.levels }
+        ensures exchanges { caller.new.told ≡ caller.old.told ++ desk_exchange ask result }
+        ensures same { IfOk result (λ t. t.ask ≡ ask) }
+        ensures reply { IfOk result (λ t. IsToldByDesk t.number t.ask t.reply) }
+        ensures fault { IfErr result (λ f. (f ≡ AskFault.Memory) ⊎ (f ≡ AskFault.JournalFull Part.Desk)) }
+        ensures tree { caller.new.levels ≡ caller.old.levels }
+    {
+        let copy = ask.clone()?;
+        caller.heard.reserve(1)?;
+        match call(rt, alloc, &self.desk, &mut caller.desk, &self.gate, ask) {
+            Ok(receipts) => {
+                drop(copy);
+                caller.heard.push_reserved(Heard::Desk(receipts.kept));
+                Ok(desk_told(receipts.told))
+            }
+            Err(CallFault::Memory) => {
+                drop(copy);
+                Err(AskFault::Memory)
+            }
+            Err(CallFault::JournalFull) => {
+                let fault = AskFault::JournalFull { part: Part::Desk };
+                caller.heard.push_reserved(Heard::Full(Exchange::Desk {
+                    ask: copy,
+                    answer: Err(fault),
+                }));
+                Err(fault)
+            }
+        }
+    }
+
+    /// Asks the view, as `ask_desk` asks the desk.
+    pub fn ask_view<R: Wait>(
+        &self,
+        rt: &R,
+        alloc: Global,
+        caller: &mut Caller,
+        ask: ViewAsk,
+    ) -> Result<ViewTold, AskFault>
+        requires { caller.old.levels ≡ self.now.levels }
+        ensures exchanges { caller.new.told ≡ caller.old.told ++ view_exchange ask result }
+        ensures same { IfOk result (λ t. t.ask ≡ ask) }
+        ensures reply { IfOk result (λ t. IsToldByView t.number t.ask t.reply) }
+        ensures fault { IfErr result (λ f. (f ≡ AskFault.Memory) ⊎ (f ≡ AskFault.JournalFull Part.View)) }
+        ensures tree { caller.new.levels ≡ caller.old.levels }
+    {
+        caller.heard.reserve(1)?;
+        match call(rt, alloc, &self.view, &mut caller.view, &self.gate, ask) {
+            Ok(receipts) => {
+                caller.heard.push_reserved(Heard::View(receipts.kept));
+                Ok(view_told(receipts.told))
+            }
+            Err(CallFault::Memory) => Err(AskFault::Memory),
+            Err(CallFault::JournalFull) => {
+                let fault = AskFault::JournalFull { part: Part::View };
+                caller.heard.push_reserved(Heard::Full(Exchange::View {
+                    ask,
+                    answer: Err(fault),
+                }));
+                Err(fault)
+            }
+        }
+    }
+}
+
+/// An ask of a server, twice: one to put, and one to keep.
+#[derive(Drop)]
+struct NodeAsks {
+    put: NodeAsk,
+    kept: NodeAsk,
+}
+
+/// Answers an error only where memory is refused.
+fn twice(ask: NodeAsk) -> Result<NodeAsks, Memory>
+    ensures { IfOk result (λ asks. (asks.put ≡ ask) × (asks.kept ≡ ask)) }
+{
+    let kept = ask.clone()?;
+    Ok(NodeAsks { put: ask, kept })
+}
+
+/// What the server of that number told.
+fn node_told(server: u64, receipt: Receipt<Node>) -> NodeTold
+    ensures { result ≡ record { server = server; number = receipt.number; ask = receipt.ask; reply = receipt.reply } }
+{
+    let number = receipt.number();
+    let Entry { ask, reply } = receipt.into_entry();
+    NodeTold {
+        server,
+        number,
+        ask,
+        reply,
+    }
+}
+
+/// What the desk told.
+fn desk_told(receipt: Receipt<Desk>) -> DeskTold
+    ensures { result ≡ record { number = receipt.number; ask = receipt.ask; reply = receipt.reply } }
+{
+    let number = receipt.number();
+    let Entry { ask, reply } = receipt.into_entry();
+    DeskTold { number, ask, reply }
+}
+
+/// What the view told.
+fn view_told(receipt: Receipt<View>) -> ViewTold
+    ensures { result ≡ record { number = receipt.number; ask = receipt.ask; reply = receipt.reply } }
+{
+    let number = receipt.number();
+    let Entry { ask, reply } = receipt.into_entry();
+    ViewTold { number, ask, reply }
+}

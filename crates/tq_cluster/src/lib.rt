@@ -1,0 +1,10 @@
+//! The running cluster: each part of a system in a cell of its own, and callers that many threads may have.
+#![tactic(auto)]
+
+mod call;
+mod caller;
+mod cluster;
+mod heard;
+
+pub use caller::Caller;
+pub use cluster::Cluster;
