@@ -1,5 +1,5 @@
 -- Bytes compare as the numbers that they spell, the first byte counting most; so names compare by words.
-use Rattle.std.proofs.Common.{◌≡◌, ◌≢◌, ℕ, zero, suc, ◌+◌, ◌*◌, ◌^◌, ◌<◌, ◌≤◌, List, [], ◌∷◌, length, drop, Bool, true, false, ◌&&◌, ◌==◌, refl, ap, sym, subst, ◌∙◌, arith, IsTrue, nat_eq, slice_index}
+use Rattle.std.proofs.Common.{◌≡◌, ◌≢◌, ℕ, zero, suc, ◌+◌, ◌*◌, ◌^◌, ◌<◌, ◌≤◌, List, [], length, drop, Bool, true, false, ◌&&◌, ◌==◌, refl, ap, sym, ◌∙◌, arith, IsTrue, nat_eq, slice_index}
 use Rattle.std.proofs.Math.ListN.{drop_of_length-le}
 use Rattle.std.proofs.Math.Nat.{mul-le-mul_right, suc-mul, pow-suc}
 use Rattle.std.proofs.Math.Seq.{drop-cons}
