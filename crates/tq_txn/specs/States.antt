@@ -4,6 +4,7 @@ use Rattle.tq_txn.specs.declared.txn.Txn.{Txn}
 use Rattle.tq_txn.specs.declared.txn.Txn.TheVariants as states
 use Rattle.tq_states.specs.Ended.{EndedView}
 use Rattle.tq_states.specs.Open.{OpenView}
+use Rattle.tq_states.specs.Voting.{VotingView, IsVotedOn}
 
 -- the number that the desk gave it
 abbrev pub number_of : Txn → ℕ
@@ -29,8 +30,14 @@ IsOf old (states.Open new) = new ≡ old
 IsOf old (states.Voting new) = new.txn ≡ old
 IsOf old (states.Ended new) = IsEndOf old new
 
+-- the transaction still gathers votes, and each vote gathered is there still, or it ended
+abbrev pub IsGathered : VotingView → Txn → Type 0
+IsGathered old (states.Open new) = ⊥
+IsGathered old (states.Voting new) = IsVotedOn old new
+IsGathered old (states.Ended new) = IsEndOf old.txn new
+
 -- the same transaction, in the same state or in a later one
 abbrev pub IsStill : Txn → Txn → Type 0
 IsStill (states.Open old) new = IsOf old new
-IsStill (states.Voting old) new = IsOf old.txn new
+IsStill (states.Voting old) new = IsGathered old new
 IsStill (states.Ended old) new = new ≡ states.Ended old

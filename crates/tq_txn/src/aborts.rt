@@ -30,7 +30,7 @@ fn resolved_open(alloc: Global, txn: Open, told: &DeskTold) -> Result<Txn, Txn>
 fn resolved_voting(alloc: Global, voting: Voting, told: &DeskTold) -> Result<Txn, Txn>
     ensures ok { IfOk result (λ txn. txn ≡ spec.resolved (Txn.Voting voting) told.now) }
     ensures tree { IfOk result (λ new. states.levels_of new ≡ voting.txn.levels) }
-    ensures still { IfOk result (λ new. states.IsOf voting.txn new) }
+    ensures still { IfOk result (λ new. states.IsGathered voting new) }
     ensures err { IfErr result (λ txn. txn ≡ Txn.Voting voting) }
 {
     match voting.end(alloc, told) {
