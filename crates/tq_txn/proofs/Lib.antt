@@ -1,3 +1,4 @@
 pub mod LineLaws
+pub mod KeptVotes
 pub mod CommitLaws
 pub mod AbortLaws

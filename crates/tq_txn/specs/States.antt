@@ -4,7 +4,7 @@ use Rattle.tq_txn.specs.declared.txn.Txn.{Txn}
 use Rattle.tq_txn.specs.declared.txn.Txn.TheVariants as states
 use Rattle.tq_states.specs.Ended.{EndedView}
 use Rattle.tq_states.specs.Open.{OpenView}
-use Rattle.tq_states.specs.Voting.{VotingView, KeepsVotes}
+use Rattle.tq_states.specs.Voting.{VotingView, IsVotedOn}
 
 -- the number that the desk gave it
 abbrev pub number_of : Txn → ℕ
@@ -30,10 +30,10 @@ IsOf old (states.Open new) = new ≡ old
 IsOf old (states.Voting new) = new.txn ≡ old
 IsOf old (states.Ended new) = IsEndOf old new
 
--- the transaction with the votes that it had gathered and maybe more, or ended
+-- the transaction still gathers votes, and each vote gathered is there still, or it ended
 abbrev pub IsGathered : VotingView → Txn → Type 0
 IsGathered old (states.Open new) = ⊥
-IsGathered old (states.Voting new) = (new.txn ≡ old.txn) × KeepsVotes old.votes new.votes
+IsGathered old (states.Voting new) = IsVotedOn old new
 IsGathered old (states.Ended new) = IsEndOf old.txn new
 
 -- the same transaction, in the same state or in a later one

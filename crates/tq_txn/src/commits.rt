@@ -1,7 +1,7 @@
 ghost use Rattle.std.specs.Prelude.{◌≡◌, ◌==◌, true, IfOk};
 ghost use Rattle.std.specs.List.{list_all};
 ghost use Rattle.tq_coterie.specs.Coterie.{numbers_of};
-ghost use Rattle.tq_states.specs.Voting.{KeepsVotes};
+ghost use Rattle.tq_states.specs.Voting.{IsVotedOn};
 ghost use Rattle.tq_txn.specs.Commits as spec;
 ghost use Rattle.tq_txn.specs.Dialogue as line;
 ghost use Rattle.tq_txn.specs.States as states;
@@ -12,7 +12,7 @@ use std::alloc::Global;
 use tq_desk::DeskReply;
 use tq_shape::{Memory, Part, ServerId};
 
-/// The votes of the servers, in their order; the first refusal ends it.
+/// The votes of the servers, in their order; the first refusal ends it. No vote gathered is lost.
 fn prepare_each<A: Asker>(
     asker: &mut A,
     alloc: Global,
@@ -22,7 +22,7 @@ fn prepare_each<A: Asker>(
     requires { list_all (λ id. id.levels == A.levels asker.old) servers.now ≡ true }
     ensures asks { line.Follows (spec.prepares_line (numbers_of servers.now) voting.old) (A.told asker.old) (A.told asker.new) (line.ended_by result voting.new) }
     ensures txn { voting.new.txn ≡ voting.old.txn }
-    ensures kept { KeepsVotes voting.old.votes voting.new.votes }
+    ensures kept { IsVotedOn voting.old voting.new }
     ensures tree { A.levels asker.new ≡ A.levels asker.old }
 {
     match servers {
@@ -49,7 +49,7 @@ fn committed(reply: DeskReply) -> Result<u64, LineFault>
 fn decided(alloc: Global, ready: Ready, told: DeskTold) -> Decision
     ensures decision { spec.IsDecision ready told result.answer result.txn }
     ensures levels { states.levels_of result.txn ≡ ready.txn.levels }
-    ensures still { states.IsGathered ready result.txn }
+    ensures kept { states.IsGathered ready result.txn }
 {
     match ready.end(alloc, &told) {
         Ok(ended) => Decision {
@@ -76,11 +76,11 @@ fn undecided(reply: DeskReply, ready: Ready, fault: TxnFault) -> Decision
 }
 
 /// Asks the desk to commit a transaction whose votes are all there. After a fault the transaction comes back with what
-/// it read and wrote and the votes that it gathered, ended where the desk said how it ended before.
+/// it read and wrote and with its votes, or ended where the desk said how it ended before.
 pub fn decide<A: Asker>(asker: &mut A, alloc: Global, voting: Voting) -> Decision
     ensures asks { line.Follows (spec.decide_line voting) (A.told asker.old) (A.told asker.new) (line.ended_by result.answer result.txn) }
     ensures levels { states.levels_of result.txn ≡ voting.txn.levels }
-    ensures still { states.IsGathered voting result.txn }
+    ensures kept { states.IsGathered voting result.txn }
     ensures tree { A.levels asker.new ≡ A.levels asker.old }
 {
     let ready = match voting.ready() {
@@ -117,12 +117,12 @@ fn voters_of(alloc: Global, voting: &Voting) -> Result<Vec<ServerId>, Memory>
 
 /// Commits a transaction: the votes still missing, the commit at the desk, and then the ending. A refused vote ends
 /// it before the desk is asked; where the desk refuses, there is no ending.
-/// After any fault it comes back with the votes that it had gathered, and those that came, or ended.
+/// After any fault it comes back with each vote gathered, or ended.
 pub fn commit<A: Asker>(asker: &mut A, alloc: Global, voting: Voting) -> Decision
     requires { voting.txn.levels ≡ A.levels asker.old }
     ensures asks { line.Follows (spec.commit_line voting) (A.told asker.old) (A.told asker.new) (line.ended_by result.answer result.txn) }
     ensures levels { states.levels_of result.txn ≡ voting.txn.levels }
-    ensures still { states.IsGathered voting result.txn }
+    ensures kept { states.IsGathered voting result.txn }
     ensures tree { A.levels asker.new ≡ A.levels asker.old }
 {
     let mut voting = voting;

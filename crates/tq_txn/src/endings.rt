@@ -1,7 +1,7 @@
-ghost use Rattle.std.specs.Prelude.{◌≡◌, ◌==◌, true, List, Some, None, Ok, IfOk, OnErr};
+ghost use Rattle.std.specs.Prelude.{◌≡◌, ◌==◌, true, false, List, Some, None, Ok, IfOk, OnErr};
 ghost use Rattle.std.specs.List.{list_all};
 ghost use Rattle.tq_coterie.specs.Coterie.{numbers_of};
-ghost use Rattle.tq_states.specs.Voting.{KeepsVotes};
+ghost use Rattle.tq_states.specs.Voting.{IsVotedOn, has_vote};
 ghost use Rattle.tq_txn.specs.Dialogue as line;
 ghost use Rattle.tq_txn.specs.Lines as spec;
 ghost use Rattle.tq_txn.specs.declared.asker.Exchange.{Exchange};
@@ -21,7 +21,8 @@ fn refusal_in(reply: &NodeReply) -> Option<NodeRefusal>
     }
 }
 
-/// A voter's vote; one that is there is answered with no ask. After a fault the transaction is as it was.
+/// A voter's vote; one that is there is answered with no ask. No vote gathered is lost, and after a fault the
+/// transaction is as it was.
 pub fn prepare_at<A: Asker>(
     asker: &mut A,
     alloc: Global,
@@ -31,7 +32,7 @@ pub fn prepare_at<A: Asker>(
     requires { server.levels ≡ A.levels asker.old }
     ensures asks { line.Follows (spec.prepare_line voting.old server.number) (A.told asker.old) (A.told asker.new) (line.ended_by result voting.new) }
     ensures txn { voting.new.txn ≡ voting.old.txn }
-    ensures kept { KeepsVotes voting.old.votes voting.new.votes }
+    ensures kept { IsVotedOn voting.old voting.new }
     ensures err { OnErr result (voting.new ≡ voting.old) }
     ensures tree { A.levels asker.new ≡ A.levels asker.old }
 {
@@ -52,7 +53,7 @@ pub fn prepare_at<A: Asker>(
 fn take_vote(alloc: Global, voting: &mut Voting, told: &NodeTold) -> Result<(), LineFault>
     ensures asks { (exchanges : List Exchange) → line.Follows (spec.voted voting.old told.now) exchanges exchanges (line.ended_by result voting.new) }
     ensures txn { voting.new.txn ≡ voting.old.txn }
-    ensures kept { KeepsVotes voting.old.votes voting.new.votes }
+    ensures kept { has_vote voting.old.votes told.now.server ≡ false → IsVotedOn voting.old voting.new }
     ensures err { OnErr result (voting.new ≡ voting.old) }
 {
     if let Some(refusal) = refusal_in(&told.reply) {

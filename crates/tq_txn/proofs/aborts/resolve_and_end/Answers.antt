@@ -1,6 +1,10 @@
+use Rattle.tq_txn.proofs.KeptVotes.{still_same}
 use Rattle.tq_txn.specs.Aborts.{abort_end, resolved}
 use Rattle.tq_txn.proofs.LineLaws.{follows_memory}
 use Rattle.tq_txn.proofs.aborts.resolve_and_end.Goals as goal
 
 pub returns-in-Err-clause-asks : goal.returns-in-Err-clause-asks
 returns-in-Err-clause-asks g c = follows_memory (abort_end c.args.told.reply (resolved c.args.txn c.args.told)) (g.A.Asker.told c.args.asker.now)
+
+pub returns-in-Err-clause-still : goal.returns-in-Err-clause-still
+returns-in-Err-clause-still g c = still_same c.args.txn c.in-Err.txn c.in-Err.ensures.err

@@ -1,4 +1,7 @@
-use Rattle.std.proofs.Common.{◌∙◌, Err, ap}
+use Rattle.std.proofs.Common.{refl, sym, subst, ◌∙◌, Err, ap}
+use Rattle.tq_txn.proofs.KeptVotes.{voted_on_same, gathered_on}
+use Rattle.tq_txn.specs.declared.txn.Txn.{Txn}
+use Rattle.tq_txn.specs.States.{IsGathered}
 use Rattle.tq_coterie.specs.Coterie.{numbers_of}
 use Rattle.tq_txn.specs.Commits.{commit_line}
 use Rattle.tq_txn.specs.Dialogue.{ended_by}
@@ -26,3 +29,14 @@ returns-clause-asks g c =
     commit_on c.args.voting c.prepare_each.new.voting c.as_slice.result.now (ap numbers_of c.as_slice.ensures.value ∙ c.in-Ok.ensures.numbers) (g.A.Asker.told c.args.asker.now) (g.A.Asker.told c.prepare_each.new.asker)
     (g.A.Asker.told c.decide-answer.new.asker) (ended_by (Err c.in-Err-answer.fault) c.decide-answer.result.txn) c.in_default.ensures.asks
     (decide_off c.prepare_each.new.voting c.decide-answer.result.answer c.decide-answer.result.txn (g.A.Asker.told c.prepare_each.new.asker) (g.A.Asker.told c.decide-answer.new.asker) c.decide-answer.ensures.asks c.in-Err-answer.fault c.in-Err-answer.is)
+
+pub returns-in-Err-clause-kept : goal.returns-in-Err-clause-kept
+returns-in-Err-clause-kept g c = voted_on_same c.args.voting c.args.voting refl
+
+pub returns-clause-kept : goal.returns-clause-kept
+returns-clause-kept g c = gathered_on c.args.voting c.prepare_each.new.voting c.decide-answer.result.txn c.prepare_each.ensures.kept c.decide-answer.ensures.kept
+
+pub returns-in-Ok-answer-clause-kept : goal.returns-in-Ok-answer-clause-kept
+returns-in-Ok-answer-clause-kept g c =
+    let P : Txn → Type 0 = λ txn. IsGathered c.args.voting txn in
+    subst P (sym c.end_committed.ensures.same) (gathered_on c.args.voting c.prepare_each.new.voting c.decide-answer.result.txn c.prepare_each.ensures.kept c.decide-answer.ensures.kept)

@@ -1,3 +1,4 @@
+use Rattle.tq_txn.proofs.KeptVotes.{gathered_same}
 use Rattle.std.proofs.Common.{subst}
 use Rattle.tq_txn.specs.Commits.{IsUndecided}
 use Rattle.tq_states.specs.Voting.{VotingView}
@@ -8,3 +9,6 @@ pub returns-clause-decision : goal.returns-clause-decision
 returns-clause-decision c =
     let P : VotingView → Type 0 = λ v. IsUndecided v c.args.told.reply c.in-Err.back.1 c.undecided.result.answer c.undecided.result.txn in
     undecided_decision c.args.ready c.args.told c.in-Err.back.1 c.undecided.result.answer c.undecided.result.txn c.in-Err.ensures.fault.1 (subst P c.in-Err.ensures.fault.0 c.undecided.ensures.undecided)
+
+pub returns-clause-kept : goal.returns-clause-kept
+returns-clause-kept c = gathered_same c.args.ready c.in-Err.back.0 c.undecided.result.txn c.undecided.ensures.txn c.in-Err.ensures.fault.0

@@ -1,4 +1,6 @@
-use Rattle.std.proofs.Common.{◌∙◌, sym}
+use Rattle.std.proofs.Common.{refl, ap, ◌∙◌, sym}
+use Rattle.tq_txn.proofs.KeptVotes.{voted_on_same}
+use Rattle.tq_states.specs.Voting.{has_vote}
 use Rattle.tq_txn.proofs.LineLaws.{told_node, vote_asked}
 use Rattle.tq_txn.proofs.endings.prepare_at.Goals as goal
 
@@ -8,3 +10,16 @@ returns-in-Ok-node-clause-asks g c =
     (sym c.has_vote.ensures ∙ c.if-has_vote.false) c.in-Ok.ensures.succeeds c.in-Ok.ensures.value
     (told_node c.args.server.number c.in-Ok.ask c.in-Ok-node.told (g.A.Asker.told c.args.asker.now) (g.A.Asker.told c.node.new.self) c.in-Ok-node.ensures.exchanges c.in-Ok-node.ensures.same.0 c.in-Ok-node.ensures.same.1)
     (c.take_vote.ensures.asks (g.A.Asker.told c.node.new.self))
+
+pub returns-then-has_vote-clause-kept : goal.returns-then-has_vote-clause-kept
+returns-then-has_vote-clause-kept g c = voted_on_same c.args.voting.now c.args.voting.now refl
+
+pub returns-in-Err-clause-kept : goal.returns-in-Err-clause-kept
+returns-in-Err-clause-kept g c = voted_on_same c.args.voting.now c.args.voting.now refl
+
+pub returns-in-Err-node-clause-kept : goal.returns-in-Err-node-clause-kept
+returns-in-Err-node-clause-kept g c = voted_on_same c.args.voting.now c.args.voting.now refl
+
+pub returns-in-Ok-node-clause-kept : goal.returns-in-Ok-node-clause-kept
+returns-in-Ok-node-clause-kept g c =
+    c.take_vote.ensures.kept (ap (has_vote c.args.voting.now.votes) c.in-Ok-node.ensures.same.0 ∙ sym c.has_vote.ensures ∙ c.if-has_vote.false)

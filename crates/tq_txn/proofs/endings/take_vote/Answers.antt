@@ -1,4 +1,5 @@
-use Rattle.std.proofs.Common.{◌∙◌, sym}
+use Rattle.std.proofs.Common.{refl, ◌∙◌, sym}
+use Rattle.tq_txn.proofs.KeptVotes.{voted_on_same, voted_on_after}
 use Rattle.tq_txn.proofs.LineLaws.{vote_refused}
 use Rattle.tq_txn.proofs.endings.take_vote.Goals as goal
 
@@ -6,3 +7,12 @@ pub returns-in-Err-clause-asks : goal.returns-in-Err-clause-asks
 returns-in-Err-clause-asks c = λ told.
     vote_refused c.args.voting.now c.vote.new.self c.args.told.now c.in-Err.fault c.from.result told
     (sym c.refusal_in.ensures ∙ c.in_default.is) c.in-Err.ensures.fault c.in-Err.ensures.err c.from.ensures
+
+pub returns-in-Some-clause-kept : goal.returns-in-Some-clause-kept
+returns-in-Some-clause-kept c = λ none. voted_on_same c.args.voting.now c.args.voting.now refl
+
+pub returns-in-Err-clause-kept : goal.returns-in-Err-clause-kept
+returns-in-Err-clause-kept c = λ none. voted_on_same c.args.voting.now c.vote.new.self c.in-Err.ensures.err
+
+pub returns-clause-kept : goal.returns-clause-kept
+returns-clause-kept c = λ none. voted_on_after c.args.voting.now c.vote.new.self c.args.told.now c.in_default-vote.ensures.after none

@@ -1,0 +1,5 @@
+use Rattle.tq_txn.proofs.KeptVotes.{voted_on_same}
+use Rattle.tq_txn.proofs.aborts.resolved_voting.Goals as goal
+
+pub returns-in_default-clause-still : goal.returns-in_default-clause-still
+returns-in_default-clause-still c = voted_on_same c.args.voting c.in-Err.back.0 c.in-Err.ensures.fault.0
