@@ -98,23 +98,17 @@ impl<G: Gate + Drop> Cluster<G> {
     {
         let number = server.number();
         let place = (number - 1) as usize;
+        let copy = ask.clone()?;
         caller.heard.reserve(1)?;
-        let asks = twice(ask)?;
-        match call(
-            rt,
-            alloc,
-            &self.servers[place],
-            &mut caller.servers[place],
-            &self.gate,
-            asks.put,
-        ) {
+        let cell = &self.servers[place];
+        match call(rt, alloc, cell, &mut caller.servers[place], &self.gate, ask) {
             Ok(receipts) => {
-                drop(asks.kept);
+                drop(copy);
                 caller.heard.push_reserved(Heard::Server(receipts.kept));
                 Ok(node_told(number, receipts.told))
             }
             Err(CallFault::Memory) => {
-                drop(asks.kept);
+                drop(copy);
                 Err(AskFault::Memory)
             }
             Err(CallFault::JournalFull) => {
@@ -122,7 +116,7 @@ impl<G: Gate + Drop> Cluster<G> {
                 let fault = AskFault::JournalFull { part };
                 caller.heard.push_reserved(Heard::Full(Exchange::Node {
                     server: number,
-                    ask: asks.kept,
+                    ask: copy,
                     answer: Err(fault),
                 }));
                 Err(fault)
@@ -202,21 +196,6 @@ impl<G: Gate + Drop> Cluster<G> {
             }
         }
     }
-}
-
-/// An ask of a server, twice: one to put, and one to keep.
-#[derive(Drop)]
-struct NodeAsks {
-    put: NodeAsk,
-    kept: NodeAsk,
-}
-
-/// Answers an error only where memory is refused.
-fn twice(ask: NodeAsk) -> Result<NodeAsks, Memory>
-    ensures { IfOk result (λ asks. (asks.put ≡ ask) × (asks.kept ≡ ask)) }
-{
-    let kept = ask.clone()?;
-    Ok(NodeAsks { put: ask, kept })
 }
 
 /// What the server of that number told.

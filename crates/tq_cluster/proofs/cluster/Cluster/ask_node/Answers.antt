@@ -14,9 +14,9 @@ returns-in-Ok-clause-exchanges g c =
     let least = of_tree.0 in
     let most = of_tree.1 in
     let count = c.self.invariant.one_each in
-    let named = named_by c.self.inside.servers.items c.number-number.result c.index.result.now c.self.invariant.are_servers least (omega arith) c.index.ensures in
+    let named = named_by c.self.inside.servers.items c.number-number.result c.index-cell.result.now c.self.invariant.are_servers least (omega arith) c.index-cell.ensures in
     let exchanged = node_exchanged c.in-Ok.receipts.kept c.in-Ok.receipts.told c.number-number.result c.args.server.number c.args.ask c.node_told.result
-    c.in-Ok.ensures.same (c.in-Ok.ensures.asked.0 ∙ named) (c.in-Ok.ensures.asked.1 ∙ c.in_ok-asks.ensures.0) c.number-number.ensures.value c.node_told.ensures in
+    c.in-Ok.ensures.same (c.in-Ok.ensures.asked.0 ∙ named) c.in-Ok.ensures.asked.1 c.number-number.ensures.value c.node_told.ensures in
     one_more_heard c.caller.inside.heard.items c.reserve.new.self.items c.push_reserved.new.self.items c.args.caller.now.told (heard.Server c.in-Ok.receipts.kept) _
     (ap (λ (v : CallerView). v.told) c.caller.view_is) c.in_ok-reserve.ensures.items c.push_reserved.ensures.items exchanged
 
