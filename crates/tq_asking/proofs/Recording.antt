@@ -1,8 +1,7 @@
 -- What a recorder notes of a step: the ask stands at its place, those before it stay where they stand, and all of them lead to
 -- the journals after the step.
-use Rattle.std.proofs.Common.{◌≡◌, ◌∙◌, ◌+◌, ◌-◌, ◌<◌, ℕ, zero, suc, Bool, true, false, cond, eqb, nat_lt, ◌&&◌, List, [], ◌∷◌, ◌++◌, Option, Some, None, Result, Ok, Err, is_some, length, set, append-nil, refl, sym, ap, subst, arith}
-use Rattle.std.specs.Prelude.{nat_le, if◌then◌else◌, slice_get, slice_set}
-use Rattle.std.specs.List.{list_all, filter_map}
+use Rattle.std.proofs.Common.{◌≡◌, ◌∙◌, ◌-◌, ◌<◌, ℕ, zero, suc, Bool, true, false, cond, eqb, nat_lt, ◌&&◌, List, [], ◌∷◌, ◌++◌, Option, Some, None, Result, Ok, Err, is_some, length, set, append-nil, refl, sym, ap, subst, arith}
+use Rattle.std.specs.Prelude.{nat_le, if◌then◌else◌, slice_get}
 use Rattle.std.specs.Option.{option_map, option_and_then, unwrap_or}
 use Rattle.std.proofs.lemmas.Bool.{eqb-true, eqb-false, and_parts}
 use Rattle.std.proofs.lemmas.List.Elements.{filter_map-append}
@@ -24,7 +23,8 @@ use Rattle.tq_world.specs.Founded.{unfounded_in_node_ask, unfounded_in_desk_ask}
 use Rattle.tq_world.specs.World.{item_at, server_entry, empty_world}
 use Rattle.tq_world.specs.Steps.{IsTold, told_at, refuse_unfounded, refuse_entry, refuse_at, refusal, answer, grown, server_journal, node_entry, desk_entry, view_entry, world_after}
 use Rattle.tq_shape.specs.Steps.{state_at}
-use Rattle.tq_world.proofs.Rooms.{HasRoom, node_room, item_above}
+use Rattle.tq_world.proofs.Rooms.{HasRoom, node_room}
+use Rattle.tq_shape.specs.Tree.{Server}
 use Rattle.tq_shape.specs.declared.part.Part.{Part}
 use Rattle.tq_shape.specs.declared.part.Part.TheVariants as parts
 use Rattle.tq_node.specs.declared.ask.NodeReply.{NodeReply}
@@ -35,11 +35,11 @@ use Rattle.tq_txn.specs.declared.asker.Exchange.TheVariants as exchanges
 use Rattle.tq_part.specs.declared.fault.AskFault.{AskFault}
 use Rattle.tq_part.specs.declared.fault.AskFault.TheVariants as ask_faults
 use Rattle.tq_part.specs.declared.journaled.Answered.{Answered}
-use Rattle.tq_txn.specs.Dialogue.{Told, unless_memory}
+use Rattle.tq_txn.specs.Dialogue.{unless_memory}
 use Rattle.tq_core.specs.Asked.{answer_of, refusal_of}
 use Rattle.tq_asking.specs.declared.recorder.Place.{Place}
 use Rattle.tq_asking.specs.declared.recorder.Place.TheVariants as places
-use Rattle.tq_asking.specs.Asking.{untaken_at, untaken, told_by, node_told, desk_told, view_told}
+use Rattle.tq_asking.specs.Asking.{untaken_at, untaken, told_by}
 use Rattle.tq_asking.specs.Recorded.{full_limits, exchange_at, told_in, stand, step_of, Matches, Replays, IsRecorder, fault_place}
 use Rattle.tq_asking.proofs.Leading.{item_of, replays_push}
 
@@ -149,14 +149,14 @@ levels_after world step = by (refusal world step)
     by (Some reason) = refl
 
 exchange_stays : (old new : JournalsView) (faults more : List Exchange) (place : Place) (h : Exchange) → Extends old new → exchange_at old faults place ≡ Some h → exchange_at new (faults ++ more) place ≡ Some h
-exchange_stays old new faults more (places.Server server number) h ext is = by (server_entry old server number) refl is
+exchange_stays old new faults more (places.Server server number) h ext is = by (server_entry old server.number number) refl is
   where
     f : NodeEntry → Exchange
-    f entry = exchanges.Node server entry.ask (Ok (record { number = number; reply = entry.reply }))
+    f entry = exchanges.Node server.number entry.ask (Ok (record { number = number; reply = entry.reply }))
 
-    by : (e : Option NodeEntry) → server_entry old server number ≡ e → option_map f e ≡ Some h → option_map f (server_entry new server number) ≡ Some h
+    by : (e : Option NodeEntry) → server_entry old server.number number ≡ e → option_map f e ≡ Some h → option_map f (server_entry new server.number number) ≡ Some h
     by None eq some = absurd (let none : Path (Option Exchange) None (Some h) = some in cc)
-    by (Some y) eq some = ap (option_map f) (ext.server_stays server number y eq) ∙ some
+    by (Some y) eq some = ap (option_map f) (ext.server_stays server.number number y eq) ∙ some
 exchange_stays old new faults more (places.Desk number) h ext is = by (item_at old.desk number) refl is
   where
     f : DeskEntry → Exchange
@@ -322,31 +322,31 @@ unasked old new faults faults_new order order_new kept is_faults is_order is =
     let R : List Place → Type 0 = λ o. IsAsked old old faults faults order o [] in
     subst P (sym is) (subst Q (sym is_faults) (subst R (sym is_order) (record { kept = kept; told = sym (append-nil (told_in old faults order)); tree = refl })))
 
-module _ (old new : JournalsView) (faults faults_mid : List Exchange) (order order_mid : List Place) (kept : IsRecorder old faults order) (mid_faults : faults_mid ≡ faults) (mid : order_mid ≡ order) where
-  pub asked_node : (order_new : List Place) (server : ℕ) (ask : NodeAsk) (told : Answered NodeReply) → order_new ≡ order_mid ++ places.Server server told.number ∷ []
-      → IsTold old (steps.Node server ask) (Ok (answer_of replies.Node told)) → new ≡ world_after old (steps.Node server ask)
-      → IsAsked old new faults faults_mid order order_new (exchanges.Node server ask (Ok told) ∷ [])
+module _ (old new : JournalsView) (faults : List Exchange) (order order_mid : List Place) (kept : IsRecorder old faults order) (mid : order_mid ≡ order) where
+  pub asked_node : (order_new : List Place) (server : Server) (ask : NodeAsk) (told : Answered NodeReply) → order_new ≡ order_mid ++ places.Server server told.number ∷ []
+      → IsTold old (steps.Node server.number ask) (Ok (answer_of replies.Node told)) → new ≡ world_after old (steps.Node server.number ask)
+      → IsAsked old new faults faults order order_new (exchanges.Node server.number ask (Ok told) ∷ [])
   asked_node order_new server ask told is_order answered after =
-      let ok = told_ok (refusal old (steps.Node server ask)) (answer old (steps.Node server ask)) (answer_of replies.Node told) answered in
-      let number : told.number ≡ suc (length (server_journal old server)) = ap (λ (a : Answer). a.number) ok.1 in
-      let reply : told.reply ≡ (node_entry old server ask).reply = (let same = ap (λ (a : Answer). a.reply) ok.1 in cc) in
-      let grew = after_grown old new (steps.Node server ask) ok.0 after in
-      let here = journal_here old server ask (node_room old server _ ok.0) in
-      let entry : server_entry (grown old (steps.Node server ask)) server told.number ≡ Some (node_entry old server ask) =
-      ap (λ e. entry_in e told.number) here ∙ ap (λ n. item_at (server_journal old server ++ node_entry old server ask ∷ []) n) number ∙ item_last (server_journal old server) (node_entry old server ask) in
-      let stands : exchange_at new (faults ++ []) (places.Server server told.number) ≡ Some (exchanges.Node server ask (Ok told)) =
+      let ok = told_ok (refusal old (steps.Node server.number ask)) (answer old (steps.Node server.number ask)) (answer_of replies.Node told) answered in
+      let number : told.number ≡ suc (length (server_journal old server.number)) = ap (λ (a : Answer). a.number) ok.1 in
+      let reply : told.reply ≡ (node_entry old server.number ask).reply = (let same = ap (λ (a : Answer). a.reply) ok.1 in cc) in
+      let grew = after_grown old new (steps.Node server.number ask) ok.0 after in
+      let here = journal_here old server.number ask (node_room old server.number _ ok.0) in
+      let entry : server_entry (grown old (steps.Node server.number ask)) server.number told.number ≡ Some (node_entry old server.number ask) =
+      ap (λ e. entry_in e told.number) here ∙ ap (λ n. item_at (server_journal old server.number ++ node_entry old server.number ask ∷ []) n) number ∙ item_last (server_journal old server.number) (node_entry old server.number ask) in
+      let stands : exchange_at new (faults ++ []) (places.Server server told.number) ≡ Some (exchanges.Node server.number ask (Ok told)) =
       ap (λ (w : JournalsView). exchange_at w (faults ++ []) (places.Server server told.number)) grew
-      ∙ ap (option_map (λ (e : NodeEntry). exchanges.Node server e.ask (Ok (record { number = told.number; reply = e.reply })))) entry
-      ∙ ap (λ r. Some (exchanges.Node server ask (Ok (record { number = told.number; reply = r })))) (sym reply) in
-      let matches : Matches old (exchanges.Node server ask (Ok told)) =
+      ∙ ap (option_map (λ (e : NodeEntry). exchanges.Node server.number e.ask (Ok (record { number = told.number; reply = e.reply })))) entry
+      ∙ ap (λ r. Some (exchanges.Node server.number ask (Ok (record { number = told.number; reply = r })))) (sym reply) in
+      let matches : Matches old (exchanges.Node server.number ask (Ok told)) =
       (λ i. Ok (record { number = number i; reply = reply i }))
-      ∙ sym (ap (λ (f : Option AskFault). told_by f (suc (length (server_journal old server))) (node_entry old server ask).reply) (taken old (steps.Node server ask) ok.0)) in
-      asked_by old new faults [] faults_mid order order_new (places.Server server told.number) (exchanges.Node server ask (Ok told)) kept (mid_faults ∙ sym (append-nil faults)) (is_order ∙ ap (λ o. o ++ places.Server server told.number ∷ []) mid)
+      ∙ sym (ap (λ (f : Option AskFault). told_by f (suc (length (server_journal old server.number))) (node_entry old server.number ask).reply) (taken old (steps.Node server.number ask) ok.0)) in
+      asked_by old new faults [] faults order order_new (places.Server server told.number) (exchanges.Node server.number ask (Ok told)) kept (sym (append-nil faults)) (is_order ∙ ap (λ o. o ++ places.Server server told.number ∷ []) mid)
       after matches stands
 
   pub asked_desk : (order_new : List Place) (ask : DeskAsk) (told : Answered DeskReply) → order_new ≡ order_mid ++ places.Desk told.number ∷ []
       → IsTold old (steps.Desk ask) (Ok (answer_of replies.Desk told)) → new ≡ world_after old (steps.Desk ask)
-      → IsAsked old new faults faults_mid order order_new (exchanges.Desk ask (Ok told) ∷ [])
+      → IsAsked old new faults faults order order_new (exchanges.Desk ask (Ok told) ∷ [])
   asked_desk order_new ask told is_order answered after =
       let ok = told_ok (refusal old (steps.Desk ask)) (answer old (steps.Desk ask)) (answer_of replies.Desk told) answered in
       let number : told.number ≡ suc (length old.desk) = ap (λ (a : Answer). a.number) ok.1 in
@@ -360,12 +360,12 @@ module _ (old new : JournalsView) (faults faults_mid : List Exchange) (order ord
       let matches : Matches old (exchanges.Desk ask (Ok told)) =
       (λ i. Ok (record { number = number i; reply = reply i }))
       ∙ sym (ap (λ (f : Option AskFault). told_by f (suc (length old.desk)) (desk_entry old ask).reply) (taken old (steps.Desk ask) ok.0)) in
-      asked_by old new faults [] faults_mid order order_new (places.Desk told.number) (exchanges.Desk ask (Ok told)) kept (mid_faults ∙ sym (append-nil faults)) (is_order ∙ ap (λ o. o ++ places.Desk told.number ∷ []) mid)
+      asked_by old new faults [] faults order order_new (places.Desk told.number) (exchanges.Desk ask (Ok told)) kept (sym (append-nil faults)) (is_order ∙ ap (λ o. o ++ places.Desk told.number ∷ []) mid)
       after matches stands
 
   pub asked_view : (order_new : List Place) (ask : ViewAsk) (told : Answered ViewReply) → order_new ≡ order_mid ++ places.View told.number ∷ []
       → IsTold old (steps.View ask) (Ok (answer_of replies.View told)) → new ≡ world_after old (steps.View ask)
-      → IsAsked old new faults faults_mid order order_new (exchanges.View ask (Ok told) ∷ [])
+      → IsAsked old new faults faults order order_new (exchanges.View ask (Ok told) ∷ [])
   asked_view order_new ask told is_order answered after =
       let ok = told_ok (refusal old (steps.View ask)) (answer old (steps.View ask)) (answer_of replies.View told) answered in
       let number : told.number ≡ suc (length old.view) = ap (λ (a : Answer). a.number) ok.1 in
@@ -379,24 +379,24 @@ module _ (old new : JournalsView) (faults faults_mid : List Exchange) (order ord
       let matches : Matches old (exchanges.View ask (Ok told)) =
       (λ i. Ok (record { number = number i; reply = reply i }))
       ∙ sym (ap (λ (f : Option AskFault). told_by f (suc (length old.view)) (view_entry old ask).reply) (taken old (steps.View ask) ok.0)) in
-      asked_by old new faults [] faults_mid order order_new (places.View told.number) (exchanges.View ask (Ok told)) kept (mid_faults ∙ sym (append-nil faults)) (is_order ∙ ap (λ o. o ++ places.View told.number ∷ []) mid)
+      asked_by old new faults [] faults order order_new (places.View told.number) (exchanges.View ask (Ok told)) kept (sym (append-nil faults)) (is_order ∙ ap (λ o. o ++ places.View told.number ∷ []) mid)
       after matches stands
 
   -- an ask that was not taken
   module _ (faults_new : List Exchange) (order_new : List Place) (same : new ≡ old) where
-    noted_fault : (step : Step) (fault : AskFault) (h : Exchange) → step_of h ≡ step → refusal old step ≡ Some (refusal_of fault) → Matches old h → faults_new ≡ faults_mid ++ h ∷ [] → order_new ≡ order_mid ++ places.Fault (length faults_mid) ∷ []
+    noted_fault : (step : Step) (fault : AskFault) (h : Exchange) → step_of h ≡ step → refusal old step ≡ Some (refusal_of fault) → Matches old h → faults_new ≡ faults ++ h ∷ [] → order_new ≡ order_mid ++ places.Fault (length faults) ∷ []
         → IsAsked old new faults faults_new order order_new (h ∷ [])
     noted_fault step fault h steps_are refuses matches is_faults is_order =
         let after : new ≡ world_after old (step_of h) = same ∙ sym (ap (λ (r : Option Refusal). state_at r old (grown old step)) refuses) ∙ ap (λ (s : Step). world_after old s) (sym steps_are) in
-        let stands : exchange_at new (faults ++ h ∷ []) (places.Fault (length faults_mid)) ≡ Some h =
-        ap (λ (f : List Exchange). slice_get (faults ++ h ∷ []) (length f)) mid_faults ∙ get_last faults h in
-        asked_by old new faults (h ∷ []) faults_new order order_new (places.Fault (length faults_mid)) h kept (is_faults ∙ ap (λ f. f ++ h ∷ []) mid_faults) (is_order ∙ ap (λ o. o ++ places.Fault (length faults_mid) ∷ []) mid)
+        let stands : exchange_at new (faults ++ h ∷ []) (places.Fault (length faults)) ≡ Some h =
+        get_last faults h in
+        asked_by old new faults (h ∷ []) faults_new order order_new (places.Fault (length faults)) h kept is_faults (is_order ∙ ap (λ o. o ++ places.Fault (length faults) ∷ []) mid)
         after matches stands
 
     asked_fault : (step : Step) (fault : AskFault) (h : Exchange) → step_of h ≡ step → (untaken old step ≡ Some fault → Matches old h) → IsTold old step (Err (refusal_of fault))
-        → faults_new ≡ faults_mid ++ unless_memory fault h → order_new ≡ order_mid ++ fault_place fault (length faults_mid) → IsAsked old new faults faults_new order order_new (unless_memory fault h)
+        → faults_new ≡ faults ++ unless_memory fault h → order_new ≡ order_mid ++ fault_place fault (length faults) → IsAsked old new faults faults_new order order_new (unless_memory fault h)
     asked_fault step ask_faults.Memory h steps_are matches told is_faults is_order =
-        unasked old new faults faults_new order order_new kept (is_faults ∙ append-nil faults_mid ∙ mid_faults) (is_order ∙ append-nil order_mid ∙ mid) same
+        unasked old new faults faults_new order order_new kept (is_faults ∙ append-nil faults) (is_order ∙ append-nil order_mid ∙ mid) same
     asked_fault step (ask_faults.JournalFull part) h steps_are matches told is_faults is_order =
         let refuses = told_err (refusal old step) (answer old step) (refusals.JournalFull part) told in
         noted_fault step (ask_faults.JournalFull part) h steps_are refuses (matches (faulted old step (ask_faults.JournalFull part) refuses)) is_faults is_order
@@ -405,19 +405,19 @@ module _ (old new : JournalsView) (faults faults_mid : List Exchange) (order ord
         noted_fault step (ask_faults.Unfounded part number) h steps_are refuses (matches (faulted old step (ask_faults.Unfounded part number) refuses)) is_faults is_order
 
     pub node_fault : (server : ℕ) (ask : NodeAsk) (fault : AskFault) → IsTold old (steps.Node server ask) (Err (refusal_of fault))
-        → faults_new ≡ faults_mid ++ unless_memory fault (exchanges.Node server ask (Err fault)) → order_new ≡ order_mid ++ fault_place fault (length faults_mid)
+        → faults_new ≡ faults ++ unless_memory fault (exchanges.Node server ask (Err fault)) → order_new ≡ order_mid ++ fault_place fault (length faults)
         → IsAsked old new faults faults_new order order_new (unless_memory fault (exchanges.Node server ask (Err fault)))
     node_fault server ask fault =
         asked_fault (steps.Node server ask) fault (exchanges.Node server ask (Err fault)) refl (λ is. sym (ap (λ (f : Option AskFault). told_by f (suc (length (server_journal old server))) (node_entry old server ask).reply) is))
 
     pub desk_fault : (ask : DeskAsk) (fault : AskFault) → IsTold old (steps.Desk ask) (Err (refusal_of fault))
-        → faults_new ≡ faults_mid ++ unless_memory fault (exchanges.Desk ask (Err fault)) → order_new ≡ order_mid ++ fault_place fault (length faults_mid)
+        → faults_new ≡ faults ++ unless_memory fault (exchanges.Desk ask (Err fault)) → order_new ≡ order_mid ++ fault_place fault (length faults)
         → IsAsked old new faults faults_new order order_new (unless_memory fault (exchanges.Desk ask (Err fault)))
     desk_fault ask fault =
         asked_fault (steps.Desk ask) fault (exchanges.Desk ask (Err fault)) refl (λ is. sym (ap (λ (f : Option AskFault). told_by f (suc (length old.desk)) (desk_entry old ask).reply) is))
 
     pub view_fault : (ask : ViewAsk) (fault : AskFault) → IsTold old (steps.View ask) (Err (refusal_of fault))
-        → faults_new ≡ faults_mid ++ unless_memory fault (exchanges.View ask (Err fault)) → order_new ≡ order_mid ++ fault_place fault (length faults_mid)
+        → faults_new ≡ faults ++ unless_memory fault (exchanges.View ask (Err fault)) → order_new ≡ order_mid ++ fault_place fault (length faults)
         → IsAsked old new faults faults_new order order_new (unless_memory fault (exchanges.View ask (Err fault)))
     view_fault ask fault =
         asked_fault (steps.View ask) fault (exchanges.View ask (Err fault)) refl (λ is. sym (ap (λ (f : Option AskFault). told_by f (suc (length old.view)) (view_entry old ask).reply) is))

@@ -1,11 +1,9 @@
 -- The asks of a service in their order, and the worlds that they lead through.
-use Rattle.std.specs.Prelude.{◌≡◌, ℕ, Bool, true, List, [], ◌∷◌, Option, Ok, is_some, slice_get}
+use Rattle.std.specs.Prelude.{◌≡◌, ℕ, Bool, true, List, [], ◌∷◌, Option, Ok, Err, is_some, slice_get}
 use Rattle.std.specs.List.{list_all, filter_map}
 use Rattle.std.specs.Option.{option_map}
 use Rattle.tq_shape.specs.Limits.{LimitsView}
-use Rattle.tq_tables.specs.Journals.{JournalsView, ViewEntry}
-use Rattle.tq_desk.specs.DeskJournal.{DeskEntry}
-use Rattle.tq_node.specs.NodeJournal.{NodeEntry}
+use Rattle.tq_tables.specs.Journals.{JournalsView}
 use Rattle.tq_world.specs.declared.answer.Step.{Step}
 use Rattle.tq_world.specs.declared.answer.Step.TheVariants as steps
 use Rattle.tq_world.specs.World.{item_at, server_entry, empty_world}
@@ -15,6 +13,9 @@ use Rattle.tq_txn.specs.declared.asker.Exchange.TheVariants as exchanges
 use Rattle.tq_part.specs.declared.fault.AskFault.{AskFault}
 use Rattle.tq_part.specs.declared.fault.AskFault.TheVariants as ask_faults
 use Rattle.tq_asking.specs.Asking.{node_told, desk_told, view_told}
+use Rattle.tq_shape.specs.declared.part.Part.TheVariants as parts
+use Rattle.tq_asking.specs.declared.faults.Untaken.{Untaken}
+use Rattle.tq_asking.specs.declared.faults.Untaken.TheVariants as untaken
 use Rattle.tq_asking.specs.declared.recorder.Place.{Place}
 use Rattle.tq_asking.specs.declared.recorder.Place.TheVariants as places
 
@@ -23,10 +24,15 @@ pub record RecorderView : Type 0 where
   pub journals : JournalsView
   pub told : List Exchange
 
+-- an ask that was not taken, with what was told of it
+abbrev pub exchange_of : Untaken → Exchange
+exchange_of (untaken.FullView ask) = exchanges.View ask (Err (ask_faults.JournalFull parts.View))
+exchange_of (untaken.Other exchange) = exchange.value
+
 -- ---- where an ask stands: in a journal, or among those that were not taken
 
 abbrev pub exchange_at : JournalsView → List Exchange → Place → Option Exchange
-exchange_at journals faults (places.Server server number) = option_map (λ entry. exchanges.Node server entry.ask (Ok (record { number = number; reply = entry.reply }))) (server_entry journals server number)
+exchange_at journals faults (places.Server server number) = option_map (λ entry. exchanges.Node server.number entry.ask (Ok (record { number = number; reply = entry.reply }))) (server_entry journals server.number number)
 exchange_at journals faults (places.Desk number) = option_map (λ entry. exchanges.Desk entry.ask (Ok (record { number = number; reply = entry.reply }))) (item_at journals.desk number)
 exchange_at journals faults (places.View number) = option_map (λ entry. exchanges.View entry.ask (Ok (record { number = number; reply = entry.reply }))) (item_at journals.view number)
 exchange_at journals faults (places.Fault index) = slice_get faults index

@@ -1,20 +1,21 @@
-ghost use Rattle.std.specs.Prelude.{◌≡◌, ◌++◌, ◌≤◌, ◌+◌, Err, length, vec_len, vec_capacity, IfOk, OnOk};
+ghost use Rattle.std.specs.Prelude.{◌≡◌, ◌++◌, ◌≤◌, ◌+◌, Err, length, vec_len, vec_capacity, IfOk, OnOk, OnErr};
 ghost use Rattle.tq_txn.specs.Dialogue.{unless_memory};
 ghost use Rattle.tq_asking.specs.Recorded as spec;
 
+use crate::faults::Faults;
 use std::alloc::Global;
 use std::marker::Model;
 use tq_core::Service;
 use tq_desk::DeskAsk;
 use tq_live::ViewAsk;
 use tq_node::NodeAsk;
-use tq_shape::{Levels, Limits, Memory, ServerId};
+use tq_shape::{Levels, Limits, Memory, Part, ServerId};
 use tq_txn::{AskFault, Asker, DeskTold, Exchange, NodeTold, ViewTold};
 
 /// Where an ask stands: as the entry of that number in a part's journal, or among those that were not taken.
 #[derive(Clone, Copy)]
 pub(crate) enum Place {
-    Server { server: u64, number: u64 },
+    Server { server: ServerId, number: u64 },
     Desk { number: u64 },
     View { number: u64 },
     Fault { index: usize },
@@ -25,7 +26,7 @@ pub(crate) enum Place {
 pub struct Recorder {
     service: Service,
     order: Vec<Place>,
-    faults: Vec<Exchange>,
+    faults: Faults,
 }
 
 impl Model for Recorder {
@@ -33,9 +34,9 @@ impl Model for Recorder {
 
     ghost Value = { RecorderView };
 
-    ghost view = { λ a. record { journals = a.service; told = told_in a.service a.faults.items a.order.items } };
+    ghost view = { λ a. record { journals = a.service; told = told_in a.service a.faults a.order.items } };
 
-    ghost invariant = { λ a. IsRecorder a.service a.faults.items a.order.items };
+    ghost invariant = { λ a. IsRecorder a.service a.faults a.order.items };
 }
 
 impl Recorder {
@@ -51,7 +52,7 @@ impl Recorder {
         Ok(Recorder {
             service,
             order: Vec::new(alloc),
-            faults: Vec::new(alloc),
+            faults: Faults::new(alloc),
         })
     }
 
@@ -70,18 +71,6 @@ impl Recorder {
     }
 }
 
-/// Room for one more ask.
-fn make_room(order: &mut Vec<Place>, faults: &mut Vec<Exchange>) -> Result<(), Memory>
-    ensures order { order.new.items ≡ order.old.items }
-    ensures faults { faults.new.items ≡ faults.old.items }
-    ensures order_room { OnOk result (vec_len order.new + 1 ≤ vec_capacity order.new) }
-    ensures faults_room { OnOk result (vec_len faults.new + 1 ≤ vec_capacity faults.new) }
-{
-    order.reserve(1)?;
-    faults.reserve(1)?;
-    Ok(())
-}
-
 fn copy_of_node_ask(ask: &NodeAsk) -> Result<NodeAsk, Memory>
     ensures { IfOk result (λ copy. copy ≡ ask.now) }
 {
@@ -94,87 +83,54 @@ fn copy_of_desk_ask(ask: &DeskAsk) -> Result<DeskAsk, Memory>
     Ok(ask.clone()?)
 }
 
-/// Notes an ask that was not taken, but not one that met want of memory.
+/// Notes an ask that was not taken, but not one that met want of memory. Answers an error, with nothing noted, where
+/// memory is refused.
 fn note_fault(
+    alloc: Global,
     order: &mut Vec<Place>,
-    faults: &mut Vec<Exchange>,
+    faults: &mut Faults,
     fault: AskFault,
     exchange: Exchange,
-)
-    requires order_room { vec_len order.old + 1 ≤ vec_capacity order.old }
-    requires faults_room { vec_len faults.old + 1 ≤ vec_capacity faults.old }
-    ensures order { order.new.items ≡ order.old.items ++ spec.fault_place fault (length faults.old.items) }
-    ensures faults { faults.new.items ≡ faults.old.items ++ unless_memory fault exchange }
+) -> Result<(), Memory>
+    requires { vec_len order.old + 1 ≤ vec_capacity order.old }
+    ensures order { OnOk result (order.new.items ≡ order.old.items ++ spec.fault_place fault (length faults.old)) }
+    ensures faults { OnOk result (faults.new ≡ faults.old ++ unless_memory fault exchange) }
+    ensures same { OnErr result ((order.new.items ≡ order.old.items) × (faults.new ≡ faults.old)) }
 {
     match fault {
         AskFault::Memory => {}
         _ => {
-            let index = faults.len();
-            faults.push_reserved(exchange);
+            let index = faults.note(alloc, exchange)?;
             order.push_reserved(Place::Fault { index });
         }
     }
+    Ok(())
 }
 
-/// Notes an ask of a server that was not taken, as `note_fault` does. Here the exchange is made where there is a fault,
-/// so that an ask that is taken does not pay for its place.
-fn note_node_fault(
-    order: &mut Vec<Place>,
-    faults: &mut Vec<Exchange>,
-    server: u64,
-    ask: NodeAsk,
-    fault: AskFault,
-)
-    requires order_room { vec_len order.old + 1 ≤ vec_capacity order.old }
-    requires faults_room { vec_len faults.old + 1 ≤ vec_capacity faults.old }
-    ensures order { order.new.items ≡ order.old.items ++ spec.fault_place fault (length faults.old.items) }
-    ensures faults { faults.new.items ≡ faults.old.items ++ unless_memory fault (Exchange.Node server ask (Err fault)) }
-{
-    let answer = Err(fault);
-    note_fault(
-        order,
-        faults,
-        fault,
-        Exchange::Node {
-            server,
-            ask,
-            answer,
-        },
-    );
-}
-
-/// Notes an ask of the desk that was not taken, as `note_fault` does. Here the exchange is made where there is a fault,
-/// so that an ask that is taken does not pay for its place.
-fn note_desk_fault(
-    order: &mut Vec<Place>,
-    faults: &mut Vec<Exchange>,
-    ask: DeskAsk,
-    fault: AskFault,
-)
-    requires order_room { vec_len order.old + 1 ≤ vec_capacity order.old }
-    requires faults_room { vec_len faults.old + 1 ≤ vec_capacity faults.old }
-    ensures order { order.new.items ≡ order.old.items ++ spec.fault_place fault (length faults.old.items) }
-    ensures faults { faults.new.items ≡ faults.old.items ++ unless_memory fault (Exchange.Desk ask (Err fault)) }
-{
-    let answer = Err(fault);
-    note_fault(order, faults, fault, Exchange::Desk { ask, answer });
-}
-
-/// Notes an ask of the view that was not taken, as `note_fault` does. Here the exchange is made where there is a fault,
-/// so that an ask that is taken does not pay for its place.
+/// Notes an ask of the view that was not taken, as `note_fault` does.
 fn note_view_fault(
+    alloc: Global,
     order: &mut Vec<Place>,
-    faults: &mut Vec<Exchange>,
-    ask: ViewAsk,
+    faults: &mut Faults,
     fault: AskFault,
-)
-    requires order_room { vec_len order.old + 1 ≤ vec_capacity order.old }
-    requires faults_room { vec_len faults.old + 1 ≤ vec_capacity faults.old }
-    ensures order { order.new.items ≡ order.old.items ++ spec.fault_place fault (length faults.old.items) }
-    ensures faults { faults.new.items ≡ faults.old.items ++ unless_memory fault (Exchange.View ask (Err fault)) }
+    ask: ViewAsk,
+) -> Result<(), Memory>
+    requires { vec_len order.old + 1 ≤ vec_capacity order.old }
+    ensures order { OnOk result (order.new.items ≡ order.old.items ++ spec.fault_place fault (length faults.old)) }
+    ensures faults { OnOk result (faults.new ≡ faults.old ++ unless_memory fault (Exchange.View ask (Err fault))) }
+    ensures same { OnErr result ((order.new.items ≡ order.old.items) × (faults.new ≡ faults.old)) }
 {
-    let answer = Err(fault);
-    note_fault(order, faults, fault, Exchange::View { ask, answer });
+    match fault {
+        AskFault::JournalFull { part: Part::View } => {
+            let index = faults.note_full_view(ask)?;
+            order.push_reserved(Place::Fault { index });
+            Ok(())
+        }
+        _ => {
+            let answer = Err(fault);
+            note_fault(alloc, order, faults, fault, Exchange::View { ask, answer })
+        }
+    }
 }
 
 impl Asker for Recorder {
@@ -191,24 +147,28 @@ impl Asker for Recorder {
         ensures same { IfOk result (λ t. (t.server ≡ server.number) × (t.ask ≡ ask)) }
         ensures tree { self.new.journals.levels ≡ self.old.journals.levels }
     {
-        let number = server.number();
         let copy = copy_of_node_ask(&ask)?;
-        make_room(&mut self.order, &mut self.faults)?;
+        self.order.reserve(1)?;
         match self.service.ask_node(alloc, server, ask) {
             Ok(told) => {
                 self.order.push_reserved(Place::Server {
-                    server: number,
+                    server,
                     number: told.number,
                 });
                 Ok(NodeTold {
-                    server: number,
+                    server: server.number(),
                     number: told.number,
                     ask: copy,
                     reply: told.reply,
                 })
             }
             Err(fault) => {
-                note_node_fault(&mut self.order, &mut self.faults, number, copy, fault);
+                let exchange = Exchange::Node {
+                    server: server.number(),
+                    ask: copy,
+                    answer: Err(fault),
+                };
+                note_fault(alloc, &mut self.order, &mut self.faults, fault, exchange)?;
                 Err(fault)
             }
         }
@@ -220,7 +180,7 @@ impl Asker for Recorder {
         ensures tree { self.new.journals.levels ≡ self.old.journals.levels }
     {
         let copy = copy_of_desk_ask(&ask)?;
-        make_room(&mut self.order, &mut self.faults)?;
+        self.order.reserve(1)?;
         match self.service.ask_desk(alloc, ask) {
             Ok(told) => {
                 self.order.push_reserved(Place::Desk {
@@ -233,7 +193,11 @@ impl Asker for Recorder {
                 })
             }
             Err(fault) => {
-                note_desk_fault(&mut self.order, &mut self.faults, copy, fault);
+                let exchange = Exchange::Desk {
+                    ask: copy,
+                    answer: Err(fault),
+                };
+                note_fault(alloc, &mut self.order, &mut self.faults, fault, exchange)?;
                 Err(fault)
             }
         }
@@ -244,7 +208,7 @@ impl Asker for Recorder {
         ensures same { IfOk result (λ t. t.ask ≡ ask) }
         ensures tree { self.new.journals.levels ≡ self.old.journals.levels }
     {
-        make_room(&mut self.order, &mut self.faults)?;
+        self.order.reserve(1)?;
         match self.service.ask_view(alloc, ask) {
             Ok(told) => {
                 self.order.push_reserved(Place::View {
@@ -257,7 +221,7 @@ impl Asker for Recorder {
                 })
             }
             Err(fault) => {
-                note_view_fault(&mut self.order, &mut self.faults, ask, fault);
+                note_view_fault(alloc, &mut self.order, &mut self.faults, fault, ask)?;
                 Err(fault)
             }
         }
