@@ -1,4 +1,5 @@
 pub mod LineLaws
 pub mod KeptVotes
+pub mod ToldLaws
 pub mod CommitLaws
 pub mod AbortLaws

@@ -103,7 +103,7 @@ begins_then (AsksView ask line) next told first =
       | inr some ↦ inr (some.0, some.1, some.2, begins_then (line some.0) next some.1 some.3)
     ]
 
-further : (old mid new first more : List Exchange) → mid ≡ old ++ first → new ≡ mid ++ more → new ≡ old ++ (first ++ more)
+pub further : (old mid new first more : List Exchange) → mid ≡ old ++ first → new ≡ mid ++ more → new ≡ old ++ (first ++ more)
 further old mid new first more a b = b ∙ ap (λ t. t ++ more) a ∙ append_assoc old first more
 
 -- a part that ended, and the rest

@@ -3,3 +3,4 @@ pub mod Lines
 pub mod States
 pub mod Commits
 pub mod Aborts
+pub mod Told

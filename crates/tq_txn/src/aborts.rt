@@ -2,6 +2,7 @@ ghost use Rattle.std.specs.Prelude.{◌≡◌, IfOk, IfErr};
 ghost use Rattle.tq_txn.specs.Aborts as spec;
 ghost use Rattle.tq_txn.specs.Dialogue as line;
 ghost use Rattle.tq_txn.specs.States as states;
+ghost use Rattle.tq_txn.specs.Told.{EndsAsTold, IsAnswered};
 
 use crate::endings::end_at_each;
 use crate::{Abortion, Asker, DeskTold, Ended, LineFault, Open, Txn, TxnFault, Voting};
@@ -15,6 +16,7 @@ fn resolved_open(alloc: Global, txn: Open, told: &DeskTold) -> Result<Txn, Txn>
     ensures ok { IfOk result (λ new. new ≡ spec.resolved (Txn.Open txn) told.now) }
     ensures tree { IfOk result (λ new. states.levels_of new ≡ txn.levels) }
     ensures still { IfOk result (λ new. states.IsOf txn new) }
+    ensures verdict { IfOk result (λ new. IsAnswered (Txn.Open txn) told.now new) }
     ensures err { IfErr result (λ new. new ≡ Txn.Open txn) }
 {
     match txn.end(alloc, told) {
@@ -31,6 +33,7 @@ fn resolved_voting(alloc: Global, voting: Voting, told: &DeskTold) -> Result<Txn
     ensures ok { IfOk result (λ txn. txn ≡ spec.resolved (Txn.Voting voting) told.now) }
     ensures tree { IfOk result (λ new. states.levels_of new ≡ voting.txn.levels) }
     ensures still { IfOk result (λ new. states.IsGathered voting new) }
+    ensures verdict { IfOk result (λ new. IsAnswered (Txn.Voting voting) told.now new) }
     ensures err { IfErr result (λ txn. txn ≡ Txn.Voting voting) }
 {
     match voting.end(alloc, told) {
@@ -47,6 +50,7 @@ fn resolved(alloc: Global, txn: Txn, told: &DeskTold) -> Result<Txn, Txn>
     ensures ok { IfOk result (λ new. new ≡ spec.resolved txn told.now) }
     ensures tree { IfOk result (λ new. states.levels_of new ≡ states.levels_of txn) }
     ensures still { IfOk result (λ new. states.IsStill txn new) }
+    ensures verdict { IfOk result (λ new. IsAnswered txn told.now new) }
     ensures err { IfErr result (λ new. new ≡ txn) }
 {
     match txn {
@@ -123,12 +127,13 @@ fn is_abort(reply: &DeskReply) -> bool
 
 /// Aborts a transaction at the desk, and then ends it at the servers that granted it a lock. One that committed is
 /// answered with its verdict, and has no ending.
-/// After any fault it comes back in its state, with the votes that it had gathered, or ended.
+/// After any fault it comes back in its state, with the votes that it had gathered, or ended as the desk told.
 pub fn abort<A: Asker>(asker: &mut A, alloc: Global, txn: Txn) -> Abortion
     requires { states.levels_of txn ≡ A.levels asker.old }
     ensures asks { line.Follows (spec.abort_line txn) (A.told asker.old) (A.told asker.new) (line.ended_by result.answer result.txn) }
     ensures levels { states.levels_of result.txn ≡ states.levels_of txn }
     ensures still { states.IsStill txn result.txn }
+    ensures verdict { EndsAsTold txn (A.told asker.old) (A.told asker.new) result.txn }
     ensures tree { A.levels asker.new ≡ A.levels asker.old }
 {
     let number = txn.number();
@@ -147,6 +152,7 @@ fn resolve_and_end<A: Asker>(asker: &mut A, alloc: Global, txn: Txn, told: DeskT
     ensures asks { line.Follows (spec.abort_end told.reply (spec.resolved txn told)) (A.told asker.old) (A.told asker.new) (line.ended_by result.answer result.txn) }
     ensures levels { states.levels_of result.txn ≡ states.levels_of txn }
     ensures still { states.IsStill txn result.txn }
+    ensures verdict { IsAnswered txn told result.txn }
     ensures tree { A.levels asker.new ≡ A.levels asker.old }
 {
     match resolved(alloc, txn, &told) {

@@ -5,6 +5,7 @@ ghost use Rattle.tq_states.specs.Voting.{IsVotedOn};
 ghost use Rattle.tq_txn.specs.Commits as spec;
 ghost use Rattle.tq_txn.specs.Dialogue as line;
 ghost use Rattle.tq_txn.specs.States as states;
+ghost use Rattle.tq_txn.specs.Told.{EndsAsTold, IsAnswered};
 
 use crate::endings::{end_at_each, prepare_at};
 use crate::{Asker, Decision, DeskTold, LineFault, Ready, Txn, TxnFault, Voting};
@@ -50,6 +51,7 @@ fn decided(alloc: Global, ready: Ready, told: DeskTold) -> Decision
     ensures decision { spec.IsDecision ready told result.answer result.txn }
     ensures levels { states.levels_of result.txn ≡ ready.txn.levels }
     ensures kept { states.IsGathered ready result.txn }
+    ensures verdict { IsAnswered (Txn.Voting ready) told result.txn }
 {
     match ready.end(alloc, &told) {
         Ok(ended) => Decision {
@@ -81,6 +83,7 @@ pub fn decide<A: Asker>(asker: &mut A, alloc: Global, voting: Voting) -> Decisio
     ensures asks { line.Follows (spec.decide_line voting) (A.told asker.old) (A.told asker.new) (line.ended_by result.answer result.txn) }
     ensures levels { states.levels_of result.txn ≡ voting.txn.levels }
     ensures kept { states.IsGathered voting result.txn }
+    ensures verdict { EndsAsTold (Txn.Voting voting) (A.told asker.old) (A.told asker.new) result.txn }
     ensures tree { A.levels asker.new ≡ A.levels asker.old }
 {
     let ready = match voting.ready() {
@@ -117,12 +120,13 @@ fn voters_of(alloc: Global, voting: &Voting) -> Result<Vec<ServerId>, Memory>
 
 /// Commits a transaction: the votes still missing, the commit at the desk, and then the ending. A refused vote ends
 /// it before the desk is asked; where the desk refuses, there is no ending.
-/// After any fault it comes back with each vote gathered, or ended.
+/// After any fault it comes back with each vote gathered, or ended as the desk told.
 pub fn commit<A: Asker>(asker: &mut A, alloc: Global, voting: Voting) -> Decision
     requires { voting.txn.levels ≡ A.levels asker.old }
     ensures asks { line.Follows (spec.commit_line voting) (A.told asker.old) (A.told asker.new) (line.ended_by result.answer result.txn) }
     ensures levels { states.levels_of result.txn ≡ voting.txn.levels }
     ensures kept { states.IsGathered voting result.txn }
+    ensures verdict { EndsAsTold (Txn.Voting voting) (A.told asker.old) (A.told asker.new) result.txn }
     ensures tree { A.levels asker.new ≡ A.levels asker.old }
 {
     let mut voting = voting;

@@ -1,3 +1,6 @@
+use Rattle.tq_desk.specs.declared.ask.DeskAsk.TheVariants.{Resolve}
+use Rattle.tq_txn.specs.Aborts.{abort_end, resolved}
+use Rattle.tq_txn.proofs.ToldLaws.{grown_along, ends_as_told, ends_unasked}
 use Rattle.tq_txn.proofs.KeptVotes.{still_same}
 use Rattle.std.proofs.Common.{refl}
 use Rattle.tq_txn.specs.Dialogue.{ended_by}
@@ -15,3 +18,15 @@ returns-in-Err-clause-asks g c =
 
 pub returns-in-Err-clause-still : goal.returns-in-Err-clause-still
 returns-in-Err-clause-still g c = still_same c.args.txn c.args.txn refl
+
+pub returns-in-Ok-clause-verdict : goal.returns-in-Ok-clause-verdict
+returns-in-Ok-clause-verdict g c =
+    let now = g.A.Asker.told c.args.asker.now in
+    let asked = g.A.Asker.told c.desk.new.self in
+    let new = g.A.Asker.told c.resolve_and_end.new.asker in
+    let after = c.resolve_and_end.result.txn in
+    let more = grown_along (abort_end c.in-Ok.told.reply (resolved c.args.txn c.in-Ok.told)) asked new (ended_by c.resolve_and_end.result.answer after) c.resolve_and_end.ensures.asks in
+    ends_as_told (Resolve c.number-number.result) c.in-Ok.told c.in-Ok.ensures.same now asked new c.in-Ok.ensures.exchanges more c.args.txn after c.resolve_and_end.ensures.verdict
+
+pub returns-in-Err-clause-verdict : goal.returns-in-Err-clause-verdict
+returns-in-Err-clause-verdict g c = ends_unasked c.args.txn (g.A.Asker.told c.args.asker.now) (g.A.Asker.told c.desk.new.self)

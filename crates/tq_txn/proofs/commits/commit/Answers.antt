@@ -1,3 +1,8 @@
+use Rattle.tq_txn.specs.declared.txn.Txn.TheVariants as states
+use Rattle.tq_txn.specs.Told.{EndsAsTold}
+use Rattle.tq_txn.specs.Commits.{prepares_line, commit_end}
+use Rattle.std.proofs.Common.{[], append-nil}
+use Rattle.tq_txn.proofs.ToldLaws.{grown_along, ends_within}
 use Rattle.std.proofs.Common.{refl, sym, subst, ◌∙◌, Err, ap}
 use Rattle.tq_txn.proofs.KeptVotes.{voted_on_same, gathered_on}
 use Rattle.tq_txn.specs.declared.txn.Txn.{Txn}
@@ -40,3 +45,23 @@ pub returns-in-Ok-answer-clause-kept : goal.returns-in-Ok-answer-clause-kept
 returns-in-Ok-answer-clause-kept g c =
     let P : Txn → Type 0 = λ txn. IsGathered c.args.voting txn in
     subst P (sym c.end_committed.ensures.same) (gathered_on c.args.voting c.prepare_each.new.voting c.decide-answer.result.txn c.prepare_each.ensures.kept c.decide-answer.ensures.kept)
+
+pub returns-clause-verdict : goal.returns-clause-verdict
+returns-clause-verdict g c =
+    let now = g.A.Asker.told c.args.asker.now in
+    let mid = g.A.Asker.told c.prepare_each.new.asker in
+    let new = g.A.Asker.told c.decide-answer.new.asker in
+    let more = grown_along (prepares_line (numbers_of c.as_slice.result.now) c.args.voting) now mid (ended_by c.prepare_each.result c.prepare_each.new.voting) c.prepare_each.ensures.asks in
+    ends_within c.args.voting c.prepare_each.new.voting c.decide-answer.result.txn now mid new new more ([], sym (append-nil new)) c.decide-answer.ensures.verdict
+
+pub returns-in-Ok-answer-clause-verdict : goal.returns-in-Ok-answer-clause-verdict
+returns-in-Ok-answer-clause-verdict g c =
+    let now = g.A.Asker.told c.args.asker.now in
+    let mid = g.A.Asker.told c.prepare_each.new.asker in
+    let last = g.A.Asker.told c.decide-answer.new.asker in
+    let new = g.A.Asker.told c.end_committed.new.asker in
+    let txn = c.decide-answer.result.txn in
+    let more = grown_along (prepares_line (numbers_of c.as_slice.result.now) c.args.voting) now mid (ended_by c.prepare_each.result c.prepare_each.new.voting) c.prepare_each.ensures.asks in
+    let later = grown_along (commit_end c.in-Ok-answer.serial txn) last new (ended_by c.end_committed.result.answer c.end_committed.result.txn) c.end_committed.ensures.asks in
+    let P : Txn → Type 0 = λ t. EndsAsTold (states.Voting c.args.voting) now new t in
+    subst P (sym c.end_committed.ensures.same) (ends_within c.args.voting c.prepare_each.new.voting txn now mid last new more later c.decide-answer.ensures.verdict)

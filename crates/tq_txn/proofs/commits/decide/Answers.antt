@@ -1,3 +1,8 @@
+use Rattle.tq_txn.specs.declared.txn.Txn.TheVariants as states
+use Rattle.tq_txn.specs.Told.{EndsAsTold}
+use Rattle.tq_states.specs.Voting.{VotingView}
+use Rattle.std.proofs.Common.{[], sym, subst, append-nil}
+use Rattle.tq_txn.proofs.ToldLaws.{ends_as_told}
 use Rattle.std.proofs.Common.{◌∙◌}
 use Rattle.tq_txn.proofs.KeptVotes.{voted_on_same}
 use Rattle.tq_txn.proofs.commits.decide.Goals as goal
@@ -10,3 +15,11 @@ returns-in-Err-evidence-clause-kept g c = voted_on_same c.args.voting c.into_vot
 
 pub returns-in-Err-desk-clause-kept : goal.returns-in-Err-desk-clause-kept
 returns-in-Err-desk-clause-kept g c = voted_on_same c.args.voting c.into_voting-in-Err-desk.result (c.into_voting-in-Err-desk.ensures ∙ c.in-Ok.ensures.succeeds.1)
+
+pub returns-in-Ok-desk-clause-verdict : goal.returns-in-Ok-desk-clause-verdict
+returns-in-Ok-desk-clause-verdict g c =
+    let now = g.A.Asker.told c.args.asker.now in
+    let new = g.A.Asker.told c.desk.new.self in
+    let P : VotingView → Type 0 = λ v. EndsAsTold (states.Voting v) now new c.decided.result.txn in
+    subst P c.in-Ok.ensures.succeeds.1
+    (ends_as_told c.in-Ok-evidence.ask c.in-Ok-desk.told c.in-Ok-desk.ensures.same now new new c.in-Ok-desk.ensures.exchanges ([], sym (append-nil new)) (states.Voting c.in-Ok.ready) c.decided.result.txn c.decided.ensures.verdict)
