@@ -1,10 +1,12 @@
 //! The running cluster: each part of a system in a cell of its own, and callers that many threads may have.
 #![tactic(auto)]
 
+mod asking;
 mod call;
 mod caller;
 mod cluster;
 mod heard;
 
+pub use asking::Asking;
 pub use caller::Caller;
 pub use cluster::Cluster;
