@@ -1,5 +1,7 @@
 pub mod LineLaws
 pub mod KeptVotes
 pub mod ToldLaws
+pub mod KnownLaws
+pub mod Deskless
 pub mod CommitLaws
 pub mod AbortLaws

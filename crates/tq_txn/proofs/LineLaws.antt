@@ -22,13 +22,14 @@ use Rattle.tq_locks.specs.declared.mode.Mode.{Mode}
 use Rattle.tq_shape.specs.Tree.{Server}
 use Rattle.tq_coterie.specs.Coterie.{numbers_of}
 use Rattle.tq_states.specs.Ended.{EndedView}
-use Rattle.tq_txn.specs.Lines.{LocksView, choose_line, next_lock, locks_line, quorum_line, read_end, write_end, refusal_in, voted, prepare_line, end_line, ending_line}
+use Rattle.tq_txn.specs.Lines.{LocksView, choose_line, next_lock, locks_line, quorum_line, read_end, quorum_read, read_line, write_end, quorum_write, write_line, refusal_in, voted, prepare_line, end_line, ending_line}
 use Rattle.tq_store.specs.declared.copies.FileCopy.{FileCopy}
 use Rattle.tq_evidence.specs.declared.op.OpKind.TheVariants as kinds
 use Rattle.tq_evidence.specs.Evidence.{greatest}
+use Rattle.tq_txn.specs.declared.reading.Reading.{Reading}
 use Rattle.tq_txn.specs.declared.reading.Reading.TheVariants.{Copy}
 use Rattle.tq_states.specs.Voting.{VotingView, has_vote, ask_fault, prepare_ask, vote_fault, vote_after}
-use Rattle.tq_states.specs.Open.{OpenView, ComesOf, read_fault, read_copy, read_after, write_fault, write_after, grants_of}
+use Rattle.tq_states.specs.Open.{OpenView, ComesOf, has_all_ops, pending, seen, written, read_fault, read_copy, read_after, write_fault, write_after, grants_of}
 use Rattle.tq_txn.specs.Dialogue.{Told, Dialogue, Ends, AsksNode, AsksDesk, AsksView, Makes, Begins, Follows, then_line, LineEnd, done, go_on, and_then, unless, ended_by, fault_of_ask, fault_of_txn, line_result, node_exchange, desk_exchange, view_exchange, node_line, desk_line, view_line}
 
 begins_none : {A : Type 0} (line : Dialogue A) → Begins line []
@@ -243,6 +244,14 @@ module _ (ended : EndedView) (servers rest : List Server) (server : Server) (is 
   pub ending_on : (told mid new : List Exchange) (end : Option (LineEnd (Unit {0}) (Unit {0}))) → Follows (end_line ended server.number) told mid (Some (record { answer = Ok tt; after = tt })) → Follows (ending_line ended (numbers_of rest)) mid new end → Follows (ending_line ended (numbers_of servers)) told new end
   ending_on told mid new end first more =
       rw is (follows_on (end_line ended server.number) (λ none. none) (λ all none. ending_line ended (numbers_of rest)) tt tt told mid new end first more)
+
+-- ---- what was not read or written before
+
+pub first_of_reads : (old : OpenView) (file : List ℕ) (told new : List Exchange) (end : Option (LineEnd Reading OpenView)) → pending old file ≡ None → seen old file ≡ None → has_all_ops old ≡ false → Follows (quorum_read old file) told new end → Follows (read_line old file) told new end
+first_of_reads old file told new end unwritten unread few follows = rw (unwritten, unread, few) follows
+
+pub first_of_writes : (old : OpenView) (file content : List ℕ) (told new : List Exchange) (end : Option (LineEnd ℕ OpenView)) → written old file ≡ None → has_all_ops old ≡ false → Follows (quorum_write old file content) told new end → Follows (write_line old file content) told new end
+first_of_writes old file content told new end unwritten few follows = rw (unwritten, few) follows
 
 -- ---- how a read, a write and a vote end
 

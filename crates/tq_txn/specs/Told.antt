@@ -1,9 +1,11 @@
--- What the answers that were told tie down of a transaction: how it ended.
-use Rattle.std.specs.Prelude.{◌≡◌, List, ◌++◌, Some, Ok}
-use Rattle.std.specs.List.{Contains}
+-- What the answers that were told tie down of a transaction: how it ended, what it knows, and what its commit cites.
+use Rattle.std.specs.Prelude.{◌≡◌, List, [], ◌∷◌, ◌++◌, Option, Some, None, Ok}
+use Rattle.std.specs.List.{All, Contains, filter_map}
 use Rattle.tq_desk.specs.declared.ask.DeskAsk.{DeskAsk}
 use Rattle.tq_desk.specs.declared.ask.DeskReply.{DeskReply}
 use Rattle.tq_states.specs.declared.told.DeskTold.{DeskTold}
+use Rattle.tq_states.specs.declared.told.NodeTold.{NodeTold}
+use Rattle.tq_states.specs.Cited.{CitesOnly, KeepsOnly, VotesOnly}
 use Rattle.tq_states.specs.Ended.{EndedView, verdict_by, verdict_in}
 use Rattle.tq_txn.specs.declared.asker.Exchange.{Exchange}
 use Rattle.tq_txn.specs.declared.asker.Exchange.TheVariants as exchanges
@@ -28,3 +30,39 @@ abbrev pub IsAnswered : Txn → DeskTold → Txn → Type 0
 IsAnswered (states.Ended before) told after = after ≡ states.Ended before
 IsAnswered before told (states.Ended ended) = (verdict_in ended.txn told ≡ Some ended.verdict) × (ended.cite ≡ told.number)
 IsAnswered before told after = after ≡ before
+
+-- ---- what a transaction knows
+
+-- the answer that a server gave, as a transaction takes it
+abbrev pub answer_in : Exchange → Option NodeTold
+answer_in (exchanges.Node server ask (Ok answered)) = Some (record { server = server; number = answered.number; ask = ask; reply = answered.reply })
+answer_in exchange = None
+
+-- the servers' answers among what was told, in their order
+abbrev pub answers_in : List Exchange → List NodeTold
+answers_in told = filter_map answer_in told
+
+-- each of the answers was told
+abbrev pub AreTold : List Exchange → List NodeTold → Type 0
+AreTold told answers = All (Contains (answers_in told)) answers
+
+-- each grant and each vote that the transaction keeps was told
+abbrev pub Knows : List Exchange → Txn → Type 0
+Knows told (states.Open old) = KeepsOnly (answers_in told) old
+Knows told (states.Voting old) = VotesOnly (answers_in told) old
+Knows told (states.Ended old) = Unit {0}
+
+-- ---- what the desk is asked
+
+-- an ask of the desk cites only what was told
+abbrev pub IsFounded : List Exchange → Exchange → Type 0
+IsFounded told (exchanges.Desk ask answer) = CitesOnly (answers_in told) ask
+IsFounded told exchange = Unit {0}
+
+-- each ask of the desk cites only what was told before it
+abbrev pub CitesTold : List Exchange → List Exchange → Type 0
+CitesTold before [] = Unit {0}
+CitesTold before (exchange ∷ more) = IsFounded before exchange × CitesTold (before ++ exchange ∷ []) more
+
+abbrev pub CitesSince : List Exchange → List Exchange → Type 0
+CitesSince old new = (more : List Exchange) × (new ≡ old ++ more) × CitesTold old more

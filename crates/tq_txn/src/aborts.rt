@@ -2,7 +2,7 @@ ghost use Rattle.std.specs.Prelude.{◌≡◌, IfOk, IfErr};
 ghost use Rattle.tq_txn.specs.Aborts as spec;
 ghost use Rattle.tq_txn.specs.Dialogue as line;
 ghost use Rattle.tq_txn.specs.States as states;
-ghost use Rattle.tq_txn.specs.Told.{EndsAsTold, IsAnswered};
+ghost use Rattle.tq_txn.specs.Told.{EndsAsTold, IsAnswered, Knows};
 
 use crate::endings::end_at_each;
 use crate::{Abortion, Asker, DeskTold, Ended, LineFault, Open, Txn, TxnFault, Voting};
@@ -134,6 +134,7 @@ pub fn abort<A: Asker>(asker: &mut A, alloc: Global, txn: Txn) -> Abortion
     ensures levels { states.levels_of result.txn ≡ states.levels_of txn }
     ensures still { states.IsStill txn result.txn }
     ensures verdict { EndsAsTold txn (A.told asker.old) (A.told asker.new) result.txn }
+    ensures knows { Knows (A.told asker.old) txn → Knows (A.told asker.new) result.txn }
     ensures tree { A.levels asker.new ≡ A.levels asker.old }
 {
     let number = txn.number();

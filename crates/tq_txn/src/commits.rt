@@ -5,7 +5,7 @@ ghost use Rattle.tq_states.specs.Voting.{IsVotedOn};
 ghost use Rattle.tq_txn.specs.Commits as spec;
 ghost use Rattle.tq_txn.specs.Dialogue as line;
 ghost use Rattle.tq_txn.specs.States as states;
-ghost use Rattle.tq_txn.specs.Told.{EndsAsTold, IsAnswered};
+ghost use Rattle.tq_txn.specs.Told.{CitesSince, EndsAsTold, IsAnswered, Knows};
 
 use crate::endings::{end_at_each, prepare_at};
 use crate::{Asker, Decision, DeskTold, LineFault, Ready, Txn, TxnFault, Voting};
@@ -24,6 +24,7 @@ fn prepare_each<A: Asker>(
     ensures asks { line.Follows (spec.prepares_line (numbers_of servers.now) voting.old) (A.told asker.old) (A.told asker.new) (line.ended_by result voting.new) }
     ensures txn { voting.new.txn ≡ voting.old.txn }
     ensures kept { IsVotedOn voting.old voting.new }
+    ensures knows { Knows (A.told asker.old) (Txn.Voting voting.old) → Knows (A.told asker.new) (Txn.Voting voting.new) }
     ensures tree { A.levels asker.new ≡ A.levels asker.old }
 {
     match servers {
@@ -84,6 +85,8 @@ pub fn decide<A: Asker>(asker: &mut A, alloc: Global, voting: Voting) -> Decisio
     ensures levels { states.levels_of result.txn ≡ voting.txn.levels }
     ensures kept { states.IsGathered voting result.txn }
     ensures verdict { EndsAsTold (Txn.Voting voting) (A.told asker.old) (A.told asker.new) result.txn }
+    ensures knows { Knows (A.told asker.old) (Txn.Voting voting) → Knows (A.told asker.new) result.txn }
+    ensures cited { Knows (A.told asker.old) (Txn.Voting voting) → CitesSince (A.told asker.old) (A.told asker.new) }
     ensures tree { A.levels asker.new ≡ A.levels asker.old }
 {
     let ready = match voting.ready() {
@@ -127,6 +130,8 @@ pub fn commit<A: Asker>(asker: &mut A, alloc: Global, voting: Voting) -> Decisio
     ensures levels { states.levels_of result.txn ≡ voting.txn.levels }
     ensures kept { states.IsGathered voting result.txn }
     ensures verdict { EndsAsTold (Txn.Voting voting) (A.told asker.old) (A.told asker.new) result.txn }
+    ensures knows { Knows (A.told asker.old) (Txn.Voting voting) → Knows (A.told asker.new) result.txn }
+    ensures cited { Knows (A.told asker.old) (Txn.Voting voting) → CitesSince (A.told asker.old) (A.told asker.new) }
     ensures tree { A.levels asker.new ≡ A.levels asker.old }
 {
     let mut voting = voting;

@@ -1,10 +1,13 @@
-ghost use Rattle.std.specs.Prelude.{◌≡◌, ◌==◌, true, false, List, Some, None, Ok, IfOk, OnErr};
+ghost use Rattle.std.specs.Prelude.{◌≡◌, ◌==◌, ◌++◌, [], ◌∷◌, true, false, List, Some, None, Ok, IfOk, OnErr};
 ghost use Rattle.std.specs.List.{list_all};
 ghost use Rattle.tq_coterie.specs.Coterie.{numbers_of};
+ghost use Rattle.tq_states.specs.Cited.{VotesOnly};
 ghost use Rattle.tq_states.specs.Voting.{IsVotedOn, has_vote};
 ghost use Rattle.tq_txn.specs.Dialogue as line;
 ghost use Rattle.tq_txn.specs.Lines as spec;
+ghost use Rattle.tq_txn.specs.Told.{Knows};
 ghost use Rattle.tq_txn.specs.declared.asker.Exchange.{Exchange};
+ghost use Rattle.tq_txn.specs.declared.txn.Txn.TheVariants as states;
 
 use crate::{Applied, AskFault, Asker, Ended, LineFault, NodeTold, Voting};
 use std::alloc::{AllocError, Global};
@@ -33,6 +36,7 @@ pub fn prepare_at<A: Asker>(
     ensures asks { line.Follows (spec.prepare_line voting.old server.number) (A.told asker.old) (A.told asker.new) (line.ended_by result voting.new) }
     ensures txn { voting.new.txn ≡ voting.old.txn }
     ensures kept { IsVotedOn voting.old voting.new }
+    ensures knows { Knows (A.told asker.old) (states.Voting voting.old) → Knows (A.told asker.new) (states.Voting voting.new) }
     ensures err { OnErr result (voting.new ≡ voting.old) }
     ensures tree { A.levels asker.new ≡ A.levels asker.old }
 {
@@ -54,6 +58,7 @@ fn take_vote(alloc: Global, voting: &mut Voting, told: &NodeTold) -> Result<(), 
     ensures asks { (exchanges : List Exchange) → line.Follows (spec.voted voting.old told.now) exchanges exchanges (line.ended_by result voting.new) }
     ensures txn { voting.new.txn ≡ voting.old.txn }
     ensures kept { has_vote voting.old.votes told.now.server ≡ false → IsVotedOn voting.old voting.new }
+    ensures cited { (before : List NodeTold) → VotesOnly before voting.old → VotesOnly (before ++ told.now ∷ []) voting.new }
     ensures err { OnErr result (voting.new ≡ voting.old) }
 {
     if let Some(refusal) = refusal_in(&told.reply) {

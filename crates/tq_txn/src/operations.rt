@@ -1,9 +1,11 @@
-ghost use Rattle.std.specs.List.{list_all};
+ghost use Rattle.std.specs.List.{list_all, Contains};
 ghost use Rattle.std.specs.Prelude.{◌≡◌, ◌==◌, ◌++◌, [], true, IfOk, OnErr};
 ghost use Rattle.tq_coterie.specs.Coterie.{numbers_of};
 ghost use Rattle.tq_states.specs.Open as open_spec;
 ghost use Rattle.tq_txn.specs.Dialogue as line;
 ghost use Rattle.tq_txn.specs.Lines as spec;
+ghost use Rattle.tq_txn.specs.Told.{AreTold, Knows, answers_in};
+ghost use Rattle.tq_txn.specs.declared.txn.Txn.TheVariants as states;
 
 use crate::{Asker, LineFault, NodeTold, Open, Reading, TxnFault};
 use std::alloc::Global;
@@ -80,6 +82,7 @@ fn lock_at<A: Asker>(
     requires { server.levels ≡ A.levels asker.old }
     ensures asks { line.Follows (spec.lock_line open.now.txn file.now mode server.number) (A.told asker.old) (A.told asker.new) (line.ended_by result tt) }
     ensures unasked { line.IsUnasked result (A.told asker.old) (A.told asker.new) }
+    ensures heard { IfOk result (λ answer. Contains (answers_in (A.told asker.new)) answer) }
     ensures tree { A.levels asker.new ≡ A.levels asker.old }
 {
     let ask = NodeAsk::Work(WorkAsk::Lock {
@@ -111,6 +114,7 @@ fn lock_next<A: Asker>(
     ensures unasked { line.IsUnasked result (A.told asker.old) (A.told asker.new) }
     ensures levels { open.new.levels ≡ open.old.levels }
     ensures kept { open_spec.IsTouched open.old open.new }
+    ensures heard { AreTold (A.told asker.old) answers.old.items → AreTold (A.told asker.new) answers.new.items }
     ensures tree { A.levels asker.new ≡ A.levels asker.old }
 {
     match answers.reserve(1) {
@@ -146,6 +150,7 @@ fn lock_each<A: Asker>(
         (line.ended_by result (record { answers = answers.new.items; txn = open.new })) }
     ensures levels { open.new.levels ≡ open.old.levels }
     ensures kept { open_spec.IsTouched open.old open.new }
+    ensures heard { AreTold (A.told asker.old) answers.old.items → AreTold (A.told asker.new) answers.new.items }
     ensures tree { A.levels asker.new ≡ A.levels asker.old }
 {
     match servers {
@@ -169,6 +174,7 @@ fn lock_quorum<A: Asker>(
     ensures asks { line.Follows (spec.quorum_line file.now mode open.old) (A.told asker.old) (A.told asker.new) (line.ended_by result open.new) }
     ensures levels { open.new.levels ≡ open.old.levels }
     ensures kept { open_spec.IsTouched open.old open.new }
+    ensures heard { IfOk result (λ answers. AreTold (A.told asker.new) answers) }
     ensures tree { A.levels asker.new ≡ A.levels asker.old }
 {
     let quorum = match choose(asker, alloc, open.levels()) {
@@ -202,6 +208,7 @@ pub fn read_file<A: Asker>(
     ensures asks { line.Follows (spec.read_line open.old file.now) (A.told asker.old) (A.told asker.new) (line.ended_by result open.new) }
     ensures levels { open.new.levels ≡ open.old.levels }
     ensures err { OnErr result (open_spec.IsTouched open.old open.new) }
+    ensures knows { Knows (A.told asker.old) (states.Open open.old) → Knows (A.told asker.new) (states.Open open.new) }
     ensures tree { A.levels asker.new ≡ A.levels asker.old }
 {
     if let Some(content) = open.pending(file) {
@@ -230,6 +237,7 @@ fn read_at_quorum<A: Asker>(
     ensures asks { line.Follows (spec.quorum_read open.old file.now) (A.told asker.old) (A.told asker.new) (line.ended_by result open.new) }
     ensures levels { open.new.levels ≡ open.old.levels }
     ensures err { OnErr result (open_spec.IsTouched open.old open.new) }
+    ensures knows { Knows (A.told asker.old) (states.Open open.old) → Knows (A.told asker.new) (states.Open open.new) }
     ensures tree { A.levels asker.new ≡ A.levels asker.old }
 {
     let answers = match lock_quorum(asker, alloc, open, file, Mode::Shared) {
@@ -255,6 +263,7 @@ pub fn write_file<A: Asker>(
     ensures asks { line.Follows (spec.write_line open.old file.now content) (A.told asker.old) (A.told asker.new) (line.ended_by result open.new) }
     ensures levels { open.new.levels ≡ open.old.levels }
     ensures err { OnErr result (open_spec.IsTouched open.old open.new) }
+    ensures knows { Knows (A.told asker.old) (states.Open open.old) → Knows (A.told asker.new) (states.Open open.new) }
     ensures tree { A.levels asker.new ≡ A.levels asker.old }
 {
     if let Some(op) = open.written(file) {
@@ -280,6 +289,7 @@ fn write_at_quorum<A: Asker>(
     ensures asks { line.Follows (spec.quorum_write open.old file.now content) (A.told asker.old) (A.told asker.new) (line.ended_by result open.new) }
     ensures levels { open.new.levels ≡ open.old.levels }
     ensures err { OnErr result (open_spec.IsTouched open.old open.new) }
+    ensures knows { Knows (A.told asker.old) (states.Open open.old) → Knows (A.told asker.new) (states.Open open.new) }
     ensures tree { A.levels asker.new ≡ A.levels asker.old }
 {
     let answers = match lock_quorum(asker, alloc, open, file, Mode::Exclusive) {

@@ -1,3 +1,6 @@
+use Rattle.tq_txn.specs.Dialogue.{desk_exchange}
+use Rattle.std.proofs.Common.{Ok, Err}
+use Rattle.tq_txn.proofs.KnownLaws.{knows_grow, knows_answered}
 use Rattle.tq_desk.specs.declared.ask.DeskAsk.TheVariants.{Resolve}
 use Rattle.tq_txn.specs.Aborts.{abort_end, resolved}
 use Rattle.tq_txn.proofs.ToldLaws.{grown_along, ends_as_told, ends_unasked}
@@ -30,3 +33,18 @@ returns-in-Ok-clause-verdict g c =
 
 pub returns-in-Err-clause-verdict : goal.returns-in-Err-clause-verdict
 returns-in-Err-clause-verdict g c = ends_unasked c.args.txn (g.A.Asker.told c.args.asker.now) (g.A.Asker.told c.desk.new.self)
+
+pub returns-in-Ok-clause-knows : goal.returns-in-Ok-clause-knows
+returns-in-Ok-clause-knows g c =
+    let now = g.A.Asker.told c.args.asker.now in
+    let asked = g.A.Asker.told c.desk.new.self in
+    let new = g.A.Asker.told c.resolve_and_end.new.asker in
+    let after = c.resolve_and_end.result.txn in
+    let told = c.in-Ok.told in
+    let more = grown_along (abort_end told.reply (resolved c.args.txn told)) asked new (ended_by c.resolve_and_end.result.answer after) c.resolve_and_end.ensures.asks in
+    let first = knows_grow now asked (desk_exchange (Resolve c.number-number.result) (Ok told), c.in-Ok.ensures.exchanges) c.args.txn in
+    λ is. knows_answered new c.args.txn after told c.resolve_and_end.ensures.verdict (knows_grow asked new more c.args.txn (first is))
+
+pub returns-in-Err-clause-knows : goal.returns-in-Err-clause-knows
+returns-in-Err-clause-knows g c =
+    knows_grow (g.A.Asker.told c.args.asker.now) (g.A.Asker.told c.desk.new.self) (desk_exchange (Resolve c.number-number.result) (Err c.in-Err.fault), c.in-Err.ensures.exchanges) c.args.txn

@@ -1,3 +1,5 @@
+use Rattle.tq_txn.proofs.Deskless.{deskless_cites, deskless_prepares, deskless_commit_end}
+use Rattle.tq_txn.proofs.KnownLaws.{cites_on}
 use Rattle.tq_txn.specs.declared.txn.Txn.TheVariants as states
 use Rattle.tq_txn.specs.Told.{EndsAsTold}
 use Rattle.tq_txn.specs.Commits.{prepares_line, commit_end}
@@ -65,3 +67,33 @@ returns-in-Ok-answer-clause-verdict g c =
     let later = grown_along (commit_end c.in-Ok-answer.serial txn) last new (ended_by c.end_committed.result.answer c.end_committed.result.txn) c.end_committed.ensures.asks in
     let P : Txn → Type 0 = λ t. EndsAsTold (states.Voting c.args.voting) now new t in
     subst P (sym c.end_committed.ensures.same) (ends_within c.args.voting c.prepare_each.new.voting txn now mid last new more later c.decide-answer.ensures.verdict)
+
+pub returns-in-Err-prepare_each-clause-cited : goal.returns-in-Err-prepare_each-clause-cited
+returns-in-Err-prepare_each-clause-cited g c =
+    let now = g.A.Asker.told c.args.asker.now in
+    let mid = g.A.Asker.told c.prepare_each.new.asker in
+    let numbers = numbers_of c.as_slice.result.now in
+    let votes = deskless_cites (prepares_line numbers c.args.voting) now mid (ended_by c.prepare_each.result c.prepare_each.new.voting) (deskless_prepares numbers c.args.voting) c.prepare_each.ensures.asks in
+    λ is. votes
+
+pub returns-clause-cited : goal.returns-clause-cited
+returns-clause-cited g c =
+    let now = g.A.Asker.told c.args.asker.now in
+    let mid = g.A.Asker.told c.prepare_each.new.asker in
+    let numbers = numbers_of c.as_slice.result.now in
+    let votes = deskless_cites (prepares_line numbers c.args.voting) now mid (ended_by c.prepare_each.result c.prepare_each.new.voting) (deskless_prepares numbers c.args.voting) c.prepare_each.ensures.asks in
+    let new = g.A.Asker.told c.decide-answer.new.asker in
+    λ is. cites_on now mid new votes (c.decide-answer.ensures.cited (c.prepare_each.ensures.knows is))
+
+pub returns-in-Ok-answer-clause-cited : goal.returns-in-Ok-answer-clause-cited
+returns-in-Ok-answer-clause-cited g c =
+    let now = g.A.Asker.told c.args.asker.now in
+    let mid = g.A.Asker.told c.prepare_each.new.asker in
+    let numbers = numbers_of c.as_slice.result.now in
+    let votes = deskless_cites (prepares_line numbers c.args.voting) now mid (ended_by c.prepare_each.result c.prepare_each.new.voting) (deskless_prepares numbers c.args.voting) c.prepare_each.ensures.asks in
+    let last = g.A.Asker.told c.decide-answer.new.asker in
+    let new = g.A.Asker.told c.end_committed.new.asker in
+    let serial = c.in-Ok-answer.serial in
+    let txn = c.decide-answer.result.txn in
+    let ending = deskless_cites (commit_end serial txn) last new (ended_by c.end_committed.result.answer c.end_committed.result.txn) (deskless_commit_end serial txn) c.end_committed.ensures.asks in
+    λ is. cites_on now mid new votes (cites_on mid last new (c.decide-answer.ensures.cited (c.prepare_each.ensures.knows is)) ending)

@@ -1,3 +1,4 @@
+use Rattle.tq_txn.proofs.KnownLaws.{knows_voted}
 use Rattle.std.proofs.Common.{refl, ◌∙◌, sym}
 use Rattle.tq_txn.proofs.KeptVotes.{voted_on_same, voted_on_after}
 use Rattle.tq_txn.proofs.LineLaws.{vote_refused}
@@ -16,3 +17,9 @@ returns-in-Err-clause-kept c = λ none. voted_on_same c.args.voting.now c.vote.n
 
 pub returns-clause-kept : goal.returns-clause-kept
 returns-clause-kept c = λ none. voted_on_after c.args.voting.now c.vote.new.self c.args.told.now c.in_default-vote.ensures.after none
+
+pub returns-in-Some-clause-cited : goal.returns-in-Some-clause-cited
+returns-in-Some-clause-cited c = λ before is. knows_voted before c.args.told.now c.args.voting.now c.args.voting.now refl is
+
+pub returns-in-Err-clause-cited : goal.returns-in-Err-clause-cited
+returns-in-Err-clause-cited c = λ before is. knows_voted before c.args.told.now c.args.voting.now c.vote.new.self c.in-Err.ensures.err is

@@ -1,3 +1,6 @@
+use Rattle.tq_txn.specs.Told.{AreTold, answers_in}
+use Rattle.std.proofs.lemmas.List.Elements.{All-nil}
+use Rattle.std.specs.List.{Contains}
 use Rattle.std.proofs.Common.{◌≡◌, ◌==◌, ◌∙◌, ℕ, List, true, sym, subst, Some, Ok}
 use Rattle.std.specs.List.{list_all}
 use Rattle.tq_states.specs.declared.told.NodeTold.{NodeTold}
@@ -28,3 +31,9 @@ pub returns-clause-asks : goal.returns-clause-asks
 returns-clause-asks g c =
     quorum_stopped c.args.file.now c.args.mode c.levels.result c.args.open.now c.levels.ensures c.in-Ok.quorum.servers c.servers.result.now c.new-answers.result.items c.servers.ensures.numbers c.new-answers.ensures.items
     (g.A.Asker.told c.args.asker.now) (g.A.Asker.told c.choose.new.asker) c.in-Ok.ensures.asks c.in-Err-lock_each.fault record { answers = c.lock_each.new.answers.items; txn = c.lock_each.new.open } (g.A.Asker.told c.lock_each.new.asker) c.in-Err-lock_each.ensures.asks
+
+pub returns-in-Ok-lock_each-clause-heard : goal.returns-in-Ok-lock_each-clause-heard
+returns-in-Ok-lock_each-clause-heard g c =
+    let told = g.A.Asker.told c.choose.new.asker in
+    subst (AreTold (g.A.Asker.told c.lock_each.new.asker)) (sym c.from_vec.ensures)
+    (c.lock_each.ensures.heard (subst (AreTold told) (sym c.new-answers.ensures.items) (All-nil (Contains (answers_in told)))))
