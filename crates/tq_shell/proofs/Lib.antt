@@ -2,4 +2,3 @@ mod StreamLaws
 mod Pieces
 mod RunLaws
 mod Answering
-mod Learned

@@ -1,6 +1,5 @@
 pub mod Asked
 pub mod Answer
-pub mod History
 pub mod Text
 pub mod Stream
 pub use Rattle.tq_live.specs.Live

@@ -1,11 +1,8 @@
 ghost use Rattle.std.specs.Prelude.{◌≡◌, ◌+◌, ◌-◌, ◌^◌, ◌<◌, ◌≤◌, ◌++◌, ℕ, List, IsTrue, OnOk, OnErr, length, take};
 ghost use Rattle.std.specs.Io.KnownBytes.{Appends};
-ghost use Rattle.tq_shell.specs.Answer.{opening};
-ghost use Rattle.tq_shell.specs.History.{IsLearned};
 ghost use Rattle.tq_devices.specs.Faults.{IsRunCount};
 ghost use Rattle.tq_shell.specs.Run.{IsRunText};
 ghost use Rattle.tq_shell.specs.Stream.{nothing_received};
-ghost use Rattle.tq_lines.specs.declared.line.Line.{Line};
 
 use crate::receiver::Receiver;
 use std::alloc::Global;
@@ -31,7 +28,6 @@ pub fn run<R: Source, W: Sink>(
         × Appends (W.taken writer.old) (W.taken writer.new) text × IsRunText result levels bytes text }
     ensures end { OnOk result (IsTrue (R.is_ended reader.new)) }
     ensures counts { IsRunCount result (R.failed reader.old) (R.failed reader.new) (W.failed writer.old) (W.failed writer.new) }
-    ensures learned { (lines : List Line) → IsLearned (opening levels) lines }
 {
     let mut receiver = Receiver::new(alloc, levels)?;
     answer_pieces(alloc, levels, &mut receiver, reader, writer)

@@ -1,7 +1,5 @@
 use Rattle.std.proofs.Common.{rules}
-use Rattle.tq_shell.specs.Answer.{opening}
 use Rattle.tq_devices.specs.declared.fault.RunFault.TheVariants.{Memory}
-use Rattle.tq_shell.proofs.Learned.{is_learned}
 use Rattle.tq_shell.proofs.RunLaws.{by_fault, ends_before}
 use Rattle.tq_shell.proofs.runner.run.Goals as goal
 
@@ -11,11 +9,5 @@ returns-in_err-receiver-clause-text g c =
     let taken = g.W.Sink.taken in
     by_fault c.from_residual.result Memory c.args.levels _ _ _ _ (search rules) (ends_before c.args.levels (given c.args.reader.now) (taken c.args.writer.now))
 
-pub returns-in_err-receiver-clause-learned : goal.returns-in_err-receiver-clause-learned
-returns-in_err-receiver-clause-learned g c = λ lines. is_learned (opening c.args.levels) lines
-
 pub returns-clause-text : goal.returns-clause-text
 returns-clause-text g c = c.answer_pieces.ensures.text
-
-pub returns-clause-learned : goal.returns-clause-learned
-returns-clause-learned g c = λ lines. is_learned (opening c.args.levels) lines
