@@ -42,9 +42,10 @@ keeps_within few many within old is =
     (All-weaker (IsOpTold old.txn few) (IsOpTold old.txn many) (op_within old.txn few many within) old.ops is.0, All-nil (IsVoteTold old.txn many))
 
 pub votes_within : (few many : List NodeTold) → All (Contains many) few → (old : VotingView) → VotesOnly few old → VotesOnly many old
-votes_within few many within old is =
-    (All-weaker (IsOpTold old.txn.txn few) (IsOpTold old.txn.txn many) (op_within old.txn.txn few many within) old.txn.ops is.0,
-    All-weaker (IsVoteTold old.txn.txn few) (IsVoteTold old.txn.txn many) (vote_within old.txn.txn few many within) old.votes is.1)
+votes_within few many within old is = (
+  All-weaker (IsOpTold old.txn.txn few) (IsOpTold old.txn.txn many) (op_within old.txn.txn few many within) old.txn.ops is.0,
+  All-weaker (IsVoteTold old.txn.txn few) (IsVoteTold old.txn.txn many) (vote_within old.txn.txn few many within) old.votes is.1,
+)
 
 all_left : (few more : List NodeTold) → All (Contains (few ++ more)) few
 all_left few more = All-weaker (Contains few) (Contains (few ++ more)) (λ answer here. Contains-append_left few more answer here) few (All-contains_itself few)
