@@ -7,7 +7,7 @@ use Rattle.std.proofs.lemmas.List.Elements.{All-nil, All-cons, All-head, All-tai
 use Rattle.tq_shape.specs.Tree.{left_of, right_of, stands_in}
 use Rattle.tq_shape.proofs.Tree.{sides_apart, stands_in-top, stands_in-left, stands_in-right}
 use Rattle.tq_coterie.specs.Coterie.{joined, joined_pairs, members, has}
-use Rattle.tq_coterie.specs.Coterie.{Ascends}
+use Rattle.tq_shape.specs.ServerSet.{Ascends}
 use Rattle.tq_coterie.proofs.Sets.{AreApart, Ascends-joined, has-joined}
 
 -- ---- all members

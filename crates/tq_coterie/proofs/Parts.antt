@@ -11,7 +11,7 @@ use Rattle.tq_coterie.specs.Coterie.{joined, members, coterie, has, numbers_of, 
 use Rattle.tq_coterie.specs.Parts.{part_from_sides, part_of}
 use Rattle.tq_coterie.specs.declared.part.Part.{Part}
 use Rattle.tq_coterie.specs.declared.part.Part.TheVariants.{Empty, Member, Neither}
-use Rattle.tq_coterie.specs.Coterie.{Ascends}
+use Rattle.tq_shape.specs.ServerSet.{Ascends}
 use Rattle.tq_coterie.proofs.Sets.{has-below, has-head, Ascends-joined, joined-nil, same_set, has-joined}
 use Rattle.tq_coterie.proofs.Members.{IsSetOf, IsSetOf-leaf, IsSetOf-left, IsSetOf-right, IsSetOf-both, sides_members_apart, top_or, members-all, member-set, Contains-leaf, Contains-with_left, Contains-with_right, Contains-both}
 

@@ -4,7 +4,7 @@ use Rattle.std.proofs.lemmas.Bool.{cases_lt, cases_order, cases_Bool, lt-ltb, le
 use Rattle.std.proofs.lemmas.List.Sums.{sum_by-cons}
 use Rattle.std.specs.List.{list_all}
 use Rattle.tq_coterie.specs.Coterie.{with_server, joined, has}
-use Rattle.tq_coterie.specs.Coterie.{Ascends}
+use Rattle.tq_shape.specs.ServerSet.{Ascends}
 
 pub or_swap : (a b c : Bool) → (a || (b || c)) ≡ (b || (a || c))
 or_swap true true c = refl

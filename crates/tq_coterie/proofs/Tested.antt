@@ -7,7 +7,7 @@ use Rattle.std.proofs.lemmas.Bool.{false≢true, or_right, cases_lt}
 use Rattle.std.proofs.lemmas.Map.Views.{list_any-from_Contains, Contains-from_any}
 use Rattle.std.proofs.lemmas.Bool.Decides.{nat_tests}
 use Rattle.tq_coterie.specs.Coterie.{coterie, has, is_quorum, numbers_of, servers_of, IsLeastOfBoth, IsMemberList}
-use Rattle.tq_coterie.specs.Coterie.{Ascends}
+use Rattle.tq_shape.specs.ServerSet.{Ascends}
 use Rattle.tq_shape.specs.Tree.{Server}
 use Rattle.tq_coterie.proofs.Intersecting.{members-meet}
 use Rattle.tq_coterie.proofs.Parts.{Ascends-member}

@@ -1,15 +1,10 @@
 -- The coterie of a tree: which sets of servers are quorums, and in which order they are listed.
-use Rattle.std.specs.Prelude.{ℕ, ◌-◌, ◌<◌, ◌≤◌, zero, suc, ◌≡◌, Bool, true, ◌==◌, ◌&&◌, ◌||◌, nat_eq, nat_lt, cond, List, [], ◌∷◌, ◌++◌, map}
+use Rattle.std.specs.Prelude.{ℕ, ◌-◌, ◌≤◌, zero, suc, ◌≡◌, Bool, true, ◌==◌, ◌&&◌, ◌||◌, nat_eq, nat_lt, cond, List, [], ◌∷◌, ◌++◌, map}
 use Rattle.std.specs.Cmp.Lexicographic.{pointwise}
 use Rattle.std.specs.List.{flat_map, list_any, list_all, Contains}
 use Rattle.tq_shape.specs.Tree.{Server, left_of, right_of}
 
 -- A set of servers is the ascending list of their numbers.
-
--- the numbers ascend, from above a lower bound
-abbrev pub Ascends : ℕ → List ℕ → Type 0
-Ascends low [] = Unit {0}
-Ascends low (first ∷ rest) = (low < first) × Ascends first rest
 
 -- the set with one server more, which it does not have yet
 abbrev pub with_server : ℕ → List ℕ → List ℕ

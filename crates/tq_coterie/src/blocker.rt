@@ -1,6 +1,7 @@
 ghost use Rattle.std.specs.Prelude.{◌≡◌, IfOk, OnSome, Contains};
 ghost use Rattle.std.specs.Option.{SomeIff};
-ghost use Rattle.tq_coterie.specs.Coterie.{coterie, numbers_of, Ascends, IsMemberList};
+ghost use Rattle.tq_coterie.specs.Coterie.{coterie, numbers_of, IsMemberList};
+ghost use Rattle.tq_shape.specs.ServerSet.{Ascends};
 
 use crate::member::{Member, ServerIds};
 use std::alloc::Global;
@@ -48,6 +49,7 @@ impl Blocker {
     pub fn servers(&self) -> &[ServerId]
         ensures numbers { numbers_of result.now ≡ self.now.servers }
         ensures member { IsMemberList self.now.levels result.now }
+        ensures ascending { Ascends 0 self.now.servers }
     {
         self.member.servers()
     }

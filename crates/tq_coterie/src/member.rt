@@ -1,7 +1,8 @@
 ghost use Rattle.std.specs.Prelude.{◌≡◌, IfOk, OnSome, Contains, All};
 ghost use Rattle.std.specs.Option.{SomeIff};
 ghost use Rattle.tq_shape.specs.Tree.{IsServer};
-ghost use Rattle.tq_coterie.specs.Coterie.{coterie, is_same, servers_of, numbers_of, Ascends, IsMemberList};
+ghost use Rattle.tq_coterie.specs.Coterie.{coterie, is_same, servers_of, numbers_of, IsMemberList};
+ghost use Rattle.tq_shape.specs.ServerSet.{Ascends};
 
 use crate::membership::is_member;
 use smallvec::SmallVec;
@@ -67,6 +68,7 @@ impl Member {
     pub(crate) fn servers(&self) -> &[ServerId]
         ensures numbers { numbers_of result.now ≡ self.now.servers }
         ensures member { IsMemberList self.now.levels result.now }
+        ensures ascending { Ascends 0 self.now.servers }
     {
         self.list.servers.as_slice()
     }

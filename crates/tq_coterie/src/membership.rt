@@ -1,6 +1,7 @@
 ghost use Rattle.std.specs.Prelude.{◌<◌, ◌^◌, ◌≡◌, ◌↔◌, IsTrue, Contains, All};
 ghost use Rattle.tq_shape.specs.Tree.{IsServer};
-ghost use Rattle.tq_coterie.specs.Coterie.{coterie, Ascends};
+ghost use Rattle.tq_coterie.specs.Coterie.{coterie};
+ghost use Rattle.tq_shape.specs.ServerSet.{Ascends};
 ghost use Rattle.tq_coterie.specs.Coterie as spec;
 
 use crate::marks::part_under_root;

@@ -8,7 +8,8 @@ use Rattle.std.proofs.lemmas.Bool.{cases_lt}
 use Rattle.std.proofs.lemmas.List.Elements.{All-nil, All-head, All-tail, All-weaker}
 use Rattle.std.proofs.lemmas.List.{append_assoc}
 use Rattle.tq_shape.specs.Tree.{Server, IsServer}
-use Rattle.tq_coterie.specs.Coterie.{Ascends, joined, servers_of}
+use Rattle.tq_shape.specs.ServerSet.{Ascends}
+use Rattle.tq_coterie.specs.Coterie.{joined, servers_of}
 use Rattle.tq_coterie.proofs.Sets.{sum_by-joined}
 use Rattle.tq_live.specs.Bits.{bits_of, places_from, places_of}
 

@@ -38,12 +38,12 @@ impl LiveTree {
     ghost use Rattle.std.specs.Prelude.{◌≡◌, ℕ, ◌+◌, ◌-◌, ◌*◌, ◌^◌, ◌<◌, ◌≤◌, ◌↔◌, IsOk, IfOk, IfSome, IsSome, OnOk, OnErr, slice_set, true, replicate, Some, List, All};
     ghost use Rattle.tq_shape.specs.Depth.{depth_of};
     ghost use Rattle.tq_coterie.specs.Coterie.{servers_of, numbers_of};
-    ghost use Rattle.tq_live.specs.Live.{best, best_cost, blocker, cost_of, is_up, HasQuorumOrBlocker};
+    ghost use Rattle.tq_live.specs.Live.{best, best_cost, blocker, cost_of, is_up, HasQuorumOrBlocker, HasQuorumOrBlockerUnder};
     ghost use Rattle.tq_live.specs.LiveOf.{IsAt, changed_live};
     ghost use Rattle.tq_live.specs.Kept.{cost_after};
     ghost use Rattle.tq_live.specs.Sought.{found};
     ghost use Rattle.tq_live.specs.Choice.{IsChoice, IsFirstChoice};
-    ghost use Rattle.tq_live.specs.BestOf.{IsBestOf};
+    ghost use Rattle.tq_live.specs.BestOf.{IsBestOf, IsFirstOf};
 
     /// Every server at cost 1 and up.
     pub fn new(alloc: Global, levels: Levels) -> Result<LiveTree, Memory>
@@ -184,7 +184,9 @@ impl LiveTree {
     /// one. The server is one of this tree.
     pub fn best(&self, alloc: Global, server: ServerId) -> Result<Option<Least>, Memory>
         requires { server.levels ≡ self.now.levels }
-        ensures { IfOk result (λ answer. IsBestOf self.now server.number answer) }
+        ensures best { IfOk result (λ answer. IsBestOf self.now server.number answer) }
+        ensures first { IfOk result (λ answer. IsFirstOf self.now server.number answer) }
+        ensures either { HasQuorumOrBlockerUnder self.now server.number }
     {
         match self.best_cost(server) {
             Some(cost) => {

@@ -85,7 +85,8 @@ impl Model for View {
 impl View {
     ghost use Rattle.std.specs.Prelude.{◌≡◌, ◌++◌, ◌∷◌, [], List, ℕ, IfOk, OnOk, OnErr};
     ghost use Rattle.tq_shape.specs.declared.entry.Entry.{Entry};
-    ghost use Rattle.tq_live.specs.View.{view_reply, view_after, view_state, ReplaysJournals};
+    ghost use Rattle.tq_live.specs.Live.{HasQuorumOrBlocker};
+    ghost use Rattle.tq_live.specs.View.{view_reply, view_after, view_state, IsFirstReply, ReplaysJournals};
     ghost use Rattle.tq_live.specs.ViewChanges.{view_change, view_changed, ViewFits};
 
     /// Every server at cost 1 and up. From there, asks and replies lead where their journal says.
@@ -109,6 +110,8 @@ impl View {
     /// with this ask and reply leaves it.
     pub fn answer(&mut self, alloc: Global, ask: &ViewAsk) -> Result<ViewReply, Memory>
         ensures reply { IfOk result (λ reply. reply ≡ view_reply self.old ask.now) }
+        ensures first { IfOk result (λ reply. IsFirstReply self.old reply) }
+        ensures either { HasQuorumOrBlocker self.old }
         ensures after { OnOk result (self.new ≡ view_after self.old ask.now) }
         ensures unchanged { OnErr result (self.new ≡ self.old) }
         ensures journal { IfOk result (λ reply. (levels : ℕ) → (journal : List (Entry ViewAsk ViewReply)) → self.old ≡ view_state levels journal

@@ -16,7 +16,7 @@ use Rattle.tq_node.specs.declared.ask.NodeReply.TheVariants as replies
 use Rattle.tq_node.specs.declared.ask.Verdict.{Verdict}
 use Rattle.tq_node.specs.declared.ask.WorkAsk.TheVariants as work
 use Rattle.tq_node.specs.NodeJournal.{NodeEntry, inner, IsCited, HasWrite}
-use Rattle.tq_node_laws.specs.NodeLaws.{IsOwner, held_kept}
+use Rattle.tq_node_laws.specs.NodeLaws.{IsOwner, held_kept, is_refusal}
 
 -- the locks are among the earlier ones, but for their being stable
 abbrev pub AreAmong : Locks → Locks → Type 0
@@ -64,7 +64,8 @@ pub record Frame (s number : ℕ) (e : NodeEntry) (old new : Records) : Type 0 w
   pub went : (t : ℕ) (vote : OpenVote) → fin.get old.votes t ≡ Some vote
       → (fin.get new.votes t ≡ Some vote)
       ⊎ ((verdict : Verdict) × (cite : ℕ) × (inner e.ask ≡ Some (work.Decide t verdict cite))
-      × (IsCited verdict s vote.number → (f : List ℕ) (v : ℕ) (c : List ℕ) → HasWrite vote.writes f v c → v ≤ (copy_of new.copies f).version))
+      × (IsCited verdict s vote.number → (f : List ℕ) (v : ℕ) (c : List ℕ) → HasWrite vote.writes f v c → v ≤ (copy_of new.copies f).version)
+      × (is_refusal e.reply ≡ false))
   pub yes_of : (t : ℕ) (asked : List Write) (held : List HeldLock) (writes : List Write) → e ≡ record { ask = Work (work.Prepare t asked); reply = replies.Yes held writes }
       → IsYes number t asked held writes old new
   pub owns : VotesOwn old → VotesOwn new

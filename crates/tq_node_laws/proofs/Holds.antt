@@ -14,11 +14,11 @@ use Rattle.tq_node.specs.declared.ask.NodeAsk.TheVariants.{Work}
 use Rattle.tq_node.specs.declared.ask.NodeReply.TheVariants as replies
 use Rattle.tq_node.specs.declared.ask.Verdict.{Verdict}
 use Rattle.tq_node.specs.declared.ask.WorkAsk.TheVariants as work
-use Rattle.tq_node.specs.NodeJournal.{NodeEntry, IsLegalNode, GrantAt, DecisionAt}
-use Rattle.tq_node_laws.specs.NodeLaws.{IsOwner, IsSameHold, IsUnbroken}
+use Rattle.tq_node.specs.NodeJournal.{NodeEntry, IsLegalNode, GrantAt}
+use Rattle.tq_node_laws.specs.NodeLaws.{IsOwner, IsSameHold, IsUnbroken, TakenAt}
 use Rattle.tq_shape.proofs.Places.{at-old, at-new, at-bound}
 use Rattle.tq_node_laws.proofs.Frames.{AreAmong, IsGrant, Frame}
-use Rattle.tq_node_laws.proofs.ServerLaws.{votes_own, decision_old, inner_new}
+use Rattle.tq_node_laws.proofs.ServerLaws.{votes_own, taken_old}
 
 stronger-itself : (a : Mode) → stronger a a ≡ a
 stronger-itself Shared = refl
@@ -145,19 +145,19 @@ module _ (s : ℕ) (state : List NodeEntry → Records)
   -- ---- an open vote keeps its locks until it ends
 
   pub stand : (later earlier : List NodeEntry) → IsLegalNode s (later ++ earlier) → (t : ℕ) (vote : OpenVote) → fin.get (state earlier).votes t ≡ Some vote
-      → ((d : ℕ) (verdict : Verdict) → length earlier < d → DecisionAt (later ++ earlier) d t verdict → ⊥)
+      → ((d : ℕ) (verdict : Verdict) → length earlier < d → TakenAt (later ++ earlier) d t verdict → ⊥)
       → (fin.get (state (later ++ earlier)).votes t ≡ Some vote) × ((f : List ℕ) → fin.get (state (later ++ earlier)).locks (f, t) ≡ fin.get (state earlier).locks (f, t))
   stand [] earlier legal t vote h none = (h, λ f. refl)
   stand (e ∷ l) earlier legal t vote h none =
       let K = l ++ earlier in
       let long = length-append l earlier in
-      let so_far = stand l earlier legal.1 t vote h (λ d verdict more at. none d verdict more (decision_old e (l ++ earlier) d t verdict at)) in
+      let so_far = stand l earlier legal.1 t vote h (λ d verdict more at. none d verdict more (taken_old e (l ++ earlier) d t verdict at)) in
       elim ((frames e (l ++ earlier) legal).went t vote so_far.0) [
         | inl stays ↦
             let was = votes_own s state start frames (l ++ earlier) legal.1 t vote so_far.0 in
             let now = votes_own s state start frames (e ∷ (l ++ earlier)) legal t vote stays in
             (stays, λ f. owner_alike (state (l ++ earlier)).locks (state (e ∷ (l ++ earlier))).locks t vote was now f ∙ so_far.1 f)
-        | inr ends ↦ absurd (none (suc (length (l ++ earlier))) ends.0 (omega arith) (record { cite = ends.1; decides = inner_new e (l ++ earlier) _ ends.2 }))
+        | inr ends ↦ absurd (none (suc (length (l ++ earlier))) ends.0 (omega arith) (record { cite = ends.1; entry = e; is_there = at-new e (l ++ earlier); is_inner = ends.2; taken = ends.4 }))
       ]
 
   -- ---- copies only rise

@@ -22,7 +22,7 @@ use Rattle.tq_shape.specs.Journal.{Has}
 use Rattle.tq_node.specs.declared.ask.NodeAsk.{NodeAsk}
 use Rattle.tq_node.specs.declared.ask.NodeAsk.TheVariants.{Work}
 use Rattle.tq_node.specs.NodeJournal.{NodeEntry, IsLegalNode, inner, IsCited, GrantAt, TellsAt, YesAt, InnerAt, DecisionAt, HasHeld, HasWrite}
-use Rattle.tq_node_laws.specs.NodeLaws.{HasOrigin, IsBase, held_kept, IsStanding, IsEnded}
+use Rattle.tq_node_laws.specs.NodeLaws.{HasOrigin, IsBase, held_kept, IsStanding, IsEnded, TakenAt}
 use Rattle.tq_shape.proofs.Places.{at-cases, at-old, at-new, at-bound, Has-map}
 use Rattle.tq_node_laws.proofs.Frames.{AreAmong, IsGrant, VotesOwn, IsRaised, Tells, Frame}
 
@@ -51,6 +51,12 @@ inner_new e K a h = record { entry = e; is_there = at-new e K; is_inner = h }
 
 pub decision_old : (e : NodeEntry) (K : List NodeEntry) (d t : ℕ) (v : Verdict) → DecisionAt K d t v → DecisionAt (e ∷ K) d t v
 decision_old e K d t v at = record { cite = at.cite; decides = inner_old e K d (work.Decide t v at.cite) at.decides }
+
+pub taken_old : (e : NodeEntry) (K : List NodeEntry) (d t : ℕ) (v : Verdict) → TakenAt K d t v → TakenAt (e ∷ K) d t v
+taken_old e K d t v at = record { cite = at.cite; entry = at.entry; is_there = at-old e K d at.entry at.is_there; is_inner = at.is_inner; taken = at.taken }
+
+taken_decides : (K : List NodeEntry) (d t : ℕ) (v : Verdict) → TakenAt K d t v → DecisionAt K d t v
+taken_decides K d t v at = record { cite = at.cite; decides = record { entry = at.entry; is_there = at.is_there; is_inner = at.is_inner } }
 
 yes_cases : (e : NodeEntry) (K : List NodeEntry) (n t : ℕ) (h : List HeldLock) (w : List Write) → YesAt (e ∷ K) n t h w
     → ((n ≡ suc (length K)) × ((asked : List Write) × (e ≡ record { ask = Work (work.Prepare t asked); reply = replies.Yes h w }))) ⊎ YesAt K n t h w
@@ -154,7 +160,7 @@ module _ (s : ℕ) (state : List NodeEntry → Records)
             decision = k.decision;
             verdict = k.verdict;
             later = k.later;
-            decided = decision_old e K k.decision t k.verdict k.decided;
+            decided = taken_old e K k.decision t k.verdict k.decided;
             installed = λ cites f v c has. let a = k.installed cites f v c has in let b = copies_rise e K legal f in omega arith;
           })
       by low (inl k) =
@@ -164,7 +170,7 @@ module _ (s : ℕ) (state : List NodeEntry → Records)
               decision = suc (length K);
               verdict = ends.0;
               later = omega arith;
-              decided = record { cite = ends.1; decides = inner_new e K _ ends.2 };
+              decided = record { cite = ends.1; entry = e; is_there = at-new e K; is_inner = ends.2; taken = ends.4 };
               installed = λ cites f v c has. ends.3 (subst (λ (m : ℕ). IsCited ends.0 s m) (sym k.numbered) cites) f v c (subst (λ (x : List Write). HasWrite x f v c) (sym k.of_writes) has);
             })
           ]
@@ -263,7 +269,7 @@ module _ (s : ℕ) (state : List NodeEntry → Records)
                       let x = (votes_own K legal.1 t2 k.vote k.is_open).exclusive f v2 c2 (subst (λ (z : List Write). HasWrite z f v2 c2) (sym k.of_writes) has) in
                       let there = subst (λ (z : List ℕ). fin.get (state K).locks (z, t2) ≡ Some x.0) p x.1 in
                       absurd (exclusive-conflicts (x.0).mode g.mode x.2 (conflicts-sym (x.0).mode g.mode ∙ g.free t2 x.0 (λ r. ne (r ∙ sym q)) there))
-                  | inr k ↦ k.installed (earlier k.decision k.verdict k.decided) f v2 c2 has
+                  | inr k ↦ k.installed (earlier k.decision k.verdict (taken_decides K k.decision t2 k.verdict k.decided)) f v2 c2 has
                 ]
           ]
 
@@ -291,7 +297,7 @@ module _ (s : ℕ) (state : List NodeEntry → Records)
   finished_write_seen K legal t1 t2 ne file n1 h1 w1 s1 y1 held none g1 mode v1 c1 at_g1 later n2 h2 w2 v2 c2 y2 has cites =
       elim (fate K legal n1 t1 h1 w1 y1) [
         | inl k ↦ by k.vote k.is_open (Has-map held_kept (k.vote).locks held.lock (subst (λ (x : List HeldLock). Has x held.lock) (sym k.of_held) held.is_there))
-        | inr k ↦ absurd (none k.decision k.verdict k.decided)
+        | inr k ↦ absurd (none k.decision k.verdict (taken_decides K k.decision t1 k.verdict k.decided))
       ]
     where
       by : (vote : OpenVote) → fin.get (state K).votes t1 ≡ Some vote → (x : KeptLock) × Has vote.locks x × (held_kept x ≡ held.lock) → v2 ≤ v1

@@ -5,8 +5,8 @@ use Rattle.std.proofs.lemmas.Bool.{cases_Bool, cond-true, cond-false, false≢tr
 use Rattle.std.specs.Cmp.{nat_cmp_total}
 use Rattle.std.specs.FinMap as fin
 use Rattle.std.specs.FinMap.{nat_cmp-IsAntisymmetric}
-use Rattle.std.specs.List.{find, filter, list_any}
-use Rattle.std.specs.Option.{option_map, option_map_or, is_some}
+use Rattle.std.specs.List.{find, filter}
+use Rattle.std.specs.Option.{option_map, option_map_or}
 use Rattle.tq_store.specs.Copies.{Files, copy_of, installed_all}
 use Rattle.tq_store.specs.declared.copies.FileCopy.{FileCopy}
 use Rattle.tq_store.specs.declared.write.Write.{Write}
@@ -33,7 +33,7 @@ use Rattle.tq_node.specs.declared.ask.WorkAsk.{WorkAsk}
 use Rattle.tq_node.specs.declared.ask.WorkAsk.TheVariants as work
 use Rattle.tq_shape.specs.Journal.{Has}
 use Rattle.tq_node.specs.NodeJournal.{NodeEntry, node_state, IsLegalNode, IsCited, HasWrite}
-use Rattle.tq_node_laws.specs.NodeLaws.{IsOwner, held_kept}
+use Rattle.tq_node_laws.specs.NodeLaws.{IsOwner, held_kept, is_refusal}
 use Rattle.tq_shape.proofs.Places.{none-Has, Has-map, map-Has, Has-filter, filter-Has}
 use Rattle.tq_node_laws.proofs.Frames.{AreAmong, IsYes, IsRaised, Tells, Frame}
 use Rattle.tq_node.proofs.Maps.{insert-same, insert-other, insert-cases, remove-other, remove-cases, retain-from}
@@ -335,15 +335,15 @@ pub open_vote-is : (old : Records) (t : ℕ) (vote : OpenVote) → fin.get old.v
 open_vote-is old t vote h = ap (λ (o : Option OpenVote). option_map_or (λ vote. vote) o (record { number = 0; writes = []; locks = [] })) h
 
 decide_frame : (s n : ℕ) (old : Records) (t : ℕ) (verdict : Verdict) (k : ℕ) (r : NodeReply)
-    → work_refusal old (work.Decide t verdict k) ≡ None
+    → work_refusal old (work.Decide t verdict k) ≡ None → r ≡ work_reply s old (work.Decide t verdict k)
     → Frame s n (record { ask = Work (work.Decide t verdict k); reply = r }) old (work_after s old n (work.Decide t verdict k))
-decide_frame s n old t verdict k r none =
+decide_frame s n old t verdict k r none reply =
     record {
       locks = inl (among_retained old.locks (λ (key : LockKey). not (key.1 == t)));
       came = λ u vote h. inl (remove-cases nat_cmp_total nat_cmp-IsAntisymmetric old.votes t u vote h).1;
       went = λ u vote h.
           elim (Rattle.std.proofs.lemmas.Bool.cases_eq u t) [
-            | inl e ↦ inr (verdict, k, (λ i. Some (work.Decide (sym e i) verdict k)), ended vote (ap (fin.get old.votes) (sym e) ∙ h))
+            | inl e ↦ inr (verdict, k, (λ i. Some (work.Decide (sym e i) verdict k)), ended vote (ap (fin.get old.votes) (sym e) ∙ h), ap is_refusal reply ∙ no_refusal (installs s old t verdict))
             | inr ne ↦ inl (remove-other nat_cmp_total nat_cmp-IsAntisymmetric old.votes t u ne ∙ h)
           ];
       yes_of = no_yes s n _ old _ plain;
@@ -359,6 +359,10 @@ decide_frame s n old t verdict k r none =
 
     quiet : is_telling (Work (work.Decide t verdict k)) ≡ false
     quiet = refl
+
+    no_refusal : (b : Bool) → is_refusal (cond b replies.Installed replies.Discarded) ≡ false
+    no_refusal true = refl
+    no_refusal false = refl
 
     found : (vote : OpenVote) × (fin.get old.votes t ≡ Some vote)
     found = some_of (fin.get old.votes t) (refuse-none (not (has_vote old t)) refusals.NothingHere _ (refuse-none old.down refusals.Down _ none).1).0
@@ -484,7 +488,7 @@ return_frame s n old r = calm_frame s n _ old _ plain quiet (λ f t lock h. h) r
 pub work_frame : (s n : ℕ) (old : Records) (ask : WorkAsk) (r : NodeReply) → work_refusal old ask ≡ None → r ≡ work_reply s old ask → Frame s n (record { ask = Work ask; reply = r }) old (work_after s old n ask)
 work_frame s n old (work.Lock t f m) r none reply = lock_frame s n old t f m r none reply
 work_frame s n old (work.Prepare t w) r none reply = prepare_frame s n old t w r none reply
-work_frame s n old (work.Decide t verdict k) r none reply = decide_frame s n old t verdict k r none
+work_frame s n old (work.Decide t verdict k) r none reply = decide_frame s n old t verdict k r none reply
 work_frame s n old (work.Release t) r none reply = release_frame s n old t r none
 work_frame s n old (work.Peek f) r none reply = peek_frame s n old f r reply
 work_frame s n old (work.Refresh f v c from) r none reply = refresh_frame s n old f v c from r

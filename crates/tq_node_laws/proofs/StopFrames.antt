@@ -27,6 +27,7 @@ use Rattle.tq_node.specs.Records.{Records, NodeState, work_refusal, open_vote, i
 use Rattle.tq_shape.specs.Steps.{state_at}
 use Rattle.tq_node.proofs.Maps.{retain-from}
 use Rattle.tq_node.proofs.KeptLocks.{only_stable-in}
+use Rattle.tq_node_laws.specs.NodeLaws.{is_refusal}
 use Rattle.tq_node_laws.proofs.Installed.{all-cases}
 use Rattle.tq_node.proofs.Numbers.{above_greater}
 use Rattle.tq_node.proofs.Sound.{sound-crashed}
@@ -62,13 +63,13 @@ abbrev stable_key : Locks → LockKey → Bool
 stable_key m key = option_map_or (λ (lock : Lock). lock.stable) (fin.get m key) false
 
 -- of any entry for this work that neither votes nor tells
-pub stop_frame : (s n : ℕ) (old new : Records) (ask : WorkAsk) (e : NodeEntry) → inner e.ask ≡ Some ask → is_prepare e.ask ≡ false → is_telling e.ask ≡ false
+pub stop_frame : (s n : ℕ) (old new : Records) (ask : WorkAsk) (e : NodeEntry) → inner e.ask ≡ Some ask → is_prepare e.ask ≡ false → is_telling e.ask ≡ false → is_refusal e.reply ≡ false
     → IsStopped s n old ask new → Frame s n e old new
-stop_frame s n old new ask e at plain quiet (inl is) =
+stop_frame s n old new ask e at plain quiet taken (inl is) =
     subst (λ (x : Records). Frame s n e old x) (sym is)
     (calm_frame s n e old (records_after s old n Crash) plain quiet (left_retained old.locks (stable_key old.locks)) refl refl
     (λ u vote v f lock g stable. only_stable-in old.locks (f, u) lock g stable))
-stop_frame s n old new ask e at plain quiet (inr (inl is)) =
+stop_frame s n old new ask e at plain quiet taken (inr (inl is)) =
     subst (λ (x : Records). Frame s n e old x) (sym is.2) (behind (work_frame s n old ask (work_reply s old ask) is.0 refl))
   where
     behind : Frame s n (record { ask = Work ask; reply = work_reply s old ask }) old (work_after s old n ask)
@@ -88,7 +89,7 @@ stop_frame s n old new ask e at plain quiet (inr (inl is)) =
           went = λ t vote v.
               elim (h.went t vote v) [
                 | inl stays ↦ inl stays
-                | inr ends ↦ inr (ends.0, ends.1, at ∙ ends.2, ends.3)
+                | inr ends ↦ inr (ends.0, ends.1, at ∙ ends.2, ends.3, taken)
               ];
           yes_of = no_yes s n e old (records_after s (work_after s old n ask) n Crash) plain;
           owns = λ o t vote v.
@@ -113,7 +114,7 @@ stop_frame s n old new ask e at plain quiet (inr (inl is)) =
             → IsRaised s e old f (copy_of (work_after s old n ask).copies f).version (copy_of (work_after s old n ask).copies f).content
         raised f (inl r) = inl (r.0, at ∙ r.1)
         raised f (inr r) = inr (r.0, r.1, r.2, r.3, at ∙ r.4, r.5, r.6, r.7)
-stop_frame s n old new ask e at plain quiet (inr (inr is)) =
+stop_frame s n old new ask e at plain quiet taken (inr (inr is)) =
     subst (λ (x : Records). Frame s n e old x) (sym is.2) (halfway is.0 is.1)
   where
     halfway : (part : List Write) → IsPart s old ask part → Frame s n e old (records_after s (record old { copies = installed_all old.copies part }) n Crash)

@@ -1,7 +1,7 @@
 -- The laws of a server's journal. None of them takes a citation to be true.
-use Rattle.std.specs.Prelude.{◌≡◌, ◌≢◌, ◌≤◌, ◌<◌, ℕ, suc, List, [], ◌∷◌, ◌++◌, map, length, Some, None, ◌⊎◌}
+use Rattle.std.specs.Prelude.{◌≡◌, ◌≢◌, ◌≤◌, ◌<◌, ℕ, suc, Bool, true, false, List, [], ◌∷◌, ◌++◌, map, length, Some, None, ◌⊎◌}
 use Rattle.std.specs.FinMap as fin
-use Rattle.tq_shape.specs.Journal.{Has}
+use Rattle.tq_shape.specs.Journal.{Has, entry_at}
 use Rattle.tq_store.specs.Copies.{Files, copy_of}
 use Rattle.tq_store.specs.declared.write.Write.{Write}
 use Rattle.tq_locks.specs.Locks.{Locks, stronger, HasNoConflict}
@@ -14,11 +14,26 @@ use Rattle.tq_intents.specs.declared.record.OpenVote.{OpenVote}
 use Rattle.tq_node.specs.declared.ask.CitedVote.{CitedVote}
 use Rattle.tq_node.specs.declared.ask.HeldLock.{HeldLock}
 use Rattle.tq_node.specs.declared.ask.NodeAsk.TheVariants as asks
+use Rattle.tq_node.specs.declared.ask.NodeReply.{NodeReply}
 use Rattle.tq_node.specs.declared.ask.NodeReply.TheVariants as replies
 use Rattle.tq_node.specs.declared.ask.Verdict.{Verdict}
 use Rattle.tq_node.specs.declared.ask.WorkAsk.TheVariants as work
 use Rattle.tq_node.specs.Node.{IsKept}
-use Rattle.tq_node.specs.NodeJournal.{NodeEntry, IsLegalNode, node_state, copies_after, locks_after, votes_after, IsCited, GrantAt, TellsAt, YesAt, InnerAt, DecisionAt, HasHeld, HasWrite}
+use Rattle.tq_node.specs.NodeJournal.{NodeEntry, IsLegalNode, inner, node_state, copies_after, locks_after, votes_after, IsCited, GrantAt, TellsAt, YesAt, InnerAt, DecisionAt, HasHeld, HasWrite}
+
+-- ---- a decision that counts
+
+abbrev pub is_refusal : NodeReply → Bool
+is_refusal (replies.Refused reason) = true
+is_refusal reply = false
+
+-- the entry brought the verdict on the transaction, and the server took it: its reply is no refusal
+pub record TakenAt (journal : List NodeEntry) (number txn : ℕ) (verdict : Verdict) : Type 0 where
+  pub cite : ℕ
+  pub entry : NodeEntry
+  pub is_there : entry_at journal number ≡ Some entry
+  pub is_inner : inner entry.ask ≡ Some (work.Decide txn verdict cite)
+  pub taken : is_refusal entry.reply ≡ false
 
 -- ---- the laws that the world's theorem takes, of the journal alone
 
@@ -92,10 +107,10 @@ pub record LockLaws : Type 0 where
       → (file : List ℕ) (txn : ℕ) (lock : Lock) → fin.get (locks_after server journal) (file, txn) ≡ Some lock → IsBase journal (copies_after server journal) file txn lock
   pub owned : (server : ℕ) (journal : List NodeEntry) → IsLegalNode server journal
       → (txn : ℕ) (vote : OpenVote) → fin.get (votes_after server journal) txn ≡ Some vote → IsOwner (locks_after server journal) txn vote
-  -- until a decision on its transaction comes, a vote stays open and none of its locks is released, strengthened or lost, and none is added
+  -- until a decision on its transaction is taken, a vote stays open and none of its locks is released, strengthened or lost, and none is added
   pub stand : (server : ℕ) (later earlier : List NodeEntry) → IsLegalNode server (later ++ earlier)
       → (txn : ℕ) (vote : OpenVote) → fin.get (votes_after server earlier) txn ≡ Some vote
-      → ((d : ℕ) (verdict : Verdict) → length earlier < d → DecisionAt (later ++ earlier) d txn verdict → ⊥)
+      → ((d : ℕ) (verdict : Verdict) → length earlier < d → TakenAt (later ++ earlier) d txn verdict → ⊥)
       → (fin.get (votes_after server (later ++ earlier)) txn ≡ Some vote)
       × ((file : List ℕ) → fin.get (locks_after server (later ++ earlier)) (file, txn) ≡ fin.get (locks_after server earlier) (file, txn))
 
@@ -118,12 +133,12 @@ pub record IsStanding (votes : Votes) (number txn : ℕ) (held : List HeldLock) 
   pub of_held : map held_kept vote.locks ≡ held
   pub of_writes : vote.writes ≡ writes
 
--- the vote that was given in this entry was ended by a later decision; where that cites the vote, no write of it is above the copies
+-- the vote that was given in this entry was ended by a later decision that was taken; where that cites the vote, no write of it is above the copies
 pub record IsEnded (server : ℕ) (journal : List NodeEntry) (copies : Files) (number txn : ℕ) (writes : List Write) : Type 0 where
   pub decision : ℕ
   pub verdict : Verdict
   pub later : number < decision
-  pub decided : DecisionAt journal decision txn verdict
+  pub decided : TakenAt journal decision txn verdict
   pub installed : IsCited verdict server number → (file : List ℕ) (version : ℕ) (content : List ℕ) → HasWrite writes file version content → version ≤ (copy_of copies file).version
 
 pub record VoteLaws : Type 0 where

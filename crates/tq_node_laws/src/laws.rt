@@ -7,13 +7,13 @@ pub fn journals_are_lawful()
 {}
 
 /// No two locks are in conflict. The `since` of a lock is that of its first grant without a break, and the version
-/// noted there isn't above the copy. An open vote owns its locks: until a decision on its transaction
-/// comes, none is released, strengthened or lost, through any crash.
+/// noted there isn't above the copy. An open vote owns its locks: until the server takes a decision on its
+/// transaction, none is released, strengthened or lost, through any crash. A decision that is refused counts for nothing.
 pub fn locks_are_lawful()
     ensures { laws.LockLaws }
 {}
 
-/// A vote that was given is open as it was given, or ended by a decision; where that cites the vote, its writes
+/// A vote that was given is open as it was given, or ended by a decision that the server took; where that cites the vote, its writes
 /// are not above the copies. Each copy has an origin, and copies only rise.
 pub fn votes_are_lawful()
     ensures { laws.VoteLaws }

@@ -5,7 +5,7 @@ use Rattle.std.specs.List.{All}
 use Rattle.std.proofs.lemmas.Bool.{lt-ltb, le-ltb, eq-eqb, ne_eqb}
 use Rattle.std.proofs.lemmas.List.Elements.{All-cons, All-head, All-tail}
 use Rattle.std.proofs.lemmas.List.{get_or_default}
-use Rattle.tq_shape.specs.ServerSet.{has_number, with_number, without_number, marked}
+use Rattle.tq_shape.specs.ServerSet.{Ascends, has_number, with_number, without_number, marked}
 
 -- none is marked twice
 not-marked : (low first : ℕ) (marks : List Bool) → low < first → has_number (marked first marks) low ≡ false
@@ -92,6 +92,11 @@ module _ (marks : List Bool) (place number : ℕ) (within : place < length marks
 
   pub mark-taken : marked 1 (slice_set marks place false) ≡ without_number number (marked 1 marks)
   mark-taken = marked-without 1 marks place within ∙ ap (λ n. without_number n (marked 1 marks)) (omega (arith, is))
+
+pub marked-ascends : (low first : ℕ) (marks : List Bool) → low < first → Ascends low (marked first marks)
+marked-ascends low first [] less = tt
+marked-ascends low first (true ∷ marks) less = (less, marked-ascends first (first + 1) marks (omega arith))
+marked-ascends low first (false ∷ marks) less = marked-ascends low (first + 1) marks (omega (arith, less))
 
 pub marked-within : (first past : ℕ) (marks : List Bool) → 0 < first → first + length marks ≤ past → All (λ number. (0 < number) × (number < past)) (marked first marks)
 marked-within first past [] positive fits = λ k d h. absurd (omega (arith, h))

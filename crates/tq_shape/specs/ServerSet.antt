@@ -1,5 +1,5 @@
 -- A set of servers of one tree.
-use Rattle.std.specs.Prelude.{ℕ, ◌+◌, ◌==◌, Bool, true, false, not, nat_lt, cond, List, [], ◌∷◌, map, Option, Some, None}
+use Rattle.std.specs.Prelude.{ℕ, ◌+◌, ◌<◌, ◌==◌, Bool, true, false, not, nat_lt, cond, List, [], ◌∷◌, map, Option, Some, None}
 use Rattle.std.specs.List.{filter, list_any}
 use Rattle.tq_shape.specs.Tree.{Server}
 
@@ -7,6 +7,11 @@ use Rattle.tq_shape.specs.Tree.{Server}
 pub record Servers : Type 0 where
   pub levels : ℕ
   pub numbers : List ℕ
+
+-- the numbers ascend, from above a lower bound, so none stands there twice
+abbrev pub Ascends : ℕ → List ℕ → Type 0
+Ascends low [] = Unit {0}
+Ascends low (first ∷ rest) = (low < first) × Ascends first rest
 
 -- the set has the number
 abbrev pub has_number : List ℕ → ℕ → Bool

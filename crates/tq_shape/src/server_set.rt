@@ -1,6 +1,6 @@
 ghost use Rattle.std.specs.Prelude.{◌≡◌, ◌+◌, ◌++◌, ◌<◌, ◌^◌, ◌↔◌, ℕ, not, [], ◌∷◌, length, replicate, All, IfOk, IsTrue};
 ghost use Rattle.tq_shape.specs.Tree.{IsServer};
-ghost use Rattle.tq_shape.specs.ServerSet.{has_number, with_number, without_number, numbered, marked, first_of};
+ghost use Rattle.tq_shape.specs.ServerSet.{Ascends, has_number, with_number, without_number, numbered, marked, first_of};
 
 use crate::{ExactClone, Levels, Memory, ServerId};
 use std::alloc::{AllocError, Global};
@@ -94,6 +94,7 @@ impl ServerSet {
     pub fn iter(&self) -> ServerSetIter<'_>
         ensures servers { result ≡ numbered self.now.levels self.now.numbers }
         ensures of_tree { All (IsServer self.now.levels) self.now.numbers }
+        ensures ascending { Ascends 0 self.now.numbers }
     {
         ServerSetIter {
             levels: self.levels,

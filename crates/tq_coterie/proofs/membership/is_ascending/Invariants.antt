@@ -1,5 +1,5 @@
 use Rattle.std.proofs.Common.{◌↔◌, drop}
-use Rattle.tq_coterie.specs.Coterie.{Ascends}
+use Rattle.tq_shape.specs.ServerSet.{Ascends}
 use Rattle.tq_coterie.proofs.membership.is_ascending.Given as goal
 
 abbrev pub invariant-loop-number : goal.invariant-loop-number

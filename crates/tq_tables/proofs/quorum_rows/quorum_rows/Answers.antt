@@ -12,7 +12,7 @@ loop-below-preserved c =
     let below = c.loop-below.below in
     let after : below + 1 ≡ 1 + below = omega arith in
     let row : c.in_ok-best.field-0 ≡ spec.quorum_row live (1 + below) =
-    quorum_row-is live c.new-server.result.number c.in_ok-best.field-0 c.in_ok-best.ensures
+    quorum_row-is live c.new-server.result.number c.in_ok-best.field-0 c.in_ok-best.ensures.best
     ∙ ap (λ (s : Server). spec.quorum_row live s.number) c.new-server.ensures
     ∙ ap (spec.quorum_row live) after in
     c.in_ok-push.ensures.items
