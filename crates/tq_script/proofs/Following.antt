@@ -10,7 +10,7 @@ use Rattle.tq_txn.specs.declared.asker.Exchange.TheVariants as exchanges
 use Rattle.tq_txn.specs.declared.fault.LineFault.{LineFault}
 use Rattle.tq_txn.specs.declared.fault.LineFault.TheVariants as faults
 use Rattle.tq_txn.specs.Dialogue.{Told, Dialogue, Ends, AsksNode, AsksDesk, AsksView, Makes, Begins, Follows, LineEnd, then_line, ended_by}
-use Rattle.tq_txn.proofs.LineLaws.{follows_memory, follows_end, follows_node, follows_desk, follows_view}
+use Rattle.tq_txn.proofs.LineLaws.{follows_end, follows_node, follows_desk, follows_view}
 use Rattle.std.proofs.lemmas.List.{drop_more, at_drop_all}
 use Rattle.tq_shape.specs.Tree.{Server, IsServer}
 use Rattle.tq_live.specs.View.{is_server}
@@ -40,8 +40,14 @@ follows_then (AsksView ask more) next a old mid new end first rest =
     follows_view ask (λ answer. then_line (more answer) next) first.2.0 old (old ++ entry ∷ []) new end refl
     (follows_then (more first.2.0) next a (old ++ entry ∷ []) mid new end (first.2.1, behind old mid first.2.1 entry first.0 first.1 first.2.2, first.2.3) rest)
 
+begins_none : {A : Type 0} (line : Dialogue A) → Begins line []
+begins_none (Ends a) = refl
+begins_none (AsksNode server ask more) = inl refl
+begins_none (AsksDesk ask more) = inl refl
+begins_none (AsksView ask more) = inl refl
+
 begins_then : {A B : Type 0} (line : Dialogue A) (next : A → Dialogue B) (told : List Exchange) → Begins line told → Begins (then_line line next) told
-begins_then {A} {B} (Ends x) next told first = let Q : List Exchange → Type 0 = λ t. Begins (next x) t in subst Q (sym first) (follows_memory (next x) []).2
+begins_then {A} {B} (Ends x) next told first = let Q : List Exchange → Type 0 = λ t. Begins (next x) t in subst Q (sym first) (begins_none (next x))
 begins_then (AsksNode server ask more) next told first =
     elim first [ inl none ↦ inl none | inr some ↦ inr (some.0, some.1, some.2, begins_then (more some.0) next some.1 some.3) ]
 begins_then (AsksDesk ask more) next told first =

@@ -1,6 +1,6 @@
 use Rattle.std.proofs.Common.{Some}
 use Rattle.std.proofs.lemmas.Result.{err_from_is_err_and}
-use Rattle.tq_txn.specs.Dialogue.{Ends, follows}
+use Rattle.tq_txn.specs.Dialogue.{Ends}
 use Rattle.tq_txn.specs.Aborts.{abort_line}
 use Rattle.tq_txn.proofs.LineLaws.{follows_end}
 use Rattle.tq_script.proofs.Following.{follows_went, follows_went_out}
