@@ -1,15 +1,12 @@
 -- Parts of a dialogue after one another, whatever each ends with.
-use Rattle.std.proofs.Common.{◌≡◌, ℕ, Bool, true, false, List, [], ◌∷◌, ◌++◌, Option, Some, None, Result, Ok, Err, refl, sym, ap, ◌∙◌, subst, inl, inr, append_assoc, append-nil, ◌+◌, ◌^◌, ◌&&◌, ◌<◌, ◌≤◌, length, get_or, drop, nat_lt, arith}
-use Rattle.tq_node.specs.declared.ask.NodeAsk.{NodeAsk}
-use Rattle.tq_desk.specs.declared.ask.DeskAsk.{DeskAsk}
-use Rattle.tq_live.specs.declared.view.ViewAsk.{ViewAsk}
+use Rattle.std.proofs.Common.{◌≡◌, ℕ, Bool, true, false, List, [], ◌∷◌, ◌++◌, Option, Some, None, Result, Ok, Err, refl, sym, ap, ◌∙◌, subst, inl, inr, append_assoc, append-nil, ◌+◌, ◌<◌, ◌≤◌, length, get_or, drop, arith}
 use Rattle.tq_shape.specs.Limits.{LimitsView}
 use Rattle.tq_states.specs.Open.{OpenView}
 use Rattle.tq_txn.specs.declared.asker.Exchange.{Exchange}
 use Rattle.tq_txn.specs.declared.asker.Exchange.TheVariants as exchanges
 use Rattle.tq_txn.specs.declared.fault.LineFault.{LineFault}
 use Rattle.tq_txn.specs.declared.fault.LineFault.TheVariants as faults
-use Rattle.tq_txn.specs.Dialogue.{Told, Dialogue, Ends, AsksNode, AsksDesk, AsksView, Makes, Begins, Follows, LineEnd, then_line, ended_by}
+use Rattle.tq_txn.specs.Dialogue.{Dialogue, Ends, AsksNode, AsksDesk, AsksView, Begins, Follows, LineEnd, then_line, ended_by}
 use Rattle.tq_txn.proofs.LineLaws.{follows_end, follows_node, follows_desk, follows_view}
 use Rattle.std.proofs.lemmas.List.{drop_more, at_drop_all}
 use Rattle.tq_shape.specs.Tree.{Server, IsServer}

@@ -20,8 +20,8 @@ close-requires g c =
 pub loop-line-preserved : goal.loop-line-preserved
 loop-line-preserved g c = record {
   asks = λ new end rest. c.loop-line.invariant.asks new end
-    (next_line c.args.levels c.args.limits c.lines-lines.result.now c.loop-line.line-index c.line-item.result c.loop-line.open_txn c.in_ok-open_txn.open_txn (g.A.Asker.told c.loop-line.asker) (g.A.Asker.told c.run_line.new.asker) new end
-    c.loop-line-test.true c.line-item.is c.in_ok-open_txn.ensures.asks rest);
+      (next_line c.args.levels c.args.limits c.lines-lines.result.now c.loop-line.line-index c.line-item.result c.loop-line.open_txn c.in_ok-open_txn.open_txn (g.A.Asker.told c.loop-line.asker) (g.A.Asker.told c.run_line.new.asker) new end
+      c.loop-line-test.true c.line-item.is c.in_ok-open_txn.ensures.asks rest);
   tree = c.in_ok-open_txn.ensures.tree ∙ c.loop-line.invariant.tree;
   txn = c.in_ok-open_txn.ensures.levels;
 }

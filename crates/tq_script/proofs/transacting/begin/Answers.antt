@@ -1,7 +1,5 @@
 use Rattle.std.proofs.lemmas.Result.{err_from_is_err_and}
-use Rattle.std.proofs.Common.{Option}
 use Rattle.std.specs.Result.{result_ok}
-use Rattle.tq_states.specs.Open.{OpenView}
 use Rattle.tq_script.specs.Script.{closing, desk_begun}
 use Rattle.tq_script.proofs.Following.{follows_cut, follows_then}
 use Rattle.tq_script.proofs.transacting.begin.Goals as goal
