@@ -130,6 +130,7 @@ impl Service {
             NodeAsk::Work(work) => self.unfounded_in_work(work),
             NodeAsk::Crash => None,
             NodeAsk::Return => None,
+            NodeAsk::CrashIn { ask, .. } => self.unfounded_in_work(ask.get()),
         }
     }
 

@@ -5,7 +5,7 @@ use Rattle.serde_json.specs.Data.{Data}
 use Rattle.serde_json.specs.Find.{get}
 use Rattle.tq_node.specs.declared.ask.CitedVote.{CitedVote}
 use Rattle.tq_node.specs.declared.ask.NodeAsk.{NodeAsk}
-use Rattle.tq_node.specs.declared.ask.NodeAsk.TheVariants.{Work, Crash, Return}
+use Rattle.tq_node.specs.declared.ask.NodeAsk.TheVariants.{Work, Crash, Return, CrashIn}
 use Rattle.tq_node.specs.declared.ask.WorkAsk.{WorkAsk}
 use Rattle.tq_node.specs.declared.ask.WorkAsk.TheVariants.{Lock, Prepare, Decide, Release, Peek, Refresh}
 use Rattle.tq_form.specs.Format.{Format}
@@ -71,10 +71,20 @@ work format kind value = do
   ask ← work_by format kind value
   Some (Work ask)
 
+-- in which work a server stops, one of the six, and behind how many of its records
+abbrev pub stop : Format → Data → Option NodeAsk
+stop format value = do
+  after ← number_at (codes "after") value
+  inside ← get (codes "ask") value
+  kind ← text_at (codes "is") inside
+  ask ← work_by format kind inside
+  cond (nat_le after 4294967295) (Some (CrashIn ask after)) None
+
 abbrev pub node_ask_by : Format → List ℕ → Data → Option NodeAsk
 node_ask_by format kind value =
     cond (bytes_eq kind (codes "crash")) (Some Crash)
-    (cond (bytes_eq kind (codes "return")) (Some Return) (work format kind value))
+    (cond (bytes_eq kind (codes "return")) (Some Return)
+    (cond (bytes_eq kind (codes "crashin")) (stop format value) (work format kind value)))
 
 -- the ask of a server that a value of the form is
 abbrev pub node_ask : Format → Data → Option NodeAsk

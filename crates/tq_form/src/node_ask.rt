@@ -7,7 +7,7 @@ use crate::content::{content_at, file_at};
 use crate::locking::{citation, mode_at, verdict_at, writes_at};
 use crate::member::is_text;
 use std::alloc::Global;
-use tq_node::{CitedVote, NodeAsk, WorkAsk};
+use tq_node::{Boxed, CitedVote, NodeAsk, WorkAsk};
 use tq_shape::Memory;
 use tq_value::{Value, get, number_at, text_at};
 
@@ -30,7 +30,36 @@ fn node_ask_by(alloc: Global, kind: &str, value: &Value<'_>) -> Result<Option<No
     if is_text(kind, "return") {
         return Ok(Some(NodeAsk::Return));
     }
+    if is_text(kind, "crashin") {
+        return Ok(stop(alloc, value)?);
+    }
     Ok(work(alloc, kind, value)?)
+}
+
+/// A stop: in which work, and behind how many of its records.
+fn stop(alloc: Global, value: &Value<'_>) -> Result<Option<NodeAsk>, Memory>
+    ensures { IfOk result (λ ask. ask ≡ spec.stop one (view value.now)) }
+{
+    let Some(after) = number_at(value, "after") else {
+        return Ok(None);
+    };
+    if after > u32::MAX as u64 {
+        return Ok(None);
+    }
+    let Some(inside) = get(value, "ask") else {
+        return Ok(None);
+    };
+    let Some(kind) = text_at(inside, "is") else {
+        return Ok(None);
+    };
+    let Some(ask) = work_by(alloc, kind, inside)? else {
+        return Ok(None);
+    };
+    let ask = Boxed::new(alloc, ask)?;
+    Ok(Some(NodeAsk::CrashIn {
+        ask,
+        after: after as u32,
+    }))
 }
 
 fn work(alloc: Global, kind: &str, value: &Value<'_>) -> Result<Option<NodeAsk>, Memory>

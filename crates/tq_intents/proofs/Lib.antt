@@ -5,3 +5,4 @@ pub mod Votes
 pub mod Gathered
 pub mod KeptLocks
 pub mod NewestCopies
+pub mod DeadRecords

@@ -12,6 +12,7 @@ use Rattle.tq_intents.specs.declared.record.KeptLock.{KeptLock}
 use Rattle.tq_intents.specs.declared.record.OpenVote.{OpenVote}
 use Rattle.tq_intents.specs.declared.record.Record.{Record}
 use Rattle.tq_intents.specs.declared.record.Record.TheVariants.{Copy, Intent, Keep, Prepared, Gone}
+use Rattle.tq_shape.specs.Journal.{Has}
 use Rattle.tq_store.specs.Names.{same_name}
 
 -- the open votes, by transaction
@@ -68,6 +69,21 @@ IsAbove number list = AllByRecursion (IsBelow number) list
 -- the records of a vote, in order
 abbrev pub vote_records : ℕ → ℕ → List Write → List KeptLock → List Record
 vote_records txn number writes locks = map (Intent txn number) writes ++ (map (Keep txn number) locks ++ Prepared txn number ∷ [])
+
+-- an intent or a lock of the vote of this number
+abbrev pub is_dead : ℕ → Record → Bool
+is_dead number (Intent txn n write) = n == number
+is_dead number (Keep txn n lock) = n == number
+is_dead number other = false
+
+abbrev pub AreDead : ℕ → List Record → Type 0
+AreDead number records = (written : Record) → Has records written → is_dead number written ≡ true
+
+-- the first records of a vote that was not given to its end: its number is above all in the list, and its `Prepared` is missing
+pub record IsUnfinished (list records : List Record) : Type 0 where
+  pub number : ℕ
+  pub newest : IsAbove number list
+  pub dead : AreDead number records
 
 -- before the later ones comes a copy of a version above 0 and no less than theirs: the first of the greatest version counts
 abbrev pub with_copy : Write → Files → Files

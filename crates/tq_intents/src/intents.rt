@@ -10,7 +10,7 @@ ghost use Rattle.std.specs.List.{list_any, filter_map};
 ghost use Rattle.std.specs.Map.{lookup};
 ghost use Rattle.tq_store.specs.Copies.{copy_in, installed, installed_all};
 ghost use Rattle.tq_intents.specs.Kept as spec;
-ghost use Rattle.tq_intents.specs.Kept.{HasOneVoteEach, HoldsVotesLocks, IsAbove, KeepsNewest, kept_copies, kept_votes, vote_at, vote_records};
+ghost use Rattle.tq_intents.specs.Kept.{HasOneVoteEach, HoldsVotesLocks, IsAbove, IsUnfinished, KeepsNewest, kept_copies, kept_votes, vote_at, vote_records};
 
 use crate::{KeptLock, OpenVote, Record};
 use std::alloc::{AllocError, Global};
@@ -165,6 +165,21 @@ impl Intents {
             locks,
         };
         let _replaced = self.open_votes.insert(txn, vote)?;
+        self.records.append(&mut added).unwrap();
+        Ok(())
+    }
+
+    /// Writes the first records of a vote that was not given to its end: they stand for nothing. All memory is asked for
+    /// before the first change.
+    pub fn push_unfinished(&mut self, records: Seq<Record>) -> Result<(), AllocError>
+        requires { IsUnfinished self.old.records records }
+        ensures records { OnOk result (self.new.records ≡ self.old.records ++ records) }
+        ensures votes { OnOk result (kept_votes self.new.records ≡ kept_votes self.old.records) }
+        ensures copies { OnOk result (kept_copies self.new.records ≡ kept_copies self.old.records) }
+        ensures err { OnErr result (self.new.records ≡ self.old.records) }
+    {
+        let mut added = records.into_vec();
+        self.records.reserve(added.len())?;
         self.records.append(&mut added).unwrap();
         Ok(())
     }

@@ -66,6 +66,13 @@ pub(crate) fn is_ready(journals: &Journals, counts: &[u64], desk: u64, ask: &Nod
         }
         NodeAsk::Crash => true,
         NodeAsk::Return => true,
+        NodeAsk::CrashIn { ask, .. } => {
+            let ask = ask.get();
+            if !is_placed_in_work(counts, desk, ask) {
+                return false;
+            }
+            stands_work(journals, ask)
+        }
     }
 }
 

@@ -22,9 +22,10 @@ use Rattle.tq_locks.specs.declared.mode.Mode.{Mode}
 use Rattle.tq_locks.specs.declared.mode.Mode.TheVariants.{Shared, Exclusive}
 use Rattle.tq_locks.proofs.LockMaps.{locks_total, locks_same}
 use Rattle.tq_intents.specs.declared.record.OpenVote.{OpenVote}
+use Rattle.tq_intents.specs.declared.record.Record.{Record}
 use Rattle.tq_node.specs.declared.ask.CitedVote.{CitedVote}
 use Rattle.tq_node.specs.declared.ask.NodeAsk.{NodeAsk}
-use Rattle.tq_node.specs.declared.ask.NodeAsk.TheVariants.{Work, Crash, Return}
+use Rattle.tq_node.specs.declared.ask.NodeAsk.TheVariants.{Work, Crash, Return, CrashIn}
 use Rattle.tq_node.specs.declared.ask.NodeRefusal.{NodeRefusal}
 use Rattle.tq_node.specs.declared.ask.NodeRefusal.TheVariants as refusals
 use Rattle.tq_node.specs.declared.ask.NodeReply.{NodeReply}
@@ -33,13 +34,13 @@ use Rattle.tq_node.specs.declared.ask.Verdict.{Verdict}
 use Rattle.tq_node.specs.declared.ask.Verdict.TheVariants.{Abort, Commit}
 use Rattle.tq_node.specs.declared.ask.WorkAsk.{WorkAsk}
 use Rattle.tq_node.specs.declared.ask.WorkAsk.TheVariants as work
-use Rattle.tq_node.specs.Records.{Records, NodeState, has_vote, holds_exclusively, not_locked, are_good_writes, lock_refusal, prepare_refusal, release_refusal, work_refusal, refusal, are_citing, cites_vote, open_vote, installs, work_reply, reply_of, work_after, records_after, answer_at, node_reply, node_after, kept_records}
+use Rattle.tq_node.specs.Records.{Records, NodeState, has_vote, holds_exclusively, not_locked, are_good_writes, lock_refusal, prepare_refusal, release_refusal, work_refusal, refusal, are_citing, cites_vote, open_vote, installs, work_reply, reply_of, work_after, records_after, answer_at, node_reply, node_after, kept_records, stop_writes}
 use Rattle.tq_shape.specs.Steps.{refuse, refuse_for, state_at}
 use Rattle.tq_node.specs.Cases.{IsStep, IsUp, Holds, Blocks, Cites}
 use Rattle.tq_shape.proofs.Places.{Some-same, find-Has, none-Has, any-Has, Has-any}
 use Rattle.tq_locks.proofs.Found.{entry_of, first_passes, get-entry_of}
 use Rattle.tq_node.specs.Node.{IsKept, NodeView, answered}
-use Rattle.tq_node.proofs.KeptLocks.{map-some, only_stable-twice}
+use Rattle.tq_node.proofs.KeptLocks.{kept_locks-stable, map-some, only_stable-twice}
 use Rattle.tq_store.proofs.SameName.{same_name-refl}
 use Rattle.tq_store.specs.Names.{same_name}
 use Rattle.tq_shape.proofs.Options.{none_of, some_of, map-none}
@@ -198,21 +199,21 @@ cites_not (Commit votes) server number h k =
 -- ---- each ask
 
 -- the step, given what it is refused for
-abbrev StepAt : ℕ → Records → ℕ → NodeAsk → Option NodeRefusal → Type 0
-StepAt server old number ask reason = IsStep server old number ask (answer_at reason (reply_of server old ask)) (state_at reason old (records_after server old number ask))
+abbrev StepAt : ℕ → List Record → Records → ℕ → NodeAsk → Option NodeRefusal → Type 0
+StepAt server list old number ask reason = IsStep server list old number ask (answer_at reason (reply_of server old ask)) (state_at reason old (records_after server (record { records = old; stable = list }) number ask))
 
-step_lock : (server : ℕ) (old : Records) (number txn : ℕ) (file : List ℕ) (mode : Mode) → StepAt server old number (Work (work.Lock txn file mode)) (work_refusal old (work.Lock txn file mode))
-step_lock server old number txn file mode =
-    let P = StepAt server old number (Work (work.Lock txn file mode)) in
+step_lock : (server : ℕ) (list : List Record) (old : Records) (number txn : ℕ) (file : List ℕ) (mode : Mode) → StepAt server list old number (Work (work.Lock txn file mode)) (work_refusal old (work.Lock txn file mode))
+step_lock server list old number txn file mode =
+    let P = StepAt server list old number (Work (work.Lock txn file mode)) in
     by_test P old.down refusals.Down _ (λ down. (down, refl)) (λ up.
     by_test P (has_vote old txn) refusals.Prepared _ (λ vote. ((up, vote), refl)) (λ no_vote.
     by_value P (blocker old.locks file txn mode) refusals.Held None
     (λ by e. let b = blocker_is old txn file mode by e in ((up, none_of (fin.get old.votes txn) no_vote, b.0, b.1), refl))
     (λ e. (up, none_of (fin.get old.votes txn) no_vote, nothing_blocks old txn file mode e, refl, refl))))
 
-step_prepare : (server : ℕ) (old : Records) (number txn : ℕ) (writes : List Write) → StepAt server old number (Work (work.Prepare txn writes)) (work_refusal old (work.Prepare txn writes))
-step_prepare server old number txn writes =
-    let P = StepAt server old number (Work (work.Prepare txn writes)) in
+step_prepare : (server : ℕ) (list : List Record) (old : Records) (number txn : ℕ) (writes : List Write) → StepAt server list old number (Work (work.Prepare txn writes)) (work_refusal old (work.Prepare txn writes))
+step_prepare server list old number txn writes =
+    let P = StepAt server list old number (Work (work.Prepare txn writes)) in
     let test = λ (w : Write). not (holds_exclusively old txn w.file) in
     by_test P old.down refusals.Down _ (λ down. (down, refl)) (λ up.
     by_test P (has_vote old txn) refusals.Prepared _ (λ vote. ((up, vote), refl)) (λ no_vote.
@@ -245,9 +246,9 @@ step_prepare server old number txn writes =
     (λ nothing. ((up, none, is_good, held, nothing_there (held_of old.locks txn) nothing), refl))
     (λ some. (up, none, is_good, held, something_there (held_of old.locks txn) some, refl, refl, refl))))))
 
-step_decide : (server : ℕ) (old : Records) (number txn : ℕ) (verdict : Verdict) (cite : ℕ) → StepAt server old number (Work (work.Decide txn verdict cite)) (work_refusal old (work.Decide txn verdict cite))
-step_decide server old number txn verdict cite =
-    let P = StepAt server old number (Work (work.Decide txn verdict cite)) in
+step_decide : (server : ℕ) (list : List Record) (old : Records) (number txn : ℕ) (verdict : Verdict) (cite : ℕ) → StepAt server list old number (Work (work.Decide txn verdict cite)) (work_refusal old (work.Decide txn verdict cite))
+step_decide server list old number txn verdict cite =
+    let P = StepAt server list old number (Work (work.Decide txn verdict cite)) in
     by_test P old.down refusals.Down _ (λ down. (down, refl)) (λ up.
     by_test P (not (has_vote old txn)) refusals.NothingHere None (λ none. ((up, absent (fin.get old.votes txn) none), refl)) (λ some.
     let v = some_of (fin.get old.votes txn) some in
@@ -255,14 +256,14 @@ step_decide server old number txn verdict cite =
     by up (v.1 ∙ ap (λ (vote : OpenVote). Some vote) (sym is)) (installs server old txn verdict) refl))
   where
     by : IsUp old → fin.get old.votes txn ≡ Some (open_vote old txn) → (b : Bool) → installs server old txn verdict ≡ b
-        → IsStep server old number (Work (work.Decide txn verdict cite)) (cond b replies.Installed replies.Discarded)
+        → IsStep server list old number (Work (work.Decide txn verdict cite)) (cond b replies.Installed replies.Discarded)
         (record { copies = cond b (installed_all old.copies (open_vote old txn).writes) old.copies; locks = released old.locks txn; votes = fin.remove old.votes txn; down = old.down })
     by up is_open true e = (up, (open_vote old txn, is_open, cites_is verdict server (open_vote old txn).number e, refl))
     by up is_open false e = (up, (open_vote old txn, is_open, cites_not verdict server (open_vote old txn).number e, refl))
 
-step_release : (server : ℕ) (old : Records) (number txn : ℕ) → StepAt server old number (Work (work.Release txn)) (work_refusal old (work.Release txn))
-step_release server old number txn =
-    let P = StepAt server old number (Work (work.Release txn)) in
+step_release : (server : ℕ) (list : List Record) (old : Records) (number txn : ℕ) → StepAt server list old number (Work (work.Release txn)) (work_refusal old (work.Release txn))
+step_release server list old number txn =
+    let P = StepAt server list old number (Work (work.Release txn)) in
     by_test P old.down refusals.Down _ (λ down. (down, refl)) (λ up.
     by_test P (has_vote old txn) refusals.Prepared _ (λ vote. ((up, vote), refl)) (λ no_vote.
     let none = none_of (fin.get old.votes txn) no_vote in
@@ -270,47 +271,57 @@ step_release server old number txn =
     (λ nothing. ((up, none, nothing_there (held_of old.locks txn) nothing), refl))
     (λ some. (up, none, something_there (held_of old.locks txn) some, refl))))
 
-step_work : (server : ℕ) (old : Records) (number : ℕ) (ask : WorkAsk) → StepAt server old number (Work ask) (work_refusal old ask)
-step_work server old number (work.Lock txn file mode) = step_lock server old number txn file mode
-step_work server old number (work.Prepare txn writes) = step_prepare server old number txn writes
-step_work server old number (work.Decide txn verdict cite) = step_decide server old number txn verdict cite
-step_work server old number (work.Release txn) = step_release server old number txn
-step_work server old number (work.Peek file) =
-    by_test (StepAt server old number (Work (work.Peek file))) old.down refusals.Down None (λ down. (down, refl)) (λ up. (up, refl, refl))
-step_work server old number (work.Refresh file version content from) =
-    let P = StepAt server old number (Work (work.Refresh file version content from)) in
+step_work : (server : ℕ) (list : List Record) (old : Records) (number : ℕ) (ask : WorkAsk) → StepAt server list old number (Work ask) (work_refusal old ask)
+step_work server list old number (work.Lock txn file mode) = step_lock server list old number txn file mode
+step_work server list old number (work.Prepare txn writes) = step_prepare server list old number txn writes
+step_work server list old number (work.Decide txn verdict cite) = step_decide server list old number txn verdict cite
+step_work server list old number (work.Release txn) = step_release server list old number txn
+step_work server list old number (work.Peek file) =
+    by_test (StepAt server list old number (Work (work.Peek file))) old.down refusals.Down None (λ down. (down, refl)) (λ up. (up, refl, refl))
+step_work server list old number (work.Refresh file version content from) =
+    let P = StepAt server list old number (Work (work.Refresh file version content from)) in
     let there = (copy_of old.copies file).version in
     by_test P old.down refusals.Down _ (λ down. (down, refl)) (λ up.
     by_test P (nat_le version there) refusals.NotNewer None
     (λ low. ((up, leb-true version there low), refl))
     (λ high. (up, leb-false version there high, refl)))
 
-pub step : (server : ℕ) (old : Records) (number : ℕ) (ask : NodeAsk) → StepAt server old number ask (refusal old ask)
-step server old number (Work ask) = step_work server old number ask
-step server old number Crash = by_test (StepAt server old number Crash) old.down refusals.AlreadyDown None (λ down. (down, refl)) (λ up. (up, refl))
-step server old number Return = by_test (StepAt server old number Return) (not old.down) refusals.AlreadyUp None (λ up. (not-true old.down up, refl)) (λ down. (not-false old.down down, refl))
+pub step : (server : ℕ) (list : List Record) (old : Records) (number : ℕ) (ask : NodeAsk) → StepAt server list old number ask (refusal old ask)
+step server list old number (Work ask) = step_work server list old number ask
+step server list old number Crash = by_test (StepAt server list old number Crash) old.down refusals.AlreadyDown None (λ down. (down, refl)) (λ up. (up, refl))
+step server list old number Return = by_test (StepAt server list old number Return) (not old.down) refusals.AlreadyUp None (λ up. (not-true old.down up, refl)) (λ down. (not-false old.down down, refl))
+step server list old number (CrashIn ask after) = by_test (StepAt server list old number (CrashIn ask after)) old.down refusals.AlreadyDown None (λ down. (down, refl)) (λ up. (up, refl))
 
 pub state_at-records : (reason : Option NodeRefusal) (old new : NodeState) → (state_at reason old new).records ≡ state_at reason old.records new.records
 state_at-records None old new = refl
 state_at-records (Some r) old new = refl
 
 -- what a server replies and its records after are a step
-pub node_step : (server : ℕ) (old : NodeState) (number : ℕ) (ask : NodeAsk) → IsStep server old.records number ask (node_reply server old ask) (node_after server old number ask).records
+pub node_step : (server : ℕ) (old : NodeState) (number : ℕ) (ask : NodeAsk) → IsStep server old.stable old.records number ask (node_reply server old ask) (node_after server old number ask).records
 node_step server old number ask =
-    subst (λ (new : Records). IsStep server old.records number ask (node_reply server old ask) new)
-    (sym (state_at-records (refusal old.records ask) old (record { records = records_after server old.records number ask; stable = old.stable ++ Rattle.tq_node.specs.Records.writes_of server old.records number ask })))
-    (step server old.records number ask)
+    subst (λ (new : Records). IsStep server old.stable old.records number ask (node_reply server old ask) new)
+    (sym (state_at-records (refusal old.records ask) old (record { records = records_after server old number ask; stable = old.stable ++ Rattle.tq_node.specs.Records.writes_of server old.records number ask })))
+    (step server old.stable old.records number ask)
 
 -- the same of a call's result, by what it told
 pub told_step : (old new : NodeView) (number : ℕ) (ask : NodeAsk) (told : Result NodeReply AllocError) → IfOk told (λ reply. reply ≡ node_reply old.server old.state ask) → OnOk told (new ≡ answered old number ask)
-    → IfOk told (λ reply. IsStep old.server old.state.records number ask reply new.state.records)
+    → IfOk told (λ reply. IsStep old.server old.state.stable old.state.records number ask reply new.state.records)
 told_step old new number ask (Err e) r s = tt
 told_step old new number ask (Ok reply) r s =
-    subst (λ (x : NodeReply). IsStep old.server old.state.records number ask x new.state.records) (sym r)
-    (subst (λ (x : NodeView). IsStep old.server old.state.records number ask (node_reply old.server old.state ask) x.state.records) (sym s) (node_step old.server old.state number ask))
+    subst (λ (x : NodeReply). IsStep old.server old.state.stable old.state.records number ask x new.state.records) (sym r)
+    (subst (λ (x : NodeView). IsStep old.server old.state.stable old.state.records number ask (node_reply old.server old.state ask) x.state.records) (sym s) (node_step old.server old.state number ask))
+
+-- records that some list keeps are down with stable locks alone, so by what the stable list keeps they are its own
+stopped_is : (new : NodeState) (list : List Record) → new.records ≡ kept_records list → IsKept new → new.records ≡ kept_records new.stable
+stopped_is new list is k =
+    let locks = ap (λ (r : Records). r.locks) is ∙ kept_locks-stable list ∙ sym (ap (λ (r : Records). only_stable r.locks) is) in
+    let down = ap (λ (r : Records). r.down) is in
+    let same : new.records ≡ record { copies = new.records.copies; locks = only_stable new.records.locks; votes = new.records.votes; down = true } =
+    λ i. record { copies = new.records.copies; locks = locks i; votes = new.records.votes; down = down i } in
+    same ∙ sym k
 
 -- after a crash the records are those that the stable list keeps
-pub crashed_is : (server : ℕ) (old new : NodeState) (number : ℕ) (ask : NodeAsk) → IsStep server old.records number ask replies.Crashed new.records → IsKept new → new.records ≡ kept_records new.stable
+pub crashed_is : (server : ℕ) (old new : NodeState) (number : ℕ) (ask : NodeAsk) → IsStep server old.stable old.records number ask replies.Crashed new.records → IsKept new → new.records ≡ kept_records new.stable
 crashed_is server old new number (Work (work.Lock t f m)) h k = absurd h
 crashed_is server old new number (Work (work.Prepare t w)) h k = absurd h
 crashed_is server old new number (Work (work.Decide t v c)) h k = absurd h
@@ -318,6 +329,7 @@ crashed_is server old new number (Work (work.Release t)) h k = absurd h
 crashed_is server old new number (Work (work.Peek f)) h k = absurd h
 crashed_is server old new number (Work (work.Refresh f v c g)) h k = absurd h
 crashed_is server old new number Return h k = absurd h
+crashed_is server old new number (CrashIn ask after) h k = stopped_is new (old.stable ++ stop_writes server old.records number ask after) h.1 k
 crashed_is server old new number Crash h k =
     let p = h.1 in
     let locks = ap (λ (r : Records). r.locks) p ∙ sym (only_stable-twice old.records.locks) ∙ sym (ap (λ (r : Records). only_stable r.locks) p) in
@@ -326,9 +338,9 @@ crashed_is server old new number Crash h k =
     λ i. record { copies = new.records.copies; locks = locks i; votes = new.records.votes; down = down i } in
     is ∙ sym k
 
-pub told_crash : (server : ℕ) (old new : NodeState) (number : ℕ) (ask : NodeAsk) (told : Result NodeReply AllocError) → IfOk told (λ reply. IsStep server old.records number ask reply new.records) → IsKept new
+pub told_crash : (server : ℕ) (old new : NodeState) (number : ℕ) (ask : NodeAsk) (told : Result NodeReply AllocError) → IfOk told (λ reply. IsStep server old.stable old.records number ask reply new.records) → IsKept new
     → told ≡ Ok replies.Crashed → new.records ≡ kept_records new.stable
 told_crash server old new number ask (Err e) h k q = absurd cc
 told_crash server old new number ask (Ok reply) h k q =
     let is : reply ≡ replies.Crashed = cc in
-    crashed_is server old new number ask (subst (λ (x : NodeReply). IsStep server old.records number ask x new.records) is h) k
+    crashed_is server old new number ask (subst (λ (x : NodeReply). IsStep server old.stable old.records number ask x new.records) is h) k

@@ -15,9 +15,10 @@ use Rattle.tq_locks.specs.declared.mode.Lock.{Lock}
 use Rattle.tq_locks.specs.declared.mode.Mode.{Mode}
 use Rattle.tq_locks.specs.declared.mode.Mode.TheVariants.{Exclusive}
 use Rattle.tq_intents.specs.declared.record.OpenVote.{OpenVote}
+use Rattle.tq_intents.specs.declared.record.Record.{Record}
 use Rattle.tq_node.specs.declared.ask.CitedVote.{CitedVote}
 use Rattle.tq_node.specs.declared.ask.NodeAsk.{NodeAsk}
-use Rattle.tq_node.specs.declared.ask.NodeAsk.TheVariants.{Work, Crash, Return}
+use Rattle.tq_node.specs.declared.ask.NodeAsk.TheVariants.{Work, Crash, Return, CrashIn}
 use Rattle.tq_node.specs.declared.ask.NodeRefusal.{NodeRefusal}
 use Rattle.tq_node.specs.declared.ask.NodeRefusal.TheVariants as refusals
 use Rattle.tq_node.specs.declared.ask.NodeReply.{NodeReply}
@@ -127,149 +128,153 @@ doesnt_install server old txn verdict vote is cites =
 -- ---- each ask
 
 -- the server's own step
-abbrev IsOwn : ℕ → Records → ℕ → NodeAsk → NodeReply → Records → Type 0
-IsOwn server old number ask reply new =
-    (reply ≡ answer_at (refusal old ask) (reply_of server old ask)) × (new ≡ state_at (refusal old ask) old (records_after server old number ask))
+abbrev IsOwn : ℕ → List Record → Records → ℕ → NodeAsk → NodeReply → Records → Type 0
+IsOwn server list old number ask reply new =
+    (reply ≡ answer_at (refusal old ask) (reply_of server old ask)) × (new ≡ state_at (refusal old ask) old (records_after server (record { records = old; stable = list }) number ask))
 
-own-refused : (server : ℕ) (old : Records) (number : ℕ) (ask : NodeAsk) (reason : NodeRefusal) (new : Records) → refusal old ask ≡ Some reason → new ≡ old → IsOwn server old number ask (Refused reason) new
-own-refused server old number ask reason new e n =
-    (sym (ap (λ (o : Option NodeRefusal). answer_at o (reply_of server old ask)) e), n ∙ sym (ap (λ (o : Option NodeRefusal). state_at o old (records_after server old number ask)) e))
+own-refused : (server : ℕ) (list : List Record) (old : Records) (number : ℕ) (ask : NodeAsk) (reason : NodeRefusal) (new : Records) → refusal old ask ≡ Some reason → new ≡ old → IsOwn server list old number ask (Refused reason) new
+own-refused server list old number ask reason new e n =
+    (sym (ap (λ (o : Option NodeRefusal). answer_at o (reply_of server old ask)) e), n ∙ sym (ap (λ (o : Option NodeRefusal). state_at o old (records_after server (record { records = old; stable = list }) number ask)) e))
 
-own-answered : (server : ℕ) (old : Records) (number : ℕ) (ask : NodeAsk) (reply : NodeReply) (new : Records) → refusal old ask ≡ None → reply ≡ reply_of server old ask → new ≡ records_after server old number ask → IsOwn server old number ask reply new
-own-answered server old number ask reply new e r n =
-    (r ∙ sym (ap (λ (o : Option NodeRefusal). answer_at o (reply_of server old ask)) e), n ∙ sym (ap (λ (o : Option NodeRefusal). state_at o old (records_after server old number ask)) e))
+own-answered : (server : ℕ) (list : List Record) (old : Records) (number : ℕ) (ask : NodeAsk) (reply : NodeReply) (new : Records) → refusal old ask ≡ None → reply ≡ reply_of server old ask → new ≡ records_after server (record { records = old; stable = list }) number ask → IsOwn server list old number ask reply new
+own-answered server list old number ask reply new e r n =
+    (r ∙ sym (ap (λ (o : Option NodeRefusal). answer_at o (reply_of server old ask)) e), n ∙ sym (ap (λ (o : Option NodeRefusal). state_at o old (records_after server (record { records = old; stable = list }) number ask)) e))
 
-only_lock : (server : ℕ) (old : Records) (number txn : ℕ) (file : List ℕ) (mode : Mode) (reply : NodeReply) (new : Records) → IsStep server old number (Work (work.Lock txn file mode)) reply new → IsOwn server old number (Work (work.Lock txn file mode)) reply new
-only_lock server old number txn file mode (Refused refusals.Down) new h =
-    own-refused server old number (Work (work.Lock txn file mode)) refusals.Down new (test-true old.down refusals.Down _ h.0) h.1
-only_lock server old number txn file mode (Refused refusals.Prepared) new h =
-    own-refused server old number (Work (work.Lock txn file mode)) refusals.Prepared new (test-false old.down refusals.Down _ h.0.0 ∙ test-true (has_vote old txn) refusals.Prepared _ h.0.1) h.1
-only_lock server old number txn file mode (Refused (refusals.Held by)) new h =
-    own-refused server old number (Work (work.Lock txn file mode)) (refusals.Held by) new
+only_lock : (server : ℕ) (list : List Record) (old : Records) (number txn : ℕ) (file : List ℕ) (mode : Mode) (reply : NodeReply) (new : Records) → IsStep server list old number (Work (work.Lock txn file mode)) reply new → IsOwn server list old number (Work (work.Lock txn file mode)) reply new
+only_lock server list old number txn file mode (Refused refusals.Down) new h =
+    own-refused server list old number (Work (work.Lock txn file mode)) refusals.Down new (test-true old.down refusals.Down _ h.0) h.1
+only_lock server list old number txn file mode (Refused refusals.Prepared) new h =
+    own-refused server list old number (Work (work.Lock txn file mode)) refusals.Prepared new (test-false old.down refusals.Down _ h.0.0 ∙ test-true (has_vote old txn) refusals.Prepared _ h.0.1) h.1
+only_lock server list old number txn file mode (Refused (refusals.Held by)) new h =
+    own-refused server list old number (Work (work.Lock txn file mode)) (refusals.Held by) new
     (test-false old.down refusals.Down _ h.0.0 ∙ test-false (has_vote old txn) refusals.Prepared _ (ap is_some h.0.1) ∙ value-some (blocker old.locks file txn mode) refusals.Held None by (blocker_of old txn file mode by h.0.2 h.0.3)) h.1
-only_lock server old number txn file mode (Refused reason) new h = absurd h.0
-only_lock server old number txn file mode (Granted version content) new h =
-    own-answered server old number (Work (work.Lock txn file mode)) (Granted version content) new
+only_lock server list old number txn file mode (Refused reason) new h = absurd h.0
+only_lock server list old number txn file mode (Granted version content) new h =
+    own-answered server list old number (Work (work.Lock txn file mode)) (Granted version content) new
     (test-false old.down refusals.Down _ h.0 ∙ test-false (has_vote old txn) refusals.Prepared _ (ap is_some h.1) ∙ value-none (blocker old.locks file txn mode) refusals.Held None (nobody old txn file mode h.2))
     (ap (λ (copy : FileCopy). Granted copy.version copy.content) (sym h.3))
     (h.4 ∙ ap (λ (copy : FileCopy). record { copies = old.copies; locks = granted old.locks file txn mode number copy.version; votes = old.votes; down = old.down }) (sym h.3))
-only_lock server old number txn file mode reply new h = absurd h
+only_lock server list old number txn file mode reply new h = absurd h
 
-only_prepare : (server : ℕ) (old : Records) (number txn : ℕ) (writes : List Write) (reply : NodeReply) (new : Records) → IsStep server old number (Work (work.Prepare txn writes)) reply new → IsOwn server old number (Work (work.Prepare txn writes)) reply new
-only_prepare server old number txn writes (Refused refusals.Down) new h =
-    own-refused server old number (Work (work.Prepare txn writes)) refusals.Down new (test-true old.down refusals.Down _ h.0) h.1
-only_prepare server old number txn writes (Refused refusals.Prepared) new h =
-    own-refused server old number (Work (work.Prepare txn writes)) refusals.Prepared new (test-false old.down refusals.Down _ h.0.0 ∙ test-true (has_vote old txn) refusals.Prepared _ h.0.1) h.1
-only_prepare server old number txn writes (Refused refusals.BadWrites) new h =
-    own-refused server old number (Work (work.Prepare txn writes)) refusals.BadWrites new
+only_prepare : (server : ℕ) (list : List Record) (old : Records) (number txn : ℕ) (writes : List Write) (reply : NodeReply) (new : Records) → IsStep server list old number (Work (work.Prepare txn writes)) reply new → IsOwn server list old number (Work (work.Prepare txn writes)) reply new
+only_prepare server list old number txn writes (Refused refusals.Down) new h =
+    own-refused server list old number (Work (work.Prepare txn writes)) refusals.Down new (test-true old.down refusals.Down _ h.0) h.1
+only_prepare server list old number txn writes (Refused refusals.Prepared) new h =
+    own-refused server list old number (Work (work.Prepare txn writes)) refusals.Prepared new (test-false old.down refusals.Down _ h.0.0 ∙ test-true (has_vote old txn) refusals.Prepared _ h.0.1) h.1
+only_prepare server list old number txn writes (Refused refusals.BadWrites) new h =
+    own-refused server list old number (Work (work.Prepare txn writes)) refusals.BadWrites new
     (test-false old.down refusals.Down _ h.0.0 ∙ test-false (has_vote old txn) refusals.Prepared _ (ap is_some h.0.1) ∙ test-true (not (are_good_writes writes)) refusals.BadWrites _ (ap not h.0.2)) h.1
-only_prepare server old number txn writes (Refused (refusals.NotLocked file)) new h =
+only_prepare server list old number txn writes (Refused (refusals.NotLocked file)) new h =
     let found = h.0.3 in
-    own-refused server old number (Work (work.Prepare txn writes)) (refusals.NotLocked file) new
+    own-refused server list old number (Work (work.Prepare txn writes)) (refusals.NotLocked file) new
     (test-false old.down refusals.Down _ h.0.0 ∙ test-false (has_vote old txn) refusals.Prepared _ (ap is_some h.0.1) ∙ test-false (not (are_good_writes writes)) refusals.BadWrites _ (ap not h.0.2)
     ∙ value-some (not_locked old txn writes) refusals.NotLocked _ file (first_not_locked old txn writes found.0 found.1 found.2 file found.3 found.4 found.5 found.6)) h.1
-only_prepare server old number txn writes (Refused refusals.NothingHere) new h =
-    own-refused server old number (Work (work.Prepare txn writes)) refusals.NothingHere new
+only_prepare server list old number txn writes (Refused refusals.NothingHere) new h =
+    own-refused server list old number (Work (work.Prepare txn writes)) refusals.NothingHere new
     (test-false old.down refusals.Down _ h.0.0 ∙ test-false (has_vote old txn) refusals.Prepared _ (ap is_some h.0.1) ∙ test-false (not (are_good_writes writes)) refusals.BadWrites _ (ap not h.0.2)
     ∙ value-none (not_locked old txn writes) refusals.NotLocked _ (all_locked old txn writes h.0.3) ∙ test-true (holds_nothing old.locks txn) refusals.NothingHere None (ap is_empty h.0.4)) h.1
-only_prepare server old number txn writes (Refused reason) new h = absurd h.0
-only_prepare server old number txn writes (Yes held given) new h =
-    own-answered server old number (Work (work.Prepare txn writes)) (Yes held given) new
+only_prepare server list old number txn writes (Refused reason) new h = absurd h.0
+only_prepare server list old number txn writes (Yes held given) new h =
+    own-answered server list old number (Work (work.Prepare txn writes)) (Yes held given) new
     (test-false old.down refusals.Down _ h.0 ∙ test-false (has_vote old txn) refusals.Prepared _ (ap is_some h.1) ∙ test-false (not (are_good_writes writes)) refusals.BadWrites _ (ap not h.2)
     ∙ value-none (not_locked old txn writes) refusals.NotLocked _ (all_locked old txn writes h.3) ∙ test-false (holds_nothing old.locks txn) refusals.NothingHere None (not_empty (held_of old.locks txn) h.4))
     (let p = h.5 in let q = h.6 in λ i. Yes (p i) (q i))
     h.7
-only_prepare server old number txn writes reply new h = absurd h
+only_prepare server list old number txn writes reply new h = absurd h
 
-only_decide : (server : ℕ) (old : Records) (number txn : ℕ) (verdict : Verdict) (cite : ℕ) (reply : NodeReply) (new : Records) → IsStep server old number (Work (work.Decide txn verdict cite)) reply new → IsOwn server old number (Work (work.Decide txn verdict cite)) reply new
-only_decide server old number txn verdict cite (Refused refusals.Down) new h =
-    own-refused server old number (Work (work.Decide txn verdict cite)) refusals.Down new (test-true old.down refusals.Down _ h.0) h.1
-only_decide server old number txn verdict cite (Refused refusals.NothingHere) new h =
-    own-refused server old number (Work (work.Decide txn verdict cite)) refusals.NothingHere new
+only_decide : (server : ℕ) (list : List Record) (old : Records) (number txn : ℕ) (verdict : Verdict) (cite : ℕ) (reply : NodeReply) (new : Records) → IsStep server list old number (Work (work.Decide txn verdict cite)) reply new → IsOwn server list old number (Work (work.Decide txn verdict cite)) reply new
+only_decide server list old number txn verdict cite (Refused refusals.Down) new h =
+    own-refused server list old number (Work (work.Decide txn verdict cite)) refusals.Down new (test-true old.down refusals.Down _ h.0) h.1
+only_decide server list old number txn verdict cite (Refused refusals.NothingHere) new h =
+    own-refused server list old number (Work (work.Decide txn verdict cite)) refusals.NothingHere new
     (test-false old.down refusals.Down _ h.0.0 ∙ test-true (not (has_vote old txn)) refusals.NothingHere None (ap (λ (o : Option OpenVote). not (is_some o)) h.0.1)) h.1
-only_decide server old number txn verdict cite (Refused reason) new h = absurd h.0
-only_decide server old number txn verdict cite Installed new h =
+only_decide server list old number txn verdict cite (Refused reason) new h = absurd h.0
+only_decide server list old number txn verdict cite Installed new h =
     let vote = h.1.0 in
     let is = h.1.1 in
     let b = does_install server old txn verdict vote is h.1.2 in
-    own-answered server old number (Work (work.Decide txn verdict cite)) Installed new
+    own-answered server list old number (Work (work.Decide txn verdict cite)) Installed new
     (test-false old.down refusals.Down _ h.0 ∙ test-false (not (has_vote old txn)) refusals.NothingHere None (ap (λ (o : Option OpenVote). not (is_some o)) is))
     (sym (cond-true (installs server old txn verdict) Installed Discarded b))
     (h.1.3
     ∙ ap (λ (v : OpenVote). record { copies = installed_all old.copies v.writes; locks = released old.locks txn; votes = fin.remove old.votes txn; down = old.down }) (sym (open_vote-is old txn vote is))
     ∙ ap (λ (t : Bool). record { copies = cond t (installed_all old.copies (open_vote old txn).writes) old.copies; locks = released old.locks txn; votes = fin.remove old.votes txn; down = old.down }) (sym b))
-only_decide server old number txn verdict cite Discarded new h =
+only_decide server list old number txn verdict cite Discarded new h =
     let vote = h.1.0 in
     let is = h.1.1 in
     let b = doesnt_install server old txn verdict vote is h.1.2 in
-    own-answered server old number (Work (work.Decide txn verdict cite)) Discarded new
+    own-answered server list old number (Work (work.Decide txn verdict cite)) Discarded new
     (test-false old.down refusals.Down _ h.0 ∙ test-false (not (has_vote old txn)) refusals.NothingHere None (ap (λ (o : Option OpenVote). not (is_some o)) is))
     (sym (cond-false (installs server old txn verdict) Installed Discarded b))
     (h.1.3
     ∙ ap (λ (t : Bool). record { copies = cond t (installed_all old.copies (open_vote old txn).writes) old.copies; locks = released old.locks txn; votes = fin.remove old.votes txn; down = old.down }) (sym b))
-only_decide server old number txn verdict cite reply new h = absurd h
+only_decide server list old number txn verdict cite reply new h = absurd h
 
-only_release : (server : ℕ) (old : Records) (number txn : ℕ) (reply : NodeReply) (new : Records) → IsStep server old number (Work (work.Release txn)) reply new → IsOwn server old number (Work (work.Release txn)) reply new
-only_release server old number txn (Refused refusals.Down) new h =
-    own-refused server old number (Work (work.Release txn)) refusals.Down new (test-true old.down refusals.Down _ h.0) h.1
-only_release server old number txn (Refused refusals.Prepared) new h =
-    own-refused server old number (Work (work.Release txn)) refusals.Prepared new (test-false old.down refusals.Down _ h.0.0 ∙ test-true (has_vote old txn) refusals.Prepared _ h.0.1) h.1
-only_release server old number txn (Refused refusals.NothingHere) new h =
-    own-refused server old number (Work (work.Release txn)) refusals.NothingHere new
+only_release : (server : ℕ) (list : List Record) (old : Records) (number txn : ℕ) (reply : NodeReply) (new : Records) → IsStep server list old number (Work (work.Release txn)) reply new → IsOwn server list old number (Work (work.Release txn)) reply new
+only_release server list old number txn (Refused refusals.Down) new h =
+    own-refused server list old number (Work (work.Release txn)) refusals.Down new (test-true old.down refusals.Down _ h.0) h.1
+only_release server list old number txn (Refused refusals.Prepared) new h =
+    own-refused server list old number (Work (work.Release txn)) refusals.Prepared new (test-false old.down refusals.Down _ h.0.0 ∙ test-true (has_vote old txn) refusals.Prepared _ h.0.1) h.1
+only_release server list old number txn (Refused refusals.NothingHere) new h =
+    own-refused server list old number (Work (work.Release txn)) refusals.NothingHere new
     (test-false old.down refusals.Down _ h.0.0 ∙ test-false (has_vote old txn) refusals.Prepared _ (ap is_some h.0.1) ∙ test-true (holds_nothing old.locks txn) refusals.NothingHere None (ap is_empty h.0.2)) h.1
-only_release server old number txn (Refused reason) new h = absurd h.0
-only_release server old number txn Released new h =
-    own-answered server old number (Work (work.Release txn)) Released new
+only_release server list old number txn (Refused reason) new h = absurd h.0
+only_release server list old number txn Released new h =
+    own-answered server list old number (Work (work.Release txn)) Released new
     (test-false old.down refusals.Down _ h.0 ∙ test-false (has_vote old txn) refusals.Prepared _ (ap is_some h.1) ∙ test-false (holds_nothing old.locks txn) refusals.NothingHere None (not_empty (held_of old.locks txn) h.2))
     refl h.3
-only_release server old number txn reply new h = absurd h
+only_release server list old number txn reply new h = absurd h
 
-only_peek : (server : ℕ) (old : Records) (number : ℕ) (file : List ℕ) (reply : NodeReply) (new : Records) → IsStep server old number (Work (work.Peek file)) reply new → IsOwn server old number (Work (work.Peek file)) reply new
-only_peek server old number file (Refused refusals.Down) new h =
-    own-refused server old number (Work (work.Peek file)) refusals.Down new (test-true old.down refusals.Down None h.0) h.1
-only_peek server old number file (Refused reason) new h = absurd h.0
-only_peek server old number file (Copy version content) new h =
-    own-answered server old number (Work (work.Peek file)) (Copy version content) new
+only_peek : (server : ℕ) (list : List Record) (old : Records) (number : ℕ) (file : List ℕ) (reply : NodeReply) (new : Records) → IsStep server list old number (Work (work.Peek file)) reply new → IsOwn server list old number (Work (work.Peek file)) reply new
+only_peek server list old number file (Refused refusals.Down) new h =
+    own-refused server list old number (Work (work.Peek file)) refusals.Down new (test-true old.down refusals.Down None h.0) h.1
+only_peek server list old number file (Refused reason) new h = absurd h.0
+only_peek server list old number file (Copy version content) new h =
+    own-answered server list old number (Work (work.Peek file)) (Copy version content) new
     (test-false old.down refusals.Down None h.0) (ap (λ (copy : FileCopy). Copy copy.version copy.content) (sym h.1)) h.2
-only_peek server old number file reply new h = absurd h
+only_peek server list old number file reply new h = absurd h
 
-only_refresh : (server : ℕ) (old : Records) (number : ℕ) (file : List ℕ) (version : ℕ) (content : List ℕ) (from : CitedVote) (reply : NodeReply) (new : Records) → IsStep server old number (Work (work.Refresh file version content from)) reply new → IsOwn server old number (Work (work.Refresh file version content from)) reply new
-only_refresh server old number file version content from (Refused refusals.Down) new h =
-    own-refused server old number (Work (work.Refresh file version content from)) refusals.Down new (test-true old.down refusals.Down _ h.0) h.1
-only_refresh server old number file version content from (Refused refusals.NotNewer) new h =
-    own-refused server old number (Work (work.Refresh file version content from)) refusals.NotNewer new
+only_refresh : (server : ℕ) (list : List Record) (old : Records) (number : ℕ) (file : List ℕ) (version : ℕ) (content : List ℕ) (from : CitedVote) (reply : NodeReply) (new : Records) → IsStep server list old number (Work (work.Refresh file version content from)) reply new → IsOwn server list old number (Work (work.Refresh file version content from)) reply new
+only_refresh server list old number file version content from (Refused refusals.Down) new h =
+    own-refused server list old number (Work (work.Refresh file version content from)) refusals.Down new (test-true old.down refusals.Down _ h.0) h.1
+only_refresh server list old number file version content from (Refused refusals.NotNewer) new h =
+    own-refused server list old number (Work (work.Refresh file version content from)) refusals.NotNewer new
     (test-false old.down refusals.Down _ h.0.0 ∙ test-true (nat_le version (copy_of old.copies file).version) refusals.NotNewer None (le-leb version (copy_of old.copies file).version h.0.1)) h.1
-only_refresh server old number file version content from (Refused reason) new h = absurd h.0
-only_refresh server old number file version content from Refreshed new h =
-    own-answered server old number (Work (work.Refresh file version content from)) Refreshed new
+only_refresh server list old number file version content from (Refused reason) new h = absurd h.0
+only_refresh server list old number file version content from Refreshed new h =
+    own-answered server list old number (Work (work.Refresh file version content from)) Refreshed new
     (test-false old.down refusals.Down _ h.0 ∙ test-false (nat_le version (copy_of old.copies file).version) refusals.NotNewer None (lt-leb version (copy_of old.copies file).version h.1))
     refl h.2
-only_refresh server old number file version content from reply new h = absurd h
+only_refresh server list old number file version content from reply new h = absurd h
 
-pub only_step : (server : ℕ) (old : Records) (number : ℕ) (ask : NodeAsk) (reply : NodeReply) (new : Records) → IsStep server old number ask reply new → IsOwn server old number ask reply new
-only_step server old number (Work (work.Lock txn file mode)) reply new h = only_lock server old number txn file mode reply new h
-only_step server old number (Work (work.Prepare txn writes)) reply new h = only_prepare server old number txn writes reply new h
-only_step server old number (Work (work.Decide txn verdict cite)) reply new h = only_decide server old number txn verdict cite reply new h
-only_step server old number (Work (work.Release txn)) reply new h = only_release server old number txn reply new h
-only_step server old number (Work (work.Peek file)) reply new h = only_peek server old number file reply new h
-only_step server old number (Work (work.Refresh file version content from)) reply new h = only_refresh server old number file version content from reply new h
-only_step server old number Crash (Refused refusals.AlreadyDown) new h = own-refused server old number Crash refusals.AlreadyDown new (test-true old.down refusals.AlreadyDown None h.0) h.1
-only_step server old number Crash (Refused reason) new h = absurd h.0
-only_step server old number Crash Crashed new h = own-answered server old number Crash Crashed new (test-false old.down refusals.AlreadyDown None h.0) refl h.1
-only_step server old number Crash reply new h = absurd h
-only_step server old number Return (Refused refusals.AlreadyUp) new h = own-refused server old number Return refusals.AlreadyUp new (test-true (not old.down) refusals.AlreadyUp None (ap not h.0)) h.1
-only_step server old number Return (Refused reason) new h = absurd h.0
-only_step server old number Return Returned new h = own-answered server old number Return Returned new (test-false (not old.down) refusals.AlreadyUp None (ap not h.0)) refl h.1
-only_step server old number Return reply new h = absurd h
+pub only_step : (server : ℕ) (list : List Record) (old : Records) (number : ℕ) (ask : NodeAsk) (reply : NodeReply) (new : Records) → IsStep server list old number ask reply new → IsOwn server list old number ask reply new
+only_step server list old number (Work (work.Lock txn file mode)) reply new h = only_lock server list old number txn file mode reply new h
+only_step server list old number (Work (work.Prepare txn writes)) reply new h = only_prepare server list old number txn writes reply new h
+only_step server list old number (Work (work.Decide txn verdict cite)) reply new h = only_decide server list old number txn verdict cite reply new h
+only_step server list old number (Work (work.Release txn)) reply new h = only_release server list old number txn reply new h
+only_step server list old number (Work (work.Peek file)) reply new h = only_peek server list old number file reply new h
+only_step server list old number (Work (work.Refresh file version content from)) reply new h = only_refresh server list old number file version content from reply new h
+only_step server list old number Crash (Refused refusals.AlreadyDown) new h = own-refused server list old number Crash refusals.AlreadyDown new (test-true old.down refusals.AlreadyDown None h.0) h.1
+only_step server list old number Crash (Refused reason) new h = absurd h.0
+only_step server list old number Crash Crashed new h = own-answered server list old number Crash Crashed new (test-false old.down refusals.AlreadyDown None h.0) refl h.1
+only_step server list old number Crash reply new h = absurd h
+only_step server list old number Return (Refused refusals.AlreadyUp) new h = own-refused server list old number Return refusals.AlreadyUp new (test-true (not old.down) refusals.AlreadyUp None (ap not h.0)) h.1
+only_step server list old number Return (Refused reason) new h = absurd h.0
+only_step server list old number Return Returned new h = own-answered server list old number Return Returned new (test-false (not old.down) refusals.AlreadyUp None (ap not h.0)) refl h.1
+only_step server list old number Return reply new h = absurd h
+only_step server list old number (CrashIn ask after) (Refused refusals.AlreadyDown) new h = own-refused server list old number (CrashIn ask after) refusals.AlreadyDown new (test-true old.down refusals.AlreadyDown None h.0) h.1
+only_step server list old number (CrashIn ask after) (Refused reason) new h = absurd h.0
+only_step server list old number (CrashIn ask after) Crashed new h = own-answered server list old number (CrashIn ask after) Crashed new (test-false old.down refusals.AlreadyDown None h.0) refl h.1
+only_step server list old number (CrashIn ask after) reply new h = absurd h
 
 -- a call's result, by what it told: no other reply and no other records are a step
 pub told_only : (old new : NodeView) (number : ℕ) (ask : NodeAsk) (told : Result NodeReply AllocError) → IfOk told (λ reply. reply ≡ node_reply old.server old.state ask) → OnOk told (new ≡ answered old number ask)
-    → IfOk told (λ reply. IsOnlyStep old.server old.state.records number ask reply new.state.records)
+    → IfOk told (λ reply. IsOnlyStep old.server old.state.stable old.state.records number ask reply new.state.records)
 told_only old new number ask (Err e) r s = tt
 told_only old new number ask (Ok reply) r s = λ other after h.
-    let own = only_step old.server old.state.records number ask other after h in (
+    let own = only_step old.server old.state.stable old.state.records number ask other after h in (
       own.0 ∙ sym r,
       own.1
-          ∙ sym (state_at-records (refusal old.state.records ask) old.state (record { records = records_after old.server old.state.records number ask; stable = old.state.stable ++ writes_of old.server old.state.records number ask }))
+          ∙ sym (state_at-records (refusal old.state.records ask) old.state (record { records = records_after old.server old.state number ask; stable = old.state.stable ++ writes_of old.server old.state.records number ask }))
           ∙ ap (λ (v : NodeView). v.state.records) (sym s),
     )

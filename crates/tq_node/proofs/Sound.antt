@@ -9,15 +9,16 @@ use Rattle.tq_store.specs.Copies.{Files, installed_all, is_newer}
 use Rattle.tq_store.specs.declared.write.Write.{Write}
 use Rattle.tq_locks.specs.Locks.{Locks, held_of, granted, released, only_stable, kept}
 use Rattle.tq_locks.specs.declared.mode.Mode.{Mode}
-use Rattle.tq_intents.specs.Kept.{HasOneVoteEach, IsAbove, Votes, kept_copies, kept_votes, open_votes, vote_at, vote_records}
+use Rattle.tq_intents.specs.Kept.{AreDead, HasOneVoteEach, IsAbove, IsUnfinished, Votes, kept_copies, kept_votes, open_votes, vote_at, vote_records}
 use Rattle.tq_intents.specs.declared.record.OpenVote.{OpenVote}
 use Rattle.tq_intents.specs.declared.record.Record.{Record}
 use Rattle.tq_intents.specs.declared.record.Record.TheVariants.{Copy, Gone}
 use Rattle.tq_intents.proofs.CopiesPush.{installed_all-newer, kept_copies-others, kept_copies-push_copy, kept_copies-vote}
 use Rattle.tq_intents.proofs.CopyPush.{open_votes-push_copy}
+use Rattle.tq_intents.proofs.DeadRecords.{dead_above, dead_copies, open_votes-dead}
 use Rattle.tq_intents.proofs.Votes.{HasOneVoteEach-ended, HasOneVoteEach-given, kept_votes-ended, kept_votes-given}
 use Rattle.tq_node.specs.Node.{IsKept, IsSound, LocksIn}
-use Rattle.tq_node.specs.Records.{kept_lock}
+use Rattle.tq_node.specs.Records.{kept_lock, kept_records}
 use Rattle.tq_node.proofs.KeptLocks.{kept_locks-is, locks-crashed, locks-decided, locks-granted, locks-none, locks-prepared, locks-released}
 use Rattle.tq_node.proofs.Numbers.{above_append, above_copies, above_ended, above_greater, above_vote}
 
@@ -93,6 +94,20 @@ module _ (list : List Record) (last : ℕ) (files : Files) (locks : Locks) (soun
         locks = subst (λ (votes : Votes). LocksIn (kept locks t) votes) (sym (kept_votes-given list t n writes kept_there below none sound.one_each)) (locks-prepared locks (kept_votes list) t n writes none sound.locks);
       }
 
+  pub sound-unfinished : (dead : List Record) (n : ℕ) → last < n → AreDead n dead → IsUnfinished list dead
+  sound-unfinished dead n less d = record { number = n; newest = above_greater (last + 1) n list (omega (arith, less)) sound.numbers; dead = d }
+
+  -- with the first records of a vote behind them that was not given to its end
+  pub sound-dead : (dead : List Record) (n : ℕ) → last < n → AreDead n dead → IsSound (list ++ dead) n files locks
+  sound-dead dead n less d =
+      let same = open_votes-dead n list dead d (above_greater (last + 1) n list (omega (arith, less)) sound.numbers) in
+      record {
+        numbers = above_append (n + 1) list dead (above_greater (last + 1) (n + 1) list (omega (arith, less)) sound.numbers) (dead_above n dead d);
+        one_each = subst (λ (es : List (ℕ × OpenVote)). AllByRecursion (λ entry. fin.get {R = Rattle.std.specs.Ordering.nat_cmp} (fin.from_entries es) entry.0 ≡ Some entry.1) es) (sym same) sound.one_each;
+        copies = kept_copies-others list dead (dead_copies n dead d) ∙ sound.copies;
+        locks = subst (λ (es : List (ℕ × OpenVote)). LocksIn locks (fin.from_entries es)) (sym same) sound.locks;
+      }
+
   sound-ended_vote : (t : ℕ) (vote : OpenVote) → fin.get (kept_votes list) t ≡ Some vote → IsSound (list ++ Gone t (vote_at (kept_votes list) t).number ∷ []) last files (released locks t)
   sound-ended_vote t vote g =
       let is = vote_at-is (kept_votes list) t vote g in
@@ -114,6 +129,10 @@ module _ (list : List Record) (last : ℕ) (files : Files) (locks : Locks) (soun
       let l = kept_locks-is list locks sound.one_each sound.locks in
       let c = sound.copies in
       λ i. record { copies = c i; locks = l i; votes = kept_votes list; down = true }
+
+-- down, with the stable locks alone, the records are those that the list keeps
+pub left_is : (list : List Record) (last : ℕ) (files : Files) (locks : Locks) → IsSound list last files locks → record { copies = files; locks = only_stable locks; votes = kept_votes list; down = true } ≡ kept_records list
+left_is list last files locks sound = sym (kept_is list last files locks sound true)
 
 pub sound-opening : IsSound [] 0 fin.empty fin.empty
 sound-opening = record { numbers = tt; one_each = tt; copies = refl; locks = locks-none }

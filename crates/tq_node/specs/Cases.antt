@@ -10,8 +10,9 @@ use Rattle.tq_locks.specs.declared.mode.Lock.{Lock}
 use Rattle.tq_locks.specs.declared.mode.Mode.{Mode}
 use Rattle.tq_locks.specs.declared.mode.Mode.TheVariants.{Exclusive}
 use Rattle.tq_intents.specs.declared.record.OpenVote.{OpenVote}
+use Rattle.tq_intents.specs.declared.record.Record.{Record}
 use Rattle.tq_node.specs.declared.ask.NodeAsk.{NodeAsk}
-use Rattle.tq_node.specs.declared.ask.NodeAsk.TheVariants.{Work, Crash, Return}
+use Rattle.tq_node.specs.declared.ask.NodeAsk.TheVariants.{Work, Crash, Return, CrashIn}
 use Rattle.tq_node.specs.declared.ask.NodeRefusal.{NodeRefusal}
 use Rattle.tq_node.specs.declared.ask.NodeRefusal.TheVariants.{Down, AlreadyUp, AlreadyDown, Held, Prepared, NotLocked, BadWrites, NotNewer, NothingHere}
 use Rattle.tq_node.specs.declared.ask.NodeReply.{NodeReply}
@@ -19,7 +20,7 @@ use Rattle.tq_node.specs.declared.ask.NodeReply.TheVariants.{Granted, Yes, Insta
 use Rattle.tq_node.specs.declared.ask.Verdict.{Verdict}
 use Rattle.tq_node.specs.declared.ask.Verdict.TheVariants.{Abort, Commit}
 use Rattle.tq_node.specs.declared.ask.WorkAsk.TheVariants.{Lock as LockAsk, Prepare, Decide, Release, Peek, Refresh}
-use Rattle.tq_node.specs.Records.{Records, held_lock, kept_lock, are_good_writes}
+use Rattle.tq_node.specs.Records.{Records, held_lock, kept_lock, are_good_writes, kept_records, stop_writes}
 
 -- no vote of the set is the transaction's
 abbrev pub HasNoVote : Records → ℕ → Type 0
@@ -58,6 +59,7 @@ IsRefused old (Work (Release txn)) NothingHere = IsUp old × HasNoVote old txn �
 IsRefused old (Work (Refresh file version content from)) NotNewer = IsUp old × (version ≤ (copy_of old.copies file).version)
 IsRefused old Crash AlreadyDown = old.down ≡ true
 IsRefused old Return AlreadyUp = old.down ≡ false
+IsRefused old (CrashIn ask after) AlreadyDown = old.down ≡ true
 IsRefused old ask reason = ⊥
 
 -- the verdict is Commit and cites the vote
@@ -65,31 +67,33 @@ abbrev pub Cites : Verdict → ℕ → ℕ → Type 0
 Cites Abort server number = ⊥
 Cites (Commit votes) server number = Has votes (record { server = server; number = number })
 
--- a server's step: records, number, ask, reply and the records after
-abbrev pub IsStep : ℕ → Records → ℕ → NodeAsk → NodeReply → Records → Type 0
-IsStep server old number ask (Refused reason) new = IsRefused old ask reason × (new ≡ old)
-IsStep server old number (Work (LockAsk txn file mode)) (Granted version content) new =
+-- a server's step: stable records, records, number, ask, reply and the records after
+abbrev pub IsStep : ℕ → List Record → Records → ℕ → NodeAsk → NodeReply → Records → Type 0
+IsStep server list old number ask (Refused reason) new = IsRefused old ask reason × (new ≡ old)
+IsStep server list old number (Work (LockAsk txn file mode)) (Granted version content) new =
     IsUp old × HasNoVote old txn × ((t : ℕ) → ¬ Blocks old txn file mode t)
     × (copy_of old.copies file ≡ record { version = version; content = content })
     × (new ≡ record old { locks = granted old.locks file txn mode number version })
-IsStep server old number (Work (Prepare txn writes)) (Yes held answered) new =
+IsStep server list old number (Work (Prepare txn writes)) (Yes held answered) new =
     IsUp old × HasNoVote old txn × (are_good_writes writes ≡ true) × AllByRecursion (λ w. Holds old txn w.file Exclusive) writes × ¬ HoldsNothing old txn
     × (held ≡ map held_lock (held_of old.locks txn)) × (answered ≡ writes)
     × (new ≡ record old { locks = kept old.locks txn; votes = fin.insert old.votes txn (record { number = number; writes = writes; locks = map kept_lock (held_of old.locks txn) }) })
-IsStep server old number (Work (Decide txn verdict cite)) Installed new =
+IsStep server list old number (Work (Decide txn verdict cite)) Installed new =
     IsUp old × ((vote : OpenVote) × (fin.get old.votes txn ≡ Some vote) × Cites verdict server vote.number
     × (new ≡ record old { copies = installed_all old.copies vote.writes; locks = released old.locks txn; votes = fin.remove old.votes txn }))
-IsStep server old number (Work (Decide txn verdict cite)) Discarded new =
+IsStep server list old number (Work (Decide txn verdict cite)) Discarded new =
     IsUp old × ((vote : OpenVote) × (fin.get old.votes txn ≡ Some vote) × ¬ Cites verdict server vote.number
     × (new ≡ record old { locks = released old.locks txn; votes = fin.remove old.votes txn }))
-IsStep server old number (Work (Release txn)) Released new = IsUp old × HasNoVote old txn × ¬ HoldsNothing old txn × (new ≡ record old { locks = released old.locks txn })
-IsStep server old number (Work (Peek file)) (Copy version content) new = IsUp old × (copy_of old.copies file ≡ record { version = version; content = content }) × (new ≡ old)
-IsStep server old number (Work (Refresh file version content from)) Refreshed new =
+IsStep server list old number (Work (Release txn)) Released new = IsUp old × HasNoVote old txn × ¬ HoldsNothing old txn × (new ≡ record old { locks = released old.locks txn })
+IsStep server list old number (Work (Peek file)) (Copy version content) new = IsUp old × (copy_of old.copies file ≡ record { version = version; content = content }) × (new ≡ old)
+IsStep server list old number (Work (Refresh file version content from)) Refreshed new =
     IsUp old × ((copy_of old.copies file).version < version) × (new ≡ record old { copies = installed old.copies file (record { version = version; content = content }) })
-IsStep server old number Crash Crashed new = IsUp old × (new ≡ record old { locks = only_stable old.locks; down = true })
-IsStep server old number Return Returned new = (old.down ≡ true) × (new ≡ record old { down = false })
-IsStep server old number ask reply new = ⊥
+IsStep server list old number Crash Crashed new = IsUp old × (new ≡ record old { locks = only_stable old.locks; down = true })
+IsStep server list old number Return Returned new = (old.down ≡ true) × (new ≡ record old { down = false })
+-- a stop: what the stable list keeps, with the first records of the ask behind it
+IsStep server list old number (CrashIn ask after) Crashed new = IsUp old × (new ≡ kept_records (list ++ stop_writes server old number ask after))
+IsStep server list old number ask reply new = ⊥
 
 -- the cases leave nothing open: a step from these records by this ask gives this reply and these records
-abbrev pub IsOnlyStep : ℕ → Records → ℕ → NodeAsk → NodeReply → Records → Type 0
-IsOnlyStep server old number ask reply new = (other : NodeReply) (after : Records) → IsStep server old number ask other after → (other ≡ reply) × (after ≡ new)
+abbrev pub IsOnlyStep : ℕ → List Record → Records → ℕ → NodeAsk → NodeReply → Records → Type 0
+IsOnlyStep server list old number ask reply new = (other : NodeReply) (after : Records) → IsStep server list old number ask other after → (other ≡ reply) × (after ≡ new)

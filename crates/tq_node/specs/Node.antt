@@ -38,16 +38,6 @@ node_code record_code vote_code = code_by (ℕ × (ℕ × (NodeState × ℕ))) (
 abbrev pub numbered : ℕ → NodeView → NodeView
 numbered number old = record { levels = old.levels; server = old.server; state = old.state; last = number }
 
--- the server after a crash or a return, where that isn't refused, its number not noted yet
-abbrev pub turned : NodeView → ℕ → NodeAsk → NodeView
-turned old number ask =
-    record {
-      levels = old.levels;
-      server = old.server;
-      state = record { records = records_after old.server old.state.records number ask; stable = old.state.stable };
-      last = old.last;
-    }
-
 -- a server that is up and has stored nothing
 abbrev pub opening : ℕ → ℕ → NodeView
 opening levels server = record { levels = levels; server = server; state = record { records = record { copies = fin.empty; locks = fin.empty; votes = fin.empty; down = false }; stable = [] }; last = 0 }
@@ -86,9 +76,3 @@ pub record IsSound (stable : List Record) (last : ℕ) (files : Files) (table : 
   pub one_each : HasOneVoteEach stable
   pub copies : kept_copies stable ≡ files
   pub locks : LocksIn table (kept_votes stable)
-
--- a stop after the first `after` records that the ask would write, none where it would be refused
-abbrev pub stopped : ℕ → NodeState → ℕ → WorkAsk → ℕ → NodeState
-stopped server old number ask after =
-    let list = old.stable ++ take after (state_at (work_refusal old.records ask) [] (work_writes server old.records number ask)) in
-    record { records = kept_records list; stable = list }

@@ -1,9 +1,9 @@
 -- What an ask of a server is to change, the stable records that this writes, and the server with a change made.
-use Rattle.std.specs.Prelude.{◌≡◌, ◌<◌, ℕ, Bool, true, false, List, [], ◌∷◌, ◌++◌, map, filter, None, IsSome}
+use Rattle.std.specs.Prelude.{◌≡◌, ◌<◌, ℕ, Bool, true, false, List, [], ◌∷◌, ◌++◌, ◌==◌, map, filter, length, take, nat_le, nat_lt, None, IsSome, if◌then◌else◌}
 use Rattle.std.specs.FinMap as fin
 use Rattle.tq_store.specs.Copies.{copy_of, installed, installed_all, is_newer}
-use Rattle.tq_locks.specs.Locks.{blocker, granted, held_of, released, only_stable, kept as stabilised_locks}
-use Rattle.tq_intents.specs.Kept.{vote_records}
+use Rattle.tq_locks.specs.Locks.{blocker, granted, held_of, released, kept as stabilised_locks}
+use Rattle.tq_intents.specs.Kept.{AreDead, vote_records}
 use Rattle.tq_intents.specs.declared.record.Record.{Record}
 use Rattle.tq_intents.specs.declared.record.Record.TheVariants as stable
 use Rattle.tq_node.specs.declared.ask.NodeAsk.{NodeAsk}
@@ -12,10 +12,21 @@ use Rattle.tq_node.specs.declared.ask.WorkAsk.{WorkAsk}
 use Rattle.tq_node.specs.declared.ask.WorkAsk.TheVariants as work
 use Rattle.tq_node.specs.declared.change.NodeChange.{NodeChange}
 use Rattle.tq_node.specs.declared.change.NodeStep.{NodeStep}
-use Rattle.tq_node.specs.declared.change.NodeStep.TheVariants.{Nothing, Lock, Vote, Discard, Install, Release, Refresh, Crash, Return}
-use Rattle.tq_node.specs.Records.{Records, kept_lock, open_vote, installs, refusal}
+use Rattle.tq_node.specs.declared.change.NodeStep.TheVariants.{Nothing, Lock, Vote, Discard, Install, Release, Refresh, Unfinished, Copies, Crash, Return}
+use Rattle.tq_node.specs.Records.{Records, NodeState, crashed, kept_lock, kept_records, open_vote, installs, refusal, work_refusal}
 use Rattle.tq_shape.specs.Steps.{state_at}
 use Rattle.tq_node.specs.Node.{NodeView, numbered}
+
+-- ---- the stable records that a step writes, in order
+
+abbrev pub records_of : NodeStep → List Record
+records_of (Vote txn vote) = vote_records txn vote.number vote.writes vote.locks
+records_of (Discard txn number) = stable.Gone txn number ∷ []
+records_of (Install txn number writes newer) = map stable.Copy newer ++ stable.Gone txn number ∷ []
+records_of (Refresh write) = stable.Copy write ∷ []
+records_of (Unfinished records) = records
+records_of (Copies newer) = map stable.Copy newer
+records_of other = []
 
 -- ---- the step of an ask
 
@@ -32,23 +43,35 @@ work_step server old number (work.Release txn) = Release txn
 work_step server old number (work.Peek file) = Nothing
 work_step server old number (work.Refresh file version content from) = Refresh (record { file = file; version = version; content = content })
 
+-- what is left of a step where the server stops behind the first so many of its records
+abbrev pub cut : ℕ → NodeStep → NodeStep
+cut after (Vote txn vote) =
+    if nat_lt after (length (vote_records txn vote.number vote.writes vote.locks))
+    then Unfinished (take after (vote_records txn vote.number vote.writes vote.locks))
+    else Vote txn vote
+cut after (Install txn number writes newer) = if nat_le after (length newer) then Copies (take after newer) else Install txn number writes newer
+cut after (Discard txn number) = if after == 0 then Nothing else Discard txn number
+cut after (Refresh write) = if after == 0 then Nothing else Refresh write
+cut after other = Nothing
+
+abbrev pub stop_step : ℕ → Records → ℕ → WorkAsk → ℕ → NodeStep
+stop_step server old number ask after = state_at (work_refusal old ask) Nothing (cut after (work_step server old number ask))
+
 abbrev pub step_of : ℕ → Records → ℕ → NodeAsk → NodeStep
 step_of server old number (asks.Work ask) = work_step server old number ask
 step_of server old number asks.Crash = Crash
 step_of server old number asks.Return = Return
+step_of server old number (asks.CrashIn ask after) = stop_step server old number ask after
+
+-- whether the server stops in the midst of the ask
+abbrev pub is_stop : NodeAsk → Bool
+is_stop (asks.CrashIn ask after) = true
+is_stop other = false
 
 abbrev pub node_change : NodeView → ℕ → NodeAsk → NodeChange
-node_change old number ask = record { number = number; step = state_at (refusal old.state.records ask) Nothing (step_of old.server old.state.records number ask) }
+node_change old number ask = record { number = number; step = state_at (refusal old.state.records ask) Nothing (step_of old.server old.state.records number ask); stops = state_at (refusal old.state.records ask) false (is_stop ask) }
 
 -- ---- what a step writes, and what it leaves
-
--- the stable records that it writes, in order
-abbrev pub records_of : NodeStep → List Record
-records_of (Vote txn vote) = vote_records txn vote.number vote.writes vote.locks
-records_of (Discard txn number) = stable.Gone txn number ∷ []
-records_of (Install txn number writes newer) = map stable.Copy newer ++ stable.Gone txn number ∷ []
-records_of (Refresh write) = stable.Copy write ∷ []
-records_of other = []
 
 abbrev pub stepped : Records → ℕ → NodeStep → Records
 stepped old number Nothing = old
@@ -59,7 +82,9 @@ stepped old number (Install txn vote writes newer) =
     record old { copies = installed_all old.copies writes; locks = released old.locks txn; votes = fin.remove old.votes txn }
 stepped old number (Release txn) = record old { locks = released old.locks txn }
 stepped old number (Refresh write) = record old { copies = installed old.copies write.file (record { version = write.version; content = write.content }) }
-stepped old number Crash = record old { locks = only_stable old.locks; down = true }
+stepped old number (Unfinished records) = old
+stepped old number (Copies newer) = record old { copies = installed_all old.copies newer }
+stepped old number Crash = crashed old
 stepped old number Return = record old { down = false }
 
 -- the server after a step, its number not noted yet
@@ -72,8 +97,16 @@ unnoted old number step =
       last = old.last;
     }
 
+-- behind a step where the server stops: what the stable list keeps
+abbrev pub state_left : Bool → NodeState → NodeState
+state_left true old = record { records = kept_records old.stable; stable = old.stable }
+state_left false old = old
+
+abbrev pub left : Bool → NodeView → NodeView
+left stops old = record { levels = old.levels; server = old.server; state = state_left stops old.state; last = old.last }
+
 abbrev pub node_changed : NodeView → NodeChange → NodeView
-node_changed old change = numbered change.number (unnoted old change.number change.step)
+node_changed old change = numbered change.number (left change.stops (unnoted old change.number change.step))
 
 -- ---- when a step may be taken
 
@@ -84,6 +117,7 @@ StepFits old number (Discard txn vote) = IsSome (fin.get old.votes txn) × (vote
 StepFits old number (Install txn vote writes newer) =
     IsSome (fin.get old.votes txn) × ((vote ≡ (open_vote old txn).number) × ((writes ≡ (open_vote old txn).writes) × (newer ≡ filter (is_newer old.copies) writes)))
 StepFits old number (Release txn) = fin.get old.votes txn ≡ None
+StepFits old number (Unfinished records) = AreDead number records
 StepFits old number other = Unit {0}
 
 abbrev pub NodeFits : NodeView → NodeChange → Type 0

@@ -47,6 +47,7 @@ abbrev pub inner : NodeAsk → Option WorkAsk
 inner (asks.Work ask) = Some ask
 inner asks.Crash = None
 inner asks.Return = None
+inner (asks.CrashIn ask after) = Some ask
 
 -- the verdict is Commit, and its list has the vote
 abbrev pub IsCited : Verdict → ℕ → ℕ → Type 0

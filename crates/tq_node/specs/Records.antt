@@ -1,5 +1,5 @@
 -- What a server answers, and what it keeps.
-use Rattle.std.specs.Prelude.{ℕ, Bool, true, false, not, ◌&&◌, ◌==◌, nat_le, List, [], ◌∷◌, ◌++◌, map, filter, length, Option, Some, None, if◌then◌else◌}
+use Rattle.std.specs.Prelude.{ℕ, Bool, true, false, not, ◌&&◌, ◌==◌, nat_le, List, [], ◌∷◌, ◌++◌, map, filter, length, take, Option, Some, None, if◌then◌else◌}
 use Rattle.std.specs.FinMap as fin
 use Rattle.std.specs.List.{list_any, find}
 use Rattle.std.specs.Option.{option_map, option_map_or}
@@ -17,7 +17,7 @@ use Rattle.tq_intents.specs.declared.record.Record.TheVariants as stable
 use Rattle.tq_node.specs.declared.ask.CitedVote.{CitedVote}
 use Rattle.tq_node.specs.declared.ask.HeldLock.{HeldLock}
 use Rattle.tq_node.specs.declared.ask.NodeAsk.{NodeAsk}
-use Rattle.tq_node.specs.declared.ask.NodeAsk.TheVariants.{Work, Crash, Return}
+use Rattle.tq_node.specs.declared.ask.NodeAsk.TheVariants.{Work, Crash, Return, CrashIn}
 use Rattle.tq_node.specs.declared.ask.NodeRefusal.{NodeRefusal}
 use Rattle.tq_node.specs.declared.ask.NodeRefusal.TheVariants.{Down, AlreadyUp, AlreadyDown, Held, Prepared, NotLocked, BadWrites, NotNewer, NothingHere}
 use Rattle.tq_node.specs.declared.ask.NodeReply.{NodeReply}
@@ -86,6 +86,7 @@ abbrev pub refusal : Records → NodeAsk → Option NodeRefusal
 refusal old (Work ask) = work_refusal old ask
 refusal old Crash = refuse old.down AlreadyDown None
 refusal old Return = refuse (not old.down) AlreadyUp None
+refusal old (CrashIn ask after) = refuse old.down AlreadyDown None
 
 -- ---- the answers
 
@@ -123,6 +124,7 @@ abbrev pub reply_of : ℕ → Records → NodeAsk → NodeReply
 reply_of server old (Work ask) = work_reply server old ask
 reply_of server old Crash = Crashed
 reply_of server old Return = Returned
+reply_of server old (CrashIn ask after) = Crashed
 
 -- ---- the records after
 
@@ -143,11 +145,6 @@ work_after server old number (Release txn) = record old { locks = released old.l
 work_after server old number (Peek file) = old
 work_after server old number (Refresh file version content from) = record old { copies = installed old.copies file (record { version = version; content = content }) }
 
-abbrev pub records_after : ℕ → Records → ℕ → NodeAsk → Records
-records_after server old number (Work ask) = work_after server old number ask
-records_after server old number Crash = record old { locks = only_stable old.locks; down = true }
-records_after server old number Return = record old { down = false }
-
 -- ---- the stable records that an ask writes, in order
 
 abbrev pub work_writes : ℕ → Records → ℕ → WorkAsk → List Record
@@ -159,8 +156,13 @@ work_writes server old number (Decide txn verdict cite) =
 work_writes server old number (Refresh file version content from) = stable.Copy (record { file = file; version = version; content = content }) ∷ []
 work_writes server old number other = []
 
+-- the first so many of the records that an ask would write, none where it would be refused
+abbrev pub stop_writes : ℕ → Records → ℕ → WorkAsk → ℕ → List Record
+stop_writes server old number ask after = take after (state_at (work_refusal old ask) [] (work_writes server old number ask))
+
 abbrev pub writes_of : ℕ → Records → ℕ → NodeAsk → List Record
 writes_of server old number (Work ask) = work_writes server old number ask
+writes_of server old number (CrashIn ask after) = stop_writes server old number ask after
 writes_of server old number other = []
 
 -- ---- the step
@@ -169,6 +171,16 @@ writes_of server old number other = []
 pub record NodeState : Type 0 where
   pub records : Records
   pub stable : List Record
+
+abbrev pub crashed : Records → Records
+crashed old = record old { locks = only_stable old.locks; down = true }
+
+-- a stop leaves what the stable list keeps, with the records behind it that were written before the stop
+abbrev pub records_after : ℕ → NodeState → ℕ → NodeAsk → Records
+records_after server old number (Work ask) = work_after server old.records number ask
+records_after server old number Crash = crashed old.records
+records_after server old number Return = record old.records { down = false }
+records_after server old number (CrashIn ask after) = kept_records (old.stable ++ stop_writes server old.records number ask after)
 
 abbrev pub answer_at : Option NodeRefusal → NodeReply → NodeReply
 answer_at None reply = reply
@@ -180,6 +192,6 @@ node_reply server old ask = answer_at (refusal old.records ask) (reply_of server
 abbrev pub node_after : ℕ → NodeState → ℕ → NodeAsk → NodeState
 node_after server old number ask =
     state_at (refusal old.records ask) old (record {
-      records = records_after server old.records number ask;
+      records = records_after server old number ask;
       stable = old.stable ++ writes_of server old.records number ask;
     })

@@ -1,6 +1,7 @@
 ghost use Rattle.std.specs.Prelude.{◌≡◌};
 ghost use Rattle.tq_node.specs.Records as spec;
 
+use crate::Boxed;
 use tq_locks::Mode;
 use tq_shape::{ExactClone, Seq};
 use tq_store::{Content, FileName, Write};
@@ -76,6 +77,12 @@ pub enum NodeAsk {
     /// What isn't stable is lost.
     Crash,
     Return,
+    /// To stop in the midst of the work, behind so many of the stable records that it would write, and go down: these
+    /// records are kept, and what isn't stable is lost.
+    CrashIn {
+        ask: Boxed<WorkAsk>,
+        after: u32,
+    },
 }
 
 /// Why a server refuses an ask. A refusal changes nothing.
@@ -148,6 +155,12 @@ fn are_citing(votes: &[CitedVote], server: u64, number: u64) -> bool
 }
 
 impl ExactClone for CitedVote {
+    ghost use Rattle.std.proofs.Common.{rules};
+
+    ghost clones = { Prim.search rules };
+}
+
+impl ExactClone for WorkAsk {
     ghost use Rattle.std.proofs.Common.{rules};
 
     ghost clones = { Prim.search rules };

@@ -1,5 +1,6 @@
 ghost use Rattle.std.specs.Prelude.{◌≡◌, ◌++◌, ◌∷◌, [], map, IfOk};
-ghost use Rattle.tq_node.specs.NodeChanges.{records_of};
+ghost use Rattle.tq_node.specs.declared.change.NodeStep.{NodeStep};
+ghost use Rattle.tq_node.specs.NodeChanges.{cut, records_of};
 
 use std::alloc::Global;
 use tq_intents::{OpenVote, Record, vote_records};
@@ -14,6 +15,8 @@ pub struct NodeChange {
     pub number: u64,
     /// What changes besides.
     pub step: NodeStep,
+    /// Whether the server stops behind the step: it is down then, and has what its stable records keep.
+    pub stops: bool,
 }
 
 /// The step of an ask, with all that it keeps.
@@ -54,6 +57,14 @@ pub enum NodeStep {
     Refresh {
         write: Write,
     },
+    /// The server stops in the midst of a vote: these of the vote's records are written, which stand for nothing.
+    Unfinished {
+        records: Seq<Record>,
+    },
+    /// The server stops in the midst of a vote's end: these are installed, the first of its newer writes.
+    Copies {
+        newer: Seq<Write>,
+    },
     /// The server is down, and has lost the locks of those that have no open vote.
     Crash,
     /// The server is up again.
@@ -90,8 +101,86 @@ impl NodeStep {
                 records.push(Record::Copy(write.clone()?))?;
                 Ok(records)
             }
+            NodeStep::Unfinished { records } => {
+                let records = records.clone()?;
+                Ok(records.into_vec())
+            }
+            NodeStep::Copies { newer } => {
+                let records = copies(alloc, newer.as_slice())?;
+                Ok(records)
+            }
             _ => Ok(Vec::new(alloc)),
         }
+    }
+
+    /// What is left of an ask's step where the server stops behind the first so many of its stable records.
+    pub(crate) fn cut(self, alloc: Global, after: usize) -> Result<NodeStep, Memory>
+        ensures { IfOk result (λ step. step ≡ cut after self) }
+    {
+        match self {
+            NodeStep::Vote { txn, vote } => cut_vote(alloc, after, txn, vote),
+            NodeStep::Install {
+                txn,
+                number,
+                writes,
+                newer,
+            } => Ok(cut_install(after, txn, number, writes, newer)),
+            NodeStep::Discard { txn, number } => {
+                if after == 0 {
+                    Ok(NodeStep::Nothing)
+                } else {
+                    Ok(NodeStep::Discard { txn, number })
+                }
+            }
+            NodeStep::Refresh { write } => {
+                if after == 0 {
+                    Ok(NodeStep::Nothing)
+                } else {
+                    Ok(NodeStep::Refresh { write })
+                }
+            }
+            _ => Ok(NodeStep::Nothing),
+        }
+    }
+}
+
+/// What is left of a vote.
+fn cut_vote(alloc: Global, after: usize, txn: u64, vote: OpenVote) -> Result<NodeStep, Memory>
+    ensures { IfOk result (λ step. step ≡ cut after (NodeStep.Vote txn vote)) }
+{
+    let writes = vote.writes.as_slice();
+    let locks = vote.locks.as_slice();
+    let mut records = vote_records(alloc, txn, vote.number, writes, locks)?;
+    if after < records.len() {
+        records.truncate(after);
+        let records = Seq::from_vec(records);
+        return Ok(NodeStep::Unfinished { records });
+    }
+    Ok(NodeStep::Vote { txn, vote })
+}
+
+/// What is left of a vote's end that installs.
+fn cut_install(
+    after: usize,
+    txn: u64,
+    number: u64,
+    writes: Seq<Write>,
+    newer: Seq<Write>,
+) -> NodeStep
+    ensures { result ≡ cut after (NodeStep.Install txn number writes newer) }
+{
+    if after <= newer.len() {
+        let mut newer = newer.into_vec();
+        newer.truncate(after);
+        return NodeStep::Copies {
+            newer: Seq::from_vec(newer),
+        };
+    }
+    NodeStep::Install {
+        txn,
+        number,
+        writes,
+        newer,
     }
 }
 
@@ -99,11 +188,19 @@ impl NodeStep {
 fn ending(alloc: Global, txn: u64, number: u64, newer: &[Write]) -> Result<Vec<Record>, Memory>
     ensures { IfOk result (λ records. records.items ≡ map Record.Copy newer.now ++ Record.Gone txn number ∷ []) }
 {
+    let mut records = copies(alloc, newer)?;
+    records.push(Record::Gone { txn, number })?;
+    Ok(records)
+}
+
+/// The records of copies that came.
+fn copies(alloc: Global, newer: &[Write]) -> Result<Vec<Record>, Memory>
+    ensures { IfOk result (λ records. records.items ≡ map Record.Copy newer.now) }
+{
     let mut records = Vec::new(alloc);
     for write in newer {
         let write = write.clone()?;
         records.push(Record::Copy(write))?;
     }
-    records.push(Record::Gone { txn, number })?;
     Ok(records)
 }

@@ -1,12 +1,13 @@
 ghost use Rattle.std.specs.Prelude.{◌≡◌, if◌then◌else◌, ◌<◌, ◌≤◌, OnOk, OnErr, IfOk, None, Ok, Some};
 ghost use Rattle.std.specs.Prelude.{IsSome, [], map, filter};
 ghost use Rattle.std.specs.FinMap as fin;
+ghost use Rattle.tq_intents.specs.Kept.{AreDead};
 ghost use Rattle.tq_locks.specs.Locks.{LockKey, blocker, held_of};
 ghost use Rattle.tq_store.specs.Copies.{copy_of, is_newer};
 ghost use Rattle.tq_node.specs.Records as spec;
 ghost use Rattle.tq_node.specs.Node as node;
 ghost use Rattle.tq_node.specs.Node.{IsKept};
-ghost use Rattle.tq_node.specs.NodeChanges.{node_change, node_changed, stepped, unnoted, work_step, end_step, NodeFits};
+ghost use Rattle.tq_node.specs.NodeChanges.{node_change, node_changed, left, stepped, stop_step, unnoted, work_step, end_step, NodeFits};
 ghost use Rattle.tq_node.specs.Cases.{IsOnlyStep, IsStep};
 
 use crate::{
@@ -171,7 +172,38 @@ impl Node {
             }
             NodeAsk::Crash => Ok(planned(number, NodeReply::Crashed, NodeStep::Crash)),
             NodeAsk::Return => Ok(planned(number, NodeReply::Returned, NodeStep::Return)),
+            NodeAsk::CrashIn { ask, after } => {
+                let step = self.plan_stop(alloc, number, ask.get(), *after)?;
+                Ok(Plan {
+                    reply: NodeReply::Crashed,
+                    change: NodeChange {
+                        number,
+                        step,
+                        stops: true,
+                    },
+                })
+            }
         }
+    }
+
+    /// What is left of the ask's step where the server stops behind the first `after` of the records that it would
+    /// write; nothing where it would be refused.
+    fn plan_stop(
+        &self,
+        alloc: Global,
+        number: u64,
+        ask: &WorkAsk,
+        after: u32,
+    ) -> Result<NodeStep, Memory>
+        ensures { IfOk result (λ step. step ≡ stop_step self.now.server self.now.state.records number ask.now after) }
+    {
+        if self.work_refusal(ask).is_some() {
+            return Ok(NodeStep::Nothing);
+        }
+        let plan = self.plan_work(alloc, number, ask)?;
+        let Plan { reply: _, change } = plan;
+        let step = change.cut(alloc, after as usize)?;
+        Ok(step)
     }
 
     /// The reply to an ask that the server doesn't refuse, and its step.
@@ -302,7 +334,7 @@ impl Node {
     {
         match ask {
             NodeAsk::Work(work) => self.work_refusal(work),
-            NodeAsk::Crash if self.down => Some(NodeRefusal::AlreadyDown),
+            NodeAsk::Crash | NodeAsk::CrashIn { .. } if self.down => Some(NodeRefusal::AlreadyDown),
             NodeAsk::Return if !self.down => Some(NodeRefusal::AlreadyUp),
             _ => None,
         }
@@ -462,6 +494,31 @@ impl Node {
         Ok(())
     }
 
+    /// Writes the first records of a vote that is not given to its end.
+    fn leave_unfinished(&mut self, number: u64, records: Seq<Record>) -> Result<(), Memory>
+        requires rises { self.old.last < number }
+        requires dead { AreDead number records }
+        ensures after { OnOk result (self.new ≡ node.numbered number (unnoted self.old number (NodeStep.Unfinished records))) }
+        ensures err { OnErr result (self.new ≡ self.old) }
+    {
+        self.intents.push_unfinished(records)?;
+        self.last = number;
+        Ok(())
+    }
+
+    /// Installs the first newer writes of a vote, which stays open. All memory is asked for before the first change.
+    fn install_first(&mut self, alloc: Global, number: u64, newer: Seq<Write>) -> Result<(), Memory>
+        ensures after { OnOk result (self.new ≡ unnoted self.old number (NodeStep.Copies newer)) }
+        ensures err { OnErr result (self.new ≡ self.old) }
+    {
+        let installed = newer.clone()?;
+        self.copies.reserve(alloc, newer.len())?;
+        self.intents.reserve(newer.len())?;
+        self.copies.install_all(installed);
+        self.intents.push_copies(newer);
+        Ok(())
+    }
+
     /// The number of a transaction's open vote, 0 where there is none.
     fn vote_number(&self, txn: u64) -> u64
         ensures { result ≡ (spec.open_vote self.now.state.records txn).number }
@@ -537,15 +594,20 @@ impl Node {
         ensures ok { OnOk result (self.new ≡ node_changed self.old change) }
         ensures err { OnErr result (self.new ≡ self.old) }
     {
-        let NodeChange { number, step } = change;
+        let NodeChange {
+            number,
+            step,
+            stops,
+        } = change;
         self.take(alloc, number, step)?;
+        self.leave(stops);
         self.note(number);
         Ok(())
     }
 
     /// Makes the step of a change. Its number need not be noted yet.
     fn take(&mut self, alloc: Global, number: u64, step: NodeStep) -> Result<(), Memory>
-        requires { NodeFits self.old (record { number = number; step = step }) }
+        requires { NodeFits self.old (record { number = number; step = step; stops = false }) }
         ensures after { OnOk result (node.numbered number self.new ≡ node.numbered number (unnoted self.old number step)) }
         ensures last { self.new.last ≤ number }
         ensures err { OnErr result (self.new ≡ self.old) }
@@ -578,6 +640,8 @@ impl Node {
                 Ok(())
             }
             NodeStep::Refresh { write } => self.refresh(alloc, number, write),
+            NodeStep::Unfinished { records } => self.leave_unfinished(number, records),
+            NodeStep::Copies { newer } => self.install_first(alloc, number, newer),
             NodeStep::Crash => {
                 self.crash(number);
                 Ok(())
@@ -595,6 +659,16 @@ impl Node {
     {
         self.locks.drop_unstable();
         self.down = true;
+    }
+
+    /// Where it stops, goes down with what its stable records keep.
+    fn leave(&mut self, stops: bool)
+        ensures { self.new ≡ left stops self.old }
+    {
+        if stops {
+            self.locks.drop_unstable();
+            self.down = true;
+        }
     }
 
     /// Comes up again.
@@ -634,8 +708,8 @@ impl Node {
         ensures err { OnErr result (self.new ≡ self.old) }
 
         // The same as a relation, one case for each refusal and each answer; no other reply and no other records are in it.
-        ensures by_cases { IfOk result (λ reply. IsStep self.old.server self.old.state.records number ask.now reply self.new.state.records) }
-        ensures only { IfOk result (λ reply. IsOnlyStep self.old.server self.old.state.records number ask.now reply self.new.state.records) }
+        ensures by_cases { IfOk result (λ reply. IsStep self.old.server self.old.state.stable self.old.state.records number ask.now reply self.new.state.records) }
+        ensures only { IfOk result (λ reply. IsOnlyStep self.old.server self.old.state.stable self.old.state.records number ask.now reply self.new.state.records) }
 
         // The stable records keep the copies, the open votes and their locks; after a crash they are all there is.
         ensures kept { IsKept self.new.state }
@@ -650,11 +724,15 @@ impl Node {
 /// The plan of an ask of that number.
 fn planned(number: u64, reply: NodeReply, step: NodeStep) -> Plan<NodeReply, NodeChange>
     ensures reply { result.reply ≡ reply }
-    ensures change { result.change ≡ record { number = number; step = step } }
+    ensures change { result.change ≡ record { number = number; step = step; stops = false } }
 {
     Plan {
         reply,
-        change: NodeChange { number, step },
+        change: NodeChange {
+            number,
+            step,
+            stops: false,
+        },
     }
 }
 

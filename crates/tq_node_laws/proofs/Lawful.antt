@@ -11,8 +11,9 @@ use Rattle.tq_node.specs.NodeJournal.{NodeEntry, node_state, locks_after, IsLega
 use Rattle.tq_node_laws.specs.NodeLaws.{NodeLaws, LockLaws, VoteLaws, StableLaw, IsListOfHolds}
 use Rattle.tq_node_laws.proofs.ServerLaws.{finished_write_seen, told_origin, echoes, exclusion, base, votes_own, vote_entry, fate, copy_origin}
 use Rattle.tq_node_laws.proofs.Holds.{unbroken, stand, rise}
-use Rattle.tq_node_laws.proofs.StepFrames.{frames, yes_held, held_of-each, all-held_of}
-use Rattle.tq_node_laws.proofs.Recorded.{recorded, recorded_kept}
+use Rattle.tq_node_laws.proofs.StepFrames.{yes_held, held_of-each, all-held_of}
+use Rattle.tq_node_laws.proofs.Entries.{frames, recorded}
+use Rattle.tq_node_laws.proofs.Recorded.{recorded_kept}
 
 -- the records after a journal
 abbrev records : ℕ → List NodeEntry → Records

@@ -4,6 +4,6 @@ pub mod ServerLaws
 pub mod StepFrames
 pub mod Holds
 pub mod Recorded
-pub mod DeadRecords
 pub mod StopFrames
+pub mod Entries
 pub mod Lawful

@@ -44,7 +44,7 @@ recorded_kept last st h =
 pub recorded_same : (last n : ℕ) (st : NodeState) → last ≤ n → IsRecorded last st → IsRecorded n st
 recorded_same last n st less h = record { sound = sound-later st.stable last st.records.copies st.records.locks h.sound n less; votes = h.votes }
 
-recorded_table : (last : ℕ) (st : NodeState) (table : Locks) (down : Bool) → IsRecorded last st → IsSound st.stable last st.records.copies table
+pub recorded_table : (last : ℕ) (st : NodeState) (table : Locks) (down : Bool) → IsRecorded last st → IsSound st.stable last st.records.copies table
     → IsRecorded (suc last) (record { records = record { copies = st.records.copies; locks = table; votes = st.records.votes; down = down }; stable = st.stable ++ [] })
 recorded_table last st table down h sound =
     record {
@@ -126,19 +126,3 @@ work_recorded s last st (work.Release t) h none =
     recorded_table last st _ st.records.down h (sound-released st.stable last st.records.copies st.records.locks h.sound t closed)
 work_recorded s last st (work.Peek f) h none = recorded_table last st st.records.locks st.records.down h h.sound
 work_recorded s last st (work.Refresh f v c from) h none = recorded_copies last st (record { file = f; version = v; content = c } ∷ []) h
-
--- ---- each journal, legal or not
-
-picked : (last : ℕ) (st : NodeState) (o : Option NodeRefusal) (new : NodeState) → IsRecorded last st → (o ≡ None → IsRecorded (suc last) new) → IsRecorded (suc last) (state_at o st new)
-picked last st None new h f = f refl
-picked last st (Some r) new h f = recorded_same last (suc last) st (omega arith) h
-
-step_recorded : (s last : ℕ) (st : NodeState) (ask : NodeAsk) → IsRecorded last st → IsRecorded (suc last) (node_after s st (suc last) ask)
-step_recorded s last st (Work a) h = picked last st (work_refusal st.records a) _ h (λ none. work_recorded s last st a h none)
-step_recorded s last st Crash h =
-    picked last st (refusal st.records Crash) _ h (λ none. recorded_table last st (only_stable st.records.locks) true h (sound-crashed st.stable last st.records.copies st.records.locks h.sound))
-step_recorded s last st Return h = picked last st (refusal st.records Return) _ h (λ none. recorded_table last st st.records.locks false h h.sound)
-
-pub recorded : (s : ℕ) (K : List NodeEntry) → IsRecorded (length K) (node_state s K)
-recorded s [] = record { sound = sound-opening; votes = refl }
-recorded s (e ∷ K) = step_recorded s (length K) (node_state s K) e.ask (recorded s K)

@@ -99,7 +99,7 @@ owner_same a b t vote same h = owner_stays a b t vote (λ f lock g stable. same 
 
 -- ---- a refused ask
 
-refused_frame : (s n : ℕ) (e : NodeEntry) (old : Records) (reason : NodeRefusal) → e.reply ≡ replies.Refused reason → Frame s n e old old
+pub refused_frame : (s n : ℕ) (e : NodeEntry) (old : Records) (reason : NodeRefusal) → e.reply ≡ replies.Refused reason → Frame s n e old old
 refused_frame s n e old reason is =
     record {
       locks = inl (among_same old.locks);
@@ -460,7 +460,7 @@ refresh_frame s n old f v c from r =
 
 -- ---- Crash and Return
 
-crash_frame : (s n : ℕ) (old : Records) (r : NodeReply) → Frame s n (record { ask = Crash; reply = r }) old (records_after s old n Crash)
+pub crash_frame : (s n : ℕ) (old : Records) (r : NodeReply) → Frame s n (record { ask = Crash; reply = r }) old (crashed old)
 crash_frame s n old r =
     calm_frame s n _ old _ plain quiet (left_retained old.locks test) refl refl
     (λ u vote v f lock g stable. only_stable-in old.locks (f, u) lock g stable)
@@ -474,7 +474,7 @@ crash_frame s n old r =
     quiet : is_telling Crash ≡ false
     quiet = refl
 
-return_frame : (s n : ℕ) (old : Records) (r : NodeReply) → Frame s n (record { ask = Return; reply = r }) old (records_after s old n Return)
+pub return_frame : (s n : ℕ) (old : Records) (r : NodeReply) → Frame s n (record { ask = Return; reply = r }) old (record { copies = old.copies; locks = old.locks; votes = old.votes; down = false })
 return_frame s n old r = calm_frame s n _ old _ plain quiet (λ f t lock h. h) refl refl (λ u vote v f lock g stable. g)
   where
     plain : is_prepare Return ≡ false
@@ -492,22 +492,6 @@ work_frame s n old (work.Decide t verdict k) r none reply = decide_frame s n old
 work_frame s n old (work.Release t) r none reply = release_frame s n old t r none
 work_frame s n old (work.Peek f) r none reply = peek_frame s n old f r reply
 work_frame s n old (work.Refresh f v c from) r none reply = refresh_frame s n old f v c from r
-
--- ---- each entry
-
-picked : (s n : ℕ) (e : NodeEntry) (old : NodeState) (o : Option NodeRefusal) (new : NodeState) (r : NodeReply) → e.reply ≡ answer_at o r
-    → (o ≡ None → e.reply ≡ r → Frame s n e old.records new.records) → Frame s n e old.records (state_at o old new).records
-picked s n e old None new r p f = f refl p
-picked s n e old (Some reason) new r p f = refused_frame s n e old.records reason p
-
-step_frame : (s n : ℕ) (old : NodeState) (ask : NodeAsk) (r : NodeReply) → r ≡ node_reply s old ask
-    → Frame s n (record { ask = ask; reply = r }) old.records (node_after s old n ask).records
-step_frame s n old (Work a) r legal = picked s n _ old (work_refusal old.records a) _ (work_reply s old.records a) legal (λ none reply. work_frame s n old.records a r none reply)
-step_frame s n old Crash r legal = picked s n _ old (refusal old.records Crash) _ replies.Crashed legal (λ none reply. crash_frame s n old.records r)
-step_frame s n old Return r legal = picked s n _ old (refusal old.records Return) _ replies.Returned legal (λ none reply. return_frame s n old.records r)
-
-pub frames : (s : ℕ) (e : NodeEntry) (K : List NodeEntry) → IsLegalNode s (e ∷ K) → Frame s (suc (length K)) e (node_state s K).records (node_state s (e ∷ K)).records
-frames s e K legal = step_frame s (suc (length K)) (node_state s K) e.ask e.reply legal.0
 
 -- ---- what a Yes lists
 

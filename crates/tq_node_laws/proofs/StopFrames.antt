@@ -1,4 +1,4 @@
--- What a server leaves that stops in the midst of an ask, after some of its records: a later stage gives it an ask of its own.
+-- What a server leaves that stops in the midst of an ask, after some of its records.
 use Rattle.std.specs.Prelude.{take}
 use Rattle.std.proofs.Common.{◌≡◌, ℕ, suc, zero, ◌+◌, Bool, true, false, cond, List, [], ◌∷◌, ◌++◌, map, filter, Option, Some, None, refl, sym, ap, subst, ◌∙◌, ◌⊎◌, inl, inr, arith, append_assoc}
 use Rattle.std.proofs.lemmas.Bool.{true≢false, eq-eqb}
@@ -16,14 +16,13 @@ use Rattle.tq_intents.specs.declared.record.KeptLock.{KeptLock}
 use Rattle.tq_intents.specs.declared.record.OpenVote.{OpenVote}
 use Rattle.tq_intents.specs.declared.record.Record.{Record}
 use Rattle.tq_intents.specs.declared.record.Record.TheVariants.{Copy, Intent, Keep, Prepared, Gone}
-use Rattle.tq_node.specs.declared.ask.NodeAsk.TheVariants.{Work, Crash}
+use Rattle.tq_node.specs.declared.ask.NodeAsk.TheVariants.{Work, CrashIn}
 use Rattle.tq_node.specs.declared.ask.NodeRefusal.{NodeRefusal}
 use Rattle.tq_node.specs.declared.ask.Verdict.{Verdict}
 use Rattle.tq_node.specs.declared.ask.WorkAsk.{WorkAsk}
 use Rattle.tq_node.specs.declared.ask.WorkAsk.TheVariants as work
-use Rattle.tq_node.specs.Node.{stopped}
 use Rattle.tq_node.specs.NodeJournal.{NodeEntry, inner, IsCited}
-use Rattle.tq_node.specs.Records.{Records, NodeState, work_refusal, open_vote, installs, kept_lock, work_reply, work_after, work_writes, records_after}
+use Rattle.tq_node.specs.Records.{Records, NodeState, work_refusal, open_vote, installs, kept_lock, work_reply, work_after, work_writes, crashed, records_after, stop_writes}
 use Rattle.tq_shape.specs.Steps.{state_at}
 use Rattle.tq_node.proofs.Maps.{retain-from}
 use Rattle.tq_node.proofs.KeptLocks.{only_stable-in}
@@ -34,7 +33,9 @@ use Rattle.tq_node.proofs.Sound.{sound-crashed}
 use Rattle.tq_node_laws.proofs.Frames.{IsRaised, Frame}
 use Rattle.tq_node_laws.proofs.StepFrames.{work_frame, calm_frame, owner_stays, left_retained, among_retained, is_prepare, is_telling, no_yes, no_tell}
 use Rattle.tq_node_laws.proofs.Recorded.{IsRecorded, recorded_kept, recorded_copies, work_recorded, the_vote}
-use Rattle.tq_node_laws.proofs.DeadRecords.{is_dead, AreDead, sound-dead, kept_votes-dead}
+use Rattle.tq_intents.specs.Kept.{is_dead, AreDead}
+use Rattle.tq_intents.proofs.DeadRecords.{kept_votes-dead}
+use Rattle.tq_node.proofs.Sound.{sound-dead}
 
 abbrev pub is_lock : WorkAsk → Bool
 is_lock (work.Lock t f m) = true
@@ -54,9 +55,9 @@ pub record IsPart (s : ℕ) (old : Records) (ask : WorkAsk) (part : List Write) 
 -- what a stop inside an ask leaves: as a crash before it, as a crash behind it, or a Decide's first copies
 abbrev pub IsStopped : ℕ → ℕ → Records → WorkAsk → Records → Type 0
 IsStopped s n old ask new =
-    (new ≡ records_after s old n Crash)
-    ⊎ (((work_refusal old ask ≡ None) × (is_lock ask ≡ false) × (new ≡ records_after s (work_after s old n ask) n Crash))
-    ⊎ ((part : List Write) × IsPart s old ask part × (new ≡ records_after s (record old { copies = installed_all old.copies part }) n Crash)))
+    (new ≡ crashed old)
+    ⊎ (((work_refusal old ask ≡ None) × (is_lock ask ≡ false) × (new ≡ crashed (work_after s old n ask)))
+    ⊎ ((part : List Write) × IsPart s old ask part × (new ≡ crashed (record old { copies = installed_all old.copies part }))))
 
 -- the locks that a crash leaves
 abbrev stable_key : Locks → LockKey → Bool
@@ -67,13 +68,13 @@ pub stop_frame : (s n : ℕ) (old new : Records) (ask : WorkAsk) (e : NodeEntry)
     → IsStopped s n old ask new → Frame s n e old new
 stop_frame s n old new ask e at plain quiet taken (inl is) =
     subst (λ (x : Records). Frame s n e old x) (sym is)
-    (calm_frame s n e old (records_after s old n Crash) plain quiet (left_retained old.locks (stable_key old.locks)) refl refl
+    (calm_frame s n e old (crashed old) plain quiet (left_retained old.locks (stable_key old.locks)) refl refl
     (λ u vote v f lock g stable. only_stable-in old.locks (f, u) lock g stable))
 stop_frame s n old new ask e at plain quiet taken (inr (inl is)) =
     subst (λ (x : Records). Frame s n e old x) (sym is.2) (behind (work_frame s n old ask (work_reply s old ask) is.0 refl))
   where
     behind : Frame s n (record { ask = Work ask; reply = work_reply s old ask }) old (work_after s old n ask)
-        → Frame s n e old (records_after s (work_after s old n ask) n Crash)
+        → Frame s n e old (crashed (work_after s old n ask))
     behind h =
         record {
           locks =
@@ -91,7 +92,7 @@ stop_frame s n old new ask e at plain quiet taken (inr (inl is)) =
                 | inl stays ↦ inl stays
                 | inr ends ↦ inr (ends.0, ends.1, at ∙ ends.2, ends.3, taken)
               ];
-          yes_of = no_yes s n e old (records_after s (work_after s old n ask) n Crash) plain;
+          yes_of = no_yes s n e old (crashed (work_after s old n ask)) plain;
           owns = λ o t vote v.
               owner_stays (work_after s old n ask).locks (only_stable (work_after s old n ask).locks) t vote
               (λ f lock g stable. only_stable-in (work_after s old n ask).locks (f, t) lock g stable)
@@ -117,7 +118,7 @@ stop_frame s n old new ask e at plain quiet taken (inr (inl is)) =
 stop_frame s n old new ask e at plain quiet taken (inr (inr is)) =
     subst (λ (x : Records). Frame s n e old x) (sym is.2) (halfway is.0 is.1)
   where
-    halfway : (part : List Write) → IsPart s old ask part → Frame s n e old (records_after s (record old { copies = installed_all old.copies part }) n Crash)
+    halfway : (part : List Write) → IsPart s old ask part → Frame s n e old (crashed (record old { copies = installed_all old.copies part }))
     halfway part p =
         record {
           locks = inl (among_retained old.locks (stable_key old.locks));
@@ -181,7 +182,7 @@ mid_dead s last st a ws h dead =
     record {
       mid = st.records;
       recorded = record {
-        sound = sound-dead st.stable ws last (suc last) st.records.copies st.records.locks sound (omega arith) dead;
+        sound = sound-dead st.stable last st.records.copies st.records.locks sound ws (suc last) (omega arith) dead;
         votes = h.votes ∙ sym (kept_votes-dead st.stable ws (suc last) (above_greater (last + 1) (suc last) st.stable (omega arith) sound.numbers) dead);
       };
       outcome = inl refl;
@@ -251,12 +252,8 @@ mid_of s last st a k h = by (work_refusal st.records a) refl
     by None e = mid_work s last st a k h e
     by (Some r) e = mid_moved s last st a _ [] (take-empty k) (mid_same s last st a h)
 
-crashed : Records → Records
-crashed r = record { copies = r.copies; locks = only_stable r.locks; votes = r.votes; down = true }
-
 -- what a stop leaves is one of the three
-pub stop_is : (s last : ℕ) (st : NodeState) (a : WorkAsk) (k : ℕ) → IsRecorded last st → IsStopped s (suc last) st.records a (stopped s st (suc last) a k).records
-unfolding crashed
+pub stop_is : (s last : ℕ) (st : NodeState) (a : WorkAsk) (k : ℕ) → IsRecorded last st → IsStopped s (suc last) st.records a (records_after s st (suc last) (CrashIn a k))
 stop_is s last st a k h =
     let m = mid_of s last st a k h in
     let is = recorded_kept (suc last) _ m.recorded in
@@ -270,8 +267,7 @@ stop_is s last st a k h =
     ]
 
 -- and the records keep it
-pub stop_recorded : (s last : ℕ) (st : NodeState) (a : WorkAsk) (k : ℕ) → IsRecorded last st → IsRecorded (suc last) (stopped s st (suc last) a k)
-unfolding crashed
+pub stop_recorded : (s last : ℕ) (st : NodeState) (a : WorkAsk) (k : ℕ) → IsRecorded last st → IsRecorded (suc last) (record { records = records_after s st (suc last) (CrashIn a k); stable = st.stable ++ stop_writes s st.records (suc last) a k })
 stop_recorded s last st a k h =
     let ws : List Record = take k (state_at (work_refusal st.records a) [] (work_writes s st.records (suc last) a)) in
     let m = mid_of s last st a k h in
@@ -279,3 +275,11 @@ stop_recorded s last st a k h =
     subst (λ (r : Records). IsRecorded (suc last) (record { records = r; stable = st.stable ++ take k (state_at (work_refusal st.records a) [] (work_writes s st.records (suc last) a)) }))
     (sym (recorded_kept (suc last) _ m.recorded))
     (record { sound = sound-crashed (st.stable ++ ws) (suc last) (m.mid).copies (m.mid).locks i.sound; votes = i.votes })
+
+-- ---- the ask itself
+
+pub stop_step_frame : (s last : ℕ) (st : NodeState) (a : WorkAsk) (k : ℕ) (e : NodeEntry) → e.ask ≡ CrashIn a k → IsRecorded last st
+    → Frame s (suc last) e st.records (records_after s st (suc last) (CrashIn a k))
+stop_step_frame s last st a k e is h =
+    stop_frame s (suc last) st.records (records_after s st (suc last) (CrashIn a k)) a e
+    (ap inner is) (ap is_prepare is) (ap is_telling is) (stop_is s last st a k h)

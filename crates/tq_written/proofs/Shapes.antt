@@ -81,6 +81,8 @@ node-ask-shaped : (a : NodeAsk) → IsShaped (nodes.node_ask_value a) 123
 node-ask-shaped (ask.Work a) = work-shaped a
 node-ask-shaped ask.Crash = kind-shaped 123 (omega arith) _
 node-ask-shaped ask.Return = kind-shaped 123 (omega arith) _
+-- DRAFT: the work stands one deeper, so `work-shaped` wants a variable height (as `write-shaped` has) and this is by the height 122
+node-ask-shaped (ask.CrashIn a after) = (omega arith, (tt, (work-shaped 122 (omega arith) a, (tt, tt))), refl)
 
 node-refusal-shaped : (r : NodeRefusal) → IsShaped (nodes.node_refusal_value r) 123
 node-refusal-shaped refusal.Down = code-shaped 123 (omega arith) 11

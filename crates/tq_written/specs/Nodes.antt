@@ -7,7 +7,7 @@ use Rattle.tq_locks.specs.declared.mode.Mode.{Mode}
 use Rattle.tq_node.specs.declared.ask.CitedVote.{CitedVote}
 use Rattle.tq_node.specs.declared.ask.HeldLock.{HeldLock}
 use Rattle.tq_node.specs.declared.ask.NodeAsk.{NodeAsk}
-use Rattle.tq_node.specs.declared.ask.NodeAsk.TheVariants.{Work, Crash, Return}
+use Rattle.tq_node.specs.declared.ask.NodeAsk.TheVariants.{Work, Crash, Return, CrashIn}
 use Rattle.tq_node.specs.declared.ask.NodeRefusal.{NodeRefusal}
 use Rattle.tq_node.specs.declared.ask.NodeRefusal.TheVariants.{Down, AlreadyUp, AlreadyDown, Held, Prepared, NotLocked, BadWrites, NotNewer, NothingHere}
 use Rattle.tq_node.specs.declared.ask.NodeReply.{NodeReply}
@@ -79,6 +79,10 @@ abbrev pub node_ask_value : NodeAsk → Data
 node_ask_value (Work work) = work_value work
 node_ask_value Crash = kind_value (codes "crash")
 node_ask_value Return = kind_value (codes "return")
+node_ask_value (CrashIn work after) =
+    object (member (codes "after") (whole after)
+    (member (codes "ask") (work_value work)
+    (member (codes "is") (string (codes "crashin")) no_members)))
 
 -- ---- replies
 

@@ -223,8 +223,20 @@ impl Formed for NodeAsk {
             NodeAsk::Work(work) => work.put(alloc, out),
             NodeAsk::Crash => put_only_kind(out, "crash"),
             NodeAsk::Return => put_only_kind(out, "return"),
+            NodeAsk::CrashIn { ask, after } => put_stop(alloc, out, ask.get(), *after),
         }
     }
+}
+
+/// A stop in the midst of work.
+fn put_stop(alloc: Global, out: &mut Writer<Global>, ask: &WorkAsk, after: u32) -> Result<(), Memory>
+    requires { IsWork ask.now }
+    ensures adds { Adds result out.old out.new (spelled (node_ask_value (NodeAsk.CrashIn ask.now after))) }
+    ensures fits { OnOk result (IsFitting (node_ask_value (NodeAsk.CrashIn ask.now after))) }
+{
+    open_member(alloc, out, "after", &(after as u64))?;
+    put_member(alloc, out, "ask", ask)?;
+    close_kind(out, "crashin")
 }
 
 fn put_held(alloc: Global, out: &mut Writer<Global>, by: u64) -> Result<(), Memory>

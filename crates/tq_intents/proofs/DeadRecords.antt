@@ -6,15 +6,13 @@ use Rattle.std.specs.FinMap as fin
 use Rattle.std.specs.List.{AllByRecursion, list_any, filter_map, cons_option}
 use Rattle.std.specs.Ordering.{nat_cmp}
 use Rattle.tq_shape.specs.Journal.{Has}
-use Rattle.tq_store.specs.Copies.{Files}
-use Rattle.tq_locks.specs.Locks.{Locks}
-use Rattle.tq_intents.specs.Kept.{IsAbove, ends_vote, write_of, lock_of, vote_of, opened, open_votes, kept_votes, kept_copies}
+use Rattle.tq_intents.specs.Kept.{Votes, IsAbove, IsUnfinished, is_dead, AreDead, ends_vote, write_of, lock_of, vote_of, opened, open_votes, kept_votes, kept_copies}
 use Rattle.tq_intents.specs.declared.record.OpenVote.{OpenVote}
 use Rattle.tq_intents.specs.declared.record.Record.{Record}
 use Rattle.tq_intents.specs.declared.record.Record.TheVariants.{Copy, Intent, Keep, Prepared, Gone}
 use Rattle.tq_intents.proofs.CopiesPush.{kept_copies-others}
-use Rattle.tq_node.specs.Node.{IsSound, LocksIn}
-use Rattle.tq_node.proofs.Numbers.{above_append, above_greater}
+use Rattle.tq_intents.specs.Index.{IsIndex}
+use Rattle.tq_intents.proofs.CopyPush.{AreOneEach}
 
 -- records that a list of options passes over
 none-behind : {X Y : Type 0} (h : X → Option Y) (xs ys : List X) → ((y : X) → Has ys y → h y ≡ None) → filter_map h (xs ++ ys) ≡ filter_map h xs
@@ -26,15 +24,6 @@ any-behind : {X : Type 0} (p : X → Bool) (xs ys : List X) → ((y : X) → Has
 any-behind p [] [] n = refl
 any-behind p [] (y ∷ ys) n = ap (λ (b : Bool). b || list_any p ys) (n y (inl refl)) ∙ any-behind p [] ys (λ z k. n z (inr k))
 any-behind p (x ∷ xs) ys n = ap (λ (b : Bool). p x || b) (any-behind p xs ys n)
-
--- an intent or a lock of this number
-abbrev pub is_dead : ℕ → Record → Bool
-is_dead n (Intent t m write) = m == n
-is_dead n (Keep t m lock) = m == n
-is_dead n other = false
-
-abbrev pub AreDead : ℕ → List Record → Type 0
-AreDead n records = (r : Record) → Has records r → is_dead n r ≡ true
 
 mismatch : (t u m k n : ℕ) → (k == n) ≡ true → m < n → (t == u && m == k) ≡ false
 mismatch t u m k n e less = let is = eqb-true k n e in and_right (t == u) (m == k) (ne_eqb m k (λ p. absurd (omega arith)))
@@ -67,7 +56,7 @@ dead-opened n list (Keep u k l) d = refl
 dead-opened n list (Prepared u k) d = absurd (false≢true d)
 dead-opened n list (Gone u k) d = refl
 
-dead_above : (n : ℕ) (dead : List Record) → AreDead n dead → IsAbove (n + 1) dead
+pub dead_above : (n : ℕ) (dead : List Record) → AreDead n dead → IsAbove (n + 1) dead
 dead_above n [] d = tt
 dead_above n (Copy w ∷ dead) d = (tt, dead_above n dead (λ r k. d r (inr k)))
 dead_above n (Intent t m w ∷ dead) d = let e = eqb-true m n (d (Intent t m w) (inl refl)) in (omega arith, dead_above n dead (λ r k. d r (inr k)))
@@ -75,7 +64,7 @@ dead_above n (Keep t m l ∷ dead) d = let e = eqb-true m n (d (Keep t m l) (inl
 dead_above n (Prepared t m ∷ dead) d = absurd (false≢true (d (Prepared t m) (inl refl)))
 dead_above n (Gone t m ∷ dead) d = absurd (false≢true (d (Gone t m) (inl refl)))
 
-dead_copies : (n : ℕ) (dead : List Record) → AreDead n dead → kept_copies dead ≡ fin.empty
+pub dead_copies : (n : ℕ) (dead : List Record) → AreDead n dead → kept_copies dead ≡ fin.empty
 dead_copies n [] d = refl
 dead_copies n (Copy w ∷ dead) d = absurd (false≢true (d (Copy w) (inl refl)))
 dead_copies n (Intent t m w ∷ dead) d = dead_copies n dead (λ r k. d r (inr k))
@@ -105,21 +94,17 @@ module _ (n : ℕ) (list dead : List Record) (d : AreDead n dead) where
       let tail = opened-all rest above.1 in
       λ i. cons_option (cond {A = Option (ℕ × OpenVote)} (a i) None (Some (t, b i))) (tail i)
 
-  open_votes-dead : IsAbove n list → open_votes (list ++ dead) ≡ open_votes list
+  pub open_votes-dead : IsAbove n list → open_votes (list ++ dead) ≡ open_votes list
   open_votes-dead above =
       none-behind (opened (list ++ dead)) list dead (λ r k. dead-opened n (list ++ dead) r (d r k))
       ∙ opened-all list above
 
--- a server's records with dead ones behind them
-pub sound-dead : (list dead : List Record) (last n : ℕ) (files : Files) (locks : Locks) → IsSound list last files locks → last < n → AreDead n dead → IsSound (list ++ dead) n files locks
-sound-dead list dead last n files locks sound less d =
-    let same = open_votes-dead n list dead d (above_greater (last + 1) n list (omega arith) sound.numbers) in
-    record {
-      numbers = above_append (n + 1) list dead (above_greater (last + 1) (n + 1) list (omega arith) sound.numbers) (dead_above n dead d);
-      one_each = subst (λ (es : List (ℕ × OpenVote)). AllByRecursion (λ entry. fin.get {R = nat_cmp} (fin.from_entries es) entry.0 ≡ Some entry.1) es) (sym same) sound.one_each;
-      copies = kept_copies-others list dead (dead_copies n dead d) ∙ sound.copies;
-      locks = subst (λ (es : List (ℕ × OpenVote)). LocksIn locks (fin.from_entries es)) (sym same) sound.locks;
-    }
-
 pub kept_votes-dead : (list dead : List Record) (n : ℕ) → IsAbove n list → AreDead n dead → kept_votes (list ++ dead) ≡ kept_votes list
 kept_votes-dead list dead n above d = ap (λ (es : List (ℕ × OpenVote)). fin.from_entries es) (open_votes-dead n list dead d above)
+
+pub IsIndex-dead : (old new dead : List Record) (entries : List (ℕ × OpenVote)) → IsUnfinished old dead → new ≡ old ++ dead → IsIndex old entries → IsIndex new entries
+IsIndex-dead old new dead entries unfinished e h =
+    record {
+      one_each = subst AreOneEach (sym (ap open_votes e ∙ open_votes-dead unfinished.number old dead unfinished.dead unfinished.newest)) h.one_each;
+      each = λ txn. h.each txn ∙ ap (λ (m : Votes). fin.get m txn) (sym (ap kept_votes e ∙ kept_votes-dead old dead unfinished.number unfinished.newest unfinished.dead));
+    }
