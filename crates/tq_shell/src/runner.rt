@@ -13,7 +13,7 @@ use tq_shape::Levels;
 pub const INPUT_LIMIT: usize = 16_777_216;
 
 /// How many bytes are read at a time.
-const PIECE: usize = 4_096;
+const PIECE: usize = 65_536;
 
 /// Answers the lines of the source, and writes the answers to each piece of it before it reads the next.
 pub fn run<R: Source, W: Sink>(
