@@ -1,2 +1,5 @@
 mod Servers
 pub mod Answered
+pub mod Replies
+pub mod EndsIn
+pub mod EndsWell
