@@ -1,7 +1,7 @@
-//! A service that is asked, with the order of its asks.
+//! A service that is asked, with what contracts see of its asks.
 #![tactic(auto)]
 
-mod faults;
 mod recorder;
+mod told;
 
 pub use recorder::Recorder;

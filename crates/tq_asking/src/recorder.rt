@@ -1,42 +1,32 @@
-ghost use Rattle.std.specs.Prelude.{◌≡◌, ◌++◌, ◌≤◌, ◌+◌, Err, length, vec_len, vec_capacity, IfOk, OnOk, OnErr};
-ghost use Rattle.tq_txn.specs.Dialogue.{unless_memory};
-ghost use Rattle.tq_asking.specs.Recorded as spec;
+ghost use Rattle.std.specs.Prelude.{◌≡◌, IfOk};
 
-use crate::faults::Faults;
+use crate::told::{nothing, with_desk, with_node, with_view};
 use std::alloc::Global;
 use std::marker::Model;
 use tq_core::Service;
 use tq_desk::DeskAsk;
+use tq_history::History;
 use tq_live::ViewAsk;
 use tq_node::NodeAsk;
-use tq_shape::{Levels, Limits, Memory, Part, ServerId};
+use tq_shape::{Levels, Limits, Memory, ServerId};
 use tq_txn::{AskFault, Asker, DeskTold, Exchange, NodeTold, ViewTold};
 
-/// Where an ask stands: as the entry of that number in a part's journal, or among those that were not taken.
-#[derive(Clone, Copy)]
-pub(crate) enum Place {
-    Server { server: ServerId, number: u64 },
-    Desk { number: u64 },
-    View { number: u64 },
-    Fault { index: usize },
-}
-
-/// A service, and the order in which its parts were asked.
+/// A service that is asked. Contracts see beside it what was told of its asks, in their order; no memory is taken for
+/// that.
 #[derive(Drop)]
 pub struct Recorder {
     service: Service,
-    order: Vec<Place>,
-    faults: Faults,
+    told: History<Exchange>,
 }
 
 impl Model for Recorder {
-    ghost use Rattle.tq_asking.specs.Recorded.{RecorderView, IsRecorder, told_in};
+    ghost use Rattle.tq_asking.specs.Recorded.{RecorderView, IsReplayed};
 
     ghost Value = { RecorderView };
 
-    ghost view = { λ a. record { journals = a.service; told = told_in a.service a.faults a.order.items } };
+    ghost view = { λ a. record { journals = a.service; told = a.told.items } };
 
-    ghost invariant = { λ a. IsRecorder a.service a.faults a.order.items };
+    ghost invariant = { λ a. IsReplayed (record { journals = a.service; told = a.told.items }) };
 }
 
 impl Recorder {
@@ -49,11 +39,8 @@ impl Recorder {
         ensures { IfOk result (λ recorder. recorder ≡ record { journals = empty_world levels full_limits; told = [] }) }
     {
         let service = Service::new(alloc, levels, Limits::full())?;
-        Ok(Recorder {
-            service,
-            order: Vec::new(alloc),
-            faults: Faults::new(alloc),
-        })
+        let told = nothing();
+        Ok(Recorder { service, told })
     }
 
     /// The service that is asked.
@@ -67,7 +54,7 @@ impl Recorder {
     pub fn replayed(&self)
         ensures { IsReplayed self.now }
     {
-        let _ = &self.order;
+        let _ = &self.service;
     }
 }
 
@@ -81,56 +68,6 @@ fn copy_of_desk_ask(ask: &DeskAsk) -> Result<DeskAsk, Memory>
     ensures { IfOk result (λ copy. copy ≡ ask.now) }
 {
     Ok(ask.clone()?)
-}
-
-/// Notes an ask that was not taken, but not one that met want of memory. Answers an error, with nothing noted, where
-/// memory is refused.
-fn note_fault(
-    alloc: Global,
-    order: &mut Vec<Place>,
-    faults: &mut Faults,
-    fault: AskFault,
-    exchange: Exchange,
-) -> Result<(), Memory>
-    requires { vec_len order.old + 1 ≤ vec_capacity order.old }
-    ensures order { OnOk result (order.new.items ≡ order.old.items ++ spec.fault_place fault (length faults.old)) }
-    ensures faults { OnOk result (faults.new ≡ faults.old ++ unless_memory fault exchange) }
-    ensures same { OnErr result ((order.new.items ≡ order.old.items) × (faults.new ≡ faults.old)) }
-{
-    match fault {
-        AskFault::Memory => {}
-        _ => {
-            let index = faults.note(alloc, exchange)?;
-            order.push_reserved(Place::Fault { index });
-        }
-    }
-    Ok(())
-}
-
-/// Notes an ask of the view that was not taken, as `note_fault` does.
-fn note_view_fault(
-    alloc: Global,
-    order: &mut Vec<Place>,
-    faults: &mut Faults,
-    fault: AskFault,
-    ask: ViewAsk,
-) -> Result<(), Memory>
-    requires { vec_len order.old + 1 ≤ vec_capacity order.old }
-    ensures order { OnOk result (order.new.items ≡ order.old.items ++ spec.fault_place fault (length faults.old)) }
-    ensures faults { OnOk result (faults.new ≡ faults.old ++ unless_memory fault (Exchange.View ask (Err fault))) }
-    ensures same { OnErr result ((order.new.items ≡ order.old.items) × (faults.new ≡ faults.old)) }
-{
-    match fault {
-        AskFault::JournalFull { part: Part::View } => {
-            let index = faults.note_full_view(ask)?;
-            order.push_reserved(Place::Fault { index });
-            Ok(())
-        }
-        _ => {
-            let answer = Err(fault);
-            note_fault(alloc, order, faults, fault, Exchange::View { ask, answer })
-        }
-    }
 }
 
 impl Asker for Recorder {
@@ -147,30 +84,18 @@ impl Asker for Recorder {
         ensures same { IfOk result (λ t. (t.server ≡ server.number) × (t.ask ≡ ask)) }
         ensures tree { self.new.journals.levels ≡ self.old.journals.levels }
     {
+        let number = server.number();
         let copy = copy_of_node_ask(&ask)?;
-        self.order.reserve(1)?;
-        match self.service.ask_node(alloc, server, ask) {
-            Ok(told) => {
-                self.order.push_reserved(Place::Server {
-                    server,
-                    number: told.number,
-                });
-                Ok(NodeTold {
-                    server: server.number(),
-                    number: told.number,
-                    ask: copy,
-                    reply: told.reply,
-                })
-            }
-            Err(fault) => {
-                let exchange = Exchange::Node {
-                    server: server.number(),
-                    ask: copy,
-                    answer: Err(fault),
-                };
-                note_fault(alloc, &mut self.order, &mut self.faults, fault, exchange)?;
-                Err(fault)
-            }
+        let answer = self.service.ask_node(alloc, server, ask);
+        self.told = with_node(&self.told, number, &copy, &answer);
+        match answer {
+            Ok(told) => Ok(NodeTold {
+                server: number,
+                number: told.number,
+                ask: copy,
+                reply: told.reply,
+            }),
+            Err(fault) => Err(fault),
         }
     }
 
@@ -180,26 +105,15 @@ impl Asker for Recorder {
         ensures tree { self.new.journals.levels ≡ self.old.journals.levels }
     {
         let copy = copy_of_desk_ask(&ask)?;
-        self.order.reserve(1)?;
-        match self.service.ask_desk(alloc, ask) {
-            Ok(told) => {
-                self.order.push_reserved(Place::Desk {
-                    number: told.number,
-                });
-                Ok(DeskTold {
-                    number: told.number,
-                    ask: copy,
-                    reply: told.reply,
-                })
-            }
-            Err(fault) => {
-                let exchange = Exchange::Desk {
-                    ask: copy,
-                    answer: Err(fault),
-                };
-                note_fault(alloc, &mut self.order, &mut self.faults, fault, exchange)?;
-                Err(fault)
-            }
+        let answer = self.service.ask_desk(alloc, ask);
+        self.told = with_desk(&self.told, &copy, &answer);
+        match answer {
+            Ok(told) => Ok(DeskTold {
+                number: told.number,
+                ask: copy,
+                reply: told.reply,
+            }),
+            Err(fault) => Err(fault),
         }
     }
 
@@ -208,22 +122,15 @@ impl Asker for Recorder {
         ensures same { IfOk result (λ t. t.ask ≡ ask) }
         ensures tree { self.new.journals.levels ≡ self.old.journals.levels }
     {
-        self.order.reserve(1)?;
-        match self.service.ask_view(alloc, ask) {
-            Ok(told) => {
-                self.order.push_reserved(Place::View {
-                    number: told.number,
-                });
-                Ok(ViewTold {
-                    number: told.number,
-                    ask,
-                    reply: told.reply,
-                })
-            }
-            Err(fault) => {
-                note_view_fault(alloc, &mut self.order, &mut self.faults, fault, ask)?;
-                Err(fault)
-            }
+        let answer = self.service.ask_view(alloc, ask);
+        self.told = with_view(&self.told, &ask, &answer);
+        match answer {
+            Ok(told) => Ok(ViewTold {
+                number: told.number,
+                ask,
+                reply: told.reply,
+            }),
+            Err(fault) => Err(fault),
         }
     }
 }

@@ -11,7 +11,7 @@ use crate::receipt::Receipt;
 use std::alloc::Global;
 use std::marker::Model;
 use std::sync::{Mutex, Wait};
-use tq_part::Answers;
+use tq_part::{Answers, Journaled};
 use tq_shape::{Entry, Memory, Part};
 
 /// A part under a lock, beside its journal, which many threads may ask at once. Whenever the lock is free, the journal
@@ -96,6 +96,16 @@ impl<P: Answers> Cell<P> {
         self.held.lock(rt).since(alloc, pass, number)
     }
 
+    /// The part beside its journal, once no thread asks it any more. It takes no memory.
+    pub fn into_journaled(self) -> Journaled<P>
+        ensures { IsLegalFrom P.reply P.after (P.opening result.part) 1 result.journal }
+    {
+        let Cell { part: _, held } = self;
+        let journaled = held.into_inner().into_journaled();
+        let _ = journaled.entries();
+        journaled
+    }
+
     /// The journal, and the receipts of the passes, pass by pass. Answers an error only where memory is refused: then
     /// the cell and the passes are gone.
     pub fn into_journal(
@@ -107,8 +117,7 @@ impl<P: Answers> Cell<P> {
         ensures receipts { IfOk result (λ r. r.1.items ≡ receipts_of passes.items) }
     {
         let receipts = joined(alloc, passes)?;
-        let Cell { part: _, held } = self;
-        let journal = held.into_inner().into_journaled().into_entries();
+        let journal = self.into_journaled().into_entries();
         Ok((journal, receipts))
     }
 }

@@ -1,3 +1,4 @@
 pub mod Exchanges
+pub mod LegalParts
 pub mod Lists
 pub mod Names

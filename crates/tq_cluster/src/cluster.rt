@@ -1,10 +1,12 @@
-ghost use Rattle.std.specs.Prelude.{◌≡◌, ◌++◌, ◌⊎◌, [], IfOk, IfErr};
+ghost use Rattle.std.specs.Prelude.{◌≡◌, ◌≤◌, ◌+◌, ◌^◌, ◌++◌, ◌⊎◌, [], IfOk, IfErr, vec_capacity};
 ghost use Rattle.tq_txn.specs.Dialogue.{node_exchange, desk_exchange, view_exchange};
+ghost use Rattle.tq_cluster.specs.Cluster.{AreLegalParts};
 ghost use Rattle.tq_cluster.specs.Told.{IsToldByServer, IsToldByDesk, IsToldByView};
 
 use crate::call::call;
 use crate::caller::Caller;
 use crate::heard::Heard;
+use crate::journals::{desk_journal, server_journals, view_journal};
 use std::alloc::Global;
 use std::marker::Model;
 use std::sync::Wait;
@@ -14,6 +16,7 @@ use tq_live::{View, ViewAsk};
 use tq_node::{Node, NodeAsk};
 use tq_part::AskFault;
 use tq_shape::{Entry, Levels, Limits, Memory, Part, ServerId};
+use tq_tables::{Journals, NodeEntry};
 use tq_txn::{DeskTold, Exchange, NodeTold, ViewTold};
 
 /// All parts of a system, each in a cell of its own: its servers, its desk and its view. Many threads may ask them at
@@ -77,6 +80,41 @@ impl<G: Gate + Drop> Cluster<G> {
         let desk = self.desk.pass(alloc);
         let view = self.view.pass(alloc);
         Ok(Caller::new(alloc, self.levels, servers, desk, view))
+    }
+
+    /// The journals of all parts, once no thread asks them any more. What the callers were told is compared with
+    /// nothing. Answers an error only where memory is refused: then the cluster and the callers are gone.
+    pub fn into_journals(self, alloc: Global, callers: Vec<Caller>) -> Result<Journals, Memory>
+        ensures levels { IfOk result (λ journals. journals.levels ≡ self.levels) }
+        ensures limits { IfOk result (λ journals. journals.limits ≡ self.limits) }
+        ensures legal { IfOk result AreLegalParts }
+    {
+        drop(callers);
+        let room = Vec::with_capacity(alloc, self.servers.len())?;
+        Ok(self.journals_into(alloc, room))
+    }
+
+    /// The journals of all parts, those of the servers put into the room for them. It takes no memory.
+    fn journals_into(self, alloc: Global, room: Vec<Vec<NodeEntry>>) -> Journals
+        requires empty { room.items ≡ [] }
+        requires room { 2 ^ self.levels ≤ vec_capacity room + 1 }
+        ensures levels { result.levels ≡ self.levels }
+        ensures limits { result.limits ≡ self.limits }
+        ensures legal { AreLegalParts result }
+    {
+        let Cluster {
+            levels,
+            limits,
+            servers,
+            desk,
+            view,
+            gate: _,
+        } = self;
+        let entries = limits.entries();
+        let servers = server_journals(alloc, entries, servers, room);
+        let desk = desk_journal(alloc, entries, desk);
+        let view = view_journal(alloc, levels, entries, view);
+        Journals::new(levels, limits, servers, desk, view)
     }
 
     /// Asks a server, as `ask_desk` asks the desk.

@@ -6,6 +6,7 @@ mod call;
 mod caller;
 mod cluster;
 mod heard;
+mod journals;
 
 pub use asking::Asking;
 pub use caller::Caller;

@@ -13,6 +13,7 @@ use tq_node::{CitedVote, NodeAsk, NodeReply, Verdict, WorkAsk};
 use tq_part::AskFault;
 use tq_shape::{Levels, Limits, Memory, Part, Seq, ServerId};
 use tq_store::{Content, FileName, Write};
+use tq_tables::Journals;
 
 /// How many entries a journal of these tests may have.
 const ENTRIES: u32 = 3;
@@ -32,6 +33,32 @@ fn untaken(fault: AskFault) -> Wrong {
         AskFault::Memory => Wrong::Memory,
         _ => Wrong::Is("an ask that was not taken"),
     }
+}
+
+/// What comes out of the cluster: the journals of the servers have so many entries, those of the desk and of the view
+/// so many.
+fn comes_out(
+    alloc: Global,
+    cluster: Cluster<OpenGate>,
+    servers: usize,
+    others: usize,
+) -> Result<(), Wrong> {
+    let journals = cluster.into_journals(alloc, Vec::new(alloc))?;
+    has_entries(&journals, servers, others)
+}
+
+fn has_entries(journals: &Journals, servers: usize, others: usize) -> Result<(), Wrong> {
+    for entries in journals.servers() {
+        check(entries.len() == servers, "another journal of a server")?;
+    }
+    check(
+        journals.desk().len() == others,
+        "another journal of the desk",
+    )?;
+    check(
+        journals.view().len() == others,
+        "another journal of the view",
+    )
 }
 
 // ---- servers
@@ -131,7 +158,8 @@ fn each_server_has_its_own_number(rt: HostRuntime) -> Result<(), Wrong> {
     let mut caller = cluster.caller(alloc)?;
     installs(&rt, alloc, &cluster, &mut caller, server(1))?;
     installs(&rt, alloc, &cluster, &mut caller, server(2))?;
-    installs(&rt, alloc, &cluster, &mut caller, server(3))
+    installs(&rt, alloc, &cluster, &mut caller, server(3))?;
+    comes_out(alloc, cluster, 3, 0)
 }
 
 // ---- the desk and the view
@@ -219,5 +247,6 @@ fn desk_and_view_take_as_many_as_the_limit(rt: HostRuntime) -> Result<(), Wrong>
     let cluster = cluster(alloc)?;
     let mut caller = cluster.caller(alloc)?;
     begins(&rt, alloc, &cluster, &mut caller)?;
-    chooses(&rt, alloc, &cluster, &mut caller)
+    chooses(&rt, alloc, &cluster, &mut caller)?;
+    comes_out(alloc, cluster, 0, 3)
 }

@@ -1,45 +1,21 @@
-use Rattle.std.proofs.Common.{◌∙◌, ◌++◌, ◌∷◌, [], Ok, Err, ap}
+use Rattle.std.proofs.Common.{◌∙◌, ◌++◌, List, ap, sym, subst}
+use Rattle.tq_txn.specs.declared.asker.Exchange.{Exchange}
 use Rattle.tq_txn.specs.declared.asker.Exchange.TheVariants as exchanges
-use Rattle.tq_txn.specs.Dialogue.{unless_memory}
-use Rattle.tq_asking.specs.Recorded.{RecorderView}
-use Rattle.tq_asking.proofs.Recording.{asked_node, node_fault}
+use Rattle.tq_asking.specs.Recorded.{RecorderView, IsReplayed, noted}
+use Rattle.tq_asking.proofs.Recording.{asked_node}
 use Rattle.tq_asking.proofs.recorder.RecorderAsker.node.Goals as goal
 
-pub invariant_of-self-in-Ok : goal.invariant_of-self-in-Ok
-invariant_of-self-in-Ok c =
-    let asked = asked_node c.self.inside.service c.ask_node.new.self c.self.inside.faults c.self.inside.order.items c.reserve.new.self.items c.self.invariant c.in_ok-reserve.ensures.items
-    c.push_reserved.new.self.items c.args.server c.args.ask c.in-Ok.told c.push_reserved.ensures.items c.in-Ok.ensures.told c.in-Ok.ensures.after in
-    asked.kept
+pub invariant_of-self : goal.invariant_of-self
+invariant_of-self c =
+    let answer = c.ask_node-answer.result in
+    let told = c.self.inside.told.items in
+    let asked = asked_node c.self.inside.service c.ask_node-answer.new.self told c.self.invariant c.args.server.number c.args.ask answer c.ask_node-answer.ensures.told c.ask_node-answer.ensures.after c.ask_node-answer.ensures.err in
+    let P : List Exchange → Type 0 = λ t. IsReplayed (record { journals = c.ask_node-answer.new.self; told = t }) in
+    subst P (sym (c.with_node.ensures
+    ∙ ap (λ n. told ++ noted answer (exchanges.Node n c.in_ok-copy.copy answer)) c.number-number.ensures.value
+    ∙ ap (λ a. told ++ noted answer (exchanges.Node c.args.server.number a answer)) c.in_ok-copy.ensures)) asked.kept
 
-pub returns-in-Ok-clause-exchanges : goal.returns-in-Ok-clause-exchanges
-returns-in-Ok-clause-exchanges c =
-    let asked = asked_node c.self.inside.service c.ask_node.new.self c.self.inside.faults c.self.inside.order.items c.reserve.new.self.items c.self.invariant c.in_ok-reserve.ensures.items
-    c.push_reserved.new.self.items c.args.server c.args.ask c.in-Ok.told c.push_reserved.ensures.items c.in-Ok.ensures.told c.in-Ok.ensures.after in
-    asked.told ∙ ap (λ (v : RecorderView). v.told ++ exchanges.Node c.args.server.number c.args.ask (Ok c.in-Ok.told) ∷ []) c.self.view_is
-
-pub returns-in-Ok-clause-tree : goal.returns-in-Ok-clause-tree
-returns-in-Ok-clause-tree c =
-    let asked = asked_node c.self.inside.service c.ask_node.new.self c.self.inside.faults c.self.inside.order.items c.reserve.new.self.items c.self.invariant c.in_ok-reserve.ensures.items
-    c.push_reserved.new.self.items c.args.server c.args.ask c.in-Ok.told c.push_reserved.ensures.items c.in-Ok.ensures.told c.in-Ok.ensures.after in
-    asked.tree ∙ ap (λ (v : RecorderView). v.journals.levels) c.self.view_is
-
-pub invariant_of-self-in-Err : goal.invariant_of-self-in-Err
-invariant_of-self-in-Err c =
-    let asked = node_fault c.self.inside.service c.ask_node.new.self c.self.inside.faults c.self.inside.order.items c.reserve.new.self.items c.self.invariant c.in_ok-reserve.ensures.items
-    c.note_fault.new.faults c.note_fault.new.order.items c.in-Err.ensures.err c.args.server.number c.args.ask c.in-Err.fault c.in-Err.ensures.told (c.in_ok-note_fault-in-Err.ensures.faults ∙ ap (λ a. c.self.inside.faults ++ unless_memory c.in-Err.fault (exchanges.Node c.number-in-Err.result a (Err c.in-Err.fault))) c.in_ok-copy.ensures
-    ∙ ap (λ n. c.self.inside.faults ++ unless_memory c.in-Err.fault (exchanges.Node n c.args.ask (Err c.in-Err.fault))) c.number-in-Err.ensures.value) c.in_ok-note_fault-in-Err.ensures.order in
-    asked.kept
-
-pub returns-in_ok-note_fault-in-Err-clause-exchanges : goal.returns-in_ok-note_fault-in-Err-clause-exchanges
-returns-in_ok-note_fault-in-Err-clause-exchanges c =
-    let asked = node_fault c.self.inside.service c.ask_node.new.self c.self.inside.faults c.self.inside.order.items c.reserve.new.self.items c.self.invariant c.in_ok-reserve.ensures.items
-    c.note_fault.new.faults c.note_fault.new.order.items c.in-Err.ensures.err c.args.server.number c.args.ask c.in-Err.fault c.in-Err.ensures.told (c.in_ok-note_fault-in-Err.ensures.faults ∙ ap (λ a. c.self.inside.faults ++ unless_memory c.in-Err.fault (exchanges.Node c.number-in-Err.result a (Err c.in-Err.fault))) c.in_ok-copy.ensures
-    ∙ ap (λ n. c.self.inside.faults ++ unless_memory c.in-Err.fault (exchanges.Node n c.args.ask (Err c.in-Err.fault))) c.number-in-Err.ensures.value) c.in_ok-note_fault-in-Err.ensures.order in
-    asked.told ∙ ap (λ (v : RecorderView). v.told ++ unless_memory c.in-Err.fault (exchanges.Node c.args.server.number c.args.ask (Err c.in-Err.fault))) c.self.view_is
-
-pub returns-in_ok-note_fault-in-Err-clause-tree : goal.returns-in_ok-note_fault-in-Err-clause-tree
-returns-in_ok-note_fault-in-Err-clause-tree c =
-    let asked = node_fault c.self.inside.service c.ask_node.new.self c.self.inside.faults c.self.inside.order.items c.reserve.new.self.items c.self.invariant c.in_ok-reserve.ensures.items
-    c.note_fault.new.faults c.note_fault.new.order.items c.in-Err.ensures.err c.args.server.number c.args.ask c.in-Err.fault c.in-Err.ensures.told (c.in_ok-note_fault-in-Err.ensures.faults ∙ ap (λ a. c.self.inside.faults ++ unless_memory c.in-Err.fault (exchanges.Node c.number-in-Err.result a (Err c.in-Err.fault))) c.in_ok-copy.ensures
-    ∙ ap (λ n. c.self.inside.faults ++ unless_memory c.in-Err.fault (exchanges.Node n c.args.ask (Err c.in-Err.fault))) c.number-in-Err.ensures.value) c.in_ok-note_fault-in-Err.ensures.order in
+pub returns-clause-tree : goal.returns-clause-tree
+returns-clause-tree c =
+    let asked = asked_node c.self.inside.service c.ask_node-answer.new.self c.self.inside.told.items c.self.invariant c.args.server.number c.args.ask c.ask_node-answer.result c.ask_node-answer.ensures.told c.ask_node-answer.ensures.after c.ask_node-answer.ensures.err in
     asked.tree ∙ ap (λ (v : RecorderView). v.journals.levels) c.self.view_is

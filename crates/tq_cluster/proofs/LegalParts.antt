@@ -1,0 +1,114 @@
+-- The journals that come out of cells are those of a system.
+use Rattle.std.proofs.Common.{◌≡◌, ◌≤◌, ◌+◌, ◌^◌, ℕ, Bool, true, false, cond, List, [], ◌∷◌, ◌++◌, length, map, Option, Some, None, refl, sym, ap, subst, ◌∙◌, arith}
+use Rattle.std.specs.Prelude.{reverse}
+use Rattle.std.specs.List.{All}
+use Rattle.std.proofs.lemmas.List.Elements.{All-nil, All-cons, All-push}
+use Rattle.std.proofs.lemmas.List.{length-map, map-append}
+use Rattle.tq_shape.specs.Journal.{IsLegalFrom}
+use Rattle.tq_shape.proofs.Joined.{legal-reverse}
+use Rattle.tq_node.specs.declared.ask.NodeAsk.{NodeAsk}
+use Rattle.tq_node.specs.Records.{NodeState, node_reply, node_after}
+use Rattle.tq_node.specs.Node as node
+use Rattle.tq_node.specs.Node.{NodeView, answered}
+use Rattle.tq_node.specs.NodeJournal.{NodeEntry, IsLegalNode, nothing_stored}
+use Rattle.tq_desk.specs.declared.ask.DeskAsk.{DeskAsk}
+use Rattle.tq_desk.specs.DeskStep.{DeskView, desk_reply, desk_after}
+use Rattle.tq_desk.specs.DeskStep as desk
+use Rattle.tq_desk.specs.DeskJournal.{DeskBounds, DeskEntry, IsLegalDesk, step_reply, step_after, opened}
+use Rattle.tq_live.specs.Live.{Live, best}
+use Rattle.tq_live.specs.ViewLaws.{keeps_levels}
+use Rattle.tq_live.specs.View.{view_state, view_reply, view_reply_at, view_after_at, IsLegalView, is_server, is_cost, choice_reply}
+use Rattle.tq_live.specs.declared.view.ViewAsk.{ViewAsk}
+use Rattle.tq_live.specs.declared.view.ViewAsk.TheVariants.{SetCost, Mark, Choose}
+use Rattle.tq_live.specs.declared.view.ViewReply.TheVariants.{CostSet, Marked, Refused}
+use Rattle.tq_live.specs.declared.view.ViewRefusal.TheVariants.{NoSuchServer, BadCost}
+use Rattle.tq_shape.specs.Limits.{LimitsView}
+use Rattle.tq_tables.specs.Journals.{IsOfTree, ViewEntry, AreJournals}
+use Rattle.tq_tables.specs.Parts.{AreLegalServers}
+
+-- ---- servers
+
+-- a server's journal says nothing of its tree and of the last number
+from_state : (s : NodeView) (n : ℕ) (entries : List NodeEntry) → IsLegalFrom (λ (v : NodeView) (k : ℕ) (a : NodeAsk). node_reply v.server v.state a) (λ v k a. answered v k a) s n entries
+    → IsLegalFrom (λ (old : NodeState) (k : ℕ) (a : NodeAsk). node_reply s.server old a) (node_after s.server) s.state n entries
+from_state s n [] legal = tt
+from_state s n (e ∷ entries) legal = (legal.0, from_state (answered s n e.ask) (n + 1) entries legal.1)
+
+pub node_legal : (levels there number : ℕ) (entries : List NodeEntry) → there ≡ number
+    → IsLegalFrom (λ (v : NodeView) (k : ℕ) (a : NodeAsk). node_reply v.server v.state a) (λ v k a. answered v k a) (node.opening levels there) 1 entries → IsLegalNode number (reverse entries)
+node_legal levels there number entries same legal =
+    subst (λ (n : ℕ). IsLegalNode n (reverse entries)) same
+    (legal-reverse (λ (old : NodeState) (k : ℕ) (a : NodeAsk). node_reply there old a) (node_after there) nothing_stored entries (from_state (node.opening levels there) 1 entries legal))
+
+pub one_server_more : (first number : ℕ) (servers : List (List NodeEntry)) (entries : List NodeEntry) → AreLegalServers first servers → number ≡ first + length servers
+    → IsLegalNode number (reverse entries) → AreLegalServers first (servers ++ entries ∷ [])
+one_server_more first number [] entries legal at one = (subst (λ (n : ℕ). IsLegalNode n (reverse entries)) (let n : number ≡ first = omega arith in n) one, tt)
+one_server_more first number (s ∷ servers) entries legal at one = (legal.0, one_server_more (first + 1) number servers entries legal.1 (omega arith) one)
+
+-- ---- the desk
+
+pub desk_legal : (s : DeskView) (entries : List DeskEntry) → IsLegalFrom (λ (d : DeskView) (k : ℕ) (a : DeskAsk). desk_reply d a) (λ d k a. desk_after d a) (desk.opening s.levels s.limits) 1 entries
+    → (bounds : DeskBounds) × IsLegalDesk bounds (reverse entries)
+desk_legal s entries legal =
+    let bounds : DeskBounds = record { levels = s.levels; limits = s.limits } in
+    (bounds, legal-reverse step_reply step_after (opened bounds) entries legal)
+
+-- ---- the view
+
+cost_of_tree : (levels : ℕ) (there good : Bool) → IsOfTree levels (cond there (cond good CostSet (Refused BadCost)) (Refused NoSuchServer))
+cost_of_tree levels true true = tt
+cost_of_tree levels true false = tt
+cost_of_tree levels false good = tt
+
+mark_of_tree : (levels : ℕ) (there : Bool) → IsOfTree levels (cond there Marked (Refused NoSuchServer))
+mark_of_tree levels true = tt
+mark_of_tree levels false = tt
+
+choice_of_tree : (live : Live) (least : Option (List ℕ)) → IsOfTree live.levels (choice_reply live least)
+choice_of_tree live None = refl
+choice_of_tree live (Some servers) = refl
+
+reply_of_tree : (live : Live) (ask : ViewAsk) → IsOfTree live.levels (view_reply live ask)
+reply_of_tree live (SetCost server cost) = cost_of_tree live.levels (is_server live.levels server) (is_cost cost)
+reply_of_tree live (Mark server up) = mark_of_tree live.levels (is_server live.levels server)
+reply_of_tree live Choose = choice_of_tree live (best live 1)
+
+from_tree : (levels : ℕ) (live : Live) (n : ℕ) (entries : List ViewEntry) → live.levels ≡ levels → IsLegalFrom view_reply_at view_after_at live n entries
+    → All (λ (entry : ViewEntry). IsOfTree levels entry.reply) entries
+from_tree levels live n [] same legal = All-nil (λ (entry : ViewEntry). IsOfTree levels entry.reply)
+from_tree levels live n (e ∷ entries) same legal =
+    All-cons (λ (entry : ViewEntry). IsOfTree levels entry.reply) e entries
+    (subst (λ (l : ℕ). IsOfTree l e.reply) same (subst (IsOfTree live.levels) (sym legal.0) (reply_of_tree live e.ask)))
+    (from_tree levels (view_after_at live n e.ask) (n + 1) entries (keeps_levels live e.ask ∙ same) legal.1)
+
+pub view_of_tree : (levels : ℕ) (entries : List ViewEntry) → IsLegalView levels entries → All (λ (entry : ViewEntry). IsOfTree levels entry.reply) entries
+view_of_tree levels entries legal = from_tree levels (view_state levels []) 1 entries refl legal
+
+-- ---- journals put together
+
+module _ {V : Type 0} (old new : List V) (one : V) (items : V → List NodeEntry) (grown : new ≡ old ++ one ∷ []) where
+  mapped : map items new ≡ map items old ++ items one ∷ []
+  mapped = ap (map items) grown ∙ map-append items old (one ∷ [])
+
+  pub journals_more : (number : ℕ) → AreLegalServers 1 (map items old) → number ≡ length old + 1 → IsLegalNode number (reverse (items one)) → AreLegalServers 1 (map items new)
+  journals_more number legal at one_legal =
+      let count = length-map old items in
+      subst (AreLegalServers 1) (sym mapped) (one_server_more 1 number (map items old) (items one) legal (omega (arith, count, at)) one_legal)
+
+  pub fit_more : (entries : ℕ) → All (λ (journal : List NodeEntry). length journal ≤ entries) (map items old) → length (items one) ≤ entries
+      → All (λ (journal : List NodeEntry). length journal ≤ entries) (map items new)
+  fit_more entries fit fits =
+      let P : List NodeEntry → Type 0 = λ journal. length journal ≤ entries in
+      subst (All P) (sym mapped) (All-push P (map items old) (items one) fit fits)
+
+pub are_journals : {V : Type 0} (servers : List V) (items : V → List NodeEntry) (levels entries : ℕ) (limits : LimitsView) (desk : List DeskEntry) (view : List ViewEntry) → entries ≡ limits.entries
+    → length servers + 1 ≡ 2 ^ levels → All (λ (journal : List NodeEntry). length journal ≤ entries) (map items servers) → length desk ≤ entries → length view ≤ entries
+    → All (λ (entry : ViewEntry). IsOfTree levels entry.reply) view → AreJournals (record { levels = levels; limits = limits; servers = map items servers; desk = desk; view = view })
+are_journals servers items levels entries limits desk view is one_each fit desk_fits view_fits of_tree =
+    record {
+      one_each = (let count = length-map servers items in omega (arith, count, one_each));
+      servers_fit = subst (λ (n : ℕ). All (λ (journal : List NodeEntry). length journal ≤ n) (map items servers)) is fit;
+      desk_fits = omega (arith, is, desk_fits);
+      view_fits = omega (arith, is, view_fits);
+      of_tree = of_tree;
+    }

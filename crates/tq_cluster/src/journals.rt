@@ -1,0 +1,96 @@
+ghost use Rattle.std.specs.Prelude.{◌≡◌, ◌≤◌, [], map, reverse, length, vec_len, vec_capacity};
+ghost use Rattle.std.specs.List.{All};
+ghost use Rattle.tq_node.specs.NodeJournal.{IsLegalNode};
+ghost use Rattle.tq_desk.specs.DeskJournal.{DeskBounds, IsLegalDesk};
+ghost use Rattle.tq_live.specs.View.{IsLegalView};
+ghost use Rattle.tq_tables.specs.Journals.{IsOfTree};
+ghost use Rattle.tq_tables.specs.Parts.{AreLegalServers};
+
+use std::alloc::Global;
+use tq_cells::Cell;
+use tq_desk::Desk;
+use tq_live::View;
+use tq_node::Node;
+use tq_part::Journaled;
+use tq_shape::Levels;
+use tq_tables::{DeskEntry, NodeEntry, ViewEntry};
+
+/// The journals of the servers in these cells, upwards from server 1, of at most that many entries each, put into the
+/// room for them.
+pub(crate) fn server_journals(
+    alloc: Global,
+    entries: u32,
+    cells: Vec<Cell<Node>>,
+    room: Vec<Vec<NodeEntry>>,
+) -> Vec<Vec<NodeEntry>>
+    requires empty { room.items ≡ [] }
+    requires room { vec_len cells ≤ vec_capacity room }
+    ensures one_each { vec_len result ≡ vec_len cells }
+    ensures legal { AreLegalServers 1 (map (λ journal. journal.items) result.items) }
+    ensures fit { All (λ journal. length journal ≤ entries) (map (λ journal. journal.items) result.items) }
+{
+    let mut journals = room;
+    for cell in cells {
+        let number = journals.len() as u64 + 1;
+        let journal = server_journal(alloc, number, entries, cell.into_journaled());
+        journals.push_reserved(journal);
+    }
+    journals
+}
+
+/// The journal of the server of that number, of at most that many entries. That another server lay in its cell, or a
+/// longer journal, cannot be; but no fact of what was under a lock says so. The journal would be empty then.
+fn server_journal(
+    alloc: Global,
+    number: u64,
+    entries: u32,
+    journaled: Journaled<Node>,
+) -> Vec<NodeEntry>
+    ensures legal { IsLegalNode number (reverse result.items) }
+    ensures fits { vec_len result ≤ entries }
+{
+    let there = journaled.part().server().number();
+    let journal = journaled.into_entries();
+    if there != number {
+        return Vec::new(alloc);
+    }
+    if journal.len() > entries as usize {
+        return Vec::new(alloc);
+    }
+    journal
+}
+
+/// The journal of the desk in this cell, as that of a server.
+pub(crate) fn desk_journal(alloc: Global, entries: u32, cell: Cell<Desk>) -> Vec<DeskEntry>
+    ensures legal { (bounds : DeskBounds) × IsLegalDesk bounds (reverse result.items) }
+    ensures fits { vec_len result ≤ entries }
+{
+    let journal = cell.into_journaled().into_entries();
+    if journal.len() > entries as usize {
+        return Vec::new(alloc);
+    }
+    journal
+}
+
+/// The journal of the view in this cell, of a tree of those levels, as that of a server.
+pub(crate) fn view_journal(
+    alloc: Global,
+    levels: Levels,
+    entries: u32,
+    cell: Cell<View>,
+) -> Vec<ViewEntry>
+    ensures legal { IsLegalView levels result.items }
+    ensures of_tree { All (λ entry. IsOfTree levels entry.reply) result.items }
+    ensures fits { vec_len result ≤ entries }
+{
+    let journaled = cell.into_journaled();
+    let there = journaled.part().tree().levels();
+    let journal = journaled.into_entries();
+    if there != levels {
+        return Vec::new(alloc);
+    }
+    if journal.len() > entries as usize {
+        return Vec::new(alloc);
+    }
+    journal
+}

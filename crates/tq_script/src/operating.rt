@@ -1,0 +1,60 @@
+//! The lines that concern no transaction.
+ghost use Rattle.std.specs.Prelude.{◌≡◌};
+ghost use Rattle.std.specs.Result.{result_ok};
+ghost use Rattle.tq_txn.specs.Dialogue.{Follows};
+ghost use Rattle.tq_script.specs.Script as spec;
+
+use std::alloc::{AllocError, Global};
+use tq_live::ViewAsk;
+use tq_node::NodeAsk;
+use tq_shape::{Levels, Memory, ServerId};
+use tq_txn::{AskFault, Asker, ask_any};
+
+/// Asks the view, whatever it answers.
+pub(crate) fn ask_view<A: Asker>(asker: &mut A, alloc: Global, ask: ViewAsk) -> Result<(), Memory>
+    ensures asks { Follows (spec.view_asked ask) (A.told asker.old) (A.told asker.new) (result_ok result) }
+    ensures tree { A.levels asker.new ≡ A.levels asker.old }
+{
+    match asker.view(alloc, ask) {
+        Ok(_told) => Ok(()),
+        Err(AskFault::Memory) => Err(AllocError),
+        Err(AskFault::JournalFull { .. }) => Ok(()),
+        Err(AskFault::Unfounded { .. }) => Ok(()),
+    }
+}
+
+/// What a server that goes down or comes up is asked.
+fn mark_ask(up: bool) -> NodeAsk
+    ensures { result ≡ spec.mark_ask up }
+{
+    if up { NodeAsk::Return } else { NodeAsk::Crash }
+}
+
+/// A server goes down or comes up, and the view is told, whatever the server answers. One outside the tree is not
+/// asked, and the view refuses it.
+pub(crate) fn mark<A: Asker>(
+    asker: &mut A,
+    alloc: Global,
+    levels: Levels,
+    server: u64,
+    up: bool,
+) -> Result<(), Memory>
+    requires { A.levels asker.old ≡ levels }
+    ensures asks { Follows (spec.mark_asked levels server up) (A.told asker.old) (A.told asker.new) (result_ok result) }
+    ensures tree { A.levels asker.new ≡ A.levels asker.old }
+{
+    match levels.server(server) {
+        Some(id) => mark_at(asker, alloc, id, up),
+        None => ask_view(asker, alloc, ViewAsk::Mark { server, up }),
+    }
+}
+
+fn mark_at<A: Asker>(asker: &mut A, alloc: Global, id: ServerId, up: bool) -> Result<(), Memory>
+    requires { id.levels ≡ A.levels asker.old }
+    ensures asks { Follows (spec.server_marked id.number up) (A.told asker.old) (A.told asker.new) (result_ok result) }
+    ensures tree { A.levels asker.new ≡ A.levels asker.old }
+{
+    let server = id.number();
+    let _reply = ask_any(asker, alloc, id, mark_ask(up))?;
+    ask_view(asker, alloc, ViewAsk::Mark { server, up })
+}

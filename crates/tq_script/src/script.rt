@@ -1,0 +1,54 @@
+ghost use Rattle.std.specs.Prelude.{◌≡◌};
+
+use std::marker::Model;
+use tq_store::{Content, FileName};
+
+/// A line of a client's script. Those of a transaction concern the one that the client has open.
+#[derive(Debug, Drop)]
+pub enum Line {
+    /// The view notes what a server costs.
+    Cost { server: u64, cost: u64 },
+    /// A server crashes, and is marked down.
+    Down { server: u64 },
+    /// A server returns, and is marked up.
+    Up { server: u64 },
+    /// The view chooses a quorum.
+    Choose,
+    /// A transaction begins. One that is open is aborted first.
+    Begin,
+    Read { file: FileName },
+    Write { file: FileName, content: Content },
+    Commit,
+    Abort,
+}
+
+/// What a client does: its lines, in their order.
+#[derive(Debug, Drop)]
+pub struct Script {
+    lines: Vec<Line>,
+}
+
+impl Model for Script {
+    ghost use Rattle.std.specs.Prelude.{List};
+    ghost use Rattle.tq_script.specs.declared.script.Line.{Line};
+
+    ghost Value = { List Line };
+
+    ghost view = { λ script. script.lines.items };
+}
+
+impl Script {
+    /// The script of these lines. It takes no memory.
+    pub fn new(lines: Vec<Line>) -> Script
+        ensures { result ≡ lines.items }
+    {
+        Script { lines }
+    }
+
+    /// Its lines, in order.
+    pub fn lines(&self) -> &[Line]
+        ensures { result.now ≡ self.now }
+    {
+        self.lines.as_slice()
+    }
+}
