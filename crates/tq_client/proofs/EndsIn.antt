@@ -24,7 +24,7 @@ use Rattle.tq_txn.specs.declared.fault.LineFault.{LineFault}
 use Rattle.tq_txn.specs.Dialogue.{Told, Dialogue, LineEnd, Ends, AsksNode, AsksDesk, AsksView, then_line, and_then, go_on, unless, done, failed, fault_of_ask, node_line, desk_line, view_line}
 use Rattle.tq_txn.specs.Lines.{any_line}
 use Rattle.tq_asking.specs.Asking.{run_line, node_told, desk_told, view_told}
-use Rattle.tq_client.specs.Possible.{IsOfOwn, IsPossible, EndsWell}
+use Rattle.tq_client.specs.Possible.{IsOfOwn, IsPossible}
 use Rattle.tq_client.proofs.Replies.{IsUntaken, IsToldAs, IsNodeReply, IsDeskReply, IsViewReply, node_tells, desk_tells, view_tells}
 
 -- whatever the parts of a tree of those levels may tell, the line ends so
@@ -82,13 +82,6 @@ IsWell P end = Answers P end.answer end.after
 -- of any answer
 abbrev pub Any : {A S : Type 0} → A → S → Type 0
 Any a after = Unit {0}
-
-pub ends_well : {A S : Type 0} (P : A → S → Type 0) (end : LineEnd A S) → IsWell P end → EndsWell end
-ends_well P end is = by end.answer is
-  where
-    by : (answer : Result A LineFault) → Answers P answer end.after → IfErr answer IsPossible
-    by (Ok a) is = tt
-    by (Err fault) is = is
 
 pub ends_and : {A S B T : Type 0} (levels : ℕ) (P : A → S → Type 0) (Q : B → T → Type 0) (line : Dialogue (LineEnd A S)) (left : S → T) (next : A → S → Dialogue (LineEnd B T))
     → EndsIn levels (IsWell P) line → ((a : A) (after : S) → P a after → EndsIn levels (IsWell Q) (next a after)) → EndsIn levels (IsWell Q) (and_then line left next)

@@ -63,9 +63,9 @@ use Rattle.tq_txn.specs.Commits.{prepares_line, committed, decided, ready_line, 
 use Rattle.tq_txn.specs.Aborts.{resolved, aborted, is_abort, ending_of, end_aborted, abort_end, abort_line}
 use Rattle.tq_txn.specs.States.{number_of}
 use Rattle.tq_asking.specs.Asking.{run_line}
-use Rattle.tq_client.specs.Possible.{IsOfOwn, IsBegun, IsOffered, IsResolved, IsPossible, EndsAs, LinesEndWell}
+use Rattle.tq_client.specs.Possible.{IsOfOwn}
 use Rattle.tq_client.proofs.Replies.{IsWorkReply, IsDeskReply, IsViewReply, refuse_all, refuse_for_all, or_else_all}
-use Rattle.tq_client.proofs.EndsIn.{EndsIn, Answers, IsWell, Any, ends_so, ends_well, ends_and, ends_unless, ends_node, ends_desk, ends_view, desk_ends, view_ends, any_ends}
+use Rattle.tq_client.proofs.EndsIn.{EndsIn, Answers, IsWell, Any, ends_and, ends_unless, ends_node, ends_desk, ends_view, any_ends}
 
 -- ---- a quorum from the view
 
@@ -94,7 +94,7 @@ IsLock txn file mode server told =
 
 granted_well : (txn : ℕ) (file : List ℕ) (mode : Mode) (server number : ℕ) (reply : NodeReply) → IsWorkReply reply (work.Lock txn file mode)
     → let told : NodeTold = record { server = server; number = number; ask = lock_ask txn file mode; reply = reply } in
-    Answers (λ told none. IsLock txn file mode server told) (granted told reply) tt
+    Answers {S = Unit {0}} (λ told none. IsLock txn file mode server told) (granted told reply) tt
 granted_well txn file mode server number (replies.Granted version content) is = (number, version, content, refl)
 granted_well txn file mode server number (replies.Refused refusal) is = is
 granted_well txn file mode server number (replies.Yes held writes) is = absurd is
@@ -248,7 +248,7 @@ first_read_ends old file free = by (has_all_ops old)
         ends_and old.levels (IsQuorumTold old file Shared) Any (quorum_line file Shared old) (λ new. new) (λ told new. read_end file told new)
         (quorum_ends old file Shared) (λ told now is. read_ends old.levels file told old now is free)
 
-read_well : (old : OpenView) (file : List ℕ) → EndsIn old.levels (IsWell Any) (read_line old file)
+pub read_well : (old : OpenView) (file : List ℕ) → EndsIn old.levels (IsWell Any) (read_line old file)
 read_well old file = by (pending old file) (seen old file) refl refl
   where
     by : (content : Option (List ℕ)) (op : Option Op) → pending old file ≡ content → seen old file ≡ op → EndsIn old.levels (IsWell Any) (read_again content op old (first_read old file))
@@ -272,7 +272,7 @@ first_write_ends old file content free = by (has_all_ops old)
         ends_and old.levels (IsQuorumTold old file Exclusive) Any (quorum_line file Exclusive old) (λ new. new) (λ told new. write_end file content told new)
         (quorum_ends old file Exclusive) (λ told now is. write_ends old.levels file content told old now is free)
 
-write_well : (old : OpenView) (file content : List ℕ) → EndsIn old.levels (IsWell Any) (write_line old file content)
+pub write_well : (old : OpenView) (file content : List ℕ) → EndsIn old.levels (IsWell Any) (write_line old file content)
 write_well old file content = by (written old file) refl
   where
     by : (op : Option Op) → written old file ≡ op → EndsIn old.levels (IsWell Any) (written_again op (rewritten old file content) (first_write old file content))
@@ -310,7 +310,7 @@ vote_well old server number replies.Refreshed is levels = absurd is
 vote_well old server number replies.Crashed is levels = absurd is
 vote_well old server number replies.Returned is levels = absurd is
 
-prepare_well : (levels : ℕ) (old : VotingView) (server : ℕ) → EndsIn levels (IsWell Any) (prepare_line old server)
+pub prepare_well : (levels : ℕ) (old : VotingView) (server : ℕ) → EndsIn levels (IsWell Any) (prepare_line old server)
 prepare_well levels old server = by (has_vote old.votes server)
   where
     first : EndsIn levels (IsWell Any) (first_prepare old server)
@@ -327,7 +327,7 @@ prepare_well levels old server = by (has_vote old.votes server)
 
 release_ends : (levels txn server : ℕ) (nothing : Bool) → EndsIn levels (IsWell Any) (release_line txn server nothing)
 release_ends levels txn server true =
-    ends_and levels Any Any (any_line server (asks.Work (work.Release txn))) (λ none. none) (λ reply none. done tt none) (any_ends levels server (asks.Work (work.Release txn))) (λ reply none so. tt)
+    ends_and {B = Unit {0}} {T = Unit {0}} levels Any Any (any_line server (asks.Work (work.Release txn))) (λ none. none) (λ reply none. done tt none) (any_ends levels server (asks.Work (work.Release txn))) (λ reply none so. tt)
 release_ends levels txn server false = tt
 
 end_ends : (levels : ℕ) (old : EndedView) (server : ℕ) → EndsIn levels (IsWell Any) (end_line old server)
@@ -348,7 +348,7 @@ committed_well (desk_replies.Refused refusal) txn ops votes after is = tt
 committed_well (desk_replies.Txn number) txn ops votes after is = absurd is
 committed_well (desk_replies.Verdict verdict) txn ops votes after is = absurd is
 
-decide_well : (levels : ℕ) (old : VotingView) → EndsIn levels (IsWell Any) (decide_line old)
+pub decide_well : (levels : ℕ) (old : VotingView) → EndsIn levels (IsWell Any) (decide_line old)
 decide_well levels old = by (has_votes old)
   where
     by : (all : Bool) → EndsIn levels (IsWell Any) (cond all (ready_line old) (failed (faults.Txn txn_faults.VotesMissing) (states.Voting old)))
@@ -368,7 +368,7 @@ prepares_ends levels [] old = tt
 prepares_ends levels (server ∷ servers) old =
     ends_and levels Any Any (prepare_line old server) (λ new. new) (λ all new. prepares_line servers new) (prepare_well levels old server) (λ all new so. prepares_ends levels servers new)
 
-commit_well : (levels : ℕ) (old : VotingView) → EndsIn levels (IsWell Any) (commit_line old)
+pub commit_well : (levels : ℕ) (old : VotingView) → EndsIn levels (IsWell Any) (commit_line old)
 commit_well levels old =
     ends_and levels Any Any (prepares_line old.txn.voters old) (λ new. states.Voting new) (λ all new. decide_and_end_line new) (prepares_ends levels old.txn.voters old)
     (λ all new so.
@@ -389,12 +389,12 @@ abort_ends levels number (desk_replies.Refused refusal) txn is = tt
 abort_ends levels number (desk_replies.Txn begun) txn is = absurd is
 abort_ends levels number (desk_replies.Committed serial) txn is = absurd is
 
-abort_well : (levels : ℕ) (old : Txn) → EndsIn levels (IsWell Any) (abort_line old)
+pub abort_well : (levels : ℕ) (old : Txn) → EndsIn levels (IsWell Any) (abort_line old)
 abort_well levels old =
     ends_desk levels Any (desk_asks.Resolve (number_of old)) (λ none. old) (λ told none. abort_end told.reply (resolved old told))
     (λ number reply is. abort_ends levels (number_of old) reply (resolved old (record { number = number; ask = desk_asks.Resolve (number_of old); reply = reply })) is)
 
--- ---- apply and resolve
+-- ---- apply
 
 applied_well : (server txn : ℕ) (verdict : Verdict) (cite : ℕ) (reply : NodeReply) → IsWorkReply reply (work.Decide txn verdict cite) → Answers {S = Unit {0}} Any (applied server reply) tt
 applied_well server txn verdict cite replies.Installed is = tt
@@ -408,87 +408,7 @@ applied_well server txn verdict cite replies.Refreshed is = absurd is
 applied_well server txn verdict cite replies.Crashed is = absurd is
 applied_well server txn verdict cite replies.Returned is = absurd is
 
-apply_well : (levels txn : ℕ) (verdict : Verdict) (cite server : ℕ) → EndsIn levels (IsWell Any) (apply_line txn verdict cite server)
+pub apply_well : (levels txn : ℕ) (verdict : Verdict) (cite server : ℕ) → EndsIn levels (IsWell Any) (apply_line txn verdict cite server)
 apply_well levels txn verdict cite server =
     ends_node levels Any server (asks.Work (work.Decide txn verdict cite)) (λ none. none) (λ told none. answers (applied told.server told.reply) none)
     (λ number reply is. applied_well server txn verdict cite reply is)
-
-resolved_so : (number : ℕ) (reply : DeskReply) → IsDeskReply reply (desk_asks.Resolve number) → IsResolved reply
-resolved_so number (desk_replies.Verdict verdict) is = tt
-resolved_so number (desk_replies.Refused refusal) is = tt
-resolved_so number (desk_replies.Txn begun) is = is
-resolved_so number (desk_replies.Committed serial) is = is
-
-begun_so : (reply : DeskReply) → IsDeskReply reply desk_asks.Begin → IsBegun reply
-begun_so (desk_replies.Txn number) is = tt
-begun_so (desk_replies.Refused refusal) is = tt
-begun_so (desk_replies.Verdict verdict) is = is
-begun_so (desk_replies.Committed serial) is = is
-
-offered_so : (levels : ℕ) (reply : ViewReply) → IsViewReply levels reply view_asks.Choose → IsOffered reply
-offered_so levels (view_replies.Chosen quorum cost) is = tt
-offered_so levels (view_replies.Refused (view_refusals.Blocked blocker)) is = tt
-offered_so levels (view_replies.Refused view_refusals.NoSuchServer) is = is
-offered_so levels (view_replies.Refused view_refusals.BadCost) is = is
-offered_so levels view_replies.CostSet is = is
-offered_so levels view_replies.Marked is = is
-
-cost_so : (levels server cost : ℕ) (reply : ViewReply) → IsViewReply levels reply (view_asks.SetCost server cost) → is_server levels server ≡ true → is_cost cost ≡ true → reply ≡ view_replies.CostSet
-cost_so levels server cost view_replies.CostSet is there good = refl
-cost_so levels server cost (view_replies.Refused view_refusals.BadCost) is there good = absurd (false≢true (sym is ∙ good))
-cost_so levels server cost (view_replies.Refused view_refusals.NoSuchServer) is there good = absurd (false≢true (sym is ∙ there))
-cost_so levels server cost (view_replies.Refused (view_refusals.Blocked blocker)) is there good = absurd is
-cost_so levels server cost view_replies.Marked is there good = absurd is
-cost_so levels server cost (view_replies.Chosen quorum at) is there good = absurd is
-
-mark_so : (levels server : ℕ) (up : Bool) (reply : ViewReply) → IsViewReply levels reply (view_asks.Mark server up) → is_server levels server ≡ true → reply ≡ view_replies.Marked
-mark_so levels server up view_replies.Marked is there = refl
-mark_so levels server up (view_replies.Refused view_refusals.NoSuchServer) is there = absurd (false≢true (sym is ∙ there))
-mark_so levels server up (view_replies.Refused view_refusals.BadCost) is there = absurd is
-mark_so levels server up (view_replies.Refused (view_refusals.Blocked blocker)) is there = absurd is
-mark_so levels server up view_replies.CostSet is there = absurd is
-mark_so levels server up (view_replies.Chosen quorum at) is there = absurd is
-
--- the line of one ask is answered as its reply says
-ends_as : {A S : Type 0} (P Q : A → Type 0) → ((a : A) → Q a → P a) → (answer : Result A LineFault) (after : S) → Answers (λ (a : A) (s : S). Q a) answer after → IfOk answer P × IfErr answer IsPossible
-ends_as P Q step (Ok a) after is = (step a is, tt)
-ends_as P Q step (Err fault) after is = (tt, is)
-
-one_desk : (world : JournalsView) (ask : DeskAsk) (P : DeskReply → Type 0) → ((reply : DeskReply) → IsDeskReply reply ask → P reply) → EndsAs (λ told. P told.reply) (run_line world (desk_line ask)).end
-one_desk world ask P step =
-    let end = (run_line world (desk_line ask)).end in
-    ends_as (λ (told : DeskTold). P told.reply) (λ (told : DeskTold). IsDeskReply told.reply ask) (λ told is. step told.reply is) end.answer end.after
-    (ends_so (IsWell (λ told none. IsDeskReply told.reply ask)) (desk_line ask) world (desk_ends world.levels ask))
-
-one_view : (world : JournalsView) (ask : ViewAsk) (P : ViewReply → Type 0) → ((reply : ViewReply) → IsViewReply world.levels reply ask → P reply) → EndsAs (λ told. P told.reply) (run_line world (view_line ask)).end
-one_view world ask P step =
-    let end = (run_line world (view_line ask)).end in
-    ends_as (λ (told : ViewTold). P told.reply) (λ (told : ViewTold). IsViewReply world.levels told.reply ask) (λ told is. step told.reply is) end.answer end.after
-    (ends_so (IsWell (λ told none. IsViewReply world.levels told.reply ask)) (view_line ask) world (view_ends world.levels ask))
-
--- ---- all lines, in any world
-
-pub lines_end_well : (world : JournalsView) → LinesEndWell world
-lines_end_well world =
-    record {
-      read = λ old file same.
-          ends_well Any (run_line world (read_line old file)).end
-          (ends_so (IsWell Any) (read_line old file) world (subst (λ (levels : ℕ). EndsIn levels (IsWell Any) (read_line old file)) same (read_well old file)));
-      write = λ old file content same.
-          ends_well Any (run_line world (write_line old file content)).end
-          (ends_so (IsWell Any) (write_line old file content) world (subst (λ (levels : ℕ). EndsIn levels (IsWell Any) (write_line old file content)) same (write_well old file content)));
-      prepare = λ old server. ends_well Any (run_line world (prepare_line old server)).end (ends_so (IsWell Any) (prepare_line old server) world (prepare_well world.levels old server));
-      decide = λ old. ends_well Any (run_line world (decide_line old)).end (ends_so (IsWell Any) (decide_line old) world (decide_well world.levels old));
-      commit = λ old. ends_well Any (run_line world (commit_line old)).end (ends_so (IsWell Any) (commit_line old) world (commit_well world.levels old));
-      abort = λ old. ends_well Any (run_line world (abort_line old)).end (ends_so (IsWell Any) (abort_line old) world (abort_well world.levels old));
-      apply = λ number verdict cite server.
-          ends_well Any (run_line world (apply_line number verdict cite server)).end
-          (ends_so (IsWell Any) (apply_line number verdict cite server) world (apply_well world.levels number verdict cite server));
-      resolve = λ number.
-          one_desk world (desk_asks.Resolve number) IsResolved (resolved_so number);
-      begin = one_desk world desk_asks.Begin IsBegun begun_so;
-      choose = one_view world view_asks.Choose IsOffered (offered_so world.levels);
-      cost = λ server cost there good.
-          one_view world (view_asks.SetCost server cost) (λ reply. reply ≡ view_replies.CostSet) (λ reply is. cost_so world.levels server cost reply is there good);
-      mark = λ server up there. one_view world (view_asks.Mark server up) (λ reply. reply ≡ view_replies.Marked) (λ reply is. mark_so world.levels server up reply is there);
-    }

@@ -1,5 +1,7 @@
 mod Servers
 pub mod Answered
-pub mod Replies
-pub mod EndsIn
-pub mod EndsWell
+mod Replies
+mod EndsIn
+mod EndsWell
+mod Fits
+mod Says
