@@ -33,7 +33,7 @@ use Rattle.tq_client.specs.Possible.{IsOfWork, IsOfOwn, IsOfChoice, IsPossible, 
 differs : (text other : List ℕ) → same_name text other ≡ false → text ≡ other → ⊥
 differs text other unlike same = false≢true (sym unlike ∙ subst (λ (t : List ℕ). same_name text t ≡ true) same (same_name-refl text))
 
-fit : (text : List ℕ) → same_name text (codes "bad answer") ≡ false → same_name text (codes "no such server") ≡ false → same_name text (codes "unfounded view 0") ≡ false → IsFit text
+pub fit : (text : List ℕ) → same_name text (codes "bad answer") ≡ false → same_name text (codes "no such server") ≡ false → same_name text (codes "unfounded view 0") ≡ false → IsFit text
 fit text answer server view =
     record { answer = differs text (codes "bad answer") answer; server = differs text (codes "no such server") server; view = differs text (codes "unfounded view 0") view }
 

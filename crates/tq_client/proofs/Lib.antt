@@ -1,7 +1,7 @@
 mod Servers
 pub mod Answered
-mod Replies
-mod EndsIn
+pub mod Replies
+pub mod EndsIn
 mod EndsWell
-mod Fits
-mod Says
+pub mod Fits
+pub mod Says

@@ -37,14 +37,11 @@ use Rattle.tq_client.proofs.EndsWell.{read_well, write_well, prepare_well, decid
 use Rattle.tq_client.proofs.Fits.{fits_text}
 
 -- the text is one that can come
-abbrev IsSayable : List ℕ → Type 0
+abbrev pub IsSayable : List ℕ → Type 0
 IsSayable text = (saying : Saying) × CanCome saying × (text ≡ saying_text saying)
 
-abbrev Says : TxnAnswer → Type 0
+abbrev pub Says : TxnAnswer → Type 0
 Says answer = IsSayable answer.text
-
-fails : (servers : List ℕ) (fault : LineFault) → IsPossible fault → IsSayable (result_text {A = Unit {0}} servers (λ none. []) (Err fault))
-fails servers fault possible = (Fails servers fault, possible, refl)
 
 -- a line that ends well says what it answers, or the fault
 answered_says : {A S : Type 0} (levels : ℕ) (P : A → S → Type 0) (line : Dialogue (LineEnd A S)) (kept : S → Kept) (servers : S → List ℕ) (text : S → A → List ℕ)
@@ -132,7 +129,7 @@ server_says levels tree server number kept next is = by (is_server tree server)
     by true = is
     by false = (OffTree server, tt, refl)
 
-line_says : (levels tree : ℕ) (line : TxnLine) (number : ℕ) (kept : Kept) → levels_of kept.txn ≡ levels → EndsIn levels Says (line_asked tree line number kept)
+pub line_says : (levels tree : ℕ) (line : TxnLine) (number : ℕ) (kept : Kept) → levels_of kept.txn ≡ levels → EndsIn levels Says (line_asked tree line number kept)
 line_says levels tree (of.Read file) number kept same = open_says levels number kept kept.txn (read_open kept file) same (read_says levels file kept)
 line_says levels tree (of.Write file content) number kept same = open_says levels number kept kept.txn (write_open kept file content) same (write_says levels file content kept)
 line_says levels tree (of.Prepare server) number kept same = server_says levels tree server number kept (prepare_asked server) (prepare_says levels server number kept)
