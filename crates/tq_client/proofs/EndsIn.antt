@@ -1,6 +1,6 @@
 -- How a line ends, whatever the parts may tell; and so in any world.
-use Rattle.std.proofs.Common.{◌≡◌, ℕ, Bool, true, false, cond, Option, Some, None, Result, Ok, Err, refl, sym, subst}
-use Rattle.std.specs.Prelude.{IfErr, IfSome}
+use Rattle.std.proofs.Common.{◌≡◌, ℕ, Option, Some, None, Result, Ok, Err, refl, sym, subst}
+use Rattle.std.specs.Prelude.{IfSome}
 use Rattle.tq_shape.specs.Steps.{state_at}
 use Rattle.tq_shape.specs.declared.part.Part.TheVariants as parts
 use Rattle.tq_node.specs.declared.ask.NodeAsk.{NodeAsk}
@@ -21,7 +21,7 @@ use Rattle.tq_world.specs.declared.answer.Step.TheVariants as steps
 use Rattle.tq_world.specs.Steps.{refusal, grown, world_after}
 use Rattle.tq_txn.specs.declared.asker.ViewTold.{ViewTold}
 use Rattle.tq_txn.specs.declared.fault.LineFault.{LineFault}
-use Rattle.tq_txn.specs.Dialogue.{Told, Dialogue, LineEnd, Ends, AsksNode, AsksDesk, AsksView, then_line, and_then, go_on, unless, done, failed, fault_of_ask, node_line, desk_line, view_line}
+use Rattle.tq_txn.specs.Dialogue.{Told, Dialogue, LineEnd, Ends, AsksNode, AsksDesk, AsksView, then_line, and_then, go_on, unless, fault_of_ask, node_line, desk_line, view_line}
 use Rattle.tq_txn.specs.Lines.{any_line}
 use Rattle.tq_asking.specs.Asking.{run_line, node_told, desk_told, view_told}
 use Rattle.tq_client.specs.Possible.{IsOfOwn, IsPossible}

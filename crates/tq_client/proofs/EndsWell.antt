@@ -1,13 +1,13 @@
 -- The lines of a transaction end by no fault that cannot come.
-use Rattle.std.specs.Prelude.{◌==◌, ◌&&◌, ◌+◌, not, nat_lt, IfOk, IfErr, IfSome}
-use Rattle.std.proofs.Common.{◌≡◌, ℕ, ◌-◌, ◌<◌, ◌||◌, arith, Bool, true, false, cond, List, [], ◌∷◌, ◌++◌, map, filter, find, Option, Some, None, is_none, Result, Ok, Err, refl, sym, ap, subst, ◌∙◌, append_assoc}
+use Rattle.std.specs.Prelude.{◌&&◌, ◌+◌, not, nat_lt, IfSome}
+use Rattle.std.proofs.Common.{◌≡◌, ℕ, ◌-◌, ◌||◌, arith, Bool, true, false, cond, List, [], ◌∷◌, ◌++◌, map, filter, find, Option, Some, None, is_none, refl, sym, ap, subst, ◌∙◌, append_assoc}
 use Rattle.std.specs.Cmp.Lexicographic.{pointwise}
-use Rattle.std.specs.List.{Contains, list_any, filter_map}
+use Rattle.std.specs.List.{Contains, list_any}
 use Rattle.std.specs.Option.{option_map}
-use Rattle.std.proofs.lemmas.Bool.{and_from, eq-eqb, lt-ltb, false≢true}
+use Rattle.std.proofs.lemmas.Bool.{and_from, eq-eqb, lt-ltb}
 use Rattle.std.proofs.lemmas.List.{append-nil}
 use Rattle.tq_shape.specs.ServerSet.{Ascends}
-use Rattle.tq_shape.specs.Steps.{refuse, refuse_for}
+use Rattle.tq_shape.specs.Steps.{refuse}
 use Rattle.tq_shape.proofs.Options.{map-none}
 use Rattle.tq_store.specs.Names.{same_name}
 use Rattle.tq_store.proofs.SameName.{same_name-refl}
@@ -17,13 +17,11 @@ use Rattle.tq_locks.specs.declared.mode.Mode.TheVariants.{Shared, Exclusive}
 use Rattle.tq_coterie.specs.Coterie.{coterie, is_quorum}
 use Rattle.tq_coterie.proofs.Parts.{Ascends-member}
 use Rattle.tq_node.specs.declared.ask.NodeAsk.TheVariants as asks
-use Rattle.tq_node.specs.declared.ask.NodeRefusal.{NodeRefusal}
 use Rattle.tq_node.specs.declared.ask.NodeReply.{NodeReply}
 use Rattle.tq_node.specs.declared.ask.NodeReply.TheVariants as replies
 use Rattle.tq_node.specs.declared.ask.Verdict.{Verdict}
 use Rattle.tq_node.specs.declared.ask.Verdict.TheVariants as verdicts
 use Rattle.tq_node.specs.declared.ask.WorkAsk.TheVariants as work
-use Rattle.tq_desk.specs.declared.ask.DeskAsk.{DeskAsk}
 use Rattle.tq_desk.specs.declared.ask.DeskAsk.TheVariants as desk_asks
 use Rattle.tq_desk.specs.declared.ask.DeskReply.{DeskReply}
 use Rattle.tq_desk.specs.declared.ask.DeskReply.TheVariants as desk_replies
@@ -33,36 +31,26 @@ use Rattle.tq_evidence.specs.declared.op.OpKind.{OpKind}
 use Rattle.tq_evidence.specs.declared.op.OpKind.TheVariants as kinds
 use Rattle.tq_evidence.specs.declared.vote.Vote.{Vote}
 use Rattle.tq_evidence.specs.Evidence.{is_write, writes_file, granters, rises, has_server, is_server_of, is_write_of, has_writes, greatest}
-use Rattle.tq_live.specs.View.{is_server, is_cost}
-use Rattle.tq_live.specs.declared.view.ViewAsk.{ViewAsk}
 use Rattle.tq_live.specs.declared.view.ViewAsk.TheVariants as view_asks
 use Rattle.tq_live.specs.declared.view.ViewReply.{ViewReply}
 use Rattle.tq_live.specs.declared.view.ViewReply.TheVariants as view_replies
 use Rattle.tq_live.specs.declared.view.ViewRefusal.TheVariants as view_refusals
-use Rattle.tq_states.specs.declared.fault.TxnFault.{TxnFault}
 use Rattle.tq_states.specs.declared.fault.TxnFault.TheVariants as txn_faults
 use Rattle.tq_states.specs.declared.told.NodeTold.{NodeTold}
-use Rattle.tq_states.specs.declared.told.DeskTold.{DeskTold}
 use Rattle.tq_states.specs.Ended.{EndedView, decide_ask}
-use Rattle.tq_states.specs.Open.{OpenView, fits, granted_by, grant_of, grants_of, not_a_grant, is_member, is_used, is_read_of, is_written, seen, written, pending, has_all_ops, grants_fault, read_fault, write_fault, read_after, write_after, rewritten, is_full, touched_by, read_copy}
+use Rattle.tq_states.specs.Open.{OpenView, fits, grant_of, grants_of, not_a_grant, is_member, is_used, is_read_of, is_written, seen, written, pending, has_all_ops, grants_fault, read_fault, write_fault, read_after, write_after, rewritten, is_full, touched_by, read_copy}
 use Rattle.tq_states.specs.Voting.{VotingView, writes_in, write_in, writes_at, prepare_ask, ask_fault, vote_of, vote_refusal, vote_fault, vote_after, lost, has_vote, has_votes, evidence_of}
 use Rattle.tq_states.proofs.NumberSets.{rises_from, rises-from}
 use Rattle.tq_states.proofs.Tested.{a_member}
-use Rattle.tq_tables.specs.Journals.{JournalsView}
-use Rattle.tq_txn.specs.declared.asker.ViewTold.{ViewTold}
-use Rattle.tq_txn.specs.declared.fault.LineFault.{LineFault}
 use Rattle.tq_txn.specs.declared.fault.LineFault.TheVariants as faults
-use Rattle.tq_txn.specs.declared.reading.Reading.{Reading}
 use Rattle.tq_txn.specs.declared.reading.Reading.TheVariants.{Copy}
-use Rattle.tq_txn.specs.declared.applying.Applied.{Applied}
 use Rattle.tq_txn.specs.declared.txn.Txn.{Txn}
 use Rattle.tq_txn.specs.declared.txn.Txn.TheVariants as states
-use Rattle.tq_txn.specs.Dialogue.{Dialogue, LineEnd, done, failed, and_then, unless, node_line, desk_line, view_line}
-use Rattle.tq_txn.specs.Lines.{LocksView, answers, chosen, choose_line, lock_ask, granted, lock_line, next_lock, locks_line, quorum_line, read_end, quorum_read, first_read, read_again, read_line, write_end, quorum_write, first_write, written_again, write_line, refusal_in, voted, first_prepare, prepare_line, any_line, is_nothing_here, release_line, end_line, ending_line, applied, apply_line}
+use Rattle.tq_txn.specs.Dialogue.{done, failed, and_then, node_line}
+use Rattle.tq_txn.specs.Lines.{LocksView, answers, chosen, choose_line, lock_ask, granted, lock_line, next_lock, locks_line, quorum_line, read_end, quorum_read, first_read, read_again, read_line, write_end, quorum_write, first_write, written_again, write_line, voted, first_prepare, prepare_line, any_line, is_nothing_here, release_line, end_line, ending_line, applied, apply_line}
 use Rattle.tq_txn.specs.Commits.{prepares_line, committed, decided, ready_line, decide_line, commit_end, decide_and_end_line, commit_line}
-use Rattle.tq_txn.specs.Aborts.{resolved, aborted, is_abort, ending_of, end_aborted, abort_end, abort_line}
+use Rattle.tq_txn.specs.Aborts.{resolved, end_aborted, abort_end, abort_line}
 use Rattle.tq_txn.specs.States.{number_of}
-use Rattle.tq_asking.specs.Asking.{run_line}
 use Rattle.tq_client.specs.Possible.{IsOfOwn}
 use Rattle.tq_client.proofs.Replies.{IsWorkReply, IsDeskReply, IsViewReply, refuse_all, refuse_for_all, or_else_all}
 use Rattle.tq_client.proofs.EndsIn.{EndsIn, Answers, IsWell, Any, ends_and, ends_unless, ends_node, ends_desk, ends_view, any_ends}

@@ -1,7 +1,6 @@
 -- Texts that can come are none of those that cannot.
 use Rattle.std.specs.Prelude.{◌==◌}
-use Rattle.std.proofs.Common.{◌≡◌, ℕ, Bool, true, false, List, [], ◌∷◌, ◌++◌, Option, Some, None, refl, sym, ap, subst, ◌∙◌, codes}
-use Rattle.std.specs.Fmt.{decimal}
+use Rattle.std.proofs.Common.{◌≡◌, ℕ, true, false, List, [], ◌∷◌, ◌++◌, Option, refl, sym, ap, subst, ◌∙◌, codes}
 use Rattle.std.proofs.lemmas.Bool.{eq-eqb, false≢true}
 use Rattle.tq_shape.specs.declared.part.Part.{Part}
 use Rattle.tq_shape.specs.declared.part.Part.TheVariants as parts
@@ -25,7 +24,7 @@ use Rattle.tq_txn.specs.declared.fault.LineFault.TheVariants as faults
 use Rattle.tq_txn.specs.declared.reading.Reading.{Reading}
 use Rattle.tq_txn.specs.declared.reading.Reading.TheVariants as readings
 use Rattle.tq_print.specs.Print.{numbers_text, op_servers, bracketed, version_text, reading_text, applied_text, verdict_text}
-use Rattle.tq_print.specs.Refusals.{part_text, decided_text, server_refusal_text, desk_refusal_text, view_refusal_text, txn_fault_text, fault_text}
+use Rattle.tq_print.specs.Refusals.{decided_text, server_refusal_text, desk_refusal_text, view_refusal_text, txn_fault_text, fault_text}
 use Rattle.tq_client.specs.Possible.{IsOfWork, IsOfOwn, IsOfChoice, IsPossible, Saying, Reads, Writes, Votes, Commits, Aborts, Resolves, Applies, Closed, Undecided, OffTree, Fails, saying_text, CanCome, IsFit}
 
 -- ---- texts that differ at some place

@@ -1,8 +1,8 @@
 -- What a part may tell of an ask, in any world: a reply of the ask's kind, or why the ask was not taken.
-use Rattle.std.specs.Prelude.{◌==◌, not, nat_le, IfSome}
-use Rattle.std.proofs.Common.{◌≡◌, ℕ, Bool, true, false, cond, List, [], ◌∷◌, find, Option, Some, None, Ok, Err, refl, subst, sum_by}
+use Rattle.std.specs.Prelude.{not, nat_le, IfSome}
+use Rattle.std.proofs.Common.{◌≡◌, ℕ, Bool, true, false, cond, List, [], ◌∷◌, find, Option, Some, None, Ok, Err, refl}
 use Rattle.std.specs.List.{Contains}
-use Rattle.std.specs.Option.{unwrap_or, option_map}
+use Rattle.std.specs.Option.{option_map}
 use Rattle.tq_shape.specs.declared.part.Part.{Part}
 use Rattle.tq_shape.specs.declared.part.Part.TheVariants as parts
 use Rattle.tq_shape.specs.Steps.{refuse, refuse_for, or_else}
@@ -16,7 +16,7 @@ use Rattle.tq_node.specs.declared.ask.NodeReply.TheVariants as replies
 use Rattle.tq_node.specs.declared.ask.Verdict.{Verdict}
 use Rattle.tq_node.specs.declared.ask.WorkAsk.{WorkAsk}
 use Rattle.tq_node.specs.declared.ask.WorkAsk.TheVariants as work
-use Rattle.tq_node.specs.Records.{Records, NodeState, has_vote, are_good_writes, not_locked, work_refusal, refusal, work_reply, reply_of, answer_at, installs, node_reply}
+use Rattle.tq_node.specs.Records.{Records, NodeState, has_vote, are_good_writes, not_locked, work_refusal, refusal, work_reply, answer_at, installs, node_reply}
 use Rattle.tq_locks.specs.Locks.{blocker, holds_nothing}
 use Rattle.tq_store.specs.Copies.{copy_of}
 use Rattle.tq_desk.specs.declared.ask.DeskAsk.{DeskAsk}

@@ -1,5 +1,5 @@
 -- A line of a transaction says an answer, or a fault that can come.
-use Rattle.std.proofs.Common.{◌≡◌, ℕ, Bool, true, false, cond, List, [], ◌∷◌, ◌++◌, Option, Some, None, Result, Ok, Err, refl, sym, ap, subst, ◌∙◌}
+use Rattle.std.proofs.Common.{◌≡◌, ℕ, Bool, true, false, cond, List, [], ◌∷◌, ◌++◌, Option, Some, None, Result, Ok, Err, refl, ap, subst, ◌∙◌}
 use Rattle.std.specs.Prelude.{IfSome}
 use Rattle.tq_shape.specs.Journal.{is_empty}
 use Rattle.tq_desk.specs.declared.ask.DeskAsk.TheVariants as desk_asks
@@ -24,12 +24,11 @@ use Rattle.tq_txn.specs.Aborts.{abort_line}
 use Rattle.tq_txn.specs.States.{levels_of}
 use Rattle.tq_lines.specs.declared.line.TxnLine.{TxnLine}
 use Rattle.tq_lines.specs.declared.line.TxnLine.TheVariants as of
-use Rattle.tq_asking.specs.Asking.{run_line}
 use Rattle.tq_print.specs.Print.{printed}
 use Rattle.tq_client.specs.declared.kept.Kept.{Kept}
 use Rattle.tq_client.specs.declared.kept.Ending.{Ending}
 use Rattle.tq_client.specs.Known.{in_state, ending_in}
-use Rattle.tq_client.specs.Possible.{IsOfOwn, IsPossible, Saying, Reads, Writes, Votes, Commits, Aborts, Resolves, Applies, Closed, Undecided, OffTree, Fails, saying_text, CanCome, IsSaid}
+use Rattle.tq_client.specs.Possible.{IsOfOwn, Saying, Reads, Writes, Votes, Commits, Aborts, Resolves, Applies, Closed, Undecided, OffTree, Fails, saying_text, CanCome, IsSaid}
 use Rattle.tq_client.specs.TxnAsked.{TxnAnswer, IsAnswered, txn_said, result_text, answer_end, answered, no_servers, open_in, closing, voting_in, missing_in, read_text, read_open, written_text, write_open, voted_text, prepare_asked, prepare_voting, serial_text, decide_asked, decide_voting, commit_asked, commit_voting, aborted_text, abort_asked, resolved_text, resolve_end, resolve_asked, told_text, apply_by, apply_asked, server_asked, line_asked}
 use Rattle.tq_client.proofs.Replies.{IsDeskReply, refuse_all}
 use Rattle.tq_client.proofs.EndsIn.{EndsIn, Answers, IsWell, Any, ends_so, ends_then, desk_ends}
