@@ -2,3 +2,4 @@ mod StreamLaws
 mod Pieces
 mod RunLaws
 mod Answering
+mod Sayings

@@ -1,5 +1,6 @@
 pub mod Asked
 pub mod Answer
+pub mod Possible
 pub mod Text
 pub mod Stream
 pub use Rattle.tq_live.specs.Live

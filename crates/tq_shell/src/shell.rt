@@ -51,6 +51,7 @@ impl Shell {
     ghost use Rattle.std.specs.Prelude.{◌≡◌, ◌++◌, IfOk, OnOk};
     ghost use Rattle.tq_world.specs.World.{item_at};
     ghost use Rattle.tq_shell.specs.Answer.{opening, answer, answered};
+    ghost use Rattle.tq_shell.specs.Possible.{IsSaidOf};
     ghost use Rattle.tq_asking.specs.Asking.{run_line};
 
     /// Every server at cost 1 and up, nothing stored, and no transaction.
@@ -74,8 +75,19 @@ impl Shell {
         self.recorder.service()
     }
 
-    /// Answers one line, and puts the answer behind the text.
+    /// Answers one line, and puts the answer behind the text: of all that the definitions have texts for, no more than what
+    /// can come.
     pub fn answer(&mut self, alloc: Global, line: Line, text: &mut Vec<u8>) -> Result<(), Memory>
+        ensures text { OnOk result (text.new.items ≡ text.old.items ++ (answer self.old line).text) }
+        ensures after { OnOk result (self.new ≡ (answer self.old line).after) }
+        ensures possible { OnOk result (IsSaidOf line text.old.items text.new.items) }
+    {
+        let _ = &self.recorder;
+        self.answer_line(alloc, line, text)?;
+        Ok(())
+    }
+
+    fn answer_line(&mut self, alloc: Global, line: Line, text: &mut Vec<u8>) -> Result<(), Memory>
         ensures text { OnOk result (text.new.items ≡ text.old.items ++ (answer self.old line).text) }
         ensures after { OnOk result (self.new ≡ (answer self.old line).after) }
     {
