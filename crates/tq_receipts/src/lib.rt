@@ -2,8 +2,11 @@
 //! was told, that no two were told of one entry, and of how many entries no one was told.
 #![tactic(auto)]
 
+mod claimed;
+mod marks;
 mod name;
 mod rising;
 
+pub use claimed::{Claimed, claim};
 pub use name::EntryName;
 pub use rising::first_fallen;
