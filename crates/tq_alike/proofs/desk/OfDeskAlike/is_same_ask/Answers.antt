@@ -1,6 +1,6 @@
 use Rattle.std.proofs.Common.{sym, ◌∙◌}
-use Rattle.tq_same.proofs.Equal.{desk_ask-is, is-desk_ask}
-use Rattle.tq_same.proofs.desk.OfDeskAlike.is_same_ask.Goals as goal
+use Rattle.tq_alike.proofs.Equal.{desk_ask-is, is-desk_ask}
+use Rattle.tq_alike.proofs.desk.OfDeskAlike.is_same_ask.Goals as goal
 
 pub returns : goal.returns
 returns c = (

@@ -1,4 +1,4 @@
-use crate::alike::Alike;
+use crate::kinds::Alike;
 use tq_live::{ViewAsk, ViewReply};
 
 /// The view's asks and replies.

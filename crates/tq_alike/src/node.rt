@@ -1,7 +1,7 @@
 ghost use Rattle.std.specs.Prelude.{◌≡◌};
-ghost use Rattle.tq_same.specs.Same as spec;
+ghost use Rattle.tq_alike.specs.Same as spec;
 
-use crate::alike::Alike;
+use crate::kinds::Alike;
 use tq_node::{NodeAsk, NodeRefusal, NodeReply, Verdict, WorkAsk};
 
 /// A server's asks and replies.

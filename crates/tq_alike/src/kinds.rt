@@ -1,5 +1,5 @@
 ghost use Rattle.std.specs.Prelude.{◌≡◌, ◌↔◌, IsTrue};
-ghost use Rattle.tq_same.specs.Begins.{Begins};
+ghost use Rattle.tq_alike.specs.Begins.{Begins};
 
 use tq_shape::Entry;
 

@@ -1,6 +1,6 @@
 use Rattle.std.proofs.Common.{sym, ◌∙◌}
-use Rattle.tq_same.proofs.Equal.{desk_reply-is, is-desk_reply}
-use Rattle.tq_same.proofs.desk.OfDeskAlike.is_same_reply.Goals as goal
+use Rattle.tq_alike.proofs.Equal.{desk_reply-is, is-desk_reply}
+use Rattle.tq_alike.proofs.desk.OfDeskAlike.is_same_reply.Goals as goal
 
 pub returns : goal.returns
 returns c = (

@@ -1,8 +1,8 @@
 ghost use Rattle.std.specs.Prelude.{◌≡◌};
 ghost use Rattle.std.specs.Cmp.Lexicographic.{pointwise};
-ghost use Rattle.tq_same.specs.Same as spec;
+ghost use Rattle.tq_alike.specs.Same as spec;
 
-use crate::alike::Alike;
+use crate::kinds::Alike;
 use crate::node::is_same_verdict;
 use tq_desk::{DeskAsk, DeskRefusal, DeskReply};
 use tq_evidence::{Op, Vote};

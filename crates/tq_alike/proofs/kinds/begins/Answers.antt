@@ -1,6 +1,6 @@
 use Rattle.std.proofs.Common.{◌≡◌, ◌≤◌, ◌++◌, ◌∙◌, List, length, take, drop, ap, sym, refl, arith}
 use Rattle.std.proofs.lemmas.List.{take_all, take-append-drop}
-use Rattle.tq_same.proofs.alike.begins.Goals as goal
+use Rattle.tq_alike.proofs.kinds.begins.Goals as goal
 
 pub returns : goal.returns
 returns g c =

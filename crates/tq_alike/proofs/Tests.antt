@@ -12,7 +12,7 @@ use Rattle.tq_evidence.specs.declared.op.OpKind.TheVariants as kinds
 use Rattle.tq_evidence.specs.contracts.op.OpKindPartialEq.TheImpl as kinds_eq
 use Rattle.tq_evidence.specs.contracts.op.OpPartialEq.TheImpl as op_eq
 use Rattle.tq_store.specs.Names.{same_name}
-use Rattle.tq_same.specs.Same.{same_mode, same_kind, same_grant, same_op}
+use Rattle.tq_alike.specs.Same.{same_mode, same_kind, same_grant, same_op}
 
 pub pointwise-same : {A : Type 0} (f g : A → A → Bool) → ((a b : A) → f a b ≡ g a b) → (xs ys : List A) → pointwise f xs ys ≡ pointwise g xs ys
 pointwise-same f g same [] [] = refl

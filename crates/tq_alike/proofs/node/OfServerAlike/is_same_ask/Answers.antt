@@ -1,6 +1,6 @@
 use Rattle.std.proofs.Common.{sym, ◌∙◌}
-use Rattle.tq_same.proofs.Equal.{node_ask-is, is-node_ask}
-use Rattle.tq_same.proofs.node.OfServerAlike.is_same_ask.Goals as goal
+use Rattle.tq_alike.proofs.Equal.{node_ask-is, is-node_ask}
+use Rattle.tq_alike.proofs.node.OfServerAlike.is_same_ask.Goals as goal
 
 pub returns : goal.returns
 returns c = (
