@@ -1,0 +1,25 @@
+use Rattle.std.proofs.Common.{◌≡◌, ◌≤◌, ◌∷◌, ◌∙◌, ℕ, List, length, map, take, ap, sym, subst, arith}
+use Rattle.std.specs.List.{All}
+use Rattle.std.proofs.lemmas.List.{take_all}
+use Rattle.tq_closing.specs.Told.{counts_of}
+use Rattle.tq_closing.proofs.Telling.{each_length, short_counts}
+use Rattle.tq_closing.proofs.lengths.counts.Goals as goal
+
+value : (c : goal.Else-entries-index) → c.loop-entries.counts.items ≡ counts_of c.args.journals.now
+value c =
+    let journals = c.args.journals.now in
+    let servers = c.servers-servers.result.now in
+    let all : take c.loop-entries.entries-index servers ≡ servers = take_all c.loop-entries.entries-index servers (omega (arith, c.loop-entries-test.false)) in
+    c.loop-entries.invariant
+    ∙ ap (λ (l : List ℕ). length journals.desk ∷ length journals.view ∷ 0 ∷ l)
+    (ap (map (λ entries. length entries.items)) all ∙ each_length (λ entries. entries.items) servers ∙ ap (map length) c.servers-servers.ensures.value)
+
+pub returns-clause-value : goal.returns-clause-value
+returns-clause-value c = value c
+
+pub returns-clause-short : goal.returns-clause-short
+returns-clause-short c =
+    let limits = c.entries-fits.ensures in
+    let most : c.args.journals.now.limits.entries ≤ 1000000 = ? in
+    subst (All (λ (count : ℕ). count ≤ 1000000)) (sym (value c))
+    (short_counts c.args.journals.now c.args.journals.now.limits.entries most ? ? c.servers-servers.ensures.fit)
