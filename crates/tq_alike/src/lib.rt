@@ -4,9 +4,11 @@
 mod kinds;
 mod desk;
 mod node;
+mod same;
 mod view;
 
 pub use kinds::{Alike, begins, is_same_entry};
 pub use desk::OfDesk;
 pub use node::OfServer;
+pub use same::Same;
 pub use view::OfView;
