@@ -1,24 +1,20 @@
 -- A line of the shell says an answer, or a fault that can come.
-use Rattle.std.proofs.Common.{◌≡◌, ◌∙◌, ℕ, Bool, true, false, cond, List, [], ◌++◌, Option, Some, None, Result, Ok, Err, refl, sym, ap, subst, codes}
+use Rattle.std.proofs.Common.{◌≡◌, ◌∙◌, ℕ, Bool, true, false, cond, List, [], ◌++◌, Option, Some, None, Result, Ok, Err, refl, ap, subst, codes}
 use Rattle.std.specs.Fmt.{decimal}
-use Rattle.std.proofs.lemmas.Bool.{false≢true}
 use Rattle.std.specs.List.{All}
 use Rattle.std.specs.Prelude.{◌-◌, nat_lt, slice_get}
 use Rattle.std.proofs.lemmas.List.{append-nil}
 use Rattle.std.proofs.lemmas.List.Elements.{All-get_or}
 use Rattle.std.proofs.lemmas.Option.{get_or_from_slice_get, slice_get_within}
-use Rattle.tq_node.specs.declared.ask.NodeReply.{NodeReply}
 use Rattle.tq_desk.specs.declared.ask.DeskAsk.TheVariants as desk_asks
 use Rattle.tq_desk.specs.declared.ask.DeskReply.{DeskReply}
 use Rattle.tq_desk.specs.declared.ask.DeskReply.TheVariants as desk_replies
 use Rattle.tq_live.specs.View.{is_server, is_cost}
-use Rattle.tq_live.specs.declared.view.ViewAsk.{ViewAsk}
 use Rattle.tq_live.specs.declared.view.ViewAsk.TheVariants as view_asks
 use Rattle.tq_live.specs.declared.view.ViewReply.{ViewReply}
 use Rattle.tq_live.specs.declared.view.ViewReply.TheVariants as view_replies
 use Rattle.tq_live.specs.declared.view.ViewRefusal.TheVariants as view_refusals
 use Rattle.tq_states.specs.declared.told.DeskTold.{DeskTold}
-use Rattle.tq_tables.specs.Journals.{JournalsView}
 use Rattle.tq_world.specs.World.{item_at}
 use Rattle.tq_txn.specs.declared.asker.ViewTold.{ViewTold}
 use Rattle.tq_txn.specs.declared.fault.LineFault.{LineFault}
@@ -30,17 +26,16 @@ use Rattle.tq_lines.specs.declared.line.Line.{Line}
 use Rattle.tq_lines.specs.declared.line.Line.TheVariants as of
 use Rattle.tq_lines.specs.declared.line.TxnLine.{TxnLine}
 use Rattle.tq_asking.specs.Asking.{run_line}
-use Rattle.tq_print.specs.Print.{printed, mark_word, choice_text, numbers_text}
+use Rattle.tq_print.specs.Print.{printed, choice_text}
 use Rattle.tq_client.specs.declared.kept.Kept.{Kept}
 use Rattle.tq_client.specs.Known.{Known, with_kept}
-use Rattle.tq_client.specs.Possible as client
-use Rattle.tq_client.specs.Possible.{Fails, IsPossible, IsFit}
-use Rattle.tq_client.specs.TxnAsked.{TxnAnswer, result_text, line_asked}
+use Rattle.tq_client.specs.Possible.{Fails, IsFit}
+use Rattle.tq_client.specs.TxnAsked.{result_text, line_asked}
 use Rattle.tq_client.proofs.Replies.{IsDeskReply, IsViewReply}
 use Rattle.tq_client.proofs.EndsIn.{EndsIn, Answers, IsWell, Any, ends_so, ends_then, desk_ends, view_ends, any_ends}
 use Rattle.tq_client.proofs.Fits.{fit, fits_text}
 use Rattle.tq_client.proofs.Says.{Says, line_says}
-use Rattle.tq_shell.specs.Asked.{LineAnswer, said, of_txn, ok_text, chosen_text, marked_text, cost_asked, mark_ask, mark_asked, choose_asked, begun, begin_end, begin_asked, asked}
+use Rattle.tq_shell.specs.Asked.{LineAnswer, said, of_txn, ok_text, chosen_text, marked_text, cost_asked, mark_ask, mark_asked, choose_asked, begun, begin_end, begin_asked}
 use Rattle.tq_shell.specs.Answer.{World, answer}
 use Rattle.tq_shell.specs.Possible.{Saying, BadLine, BadCost, OffTree, NotBegun, CostSet, Marked, Chosen, Begun, OfTxn, saying_text, CanCome, IsSaid, IsSaidOf}
 
