@@ -1,4 +1,5 @@
-ghost use Rattle.std.specs.Prelude.{◌≡◌, ◌+◌, ◌^◌, [], vec_len};
+ghost use Rattle.std.specs.Prelude.{◌≡◌, ◌+◌, ◌^◌, [], map, vec_len};
+ghost use Rattle.tq_cluster.specs.Told.{exchange_of};
 
 use crate::heard::Heard;
 use std::alloc::Global;
@@ -49,5 +50,19 @@ impl Caller {
             view,
             heard: Vec::new(alloc),
         }
+    }
+
+    /// What it heard of its asks, in their order. It takes no memory.
+    pub(crate) fn into_heard(self) -> Vec<Heard>
+        ensures { map exchange_of result.items ≡ self.told }
+    {
+        let Caller {
+            levels: _,
+            servers: _,
+            desk: _,
+            view: _,
+            heard,
+        } = self;
+        heard
     }
 }

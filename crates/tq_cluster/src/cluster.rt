@@ -1,6 +1,6 @@
 ghost use Rattle.std.specs.Prelude.{◌≡◌, ◌≤◌, ◌+◌, ◌^◌, ◌++◌, ◌⊎◌, [], IfOk, IfErr, vec_capacity};
 ghost use Rattle.tq_txn.specs.Dialogue.{node_exchange, desk_exchange, view_exchange};
-ghost use Rattle.tq_cluster.specs.Cluster.{AreLegalParts};
+ghost use Rattle.tq_tables.specs.Parts.{AreLegal};
 ghost use Rattle.tq_cluster.specs.Told.{IsToldByServer, IsToldByDesk, IsToldByView};
 
 use crate::call::call;
@@ -87,20 +87,24 @@ impl<G: Gate + Drop> Cluster<G> {
     pub fn into_journals(self, alloc: Global, callers: Vec<Caller>) -> Result<Journals, Memory>
         ensures levels { IfOk result (λ journals. journals.levels ≡ self.levels) }
         ensures limits { IfOk result (λ journals. journals.limits ≡ self.limits) }
-        ensures legal { IfOk result AreLegalParts }
+        ensures legal { IfOk result AreLegal }
     {
         drop(callers);
         let room = Vec::with_capacity(alloc, self.servers.len())?;
-        Ok(self.journals_into(alloc, room))
+        self.journals_into(alloc, room)
     }
 
-    /// The journals of all parts, those of the servers put into the room for them. It takes no memory.
-    fn journals_into(self, alloc: Global, room: Vec<Vec<NodeEntry>>) -> Journals
+    /// The journals of all parts, those of the servers put into the room for them.
+    fn journals_into(
+        self,
+        alloc: Global,
+        room: Vec<Vec<NodeEntry>>,
+    ) -> Result<Journals, Memory>
         requires empty { room.items ≡ [] }
         requires room { 2 ^ self.levels ≤ vec_capacity room + 1 }
-        ensures levels { result.levels ≡ self.levels }
-        ensures limits { result.limits ≡ self.limits }
-        ensures legal { AreLegalParts result }
+        ensures levels { IfOk result (λ journals. journals.levels ≡ self.levels) }
+        ensures limits { IfOk result (λ journals. journals.limits ≡ self.limits) }
+        ensures legal { IfOk result AreLegal }
     {
         let Cluster {
             levels,
@@ -112,9 +116,9 @@ impl<G: Gate + Drop> Cluster<G> {
         } = self;
         let entries = limits.entries();
         let servers = server_journals(alloc, entries, servers, room);
-        let desk = desk_journal(alloc, entries, desk);
+        let desk = desk_journal(alloc, levels, limits, desk)?;
         let view = view_journal(alloc, levels, entries, view);
-        Journals::new(levels, limits, servers, desk, view)
+        Ok(Journals::new(levels, limits, servers, desk, view))
     }
 
     /// Asks a server, as `ask_desk` asks the desk.

@@ -4,10 +4,13 @@
 mod asking;
 mod call;
 mod caller;
+mod close;
 mod cluster;
 mod heard;
 mod journals;
+mod retold;
 
 pub use asking::Asking;
 pub use caller::Caller;
 pub use cluster::Cluster;
+pub use tq_closing::{CloseFault, Explained};
