@@ -1,10 +1,11 @@
 //! Whether two replies are the same.
 ghost use Rattle.std.specs.Prelude.{◌≡◌, ◌↔◌, ◌==◌, ◌&&◌, IsTrue};
-ghost use Rattle.tq_merge.specs.Same as spec;
+ghost use Rattle.tq_same.specs.Same as spec;
 
 use tq_core::is_same_verdict;
 use tq_desk::{DeskRefusal, DeskReply};
 use tq_live::ViewReply;
+use tq_mirror::Same;
 use tq_node::{NodeRefusal, NodeReply};
 
 /// Whether a server refuses for the same reason.
@@ -70,7 +71,7 @@ fn test_of_node(one: &NodeReply, other: &NodeReply) -> bool
 }
 
 /// Whether the two replies of a server are the same.
-pub(crate) fn is_same_of_node(one: &NodeReply, other: &NodeReply) -> bool
+pub fn is_same_of_node(one: &NodeReply, other: &NodeReply) -> bool
     ensures { IsTrue result ↔ (one.now ≡ other.now) }
 {
     test_of_node(one, other)
@@ -120,15 +121,33 @@ fn test_of_desk(one: &DeskReply, other: &DeskReply) -> bool
 }
 
 /// Whether the two replies of the desk are the same.
-pub(crate) fn is_same_of_desk(one: &DeskReply, other: &DeskReply) -> bool
+pub fn is_same_of_desk(one: &DeskReply, other: &DeskReply) -> bool
     ensures { IsTrue result ↔ (one.now ≡ other.now) }
 {
     test_of_desk(one, other)
 }
 
 /// Whether the two replies of the view are the same.
-pub(crate) fn is_same_of_view(one: &ViewReply, other: &ViewReply) -> bool
+pub fn is_same_of_view(one: &ViewReply, other: &ViewReply) -> bool
     ensures { IsTrue result ↔ (one.now ≡ other.now) }
 {
     *one == *other
+}
+
+impl Same for NodeReply {
+    fn is_same(&self, other: &NodeReply) -> bool {
+        is_same_of_node(self, other)
+    }
+}
+
+impl Same for DeskReply {
+    fn is_same(&self, other: &DeskReply) -> bool {
+        is_same_of_desk(self, other)
+    }
+}
+
+impl Same for ViewReply {
+    fn is_same(&self, other: &ViewReply) -> bool {
+        is_same_of_view(self, other)
+    }
 }

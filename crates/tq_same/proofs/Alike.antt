@@ -23,7 +23,7 @@ use Rattle.tq_desk.specs.declared.ask.DeskReply.TheVariants as desk_replies
 use Rattle.tq_store.specs.Names.{same_name}
 use Rattle.tq_store.proofs.SameName.{same_name-is, same_name-refl}
 use Rattle.tq_world.specs.Founded.{same_mode, same_lock, same_write, same_vote, same_verdict}
-use Rattle.tq_merge.specs.Same.{same_reason, same_reply, same_desk_reason, same_desk_reply}
+use Rattle.tq_same.specs.Same.{same_reason, same_reply, same_desk_reason, same_desk_reply}
 
 mode-is : (a b : Mode) → same_mode a b ≡ true → a ≡ b
 mode-is Shared Shared same = refl

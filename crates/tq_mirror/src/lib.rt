@@ -1,0 +1,10 @@
+//! A part that follows the journal of another of its kind, entry by entry, and stands where they lead.
+#![tactic(auto)]
+
+mod mirror;
+mod same;
+mod strayed;
+
+pub use mirror::Mirror;
+pub use same::Same;
+pub use strayed::Strayed;
