@@ -2,9 +2,7 @@
 #![tactic(auto)]
 
 mod mirror;
-mod same;
 mod strayed;
 
 pub use mirror::Mirror;
-pub use same::Same;
 pub use strayed::Strayed;

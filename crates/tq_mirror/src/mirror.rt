@@ -2,12 +2,12 @@ ghost use Rattle.std.specs.Prelude.{◌≡◌, ◌+◌, ◌∷◌, ◌++◌, [],
 ghost use Rattle.tq_shape.specs.Journal.{IsLegalFrom, state_from};
 ghost use Rattle.tq_mirror.specs.Mirrors.{Gives, IsStray, Stood, led, mirrored};
 
-use crate::same::Same;
 use crate::strayed::Strayed;
 use std::alloc::Global;
 use std::marker::Model;
 use std::mem;
 use tq_part::Answers;
+use tq_same::Same;
 use tq_shape::{Entry, Memory, Seq};
 
 /// A part beside the first entries of a journal, the oldest first: each reply is the one that the part gives there, and

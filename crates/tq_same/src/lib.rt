@@ -2,5 +2,7 @@
 #![tactic(auto)]
 
 mod replies;
+mod same;
 
 pub use replies::{is_same_of_desk, is_same_of_node, is_same_of_view};
+pub use same::Same;

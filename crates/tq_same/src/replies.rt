@@ -2,10 +2,10 @@
 ghost use Rattle.std.specs.Prelude.{◌≡◌, ◌↔◌, ◌==◌, ◌&&◌, IsTrue};
 ghost use Rattle.tq_same.specs.Same as spec;
 
+use crate::same::Same;
 use tq_core::is_same_verdict;
 use tq_desk::{DeskRefusal, DeskReply};
 use tq_live::ViewReply;
-use tq_mirror::Same;
 use tq_node::{NodeRefusal, NodeReply};
 
 /// Whether a server refuses for the same reason.
