@@ -2,3 +2,5 @@ pub mod Exchanges
 pub mod LegalParts
 pub mod Lists
 pub mod Names
+pub mod Seen
+pub mod Pulled

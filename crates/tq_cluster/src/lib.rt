@@ -7,7 +7,10 @@ mod caller;
 mod cluster;
 mod heard;
 mod journals;
+mod live_board;
 
 pub use asking::Asking;
 pub use caller::Caller;
 pub use cluster::Cluster;
+pub use live_board::LiveBoard;
+pub use tq_prefixes::{Entries, PullFault};

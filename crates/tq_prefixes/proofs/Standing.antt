@@ -1,9 +1,10 @@
 -- Parts stand where their entries leave them, also after more entries.
-use Rattle.std.proofs.Common.{◌≡◌, ◌≤◌, ◌<◌, ◌+◌, ◌-◌, ◌^◌, ◌⊎◌, ℕ, zero, suc, List, [], ◌∷◌, ◌++◌, length, map, set, get_or, replicate, refl, sym, ap, subst, ◌∙◌, arith, append_assoc, append-nil, inl, inr}
+use Rattle.std.proofs.Common.{◌≡◌, ◌≤◌, ◌<◌, ◌+◌, ◌-◌, ◌^◌, ◌⊎◌, ℕ, zero, suc, List, [], ◌∷◌, ◌++◌, length, map, set, get_or, take, replicate, refl, sym, ap, subst, ◌∙◌, arith, append_assoc, append-nil, inl, inr}
 use Rattle.std.specs.Prelude.{reverse}
-use Rattle.std.proofs.lemmas.List.{length-map, length-set, length-replicate, length_push, map-set, replicate_more}
+use Rattle.std.proofs.lemmas.List.{length-map, length-set, length-replicate, length_push, map-set, replicate_more, set-set, set-get_or, get_or-set_same, get_or_default}
 use Rattle.std.proofs.lemmas.Nat.{pow_pos}
 use Rattle.tq_shape.specs.Limits.{LimitsView}
+use Rattle.tq_shape.specs.declared.entry.Entry.{Entry}
 use Rattle.tq_shape.specs.Tree.{IsServer}
 use Rattle.tq_shape.specs.Journal.{IsLegalFrom, state_from}
 use Rattle.tq_shape.proofs.Joined.{legal-reverse, reverse-legal}
@@ -203,7 +204,7 @@ pub record Followed (servers : List ServerMirror) (now : DeskMirror) (view : Vie
 
 module _ (servers : List ServerMirror) (now : DeskMirror) (view : ViewMirror) (levels : ℕ) (limits : LimitsView) (old : JournalsView)
     (mirrors : AreMirrors servers now view (prefixes_in levels limits servers now view)) (same : prefixes_in levels limits servers now view ≡ old) where
-  w : JournalsView
+  abbrev w : JournalsView
   w = prefixes_in levels limits servers now view
 
   -- the desk
@@ -300,10 +301,10 @@ module _ (servers : List ServerMirror) (now : DeskMirror) (view : ViewMirror) (l
       omega arith
 
   module _ (number : ℕ) (of_tree : IsServer old.levels number) (here : ServerMirror) (read : here ≡ get_or servers (number - 1) here) where
-    all_servers : List (List NodeEntry)
+    abbrev all_servers : List (List NodeEntry)
     all_servers = map (λ (s : ServerMirror). s.prefix) servers
 
-    entries_here : List NodeEntry
+    abbrev entries_here : List NodeEntry
     entries_here = server_prefix w number
 
     numbered : 1 + (number - 1) ≡ number
@@ -367,3 +368,34 @@ module _ (servers : List ServerMirror) (now : DeskMirror) (view : ViewMirror) (l
         by : (Gives step_of after_of here more → ⊥) ⊎ (length here.prefix + length more < least) → IsForeign w (parts.Server number) (entries.Server more) least
         by (inl never) = inl (λ next. never (subst (λ (m : ServerMirror). Gives step_of after_of m more) (sym server_is) next))
         by (inr short) = inr (subst (λ (m : ServerMirror). length m.prefix + length more < least) server_is short)
+
+-- ---- going back
+
+take-first : {E : Type 0} (xs ys : List E) → take (length xs) (xs ++ ys) ≡ xs
+take-first [] ys = refl
+take-first (x ∷ xs) ys = ap (λ rest. x ∷ rest) (take-first xs ys)
+
+-- a mirror that followed entries and went back is as it was
+pub back_is : {S A R : Type 0} (after : S → ℕ → A → S) (here again back : Mirrored S A R) (before : S) (count : ℕ) (more : List (Entry A R))
+    → again ≡ led after here more → before ≡ here.part → count ≡ length here.prefix → back ≡ mirrored before (take count again.prefix) → back ≡ here
+back_is after here again back before count more grew was many is =
+    is ∙ (λ i. mirrored (was i) (take (many i) (grew i).prefix)) ∙ ap (mirrored here.part) (take-first here.prefix more)
+
+module _ (servers : List ServerMirror) (place : ℕ) (less : place < length servers) where
+  -- so are the servers where it stands again as it was read
+  pub servers_back : (here m back : ServerMirror) → here ≡ get_or servers place here → back ≡ here → set (set servers place m) place back ≡ servers
+  servers_back here m back read is = set-set servers place m back ∙ ap (set servers place) (is ∙ read) ∙ set-get_or servers place here
+
+  -- what is read there twice is one
+  pub read_again : (here again : ServerMirror) → here ≡ get_or servers place here → again ≡ get_or servers place again → again ≡ here
+  read_again here again read once_more = once_more ∙ get_or_default servers place again here less ∙ sym read
+
+  -- what is read where it was put
+  pub put_there : (m again : ServerMirror) → again ≡ get_or (set servers place m) place again → again ≡ m
+  put_there m again read = read ∙ get_or-set_same servers place m again less
+
+  pub prefix_there : (m : ServerMirror) → get_or (map (λ (s : ServerMirror). s.prefix) (set servers place m)) place [] ≡ m.prefix
+  prefix_there m =
+      let count : length (map (λ (s : ServerMirror). s.prefix) servers) ≡ length servers = length-map servers (λ (s : ServerMirror). s.prefix) in
+      ap (λ (l : List (List NodeEntry)). get_or l place []) (map-set (λ (s : ServerMirror). s.prefix) servers place m)
+      ∙ get_or-set_same (map (λ (s : ServerMirror). s.prefix) servers) place m.prefix [] (omega (arith, less, count))
