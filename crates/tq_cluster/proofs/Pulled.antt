@@ -1,5 +1,6 @@
 -- Prefixes that pulls continue.
 use Rattle.std.proofs.Common.{◌≡◌, ◌≢◌, ◌⊎◌, ◌≤◌, ◌<◌, ◌+◌, ◌-◌, ◌^◌, ℕ, zero, suc, List, [], ◌∷◌, ◌++◌, length, set, get_or, inl, inr, refl, sym, ap, subst, ◌∙◌, arith, append_assoc, append-nil}
+use Rattle.std.specs.Prelude.{Result, Ok, Err, IfErr, OnOk, OnErr}
 use Rattle.std.proofs.lemmas.List.{get_or-set_other}
 use Rattle.std.proofs.lemmas.Bool.{cases_eq}
 use Rattle.tq_shape.specs.Tree.{IsServer}
@@ -8,7 +9,8 @@ use Rattle.tq_shape.specs.declared.part.Part.TheVariants as parts
 use Rattle.tq_tables.specs.Journals.{JournalsView}
 use Rattle.tq_prefixes.specs.declared.entries.Entries.{Entries}
 use Rattle.tq_prefixes.specs.declared.entries.Entries.TheVariants as entries
-use Rattle.tq_prefixes.specs.Prefixes.{IsPartOf, prefix_length, server_prefix, grown}
+use Rattle.tq_prefixes.specs.declared.fault.PullFault.{PullFault}
+use Rattle.tq_prefixes.specs.Prefixes.{IsPartOf, IsPullFault, prefix_length, server_prefix, grown}
 use Rattle.tq_cluster.specs.Told.{CallerView, seen_of, having_seen}
 use Rattle.tq_cluster.specs.Pulls.{EachContinues, Continues, HasSeenAll, HasSeenServers}
 
@@ -121,3 +123,23 @@ all-seen start first levels of_desk of_view seen_desk seen_view middle last seco
         servers number within.0 (omega (arith, most))
     by parts.Desk servers desk view same there = desk
     by parts.View servers desk view same there = view
+
+-- ---- after one more pull, that was taken or not
+
+pub continues-after : {T : Type 0} (start old new : JournalsView) (part : Part) (r : Result T PullFault) → OnOk r ((more : Entries) × (new ≡ grown old part more)) → OnErr r (new ≡ old)
+    → Continues start old → Continues start new
+continues-after start old new part (Ok x) grew same before = subst (λ (o : JournalsView). Continues start o) (sym grew.1) (continues-grown start old part grew.0 before)
+continues-after start old new part (Err f) grew same before = subst (λ (o : JournalsView). Continues start o) (sym same) before
+
+pub fault-after : {T : Type 0} (old new : JournalsView) (caller : CallerView) (part : Part) (r : Result T PullFault) → IfErr r (λ f. (more : Entries) × IsPullFault old part more (seen_of caller part) f) → OnErr r (new ≡ old)
+    → IfErr r (λ f. (there : Part) × (more : Entries) × IsPullFault new there more (seen_of caller there) f)
+fault-after old new caller part (Ok x) is same = tt
+fault-after old new caller part (Err f) is same = (part, is.0, subst (λ (o : JournalsView). IsPullFault o part is.0 (seen_of caller part) f) (sym same) is.1)
+
+pub seen-after : {T : Type 0} (start : JournalsView) (first : CallerView) (levels : ℕ) (of_desk : Entries) (seen_desk seen_view : ℕ) (middle last : JournalsView) (second third : CallerView) (r : Result T PullFault)
+    → HasSeenServers start first (2 ^ levels - 1) → middle ≡ grown start parts.Desk of_desk → second ≡ having_seen first parts.Desk seen_desk
+    → OnOk r ((more : Entries) × (last ≡ grown middle parts.View more)) → third ≡ having_seen second parts.View seen_view
+    → seen_of second parts.Desk ≤ prefix_length middle parts.Desk → OnOk r (seen_of third parts.View ≤ prefix_length last parts.View) → last.levels ≡ levels → OnOk r (HasSeenAll last third)
+seen-after start first levels of_desk seen_desk seen_view middle last second third (Ok x) servers grew saw grew_more saw_more desk view same =
+    all-seen start first levels of_desk grew_more.0 seen_desk seen_view middle last second third servers grew saw grew_more.1 saw_more desk view same
+seen-after start first levels of_desk seen_desk seen_view middle last second third (Err f) servers grew saw grew_more saw_more desk view same = tt

@@ -132,10 +132,15 @@ impl LiveBoard {
         ensures told { caller.new.told ≡ caller.old.told }
         ensures tree { caller.new.levels ≡ caller.old.levels }
     {
-        self.pull_servers(rt, alloc, cluster, caller)?;
-        self.pull_part(rt, alloc, cluster, caller, Part::Desk)?;
-        self.pull_part(rt, alloc, cluster, caller, Part::View)?;
-        Ok(())
+        match self.pull_servers(rt, alloc, cluster, caller) {
+            Ok(()) => (),
+            Err(fault) => return Err(fault),
+        }
+        match self.pull_part(rt, alloc, cluster, caller, Part::Desk) {
+            Ok(()) => (),
+            Err(fault) => return Err(fault),
+        }
+        self.pull_part(rt, alloc, cluster, caller, Part::View)
     }
 
     /// Pulls all servers, as `pull` does all parts.
@@ -156,7 +161,10 @@ impl LiveBoard {
         ensures tree { caller.new.levels ≡ caller.old.levels }
     {
         for place in 0..cluster.levels().servers() {
-            self.pull_part(rt, alloc, cluster, caller, Part::Server(place + 1))?;
+            match self.pull_part(rt, alloc, cluster, caller, Part::Server(place + 1)) {
+                Ok(()) => (),
+                Err(fault) => return Err(fault),
+            }
         }
         Ok(())
     }
