@@ -1,5 +1,5 @@
 -- Parts stand where their entries leave them, also after more entries.
-use Rattle.std.proofs.Common.{◌≡◌, ◌≤◌, ◌<◌, ◌+◌, ◌-◌, ◌^◌, ◌⊎◌, ℕ, zero, suc, List, [], ◌∷◌, ◌++◌, length, map, set, get_or, take, replicate, refl, sym, ap, subst, ◌∙◌, arith, append_assoc, append-nil, inl, inr}
+use Rattle.std.proofs.Common.{◌≡◌, ◌<◌, ◌+◌, ◌-◌, ◌^◌, ◌⊎◌, ℕ, zero, suc, List, [], ◌∷◌, ◌++◌, length, map, set, get_or, take, replicate, refl, sym, ap, subst, ◌∙◌, arith, append_assoc, append-nil, inl, inr}
 use Rattle.std.specs.Prelude.{reverse}
 use Rattle.std.proofs.lemmas.List.{length-map, length-set, length-replicate, length_push, map-set, replicate_more, set-set, set-get_or, get_or-set_same, get_or_default}
 use Rattle.std.proofs.lemmas.Nat.{pow_pos}
@@ -19,19 +19,17 @@ use Rattle.tq_node.specs.Records.{NodeState, node_reply, node_after}
 use Rattle.tq_node.specs.Node.{NodeView, answered}
 use Rattle.tq_node.specs.Node as node
 use Rattle.tq_node.specs.NodeJournal.{NodeEntry, IsLegalNode, nothing_stored}
-use Rattle.tq_desk.specs.declared.ask.DeskAsk.{DeskAsk}
 use Rattle.tq_desk.specs.DeskStep.{DeskView, desk_reply, desk_after}
 use Rattle.tq_desk.specs.DeskStep as desk
 use Rattle.tq_desk.specs.DeskJournal.{DeskEntry, IsLegalDesk, step_reply, step_after, opened}
 use Rattle.tq_live.specs.Live.{Live}
-use Rattle.tq_live.specs.View.{IsLegalView, view_state, view_reply, view_after, view_reply_at, view_after_at}
-use Rattle.tq_live.specs.declared.view.ViewAsk.{ViewAsk}
+use Rattle.tq_live.specs.View.{IsLegalView, view_state, view_reply_at, view_after_at}
 use Rattle.tq_live.proofs.Journal.{replays}
 use Rattle.tq_tables.proofs.Replayed.{answered-push}
 use Rattle.tq_tables.specs.Journals.{JournalsView, ViewEntry}
-use Rattle.tq_tables.specs.Parts.{AreLegal, AreLegalServers, bounds_of, node_at, node_after_all, nodes_at, desk_at, view_at}
+use Rattle.tq_tables.specs.Parts.{AreLegalServers, bounds_of, node_after_all, nodes_at, desk_at, view_at}
 use Rattle.tq_prefixes.specs.declared.entries.Entries.TheVariants as entries
-use Rattle.tq_prefixes.specs.Prefixes.{nothing_pulled, server_prefix, grown, GivesNext, IsForeign, IsPullFault, fault_of}
+use Rattle.tq_prefixes.specs.Prefixes.{nothing_pulled, server_prefix, grown, IsForeign, IsPullFault, fault_of}
 use Rattle.tq_prefixes.specs.Mirrors.{ServerMirror, DeskMirror, ViewMirror, server_at, servers_at, prefixes_in, AreMirrors}
 
 -- ---- the servers of a tree

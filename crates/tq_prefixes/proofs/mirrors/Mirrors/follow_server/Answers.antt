@@ -1,4 +1,4 @@
-use Rattle.std.proofs.Common.{◌≡◌, ◌≤◌, ◌-◌, ◌∙◌, List, length, ap, sym, subst, arith}
+use Rattle.std.proofs.Common.{◌≤◌, ◌-◌, ◌∙◌, List, length, ap, sym, subst}
 use Rattle.tq_shape.specs.declared.part.Part.TheVariants as parts
 use Rattle.tq_node.specs.NodeJournal.{NodeEntry}
 use Rattle.tq_prefixes.specs.declared.entries.Entries.TheVariants as entries
