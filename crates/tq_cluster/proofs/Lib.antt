@@ -3,3 +3,5 @@ pub mod LegalParts
 pub mod Lists
 pub mod Names
 pub mod Closing
+pub mod Seen
+pub mod Pulled

@@ -1,3 +1,4 @@
 pub mod Cluster
 pub mod Told
 pub mod Closes
+pub mod Pulls

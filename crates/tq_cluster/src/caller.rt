@@ -26,7 +26,11 @@ impl Model for Caller {
 
     ghost Value = { CallerView };
 
-    ghost view = { λ c. record { levels = c.levels; told = map exchange_of c.heard.items } };
+    ghost view = { λ c. record {
+      levels = c.levels;
+      told = map exchange_of c.heard.items;
+      seen = record { servers = map (λ pass. pass.seen) c.servers.items; desk = c.desk.seen; view = c.view.seen };
+    } };
 
     ghost invariant = { λ c. length c.servers.items + 1 ≡ 2 ^ c.levels };
 }
@@ -41,7 +45,11 @@ impl Caller {
         view: Pass<View>,
     ) -> Caller
         requires { vec_len servers + 1 ≡ 2 ^ levels }
-        ensures { result ≡ record { levels = levels; told = [] } }
+        ensures { result ≡ record {
+          levels = levels;
+          told = [];
+          seen = record { servers = map (λ pass. pass.seen) servers.items; desk = desk.seen; view = view.seen };
+        } }
     {
         Caller {
             levels,

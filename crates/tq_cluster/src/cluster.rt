@@ -1,7 +1,7 @@
 ghost use Rattle.std.specs.Prelude.{◌≡◌, ◌≤◌, ◌+◌, ◌^◌, ◌++◌, ◌⊎◌, [], IfOk, IfErr, vec_capacity};
 ghost use Rattle.tq_txn.specs.Dialogue.{node_exchange, desk_exchange, view_exchange};
 ghost use Rattle.tq_tables.specs.Parts.{AreLegal};
-ghost use Rattle.tq_cluster.specs.Told.{IsToldByServer, IsToldByDesk, IsToldByView};
+ghost use Rattle.tq_cluster.specs.Told.{IsToldByServer, IsToldByDesk, IsToldByView, nothing_seen, seen_of};
 
 use crate::call::call;
 use crate::caller::Caller;
@@ -25,9 +25,9 @@ use tq_txn::{DeskTold, Exchange, NodeTold, ViewTold};
 pub struct Cluster<G: Gate + Drop> {
     levels: Levels,
     limits: Limits,
-    servers: Vec<Cell<Node>>,
-    desk: Cell<Desk>,
-    view: Cell<View>,
+    pub(crate) servers: Vec<Cell<Node>>,
+    pub(crate) desk: Cell<Desk>,
+    pub(crate) view: Cell<View>,
     gate: G,
 }
 
@@ -71,7 +71,7 @@ impl<G: Gate + Drop> Cluster<G> {
 
     /// A caller that was told nothing. Answers an error only where memory is refused.
     pub fn caller(&self, alloc: Global) -> Result<Caller, Memory>
-        ensures { IfOk result (λ caller. caller ≡ record { levels = self.now.levels; told = [] }) }
+        ensures { IfOk result (λ caller. caller ≡ record { levels = self.now.levels; told = []; seen = nothing_seen self.now.levels }) }
     {
         let mut servers = Vec::new(alloc);
         for cell in self.servers.as_slice() {
@@ -80,6 +80,13 @@ impl<G: Gate + Drop> Cluster<G> {
         let desk = self.desk.pass(alloc);
         let view = self.view.pass(alloc);
         Ok(Caller::new(alloc, self.levels, servers, desk, view))
+    }
+
+    /// How many levels the tree of servers has.
+    pub fn levels(&self) -> Levels
+        ensures { result ≡ self.now.levels }
+    {
+        self.levels
     }
 
     /// The journals of all parts, once no thread asks them any more. What the callers were told is compared with
@@ -135,6 +142,7 @@ impl<G: Gate + Drop> Cluster<G> {
         ensures exchanges { caller.new.told ≡ caller.old.told ++ node_exchange server.number ask result }
         ensures same { IfOk result (λ t. (t.server ≡ server.number) × (t.ask ≡ ask)) }
         ensures reply { IfOk result (λ t. IsToldByServer t.number t.ask t.reply) }
+        ensures seen { IfOk result (λ t. t.number ≤ seen_of caller.new (Part.Server server.number)) }
         ensures fault { IfErr result (λ f. (f ≡ AskFault.Memory) ⊎ (f ≡ AskFault.JournalFull (Part.Server server.number))) }
         ensures tree { caller.new.levels ≡ caller.old.levels }
     {
@@ -180,6 +188,7 @@ impl<G: Gate + Drop> Cluster<G> {
         ensures exchanges { caller.new.told ≡ caller.old.told ++ desk_exchange ask result }
         ensures same { IfOk result (λ t. t.ask ≡ ask) }
         ensures reply { IfOk result (λ t. IsToldByDesk t.number t.ask t.reply) }
+        ensures seen { IfOk result (λ t. t.number ≤ seen_of caller.new Part.Desk) }
         ensures fault { IfErr result (λ f. (f ≡ AskFault.Memory) ⊎ (f ≡ AskFault.JournalFull Part.Desk)) }
         ensures tree { caller.new.levels ≡ caller.old.levels }
     {
@@ -218,6 +227,7 @@ impl<G: Gate + Drop> Cluster<G> {
         ensures exchanges { caller.new.told ≡ caller.old.told ++ view_exchange ask result }
         ensures same { IfOk result (λ t. t.ask ≡ ask) }
         ensures reply { IfOk result (λ t. IsToldByView t.number t.ask t.reply) }
+        ensures seen { IfOk result (λ t. t.number ≤ seen_of caller.new Part.View) }
         ensures fault { IfErr result (λ f. (f ≡ AskFault.Memory) ⊎ (f ≡ AskFault.JournalFull Part.View)) }
         ensures tree { caller.new.levels ≡ caller.old.levels }
     {

@@ -9,8 +9,11 @@ mod cluster;
 mod heard;
 mod journals;
 mod retold;
+mod live_board;
 
 pub use asking::Asking;
 pub use caller::Caller;
 pub use cluster::Cluster;
 pub use tq_closing::{CloseFault, Explained};
+pub use live_board::LiveBoard;
+pub use tq_prefixes::{Entries, PullFault};
