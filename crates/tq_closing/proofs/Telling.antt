@@ -51,19 +51,17 @@ module _ (journals : JournalsView) (told : List Exchange) (i : ℕ) (e : Exchang
   next_names = ap names_of (next_item told i e within is) ∙ sym (flat_map_more names_in [] (take i told) e)
 
   pub no_name : names_in e ≡ [] → (names ≡ names_of (take (i + 1) told)) × All (Stands journals) (take (i + 1) told)
-  no_name none =
-      (
-        so_far ∙ sym (append-nil (names_of (take i told))) ∙ ap (λ (l : List EntryName). names_of (take i told) ++ l) (sym none) ∙ sym next_names,
-        all_next (Stands journals) told i e within is stand (nameless_stands journals e none),
-      )
+  no_name none = (
+    so_far ∙ sym (append-nil (names_of (take i told))) ∙ ap (λ (l : List EntryName). names_of (take i told) ++ l) (sym none) ∙ sym next_names,
+    all_next (Stands journals) told i e within is stand (nameless_stands journals e none),
+  )
 
   pub one_name : (name : EntryName) (after : List EntryName) → names_in e ≡ name ∷ [] → Stands journals e → after ≡ names ++ name ∷ []
       → (after ≡ names_of (take (i + 1) told)) × All (Stands journals) (take (i + 1) told)
-  one_name name after named stands grown =
-      (
-        grown ∙ (λ j. so_far j ++ sym named j) ∙ sym next_names,
-        all_next (Stands journals) told i e within is stand stands,
-      )
+  one_name name after named stands grown = (
+    grown ∙ (λ j. so_far j ++ sym named j) ∙ sym next_names,
+    all_next (Stands journals) told i e within is stand stands,
+  )
 
 -- ---- what stands is within the journals
 

@@ -74,11 +74,13 @@ fn differs(
     caller: Caller,
 ) -> Result<(Part, bool), Wrong> {
     match cluster.close(alloc, vec![in alloc; caller]?) {
-        Err(CloseFault::Receipt {
-            part,
-            number,
-            found,
-        }) => {
+        Err(
+            CloseFault::Receipt {
+                part,
+                number,
+                found,
+            },
+        ) => {
             check(number == 1, "another number")?;
             Ok((part, found.is_some()))
         }
