@@ -1,5 +1,5 @@
 -- Whether two asks or two replies are the same, as tests.
-use Rattle.std.specs.Prelude.{◌==◌, ◌&&◌, Bool, true, false, List}
+use Rattle.std.specs.Prelude.{◌==◌, ◌&&◌, Bool, true, false}
 use Rattle.std.specs.Cmp.Lexicographic.{pointwise}
 use Rattle.tq_store.specs.declared.write.Write.{Write}
 use Rattle.tq_locks.specs.declared.mode.Mode.{Mode}

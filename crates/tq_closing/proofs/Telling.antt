@@ -1,19 +1,18 @@
 -- What one more exchange tells, and what one more caller was told.
-use Rattle.std.proofs.Common.{◌≡◌, ◌⊎◌, inl, inr, ◌<◌, ◌≤◌, ◌+◌, ◌-◌, ℕ, zero, suc, List, [], ◌∷◌, ◌++◌, length, get_or, take, map, Option, Some, None, Ok, Err, refl, sym, ap, subst, ◌∙◌, arith, append-nil}
+use Rattle.std.proofs.Common.{◌≡◌, inl, inr, ◌<◌, ◌≤◌, ◌+◌, ◌-◌, ℕ, zero, suc, List, [], ◌∷◌, ◌++◌, length, get_or, take, map, Option, Some, None, Ok, Err, refl, sym, ap, subst, ◌∙◌, arith, append-nil}
 use Rattle.std.specs.Prelude.{slice_get}
-use Rattle.std.specs.List.{All, flat_map}
+use Rattle.std.specs.List.{All}
 use Rattle.std.specs.Option.{option_map, option_and_then, is_some}
 use Rattle.std.proofs.lemmas.Bool.{false≢true}
 use Rattle.std.proofs.lemmas.Option.{slice_get-map, slice_get_within, get_or_from_slice_get}
 use Rattle.std.proofs.lemmas.List.{flat_map_more, take_more}
 use Rattle.std.proofs.lemmas.List.Elements.{All-nil, All-cons, All-append, All-push, All-head, All-tail, All-map, All-weaker}
 use Rattle.tq_shape.specs.Journal.{Has}
-use Rattle.tq_shape.specs.declared.entry.Entry.{Entry}
 use Rattle.tq_txn.specs.declared.asker.Exchange.{Exchange}
 use Rattle.tq_txn.specs.declared.asker.Exchange.TheVariants as exchanges
 use Rattle.tq_node.specs.NodeJournal.{NodeEntry}
 use Rattle.tq_tables.specs.Journals.{JournalsView}
-use Rattle.tq_world.specs.World.{item_at, server_entry}
+use Rattle.tq_world.specs.World.{item_at}
 use Rattle.tq_world.proofs.Rooms.{item_above}
 use Rattle.tq_receipts.specs.declared.name.EntryName.{EntryName}
 use Rattle.tq_receipts.specs.Names.{IsWithin}
@@ -52,19 +51,17 @@ module _ (journals : JournalsView) (told : List Exchange) (i : ℕ) (e : Exchang
   next_names = ap names_of (next_item told i e within is) ∙ sym (flat_map_more names_in [] (take i told) e)
 
   pub no_name : names_in e ≡ [] → (names ≡ names_of (take (i + 1) told)) × All (Stands journals) (take (i + 1) told)
-  no_name none =
-      (
-        so_far ∙ sym (append-nil (names_of (take i told))) ∙ ap (λ (l : List EntryName). names_of (take i told) ++ l) (sym none) ∙ sym next_names,
-        all_next (Stands journals) told i e within is stand (nameless_stands journals e none),
-      )
+  no_name none = (
+    so_far ∙ sym (append-nil (names_of (take i told))) ∙ ap (λ (l : List EntryName). names_of (take i told) ++ l) (sym none) ∙ sym next_names,
+    all_next (Stands journals) told i e within is stand (nameless_stands journals e none),
+  )
 
   pub one_name : (name : EntryName) (after : List EntryName) → names_in e ≡ name ∷ [] → Stands journals e → after ≡ names ++ name ∷ []
       → (after ≡ names_of (take (i + 1) told)) × All (Stands journals) (take (i + 1) told)
-  one_name name after named stands grown =
-      (
-        grown ∙ (λ j. so_far j ++ sym named j) ∙ sym next_names,
-        all_next (Stands journals) told i e within is stand stands,
-      )
+  one_name name after named stands grown = (
+    grown ∙ (λ j. so_far j ++ sym named j) ∙ sym next_names,
+    all_next (Stands journals) told i e within is stand stands,
+  )
 
 -- ---- what stands is within the journals
 

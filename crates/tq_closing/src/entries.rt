@@ -44,10 +44,7 @@ fn of_view(entry: &ViewEntry) -> Result<Entry<Step, Reply>, Memory>
 }
 
 /// The entry of that name, if there is one. Answers an error only where memory is refused.
-pub fn found(
-    journals: &Journals,
-    name: EntryName,
-) -> Result<Option<Entry<Step, Reply>>, Memory>
+pub fn found(journals: &Journals, name: EntryName) -> Result<Option<Entry<Step, Reply>>, Memory>
     ensures { IfOk result (λ found. found ≡ found_at journals.now name.part name.number) }
 {
     let EntryName { part, number } = name;

@@ -20,7 +20,10 @@ pub enum CloseFault {
         found: Option<Entry<Step, Reply>>,
     },
     /// No order of these entries exists. The greatest number of entries of each part that can be placed.
-    Stuck { journals: Journals, placed: Counts },
+    Stuck {
+        journals: Journals,
+        placed: Counts,
+    },
 }
 
 impl From<AllocError> for CloseFault {

@@ -14,9 +14,8 @@ use Rattle.tq_closing.specs.Kept.{AreKept}
 pub closed_by : (cluster : ClusterView) (journals : JournalsView) (told : List (List Exchange)) (fault : CloseFault) → AreOfCluster cluster journals → IsCloseFault journals told fault → IsClosedBy cluster told fault
 closed_by cluster journals told faults.Memory of_cluster is = tt
 closed_by cluster journals told (faults.Receipt part number found) of_cluster is = (journals, of_cluster, is.0, is.1)
-closed_by cluster journals told (faults.Stuck given placed) of_cluster is =
-    (
-      subst (AreOfCluster cluster) (sym is.1) of_cluster,
-      subst (λ (j : JournalsView). AreKept j told) (sym is.1) is.0,
-      subst (λ (j : JournalsView). IsStuck j placed) (sym is.1) is.2,
-    )
+closed_by cluster journals told (faults.Stuck given placed) of_cluster is = (
+  subst (AreOfCluster cluster) (sym is.1) of_cluster,
+  subst (λ (j : JournalsView). AreKept j told) (sym is.1) is.0,
+  subst (λ (j : JournalsView). IsStuck j placed) (sym is.1) is.2,
+)

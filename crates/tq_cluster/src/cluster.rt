@@ -102,11 +102,7 @@ impl<G: Gate + Drop> Cluster<G> {
     }
 
     /// The journals of all parts, those of the servers put into the room for them.
-    fn journals_into(
-        self,
-        alloc: Global,
-        room: Vec<Vec<NodeEntry>>,
-    ) -> Result<Journals, Memory>
+    fn journals_into(self, alloc: Global, room: Vec<Vec<NodeEntry>>) -> Result<Journals, Memory>
         requires empty { room.items ≡ [] }
         requires room { 2 ^ self.levels ≤ vec_capacity room + 1 }
         ensures levels { IfOk result (λ journals. journals.levels ≡ self.levels) }

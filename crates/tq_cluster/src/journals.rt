@@ -72,12 +72,7 @@ pub(crate) fn desk_journal(
     ensures legal { IfOk result (λ entries. IsLegalDesk (bounds_of levels limits) (reverse entries.items)) }
     ensures fits { IfOk result (λ entries. vec_len entries ≤ limits.entries) }
 {
-    desk_entries(
-        alloc,
-        levels,
-        limits,
-        cell.into_journaled().into_entries(),
-    )
+    desk_entries(alloc, levels, limits, cell.into_journaled().into_entries())
 }
 
 /// These entries of the desk, all of them. That its cell held a desk of other levels or limits cannot be; but no fact of

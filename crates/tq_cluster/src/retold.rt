@@ -63,10 +63,7 @@ fn told_to(alloc: Global, caller: Caller) -> Result<Seq<Exchange>, Memory>
 }
 
 /// What each of the callers was told of its asks. Answers an error only where memory is refused.
-pub(crate) fn told_to_all(
-    alloc: Global,
-    callers: Vec<Caller>,
-) -> Result<Vec<Seq<Exchange>>, Memory>
+pub(crate) fn told_to_all(alloc: Global, callers: Vec<Caller>) -> Result<Vec<Seq<Exchange>>, Memory>
     ensures { IfOk result (λ told. told.items ≡ map (λ caller. caller.told) callers.items) }
 {
     let mut told = Vec::new(alloc);

@@ -32,21 +32,21 @@ module _ (last : List ℕ) (seen : List EntryName) (keeps : KeepsLast last seen)
   below_more within above e has =
       let here = get_or-set_same last (place_of name.part) name.number 0 within in
       elim (has_push seen name e has) [
-        inl old ↦
-          let most = keeps.below e old in
-          elim (cases_eq (place_of e.part) (place_of name.part)) [
-            inl same ↦
-              let at : get_or (set last (place_of name.part) name.number) (place_of e.part) 0 ≡ name.number = ap (λ (k : ℕ). get_or (set last (place_of name.part) name.number) k 0) same ∙ here in
-              let was : get_or last (place_of e.part) 0 ≡ get_or last (place_of name.part) 0 = ap (λ (k : ℕ). get_or last k 0) same in
-              omega (arith, at, was, above, most)
-          | inr other ↦
-              let at = get_or-set_other last (place_of name.part) (place_of e.part) name.number 0 other in
-              omega (arith, at, most)
-          ]
-      | inr same ↦
-          let at : get_or (set last (place_of name.part) name.number) (place_of e.part) 0 ≡ name.number = ap (λ (x : EntryName). get_or (set last (place_of name.part) name.number) (place_of x.part) 0) (sym same) ∙ here in
-          let number : name.number ≡ e.number = ap (λ (x : EntryName). x.number) same in
-          omega (arith, at, number)
+        | inl old ↦
+            let most = keeps.below e old in
+            elim (cases_eq (place_of e.part) (place_of name.part)) [
+              | inl same ↦
+                  let at : get_or (set last (place_of name.part) name.number) (place_of e.part) 0 ≡ name.number = ap (λ (k : ℕ). get_or (set last (place_of name.part) name.number) k 0) same ∙ here in
+                  let was : get_or last (place_of e.part) 0 ≡ get_or last (place_of name.part) 0 = ap (λ (k : ℕ). get_or last k 0) same in
+                  omega (arith, at, was, above, most)
+              | inr other ↦
+                  let at = get_or-set_other last (place_of name.part) (place_of e.part) name.number 0 other in
+                  omega (arith, at, most)
+            ]
+        | inr same ↦
+            let at : get_or (set last (place_of name.part) name.number) (place_of e.part) 0 ≡ name.number = ap (λ (x : EntryName). get_or (set last (place_of name.part) name.number) (place_of x.part) 0) (sym same) ∙ here in
+            let number : name.number ≡ e.number = ap (λ (x : EntryName). x.number) same in
+            omega (arith, at, number)
       ]
 
   from_more : place_of name.part < length last
@@ -54,17 +54,17 @@ module _ (last : List ℕ) (seen : List EntryName) (keeps : KeepsLast last seen)
   from_more within p =
       let here = get_or-set_same last (place_of name.part) name.number 0 within in
       elim (cases_eq (place_of p) (place_of name.part)) [
-        inl same ↦
-          let at : get_or (set last (place_of name.part) name.number) (place_of p) 0 ≡ name.number = ap (λ (k : ℕ). get_or (set last (place_of name.part) name.number) k 0) same ∙ here in
-          let part = same_place p name.part same in
-          let is : name ≡ record { part = p; number = get_or (set last (place_of name.part) name.number) (place_of p) 0 } = (λ i. record { part = sym part i; number = sym at i }) in
-          inr (subst (λ (e : EntryName). Has (seen ++ name ∷ []) e) is (has_end seen name))
-      | inr other ↦
-          let at = get_or-set_other last (place_of name.part) (place_of p) name.number 0 other in
-          elim (keeps.from p) [
-            inl none ↦ inl (at ∙ none)
-          | inr has ↦ inr (subst (λ (n : ℕ). Has (seen ++ name ∷ []) (record { part = p; number = n })) (sym at) (has_more seen (name ∷ []) _ has))
-          ]
+        | inl same ↦
+            let at : get_or (set last (place_of name.part) name.number) (place_of p) 0 ≡ name.number = ap (λ (k : ℕ). get_or (set last (place_of name.part) name.number) k 0) same ∙ here in
+            let part = same_place p name.part same in
+            let is : name ≡ record { part = p; number = get_or (set last (place_of name.part) name.number) (place_of p) 0 } = (λ i. record { part = sym part i; number = sym at i }) in
+            inr (subst (λ (e : EntryName). Has (seen ++ name ∷ []) e) is (has_end seen name))
+        | inr other ↦
+            let at = get_or-set_other last (place_of name.part) (place_of p) name.number 0 other in
+            elim (keeps.from p) [
+              | inl none ↦ inl (at ∙ none)
+              | inr has ↦ inr (subst (λ (n : ℕ). Has (seen ++ name ∷ []) (record { part = p; number = n })) (sym at) (has_more seen (name ∷ []) _ has))
+            ]
       ]
 
   pub keeps_more : place_of name.part < length last → get_or last (place_of name.part) 0 < name.number → KeepsLast (set last (place_of name.part) name.number) (seen ++ name ∷ [])
@@ -74,8 +74,8 @@ module _ (last : List ℕ) (seen : List EntryName) (keeps : KeepsLast last seen)
   pub is_fallen : (rest : List EntryName) → 1 ≤ name.number → name.number ≤ get_or last (place_of name.part) 0 → IsFallen (seen ++ name ∷ rest) name
   is_fallen rest least most =
       elim (keeps.from name.part) [
-        inl none ↦ absurd (omega (arith, none, least, most))
-      | inr has ↦ record { before = seen; after = rest; names_are = refl; earlier = _; is_before = has; same = refl; not_below = most }
+        | inl none ↦ absurd (omega (arith, none, least, most))
+        | inr has ↦ record { before = seen; after = rest; names_are = refl; earlier = _; is_before = has; same = refl; not_below = most }
       ]
 
 -- ---- the next name of a list

@@ -1,9 +1,9 @@
 -- The marks of the entries that are named.
-use Rattle.std.proofs.Common.{◌≡◌, ◌⊎◌, inl, inr, ◌<◌, ◌≤◌, ◌+◌, ◌-◌, ◌==◌, ◌&&◌, ◌||◌, ℕ, zero, suc, Bool, true, false, not, cond, List, [], ◌∷◌, ◌++◌, length, get_or, set, take, drop, map, replicate, refl, sym, ap, subst, ◌∙◌, arith}
+use Rattle.std.proofs.Common.{◌≡◌, inl, inr, ◌<◌, ◌≤◌, ◌+◌, ◌-◌, ◌==◌, ◌&&◌, ◌||◌, ℕ, zero, suc, Bool, true, false, not, cond, List, [], ◌∷◌, ◌++◌, length, get_or, set, take, drop, map, replicate, refl, sym, ap, subst, ◌∙◌, arith}
 use Rattle.std.specs.Prelude.{count_by}
-use Rattle.std.specs.List.{All, sum_by, list_any}
+use Rattle.std.specs.List.{All, sum_by}
 use Rattle.std.proofs.lemmas.Bool.{cases_eq, cases_lt, cases_Bool, and_parts, and_from, and_left, and_right, or_left, or_right, or_cases, or_from, eqb-true, eq-eqb, ne_eqb, false_from_ne_true, false≢true}
-use Rattle.std.proofs.lemmas.List.{get_or-set_same, get_or-set_other, get_or_default, get_or-map, get_or-replicate, get_or_past, length-map, length-set, length-replicate, take_more, take_all}
+use Rattle.std.proofs.lemmas.List.{get_or-set_same, get_or-set_other, get_or_default, get_or-replicate, get_or_past, length-map, length-set, length-replicate, take_more, take_all}
 use Rattle.std.proofs.lemmas.List.Elements.{All-get_or, All-from_get_or}
 use Rattle.std.proofs.lemmas.List.Folds.{list_any-append}
 use Rattle.std.proofs.lemmas.List.Sums.{count_by_more_yes, count_by_more_no, sum_by-cons}
@@ -13,7 +13,7 @@ use Rattle.tq_shape.specs.declared.part.Part.TheVariants.{Server, Desk, View}
 use Rattle.tq_receipts.specs.declared.name.EntryName.{EntryName}
 use Rattle.tq_receipts.specs.Names.{place_of, part_at, same_part, is_named, unnamed, unnamed_from, AreDifferent, IsTwice, IsWithin}
 use Rattle.tq_receipts.proofs.LastNumbers.{splits}
-use Rattle.tq_receipts.proofs.Places.{has_end, has_more, has_push, same_place, counted}
+use Rattle.tq_receipts.proofs.Places.{has_push, same_place, counted}
 
 -- ---- equal parts
 
@@ -55,12 +55,12 @@ pub named_has : (names : List EntryName) (part : Part) (number : ℕ) → is_nam
 named_has [] part number named = absurd (false≢true named)
 named_has (n ∷ names) part number named =
     elim (or_cases (is_it part number n) (is_named names part number) named) [
-      inl here ↦
-        let both = and_parts (same_part n.part part) (n.number == number) here in
-        let at = part-is n.part part both.0 in
-        let numbered = eqb-true n.number number both.1 in
-        inl (λ i. record { part = at i; number = numbered i })
-    | inr rest ↦ inr (named_has names part number rest)
+      | inl here ↦
+          let both = and_parts (same_part n.part part) (n.number == number) here in
+          let at = part-is n.part part both.0 in
+          let numbered = eqb-true n.number number both.1 in
+          inl (λ i. record { part = at i; number = numbered i })
+      | inr rest ↦ inr (named_has names part number rest)
     ]
 
 -- one name more
@@ -103,8 +103,8 @@ none_marked : (counts : List ℕ) (place index : ℕ) → get_or (get_or (map (�
 none_marked [] place index = refl
 none_marked (c ∷ counts) zero index =
     elim (cases_lt index c) [
-      inl within ↦ get_or-replicate c index false false within
-    | inr past ↦ get_or_past (replicate c false) index false (let many = length-replicate c false in omega (arith, many, past))
+      | inl within ↦ get_or-replicate c index false false within
+      | inr past ↦ get_or_past (replicate c false) index false (let many = length-replicate c false in omega (arith, many, past))
     ]
 none_marked (c ∷ counts) (suc place) index = none_marked counts place index
 
@@ -143,33 +143,33 @@ module _ (counts : List ℕ) (marks : List (List Bool)) (seen : List EntryName) 
   many_more : (place : ℕ) → length (get_or marked_new place []) ≡ get_or counts place 0
   many_more place =
       elim (cases_eq place (place_of name.part)) [
-        inl same ↦
-          ap (λ (k : ℕ). length (get_or marked_new k [])) same ∙ ap length at_it ∙ length-set here (name.number - 1) true ∙ keeps.so_many (place_of name.part)
-          ∙ ap (λ (k : ℕ). get_or counts k 0) (sym same)
-      | inr other ↦ ap length (get_or-set_other marks (place_of name.part) place (set here (name.number - 1) true) [] other) ∙ keeps.so_many place
+        | inl same ↦
+            ap (λ (k : ℕ). length (get_or marked_new k [])) same ∙ ap length at_it ∙ length-set here (name.number - 1) true ∙ keeps.so_many (place_of name.part)
+            ∙ ap (λ (k : ℕ). get_or counts k 0) (sym same)
+        | inr other ↦ ap length (get_or-set_other marks (place_of name.part) place (set here (name.number - 1) true) [] other) ∙ keeps.so_many place
       ]
 
   marked_more : (part : Part) (index : ℕ) → index < get_or counts (place_of part) 0 → get_or (get_or marked_new (place_of part) []) index false ≡ is_named (seen ++ name ∷ []) part (suc index)
   marked_more part index within =
       elim (cases_eq (place_of part) (place_of name.part)) [
-        inl same ↦
-          let at : get_or marked_new (place_of part) [] ≡ set here (name.number - 1) true = ap (λ (k : ℕ). get_or marked_new k []) same ∙ at_it in
-          let was : get_or marks (place_of part) [] ≡ here = ap (λ (k : ℕ). get_or marks k []) same in
-          elim (cases_eq index (name.number - 1)) [
-            inl it ↦
-              let short = is_short in
-              let set_here : get_or (set here (name.number - 1) true) index false ≡ true =
-              ap (λ (k : ℕ). get_or (set here (name.number - 1) true) k false) it ∙ get_or-set_same here (name.number - 1) true false (omega (arith, short, good.0)) in
-              ap (λ (l : List Bool). get_or l index false) at ∙ set_here
-              ∙ sym (named_by_it seen name part (suc index) (same_place name.part part (sym same)) (omega (arith, it, good.0)))
-          | inr different ↦
-              ap (λ (l : List Bool). get_or l index false) at ∙ get_or-set_other here (name.number - 1) index true false different
-              ∙ ap (λ (l : List Bool). get_or l index false) (sym was) ∙ keeps.marked part index within
-              ∙ sym (not_by_it seen name part (suc index) (other_number name part (suc index) (λ (is : name.number ≡ suc index). different (omega (arith, is)))))
-          ]
-      | inr other ↦
-          ap (λ (l : List Bool). get_or l index false) (get_or-set_other marks (place_of name.part) (place_of part) (set here (name.number - 1) true) [] other)
-          ∙ keeps.marked part index within ∙ sym (not_by_it seen name part (suc index) (other_part name part (suc index) other))
+        | inl same ↦
+            let at : get_or marked_new (place_of part) [] ≡ set here (name.number - 1) true = ap (λ (k : ℕ). get_or marked_new k []) same ∙ at_it in
+            let was : get_or marks (place_of part) [] ≡ here = ap (λ (k : ℕ). get_or marks k []) same in
+            elim (cases_eq index (name.number - 1)) [
+              | inl it ↦
+                  let short = is_short in
+                  let set_here : get_or (set here (name.number - 1) true) index false ≡ true =
+                  ap (λ (k : ℕ). get_or (set here (name.number - 1) true) k false) it ∙ get_or-set_same here (name.number - 1) true false (omega (arith, short, good.0)) in
+                  ap (λ (l : List Bool). get_or l index false) at ∙ set_here
+                  ∙ sym (named_by_it seen name part (suc index) (same_place name.part part (sym same)) (omega (arith, it, good.0)))
+              | inr different ↦
+                  ap (λ (l : List Bool). get_or l index false) at ∙ get_or-set_other here (name.number - 1) index true false different
+                  ∙ ap (λ (l : List Bool). get_or l index false) (sym was) ∙ keeps.marked part index within
+                  ∙ sym (not_by_it seen name part (suc index) (other_number name part (suc index) (λ (is : name.number ≡ suc index). different (omega (arith, is)))))
+            ]
+        | inr other ↦
+            ap (λ (l : List Bool). get_or l index false) (get_or-set_other marks (place_of name.part) (place_of part) (set here (name.number - 1) true) [] other)
+            ∙ keeps.marked part index within ∙ sym (not_by_it seen name part (suc index) (other_part name part (suc index) other))
       ]
 
   pub keeps_more : KeepsMarks counts marked_new (seen ++ name ∷ [])
@@ -182,11 +182,10 @@ module _ (counts : List ℕ) (marks : List (List Bool)) (seen : List EntryName) 
 
 pub different_more : (seen : List EntryName) (name : EntryName) → AreDifferent seen → (Has seen name → ⊥) → AreDifferent (seen ++ name ∷ [])
 different_more [] name different fresh = ((λ none. none), tt)
-different_more (n ∷ seen) name different fresh =
-    (
-      (λ has. elim (has_push seen name n has) [ inl old ↦ different.0 old | inr same ↦ fresh (inl (sym same)) ]),
-      different_more seen name different.1 (λ has. fresh (inr has)),
-    )
+different_more (n ∷ seen) name different fresh = (
+  (λ has. elim (has_push seen name n has) [ inl old ↦ different.0 old | inr same ↦ fresh (inl (sym same)) ]),
+  different_more seen name different.1 (λ has. fresh (inr has)),
+)
 
 -- ---- how many are not named
 
@@ -198,10 +197,10 @@ unnamed_so_far names part marks (suc n) within marked =
     let there = marked n (omega arith) in
     let at_suc : count_by not (take (suc n) marks) ≡ count_by not (take (n + 1) marks) = ap (λ (k : ℕ). count_by not (take k marks)) (let up : suc n ≡ n + 1 = omega arith in up) in
     elim (cases_Bool (is_named names part (suc n))) [
-      inl named ↦
-        at_suc ∙ count_by_more_no not marks n false (omega arith) (ap not (there ∙ named)) ∙ before ∙ sym (ap (λ (b : Bool). unnamed names part n + cond b 0 1) named ∙ (let none : unnamed names part n + 0 ≡ unnamed names part n = omega arith in none))
-    | inr not_named ↦
-        at_suc ∙ count_by_more_yes not marks n false (omega arith) (ap not (there ∙ not_named)) ∙ ap (λ (k : ℕ). k + 1) before ∙ sym (ap (λ (b : Bool). unnamed names part n + cond b 0 1) not_named)
+      | inl named ↦
+          at_suc ∙ count_by_more_no not marks n false (omega arith) (ap not (there ∙ named)) ∙ before ∙ sym (ap (λ (b : Bool). unnamed names part n + cond b 0 1) named ∙ (let none : unnamed names part n + 0 ≡ unnamed names part n = omega arith in none))
+      | inr not_named ↦
+          at_suc ∙ count_by_more_yes not marks n false (omega arith) (ap not (there ∙ not_named)) ∙ ap (λ (k : ℕ). k + 1) before ∙ sym (ap (λ (b : Bool). unnamed names part n + cond b 0 1) not_named)
     ]
 
 unnamed_at : (names : List EntryName) (part : Part) (marks : List Bool) (count : ℕ) → length marks ≡ count
@@ -224,12 +223,12 @@ pub unnamed_is : (names : List EntryName) (counts : List ℕ) (marks : List (Lis
 unnamed_is names counts marks keeps =
     unnamed_sum names 0 counts marks keeps.one_each
     (λ k.
-      let at = place-part_at k in
-      let none : 0 + k ≡ k = omega arith in
-      subst (λ (n : ℕ). count_by not (get_or marks k []) ≡ unnamed names (part_at n) (get_or counts k 0)) (sym none)
-      (unnamed_at names (part_at k) (get_or marks k []) (get_or counts k 0) (keeps.so_many k)
-      (λ index within.
-        ap (λ (n : ℕ). get_or (get_or marks n []) index false) (sym at) ∙ keeps.marked (part_at k) index (subst (λ (n : ℕ). index < get_or counts n 0) (sym at) within))))
+    let at = place-part_at k in
+    let none : 0 + k ≡ k = omega arith in
+    subst (λ (n : ℕ). count_by not (get_or marks k []) ≡ unnamed names (part_at n) (get_or counts k 0)) (sym none)
+    (unnamed_at names (part_at k) (get_or marks k []) (get_or counts k 0) (keeps.so_many k)
+    (λ index within.
+    ap (λ (n : ℕ). get_or (get_or marks n []) index false) (sym at) ∙ keeps.marked (part_at k) index (subst (λ (n : ℕ). index < get_or counts n 0) (sym at) within))))
 
 twice_not : (b : Bool) → not (not b) ≡ b
 twice_not true = refl
@@ -275,7 +274,7 @@ pub all_short : (counts : List ℕ) (marks : List (List Bool)) (names : List Ent
 all_short counts marks names keeps short =
     All-from_get_or (λ (named : List Bool). length named ≤ 1000000) marks []
     (λ k within.
-      let many = keeps.so_many k in
-      let one_each = keeps.one_each in
-      let most = All-get_or (λ (count : ℕ). count ≤ 1000000) counts k 0 (omega (arith, one_each, within)) short in
-      omega (arith, many, most))
+    let many = keeps.so_many k in
+    let one_each = keeps.one_each in
+    let most = All-get_or (λ (count : ℕ). count ≤ 1000000) counts k 0 (omega (arith, one_each, within)) short in
+    omega (arith, many, most))

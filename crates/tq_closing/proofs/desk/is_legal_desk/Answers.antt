@@ -25,8 +25,7 @@ returns-then-not-is_same_reply c =
     let alone : JournalsView = record { levels = c.args.levels; limits = c.args.limits; servers = []; desk = c.args.entries.now; view = [] } in
     let wrong = desk_wrong bounds c.args.entries.now c.loop-entry.entry-index c.entry-item.result c.loop-entry-test.true c.entry-item.is c.loop-entry.invariant.legal
     c.loop-entry.desk c.loop-entry.invariant.stands c.in_ok-reply.reply c.in_ok-reply.ensures.reply (λ same. false≢true (sym c.if-not-is_same_reply.true ∙ c.is_same_reply.ensures.1 same))
-    (c.loop-entry.entry-index + 1) refl in
-    (
+    (c.loop-entry.entry-index + 1) refl in (
       (λ no_way. absurd (false≢true no_way)),
       (λ legal. absurd (never_wrong alone (record { servers = tt; desk = legal; view = tt }) parts.Desk (c.loop-entry.entry-index + 1) (tt, wrong))),
     )
@@ -45,8 +44,7 @@ loop-entry-preserved c =
 pub returns : goal.returns
 returns c =
     let bounds = bounds_of c.args.levels c.args.limits in
-    let all : take c.loop-entry.entry-index c.args.entries.now ≡ c.args.entries.now = take_all c.loop-entry.entry-index c.args.entries.now (omega (arith, c.loop-entry-test.false)) in
-    (
+    let all : take c.loop-entry.entry-index c.args.entries.now ≡ c.args.entries.now = take_all c.loop-entry.entry-index c.args.entries.now (omega (arith, c.loop-entry-test.false)) in (
       (λ _. legal-reverse step_reply step_after (opened bounds) c.args.entries.now (subst (IsLegalDeskFrom bounds) all c.loop-entry.invariant.legal)),
       (λ _. refl),
     )

@@ -1,4 +1,4 @@
-use Rattle.std.proofs.Common.{◌≡◌, ◌∷◌, ◌++◌, [], take, map, length}
+use Rattle.std.proofs.Common.{◌≡◌, ◌∷◌, take, map, length}
 use Rattle.tq_closing.proofs.lengths.counts.Given as goal
 
 abbrev pub invariant-loop-entries : goal.invariant-loop-entries

@@ -11,13 +11,12 @@ loop-exchange-preserved-in_default c =
     record { names = kept.0; stand = kept.1 }
 
 pub returns-then-not-stands : goal.returns-then-not-stands
-returns-then-not-stands c =
-    (
-      c.exchange-item.result,
-      has_item c.args.told.now c.loop-exchange.exchange-index c.exchange-item.result c.loop-exchange-test.true c.exchange-item.is,
-      sym c.name_in.ensures ∙ ap option_to_list c.in-Some.is,
-      (λ there. false≢true (sym c.if-not-stands.true ∙ c.stands.ensures.1 there)),
-    )
+returns-then-not-stands c = (
+  c.exchange-item.result,
+  has_item c.args.told.now c.loop-exchange.exchange-index c.exchange-item.result c.loop-exchange-test.true c.exchange-item.is,
+  sym c.name_in.ensures ∙ ap option_to_list c.in-Some.is,
+  (λ there. false≢true (sym c.if-not-stands.true ∙ c.stands.ensures.1 there)),
+)
 
 pub loop-exchange-preserved : goal.loop-exchange-preserved
 loop-exchange-preserved c =

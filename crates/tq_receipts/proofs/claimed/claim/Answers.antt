@@ -1,9 +1,8 @@
-use Rattle.std.proofs.Common.{rules, ◌≡◌, ◌≤◌, ◌<◌, ◌∙◌, List, Bool, length, ap, sym, subst, arith}
+use Rattle.std.proofs.Common.{◌≡◌, ◌≤◌, ◌∙◌, List, Bool, length, ap, sym, subst, arith}
 use Rattle.std.specs.List.{All, sum_by}
 use Rattle.std.specs.Prelude.{not, count_by, take}
 use Rattle.std.proofs.lemmas.List.{take_all}
-use Rattle.tq_receipts.specs.declared.name.EntryName.{EntryName}
-use Rattle.tq_receipts.specs.Names.{AreDifferent, unnamed_from}
+use Rattle.tq_receipts.specs.Names.{AreDifferent}
 use Rattle.tq_receipts.proofs.Marked.{KeepsMarks, next_twice, next_keeps, next_different, all_short, unnamed_is}
 use Rattle.tq_receipts.proofs.claimed.claim.Goals as goal
 
@@ -31,9 +30,8 @@ unnamed_in-unclaimed-requires-clause-short c =
 
 pub returns : goal.returns
 returns c =
-    let all : take c.loop-name.name-index c.args.names.now ≡ c.args.names.now = take_all c.loop-name.name-index c.args.names.now (omega (arith, c.loop-name-test.false)) in
-    (
+    let all : take c.loop-name.name-index c.args.names.now ≡ c.args.names.now = take_all c.loop-name.name-index c.args.names.now (omega (arith, c.loop-name-test.false)) in (
       subst AreDifferent all c.loop-name.invariant.different,
       c.unnamed_in-unclaimed.ensures ∙ ap (sum_by (count_by not)) c.as_slice.ensures.value
-      ∙ unnamed_is c.args.names.now c.args.counts.now c.loop-name.marks.items (subst (KeepsMarks c.args.counts.now c.loop-name.marks.items) all c.loop-name.invariant.keeps),
+          ∙ unnamed_is c.args.names.now c.args.counts.now c.loop-name.marks.items (subst (KeepsMarks c.args.counts.now c.loop-name.marks.items) all c.loop-name.invariant.keeps),
     )

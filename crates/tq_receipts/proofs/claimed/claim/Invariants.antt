@@ -1,4 +1,4 @@
-use Rattle.std.proofs.Common.{◌≡◌, take, length}
+use Rattle.std.proofs.Common.{take}
 use Rattle.tq_receipts.specs.Names.{AreDifferent}
 use Rattle.tq_receipts.proofs.Marked.{KeepsMarks}
 use Rattle.tq_receipts.proofs.claimed.claim.Given as goal

@@ -1,4 +1,4 @@
-use Rattle.std.proofs.Common.{rules, ◌≡◌, ◌<◌, length, arith, slice_index_or}
+use Rattle.std.proofs.Common.{◌≡◌, length, arith}
 use Rattle.tq_receipts.proofs.LastNumbers.{next_fallen, next_keeps, next_rises}
 use Rattle.tq_receipts.proofs.rising.first_fallen.Goals as goal
 
