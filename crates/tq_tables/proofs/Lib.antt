@@ -5,3 +5,5 @@ pub mod Replayed
 pub mod Whole
 pub mod Told
 pub mod Noted
+pub mod Kept
+pub mod Stood

@@ -16,15 +16,7 @@ use Rattle.std.proofs.lemmas.List.Folds.{list_any-append}
 use Rattle.tq_store.specs.Copies.{name_cmp}
 use Rattle.tq_store.specs.Names.{same_name}
 use Rattle.tq_store.proofs.SameName.{same_name-is, same_name-refl, same_name-sym}
-
--- the name is in the list
-abbrev pub is_in : List ℕ → List (List ℕ) → Bool
-is_in name names = list_any (same_name name) names
-
--- none stands twice
-abbrev pub Apart : List (List ℕ) → Type 0
-Apart [] = Unit {0}
-Apart (name ∷ names) = (is_in name names ≡ false) × Apart names
+pub use Rattle.tq_tables.specs.NamesApart.{is_in, Apart}
 
 -- ---- booleans
 

@@ -5,6 +5,7 @@
 mod file_names;
 mod file_row;
 mod file_rows;
+mod file_table;
 mod intent_row;
 mod intent_rows;
 mod journals;
