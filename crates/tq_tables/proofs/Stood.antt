@@ -7,7 +7,7 @@ use Rattle.tq_store.specs.Copies.{copy_of}
 use Rattle.tq_store.specs.Names.{same_name}
 use Rattle.tq_store.specs.declared.copies.FileCopy.{FileCopy}
 use Rattle.tq_store.proofs.SameName.{same_name-is, same_name-sym}
-use Rattle.tq_desk.specs.DeskJournal.{Commit}
+use Rattle.tq_desk.specs.DeskJournal.{Commit, count}
 use Rattle.tq_node.specs.Node.{NodeView}
 use Rattle.tq_tables.specs.declared.file_row.FileRow.{FileRow}
 use Rattle.tq_tables.specs.Files.{all_stood, moved, stood, stood_at}
@@ -170,3 +170,69 @@ module _ (levels : ℕ) (nodes : List NodeView) (place : ℕ) (node : NodeView) 
       let current = same-set has nodes place old node less at same test in
       let stale = same-set lacks nodes place old node less at same (ap not test) in
       λ i. record { file = file; version = version; current = those levels (sym current i); stale = those levels (sym stale i) }
+
+pub AreOfTree-set : (levels first : ℕ) (nodes : List NodeView) (place : ℕ) (node : NodeView) → AreOfTree levels first nodes → node.levels ≡ levels → node.server ≡ first + place
+    → AreOfTree levels first (set nodes place node)
+AreOfTree-set levels first [] place node of_tree tree number = of_tree
+AreOfTree-set levels first (n ∷ nodes) zero node of_tree tree number = ((tree, number ∙ omega arith), of_tree.1)
+AreOfTree-set levels first (n ∷ nodes) (suc place) node of_tree tree number = (of_tree.0, AreOfTree-set levels (first + 1) nodes place node of_tree.1 tree (number ∙ omega arith))
+
+length-set-nodes : (nodes : List NodeView) (place : ℕ) (node : NodeView) → length (set nodes place node) ≡ length nodes
+length-set-nodes [] place node = refl
+length-set-nodes (n ∷ nodes) zero node = refl
+length-set-nodes (n ∷ nodes) (suc place) node = ap (λ (k : ℕ). suc k) (length-set-nodes nodes place node)
+
+-- ---- a row over several files
+
+abbrev steps : NodeView → FileRow → List (List ℕ) → FileRow
+steps node row files = fold (λ (r : FileRow) (file : List ℕ). stood_at node file r) row files
+
+map-same : (rows : List FileRow) → rows ≡ map (λ (row : FileRow). row) rows
+map-same [] = refl
+map-same (row ∷ rows) = ap (λ (rest : List FileRow). row ∷ rest) (map-same rows)
+
+map-twice : (f g : FileRow → FileRow) (rows : List FileRow) → map f (map g rows) ≡ map (λ row. f (g row)) rows
+map-twice f g [] = refl
+map-twice f g (row ∷ rows) = ap (λ (rest : List FileRow). f (g row) ∷ rest) (map-twice f g rows)
+
+all-steps : (node : NodeView) (files : List (List ℕ)) (rows : List FileRow) → all_stood node rows files ≡ map (λ row. steps node row files) rows
+all-steps node [] rows = map-same rows
+all-steps node (file ∷ files) rows = all-steps node files (map (stood_at node file) rows) ∙ map-twice (λ row. steps node row files) (stood_at node file) rows
+
+module _ (levels : ℕ) (nodes : List NodeView) (place : ℕ) (node : NodeView) (of_tree : AreOfTree levels 1 nodes) (less : place < length nodes) (tree : node.levels ≡ levels) (number : node.server ≡ 1 + place) where
+  row-again : (file : List ℕ) (version : ℕ) → stood node (row_at levels (set nodes place node) file version) ≡ row_at levels (set nodes place node) file version
+  row-again file version =
+      let count = length-set-nodes nodes place node in
+      row-stood levels (set nodes place node) place node (AreOfTree-set levels 1 nodes place node of_tree tree number) (omega (arith, less, count)) number file version
+      ∙ ap (λ (list : List NodeView). row_at levels list file version) (set-set nodes place node node)
+
+  steps-after : (file : List ℕ) (version : ℕ) (files : List (List ℕ)) → steps node (row_at levels (set nodes place node) file version) files ≡ row_at levels (set nodes place node) file version
+  steps-after file version [] = refl
+  steps-after file version (first ∷ files) =
+      ap (λ (row : FileRow). steps node row files) (by (same_name first file)) ∙ steps-after file version files
+    where
+      by : (b : Bool) → cond b (stood node (row_at levels (set nodes place node) file version)) (row_at levels (set nodes place node) file version) ≡ row_at levels (set nodes place node) file version
+      by true = row-again file version
+      by false = refl
+
+  steps-before : (file : List ℕ) (version : ℕ) (files : List (List ℕ)) → (is_in file files ≡ false → row_at levels nodes file version ≡ row_at levels (set nodes place node) file version)
+      → steps node (row_at levels nodes file version) files ≡ row_at levels (set nodes place node) file version
+  steps-before file version [] kept = kept refl
+  steps-before file version (first ∷ files) kept = by (same_name first file) refl (steps-before file version files)
+    where
+      by : (b : Bool) → same_name first file ≡ b
+          → ((is_in file files ≡ false → row_at levels nodes file version ≡ row_at levels (set nodes place node) file version) → steps node (row_at levels nodes file version) files ≡ row_at levels (set nodes place node) file version)
+          → steps node (cond b (stood node (row_at levels nodes file version)) (row_at levels nodes file version)) files ≡ row_at levels (set nodes place node) file version
+      by true s rest = ap (λ (row : FileRow). steps node row files) (row-stood levels nodes place node of_tree less number file version) ∙ steps-after file version files
+      by false s rest = rest (λ none. kept (λ i. (same_name-sym file first ∙ s) i || none i))
+
+  module _ (old : NodeView) (at : old ≡ get_or nodes place old) (same : node.server ≡ old.server) (files : List (List ℕ))
+      (kept : (file : List ℕ) → is_in file files ≡ false → copy_of node.state.records.copies file ≡ copy_of old.state.records.copies file) where
+    rows-stood : (list : List Commit) (names : List (List ℕ)) → map (λ row. steps node row files) (map (file_row levels nodes list) names) ≡ map (file_row levels (set nodes place node) list) names
+    rows-stood list [] = refl
+    rows-stood list (name ∷ names) =
+        λ i. steps-before name (count name list) files (λ none. row-same levels nodes place node of_tree less number old at same name (count name list) (kept name none)) i ∷ rows-stood list names i
+
+    -- the rows of files, where the server stands in those of the files whose copies changed
+    pub all_stood-are : (list : List Commit) → all_stood node (file_rows levels nodes list) files ≡ file_rows levels (set nodes place node) list
+    all_stood-are list = all-steps node files (file_rows levels nodes list) ∙ rows-stood list (files_in list)

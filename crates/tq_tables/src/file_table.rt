@@ -42,11 +42,7 @@ impl Model for FileTable {
 
 impl FileTable {
     /// A table with these rows, each of another file, whose sets of servers are of the tree.
-    pub(crate) fn of(
-        alloc: Global,
-        levels: Levels,
-        rows: Vec<FileRow>,
-    ) -> Result<FileTable, Memory>
+    pub(crate) fn of(alloc: Global, levels: Levels, rows: Vec<FileRow>) -> Result<FileTable, Memory>
         requires apart { Apart (spec.names_in rows.items) }
         requires of_tree { AreOfLevels levels rows.items }
         ensures { IfOk result (λ table. (table.levels ≡ levels) × (table.rows ≡ rows.items)) }

@@ -15,8 +15,8 @@ mod parts;
 mod quorum_rows;
 mod replay;
 pub mod rows;
-mod table_rows;
 mod tables;
+mod telling;
 mod write_counts;
 
 pub use file_row::FileRow;

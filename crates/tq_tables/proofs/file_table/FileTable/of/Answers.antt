@@ -6,8 +6,9 @@ use Rattle.tq_tables.proofs.Stood.{row-same}
 use Rattle.tq_tables.proofs.file_table.FileTable.of.Goals as goal
 
 pub returns : goal.returns
-returns c =
-    (c.put_all.ensures.levels ∙ c.in_ok-reserve.ensures.levels ∙ c.new-table.ensures.levels,
-     c.put_all.ensures.rows
-     ∙ ap (λ (rows : List FileRow). with_rows rows c.args.rows.items) (c.in_ok-reserve.ensures.rows ∙ c.new-table.ensures.rows)
-     ∙ with_rows-apart c.args.rows.items c.requires.apart)
+returns c = (
+  c.put_all.ensures.levels ∙ c.in_ok-reserve.ensures.levels ∙ c.new-table.ensures.levels,
+  c.put_all.ensures.rows
+      ∙ ap (λ (rows : List FileRow). with_rows rows c.args.rows.items) (c.in_ok-reserve.ensures.rows ∙ c.new-table.ensures.rows)
+      ∙ with_rows-apart c.args.rows.items c.requires.apart,
+)

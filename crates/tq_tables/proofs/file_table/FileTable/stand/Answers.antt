@@ -17,7 +17,7 @@ invariant_of-self c =
     let node = c.args.node.now in
     let stands : c.match-get_mut.self-inside.levels ≡ c.self.inside.levels → c.match-get_mut.self-inside.rows.entries ≡ by_file (map (spec.stood_at node file) rows) → spec.AreFiles c.match-get_mut.self-inside.levels c.match-get_mut.self-inside.rows.entries =
     λ levels are. are-files c.match-get_mut.self-inside.levels c.match-get_mut.self-inside.rows.entries (map (spec.stood_at node file) rows) are (Apart-stood node file rows c.self.invariant.apart)
-        (subst (λ l. spec.AreOfLevels l (map (spec.stood_at node file) rows)) (sym levels) (of_tree-stood c.self.inside.levels node file rows c.self.invariant.of_tree)) in
+    (subst (λ l. spec.AreOfLevels l (map (spec.stood_at node file) rows)) (sym levels) (of_tree-stood c.self.inside.levels node file rows c.self.invariant.of_tree)) in
     elim c.match-get_mut.branch [
       | in-Some w ↦
           let found : lookup (same_name file) (by_file rows) ≡ Rattle.std.proofs.Common.Some w.in-Some.row.now =
