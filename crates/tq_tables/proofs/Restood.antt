@@ -43,6 +43,18 @@ nodes_at-set levels first (x ∷ servers) (suc place) entries =
     ap (λ (n : ℕ). node_after_all levels first x ∷ set (nodes_at levels (first + 1) servers) place (node_after_all levels n entries)) (omega arith)
     ∙ ap (λ rest. node_after_all levels first x ∷ rest) (nodes_at-set levels (first + 1) servers place entries)
 
+-- ---- what stands at a place
+
+pub get_or-any : (nodes : List NodeView) (place : ℕ) (d e : NodeView) → place < length nodes → get_or nodes place d ≡ get_or nodes place e
+get_or-any [] place d e less = absurd (omega (arith, less))
+get_or-any (n ∷ nodes) zero d e less = refl
+get_or-any (n ∷ nodes) (suc place) d e less = get_or-any nodes place d e (omega (arith, less))
+
+pub get_or-put : (nodes : List NodeView) (place : ℕ) (node d : NodeView) → place < length nodes → get_or (set nodes place node) place d ≡ node
+get_or-put [] place node d less = absurd (omega (arith, less))
+get_or-put (n ∷ nodes) zero node d less = refl
+get_or-put (n ∷ nodes) (suc place) node d less = get_or-put nodes place node d (omega (arith, less))
+
 -- ---- a server with one entry more
 
 -- the tables with other servers, and with these rows of files
@@ -124,3 +136,7 @@ module _ (parts : PartsView) (of_tree : AreOfTree parts.view.levels 1 parts.node
   rows-stand files kept rows journals are =
       ap (λ (r : List FileRow). all_stood node r files) are
       ∙ all_stood-are parts.view.levels parts.nodes (server - 1) node of_tree (omega (arith, positive, there)) of_levels (same ∙ place.1) old at same files kept (commits (reverse journals.desk))
+
+-- the tables at parts with other servers
+pub with_nodes-at : (parts new : PartsView) (nodes : List NodeView) (files rows : List FileRow) → new ≡ record parts { nodes = nodes } → tables_at new files ≡ with_nodes (tables_at parts rows) new.nodes files
+with_nodes-at parts new nodes files rows is = λ i. tables_at (record { nodes = new.nodes; desk = (is i).desk; view = (is i).view }) files

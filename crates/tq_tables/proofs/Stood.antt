@@ -177,7 +177,7 @@ AreOfTree-set levels first [] place node of_tree tree number = of_tree
 AreOfTree-set levels first (n ∷ nodes) zero node of_tree tree number = ((tree, number ∙ omega arith), of_tree.1)
 AreOfTree-set levels first (n ∷ nodes) (suc place) node of_tree tree number = (of_tree.0, AreOfTree-set levels (first + 1) nodes place node of_tree.1 tree (number ∙ omega arith))
 
-length-set-nodes : (nodes : List NodeView) (place : ℕ) (node : NodeView) → length (set nodes place node) ≡ length nodes
+pub length-set-nodes : (nodes : List NodeView) (place : ℕ) (node : NodeView) → length (set nodes place node) ≡ length nodes
 length-set-nodes [] place node = refl
 length-set-nodes (n ∷ nodes) zero node = refl
 length-set-nodes (n ∷ nodes) (suc place) node = ap (λ (k : ℕ). suc k) (length-set-nodes nodes place node)

@@ -1,7 +1,7 @@
 -- The rows of files with one commit more.
 use Rattle.std.specs.Prelude.{◌||◌}
 use Rattle.std.proofs.Common.{◌≡◌, ℕ, ◌+◌, ◌<◌, ◌^◌, Bool, true, false, cond, List, [], ◌∷◌, ◌++◌, length, map, refl, ap, sym, subst, ◌∙◌, arith}
-use Rattle.std.specs.List.{All}
+use mathlib.Core.Bool.{true≢false}
 use Rattle.std.specs.FinMap as fin
 use Rattle.std.proofs.lemmas.List.Elements.{All-nil, All-cons}
 use Rattle.indexmap.specs.IndexMap.{insert_entry}
@@ -19,9 +19,17 @@ use Rattle.tq_tables.specs.Counted.{count_in, counted, names_of, version_of, wit
 use Rattle.tq_tables.specs.Files.{AreOfLevels, committed_ops, version_in, with_row, with_rows}
 use Rattle.tq_tables.specs.NamesApart.{is_in, Apart}
 use Rattle.tq_tables.specs.Rows.{file_rows, files_in, row_at}
-use Rattle.tq_tables.proofs.Counting.{count-most, count_in-counted, count_in-other, counted-more}
+use Rattle.tq_tables.proofs.Counting.{is_in-names_of, count-most, count_in-counted, count_in-other, counted-more}
 use Rattle.tq_tables.proofs.Names.{Apart-keys, differ, or_true}
 use Rattle.tq_tables.proofs.RowLaws.{rows-counted}
+
+-- where no name is, there are none
+no_names : (names : List (List ℕ)) → ((name : List ℕ) → is_in name names ≡ false) → names ≡ []
+no_names [] none = refl
+no_names (name ∷ names) none = absurd (true≢false (sym (ap (λ (b : Bool). b || is_in name names) (same_name-refl name)) ∙ none name))
+
+no_ops : names_of [] ≡ []
+no_ops = no_names (names_of []) (λ name. is_in-names_of name [])
 
 module _ (levels : ℕ) (nodes : List NodeView) where
   -- the rows of files with a number each
@@ -74,15 +82,18 @@ module _ (levels : ℕ) (nodes : List NodeView) where
       ∙ ap rows_of (counted-more commit list)
       ∙ sym (rows-are (commit ∷ list))
 
+  none-written : (list : List Commit) → with_rows (file_rows levels nodes list) (rows_next (file_rows levels nodes list) (names_of [])) ≡ file_rows levels nodes list
+  none-written list = ap (λ (names : List (List ℕ)). with_rows (file_rows levels nodes list) (rows_next (file_rows levels nodes list) names)) no_ops
+
   -- the rows with those of the files that an entry's commit writes
   pub entry-rows : (ask : DeskAsk) (reply : DeskReply) (list : List Commit)
       → with_rows (file_rows levels nodes list) (rows_next (file_rows levels nodes list) (names_of (committed_ops ask reply))) ≡ file_rows levels nodes (with_commit ask reply list)
   entry-rows (asks.Commit txn ops votes) (replies.Committed serial) list = commit-rows (record { txn = txn; ops = ops; votes = votes }) list
-  entry-rows (asks.Commit txn ops votes) (replies.Txn t) list = refl
-  entry-rows (asks.Commit txn ops votes) (replies.Verdict v) list = refl
-  entry-rows (asks.Commit txn ops votes) (replies.Refused r) list = refl
-  entry-rows asks.Begin reply list = refl
-  entry-rows (asks.Resolve txn) reply list = refl
+  entry-rows (asks.Commit txn ops votes) (replies.Txn t) list = none-written list
+  entry-rows (asks.Commit txn ops votes) (replies.Verdict v) list = none-written list
+  entry-rows (asks.Commit txn ops votes) (replies.Refused r) list = none-written list
+  entry-rows asks.Begin reply list = none-written list
+  entry-rows (asks.Resolve txn) reply list = none-written list
 
   -- no version is above the number of the commits
   pub version-room : (list : List Commit) → length list + 1 < 2 ^ 64 → (file : List ℕ) → version_in (file_rows levels nodes list) file + 1 < 2 ^ 64

@@ -132,6 +132,17 @@ impl Parts {
         self.nodes.as_slice()
     }
 
+    /// The server of that number.
+    pub(crate) fn node(&self, server: u64) -> &Node
+        requires { (0 < server) × (server ≤ length self.now.nodes) }
+        ensures value { result.now ≡ slice_index_or self.now.nodes (server - 1) result.now }
+        ensures of_tree { result.now.levels ≡ self.now.view.levels }
+    {
+        let _view = &self.view;
+        let place = (server - 1) as usize;
+        &self.nodes[place]
+    }
+
     /// The desk.
     pub fn desk(&self) -> &Desk
         ensures { result.now ≡ self.now.desk }

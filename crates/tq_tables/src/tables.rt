@@ -1,4 +1,4 @@
-ghost use Rattle.std.specs.Prelude.{◌≡◌, ◌+◌, ◌^◌, length, reverse, IfOk, OnOk, OnErr};
+ghost use Rattle.std.specs.Prelude.{◌≡◌, ◌+◌, ◌^◌, true, length, reverse, IfOk, OnOk, OnErr};
 ghost use Rattle.std.specs.List.{All};
 ghost use Rattle.tq_desk.specs.DeskJournal.{IsLegalDesk, desk_state};
 ghost use Rattle.tq_tables.specs.Files as spec;
@@ -100,9 +100,8 @@ impl Tables {
         ensures unchanged { OnErr result (self.new ≡ self.old) }
     {
         let files = self.parts.ask_node(alloc, server, number, &entry.ask)?;
-        let nodes = self.parts.nodes();
-        let place = (server - 1) as usize;
-        self.files.stand_all(&nodes[place], files.as_slice());
+        let node = self.parts.node(server);
+        self.files.stand_all(node, files.as_slice());
         Ok(())
     }
 
@@ -113,10 +112,10 @@ impl Tables {
             → self.old ≡ tables_of journals → self.new ≡ tables_of (with_view journals entry.now)) }
         ensures unchanged { OnErr result (self.new ≡ self.old) }
     {
-        match entry.ask {
-            ViewAsk::Choose => (),
-            _ => self.parts.ask_view(alloc, &entry.ask)?,
+        if changes_nothing(&entry.ask) {
+            return Ok(());
         }
+        self.parts.ask_view(alloc, &entry.ask)?;
         Ok(())
     }
 
@@ -199,6 +198,13 @@ impl Tables {
     {
         intent_rows(alloc, self.parts.nodes(), self.parts.desk())
     }
+}
+
+/// Whether the ask leaves costs and marks as they are, whatever they are.
+fn changes_nothing(ask: &ViewAsk) -> bool
+    ensures { result ≡ true → ask.now ≡ ViewAsk.Choose }
+{
+    matches!(ask, ViewAsk::Choose)
 }
 
 /// The ops of the commit that the entry records, none where it records none.
