@@ -1,6 +1,5 @@
 -- Copies that a server's step leaves.
-use Rattle.std.specs.Prelude.{◌||◌}
-use Rattle.std.proofs.Common.{◌≡◌, ℕ, Bool, true, false, List, [], ◌∷◌, map, refl, ap, sym, ◌∙◌}
+use Rattle.std.proofs.Common.{◌≡◌, ℕ, false, List, [], ◌∷◌, map, refl, ap, sym, ◌∙◌}
 use mathlib.Core.Bool.{true≢false}
 use Rattle.tq_store.specs.Copies.{Files, copy_in, copy_of, installed, installed_all}
 use Rattle.tq_store.specs.Names.{same_name}
@@ -9,7 +8,7 @@ use Rattle.tq_store.specs.declared.write.Write.{Write}
 use Rattle.tq_store.proofs.Installed.{Installs-installed}
 use Rattle.tq_store.proofs.SameName.{same_name-refl}
 use Rattle.tq_node.specs.Node.{NodeView, answered}
-use Rattle.tq_node.specs.NodeChanges.{node_change, node_changed, stepped}
+use Rattle.tq_node.specs.NodeChanges.{node_change, stepped}
 use Rattle.tq_node.specs.NodePlans.{change_leads}
 use Rattle.tq_node.specs.Records.{Records}
 use Rattle.tq_node.specs.declared.ask.NodeAsk.{NodeAsk}

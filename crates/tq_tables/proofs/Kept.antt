@@ -1,7 +1,6 @@
 -- Rows that are kept under the names of their files.
 use Rattle.std.specs.Prelude.{◌||◌}
-use Rattle.std.proofs.Common.{◌≡◌, ℕ, ◌+◌, ◌<◌, Bool, true, false, cond, List, [], ◌∷◌, ◌++◌, length, map, take, get_or, Option, Some, None, refl, ap, sym, subst, ◌∙◌, arith}
-use mathlib.Core.Bool.{true≢false}
+use Rattle.std.proofs.Common.{◌≡◌, ℕ, ◌+◌, ◌<◌, Bool, true, false, cond, List, [], ◌∷◌, ◌++◌, length, map, take, get_or, Some, None, refl, ap, sym, subst, ◌∙◌}
 use Rattle.std.specs.List.{All, fold}
 use Rattle.std.specs.Map.{lookup, set_value}
 use Rattle.std.specs.Option.{unwrap_or}

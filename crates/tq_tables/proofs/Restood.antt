@@ -1,6 +1,6 @@
 -- The tables with an entry more of a server.
 use Rattle.std.specs.Prelude.{reverse}
-use Rattle.std.proofs.Common.{◌≡◌, ◌+◌, ◌-◌, ◌<◌, ◌≤◌, ℕ, zero, suc, false, List, [], ◌∷◌, ◌++◌, length, set, get_or, refl, ap, sym, subst, ◌∙◌, arith}
+use Rattle.std.proofs.Common.{◌≡◌, ◌+◌, ◌-◌, ◌<◌, ◌≤◌, ℕ, zero, suc, false, List, [], ◌∷◌, ◌++◌, length, set, get_or, refl, ap, ◌∙◌, arith}
 use Rattle.tq_desk.specs.DeskJournal.{commits}
 use Rattle.tq_node.specs.Node.{NodeView, answered}
 use Rattle.tq_node.specs.NodeJournal.{NodeEntry}
@@ -15,7 +15,6 @@ use Rattle.tq_tables.specs.NextOfServer.{IsNextOfServer, entries_of, with_node}
 use Rattle.tq_tables.specs.Parts.{AreLegal, AreOfTree, PartsView, bounds_of, desk_at, node_after_all, nodes_at}
 use Rattle.tq_tables.specs.Rows.{file_rows, intent_rows, intent_state, lock_rows}
 use Rattle.tq_tables.specs.Tables.{TablesView, tables_at, tables_of}
-use Rattle.tq_tables.proofs.Noted.{rows-at}
 use Rattle.tq_tables.proofs.Replayed.{answered-push, desk_at-is}
 use Rattle.tq_tables.proofs.RowLaws.{at-place}
 use Rattle.tq_tables.proofs.Stood.{all_stood-are}

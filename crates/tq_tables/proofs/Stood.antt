@@ -1,20 +1,19 @@
 -- Rows as a server stands in them after it changed.
 use Rattle.std.specs.Prelude.{◌||◌, ◌==◌, not, nat_lt, nat_le}
-use Rattle.std.proofs.Common.{◌≡◌, ℕ, zero, suc, ◌+◌, ◌-◌, ◌<◌, ◌≤◌, Bool, true, false, cond, List, [], ◌∷◌, ◌++◌, length, map, filter, set, get_or, refl, ap, sym, subst, ◌∙◌, arith}
+use Rattle.std.proofs.Common.{◌≡◌, ℕ, zero, suc, ◌+◌, ◌<◌, ◌≤◌, Bool, true, false, cond, List, [], ◌∷◌, length, map, filter, set, get_or, refl, ap, sym, subst, ◌∙◌, arith}
 use Rattle.std.specs.List.{fold}
 use Rattle.tq_shape.specs.ServerSet.{Servers, with_number, without_number}
 use Rattle.tq_store.specs.Copies.{copy_of}
 use Rattle.tq_store.specs.Names.{same_name}
 use Rattle.tq_store.specs.declared.copies.FileCopy.{FileCopy}
-use Rattle.tq_store.proofs.SameName.{same_name-is, same_name-sym}
+use Rattle.tq_store.proofs.SameName.{same_name-sym}
 use Rattle.tq_desk.specs.DeskJournal.{Commit, count}
 use Rattle.tq_node.specs.Node.{NodeView}
 use Rattle.tq_tables.specs.declared.file_row.FileRow.{FileRow}
 use Rattle.tq_tables.specs.Files.{all_stood, moved, stood, stood_at}
 use Rattle.tq_tables.specs.NamesApart.{is_in}
 use Rattle.tq_tables.specs.Parts.{AreOfTree}
-use Rattle.tq_tables.specs.Rows.{file_row, file_rows, files_in, has_version, row_at, servers_where}
-use Rattle.tq_tables.proofs.Names.{or_true}
+use Rattle.tq_tables.specs.Rows.{file_row, file_rows, files_in, has_version, row_at}
 
 -- ---- numbers
 

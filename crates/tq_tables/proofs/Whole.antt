@@ -21,7 +21,7 @@ use Rattle.tq_tables.specs.Tables.{tables_at, tables_over}
 use Rattle.tq_tables.specs.Files.{names_in}
 use Rattle.tq_tables.specs.NamesApart.{Apart}
 use Rattle.tq_tables.proofs.Counting.{Apart-files_in}
-use Rattle.tq_tables.specs.Rows.{file_row, file_rows, files_in, intent_rows, intent_state, lock_rows, quorum_row, quorum_rows, state_by}
+use Rattle.tq_tables.specs.Rows.{file_row, file_rows, files_in, intent_rows, intent_state, quorum_row, quorum_rows, state_by}
 
 length-upwards : (first count : ℕ) → length (upwards first count) ≡ count
 length-upwards first zero = refl

@@ -1,5 +1,5 @@
 -- How many commits write each file, as it is counted one commit after another.
-use Rattle.std.specs.Prelude.{◌==◌, ◌+◌, ℕ, List, map, fold, []}
+use Rattle.std.specs.Prelude.{◌==◌, ◌+◌, ℕ, List, map, fold}
 use Rattle.std.specs.Cmp.Lexicographic.{pointwise}
 use Rattle.std.specs.FinMap as fin
 use Rattle.std.specs.Map.{lookup}

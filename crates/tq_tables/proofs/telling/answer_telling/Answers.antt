@@ -1,5 +1,5 @@
-use Rattle.std.proofs.Common.{◌≡◌, List, ℕ, false, ap, sym, ◌∙◌}
-use Rattle.tq_node.specs.Node.{NodeView, answered}
+use Rattle.std.proofs.Common.{ap, sym, ◌∙◌}
+use Rattle.tq_node.specs.Node.{NodeView}
 use Rattle.tq_node.specs.NodeChanges.{node_changed}
 use Rattle.tq_node.specs.NodePlans.{change_leads}
 use Rattle.tq_node.specs.declared.change.NodeChange.{NodeChange}

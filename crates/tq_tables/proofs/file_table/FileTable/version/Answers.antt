@@ -1,4 +1,4 @@
-use Rattle.std.proofs.Common.{◌≡◌, List, Some, None, map, ap, sym, ◌∙◌}
+use Rattle.std.proofs.Common.{◌≡◌, Some, None, map, ap, sym, ◌∙◌}
 use Rattle.std.specs.Map.{lookup}
 use Rattle.tq_store.specs.Names.{same_name}
 use Rattle.tq_tables.specs.Files as spec

@@ -1,5 +1,4 @@
-use Rattle.std.proofs.Common.{◌≡◌, ◌+◌, ◌-◌, ◌<◌, ◌≤◌, ℕ, List, length, get_or, ap, sym, ◌∙◌, arith}
-use Rattle.tq_node.specs.Node.{NodeView}
+use Rattle.std.proofs.Common.{◌-◌, ◌<◌, length, ap, ◌∙◌, arith}
 use Rattle.tq_tables.specs.Parts.{PartsView}
 use Rattle.tq_tables.proofs.RowLaws.{at-place}
 use Rattle.tq_tables.proofs.parts.Parts.node.Goals as goal

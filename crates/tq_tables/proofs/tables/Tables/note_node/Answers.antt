@@ -1,10 +1,8 @@
 use Rattle.std.specs.Prelude.{reverse}
-use Rattle.std.proofs.Common.{◌≡◌, ◌+◌, ◌-◌, ◌<◌, ◌≤◌, ℕ, false, List, [], length, set, get_or, ap, sym, subst, ◌∙◌, refl, arith}
+use Rattle.std.proofs.Common.{◌≡◌, ◌-◌, ◌<◌, ◌≤◌, ℕ, List, [], length, set, get_or, ap, sym, ◌∙◌, refl, arith}
 use Rattle.tq_desk.specs.DeskJournal.{commits}
 use Rattle.tq_node.specs.Node.{NodeView, answered}
-use Rattle.tq_store.specs.Copies.{copy_of}
 use Rattle.tq_tables.specs.Files as spec
-use Rattle.tq_tables.specs.NamesApart.{is_in}
 use Rattle.tq_tables.specs.Parts.{PartsView, node_after_all}
 use Rattle.tq_tables.specs.Rows.{file_rows}
 use Rattle.tq_tables.specs.Tables.{TablesView}
@@ -83,7 +81,7 @@ returns-clause-noted c = λ journals legal stand.
     let whole = c.self.view_is ∙ stand in
     let of_tree = of_tree-at journals.levels journals.servers parts.nodes parts.view.levels (ap (λ (t : TablesView). t.nodes) whole) (ap (λ (t : TablesView). t.view.levels) whole) in
     let stands = rows-stand parts of_tree server there.0 within old node at refl refl c.in_ok-files.files.items (c.in_ok-files.ensures.told old at) rows journals
-        (rows-at parts rows c.args.self.now c.self.view_is journals stand) in
+    (rows-at parts rows c.args.self.now c.self.view_is journals stand) in
     let files : c.stand_all.new.self.rows ≡ file_rows c.args.self.now.view.levels c.ask_node.new.self.nodes list =
     c.stand_all.ensures.rows
     ∙ (λ i. spec.all_stood (node_is i) rows (c.as_slice.ensures.value i))
