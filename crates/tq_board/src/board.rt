@@ -19,24 +19,32 @@ pub fn render(alloc: Global, tables: &Tables, view: &View) -> Result<String, Mem
 {
     let mut text = String::new(alloc);
     writeln!(text, "board levels {}", tables.levels().count())?;
-    push_server_lines(&mut text, tables, view)?;
+    push_server_lines(alloc, &mut text, tables, view)?;
+    let locks = tables.locks(alloc)?;
+    let intentions = tables.intentions(alloc)?;
     push_rows(
         &mut text,
         tables.files(),
-        tables.locks(),
-        tables.intentions(),
+        locks.as_slice(),
+        intentions.as_slice(),
     )?;
     text.push_str("end\n")?;
     Ok(text)
 }
 
 /// Puts a line for each server upwards behind the text.
-fn push_server_lines(text: &mut String, tables: &Tables, view: &View) -> Result<(), Memory>
+fn push_server_lines(
+    alloc: Global,
+    text: &mut String,
+    tables: &Tables,
+    view: &View,
+) -> Result<(), Memory>
     requires { view.now.levels ≡ tables.now.levels }
     ensures { OnOk result (string_bytes text.new ≡ string_bytes text.old ++ server_lines tables.now view.now) }
 {
     let levels = tables.levels();
-    let quorums = tables.quorums();
+    let rows = tables.quorums(alloc)?;
+    let quorums = rows.as_slice();
     let past = levels.servers() + 1;
     for number in 1..past {
         let server = ServerId::new(levels, number);
