@@ -8,12 +8,12 @@ mod close;
 mod cluster;
 mod heard;
 mod journals;
-mod retold;
 mod live_board;
+mod retold;
 
 pub use asking::Asking;
 pub use caller::Caller;
 pub use cluster::Cluster;
-pub use tq_closing::{CloseFault, Explained};
 pub use live_board::LiveBoard;
+pub use tq_closing::{CloseFault, Explained};
 pub use tq_prefixes::{Entries, PullFault};

@@ -6,8 +6,8 @@ use crate::strayed::Strayed;
 use std::alloc::Global;
 use std::marker::Model;
 use std::mem;
-use tq_part::Answers;
 use tq_alike::Same;
+use tq_part::Answers;
 use tq_shape::{Entry, Memory, Seq};
 
 /// A part beside the first entries of a journal, the oldest first: each reply is the one that the part gives there, and

@@ -29,9 +29,11 @@ returns-in_err-entries-clause-caller g c =
     let less : c.args.number - 1 < length passes = omega arith in
     let before : get_or c.args.caller.now.seen.servers (c.args.number - 1) 0 ≡ c.index_mut-pass.result.now.seen =
     ap (λ (v : CallerView). get_or v.seen.servers (c.args.number - 1) 0) (sym c.caller.view_is) ∙ seen_before passes (c.args.number - 1) c.index_mut-pass.result.now less c.index_mut-pass.ensures.value in
-    let more : c.index_mut-pass.result.now.seen ≤ c.since.new.pass.seen = c.since.ensures.seen in
-    (c.since.new.pass.seen, omega (arith, before, more),
-    caller_saw c.caller.inside.levels (map exchange_of c.caller.inside.heard.items) passes c.caller.inside.desk.seen c.caller.inside.view.seen c.args.number c.since.new.pass c.args.caller.now c.caller.view_is)
+    let more : c.index_mut-pass.result.now.seen ≤ c.since.new.pass.seen = c.since.ensures.seen in (
+      c.since.new.pass.seen,
+      omega (arith, before, more),
+      caller_saw c.caller.inside.levels (map exchange_of c.caller.inside.heard.items) passes c.caller.inside.desk.seen c.caller.inside.view.seen c.args.number c.since.new.pass c.args.caller.now c.caller.view_is,
+    )
 
 pub returns-clause-caller : goal.returns-clause-caller
 returns-clause-caller g c =
@@ -43,9 +45,11 @@ returns-clause-caller g c =
     let less : c.args.number - 1 < length passes = omega arith in
     let before : get_or c.args.caller.now.seen.servers (c.args.number - 1) 0 ≡ c.index_mut-pass.result.now.seen =
     ap (λ (v : CallerView). get_or v.seen.servers (c.args.number - 1) 0) (sym c.caller.view_is) ∙ seen_before passes (c.args.number - 1) c.index_mut-pass.result.now less c.index_mut-pass.ensures.value in
-    let more : c.index_mut-pass.result.now.seen ≤ c.since.new.pass.seen = c.since.ensures.seen in
-    (c.since.new.pass.seen, omega (arith, before, more),
-    caller_saw c.caller.inside.levels (map exchange_of c.caller.inside.heard.items) passes c.caller.inside.desk.seen c.caller.inside.view.seen c.args.number c.since.new.pass c.args.caller.now c.caller.view_is)
+    let more : c.index_mut-pass.result.now.seen ≤ c.since.new.pass.seen = c.since.ensures.seen in (
+      c.since.new.pass.seen,
+      omega (arith, before, more),
+      caller_saw c.caller.inside.levels (map exchange_of c.caller.inside.heard.items) passes c.caller.inside.desk.seen c.caller.inside.view.seen c.args.number c.since.new.pass c.args.caller.now c.caller.view_is,
+    )
 
 pub returns-clause-grown : goal.returns-clause-grown
 returns-clause-grown g c = on_ok _ _ c.take_server.result (λ is. (entries.Server c.in_ok-entries.entries.items, is ∙ ap (λ (o : JournalsView). grown o (parts.Server c.args.number) (entries.Server c.in_ok-entries.entries.items)) c.self.view_is)) c.take_server.ensures.grown
