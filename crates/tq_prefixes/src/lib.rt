@@ -2,6 +2,7 @@
 //! data: nothing here asks a part.
 #![tactic(auto)]
 
+mod astray;
 mod entries;
 mod fault;
 mod following;
