@@ -5,3 +5,5 @@ pub mod Names
 pub mod Closing
 pub mod Seen
 pub mod Pulled
+pub mod Callers
+pub mod Crossing

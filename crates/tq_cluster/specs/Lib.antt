@@ -2,3 +2,5 @@ pub mod Cluster
 pub mod Told
 pub mod Closes
 pub mod Pulls
+pub mod Clients
+pub mod Backwards

@@ -8,10 +8,11 @@ ghost use Rattle.tq_cluster.specs.Closes.{IsClosedBy};
 
 use crate::caller::Caller;
 use crate::cluster::Cluster;
+use crate::explained::{Explained, settle};
 use crate::retold::told_to_all;
 use std::alloc::Global;
 use tq_cells::Gate;
-use tq_closing::{CloseFault, Explained, settle};
+use tq_closing::CloseFault;
 
 impl<G: Gate + Drop> Cluster<G> {
     /// Opens all cells, once no thread asks the parts any more, compares what these callers were told with the journals,

@@ -89,6 +89,13 @@ impl<G: Gate + Drop> Cluster<G> {
         self.levels
     }
 
+    /// The limits of the system.
+    pub(crate) fn limits(&self) -> Limits
+        ensures { result ≡ self.now.limits }
+    {
+        self.limits
+    }
+
     /// The journals of all parts, once no thread asks them any more. What the callers were told is compared with
     /// nothing. Answers an error only where memory is refused: then the cluster and the callers are gone.
     pub fn into_journals(self, alloc: Global, callers: Vec<Caller>) -> Result<Journals, Memory>

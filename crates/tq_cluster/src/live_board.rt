@@ -20,7 +20,7 @@ use tq_tables::{DeskEntry, NodeEntry, Tables, ViewEntry};
 /// the tables over these. Contracts see it as these entries.
 #[derive(Drop)]
 pub struct LiveBoard {
-    prefixes: Prefixes,
+    pub(crate) prefixes: Prefixes,
 }
 
 impl Model for LiveBoard {

@@ -1,18 +1,20 @@
-ghost use Rattle.std.specs.Prelude.{◌≡◌, IfOk, IfErr};
+ghost use Rattle.std.specs.Prelude.{◌≡◌, MatchOption, IfOk, IfErr, IfNone};
 ghost use Rattle.tq_world.specs.Steps.{run};
 ghost use Rattle.tq_world.specs.CommittedReads.{HasCommittedReads};
 ghost use Rattle.tq_tables.specs.Parts.{AreLegal};
+ghost use Rattle.tq_tables.specs.Tables.{tables_of};
 ghost use Rattle.tq_merge.specs.Order.{Explains, asks_of};
 ghost use Rattle.tq_closing.specs.Kept.{AreKept};
 ghost use Rattle.tq_closing.specs.Kept as spec;
 ghost use Rattle.tq_closing.specs.Closed.{IsCloseFault, IsNoOrder};
+ghost use Rattle.tq_prefixes.specs.Astray.{AllBegin, IsFirstAstray};
+ghost use Rattle.tq_cluster.specs.Closes.{AreTablesOfPrefixes};
 
-use crate::compared::{Comparison, compare};
-use crate::entries::found;
-use crate::fault::CloseFault;
+use crate::live_board::LiveBoard;
 use std::alloc::Global;
+use tq_closing::{CloseFault, Comparison, compare, found};
 use tq_merge::{Fault, Order, explain};
-use tq_shape::Seq;
+use tq_shape::{Part, Seq};
 use tq_tables::Journals;
 use tq_txn::Exchange;
 
@@ -27,9 +29,23 @@ pub struct Explained {
     pub unclaimed: u64,
 }
 
+impl Explained {
+    /// The first part, the servers upwards, then the desk, then the view, whose journal does not begin with what the
+    /// board pulled of it; none where each begins so. Then the board's tables are those over prefixes of these journals.
+    /// It takes no memory.
+    pub fn begins(&self, board: &LiveBoard) -> Option<Part>
+        requires levels { board.now.levels ≡ self.now.journals.levels }
+        requires limits { board.now.limits ≡ self.now.journals.limits }
+        ensures first { MatchOption result (AllBegin board.now self.now.journals) (IsFirstAstray board.now self.now.journals) }
+        ensures tables { IfNone result (AreTablesOfPrefixes self.now.journals (tables_of board.now)) }
+    {
+        board.prefixes.first_astray(&self.journals)
+    }
+}
+
 /// Compares what these callers were told with journals, and finds an order of the journals' entries. At Ok all that was
 /// told stands in the journals, and these are those of one run: of the asks of the entries, in that order.
-pub fn settle(
+pub(crate) fn settle(
     alloc: Global,
     journals: Journals,
     callers: &[Seq<Exchange>],
