@@ -9,7 +9,8 @@ use Rattle.tq_lines.specs.declared.line.Line.TheVariants.{Bad}
 use Rattle.tq_lines.specs.Line.{line_of}
 use Rattle.tq_shell.specs.Answer.{World, opening, answer}
 use Rattle.tq_lines.specs.Word.{without_return}
-use Rattle.tq_shell.specs.Text.{last_line, whole_parts, last_part, parts_of, lines_text, text_of, whole_text}
+use Rattle.tq_lines.specs.Text.{last_line, whole_parts, last_part, parts_of}
+use Rattle.tq_shell.specs.Text.{lines_text, text_of, whole_text}
 use Rattle.tq_shell.specs.Stream.{Received, nothing_received, kept, grown, line_answer, received_byte, answer_to_byte, received_all, answers_to, answer_to_rest, answer_to_last}
 
 -- what is kept of a line

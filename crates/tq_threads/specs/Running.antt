@@ -9,6 +9,7 @@ use Rattle.tq_tables.specs.Journals.{JournalsView}
 use Rattle.tq_merge.specs.Order.{Explains}
 use Rattle.tq_closing.specs.Kept.{AreKept}
 use Rattle.tq_closing.specs.declared.fault.CloseFault.{CloseFault}
+use Rattle.tq_closing.specs.declared.fault.CloseFault.TheVariants as faults
 use Rattle.tq_cluster.specs.Told.{CallerView}
 use Rattle.tq_cluster.specs.Clients.{AllRan}
 use Rattle.tq_cluster.specs.Closes.{IsClosedBy}
@@ -29,11 +30,12 @@ pub record AreOfRun (levels workers : ℕ) (scripts : List (List Line)) (journal
   pub order : List Part
   pub explains : Explains journals order
 
--- these callers ran the scripts and did the workers' jobs, and closing the cluster failed by this
+-- these callers ran the scripts and did the workers' jobs, and closing the cluster failed by this, which is no want of memory
 pub record IsUnclosed (levels workers : ℕ) (scripts : List (List Line)) : Type 0 where
   pub callers : List CallerView
   pub ran : AllRan levels full_limits scripts workers callers
   pub fault : CloseFault
+  pub no_memory : fault ≡ faults.Memory → ⊥
   pub failed : IsClosedBy (record { levels = levels; limits = full_limits }) (map (λ caller. caller.told) callers) fault
 
 -- what came of these scripts, once they ran
