@@ -97,7 +97,7 @@ fn at_server(ask: WorkAsk) -> Step {
     }
 }
 
-fn steps(alloc: Global) -> Result<Vec<Step>, Fail> {
+pub(crate) fn steps(alloc: Global) -> Result<Vec<Step>, Fail> {
     let mut steps = Vec::new(alloc);
     steps.push(Step::Desk(DeskAsk::Begin))?;
     steps.push(Step::View(ViewAsk::Choose))?;
