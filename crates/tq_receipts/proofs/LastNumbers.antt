@@ -71,11 +71,11 @@ module _ (last : List ℕ) (seen : List EntryName) (keeps : KeepsLast last seen)
   keeps_more within above = record { below = below_more within above; from = from_more within }
 
   -- a number that is not above is that of a name that has not risen
-  pub is_fallen : (rest : List EntryName) → 1 ≤ name.number → name.number ≤ get_or last (place_of name.part) 0 → IsFallen (seen ++ name ∷ rest) name
-  is_fallen rest least most =
+  pub is_fallen : (rest : List EntryName) → 1 ≤ name.number → name.number ≤ get_or last (place_of name.part) 0 → RiseAfter [] seen → IsFallen (seen ++ name ∷ rest) name
+  is_fallen rest least most rise =
       elim (keeps.from name.part) [
         | inl none ↦ absurd (omega (arith, none, least, most))
-        | inr has ↦ record { before = seen; after = rest; names_are = refl; earlier = _; is_before = has; same = refl; not_below = most }
+        | inr has ↦ record { before = seen; after = rest; names_are = refl; earlier = _; is_before = has; same = refl; not_below = most; first = rise }
       ]
 
 -- ---- the next name of a list
@@ -96,11 +96,11 @@ module _ (last counts : List ℕ) (names : List EntryName) (i : ℕ) (d : EntryN
       let here = stands_there in
       is_read ∙ get_or_default last place read 0 (omega (arith, here, is_place, one_each)) ∙ ap (λ (k : ℕ). get_or last k 0) is_place
 
-  pub next_fallen : (get_or names i d).number ≤ read → IsFallen names (get_or names i d)
-  next_fallen most =
+  pub next_fallen : (get_or names i d).number ≤ read → RiseAfter [] (take i names) → IsFallen names (get_or names i d)
+  next_fallen most rise =
       let read_is = reads in
       subst (λ (l : List EntryName). IsFallen l (get_or names i d)) (splits names i d within)
-      (is_fallen last (take i names) keeps (get_or names i d) (drop (i + 1) names) good_here.0 (omega (arith, most, read_is)))
+      (is_fallen last (take i names) keeps (get_or names i d) (drop (i + 1) names) good_here.0 (omega (arith, most, read_is)) rise)
 
   next_above : read < (get_or names i d).number → get_or last (place_of (get_or names i d).part) 0 < (get_or names i d).number
   next_above above = (let read_is = reads in omega (arith, above, read_is))

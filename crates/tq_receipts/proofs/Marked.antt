@@ -131,8 +131,8 @@ module _ (counts : List ℕ) (marks : List (List Bool)) (seen : List EntryName) 
   pub is_new : get_or here (name.number - 1) false ≡ false → Has seen name → ⊥
   is_new unmarked has = false≢true (sym unmarked ∙ mark ∙ has_named seen name has)
 
-  pub is_twice : (rest : List EntryName) → get_or here (name.number - 1) false ≡ true → IsTwice (seen ++ name ∷ rest) name
-  is_twice rest marked = record { before = seen; after = rest; names_are = refl; is_before = named_has seen name.part name.number (sym mark ∙ marked) }
+  pub is_twice : (rest : List EntryName) → get_or here (name.number - 1) false ≡ true → AreDifferent seen → IsTwice (seen ++ name ∷ rest) name
+  is_twice rest marked different = record { before = seen; after = rest; names_are = refl; is_before = named_has seen name.part name.number (sym mark ∙ marked); first = different }
 
   abbrev pub marked_new : List (List Bool)
   marked_new = set marks (place_of name.part) (set here (name.number - 1) true)
@@ -251,10 +251,10 @@ module _ (counts : List ℕ) (marks : List (List Bool)) (names : List EntryName)
   marks_there : not fresh ≡ get_or (get_or marks (place_of (get_or names i d).part) []) ((get_or names i d).number - 1) false
   marks_there = ap not is_fresh ∙ twice_not (get_or read ((get_or names i d).number - 1) false) ∙ ap (λ (l : List Bool). get_or l ((get_or names i d).number - 1) false) reads
 
-  pub next_twice : fresh ≡ false → IsTwice names (get_or names i d)
-  next_twice stale =
+  pub next_twice : fresh ≡ false → AreDifferent (take i names) → IsTwice names (get_or names i d)
+  next_twice stale different =
       subst (λ (l : List EntryName). IsTwice l (get_or names i d)) (splits names i d within)
-      (is_twice counts marks (take i names) keeps (get_or names i d) good_here (drop (i + 1) names) (sym marks_there ∙ ap not stale))
+      (is_twice counts marks (take i names) keeps (get_or names i d) good_here (drop (i + 1) names) (sym marks_there ∙ ap not stale) different)
 
   pub next_keeps : KeepsMarks counts (set marks place after) (take (i + 1) names)
   next_keeps =

@@ -20,7 +20,7 @@ RiseAfter before (name ∷ names) = IsAbove before name × RiseAfter (before ++ 
 abbrev pub Rise : List EntryName → Type 0
 Rise names = RiseAfter [] names
 
--- the name stands there, and one before it of the same part has its number or one above it
+-- the name stands there, and one before it of the same part has its number or one above it; those before it rise
 pub record IsFallen (names : List EntryName) (name : EntryName) : Type 0 where
   pub before : List EntryName
   pub after : List EntryName
@@ -29,6 +29,7 @@ pub record IsFallen (names : List EntryName) (name : EntryName) : Type 0 where
   pub is_before : Has before earlier
   pub same : earlier.part ≡ name.part
   pub not_below : name.number ≤ earlier.number
+  pub first : Rise before
 
 -- ---- no two are the same
 
@@ -36,12 +37,13 @@ abbrev pub AreDifferent : List EntryName → Type 0
 AreDifferent [] = Unit {0}
 AreDifferent (name ∷ names) = (Has names name → ⊥) × AreDifferent names
 
--- the name stands there, and once more before it
+-- the name stands there, and once more before it; no two before it are the same
 pub record IsTwice (names : List EntryName) (name : EntryName) : Type 0 where
   pub before : List EntryName
   pub after : List EntryName
   pub names_are : names ≡ before ++ name ∷ after
   pub is_before : Has before name
+  pub first : AreDifferent before
 
 -- ---- entries that no one names
 

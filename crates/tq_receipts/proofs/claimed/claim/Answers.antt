@@ -9,7 +9,7 @@ use Rattle.tq_receipts.proofs.claimed.claim.Goals as goal
 pub returns-then-not-name : goal.returns-then-not-name
 returns-then-not-name c =
     next_twice c.args.counts.now c.loop-name.marks.items c.args.names.now c.loop-name.name-index _ c.place_of-place.result c.index_mut.result.now c.name.new.self c.name.result
-    c.loop-name.invariant.keeps c.loop-name-test.true c.requires.within c.place_of-place.ensures.value c.index_mut.ensures.value c.name.ensures.fresh c.name.ensures.named c.if-not-name.true
+    c.loop-name.invariant.keeps c.loop-name-test.true c.requires.within c.place_of-place.ensures.value c.index_mut.ensures.value c.name.ensures.fresh c.name.ensures.named c.if-not-name.true c.loop-name.invariant.different
 
 pub loop-name-preserved : goal.loop-name-preserved
 loop-name-preserved c =
