@@ -4,7 +4,7 @@ use Rattle.tq_node.specs.declared.ask.NodeAsk.{NodeAsk}
 use Rattle.tq_node.specs.declared.ask.NodeAsk.TheVariants.{Work}
 use Rattle.tq_node.specs.declared.ask.WorkAsk.TheVariants.{Peek}
 use Rattle.tq_node.specs.declared.ask.NodeReply.{NodeReply}
-use Rattle.tq_txn.specs.Dialogue.{Told, Dialogue, Ends, AsksNode, Makes}
+use Rattle.tq_txn.specs.Dialogue.{Told, Dialogue, Ends, AsksNode, Makes, Begins}
 use Rattle.tq_txn.specs.declared.asker.Exchange.{Exchange}
 use Rattle.tq_txn.specs.declared.asker.Exchange.TheVariants as exchanges
 use Rattle.tq_part.specs.declared.fault.AskFault.{AskFault}
@@ -41,3 +41,7 @@ IsAnswered server ask None old new = (fault : AskFault) × (new ≡ old ++ excha
 -- what was told grew by these asks, each with its answer
 abbrev pub Grows : Dialogue (Unit {0}) → List Exchange → List Exchange → Type 0
 Grows asked old new = (mine : List Exchange) × (new ≡ old ++ mine) × Makes asked mine tt
+
+-- what was told grew by the first of these asks, each with its answer: the others were not made
+abbrev pub IsBegun : Dialogue (Unit {0}) → List Exchange → List Exchange → Type 0
+IsBegun asked old new = (mine : List Exchange) × (new ≡ old ++ mine) × Begins asked mine

@@ -1,5 +1,5 @@
-ghost use Rattle.std.specs.Prelude.{◌≡◌, false, IfOk, OnOk};
-ghost use Rattle.tq_worker.specs.Mending.{IsAnswered, Grows, job_asked, refresh_asked};
+ghost use Rattle.std.specs.Prelude.{◌≡◌, true, false, IfOk, OnOk, OnErr};
+ghost use Rattle.tq_worker.specs.Mending.{IsAnswered, IsBegun, Grows, job_asked, refresh_asked};
 
 use std::alloc::{AllocError, Global};
 use tq_node::NodeAsk;
@@ -8,11 +8,12 @@ use tq_refresh::{Job, copy_ask, peek_ask};
 use tq_shape::{Levels, Memory, ServerId};
 use tq_txn::{Asker, NodeTold};
 
-/// Does one job of a tree of these levels, and says whether memory was refused. For a job of another tree nothing is
-/// asked.
+/// Does one job of a tree of these levels, and says whether memory was refused: then its asks were begun. For a job of
+/// another tree nothing is asked.
 pub fn refresh<A: Asker>(asker: &mut A, alloc: Global, levels: Levels, job: &Job) -> bool
     requires { levels ≡ A.levels asker.old }
     ensures asked { result ≡ false → Grows (refresh_asked levels job.now) (A.told asker.old) (A.told asker.new) }
+    ensures begun { result ≡ true → IsBegun (refresh_asked levels job.now) (A.told asker.old) (A.told asker.new) }
     ensures tree { A.levels asker.new ≡ A.levels asker.old }
 {
     if job.source.levels() != levels {
@@ -30,6 +31,7 @@ pub fn mend<A: Asker>(asker: &mut A, alloc: Global, job: &Job) -> Result<(), Mem
     requires source { job.now.source.levels ≡ A.levels asker.old }
     requires server { job.now.server.levels ≡ A.levels asker.old }
     ensures asked { OnOk result (Grows (job_asked job.now) (A.told asker.old) (A.told asker.new)) }
+    ensures begun { OnErr result (IsBegun (job_asked job.now) (A.told asker.old) (A.told asker.new)) }
     ensures tree { A.levels asker.new ≡ A.levels asker.old }
 {
     let peek = peek_ask(alloc, job)?;
@@ -52,6 +54,7 @@ fn answer_of<A: Asker>(
 ) -> Result<Option<NodeTold>, Memory>
     requires { server.levels ≡ A.levels asker.old }
     ensures told { IfOk result (λ told. IsAnswered server.number ask told (A.told asker.old) (A.told asker.new)) }
+    ensures untold { OnErr result (A.told asker.new ≡ A.told asker.old) }
     ensures tree { A.levels asker.new ≡ A.levels asker.old }
 {
     match asker.node(alloc, server, ask) {
