@@ -1,0 +1,56 @@
+//! A small cluster and its board, and asks of it.
+ghost use Rattle.std.specs.Prelude.{◌≡◌, IfOk};
+
+use std::alloc::Global;
+use std::sync::Wait;
+use tq_cells::OpenGate;
+use tq_cluster::{Caller, Cluster, LiveBoard};
+use tq_desk::{DeskAsk, DeskReply};
+use tq_shape::{Levels, Limits, Memory};
+
+/// A cluster of three servers.
+pub(crate) fn cluster(alloc: Global) -> Result<Cluster<OpenGate>, Memory>
+    ensures levels { IfOk result (λ cluster. cluster.levels ≡ 2) }
+    ensures limits { IfOk result (λ cluster. cluster.limits ≡ record { files = 1000; ops = 64; entries = 1000000 }) }
+{
+    Cluster::new(alloc, Levels::new(2).unwrap(), Limits::full(), OpenGate)
+}
+
+/// A board of a cluster of three servers, which pulled nothing.
+pub(crate) fn board(alloc: Global) -> Result<LiveBoard, Memory>
+    ensures levels { IfOk result (λ board. board.levels ≡ 2) }
+    ensures limits { IfOk result (λ board. board.limits ≡ record { files = 1000; ops = 64; entries = 1000000 }) }
+{
+    LiveBoard::new(alloc, Levels::new(2).unwrap(), Limits::full())
+}
+
+/// Asks the desk for a transaction. Whether it is the first.
+pub(crate) fn begins<R: Wait>(
+    rt: &R,
+    alloc: Global,
+    cluster: &Cluster<OpenGate>,
+    caller: &mut Caller,
+) -> bool
+    requires { caller.old.levels ≡ cluster.now.levels }
+    ensures { caller.new.levels ≡ caller.old.levels }
+{
+    match cluster.ask_desk(rt, alloc, caller, DeskAsk::Begin) {
+        Ok(told) => matches!(told.reply, DeskReply::Txn(1)),
+        Err(_) => false,
+    }
+}
+
+/// Asks the desk for the end of transaction 1. Whether it was asked.
+pub(crate) fn resolves<R: Wait>(
+    rt: &R,
+    alloc: Global,
+    cluster: &Cluster<OpenGate>,
+    caller: &mut Caller,
+) -> bool
+    requires { caller.old.levels ≡ cluster.now.levels }
+    ensures { caller.new.levels ≡ caller.old.levels }
+{
+    cluster
+        .ask_desk(rt, alloc, caller, DeskAsk::Resolve { txn: 1 })
+        .is_ok()
+}
