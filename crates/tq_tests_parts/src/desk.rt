@@ -9,7 +9,7 @@ use tq_desk::{Desk, DeskAsk, DeskRefusal, DeskReply, Grant, Op, OpKind, Rule, Vo
 use tq_desk_laws::{decision_log, desk_laws};
 use tq_locks::Mode;
 use tq_node::{CitedVote, HeldLock, Verdict};
-use tq_shape::{Levels, Limits, Memory, Seq};
+use tq_shape::{Levels, Limits, Memory, Seq, SharedSeq};
 use tq_store::{Content, Write};
 
 /// A desk that is asked.
@@ -335,8 +335,8 @@ fn two_voted(alloc: Global) -> Result<Vec<Write>, Memory> {
 
 /// The vote of server 1 for writes of two files.
 fn vote_for_two(alloc: Global) -> Result<Vote, Memory> {
-    let writes = Seq::from_vec(two_voted(alloc)?);
-    let held = Seq::from_vec(vec![in alloc; lock(1), lock(2)]?);
+    let writes = SharedSeq::from_vec(two_voted(alloc)?)?;
+    let held = SharedSeq::from_vec(vec![in alloc; lock(1), lock(2)]?)?;
     Ok(Vote {
         server: 1,
         number: 2,

@@ -6,7 +6,7 @@ use tq_check::{Wrong, check};
 use tq_intents::{KeptLock, OpenVote, Record};
 use tq_locks::{LockEntry, Mode};
 use tq_node::{CitedVote, HeldLock, Node, NodeAsk, NodeRefusal, NodeReply, Verdict, WorkAsk};
-use tq_shape::{Levels, Memory, Seq, ServerId};
+use tq_shape::{Levels, Memory, Seq, ServerId, SharedSeq};
 use tq_store::{Content, FileName, Write};
 
 /// A server that numbers its asks itself.
@@ -115,17 +115,17 @@ fn write(alloc: Global, file: FileName, version: u64, byte: u8) -> Result<Write,
     })
 }
 
-fn one(alloc: Global, file: FileName, version: u64, byte: u8) -> Result<Seq<Write>, Memory> {
+fn one(alloc: Global, file: FileName, version: u64, byte: u8) -> Result<SharedSeq<Write>, Memory> {
     let write = write(alloc, file, version, byte)?;
-    Ok(Seq::from_vec(vec![in alloc; write]?))
+    Ok(SharedSeq::from_vec(vec![in alloc; write]?)?)
 }
 
-fn pair(alloc: Global, first: Write, second: Write) -> Result<Seq<Write>, Memory> {
-    Ok(Seq::from_vec(vec![in alloc; first, second]?))
+fn pair(alloc: Global, first: Write, second: Write) -> Result<SharedSeq<Write>, Memory> {
+    Ok(SharedSeq::from_vec(vec![in alloc; first, second]?)?)
 }
 
 /// Writes of version 1 of two files.
-fn two(alloc: Global, first: FileName, second: FileName) -> Result<Seq<Write>, Memory> {
+fn two(alloc: Global, first: FileName, second: FileName) -> Result<SharedSeq<Write>, Memory> {
     let first = write(alloc, first, 1, b'x')?;
     let second = write(alloc, second, 1, b'y')?;
     pair(alloc, first, second)
@@ -135,7 +135,7 @@ fn lock(txn: u64, file: FileName, mode: Mode) -> NodeAsk {
     NodeAsk::Work(WorkAsk::Lock { txn, file, mode })
 }
 
-fn prepare(txn: u64, writes: Seq<Write>) -> NodeAsk {
+fn prepare(txn: u64, writes: SharedSeq<Write>) -> NodeAsk {
     NodeAsk::Work(WorkAsk::Prepare { txn, writes })
 }
 
@@ -162,8 +162,8 @@ fn prepare_two(
     Ok(prepare(txn, two(alloc, first, second)?))
 }
 
-fn prepare_none(alloc: Global, txn: u64) -> NodeAsk {
-    prepare(txn, Seq::from_vec(Vec::new(alloc)))
+fn prepare_none(txn: u64) -> NodeAsk {
+    prepare(txn, SharedSeq::empty())
 }
 
 /// A Decide by a Commit that cites one vote.
@@ -272,7 +272,7 @@ fn held(file: FileName, since: u64) -> HeldLock {
 
 /// The answer to the Prepare of a write of a, where b is locked too.
 fn yes(alloc: Global, files: &Files) -> Result<NodeReply, Memory> {
-    let held = Seq::from_vec(vec![in alloc; held(files.a, 1), held(files.b, 2)]?);
+    let held = SharedSeq::from_vec(vec![in alloc; held(files.a, 1), held(files.b, 2)]?)?;
     let writes = one(alloc, files.a, 1, b'y')?;
     Ok(NodeReply::Yes { held, writes })
 }
@@ -395,7 +395,7 @@ fn refuses_bad_writes(server: &mut Numbered, files: &Files) -> bool {
 fn refuses_a_stranger(server: &mut Numbered, files: &Files) -> bool {
     let alloc = server.alloc;
     let strange = NodeRefusal::NotLocked { file: files.b };
-    server.refuses(prepare_none(alloc, 3), NodeRefusal::NothingHere)
+    server.refuses(prepare_none(3), NodeRefusal::NothingHere)
         && server.refuses_to(prepare_one(alloc, 3, files.b, b'x'), strange)
 }
 
@@ -514,7 +514,7 @@ fn discards_a_vote(server: &mut Numbered, files: &Files) -> bool {
     server.grants(2, files.d, Mode::Shared)
         && server.replies(release(2), NodeReply::Released)
         && server.grants(2, files.d, Mode::Shared)
-        && server.is_answered(Ok(prepare_none(alloc, 2)))
+        && server.is_answered(Ok(prepare_none(2)))
         && server.replies_to(commit(alloc, 2, 1, 9), NodeReply::Discarded)
 }
 

@@ -6,7 +6,7 @@ use std::alloc::Global;
 use tq_desk::{Grant, Op, OpKind, Vote};
 use tq_locks::Mode;
 use tq_node::HeldLock;
-use tq_shape::{Memory, Seq};
+use tq_shape::{Memory, Seq, SharedSeq};
 use tq_store::{Content, FileName, Write};
 
 /// Good evidence at two levels: a read of `a` and a write of `b`, each by servers 1 and 2.
@@ -192,8 +192,8 @@ fn vote(alloc: Global, cells: &[u64], at: usize) -> Result<Vote, Memory>
     Ok(Vote {
         server: cell(cells, at),
         number: cell(cells, at + 1),
-        held: Seq::from_vec(held),
-        writes: Seq::from_vec(writes),
+        held: SharedSeq::from_vec(held)?,
+        writes: SharedSeq::from_vec(writes)?,
     })
 }
 

@@ -15,7 +15,7 @@ struct PlainLock {
 struct PlainVote {
     txn: u64,
     number: u64,
-    writes: Seq<Write>,
+    writes: SharedSeq<Write>,
 }
 
 #[derive(Drop)]
@@ -55,13 +55,13 @@ impl Plain {
         None
     }
 
-    fn vote_writes(&self, txn: u64) -> Result<Seq<Write>, Memory> {
+    fn vote_writes(&self, txn: u64) -> Result<SharedSeq<Write>, Memory> {
         for vote in &self.votes {
             if vote.txn == txn {
                 return Ok(vote.writes.clone()?);
             }
         }
-        Ok(Seq::from_vec(Vec::new(self.alloc)))
+        Ok(SharedSeq::empty())
     }
 
     fn version(&self, file: FileName) -> u64 {
@@ -308,7 +308,7 @@ impl Plain {
         Ok(())
     }
 
-    fn open_vote(&mut self, number: u64, txn: u64, writes: &Seq<Write>) -> Result<(), Memory> {
+    fn open_vote(&mut self, number: u64, txn: u64, writes: &SharedSeq<Write>) -> Result<(), Memory> {
         self.stable.push(Record::Prepared { txn, number })?;
         let writes = writes.clone()?;
         self.votes.push(PlainVote {
@@ -320,19 +320,19 @@ impl Plain {
     }
 
     /// The locks of a transaction, as a vote lists them.
-    fn named(&self, txn: u64) -> Result<Seq<HeldLock>, Memory> {
+    fn named(&self, txn: u64) -> Result<SharedSeq<HeldLock>, Memory> {
         let held = self.held(txn)?;
         named(self.alloc, held.as_slice())
     }
 
     /// The vote of a transaction.
-    fn yes(&self, txn: u64, writes: &Seq<Write>) -> Result<NodeReply, Memory> {
+    fn yes(&self, txn: u64, writes: &SharedSeq<Write>) -> Result<NodeReply, Memory> {
         let held = self.named(txn)?;
         let writes = writes.clone()?;
         Ok(NodeReply::Yes { held, writes })
     }
 
-    fn prepare(&mut self, number: u64, txn: u64, writes: &Seq<Write>) -> Result<NodeReply, Memory> {
+    fn prepare(&mut self, number: u64, txn: u64, writes: &SharedSeq<Write>) -> Result<NodeReply, Memory> {
         self.write_intents(number, txn, writes.as_slice())?;
         self.write_locks(number, txn)?;
         self.stabilise(txn);
@@ -437,7 +437,7 @@ impl Plain {
 }
 
 /// Locks, as a vote lists them.
-fn named(alloc: Global, held: &[PlainLock]) -> Result<Seq<HeldLock>, Memory> {
+fn named(alloc: Global, held: &[PlainLock]) -> Result<SharedSeq<HeldLock>, Memory> {
     let mut named = Vec::new(alloc);
     for held in held {
         named.push(HeldLock {
@@ -446,7 +446,7 @@ fn named(alloc: Global, held: &[PlainLock]) -> Result<Seq<HeldLock>, Memory> {
             since: held.since,
         })?;
     }
-    Ok(Seq::from_vec(named))
+    Ok(SharedSeq::from_vec(named)?)
 }
 
 fn rise(writes: &[Write]) -> bool {

@@ -40,7 +40,7 @@ fn any_prepare(dice: &mut Dice, alloc: Global, txn: u64) -> Result<NodeAsk, Memo
     for _ in 0..dice.roll(3) {
         writes.push(any_write(dice, alloc)?)?;
     }
-    Ok(prepare(txn, Seq::from_vec(writes)))
+    Ok(prepare(txn, SharedSeq::from_vec(writes)?))
 }
 
 /// A server beside a plain one, and which ends of votes were seen.
