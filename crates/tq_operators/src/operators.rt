@@ -12,7 +12,7 @@ ghost use Rattle.tq_print.specs.Refusals.{is_memory};
 
 use std::alloc::{AllocError, Global};
 use tq_asking::Recorder;
-use tq_board::render;
+use tq_rendered::render;
 use tq_core::Service;
 use tq_node::{NodeAsk, NodeReply};
 use tq_print::{push_at, say_number};

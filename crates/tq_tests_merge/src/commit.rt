@@ -8,18 +8,18 @@ use tq_live::ViewAsk;
 use tq_locks::Mode;
 use tq_merge::explain;
 use tq_node::{CitedVote, HeldLock, NodeAsk, Verdict, WorkAsk};
-use tq_shape::{Levels, Limits, Part, Seq};
+use tq_shape::{Levels, Limits, Part, Seq, SharedSeq};
 use tq_store::{Content, Write};
 use tq_tables::Journals;
 
 /// What the server was asked by its second entry: x becomes version 1 of the file a.
-fn writes(alloc: Global) -> Result<Seq<Write>, Fail> {
+fn writes(alloc: Global) -> Result<SharedSeq<Write>, Fail> {
     let write = Write {
         file: file(b'a')?,
         version: 1,
         content: text(alloc)?,
     };
-    Ok(Seq::from_vec(vec![in alloc; write]?))
+    Ok(SharedSeq::from_vec(vec![in alloc; write]?)?)
 }
 
 /// The write cites the server's first entry, which granted the lock.
@@ -50,7 +50,7 @@ fn vote(alloc: Global) -> Result<Vote, Fail> {
     Ok(Vote {
         server: 1,
         number: 2,
-        held: Seq::from_vec(vec![in alloc; held]?),
+        held: SharedSeq::from_vec(vec![in alloc; held]?)?,
         writes: writes(alloc)?,
     })
 }

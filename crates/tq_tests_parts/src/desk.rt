@@ -5,7 +5,7 @@ use tq_desk_laws::{decision_log, desk_laws};
 use tq_evidence::failed_rule;
 use tq_locks::Mode;
 use tq_node::{CitedVote, HeldLock, Verdict};
-use tq_shape::{Levels, Limits, Memory, Seq};
+use tq_shape::{Levels, Limits, Memory, Seq, SharedSeq};
 use tq_store::{Content, FileName, Write};
 
 /// A desk that is asked.
@@ -124,8 +124,8 @@ fn writes(alloc: Global) -> Result<Vec<Write>, Memory> {
 }
 
 fn vote(alloc: Global) -> Result<Vote, Memory> {
-    let writes = Seq::from_vec(writes(alloc)?);
-    let held = Seq::from_vec(vec![in alloc; lock(first()), lock(second())]?);
+    let writes = SharedSeq::from_vec(writes(alloc)?)?;
+    let held = SharedSeq::from_vec(vec![in alloc; lock(first()), lock(second())]?)?;
     Ok(Vote {
         server: 1,
         number: 2,

@@ -3,7 +3,7 @@ use tq_check::{Wrong, check};
 use tq_intents::{KeptLock, OpenVote, Record};
 use tq_locks::{LockEntry, Mode};
 use tq_node::{CitedVote, Node, NodeAsk, NodeReply, Verdict, WorkAsk};
-use tq_shape::{Levels, Memory, Seq, ServerId};
+use tq_shape::{Levels, Memory, Seq, ServerId, SharedSeq};
 use tq_store::{Content, FileName, Write};
 
 /// A server that numbers its asks itself.
@@ -104,20 +104,20 @@ fn write(alloc: Global, file: FileName, version: u64, byte: u8) -> Result<Write,
     })
 }
 
-fn one(alloc: Global, file: FileName, version: u64, byte: u8) -> Result<Seq<Write>, Memory> {
+fn one(alloc: Global, file: FileName, version: u64, byte: u8) -> Result<SharedSeq<Write>, Memory> {
     let write = write(alloc, file, version, byte)?;
-    Ok(Seq::from_vec(vec![in alloc; write]?))
+    Ok(SharedSeq::from_vec(vec![in alloc; write]?)?)
 }
 
-fn pair(alloc: Global, first: Write, second: Write) -> Result<Seq<Write>, Memory> {
-    Ok(Seq::from_vec(vec![in alloc; first, second]?))
+fn pair(alloc: Global, first: Write, second: Write) -> Result<SharedSeq<Write>, Memory> {
+    Ok(SharedSeq::from_vec(vec![in alloc; first, second]?)?)
 }
 
 fn lock(txn: u64, file: FileName, mode: Mode) -> NodeAsk {
     NodeAsk::Work(WorkAsk::Lock { txn, file, mode })
 }
 
-fn prepare(txn: u64, writes: Seq<Write>) -> NodeAsk {
+fn prepare(txn: u64, writes: SharedSeq<Write>) -> NodeAsk {
     NodeAsk::Work(WorkAsk::Prepare { txn, writes })
 }
 
@@ -134,8 +134,8 @@ fn prepare_one(alloc: Global, txn: u64, file: FileName, byte: u8) -> Result<Node
     Ok(prepare(txn, one(alloc, file, 1, byte)?))
 }
 
-fn prepare_none(alloc: Global, txn: u64) -> NodeAsk {
-    prepare(txn, Seq::from_vec(Vec::new(alloc)))
+fn prepare_none(txn: u64) -> NodeAsk {
+    prepare(txn, SharedSeq::empty())
 }
 
 /// A Decide by a Commit that cites one vote.
@@ -310,7 +310,7 @@ fn discards_a_vote(server: &mut Numbered, files: &Files) -> bool {
     server.grants(2, files.d, Mode::Shared)
         && server.replies(release(2), NodeReply::Released)
         && server.grants(2, files.d, Mode::Shared)
-        && server.is_answered(Ok(prepare_none(alloc, 2)))
+        && server.is_answered(Ok(prepare_none(2)))
         && server.replies_to(commit(alloc, 2, 1, 9), NodeReply::Discarded)
 }
 
