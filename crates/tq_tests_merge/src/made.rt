@@ -4,7 +4,7 @@ ghost use Rattle.std.specs.Prelude.{◌≤◌, ◌↔◌, IsTrue, All, length};
 use std::alloc::Global;
 use std::test::*;
 use tq_node::{CitedVote, NodeAsk, NodeReply, WorkAsk};
-use tq_shape::{Entry, Levels, Limits};
+use tq_shape::{Entry, Levels, Limits, Memory};
 use tq_store::{Content, FileName};
 use tq_tables::{Journals, NodeEntry};
 
@@ -15,23 +15,21 @@ pub(crate) fn check(holds: bool, what: &'static str) -> Result<(), Fail> {
     if holds { Ok(()) } else { Err(Fail::from(what)) }
 }
 
-pub(crate) fn file(letter: u8) -> Result<FileName, Fail> {
-    Ok(FileName::new([letter].as_slice()).ok_or("file")?)
+pub(crate) fn a() -> FileName {
+    FileName::new(b"a").unwrap()
 }
 
 /// The content x.
-pub(crate) fn text(alloc: Global) -> Result<Content, Fail> {
-    let bytes = vec![in alloc; b'x']?;
-    Ok(Content::new(bytes)?.ok_or("content")?)
+pub(crate) fn text(alloc: Global) -> Result<Content, Memory> {
+    Ok(Content::new(vec![in alloc; b'x']?)?.unwrap())
 }
 
 /// The server took x as version 1 of the file a, which the entry that it cites is to have told.
-pub(crate) fn took(alloc: Global, server: u64, number: u64) -> Result<NodeEntry, Fail> {
-    let file = file(b'a')?;
+pub(crate) fn took(alloc: Global, server: u64, number: u64) -> Result<NodeEntry, Memory> {
     let content = text(alloc)?;
     let from = CitedVote { server, number };
     let ask = NodeAsk::Work(WorkAsk::Refresh {
-        file,
+        file: a(),
         version: 1,
         content,
         from,
@@ -41,21 +39,21 @@ pub(crate) fn took(alloc: Global, server: u64, number: u64) -> Result<NodeEntry,
 }
 
 /// The server told x as version 1 of the file a.
-pub(crate) fn told(alloc: Global) -> Result<NodeEntry, Fail> {
+pub(crate) fn told(alloc: Global) -> Result<NodeEntry, Memory> {
     let content = text(alloc)?;
-    peeked(b'a', 1, content)
+    Ok(peeked(a(), 1, content))
 }
 
 /// The server told the file b, which was never written.
-pub(crate) fn told_nothing() -> Result<NodeEntry, Fail> {
-    peeked(b'b', 0, Content::empty())
+pub(crate) fn told_nothing() -> NodeEntry {
+    let b = FileName::new(b"b").unwrap();
+    peeked(b, 0, Content::empty())
 }
 
-fn peeked(letter: u8, version: u64, content: Content) -> Result<NodeEntry, Fail> {
-    let file = file(letter)?;
+fn peeked(file: FileName, version: u64, content: Content) -> NodeEntry {
     let ask = NodeAsk::Work(WorkAsk::Peek { file });
     let reply = NodeReply::Copy { version, content };
-    Ok(Entry { ask, reply })
+    Entry { ask, reply }
 }
 
 /// Whether no list has more entries than a journal may have.
