@@ -2,10 +2,12 @@
 ghost use Rattle.std.specs.Prelude.{◌≡◌, IfOk};
 
 use std::alloc::Global;
+use std::mem::forget;
 use std::sync::Wait;
 use tq_cells::OpenGate;
-use tq_cluster::{Caller, Cluster, LiveBoard};
+use tq_cluster::{Caller, Cluster, LiveBoard, PullFault};
 use tq_desk::{DeskAsk, DeskReply};
+use tq_live::ViewAsk;
 use tq_shape::{Levels, Limits, Memory};
 
 /// A cluster of three servers.
@@ -53,4 +55,54 @@ pub(crate) fn resolves<R: Wait>(
     cluster
         .ask_desk(rt, alloc, caller, DeskAsk::Resolve { txn: 1 })
         .is_ok()
+}
+
+/// Asks the view. Whether it was asked.
+pub(crate) fn asks_view<R: Wait>(
+    rt: &R,
+    alloc: Global,
+    cluster: &Cluster<OpenGate>,
+    caller: &mut Caller,
+    ask: ViewAsk,
+) -> bool
+    requires { caller.old.levels ≡ cluster.now.levels }
+    ensures { caller.new.levels ≡ caller.old.levels }
+{
+    cluster.ask_view(rt, alloc, caller, ask).is_ok()
+}
+
+/// The board pulls the cluster.
+pub(crate) fn pulls<R: Wait>(
+    rt: &R,
+    alloc: Global,
+    cluster: &Cluster<OpenGate>,
+    caller: &mut Caller,
+    board: &mut LiveBoard,
+) -> Result<(), PullFault>
+    requires caller { caller.old.levels ≡ cluster.now.levels }
+    requires levels { board.old.levels ≡ cluster.now.levels }
+    requires limits { board.old.limits ≡ cluster.now.limits }
+    ensures caller { caller.new.levels ≡ caller.old.levels }
+    ensures levels { board.new.levels ≡ board.old.levels }
+    ensures limits { board.new.limits ≡ board.old.limits }
+{
+    board.pull(rt, alloc, cluster, caller)
+}
+
+// What these types drop is dear to prove in a crate that lets one go. So a test leaves them where they are, and its
+// process ends.
+
+/// Leaves the cluster where it is.
+pub(crate) fn leave_cluster(cluster: Cluster<OpenGate>) {
+    forget(cluster);
+}
+
+/// Leaves the caller where it is.
+pub(crate) fn leave_caller(caller: Caller) {
+    forget(caller);
+}
+
+/// Leaves the board where it is.
+pub(crate) fn leave_board(board: LiveBoard) {
+    forget(board);
 }
