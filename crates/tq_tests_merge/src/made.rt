@@ -1,12 +1,14 @@
 //! Journals made by hand.
 ghost use Rattle.std.specs.Prelude.{◌≤◌, ◌↔◌, IsTrue, All, length};
+ghost use Rattle.tq_tables.specs.Journals.{IsOfTree};
 
 use std::alloc::Global;
 use std::test::*;
+use tq_live::{ViewRefusal, ViewReply};
 use tq_node::{CitedVote, NodeAsk, NodeReply, WorkAsk};
 use tq_shape::{Entry, Levels, Limits, Memory};
 use tq_store::{Content, FileName};
-use tq_tables::{Journals, NodeEntry};
+use tq_tables::{DeskEntry, Journals, NodeEntry, ViewEntry};
 
 /// How many entries a journal of these tests may have.
 const MOST: usize = 1_000_000;
@@ -63,6 +65,30 @@ fn are_short(servers: &[Vec<NodeEntry>]) -> bool
     servers.iter().all(|entries| entries.len() <= MOST)
 }
 
+/// Whether a quorum or a blocker that the view told is of a tree of these levels.
+fn is_of_tree(levels: Levels, entry: &ViewEntry) -> bool
+    ensures { IsTrue result → IsOfTree levels entry.now.reply }
+{
+    match &entry.reply {
+        ViewReply::Chosen { quorum, cost: _ } => quorum.levels() == levels,
+        ViewReply::Refused(ViewRefusal::Blocked(blocker)) => blocker.levels() == levels,
+        ViewReply::CostSet => true,
+        ViewReply::Marked => true,
+        ViewReply::Refused(_) => false,
+    }
+}
+
+fn are_of_tree(levels: Levels, view: &[ViewEntry]) -> bool
+    ensures { IsTrue result → All (λ entry. IsOfTree levels entry.reply) view.now }
+{
+    for entry in view {
+        if !is_of_tree(levels, entry) {
+            return false;
+        }
+    }
+    true
+}
+
 /// Journals in which the servers alone have entries.
 pub(crate) fn journals(
     alloc: Global,
@@ -70,12 +96,30 @@ pub(crate) fn journals(
     servers: Vec<Vec<NodeEntry>>,
 ) -> Result<Journals, Fail> {
     let levels = Levels::new(levels).ok_or("levels")?;
+    journals_of(levels, servers, Vec::new(alloc), Vec::new(alloc))
+}
+
+/// Journals with these entries.
+pub(crate) fn journals_of(
+    levels: Levels,
+    servers: Vec<Vec<NodeEntry>>,
+    desk: Vec<DeskEntry>,
+    view: Vec<ViewEntry>,
+) -> Result<Journals, Fail> {
     if servers.len() as u64 != levels.servers() {
         return Err(Fail::from("servers"));
     }
     if !are_short(servers.as_slice()) {
         return Err(Fail::from("entries of a server"));
     }
-    let (desk, view) = (Vec::new(alloc), Vec::new(alloc));
+    if desk.len() > MOST {
+        return Err(Fail::from("entries of the desk"));
+    }
+    if view.len() > MOST {
+        return Err(Fail::from("entries of the view"));
+    }
+    if !are_of_tree(levels, view.as_slice()) {
+        return Err(Fail::from("another tree"));
+    }
     Ok(Journals::new(levels, Limits::full(), servers, desk, view))
 }
