@@ -342,3 +342,124 @@ fn uses_a_place_again(alloc: Global) -> bool {
 fn place_used_again(rt: HostRuntime) -> Result<(), Wrong> {
     check(uses_a_place_again(rt.alloc()), "another answer")
 }
+
+/// A lock in a plain list: file, transaction, and whether it is exclusive.
+#[derive(Clone, Copy)]
+struct Plain {
+    file: FileName,
+    txn: u64,
+    is_exclusive: bool,
+}
+
+/// What a request gets of a plain list: the least transaction that blocks it.
+fn plain_blocker(plain: &[Plain], file: FileName, txn: u64, is_exclusive: bool) -> Option<u64> {
+    let mut least = None;
+    for lock in plain {
+        let blocks = lock.is_exclusive || is_exclusive;
+        if lock.file == file && !(lock.txn == txn) && blocks {
+            least = match least {
+                Some(other) if other < lock.txn => Some(other),
+                _ => Some(lock.txn),
+            };
+        }
+    }
+    least
+}
+
+/// Grants a lock in a plain list. Answers whether there was memory for it.
+fn plain_grant(plain: &mut Vec<Plain>, wanted: Plain) -> bool {
+    for lock in plain.iter_mut() {
+        if lock.file == wanted.file && lock.txn == wanted.txn {
+            lock.is_exclusive = lock.is_exclusive || wanted.is_exclusive;
+            return true;
+        }
+    }
+    plain.push(wanted).is_ok()
+}
+
+/// Whether the keys of a table are those of the locks of a plain list.
+fn agrees(locks: &LockTable, plain: &[Plain]) -> bool {
+    let mut count = 0usize;
+    for file in [a(), b()] {
+        count = count.wrapping_add(locks.keys_of_file(&file).len());
+    }
+    for lock in plain {
+        let mode = if lock.is_exclusive {
+            Mode::Exclusive
+        } else {
+            Mode::Shared
+        };
+        let keys = locks.keys_of_txn(lock.txn);
+        let is_listed = keys
+            .iter()
+            .any(|key| is_kept(locks, *key, lock.file, lock.txn));
+        match locks.get(lock.txn, lock.file) {
+            Some(found) if is_listed && found.mode == mode => {}
+            _ => return false,
+        }
+    }
+    count == plain.len()
+}
+
+/// A request of both. Answers whether they come to the same.
+fn asks_both(locks: &mut LockTable, plain: &mut Vec<Plain>, alloc: Global, wish: Request) -> bool {
+    let is_exclusive = wish.mode == Mode::Exclusive;
+    match plain_blocker(plain.as_slice(), wish.file, wish.txn, is_exclusive) {
+        Some(by) => is_held(locks, alloc, wish, by),
+        None => {
+            let wanted = Plain {
+                file: wish.file,
+                txn: wish.txn,
+                is_exclusive,
+            };
+            grants(locks, alloc, wish) && plain_grant(plain, wanted)
+        }
+    }
+}
+
+fn plain_release(plain: &mut Vec<Plain>, txn: u64) {
+    plain.retain(|lock| !(lock.txn == txn));
+}
+
+/// One random call of a table and of a plain list: a request, or for one number in four a release. Answers whether they
+/// come to the same.
+fn random_call(locks: &mut LockTable, plain: &mut Vec<Plain>, alloc: Global, number: u64) -> bool {
+    let txn = number / 8 % 5;
+    if number % 4 == 0 {
+        locks.release(txn);
+        plain_release(plain, txn);
+        return true;
+    }
+    let file = if number % 2 == 0 { a() } else { b() };
+    let wish = if number / 64 % 2 == 0 {
+        exclusive(txn, file, number)
+    } else {
+        shared(txn, file, number)
+    };
+    asks_both(locks, plain, alloc, wish)
+}
+
+fn is_like(locks: &mut LockTable, plain: &mut Vec<Plain>, alloc: Global) -> bool {
+    let mut seed = 1u64;
+    for _ in 0..2000 {
+        seed = seed
+            .wrapping_mul(6364136223846793005)
+            .wrapping_add(1442695040888963407);
+        if !random_call(locks, plain, alloc, seed >> 33) || !agrees(locks, plain.as_slice()) {
+            return false;
+        }
+    }
+    true
+}
+
+fn is_like_a_plain_list(alloc: Global) -> bool {
+    let mut locks = LockTable::new(alloc);
+    let mut plain = Vec::new(alloc);
+    is_like(&mut locks, &mut plain, alloc)
+}
+
+/// Random calls of a table and of a plain list come to the same.
+#[test]
+fn like_a_plain_list(rt: HostRuntime) -> Result<(), Wrong> {
+    check(is_like_a_plain_list(rt.alloc()), "another set of locks")
+}
