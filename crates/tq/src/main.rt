@@ -1,10 +1,16 @@
-//! The program `tq`: the shell of a tree of servers and the audit of journal files, over the standard streams.
+//! The program `tq`: the shell of a tree of servers, client scripts in threads and the audit of journal files, over the
+//! standard streams.
 #![tactic(auto)]
 
+ghost use Rattle.std.specs.Prelude.{◌≤◌, ℕ, List};
+ghost use Rattle.tq_words.specs.Command.{IsRead};
+
 use std::process::ExitCode;
+use std::sync::Wait;
+use std::thread::Threads;
 use std::{env, io};
 use tq_shape::Levels;
-use tq_shell::{Reading, RunFault, Words, WordsFault, Writing, audit, run};
+use tq_shell::{Reading, RunFault, Words, WordsFault, Writing, audit, run, threads};
 
 /// The status of what was done.
 const DONE: u8 = 0;
@@ -22,7 +28,7 @@ fn main(rt: HostRuntime) -> ExitCode {
         Err(error) => return refuse_unread(&rt, error),
     };
     match Words::read(rt.alloc(), words.as_slice()) {
-        Ok(words) => obey(&rt, words),
+        Ok(words) => obey(&rt, &rt, words),
         Err(fault) => refuse(&rt, fault),
     }
 }
@@ -44,9 +50,17 @@ fn refuse_unread(rt: &HostRuntime, error: io::Error) -> ExitCode {
     ended(rt, printed, REFUSED)
 }
 
-fn obey(rt: &HostRuntime, words: Words) -> ExitCode {
+/// Does what words that were read ask for; threads are started by the handle.
+fn obey<H: Threads + Wait + Sync>(rt: &HostRuntime, handle: &H, words: Words) -> ExitCode
+    requires { (texts : List (List ℕ)) × IsRead texts words }
+{
     match words {
         Words::Shell { levels } => shell(rt, levels),
+        Words::Threads {
+            levels,
+            workers,
+            rounds,
+        } => scripts(rt, handle, levels, workers, rounds),
         Words::Audit => audit_file(rt),
     }
 }
@@ -56,6 +70,33 @@ fn shell(rt: &HostRuntime, levels: Levels) -> ExitCode {
     let mut writer = Writing::new(io::writer(rt));
     match run(rt.alloc(), levels, &mut reader, &mut writer) {
         Ok(()) => ExitCode::SUCCESS,
+        Err(fault) => say_fault(rt, fault),
+    }
+}
+
+/// Runs the client scripts of the standard input in threads.
+fn scripts<H: Threads + Wait + Sync>(
+    rt: &HostRuntime,
+    handle: &H,
+    levels: Levels,
+    workers: u32,
+    rounds: u32,
+) -> ExitCode
+    requires workers { workers ≤ 2 }
+    requires rounds { rounds ≤ 1000 }
+{
+    let mut reader = Reading::new(rt.reader());
+    let mut writer = Writing::new(io::writer(rt));
+    match threads(
+        handle,
+        rt.alloc(),
+        levels,
+        workers,
+        rounds,
+        &mut reader,
+        &mut writer,
+    ) {
+        Ok(status) => ExitCode::from(status),
         Err(fault) => say_fault(rt, fault),
     }
 }

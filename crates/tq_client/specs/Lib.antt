@@ -1,3 +1,4 @@
 pub mod Known
 pub mod TxnAsked
 pub mod States
+pub mod Possible

@@ -1,6 +1,7 @@
 //! The lines of a transaction, by what they ask for.
-ghost use Rattle.std.specs.Prelude.{◌≡◌, IfOk};
+ghost use Rattle.std.specs.Prelude.{◌≡◌, IfOk, OnOk};
 ghost use Rattle.tq_txn.specs.States.{levels_of};
+ghost use Rattle.tq_client.specs.Possible.{IsSaid};
 ghost use Rattle.tq_client.specs.TxnAsked as spec;
 
 use crate::endings::{abort_txn, apply, commit_txn, decide_txn, prepare, resolve};
@@ -12,8 +13,29 @@ use tq_lines::TxnLine;
 use tq_print::say_number;
 use tq_shape::{Levels, Memory};
 
-/// Answers a line of a transaction.
+/// Answers a line of a transaction: puts its text behind the text, as a line. No text stands for an answer that no part
+/// gives: a line says an answer, or one of the faults that can come.
 pub fn answer_txn(
+    recorder: &mut Recorder,
+    alloc: Global,
+    levels: Levels,
+    number: u64,
+    kept: Kept,
+    line: TxnLine,
+    text: &mut Vec<u8>,
+) -> Result<Kept, Memory>
+    requires txn { levels_of kept.txn ≡ recorder.old.journals.levels }
+    requires levels { levels ≡ recorder.old.journals.levels }
+    ensures answered { IfOk result (λ new. spec.IsAnswered (spec.line_asked levels line number kept) recorder.old.journals recorder.new.journals text.old.items text.new.items new) }
+    ensures levels { IfOk result (λ new. levels_of new.txn ≡ levels_of kept.txn) }
+    ensures tree { recorder.new.journals.levels ≡ recorder.old.journals.levels }
+    ensures possible { OnOk result (IsSaid text.old.items text.new.items) }
+{
+    let left = answer_line(recorder, alloc, levels, number, kept, line, text)?;
+    Ok(left)
+}
+
+fn answer_line(
     recorder: &mut Recorder,
     alloc: Global,
     levels: Levels,

@@ -2,3 +2,8 @@ pub mod Exchanges
 pub mod LegalParts
 pub mod Lists
 pub mod Names
+pub mod Closing
+pub mod Seen
+pub mod Pulled
+pub mod Callers
+pub mod Crossing

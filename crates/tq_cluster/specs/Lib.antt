@@ -1,2 +1,6 @@
 pub mod Cluster
 pub mod Told
+pub mod Closes
+pub mod Pulls
+pub mod Clients
+pub mod Backwards

@@ -1,5 +1,5 @@
 -- What a caller of a cluster was told.
-use Rattle.std.specs.Prelude.{ℕ, List, [], Ok}
+use Rattle.std.specs.Prelude.{ℕ, ◌-◌, ◌^◌, List, [], Ok, get_or, set, replicate}
 use Rattle.tq_shape.specs.declared.part.Part.{Part}
 use Rattle.tq_shape.specs.declared.part.Part.TheVariants as parts
 use Rattle.tq_cells.specs.Passes.{IsToldBy}
@@ -21,10 +21,34 @@ use Rattle.tq_txn.specs.declared.asker.Exchange.TheVariants as exchanges
 use Rattle.tq_cluster.specs.declared.heard.Heard.{Heard}
 use Rattle.tq_cluster.specs.declared.heard.Heard.TheVariants as heard
 
--- a caller asks the servers of a tree of those levels, and was told this of its asks, in their order
+-- of each part the greatest number of an entry that one was told of, 0 where of none: of the servers upwards from server 1,
+-- of the desk and of the view
+pub record SeenView : Type 0 where
+  pub servers : List ℕ
+  pub desk : ℕ
+  pub view : ℕ
+
+-- a caller asks the servers of a tree of those levels, was told this of its asks, in their order, and has seen so far
 pub record CallerView : Type 0 where
   pub levels : ℕ
   pub told : List Exchange
+  pub seen : SeenView
+
+-- nothing was seen of the parts of a system
+abbrev pub nothing_seen : ℕ → SeenView
+nothing_seen levels = record { servers = replicate (2 ^ levels - 1) 0; desk = 0; view = 0 }
+
+-- the greatest number that the caller was told of the part
+abbrev pub seen_of : CallerView → Part → ℕ
+seen_of caller (parts.Server number) = get_or caller.seen.servers (number - 1) 0
+seen_of caller parts.Desk = caller.seen.desk
+seen_of caller parts.View = caller.seen.view
+
+-- the caller, who has seen that number of the part, and of the others as before
+abbrev pub having_seen : CallerView → Part → ℕ → CallerView
+having_seen caller (parts.Server number) seen = record caller { seen = record caller.seen { servers = set caller.seen.servers (number - 1) seen } }
+having_seen caller parts.Desk seen = record caller { seen = record caller.seen { desk = seen } }
+having_seen caller parts.View seen = record caller { seen = record caller.seen { view = seen } }
 
 -- the number of a server by its name, 0 for another part
 abbrev pub server_of : Part → ℕ

@@ -1,4 +1,5 @@
-ghost use Rattle.std.specs.Prelude.{◌≡◌, ◌+◌, ◌^◌, [], vec_len};
+ghost use Rattle.std.specs.Prelude.{◌≡◌, ◌+◌, ◌^◌, [], map, vec_len};
+ghost use Rattle.tq_cluster.specs.Told.{exchange_of};
 
 use crate::heard::Heard;
 use std::alloc::Global;
@@ -25,7 +26,11 @@ impl Model for Caller {
 
     ghost Value = { CallerView };
 
-    ghost view = { λ c. record { levels = c.levels; told = map exchange_of c.heard.items } };
+    ghost view = { λ c. record {
+      levels = c.levels;
+      told = map exchange_of c.heard.items;
+      seen = record { servers = map (λ pass. pass.seen) c.servers.items; desk = c.desk.seen; view = c.view.seen };
+    } };
 
     ghost invariant = { λ c. length c.servers.items + 1 ≡ 2 ^ c.levels };
 }
@@ -40,7 +45,11 @@ impl Caller {
         view: Pass<View>,
     ) -> Caller
         requires { vec_len servers + 1 ≡ 2 ^ levels }
-        ensures { result ≡ record { levels = levels; told = [] } }
+        ensures { result ≡ record {
+          levels = levels;
+          told = [];
+          seen = record { servers = map (λ pass. pass.seen) servers.items; desk = desk.seen; view = view.seen };
+        } }
     {
         Caller {
             levels,
@@ -49,5 +58,19 @@ impl Caller {
             view,
             heard: Vec::new(alloc),
         }
+    }
+
+    /// What it heard of its asks, in their order. It takes no memory.
+    pub(crate) fn into_heard(self) -> Vec<Heard>
+        ensures { map exchange_of result.items ≡ self.told }
+    {
+        let Caller {
+            levels: _,
+            servers: _,
+            desk: _,
+            view: _,
+            heard,
+        } = self;
+        heard
     }
 }

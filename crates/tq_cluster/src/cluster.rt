@@ -1,7 +1,7 @@
 ghost use Rattle.std.specs.Prelude.{◌≡◌, ◌≤◌, ◌+◌, ◌^◌, ◌++◌, ◌⊎◌, [], IfOk, IfErr, vec_capacity};
 ghost use Rattle.tq_txn.specs.Dialogue.{node_exchange, desk_exchange, view_exchange};
-ghost use Rattle.tq_cluster.specs.Cluster.{AreLegalParts};
-ghost use Rattle.tq_cluster.specs.Told.{IsToldByServer, IsToldByDesk, IsToldByView};
+ghost use Rattle.tq_tables.specs.Parts.{AreLegal};
+ghost use Rattle.tq_cluster.specs.Told.{IsToldByServer, IsToldByDesk, IsToldByView, nothing_seen, seen_of};
 
 use crate::call::call;
 use crate::caller::Caller;
@@ -25,9 +25,9 @@ use tq_txn::{DeskTold, Exchange, NodeTold, ViewTold};
 pub struct Cluster<G: Gate + Drop> {
     levels: Levels,
     limits: Limits,
-    servers: Vec<Cell<Node>>,
-    desk: Cell<Desk>,
-    view: Cell<View>,
+    pub(crate) servers: Vec<Cell<Node>>,
+    pub(crate) desk: Cell<Desk>,
+    pub(crate) view: Cell<View>,
     gate: G,
 }
 
@@ -71,7 +71,7 @@ impl<G: Gate + Drop> Cluster<G> {
 
     /// A caller that was told nothing. Answers an error only where memory is refused.
     pub fn caller(&self, alloc: Global) -> Result<Caller, Memory>
-        ensures { IfOk result (λ caller. caller ≡ record { levels = self.now.levels; told = [] }) }
+        ensures { IfOk result (λ caller. caller ≡ record { levels = self.now.levels; told = []; seen = nothing_seen self.now.levels }) }
     {
         let mut servers = Vec::new(alloc);
         for cell in self.servers.as_slice() {
@@ -82,25 +82,39 @@ impl<G: Gate + Drop> Cluster<G> {
         Ok(Caller::new(alloc, self.levels, servers, desk, view))
     }
 
+    /// How many levels the tree of servers has.
+    pub fn levels(&self) -> Levels
+        ensures { result ≡ self.now.levels }
+    {
+        self.levels
+    }
+
+    /// The limits of the system.
+    pub(crate) fn limits(&self) -> Limits
+        ensures { result ≡ self.now.limits }
+    {
+        self.limits
+    }
+
     /// The journals of all parts, once no thread asks them any more. What the callers were told is compared with
     /// nothing. Answers an error only where memory is refused: then the cluster and the callers are gone.
     pub fn into_journals(self, alloc: Global, callers: Vec<Caller>) -> Result<Journals, Memory>
         ensures levels { IfOk result (λ journals. journals.levels ≡ self.levels) }
         ensures limits { IfOk result (λ journals. journals.limits ≡ self.limits) }
-        ensures legal { IfOk result AreLegalParts }
+        ensures legal { IfOk result AreLegal }
     {
         drop(callers);
         let room = Vec::with_capacity(alloc, self.servers.len())?;
-        Ok(self.journals_into(alloc, room))
+        self.journals_into(alloc, room)
     }
 
-    /// The journals of all parts, those of the servers put into the room for them. It takes no memory.
-    fn journals_into(self, alloc: Global, room: Vec<Vec<NodeEntry>>) -> Journals
+    /// The journals of all parts, those of the servers put into the room for them.
+    fn journals_into(self, alloc: Global, room: Vec<Vec<NodeEntry>>) -> Result<Journals, Memory>
         requires empty { room.items ≡ [] }
         requires room { 2 ^ self.levels ≤ vec_capacity room + 1 }
-        ensures levels { result.levels ≡ self.levels }
-        ensures limits { result.limits ≡ self.limits }
-        ensures legal { AreLegalParts result }
+        ensures levels { IfOk result (λ journals. journals.levels ≡ self.levels) }
+        ensures limits { IfOk result (λ journals. journals.limits ≡ self.limits) }
+        ensures legal { IfOk result AreLegal }
     {
         let Cluster {
             levels,
@@ -112,9 +126,9 @@ impl<G: Gate + Drop> Cluster<G> {
         } = self;
         let entries = limits.entries();
         let servers = server_journals(alloc, entries, servers, room);
-        let desk = desk_journal(alloc, entries, desk);
+        let desk = desk_journal(alloc, levels, limits, desk)?;
         let view = view_journal(alloc, levels, entries, view);
-        Journals::new(levels, limits, servers, desk, view)
+        Ok(Journals::new(levels, limits, servers, desk, view))
     }
 
     /// Asks a server, as `ask_desk` asks the desk.
@@ -131,6 +145,7 @@ impl<G: Gate + Drop> Cluster<G> {
         ensures exchanges { caller.new.told ≡ caller.old.told ++ node_exchange server.number ask result }
         ensures same { IfOk result (λ t. (t.server ≡ server.number) × (t.ask ≡ ask)) }
         ensures reply { IfOk result (λ t. IsToldByServer t.number t.ask t.reply) }
+        ensures seen { IfOk result (λ t. t.number ≤ seen_of caller.new (Part.Server server.number)) }
         ensures fault { IfErr result (λ f. (f ≡ AskFault.Memory) ⊎ (f ≡ AskFault.JournalFull (Part.Server server.number))) }
         ensures tree { caller.new.levels ≡ caller.old.levels }
     {
@@ -176,6 +191,7 @@ impl<G: Gate + Drop> Cluster<G> {
         ensures exchanges { caller.new.told ≡ caller.old.told ++ desk_exchange ask result }
         ensures same { IfOk result (λ t. t.ask ≡ ask) }
         ensures reply { IfOk result (λ t. IsToldByDesk t.number t.ask t.reply) }
+        ensures seen { IfOk result (λ t. t.number ≤ seen_of caller.new Part.Desk) }
         ensures fault { IfErr result (λ f. (f ≡ AskFault.Memory) ⊎ (f ≡ AskFault.JournalFull Part.Desk)) }
         ensures tree { caller.new.levels ≡ caller.old.levels }
     {
@@ -214,6 +230,7 @@ impl<G: Gate + Drop> Cluster<G> {
         ensures exchanges { caller.new.told ≡ caller.old.told ++ view_exchange ask result }
         ensures same { IfOk result (λ t. t.ask ≡ ask) }
         ensures reply { IfOk result (λ t. IsToldByView t.number t.ask t.reply) }
+        ensures seen { IfOk result (λ t. t.number ≤ seen_of caller.new Part.View) }
         ensures fault { IfErr result (λ f. (f ≡ AskFault.Memory) ⊎ (f ≡ AskFault.JournalFull Part.View)) }
         ensures tree { caller.new.levels ≡ caller.old.levels }
     {

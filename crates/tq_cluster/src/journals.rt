@@ -1,18 +1,19 @@
-ghost use Rattle.std.specs.Prelude.{◌≡◌, ◌≤◌, [], map, reverse, length, vec_len, vec_capacity};
+ghost use Rattle.std.specs.Prelude.{◌≡◌, ◌≤◌, [], map, reverse, length, vec_len, vec_capacity, IfOk};
 ghost use Rattle.std.specs.List.{All};
 ghost use Rattle.tq_node.specs.NodeJournal.{IsLegalNode};
-ghost use Rattle.tq_desk.specs.DeskJournal.{DeskBounds, IsLegalDesk};
+ghost use Rattle.tq_desk.specs.DeskJournal.{IsLegalDesk};
 ghost use Rattle.tq_live.specs.View.{IsLegalView};
 ghost use Rattle.tq_tables.specs.Journals.{IsOfTree};
-ghost use Rattle.tq_tables.specs.Parts.{AreLegalServers};
+ghost use Rattle.tq_tables.specs.Parts.{AreLegalServers, bounds_of};
 
 use std::alloc::Global;
 use tq_cells::Cell;
+use tq_closing::is_legal_desk;
 use tq_desk::Desk;
 use tq_live::View;
 use tq_node::Node;
 use tq_part::Journaled;
-use tq_shape::Levels;
+use tq_shape::{Levels, Limits, Memory};
 use tq_tables::{DeskEntry, NodeEntry, ViewEntry};
 
 /// The journals of the servers in these cells, upwards from server 1, of at most that many entries each, put into the
@@ -60,16 +61,39 @@ fn server_journal(
     journal
 }
 
-/// The journal of the desk in this cell, as that of a server.
-pub(crate) fn desk_journal(alloc: Global, entries: u32, cell: Cell<Desk>) -> Vec<DeskEntry>
-    ensures legal { (bounds : DeskBounds) × IsLegalDesk bounds (reverse result.items) }
-    ensures fits { vec_len result ≤ entries }
+/// The journal of the desk in this cell, of the desk of those levels and limits, as that of a server. Answers an error
+/// only where memory is refused.
+pub(crate) fn desk_journal(
+    alloc: Global,
+    levels: Levels,
+    limits: Limits,
+    cell: Cell<Desk>,
+) -> Result<Vec<DeskEntry>, Memory>
+    ensures legal { IfOk result (λ entries. IsLegalDesk (bounds_of levels limits) (reverse entries.items)) }
+    ensures fits { IfOk result (λ entries. vec_len entries ≤ limits.entries) }
 {
-    let journal = cell.into_journaled().into_entries();
-    if journal.len() > entries as usize {
-        return Vec::new(alloc);
+    desk_entries(alloc, levels, limits, cell.into_journaled().into_entries())
+}
+
+/// These entries of the desk, all of them. That its cell held a desk of other levels or limits cannot be; but no fact of
+/// what was under a lock says so, and the desk tells neither: so it is asked again. There would be no entries then.
+fn desk_entries(
+    alloc: Global,
+    levels: Levels,
+    limits: Limits,
+    journal: Vec<DeskEntry>,
+) -> Result<Vec<DeskEntry>, Memory>
+    ensures legal { IfOk result (λ entries. IsLegalDesk (bounds_of levels limits) (reverse entries.items)) }
+    ensures fits { IfOk result (λ entries. vec_len entries ≤ limits.entries) }
+    ensures whole { IsLegalDesk (bounds_of levels limits) (reverse journal.items) → vec_len journal ≤ limits.entries → IfOk result (λ entries. entries.items ≡ journal.items) }
+{
+    if journal.len() > limits.entries() as usize {
+        return Ok(Vec::new(alloc));
     }
-    journal
+    if !is_legal_desk(alloc, levels, limits, journal.as_slice())? {
+        return Ok(Vec::new(alloc));
+    }
+    Ok(journal)
 }
 
 /// The journal of the view in this cell, of a tree of those levels, as that of a server.

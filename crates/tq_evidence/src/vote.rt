@@ -3,7 +3,7 @@ ghost use Rattle.tq_evidence.specs.Evidence as spec;
 
 use crate::Grant;
 use tq_node::HeldLock;
-use tq_shape::{ExactClone, Seq};
+use tq_shape::{ExactClone, SharedSeq};
 use tq_store::{FileName, Write};
 
 /// A server's vote, as it was answered.
@@ -13,9 +13,9 @@ pub struct Vote {
     /// The number of the server's entry that gave the vote.
     pub number: u64,
     /// The locks that the transaction held there.
-    pub held: Seq<HeldLock>,
+    pub held: SharedSeq<HeldLock>,
     /// The writes that it asked that server to make.
-    pub writes: Seq<Write>,
+    pub writes: SharedSeq<Write>,
 }
 
 impl Vote {

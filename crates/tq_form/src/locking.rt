@@ -9,7 +9,7 @@ use crate::member::is_text;
 use std::alloc::Global;
 use tq_locks::Mode;
 use tq_node::{CitedVote, HeldLock, Verdict};
-use tq_shape::{Memory, Seq};
+use tq_shape::{Memory, Seq, SharedSeq};
 use tq_store::Write;
 use tq_value::{Value, get, items_at, number_at, text_at};
 
@@ -43,7 +43,10 @@ fn held_lock(value: &Value<'_>) -> Option<HeldLock>
 }
 
 /// The locks that the object lists.
-pub(crate) fn held_at(alloc: Global, value: &Value<'_>) -> Result<Option<Seq<HeldLock>>, Memory>
+pub(crate) fn held_at(
+    alloc: Global,
+    value: &Value<'_>,
+) -> Result<Option<SharedSeq<HeldLock>>, Memory>
     ensures { IfOk result (λ held. held ≡ spec.held_at (view value.now)) }
 {
     let Some(values) = items_at(value, "held") else {
@@ -52,7 +55,7 @@ pub(crate) fn held_at(alloc: Global, value: &Value<'_>) -> Result<Option<Seq<Hel
     Ok(held_locks(alloc, values)?)
 }
 
-fn held_locks(alloc: Global, values: &[Value<'_>]) -> Result<Option<Seq<HeldLock>>, Memory>
+fn held_locks(alloc: Global, values: &[Value<'_>]) -> Result<Option<SharedSeq<HeldLock>>, Memory>
     ensures { IfOk result (λ held. held ≡ each spec.held_lock (items_view values.now)) }
 {
     let mut held = Vec::new(alloc);
@@ -62,7 +65,7 @@ fn held_locks(alloc: Global, values: &[Value<'_>]) -> Result<Option<Seq<HeldLock
         };
         held.push(lock)?;
     }
-    Ok(Some(Seq::from_vec(held)))
+    Ok(Some(SharedSeq::from_vec(held)?))
 }
 
 fn write(alloc: Global, value: &Value<'_>) -> Result<Option<Write>, Memory>
@@ -85,7 +88,10 @@ fn write(alloc: Global, value: &Value<'_>) -> Result<Option<Write>, Memory>
 }
 
 /// The writes that the object lists.
-pub(crate) fn writes_at(alloc: Global, value: &Value<'_>) -> Result<Option<Seq<Write>>, Memory>
+pub(crate) fn writes_at(
+    alloc: Global,
+    value: &Value<'_>,
+) -> Result<Option<SharedSeq<Write>>, Memory>
     ensures { IfOk result (λ writes. writes ≡ spec.writes_at one (view value.now)) }
 {
     let Some(values) = items_at(value, "writes") else {
@@ -94,7 +100,7 @@ pub(crate) fn writes_at(alloc: Global, value: &Value<'_>) -> Result<Option<Seq<W
     Ok(writes(alloc, values)?)
 }
 
-fn writes(alloc: Global, values: &[Value<'_>]) -> Result<Option<Seq<Write>>, Memory>
+fn writes(alloc: Global, values: &[Value<'_>]) -> Result<Option<SharedSeq<Write>>, Memory>
     ensures { IfOk result (λ writes. writes ≡ each (spec.write one) (items_view values.now)) }
 {
     let mut writes = Vec::new(alloc);
@@ -104,7 +110,7 @@ fn writes(alloc: Global, values: &[Value<'_>]) -> Result<Option<Seq<Write>>, Mem
         };
         writes.push(write)?;
     }
-    Ok(Some(Seq::from_vec(writes)))
+    Ok(Some(SharedSeq::from_vec(writes)?))
 }
 
 /// The entry of a server that the object cites.

@@ -1,2 +1,4 @@
 pub mod Word
 pub mod Line
+pub mod ClientLine
+pub mod Text

@@ -1,7 +1,7 @@
 -- What the bytes of a line ask for.
-use Rattle.std.specs.Prelude.{ℕ, Bool, true, false, nat_lt, nat_le, ◌&&◌, cond, List, [], ◌∷◌, Option, Some, None, length, is_some, codes}
+use Rattle.std.specs.Prelude.{ℕ, Bool, true, false, nat_lt, nat_le, ◌&&◌, cond, List, [], ◌∷◌, Option, Some, None, length, codes}
 use Rattle.std.specs.List.{list_all}
-use Rattle.std.specs.Option.{option_map, option_and_then}
+use Rattle.std.specs.Option.{option_and_then}
 use Rattle.std.specs.Str.{bytes_eq}
 use Rattle.tq_store.specs.Names.{is_file_name}
 use Rattle.tq_lines.specs.Word.{number_of, word_of, rest_of}

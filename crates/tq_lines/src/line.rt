@@ -129,7 +129,8 @@ impl Line {
     }
 }
 
-fn is_same(word: &[u8], text: &[u8]) -> bool
+/// Whether a word is this text.
+pub(crate) fn is_same(word: &[u8], text: &[u8]) -> bool
     ensures { result ≡ bytes_eq word.now text.now }
 {
     word == text

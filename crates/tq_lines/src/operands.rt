@@ -49,7 +49,8 @@ pub(crate) fn two_numbers(rest: Option<&[u8]>) -> Option<Numbers>
     }
 }
 
-fn file_of(word: &[u8]) -> Option<FileName>
+/// The file that a word names, if it is a name.
+pub(crate) fn file_of(word: &[u8]) -> Option<FileName>
     ensures { result ≡ spec.file_of word.now }
 {
     FileName::new(word)

@@ -7,7 +7,6 @@ mod explaining;
 mod fault;
 mod placing;
 mod ready;
-mod same;
 mod stands;
 mod wrong;
 

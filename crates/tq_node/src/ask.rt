@@ -3,7 +3,7 @@ ghost use Rattle.tq_node.specs.Records as spec;
 
 use crate::Boxed;
 use tq_locks::Mode;
-use tq_shape::{ExactClone, Seq};
+use tq_shape::{ExactClone, Seq, SharedSeq};
 use tq_store::{Content, FileName, Write};
 
 /// The most writes that a vote may have.
@@ -45,7 +45,7 @@ pub enum WorkAsk {
     /// To vote for the writes of a transaction.
     Prepare {
         txn: u64,
-        writes: Seq<Write>,
+        writes: SharedSeq<Write>,
     },
     /// To end a vote; `cite` is the number of the desk's entry with the verdict.
     Decide {
@@ -115,8 +115,8 @@ pub enum NodeReply {
     },
     /// A vote, with the locks that it keeps, ascending by file.
     Yes {
-        held: Seq<HeldLock>,
-        writes: Seq<Write>,
+        held: SharedSeq<HeldLock>,
+        writes: SharedSeq<Write>,
     },
     /// The vote ended, and its writes came.
     Installed,

@@ -20,7 +20,7 @@ use std::marker::Model;
 use tq_intents::{Intents, KeptLock, OpenVote, Record};
 use tq_locks::{LockEntry, LockTable, Mode};
 use tq_part::Plan;
-use tq_shape::{Levels, Memory, Seq, ServerId};
+use tq_shape::{Levels, Memory, Seq, ServerId, SharedSeq};
 use tq_store::{Content, Copies, FileName, Write};
 
 /// A server: its copies, locks and open votes, the stable records that keep them, and whether it is down.
@@ -259,7 +259,7 @@ impl Node {
         alloc: Global,
         number: u64,
         txn: u64,
-        writes: &Seq<Write>,
+        writes: &SharedSeq<Write>,
     ) -> Result<Plan<NodeReply, NodeStep>, Memory>
         ensures reply { IfOk result (λ plan. plan.reply ≡ spec.work_reply self.now.server self.now.state.records (WorkAsk.Prepare txn writes.now)) }
         ensures change { IfOk result (λ plan. plan.change ≡ work_step self.now.server self.now.state.records number (WorkAsk.Prepare txn writes.now)) }
@@ -268,7 +268,7 @@ impl Node {
         let held = held_locks(alloc, entries.as_slice())?;
         let locks = kept_locks(alloc, entries.as_slice())?;
         let answered = writes.clone()?;
-        let writes = writes.clone()?;
+        let writes = copied(alloc, writes.as_slice())?;
         Ok(Plan {
             reply: NodeReply::Yes {
                 held,
@@ -759,7 +759,7 @@ fn plan_refresh(
 }
 
 /// Locks, as a vote lists them.
-fn held_locks(alloc: Global, entries: &[LockEntry]) -> Result<Seq<HeldLock>, Memory>
+fn held_locks(alloc: Global, entries: &[LockEntry]) -> Result<SharedSeq<HeldLock>, Memory>
     ensures { IfOk result (λ held. held ≡ map spec.held_lock entries.now) }
 {
     let mut held = Vec::new(alloc);
@@ -770,7 +770,18 @@ fn held_locks(alloc: Global, entries: &[LockEntry]) -> Result<Seq<HeldLock>, Mem
             since: entry.lock.since,
         })?;
     }
-    Ok(Seq::from_vec(held))
+    Ok(SharedSeq::from_vec(held)?)
+}
+
+/// Writes once more, in memory of their own.
+fn copied(alloc: Global, writes: &[Write]) -> Result<Seq<Write>, Memory>
+    ensures { IfOk result (λ copied. copied ≡ writes.now) }
+{
+    let mut copied = Vec::new(alloc);
+    for write in writes {
+        copied.push(write.clone()?)?;
+    }
+    Ok(Seq::from_vec(copied))
 }
 
 /// Locks, as a vote keeps them.

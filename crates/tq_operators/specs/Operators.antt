@@ -12,7 +12,7 @@ use Rattle.tq_tables.specs.Parts.{view_at}
 use Rattle.tq_tables.specs.Tables.{tables_of}
 use Rattle.tq_refresh.specs.Plan.{plan_of, refresh_of}
 use Rattle.tq_refresh.specs.declared.job.Job.{Job}
-use Rattle.tq_board.specs.Board.{board_text}
+use Rattle.tq_rendered.specs.Board.{board_text}
 use Rattle.tq_txn.specs.Dialogue as asks
 use Rattle.tq_txn.specs.Dialogue.{Told, Ends, AsksNode, then_line}
 use Rattle.tq_print.specs.Print.{printed}

@@ -99,7 +99,9 @@ impl<M: Drop> Putter<M> {
     /// and says so.
     pub fn settle(&mut self)
         requires { (view self.old.pass).parts ≡ 1024 }
-        ensures { (items : List M) × IsPrefixTaken (view self.old.pass).put (view self.old.pass).taken items }
+        ensures channel { sends_on self.new.sender ≡ sends_on self.old.sender }
+        ensures same { view self.new.pass ≡ view self.old.pass }
+        ensures prefix { (items : List M) × IsPrefixTaken (view self.old.pass).put (view self.old.pass).taken items }
     {
         settle(&self.sender, &mut self.pass);
     }

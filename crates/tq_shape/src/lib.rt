@@ -1,5 +1,5 @@
 //! The words that every other crate speaks in: the shape of a complete binary tree of servers, the parts of a system and
-//! their journals' entries, the limits, and a list that contracts see as a list.
+//! their journals' entries, the limits, and lists that contracts see as lists.
 #![tactic(auto)]
 
 mod entry;
@@ -9,6 +9,7 @@ mod list;
 mod part;
 mod server;
 mod server_set;
+mod shared_list;
 
 pub use entry::Entry;
 pub use level::{Levels, MOST_LEVELS};
@@ -17,6 +18,7 @@ pub use list::{ExactClone, Seq};
 pub use part::Part;
 pub use server::{ServerId, Sides};
 pub use server_set::{ServerSet, ServerSetIter};
+pub use shared_list::SharedSeq;
 
 /// What a call answers where memory is refused.
 pub type Memory = std::alloc::AllocError;

@@ -23,7 +23,7 @@ pub(crate) fn grants_of(
     ensures value { IfOk result (λ grants. grants.items ≡ spec.grants_of kind txn file.now answers.now) }
     ensures fault { IfErr result (λ fault. spec.ComesOf (refuse_for (spec.not_a_grant kind txn file.now answers.now) TxnFault.NotAGrant None) fault) }
 {
-    let mut grants = Vec::new(alloc);
+    let mut grants = Vec::with_capacity(alloc, answers.len())?;
     for told in answers {
         match grant_of(kind, txn, file, told)? {
             Some(grant) => grants.push(grant)?,

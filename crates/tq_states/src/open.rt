@@ -169,7 +169,7 @@ impl Open {
         ensures value { IfOk result (λ noting. noting ≡ record { servers = sets.with_number self.now.touched server.number; levels = self.now.levels }) }
         ensures kept { IfOk result (λ noting. sets.IsWithin self.now.touched noting.servers) }
     {
-        let mut servers = self.touched.copy()?;
+        let mut servers = self.touched.copy_for(1)?;
         servers.insert(server)?;
         Ok(Noting::new(servers))
     }
@@ -401,9 +401,21 @@ fn put_in_order(ops: &mut Vec<Op>, op: Op) -> Result<(), Memory>
     ensures ok { OnOk result (ops.new.items ≡ spec.with_op ops.old.items op) }
     ensures err { OnErr result (ops.new.items ≡ ops.old.items) }
 {
+    make_room(ops)?;
     let place = place_of(ops.as_slice(), &op.file);
     ops.insert(place, op)?;
     Ok(())
+}
+
+/// Makes room for one operation more. Most transactions have one, so the first takes no more than its own.
+fn make_room(ops: &mut Vec<Op>) -> Result<(), Memory>
+    ensures { ops.new.items ≡ ops.old.items }
+{
+    if ops.is_empty() {
+        ops.reserve_exact(1)
+    } else {
+        ops.reserve(1)
+    }
 }
 
 /// The place of the first operation on a later file, or the end.

@@ -56,12 +56,23 @@ impl Servers {
         Ok(())
     }
 
+    /// An equal set.
     pub(crate) fn copy(&self) -> Result<Servers, Memory>
         ensures { IfOk result (λ servers. servers ≡ self.now) }
     {
+        self.copy_for(0)
+    }
+
+    /// An equal set, with room for as many servers more.
+    pub(crate) fn copy_for(&self, more: usize) -> Result<Servers, Memory>
+        ensures { IfOk result (λ servers. servers ≡ self.now) }
+    {
+        let room = self.ids.len().saturating_add(more);
+        let mut ids = Vec::with_capacity(*self.ids.allocator(), room)?;
+        ids.extend_from_slice(self.ids.as_slice())?;
         Ok(Servers {
             levels: self.levels,
-            ids: self.ids.clone()?,
+            ids,
         })
     }
 
@@ -70,7 +81,7 @@ impl Servers {
         requires { list_all (λ id. id.levels == self.now.levels) others.now ≡ true }
         ensures { IfOk result (λ all. all ≡ record { servers = with_numbers self.now.servers (numbers_of others.now); levels = self.now.levels }) }
     {
-        let mut all = self.copy()?;
+        let mut all = self.copy_for(others.len())?;
         for id in others {
             all.insert(*id)?;
         }

@@ -10,7 +10,7 @@ use crate::NodeTold;
 use std::alloc::Global;
 use tq_desk::{Grant, Op, Vote};
 use tq_node::{NodeAsk, NodeReply, WorkAsk};
-use tq_shape::{Memory, Seq, ServerId};
+use tq_shape::{Memory, ServerId, SharedSeq};
 use tq_store::{FileName, Write};
 
 /// The vote for the transaction that an answer tells of.
@@ -44,7 +44,7 @@ pub(crate) fn is_server_of(ops: &[Op], server: u64) -> bool
 }
 
 /// What the operations write at a server, by file.
-pub(crate) fn writes_at(alloc: Global, ops: &[Op], server: u64) -> Result<Seq<Write>, Memory>
+pub(crate) fn writes_at(alloc: Global, ops: &[Op], server: u64) -> Result<SharedSeq<Write>, Memory>
     ensures { IfOk result (λ writes. writes ≡ spec.writes_at ops.now server) }
 {
     let mut writes = Vec::new(alloc);
@@ -53,7 +53,7 @@ pub(crate) fn writes_at(alloc: Global, ops: &[Op], server: u64) -> Result<Seq<Wr
             writes.push(write_in(op)?)?;
         }
     }
-    Ok(Seq::from_vec(writes))
+    Ok(SharedSeq::from_vec(writes)?)
 }
 
 fn write_in(op: &Op) -> Result<Write, Memory>

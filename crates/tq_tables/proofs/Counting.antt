@@ -205,7 +205,7 @@ count_in-other counts name other apart = ap (λ o. unwrap_or o 0) (lookup-other 
 
 -- ---- the files of commits
 
-is_in-names_of : (name : List ℕ) (ops : List Op) → is_in name (names_of ops) ≡ list_any (writes_file name) ops
+pub is_in-names_of : (name : List ℕ) (ops : List Op) → is_in name (names_of ops) ≡ list_any (writes_file name) ops
 is_in-names_of name ops =
     same_any (fin.keys (with_files fin.empty ops))
     ∙ sym (fin.contains_key-keys (with_files fin.empty ops) name)

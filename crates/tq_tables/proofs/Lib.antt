@@ -3,5 +3,9 @@ pub mod Counting
 pub mod RowLaws
 pub mod Replayed
 pub mod Whole
-pub mod Told
 pub mod Noted
+pub mod Kept
+pub mod Stood
+pub mod Written
+pub mod Restood
+pub mod Changed

@@ -3,12 +3,10 @@ use Rattle.std.specs.Prelude.{◌||◌, ◌&&◌, not}
 use Rattle.std.proofs.Common.{◌≡◌, ℕ, Bool, true, false, cond, List, [], ◌∷◌, ◌++◌, map, filter, refl, ap, sym, ◌∙◌}
 use lib.Dec.{T}
 use mathlib.Core.Bool.{true≢false}
-use Rattle.std.specs.Cmp.{nat_eq_equiv}
-use Rattle.std.specs.Cmp.Lexicographic.{lists_equiv, texts_ties}
+use Rattle.std.specs.Cmp.Lexicographic.{texts_ties}
 use Rattle.std.specs.FinMap as fin
 use Rattle.std.specs.FinMap.{is_sorted}
 use Rattle.std.specs.FinMap.Entries.{below_all}
-use Rattle.std.specs.List.{list_any}
 use Rattle.std.specs.Ordering.{is_lt, is_eq}
 use Rattle.std.specs.declared.cmp.Ordering.{Ordering}
 use Rattle.std.specs.declared.cmp.Ordering.TheVariants.{Less, Equal, Greater}
@@ -16,15 +14,7 @@ use Rattle.std.proofs.lemmas.List.Folds.{list_any-append}
 use Rattle.tq_store.specs.Copies.{name_cmp}
 use Rattle.tq_store.specs.Names.{same_name}
 use Rattle.tq_store.proofs.SameName.{same_name-is, same_name-refl, same_name-sym}
-
--- the name is in the list
-abbrev pub is_in : List ℕ → List (List ℕ) → Bool
-is_in name names = list_any (same_name name) names
-
--- none stands twice
-abbrev pub Apart : List (List ℕ) → Type 0
-Apart [] = Unit {0}
-Apart (name ∷ names) = (is_in name names ≡ false) × Apart names
+pub use Rattle.tq_tables.specs.NamesApart.{is_in, Apart}
 
 -- ---- booleans
 

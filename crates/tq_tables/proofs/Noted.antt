@@ -1,32 +1,28 @@
 -- The tables with one entry more.
 use Rattle.std.specs.Prelude.{reverse}
-use Rattle.std.proofs.Common.{◌≡◌, ◌+◌, ◌<◌, ◌≤◌, ◌^◌, ℕ, zero, suc, List, [], ◌∷◌, ◌++◌, length, map, set, get_or, Option, refl, ap, sym, subst, ◌∙◌, arith}
-use Rattle.std.specs.FinMap as fin
-use Rattle.std.specs.List.{All, flat_map}
-use Rattle.std.proofs.lemmas.List.{map-append, length-reverse}
+use Rattle.std.proofs.Common.{◌≡◌, ◌+◌, ◌<◌, ◌^◌, ℕ, List, [], ◌∷◌, ◌++◌, length, ap, sym, subst, ◌∙◌, arith}
+use Rattle.std.proofs.lemmas.List.{length-reverse}
 use Rattle.tq_shape.specs.declared.entry.Entry.{Entry}
 use Rattle.tq_shape.specs.Journal.{IsLegalFrom}
 use Rattle.tq_shape.proofs.Joined.{reverse-push, state-push}
-use Rattle.tq_intents.specs.declared.record.OpenVote.{OpenVote}
 use Rattle.tq_desk.specs.declared.ask.DeskAsk.{DeskAsk}
-use Rattle.tq_desk.specs.DeskStep.{DeskView, desk_after}
-use Rattle.tq_desk.specs.DeskJournal.{Commit, DeskEntry, commits, with_commit}
+use Rattle.tq_desk.specs.DeskStep.{desk_after}
+use Rattle.tq_desk.specs.DeskJournal.{DeskEntry, commits, with_commit}
 use Rattle.tq_live.specs.Live.{Live}
 use Rattle.tq_live.specs.View.{IsLegalView, view_after, view_after_at, view_reply_at, view_state}
+use Rattle.tq_live.specs.ViewLaws.{keeps_levels}
 use Rattle.tq_live.specs.declared.view.ViewAsk.{ViewAsk}
 use Rattle.tq_live.proofs.Journal.{replays}
-use Rattle.tq_node.specs.Node.{NodeView}
 use Rattle.tq_tables.specs.declared.file_row.FileRow.{FileRow}
-use Rattle.tq_tables.specs.declared.intent_row.IntentRow.{IntentRow}
 use Rattle.tq_tables.specs.declared.intent_row.IntentState.{IntentState}
 use Rattle.tq_tables.specs.DeskStates.{intent_state_at}
 use Rattle.tq_tables.specs.Journals.{JournalsView, ViewEntry, with_desk, with_view}
-use Rattle.tq_tables.specs.Parts.{AreLegal, bounds_of, desk_at, nodes_at, view_at}
-use Rattle.tq_tables.specs.Rows.{file_rows, files_in, intent_row, intent_rows, intent_state, lock_rows, quorum_rows, restated}
-use Rattle.tq_tables.specs.Tables.{IsNextOfDesk, TablesView, tables_of}
+use Rattle.tq_tables.specs.Parts.{AreLegal, PartsView, bounds_of, desk_at, nodes_at, view_at}
+use Rattle.tq_tables.specs.Rows.{file_rows, intent_rows, intent_state, quorum_rows}
+use Rattle.tq_tables.specs.Tables.{IsNextOfDesk, TablesView, tables_at, tables_of}
 use Rattle.tq_tables.proofs.Counting.{commits-most}
 use Rattle.tq_tables.proofs.Replayed.{begun-bound, desk_at-is, desk-push}
-use Rattle.tq_tables.proofs.Whole.{of_tree-rows, states-same}
+use Rattle.tq_tables.proofs.Whole.{states-same}
 
 -- ---- the view
 
@@ -61,63 +57,21 @@ view-stays journals e legal old stand same =
     ∙ (λ i. record (tables_of journals) { view = sym (same (view_at journals.levels journals.view)) i; quorums = quorum_rows (sym (same (view_at journals.levels journals.view)) i) })
     ∙ viewed-next journals e legal
 
--- ---- the rows of open votes with other states
-
--- the first so many of a list changed
-abbrev pub partly : {X : Type 0} → (X → X) → ℕ → List X → List X
-partly f zero xs = xs
-partly f (suc i) [] = []
-partly f (suc i) (x ∷ xs) = f x ∷ partly f i xs
-
-partly-push : {X : Type 0} (f : X → X) (xs : List X) (i : ℕ) (y d : X) → i < length (partly f i xs) → y ≡ f (get_or (partly f i xs) i d) → set (partly f i xs) i y ≡ partly f (suc i) xs
-partly-push f [] zero y d less is = absurd (omega (arith, less))
-partly-push f [] (suc i) y d less is = absurd (omega (arith, less))
-partly-push f (x ∷ xs) zero y d less is = ap (λ first. first ∷ xs) is
-partly-push f (x ∷ xs) (suc i) y d less is = ap (λ rest. f x ∷ rest) (partly-push f xs i y d (omega (arith, less)) is)
-
-pub partly-next : {X : Type 0} (f : X → X) (xs now : List X) (i : ℕ) (y d : X) → now ≡ partly f i xs → i < length now → y ≡ f (get_or now i d) → set now i y ≡ partly f (i + 1) xs
-partly-next f xs now i y d so_far less is =
-    (λ j. set (so_far j) i y)
-    ∙ partly-push f xs i y d (subst (λ l. i < length l) so_far less) (is ∙ ap (λ l. f (get_or l i d)) so_far)
-    ∙ ap (λ (k : ℕ). partly f k xs) (one i)
-  where
-    one : (k : ℕ) → suc k ≡ k + 1
-    one k = omega arith
-
-partly-length : {X : Type 0} (f : X → X) (i : ℕ) (xs : List X) → length (partly f i xs) ≡ length xs
-partly-length f zero xs = refl
-partly-length f (suc i) [] = refl
-partly-length f (suc i) (x ∷ xs) = ap (λ (n : ℕ). suc n) (partly-length f i xs)
-
-partly-most : {X : Type 0} (f : X → X) (i : ℕ) (xs : List X) → length xs ≤ i → partly f i xs ≡ map f xs
-partly-most f zero [] most = refl
-partly-most f zero (x ∷ xs) most = absurd (omega (arith, most))
-partly-most f (suc i) [] most = refl
-partly-most f (suc i) (x ∷ xs) most = ap (λ rest. f x ∷ rest) (partly-most f i xs (omega (arith, most)))
-
-pub partly-all : {X : Type 0} (f : X → X) (xs now : List X) (i : ℕ) → now ≡ partly f i xs → length now ≤ i → now ≡ map f xs
-partly-all f xs now i so_far most =
-    let count = ap length so_far ∙ partly-length f i xs in
-    so_far ∙ partly-most f i xs (omega (arith, count, most))
-
-module _ (state before : ℕ → ℕ → ℕ → IntentState) where
-  restated-votes : (node : NodeView) (votes : List (ℕ × OpenVote)) → map (restated state) (map (intent_row before node) votes) ≡ map (intent_row state node) votes
-  restated-votes node [] = refl
-  restated-votes node (vote ∷ votes) = ap (λ (rest : List IntentRow). intent_row state node vote ∷ rest) (restated-votes node votes)
-
-  restated-rows : (nodes : List NodeView) → map (restated state) (intent_rows before nodes) ≡ intent_rows state nodes
-  restated-rows [] = refl
-  restated-rows (node ∷ nodes) =
-      let votes = fin.entries node.state.records.votes in
-      map-append (restated state) (map (intent_row before node) votes) (intent_rows before nodes)
-      ∙ (λ i. restated-votes node votes i ++ restated-rows nodes i)
+-- the tables at parts of which the view answered an ask
+pub viewed-at : (parts new : PartsView) (files : List FileRow) (ask : ViewAsk) → new ≡ record parts { view = view_after parts.view ask } → tables_at new files ≡ viewed (tables_at parts files) ask
+viewed-at parts new files ask is =
+    ap (λ (p : PartsView). tables_at p files) is
+    ∙ (λ i. record (viewed (tables_at parts files) ask) { levels = keeps_levels parts.view ask i })
 
 -- ---- the desk
 
 -- the tables with the desk after an ask, and with these rows of files
 abbrev pub asked : TablesView → DeskAsk → List FileRow → TablesView
 asked old ask files =
-    record old { desk = desk_after old.desk ask; files = files; intentions = map (restated (intent_state_at (desk_after old.desk ask))) old.intentions }
+    record old { desk = desk_after old.desk ask; files = files; intentions = intent_rows (intent_state_at (desk_after old.desk ask)) old.nodes }
+
+pub asked-at : (parts new : PartsView) (files more : List FileRow) (ask : DeskAsk) → new ≡ record parts { desk = desk_after parts.desk ask } → tables_at new more ≡ asked (tables_at parts files) ask more
+asked-at parts new files more ask is = ap (λ (p : PartsView). tables_at p more) is
 
 module _ (journals : JournalsView) (e : DeskEntry) (legal : AreLegal (with_desk journals e)) where
   desk_next : desk_after (desk_at journals.levels journals.limits journals.desk) e.ask ≡ desk_at journals.levels journals.limits (journals.desk ++ e ∷ [])
@@ -135,9 +89,8 @@ module _ (journals : JournalsView) (e : DeskEntry) (legal : AreLegal (with_desk 
       → asked (tables_of journals) e.ask files ≡ tables_of (with_desk journals e)
   asked-next files are =
       let nodes = nodes_at journals.levels 1 journals.servers in
-      let desk = desk_after (desk_at journals.levels journals.limits journals.desk) e.ask in
       let f = are ∙ ap (file_rows journals.levels nodes) commits_next in
-      let t = restated-rows (intent_state_at desk) (intent_state (reverse journals.desk)) nodes ∙ ap (λ (state : ℕ → ℕ → ℕ → IntentState). intent_rows state nodes) states_next in
+      let t = ap (λ (state : ℕ → ℕ → ℕ → IntentState). intent_rows state nodes) states_next in
       λ i. record (tables_of journals) { desk = desk_next i; files = f i; intentions = t i }
 
   pub desk-noted : (old new : TablesView) (files : List FileRow) → old ≡ tables_of journals
@@ -161,27 +114,15 @@ module _ (tables : TablesView) (e : DeskEntry) (next : IsNextOfDesk tables e) wh
       omega (arith, most, count, few)
 
 -- the rows of files of tables that stand as journals say
-pub rows-at : (journals : JournalsView) (tables old : TablesView) → tables ≡ old → old ≡ tables_of journals → (rows : List FileRow) (nodes : List NodeView) → rows ≡ tables.files → nodes ≡ tables.nodes
-    → rows ≡ file_rows tables.levels nodes (commits (reverse journals.desk))
-rows-at journals tables old same stand rows nodes r n =
-    let whole = same ∙ stand in
-    let levels_are = ap (λ (t : TablesView). t.levels) whole in
-    let nodes_are = n ∙ ap (λ (t : TablesView). t.nodes) whole in
-    r ∙ ap (λ (t : TablesView). t.files) whole ∙ sym (λ i. file_rows (levels_are i) (nodes_are i) (commits (reverse journals.desk)))
+module _ (parts : PartsView) (files : List FileRow) (old : TablesView) (same : tables_at parts files ≡ old) (journals : JournalsView) (stand : old ≡ tables_of journals) where
+  pub rows-at : files ≡ file_rows parts.view.levels parts.nodes (commits (reverse journals.desk))
+  rows-at =
+      let whole = same ∙ stand in
+      ap (λ (t : TablesView). t.files) whole ∙ sym (λ i. file_rows ((whole i).view.levels) ((whole i).nodes) (commits (reverse journals.desk)))
 
--- the same of the rows with an entry more
-pub rows-then : (journals : JournalsView) (e : DeskEntry) (tables old : TablesView) → tables ≡ old → old ≡ tables_of journals → (files : List FileRow) (nodes : List NodeView) → nodes ≡ tables.nodes
-    → files ≡ file_rows tables.levels nodes (with_commit e.ask e.reply (commits (reverse journals.desk)))
-    → files ≡ file_rows journals.levels (nodes_at journals.levels 1 journals.servers) (with_commit e.ask e.reply (commits (reverse journals.desk)))
-rows-then journals e tables old same stand files nodes n are =
-    let whole = same ∙ stand in
-    let levels_are = ap (λ (t : TablesView). t.levels) whole in
-    let nodes_are = n ∙ ap (λ (t : TablesView). t.nodes) whole in
-    are ∙ (λ i. file_rows (levels_are i) (nodes_are i) (with_commit e.ask e.reply (commits (reverse journals.desk))))
-
--- the sets of servers of these rows are of the tree
-pub rows-of_tree : (levels other : ℕ) (nodes : List NodeView) (list : List Commit) (files : List FileRow) → levels ≡ other → files ≡ file_rows levels nodes list
-    → All (λ row. (row.current.levels ≡ other) × (row.stale.levels ≡ other)) files
-rows-of_tree levels other nodes list files same are =
-    subst (λ (rows : List FileRow). All (λ row. (row.current.levels ≡ other) × (row.stale.levels ≡ other)) rows) (sym are)
-    (subst (λ (l : ℕ). All (λ row. (row.current.levels ≡ l) × (row.stale.levels ≡ l)) (file_rows levels nodes list)) same (of_tree-rows levels nodes list (files_in list)))
+  -- and those with the commit of one entry more
+  pub rows-then : (e : DeskEntry) (more : List FileRow) → more ≡ file_rows parts.view.levels parts.nodes (with_commit e.ask e.reply (commits (reverse journals.desk)))
+      → more ≡ file_rows journals.levels (nodes_at journals.levels 1 journals.servers) (with_commit e.ask e.reply (commits (reverse journals.desk)))
+  rows-then e more are =
+      let whole = same ∙ stand in
+      are ∙ (λ i. file_rows ((whole i).view.levels) ((whole i).nodes) (with_commit e.ask e.reply (commits (reverse journals.desk))))

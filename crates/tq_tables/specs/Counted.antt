@@ -1,10 +1,10 @@
 -- How many commits write each file, as it is counted one commit after another.
-use Rattle.std.specs.Prelude.{◌==◌, ◌+◌, ℕ, List, map, fold, []}
+use Rattle.std.specs.Prelude.{◌==◌, ◌+◌, ℕ, List, map, fold}
 use Rattle.std.specs.Cmp.Lexicographic.{pointwise}
 use Rattle.std.specs.FinMap as fin
 use Rattle.std.specs.Map.{lookup}
 use Rattle.std.specs.Option.{unwrap_or}
-use Rattle.indexmap.specs.IndexMap.{insert_entry, insert_all}
+use Rattle.indexmap.specs.IndexMap.{insert_entry}
 use Rattle.tq_evidence.specs.declared.op.Op.{Op}
 use Rattle.tq_desk.specs.DeskStep.{with_files}
 use Rattle.tq_desk.specs.DeskJournal.{Commit, count}
@@ -34,7 +34,3 @@ with_each counts files = fold with_one counts files
 -- what a row says of its file
 abbrev pub version_of : FileRow → List ℕ × ℕ
 version_of row = (row.file, row.version)
-
--- the number that is told last for each file, in the order in which the files are told first
-abbrev pub told_by : List (List ℕ × ℕ) → List (List ℕ × ℕ)
-told_by told = insert_all (pointwise (◌==◌)) [] told

@@ -5,3 +5,6 @@ pub mod Rows
 pub mod Tables
 pub mod Counted
 pub mod DeskStates
+pub mod NamesApart
+pub mod Files
+pub mod NextOfServer

@@ -124,7 +124,3 @@ intent_row state node entry =
 -- the open votes of each server upwards, ascending by transaction
 abbrev pub intent_rows : (ℕ → ℕ → ℕ → IntentState) → List NodeView → List IntentRow
 intent_rows state nodes = flat_map (λ node. map (intent_row state node) (fin.entries node.state.records.votes)) nodes
-
--- the row of an open vote with the state that another log gives it
-abbrev pub restated : (ℕ → ℕ → ℕ → IntentState) → IntentRow → IntentRow
-restated state row = record row { state = state row.server.number row.txn row.number }

@@ -1,7 +1,6 @@
 -- The tables of a system: what they follow, and the rows.
-use Rattle.std.specs.Prelude.{◌≡◌, ℕ, ◌+◌, ◌<◌, ◌^◌, Bool, List, length, reverse, Option, refl}
-use Rattle.std.specs.Coded.{Coded, code_by, coded×, coded_list, coded_option, coded_ℕ, coded_bool}
-use Rattle.std.specs.List.{All}
+use Rattle.std.specs.Prelude.{◌≡◌, ℕ, ◌+◌, ◌<◌, ◌^◌, List, length, reverse, Option, refl}
+use Rattle.std.specs.Coded.{Coded, code_by, coded×, coded_list, coded_option, coded_ℕ}
 use Rattle.tq_intents.specs.declared.record.OpenVote.{OpenVote}
 use Rattle.tq_intents.specs.declared.record.Record.{Record}
 use Rattle.tq_node.specs.Node.{NodeView, node_code}
@@ -14,6 +13,7 @@ use Rattle.tq_live.specs.declared.least.Least.{Least}
 use Rattle.tq_tables.specs.declared.file_row.FileRow.{FileRow}
 use Rattle.tq_tables.specs.declared.lock_row.LockRow.{LockRow}
 use Rattle.tq_tables.specs.declared.intent_row.IntentRow.{IntentRow}
+use Rattle.tq_tables.specs.DeskStates.{intent_state_at}
 use Rattle.tq_tables.specs.Journals.{JournalsView, with_desk}
 use Rattle.tq_tables.specs.Parts.{AreLegal, PartsView, live_code, parts_of}
 use Rattle.tq_tables.specs.Rows.{quorum_rows, file_rows, lock_rows, intent_state, intent_rows}
@@ -48,11 +48,19 @@ tables_over parts entries =
 abbrev pub tables_of : JournalsView → TablesView
 tables_of journals = tables_over (parts_of journals) journals.desk
 
--- the tables are those of one tree: they have a quorum row for each server, and each set of servers is of the tree
-pub record AreTables (tables : TablesView) : Type 0 where
-  pub followed : tables.view.levels ≡ tables.levels
-  pub one_each : length tables.quorums + 1 ≡ 2 ^ tables.levels
-  pub of_tree : All (λ row. (row.current.levels ≡ tables.levels) × (row.stale.levels ≡ tables.levels)) tables.files
+-- the tables that follow these parts and have these rows of files; the other rows are those that the parts say
+abbrev pub tables_at : PartsView → List FileRow → TablesView
+tables_at parts files =
+    record {
+      levels = parts.view.levels;
+      nodes = parts.nodes;
+      desk = parts.desk;
+      view = parts.view;
+      quorums = quorum_rows parts.view;
+      files = files;
+      locks = lock_rows parts.nodes;
+      intentions = intent_rows (intent_state_at parts.desk) parts.nodes;
+    }
 
 -- they are the tables of journals that stay legal with that entry as the desk's next; the desk has fewer entries than a
 -- number of 64 bits can count

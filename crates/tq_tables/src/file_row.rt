@@ -1,5 +1,7 @@
 ghost use Rattle.std.specs.Prelude.{◌≡◌, IfOk};
+ghost use Rattle.tq_tables.specs.Files.{stood};
 
+use tq_node::Node;
 use tq_shape::{Memory, ServerSet};
 use tq_store::FileName;
 
@@ -28,5 +30,22 @@ impl FileRow {
             current,
             stale,
         })
+    }
+
+    /// The server stands among the current ones where its copy of the file is of the row's version or a later one, and
+    /// else among the stale ones. It takes no memory.
+    pub(crate) fn stand(&mut self, node: &Node)
+        requires current { node.now.levels ≡ self.old.current.levels }
+        requires stale { node.now.levels ≡ self.old.stale.levels }
+        ensures { self.new ≡ stood node.now self.old }
+    {
+        let server = node.server();
+        if node.copies().get(&self.file).version >= self.version {
+            self.current.insert(server);
+            self.stale.remove(server);
+        } else {
+            self.current.remove(server);
+            self.stale.insert(server);
+        }
     }
 }

@@ -1,12 +1,16 @@
-ghost use Rattle.std.specs.Prelude.{◌≡◌, ◌+◌, ◌<◌, ◌^◌, ◌++◌, List, length, map, IfOk, OnOk, reverse};
+ghost use Rattle.std.specs.Prelude.{◌≡◌, ◌+◌, ◌<◌, ◌^◌, ◌++◌, ℕ, List, map, IfOk, OnOk, reverse};
 ghost use Rattle.tq_desk.specs.DeskJournal as log;
-ghost use Rattle.tq_desk.specs.DeskJournal.{Commit};
+ghost use Rattle.tq_tables.specs.Counted.{names_of};
+ghost use Rattle.tq_tables.specs.Files.{version_in};
 ghost use Rattle.tq_tables.specs.Parts.{AreOfTree};
 ghost use Rattle.tq_tables.specs.Rows as spec;
 
+use crate::file_names::FileNames;
+use crate::file_table::FileTable;
 use crate::write_counts::WriteCounts;
 use crate::{DeskEntry, FileRow};
 use std::alloc::Global;
+use tq_desk::Op;
 use tq_node::Node;
 use tq_shape::{Levels, Memory, ServerSet};
 use tq_store::FileName;
@@ -27,24 +31,27 @@ pub fn file_rows(
     Ok(rows)
 }
 
-/// The rows after one entry more of the desk, where these are the rows before it.
-pub(crate) fn rows_after(
+/// A row for each file that the ops write, ascending by name, at the version after the one that the table says, or at
+/// version 1 where the table has no row of the file.
+pub(crate) fn rows_written(
     alloc: Global,
-    levels: Levels,
     nodes: &[Node],
-    rows: &[FileRow],
-    entry: &DeskEntry,
+    table: &FileTable,
+    ops: &[Op],
 ) -> Result<Vec<FileRow>, Memory>
-    requires of_tree { AreOfTree levels 1 nodes.now }
-    requires rows { (list : List Commit) × (rows.now ≡ spec.file_rows levels nodes.now list) × (length list + 1 < 2 ^ 64) }
-    ensures { IfOk result (λ after. (list : List Commit) → rows.now ≡ spec.file_rows levels nodes.now list
-        → after.items ≡ spec.file_rows levels nodes.now (log.with_commit entry.now.ask entry.now.reply list)) }
+    requires of_tree { AreOfTree table.now.levels 1 nodes.now }
+    requires room { (file : List ℕ) → version_in table.now.rows file + 1 < 2 ^ 64 }
+    ensures { IfOk result (λ rows. rows.items
+        ≡ map (λ file. spec.row_at table.now.levels nodes.now file (version_in table.now.rows file + 1)) (names_of ops.now)) }
 {
-    let mut counts = WriteCounts::of_rows(alloc, rows)?;
-    counts.note(alloc, entry)?;
-    let mut after = Vec::new(alloc);
-    push_rows(alloc, &mut after, levels, nodes, &counts)?;
-    Ok(after)
+    let levels = table.levels();
+    let names = FileNames::written(alloc, ops)?;
+    let mut rows = Vec::new(alloc);
+    for (file, _) in names.iter() {
+        let version = table.version(file) + 1;
+        rows.push(file_row(alloc, levels, nodes, *file, version)?)?;
+    }
+    Ok(rows)
 }
 
 /// Rows equal to these, with memory of their own.

@@ -1,7 +1,4 @@
-ghost use Rattle.std.specs.Prelude.{◌≡◌, IfOk};
-
-use std::alloc::Global;
-use tq_shape::{Memory, Seq, ServerId};
+use tq_shape::{Seq, ServerId};
 use tq_store::FileName;
 
 /// A file, and the version that a write makes of it.
@@ -36,20 +33,4 @@ pub struct IntentRow {
     /// What it would install, ascending by file.
     pub writes: Seq<FileVersion>,
     pub state: IntentState,
-}
-
-impl IntentRow {
-    /// An equal row, with memory of its own.
-    pub(crate) fn copy(&self, alloc: Global) -> Result<IntentRow, Memory>
-        ensures { IfOk result (λ copy. copy ≡ self.now) }
-    {
-        let writes = Vec::from_slice(alloc, self.writes.as_slice())?;
-        Ok(IntentRow {
-            server: self.server,
-            txn: self.txn,
-            number: self.number,
-            writes: Seq::from_vec(writes),
-            state: self.state,
-        })
-    }
 }

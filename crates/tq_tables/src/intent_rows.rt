@@ -21,26 +21,6 @@ pub fn intent_rows(alloc: Global, nodes: &[Node], desk: &Desk) -> Result<Vec<Int
     Ok(rows)
 }
 
-/// Gives each row the state that the desk's log has for it now.
-pub(crate) fn restate(rows: &mut [IntentRow], desk: &Desk)
-    ensures { rows.new ≡ map (spec.restated (intent_state_at desk.now)) rows.old }
-{
-    for row in rows.iter_mut() {
-        row.state = intent_state(desk, row.server.number(), row.txn, row.number);
-    }
-}
-
-/// Rows equal to these, with memory of their own.
-pub(crate) fn copy_intents(alloc: Global, rows: &[IntentRow]) -> Result<Vec<IntentRow>, Memory>
-    ensures { IfOk result (λ copies. copies.items ≡ rows.now) }
-{
-    let mut copies = Vec::new(alloc);
-    for row in rows {
-        copies.push(row.copy(alloc)?)?;
-    }
-    Ok(copies)
-}
-
 /// Puts the open votes of a server at the end.
 fn push_intents(
     alloc: Global,

@@ -5,6 +5,7 @@
 mod file_names;
 mod file_row;
 mod file_rows;
+mod file_table;
 mod intent_row;
 mod intent_rows;
 mod journals;
@@ -14,8 +15,8 @@ mod parts;
 mod quorum_rows;
 mod replay;
 pub mod rows;
-mod table_rows;
 mod tables;
+mod telling;
 mod write_counts;
 
 pub use file_row::FileRow;

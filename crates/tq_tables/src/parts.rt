@@ -1,14 +1,20 @@
-ghost use Rattle.std.specs.Prelude.{◌≡◌, ◌+◌, ◌<◌, ◌^◌, IfOk, OnOk, OnErr};
+ghost use Rattle.std.specs.Prelude.{◌≡◌, ◌+◌, ◌-◌, ◌<◌, ◌≤◌, ◌^◌, ℕ, List, false, IfOk, OnOk, OnErr, length, slice_set, slice_index_or};
 ghost use Rattle.tq_desk.specs.DeskStep.{desk_after};
+ghost use Rattle.tq_live.specs.View.{view_after};
+ghost use Rattle.tq_node.specs.Node.{NodeView, answered};
+ghost use Rattle.tq_store.specs.Copies.{copy_of};
+ghost use Rattle.tq_tables.specs.NamesApart.{is_in};
 
 use crate::Journals;
 use crate::replay::{replay_desk, replay_nodes, replay_view};
+use crate::telling::answer_telling;
 use std::alloc::Global;
 use std::marker::Model;
 use tq_desk::{Desk, DeskAsk};
-use tq_live::View;
-use tq_node::Node;
+use tq_live::{View, ViewAsk};
+use tq_node::{Node, NodeAsk};
 use tq_shape::{Levels, Memory};
+use tq_store::FileName;
 
 /// All parts of a system: the servers of one tree, upwards from server 1, the desk and the view of that tree.
 #[derive(Drop)]
@@ -77,12 +83,38 @@ impl Parts {
         Ok(())
     }
 
-    /// Puts a view of the same tree in the place of the view.
-    pub(crate) fn put_view(&mut self, view: View)
-        requires { view.levels ≡ self.old.view.levels }
-        ensures { self.new ≡ record self.old { view = view } }
+    /// The view answers one ask more. Out of memory leaves the parts as they were.
+    pub(crate) fn ask_view(&mut self, alloc: Global, ask: &ViewAsk) -> Result<(), Memory>
+        ensures after { OnOk result (self.new ≡ record self.old { view = view_after self.old.view ask.now }) }
+        ensures unchanged { OnErr result (self.new ≡ self.old) }
     {
-        self.view = view;
+        let _desk = &self.desk;
+        self.view.answer(alloc, ask)?;
+        Ok(())
+    }
+
+    /// The server answers one ask more, of that number, and the files are told whose copies there may have changed. Out
+    /// of memory leaves the parts as they were.
+    pub(crate) fn ask_node(
+        &mut self,
+        alloc: Global,
+        server: u64,
+        number: u64,
+        ask: &NodeAsk,
+    ) -> Result<Vec<FileName>, Memory>
+        requires there { (0 < server) × (server ≤ length self.old.nodes) }
+        requires next { (node : NodeView) → node ≡ slice_index_or self.old.nodes (server - 1) node → node.last < number }
+        ensures after { OnOk result ((node : NodeView) → node ≡ slice_index_or self.old.nodes (server - 1) node
+            → self.new ≡ record self.old { nodes = slice_set self.old.nodes (server - 1) (answered node number ask.now) }) }
+        ensures told { IfOk result (λ files. (node : NodeView) → node ≡ slice_index_or self.old.nodes (server - 1) node
+            → (file : List ℕ) → is_in file files.items ≡ false
+            → copy_of (answered node number ask.now).state.records.copies file ≡ copy_of node.state.records.copies file) }
+        ensures unchanged { OnErr result (self.new ≡ self.old) }
+    {
+        let _view = &self.view;
+        let place = (server - 1) as usize;
+        let files = answer_telling(alloc, &mut self.nodes[place], number, ask)?;
+        Ok(files)
     }
 
     /// How many levels the tree of servers has.
@@ -98,6 +130,17 @@ impl Parts {
         ensures of_tree { AreOfTree self.now.view.levels 1 result.now }
     {
         self.nodes.as_slice()
+    }
+
+    /// The server of that number.
+    pub(crate) fn node(&self, server: u64) -> &Node
+        requires { (0 < server) × (server ≤ length self.now.nodes) }
+        ensures value { result.now ≡ slice_index_or self.now.nodes (server - 1) result.now }
+        ensures of_tree { result.now.levels ≡ self.now.view.levels }
+    {
+        let _view = &self.view;
+        let place = (server - 1) as usize;
+        &self.nodes[place]
     }
 
     /// The desk.

@@ -1,36 +1,34 @@
-ghost use Rattle.std.specs.Prelude.{◌≡◌, ◌+◌, ◌<◌, ◌^◌, false, List, length, map, reverse, IfOk, OnOk, OnErr};
+ghost use Rattle.std.specs.Prelude.{◌≡◌, ◌+◌, ◌^◌, true, length, reverse, IfOk, OnOk, OnErr};
 ghost use Rattle.std.specs.List.{All};
-ghost use Rattle.tq_desk.specs.DeskJournal.{Commit, IsLegalDesk, desk_state, with_commit};
-ghost use Rattle.tq_desk.specs.DeskStep.{desk_after};
-ghost use Rattle.tq_tables.specs.DeskStates.{intent_state_at};
-ghost use Rattle.tq_live.specs.View.{view_after};
-ghost use Rattle.tq_tables.specs.Rows as spec;
+ghost use Rattle.tq_desk.specs.DeskJournal.{IsLegalDesk, desk_state};
+ghost use Rattle.tq_tables.specs.Files as spec;
 
-use crate::file_rows::{copy_files, rows_after};
-use crate::intent_rows::{copy_intents, restate};
-use crate::quorum_rows::{copy_quorums, quorum_rows};
-use crate::table_rows::TableRows;
-use crate::{DeskEntry, FileRow, IntentRow, Journals, LockRow, Parts, ViewEntry};
+use crate::file_rows::{file_rows, rows_written};
+use crate::file_table::FileTable;
+use crate::intent_rows::intent_rows;
+use crate::lock_rows::lock_rows;
+use crate::quorum_rows::quorum_rows;
+use crate::{DeskEntry, FileRow, IntentRow, Journals, LockRow, NodeEntry, Parts, ViewEntry};
 use std::alloc::Global;
 use std::marker::Model;
-use tq_desk::{Desk, DeskAsk, DeskReply};
+use tq_desk::{Desk, DeskAsk, DeskReply, Op};
 use tq_live::{Least, View, ViewAsk};
 use tq_node::Node;
 use tq_shape::{Levels, Memory};
 
 /// The servers, the desk and the view that the tables follow, and rows that say how these stand: the least quorum of
 /// each subtree, the files that commits wrote, the locks that are held, and the votes that are open.
+///
+/// The rows of files are kept, and an entry changes only those of the files that it is about. The other rows are read
+/// off the parts, which keep them in order: the best of each subtree, the lock tables, and the open votes.
 #[derive(Drop)]
 pub struct Tables {
-    levels: Levels,
     parts: Parts,
-    quorums: Vec<Option<Least>>,
-    files: Vec<FileRow>,
-    locks: Vec<LockRow>,
-    intentions: Vec<IntentRow>,
+    files: FileTable,
 }
 
 impl Model for Tables {
+    ghost use Rattle.std.specs.Prelude.{◌≡◌};
     ghost use Rattle.tq_intents.specs.contracts.record.Record as record_type;
     ghost use Rattle.tq_intents.specs.contracts.record.OpenVote as vote_type;
     ghost use Rattle.tq_node.specs.contracts.ask.Verdict as verdict_type;
@@ -38,37 +36,20 @@ impl Model for Tables {
     ghost use Rattle.tq_tables.specs.contracts.file_row.FileRow as file_type;
     ghost use Rattle.tq_tables.specs.contracts.lock_row.LockRow as lock_type;
     ghost use Rattle.tq_tables.specs.contracts.intent_row.IntentRow as intent_type;
-    ghost use Rattle.tq_tables.specs.Tables.{AreTables, TablesView, tables_code};
+    ghost use Rattle.tq_tables.specs.Tables.{TablesView, tables_at, tables_code};
 
     ghost Value = { TablesView };
 
     ghost coded = { tables_code record_type.the_row.coded vote_type.the_row.coded verdict_type.the_row.coded least_type.the_row.coded file_type.the_row.coded lock_type.the_row.coded intent_type.the_row.coded };
 
-    ghost view = { λ a. record {
-      levels = a.levels;
-      nodes = a.parts.nodes;
-      desk = a.parts.desk;
-      view = a.parts.view;
-      quorums = a.quorums.items;
-      files = a.files.items;
-      locks = a.locks.items;
-      intentions = a.intentions.items;
-    } };
+    ghost view = { λ a. tables_at a.parts a.files.rows };
 
-    ghost invariant = { λ a. AreTables (record {
-      levels = a.levels;
-      nodes = a.parts.nodes;
-      desk = a.parts.desk;
-      view = a.parts.view;
-      quorums = a.quorums.items;
-      files = a.files.items;
-      locks = a.locks.items;
-      intentions = a.intentions.items;
-    }) };
+    ghost invariant = { λ a. a.parts.view.levels ≡ a.files.levels };
 }
 
 impl Tables {
     ghost use Rattle.tq_tables.specs.Journals.{JournalsView, with_desk, with_view};
+    ghost use Rattle.tq_tables.specs.NextOfServer.{IsNextOfServer, with_node};
     ghost use Rattle.tq_tables.specs.Parts.{AreLegal, bounds_of};
     ghost use Rattle.tq_tables.specs.Tables.{IsNextOfDesk, tables_of, tables_over};
 
@@ -89,96 +70,68 @@ impl Tables {
         requires stands { parts.desk ≡ desk_state (bounds_of parts.desk.levels parts.desk.limits) (reverse entries.now) }
         ensures { IfOk result (λ tables. tables ≡ tables_over parts entries.now) }
     {
-        let rows = TableRows::of(alloc, &parts, entries)?;
         let levels = parts.levels();
-        Ok(Tables {
-            levels,
-            parts,
-            quorums: rows.quorums,
-            files: rows.files,
-            locks: rows.locks,
-            intentions: rows.intentions,
-        })
+        let rows = file_rows(alloc, levels, parts.nodes(), entries)?;
+        let files = FileTable::of(alloc, levels, rows)?;
+        Ok(Tables { parts, files })
     }
 
     /// Equal tables, with memory of their own.
     pub fn copy(&self, alloc: Global) -> Result<Tables, Memory>
         ensures { IfOk result (λ copy. copy ≡ self.now) }
     {
-        let levels = self.levels;
         let parts = self.parts.copy(alloc)?;
-        let quorums = copy_quorums(alloc, self.quorums.as_slice())?;
-        let files = copy_files(alloc, self.files.as_slice())?;
-        let locks = Vec::from_slice(alloc, self.locks.as_slice())?;
-        let intentions = copy_intents(alloc, self.intentions.as_slice())?;
-        Ok(Tables {
-            levels,
-            parts,
-            quorums,
-            files,
-            locks,
-            intentions,
-        })
+        let files = self.files.copy(alloc)?;
+        Ok(Tables { parts, files })
     }
 
-    /// Follows the entry that the view's journal got next. Out of memory leaves the tables as they were.
+    /// Follows the entry, of that number, that the server's journal got next. Only the rows of the files change whose
+    /// copies the entry changed there, and in each that server alone. Out of memory leaves the tables as they were.
+    pub fn note_node(
+        &mut self,
+        alloc: Global,
+        server: u64,
+        number: u64,
+        entry: &NodeEntry,
+    ) -> Result<(), Memory>
+        requires { IsNextOfServer self.old server number entry.now }
+        ensures noted { OnOk result ((journals : JournalsView) → AreLegal (with_node journals server entry.now)
+            → self.old ≡ tables_of journals → self.new ≡ tables_of (with_node journals server entry.now)) }
+        ensures unchanged { OnErr result (self.new ≡ self.old) }
+    {
+        let files = self.parts.ask_node(alloc, server, number, &entry.ask)?;
+        let node = self.parts.node(server);
+        self.files.stand_all(node, files.as_slice());
+        Ok(())
+    }
+
+    /// Follows the entry that the view's journal got next. No row of files changes. Out of memory leaves the tables as
+    /// they were.
     pub fn note_view(&mut self, alloc: Global, entry: &ViewEntry) -> Result<(), Memory>
         ensures noted { OnOk result ((journals : JournalsView) → AreLegal (with_view journals entry.now)
             → self.old ≡ tables_of journals → self.new ≡ tables_of (with_view journals entry.now)) }
         ensures unchanged { OnErr result (self.new ≡ self.old) }
     {
-        match entry.ask {
-            ViewAsk::Choose => (),
-            _ => self.ask_view(alloc, &entry.ask)?,
+        if changes_nothing(&entry.ask) {
+            return Ok(());
         }
+        self.parts.ask_view(alloc, &entry.ask)?;
         Ok(())
     }
 
-    /// The view answers one ask more, and the quorums are those of its costs and marks from then on.
-    fn ask_view(&mut self, alloc: Global, ask: &ViewAsk) -> Result<(), Memory>
-        ensures after { OnOk result (self.new ≡ record self.old {
-          view = view_after self.old.view ask.now;
-          quorums = spec.quorum_rows (view_after self.old.view ask.now);
-        }) }
-        ensures unchanged { OnErr result (self.new ≡ self.old) }
-    {
-        let mut view = self.parts.view().copy(alloc)?;
-        view.answer(alloc, ask)?;
-        let quorums = quorum_rows(alloc, view.tree())?;
-        self.parts.put_view(view);
-        self.quorums = quorums;
-        Ok(())
-    }
-
-    /// Follows the entry that the desk's journal got next. Out of memory leaves the tables as they were.
+    /// Follows the entry that the desk's journal got next. Only the rows of the files change that a commit writes. All
+    /// memory is taken before the first change, so that out of memory leaves the tables as they were.
     pub fn note_desk(&mut self, alloc: Global, entry: &DeskEntry) -> Result<(), Memory>
         requires { IsNextOfDesk self.old entry.now }
         ensures noted { OnOk result ((journals : JournalsView) → AreLegal (with_desk journals entry.now)
             → self.old ≡ tables_of journals → self.new ≡ tables_of (with_desk journals entry.now)) }
         ensures unchanged { OnErr result (self.new ≡ self.old) }
     {
-        if !is_commit(entry) {
-            self.ask_desk(alloc, &entry.ask)?;
-            return Ok(());
-        }
-        let nodes = self.parts.nodes();
-        let files = rows_after(alloc, self.levels, nodes, self.files.as_slice(), entry)?;
-        self.ask_desk(alloc, &entry.ask)?;
-        self.files = files;
-        Ok(())
-    }
-
-    /// The desk answers one ask more, and the open votes have the states that its log gives them from then on.
-    fn ask_desk(&mut self, alloc: Global, ask: &DeskAsk) -> Result<(), Memory>
-        requires { self.old.desk.begun + 1 < 2 ^ 64 }
-        ensures after { OnOk result (self.new ≡ record self.old {
-          desk = desk_after self.old.desk ask.now;
-          intentions = map (spec.restated (intent_state_at (desk_after self.old.desk ask.now))) self.old.intentions;
-        }) }
-        ensures unchanged { OnErr result (self.new ≡ self.old) }
-    {
-        self.parts.ask_desk(alloc, ask)?;
-        restate(self.intentions.as_mut_slice(), self.parts.desk());
+        let ops = committed_ops(entry);
+        let rows = rows_written(alloc, self.parts.nodes(), &self.files, ops)?;
+        self.files.reserve(rows.len())?;
+        self.parts.ask_desk(alloc, &entry.ask)?;
+        self.files.put_all(rows);
         Ok(())
     }
 
@@ -187,7 +140,7 @@ impl Tables {
         ensures value { result ≡ self.now.levels }
         ensures followed { self.now.view.levels ≡ result }
     {
-        self.levels
+        self.parts.levels()
     }
 
     /// The servers that the tables follow, upwards from server 1.
@@ -213,12 +166,13 @@ impl Tables {
     }
 
     /// For each server, upwards from server 1, the first quorum of least cost of its subtree among those that are up;
-    /// none where none is.
-    pub fn quorums(&self) -> &[Option<Least>]
-        ensures value { result.now ≡ self.now.quorums }
-        ensures one_each { length result.now + 1 ≡ 2 ^ self.now.levels }
+    /// none where none is. They are read off the view's tree.
+    pub fn quorums(&self, alloc: Global) -> Result<Vec<Option<Least>>, Memory>
+        ensures value { IfOk result (λ rows. rows.items ≡ self.now.quorums) }
+        ensures one_each { IfOk result (λ rows. length rows.items + 1 ≡ 2 ^ self.now.levels) }
     {
-        self.quorums.as_slice()
+        let rows = quorum_rows(alloc, self.parts.view().tree())?;
+        Ok(rows)
     }
 
     /// The files that commits wrote, in the order of the first such commit, and within one commit ascending by name.
@@ -227,30 +181,41 @@ impl Tables {
         ensures of_tree { All (λ row. (row.current.levels ≡ self.now.levels)
             × (row.stale.levels ≡ self.now.levels)) result.now }
     {
-        self.files.as_slice()
+        let _parts = &self.parts;
+        self.files.rows()
     }
 
-    /// The locks that are held, ascending by server, file and transaction.
-    pub fn locks(&self) -> &[LockRow]
-        ensures { result.now ≡ self.now.locks }
+    /// The locks that are held, ascending by server, file and transaction. They are read off the servers.
+    pub fn locks(&self, alloc: Global) -> Result<Vec<LockRow>, Memory>
+        ensures { IfOk result (λ rows. rows.items ≡ self.now.locks) }
     {
-        self.locks.as_slice()
+        lock_rows(alloc, self.parts.nodes())
     }
 
-    /// The votes that are open, ascending by server and transaction.
-    pub fn intentions(&self) -> &[IntentRow]
-        ensures { result.now ≡ self.now.intentions }
+    /// The votes that are open, ascending by server and transaction. They are read off the servers and the desk.
+    pub fn intentions(&self, alloc: Global) -> Result<Vec<IntentRow>, Memory>
+        ensures { IfOk result (λ rows. rows.items ≡ self.now.intentions) }
     {
-        self.intentions.as_slice()
+        intent_rows(alloc, self.parts.nodes(), self.parts.desk())
     }
 }
 
-/// Whether the entry records a commit.
-fn is_commit(entry: &DeskEntry) -> bool
-    ensures { result ≡ false → (earlier : List Commit) → with_commit entry.now.ask entry.now.reply earlier ≡ earlier }
+/// Whether the ask leaves costs and marks as they are, whatever they are.
+fn changes_nothing(ask: &ViewAsk) -> bool
+    ensures { result ≡ true → ask.now ≡ ViewAsk.Choose }
+{
+    matches!(ask, ViewAsk::Choose)
+}
+
+/// The ops of the commit that the entry records, none where it records none.
+fn committed_ops(entry: &DeskEntry) -> &[Op]
+    ensures { result.now ≡ spec.committed_ops entry.now.ask entry.now.reply }
 {
     match &entry.ask {
-        DeskAsk::Commit { .. } => matches!(&entry.reply, DeskReply::Committed { .. }),
-        _ => false,
+        DeskAsk::Commit { ops, .. } => match &entry.reply {
+            DeskReply::Committed { .. } => ops.as_slice(),
+            _ => &[],
+        },
+        _ => &[],
     }
 }

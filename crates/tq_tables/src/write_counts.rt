@@ -1,13 +1,11 @@
 //! How many commits write each file.
-ghost use Rattle.std.specs.Cmp.Lexicographic.{pointwise};
-ghost use Rattle.std.specs.Prelude.{◌≡◌, ◌==◌, ◌+◌, ◌<◌, ◌^◌, ℕ, List, map, IfOk, OnOk, reverse};
-ghost use Rattle.indexmap.specs.IndexMap.{insert_entry};
+ghost use Rattle.std.specs.Prelude.{◌≡◌, ◌+◌, ◌<◌, ◌^◌, ℕ, List, IfOk, OnOk, reverse};
 ghost use Rattle.tq_desk.specs.DeskJournal as log;
 ghost use Rattle.tq_desk.specs.DeskJournal.{Commit};
 ghost use Rattle.tq_tables.specs.Counted as spec;
 
+use crate::DeskEntry;
 use crate::file_names::FileNames;
-use crate::{DeskEntry, FileRow};
 use indexmap::IndexMap;
 use indexmap::map::Iter;
 use std::alloc::Global;
@@ -45,27 +43,6 @@ impl WriteCounts {
             counts.note(alloc, entry)?;
         }
         Ok(counts)
-    }
-
-    /// Those that rows of files say, the last row of a file counting.
-    pub(crate) fn of_rows(alloc: Global, rows: &[FileRow]) -> Result<WriteCounts, Memory>
-        ensures { IfOk result (λ counts. counts ≡ spec.told_by (map spec.version_of rows.now)) }
-    {
-        let mut told = WriteCounts {
-            counts: IndexMap::new(alloc),
-        };
-        for row in rows {
-            told.tell(row.file, row.version)?;
-        }
-        Ok(told)
-    }
-
-    /// The file has that number from then on.
-    fn tell(&mut self, name: FileName, number: u64) -> Result<(), Memory>
-        ensures { OnOk result (self.new ≡ insert_entry (pointwise (◌==◌)) self.old name number) }
-    {
-        self.counts.insert(name, number)?;
-        Ok(())
     }
 
     /// Counts the entry, if it records a commit.

@@ -11,7 +11,7 @@ use tq_live::{ViewAsk, ViewReply};
 use tq_locks::Mode;
 use tq_node::{CitedVote, NodeAsk, NodeReply, Verdict, WorkAsk};
 use tq_part::AskFault;
-use tq_shape::{Levels, Limits, Memory, Part, Seq, ServerId};
+use tq_shape::{Levels, Limits, Memory, Part, Seq, ServerId, SharedSeq};
 use tq_store::{Content, FileName, Write};
 use tq_tables::Journals;
 
@@ -112,7 +112,7 @@ fn prepare(alloc: Global) -> Result<WorkAsk, Memory> {
         version: 1,
         content: Content::empty(),
     };
-    let writes = Seq::from_vec(vec![in alloc; write]?);
+    let writes = SharedSeq::from_vec(vec![in alloc; write]?)?;
     Ok(WorkAsk::Prepare { txn: 1, writes })
 }
 

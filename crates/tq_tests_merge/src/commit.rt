@@ -1,5 +1,5 @@
 //! The journals of a commit of one write at one server.
-use crate::made::{check, file, text};
+use crate::made::{a, check, text};
 use std::alloc::Global;
 use std::test::*;
 use tq_core::{Service, Step};
@@ -8,22 +8,22 @@ use tq_live::ViewAsk;
 use tq_locks::Mode;
 use tq_merge::explain;
 use tq_node::{CitedVote, HeldLock, NodeAsk, Verdict, WorkAsk};
-use tq_shape::{Levels, Limits, Part, Seq};
+use tq_shape::{Levels, Limits, Memory, Part, Seq, SharedSeq};
 use tq_store::{Content, Write};
 use tq_tables::Journals;
 
 /// What the server was asked by its second entry: x becomes version 1 of the file a.
-fn writes(alloc: Global) -> Result<Seq<Write>, Fail> {
+fn writes(alloc: Global) -> Result<SharedSeq<Write>, Memory> {
     let write = Write {
-        file: file(b'a')?,
+        file: a(),
         version: 1,
         content: text(alloc)?,
     };
-    Ok(Seq::from_vec(vec![in alloc; write]?))
+    Ok(SharedSeq::from_vec(vec![in alloc; write]?)?)
 }
 
 /// The write cites the server's first entry, which granted the lock.
-fn op(alloc: Global) -> Result<Op, Fail> {
+fn op(alloc: Global) -> Result<Op, Memory> {
     let grant = Grant {
         server: 1,
         number: 1,
@@ -33,7 +33,7 @@ fn op(alloc: Global) -> Result<Op, Fail> {
     };
     let grants = Seq::from_vec(vec![in alloc; grant]?);
     Ok(Op {
-        file: file(b'a')?,
+        file: a(),
         kind: OpKind::Write,
         version: 1,
         content: text(alloc)?,
@@ -41,28 +41,28 @@ fn op(alloc: Global) -> Result<Op, Fail> {
     })
 }
 
-fn vote(alloc: Global) -> Result<Vote, Fail> {
+fn vote(alloc: Global) -> Result<Vote, Memory> {
     let held = HeldLock {
-        file: file(b'a')?,
+        file: a(),
         mode: Mode::Exclusive,
         since: 1,
     };
     Ok(Vote {
         server: 1,
         number: 2,
-        held: Seq::from_vec(vec![in alloc; held]?),
+        held: SharedSeq::from_vec(vec![in alloc; held]?)?,
         writes: writes(alloc)?,
     })
 }
 
-fn commit(alloc: Global) -> Result<DeskAsk, Fail> {
+fn commit(alloc: Global) -> Result<DeskAsk, Memory> {
     let ops = Seq::from_vec(vec![in alloc; op(alloc)?]?);
     let votes = Seq::from_vec(vec![in alloc; vote(alloc)?]?);
     Ok(DeskAsk::Commit { txn: 1, ops, votes })
 }
 
 /// The server is told the commit, which is the desk's second entry.
-fn decide(alloc: Global) -> Result<WorkAsk, Fail> {
+fn decide(alloc: Global) -> Result<WorkAsk, Memory> {
     let vote = CitedVote {
         server: 1,
         number: 2,
@@ -75,15 +75,15 @@ fn decide(alloc: Global) -> Result<WorkAsk, Fail> {
     })
 }
 
-fn lock() -> Result<WorkAsk, Fail> {
-    Ok(WorkAsk::Lock {
+fn lock() -> WorkAsk {
+    WorkAsk::Lock {
         txn: 1,
-        file: file(b'a')?,
+        file: a(),
         mode: Mode::Exclusive,
-    })
+    }
 }
 
-fn prepare(alloc: Global) -> Result<WorkAsk, Fail> {
+fn prepare(alloc: Global) -> Result<WorkAsk, Memory> {
     Ok(WorkAsk::Prepare {
         txn: 1,
         writes: writes(alloc)?,
@@ -97,11 +97,11 @@ fn at_server(ask: WorkAsk) -> Step {
     }
 }
 
-fn steps(alloc: Global) -> Result<Vec<Step>, Fail> {
+fn steps(alloc: Global) -> Result<Vec<Step>, Memory> {
     let mut steps = Vec::new(alloc);
     steps.push(Step::Desk(DeskAsk::Begin))?;
     steps.push(Step::View(ViewAsk::Choose))?;
-    steps.push(at_server(lock()?))?;
+    steps.push(at_server(lock()))?;
     steps.push(at_server(prepare(alloc)?))?;
     steps.push(Step::Desk(commit(alloc)?))?;
     steps.push(at_server(decide(alloc)?))?;

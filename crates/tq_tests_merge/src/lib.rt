@@ -1,4 +1,4 @@
-//! Tests of the order that explains journals: journals made by hand that have none, and those of a service.
+//! Tests of the order that explains journals: journals made by hand that have none, those of a service, and empty ones.
 #![tactic(auto)]
 
 #[cfg(test)]

@@ -41,7 +41,7 @@ fn a_ring_of_two_is_stuck_before_its_first_entry(rt: HostRuntime) -> Result<(), 
 fn ring_of_three(alloc: Global) -> Result<Journals, Fail> {
     let first = vec![in alloc; took(alloc, 2, 2)?, told(alloc)?]?;
     let second = vec![in alloc; took(alloc, 3, 3)?, told(alloc)?]?;
-    let third = vec![in alloc; told_nothing()?, took(alloc, 1, 2)?, told(alloc)?]?;
+    let third = vec![in alloc; told_nothing(), took(alloc, 1, 2)?, told(alloc)?]?;
     let servers = vec![in alloc; first, second, third]?;
     journals(alloc, 2, servers)
 }

@@ -1,16 +1,12 @@
-mod cells;
-mod judge;
-mod tables;
-
-use self::cells::{GOOD, file, ops, set, text, votes};
 use std::alloc::Global;
 use tq_check::{Wrong, check};
 use tq_desk::{Desk, DeskAsk, DeskRefusal, DeskReply, Grant, Op, OpKind, Rule, Vote};
 use tq_desk_laws::{decision_log, desk_laws};
+use tq_evidence::failed_rule;
 use tq_locks::Mode;
 use tq_node::{CitedVote, HeldLock, Verdict};
-use tq_shape::{Levels, Limits, Memory, Seq};
-use tq_store::{Content, Write};
+use tq_shape::{Levels, Limits, Memory, Seq, SharedSeq};
+use tq_store::{Content, FileName, Write};
 
 /// A desk that is asked.
 #[derive(Drop)]
@@ -20,13 +16,13 @@ struct Asked {
 }
 
 impl Asked {
-    fn new(alloc: Global, levels: Levels, limits: Limits) -> Asked {
-        let desk = Desk::new(alloc, levels, limits);
+    fn new(alloc: Global, limits: Limits) -> Asked {
+        let desk = Desk::new(alloc, Levels::default(), limits);
         Asked { alloc, desk }
     }
 
-    fn at_two_levels(alloc: Global) -> Asked {
-        Asked::new(alloc, Levels::new(2).unwrap(), Limits::full())
+    fn at_full_limits(alloc: Global) -> Asked {
+        Asked::new(alloc, Limits::full())
     }
 
     /// What the desk answers, where it has not begun many transactions; none where memory is wanting.
@@ -65,92 +61,144 @@ impl Asked {
     }
 }
 
-/// A commit of the evidence that these numbers stand for.
-fn commit(alloc: Global, txn: u64, cells: &[u64]) -> Result<DeskAsk, Memory> {
-    let ops = Seq::from_vec(ops(alloc, cells)?);
-    let votes = Seq::from_vec(votes(alloc, cells)?);
-    Ok(DeskAsk::Commit { txn, ops, votes })
+// ---- evidence: writes of two files by the one server of a tree of one level
+
+fn text(alloc: Global) -> Result<Content, Memory> {
+    Ok(Content::new(vec![in alloc; b'x']?)?.unwrap())
+}
+
+fn first() -> FileName {
+    FileName::new(b"a").unwrap()
+}
+
+fn second() -> FileName {
+    FileName::new(b"b").unwrap()
+}
+
+/// A write of version 1, with its grant.
+fn op(alloc: Global, file: FileName) -> Result<Op, Memory> {
+    let grant = Grant {
+        server: 1,
+        number: 1,
+        mode: Mode::Exclusive,
+        version: 0,
+        content: Content::empty(),
+    };
+    let grants = Seq::from_vec(vec![in alloc; grant]?);
+    Ok(Op {
+        file,
+        kind: OpKind::Write,
+        version: 1,
+        content: text(alloc)?,
+        grants,
+    })
+}
+
+fn write(alloc: Global, file: FileName) -> Result<Write, Memory> {
+    let content = text(alloc)?;
+    Ok(Write {
+        file,
+        version: 1,
+        content,
+    })
+}
+
+fn lock(file: FileName) -> HeldLock {
+    HeldLock {
+        file,
+        mode: Mode::Exclusive,
+        since: 1,
+    }
+}
+
+fn ops(alloc: Global) -> Result<Vec<Op>, Memory> {
+    let first = op(alloc, first())?;
+    let second = op(alloc, second())?;
+    Ok(vec![in alloc; first, second]?)
+}
+
+fn writes(alloc: Global) -> Result<Vec<Write>, Memory> {
+    let first = write(alloc, first())?;
+    let second = write(alloc, second())?;
+    Ok(vec![in alloc; first, second]?)
+}
+
+fn vote(alloc: Global) -> Result<Vote, Memory> {
+    let writes = SharedSeq::from_vec(writes(alloc)?)?;
+    let held = SharedSeq::from_vec(vec![in alloc; lock(first()), lock(second())]?)?;
+    Ok(Vote {
+        server: 1,
+        number: 2,
+        held,
+        writes,
+    })
+}
+
+fn votes(alloc: Global) -> Result<Vec<Vote>, Memory> {
+    let vote = vote(alloc)?;
+    Ok(vec![in alloc; vote]?)
 }
 
 fn good(alloc: Global, txn: u64) -> Result<DeskAsk, Memory> {
-    commit(alloc, txn, &GOOD)
+    let ops = Seq::from_vec(ops(alloc)?);
+    let votes = Seq::from_vec(votes(alloc)?);
+    Ok(DeskAsk::Commit { txn, ops, votes })
+}
+
+fn without_vote(alloc: Global) -> Result<DeskAsk, Memory> {
+    let ops = Seq::from_vec(ops(alloc)?);
+    let votes = Seq::from_vec(Vec::new(alloc));
+    Ok(DeskAsk::Commit { txn: 1, ops, votes })
+}
+
+fn without_op(alloc: Global) -> DeskAsk {
+    let ops = Seq::from_vec(Vec::new(alloc));
+    let votes = Seq::from_vec(Vec::new(alloc));
+    DeskAsk::Commit { txn: 1, ops, votes }
 }
 
 /// The verdict of a commit by good evidence.
-fn by_both(alloc: Global) -> Result<Verdict, Memory> {
-    let first = CitedVote {
+fn by_the_vote(alloc: Global) -> Result<Verdict, Memory> {
+    let cited = CitedVote {
         server: 1,
-        number: 7,
+        number: 2,
     };
-    let second = CitedVote {
-        server: 2,
-        number: 8,
-    };
-    let votes = Seq::from_vec(vec![in alloc; first, second]?);
+    let votes = Seq::from_vec(vec![in alloc; cited]?);
     Ok(Verdict::Commit { votes })
 }
 
-// ---- evidence
-
-/// What a desk answers to the first commit, where its evidence fails the rule of this number, and none where that is 0.
-fn told(number: u64) -> DeskReply {
-    match Rule::at(number) {
-        Some(rule) => DeskReply::Refused(DeskRefusal::BadEvidence { rule }),
-        None => DeskReply::Committed { serial: 1 },
+/// Whether the rule of this number fails.
+fn fails(alloc: Global, ops: &[Op], votes: &[Vote], number: u64) -> bool {
+    match failed_rule(alloc, Levels::default(), ops, votes) {
+        Ok(Some(rule)) => rule.number() == number,
+        _ => false,
     }
 }
 
-fn tells(desk: &mut Asked, cells: &[u64], rule: u64) -> bool {
-    let alloc = desk.alloc;
-    desk.begins() && desk.replies_to(commit(alloc, 1, cells), told(rule))
+fn is_good(alloc: Global, ops: &[Op], votes: &[Vote]) -> bool {
+    matches!(failed_rule(alloc, Levels::default(), ops, votes), Ok(None))
 }
 
-fn is_told(alloc: Global, cells: &[u64], rule: u64) -> bool {
-    let mut desk = Asked::at_two_levels(alloc);
-    tells(&mut desk, cells, rule)
-}
-
-/// Whether a desk tells the rule of good evidence with this change and this version that is read.
-fn is_change_told(alloc: Global, at: usize, value: u64, read: u64, rule: u64) -> bool {
-    let mut cells = GOOD;
-    set(&mut cells, at, value);
-    set(&mut cells, 3, read);
-    is_told(alloc, &cells, rule)
-}
-
-fn are_told(alloc: Global) -> bool {
-    for (at, value, read, rule) in [
-        (2, 3, 5, 0),
-        (9, 0, 5, 1),
-        (20, 0, 5, 2),
-        (29, 4, 5, 3),
-        (15, 0, 5, 4),
-        (2, 4, 5, 5),
-        (12, 3, 4, 5),
-    ] {
-        if !is_change_told(alloc, at, value, read, rule) {
-            return false;
+fn needs_its_vote(alloc: Global) -> bool {
+    match (ops(alloc), votes(alloc)) {
+        (Ok(ops), Ok(votes)) => {
+            is_good(alloc, ops.as_slice(), votes.as_slice()) && fails(alloc, ops.as_slice(), &[], 3)
         }
+        _ => false,
     }
-    true
-}
-
-/// Good evidence; a server left out, a write by a shared grant, a vote as old as a grant, a vote with a write of no
-/// op, a read of a version not granted, and one of the later of two grants of equal versions.
-#[test]
-fn the_rule_that_fails_is_told(rt: HostRuntime) -> Result<(), Wrong> {
-    check(are_told(rt.alloc()), "another reply")
 }
 
 #[test]
-fn no_ops(rt: HostRuntime) -> Result<(), Wrong> {
-    check(is_told(rt.alloc(), &[], 6), "another reply")
+fn evidence_is_judged(rt: HostRuntime) -> Result<(), Wrong> {
+    check(needs_its_vote(rt.alloc()), "another rule")
 }
 
 // ---- one desk for each test, owned by one function: each owner is dear to prove
 
 #[derive(Clone, Copy)]
 enum Trial {
+    NoVote,
+    NoOp,
     Stranger,
     Second,
     Commit,
@@ -162,6 +210,8 @@ enum Trial {
 
 fn passes_by(desk: &mut Asked, trial: Trial) -> bool {
     match trial {
+        Trial::NoVote => refuses_no_vote(desk),
+        Trial::NoOp => refuses_no_op(desk),
         Trial::Stranger => refuses_a_stranger(desk),
         Trial::Second => refuses_a_second(desk),
         Trial::Commit => commits_and_tells(desk),
@@ -172,10 +222,39 @@ fn passes_by(desk: &mut Asked, trial: Trial) -> bool {
     }
 }
 
-/// Whether a new desk of two levels passes.
+/// Whether a new desk passes.
 fn passes(alloc: Global, trial: Trial) -> bool {
-    let mut desk = Asked::at_two_levels(alloc);
+    let mut desk = Asked::at_full_limits(alloc);
     passes_by(&mut desk, trial)
+}
+
+// ---- the rule that fails is told
+
+fn fails_by(number: u64) -> DeskReply {
+    match Rule::at(number) {
+        Some(rule) => DeskReply::Refused(DeskRefusal::BadEvidence { rule }),
+        None => DeskReply::Committed { serial: 1 },
+    }
+}
+
+fn refuses_no_vote(desk: &mut Asked) -> bool {
+    let ask = without_vote(desk.alloc);
+    desk.begins() && desk.replies_to(ask, fails_by(3))
+}
+
+#[test]
+fn no_vote(rt: HostRuntime) -> Result<(), Wrong> {
+    check(passes(rt.alloc(), Trial::NoVote), "another reply")
+}
+
+fn refuses_no_op(desk: &mut Asked) -> bool {
+    let ask = without_op(desk.alloc);
+    desk.begins() && desk.replies(&ask, &fails_by(6))
+}
+
+#[test]
+fn no_ops(rt: HostRuntime) -> Result<(), Wrong> {
+    check(passes(rt.alloc(), Trial::NoOp), "another reply")
 }
 
 // ---- how a transaction ends
@@ -193,7 +272,7 @@ fn transaction_never_begun(rt: HostRuntime) -> Result<(), Wrong> {
 /// Whether a second commit is refused, with the verdict of the first.
 fn tells_it_is_decided(desk: &mut Asked) -> bool {
     let alloc = desk.alloc;
-    match by_both(alloc) {
+    match by_the_vote(alloc) {
         Ok(verdict) => {
             let decided = DeskReply::Refused(DeskRefusal::Decided(verdict));
             desk.replies_to(good(alloc, 1), decided)
@@ -212,7 +291,7 @@ fn commits_once(rt: HostRuntime) -> Result<(), Wrong> {
 }
 
 fn tells_the_commit(desk: &mut Asked) -> bool {
-    match by_both(desk.alloc) {
+    match by_the_vote(desk.alloc) {
         Ok(verdict) => desk.replies(&DeskAsk::Resolve { txn: 1 }, &DeskReply::Verdict(verdict)),
         Err(_) => false,
     }
@@ -249,7 +328,7 @@ fn is_verdict(verdict: Option<&Verdict>, wanted: &Verdict) -> bool {
 
 /// Whether transaction 1 ended by the commit, and of transaction 2 nothing is told.
 fn ended_by_the_commit(desk: &Desk, alloc: Global) -> bool {
-    match by_both(alloc) {
+    match by_the_vote(alloc) {
         Ok(wanted) => desk.verdict(2).is_none() && is_verdict(desk.verdict(1), &wanted),
         Err(_) => false,
     }
@@ -286,81 +365,14 @@ fn copies_what_is_recorded(rt: HostRuntime) -> Result<(), Wrong> {
 
 // ---- limits
 
-/// A write of version 1 by server 1 alone.
-fn write_by_one(alloc: Global, number: u64) -> Result<Op, Memory> {
-    let grant = Grant {
-        server: 1,
-        number: 1,
-        mode: Mode::Exclusive,
-        version: 0,
-        content: Content::empty(),
-    };
-    let grants = Seq::from_vec(vec![in alloc; grant]?);
-    Ok(Op {
-        file: file(number),
-        kind: OpKind::Write,
-        version: 1,
-        content: text(alloc, 1)?,
-        grants,
-    })
-}
-
-fn voted_write(alloc: Global, number: u64) -> Result<Write, Memory> {
-    Ok(Write {
-        file: file(number),
-        version: 1,
-        content: text(alloc, 1)?,
-    })
-}
-
-fn lock(number: u64) -> HeldLock {
-    HeldLock {
-        file: file(number),
-        mode: Mode::Exclusive,
-        since: 1,
-    }
-}
-
-fn two_ops(alloc: Global) -> Result<Vec<Op>, Memory> {
-    let first = write_by_one(alloc, 1)?;
-    let second = write_by_one(alloc, 2)?;
-    Ok(vec![in alloc; first, second]?)
-}
-
-fn two_voted(alloc: Global) -> Result<Vec<Write>, Memory> {
-    let first = voted_write(alloc, 1)?;
-    let second = voted_write(alloc, 2)?;
-    Ok(vec![in alloc; first, second]?)
-}
-
-/// The vote of server 1 for writes of two files.
-fn vote_for_two(alloc: Global) -> Result<Vote, Memory> {
-    let writes = Seq::from_vec(two_voted(alloc)?);
-    let held = Seq::from_vec(vec![in alloc; lock(1), lock(2)]?);
-    Ok(Vote {
-        server: 1,
-        number: 2,
-        held,
-        writes,
-    })
-}
-
-/// A commit of writes of two files.
-fn two_writes(alloc: Global) -> Result<DeskAsk, Memory> {
-    let ops = Seq::from_vec(two_ops(alloc)?);
-    let vote = vote_for_two(alloc)?;
-    let votes = Seq::from_vec(vec![in alloc; vote]?);
-    Ok(DeskAsk::Commit { txn: 1, ops, votes })
-}
-
 fn answers_two_writes(desk: &mut Asked, wanted: DeskReply) -> bool {
-    let ask = two_writes(desk.alloc);
+    let ask = good(desk.alloc, 1);
     desk.begins() && desk.replies_to(ask, wanted)
 }
 
 /// Answers whether a desk with these limits replies so to a commit of writes of two files.
 fn limits_to(alloc: Global, limits: Limits, wanted: DeskReply) -> bool {
-    let mut desk = Asked::new(alloc, Levels::default(), limits);
+    let mut desk = Asked::new(alloc, limits);
     answers_two_writes(&mut desk, wanted)
 }
 

@@ -1,12 +1,9 @@
-mod plain;
-mod walk;
-
 use std::alloc::Global;
 use tq_check::{Wrong, check};
 use tq_intents::{KeptLock, OpenVote, Record};
 use tq_locks::{LockEntry, Mode};
-use tq_node::{CitedVote, HeldLock, Node, NodeAsk, NodeRefusal, NodeReply, Verdict, WorkAsk};
-use tq_shape::{Levels, Memory, Seq, ServerId};
+use tq_node::{CitedVote, Node, NodeAsk, NodeReply, Verdict, WorkAsk};
+use tq_shape::{Levels, Memory, Seq, ServerId, SharedSeq};
 use tq_store::{Content, FileName, Write};
 
 /// A server that numbers its asks itself.
@@ -68,14 +65,6 @@ impl Numbered {
         }
     }
 
-    fn refuses(&mut self, ask: NodeAsk, wanted: NodeRefusal) -> bool {
-        self.replies(ask, NodeReply::Refused(wanted))
-    }
-
-    fn refuses_to(&mut self, ask: Result<NodeAsk, Memory>, wanted: NodeRefusal) -> bool {
-        self.replies_to(ask, NodeReply::Refused(wanted))
-    }
-
     /// Asks for a lock that is free, on a file that was never written.
     fn grants(&mut self, txn: u64, file: FileName, mode: Mode) -> bool {
         let content = Content::empty();
@@ -115,27 +104,20 @@ fn write(alloc: Global, file: FileName, version: u64, byte: u8) -> Result<Write,
     })
 }
 
-fn one(alloc: Global, file: FileName, version: u64, byte: u8) -> Result<Seq<Write>, Memory> {
+fn one(alloc: Global, file: FileName, version: u64, byte: u8) -> Result<SharedSeq<Write>, Memory> {
     let write = write(alloc, file, version, byte)?;
-    Ok(Seq::from_vec(vec![in alloc; write]?))
+    Ok(SharedSeq::from_vec(vec![in alloc; write]?)?)
 }
 
-fn pair(alloc: Global, first: Write, second: Write) -> Result<Seq<Write>, Memory> {
-    Ok(Seq::from_vec(vec![in alloc; first, second]?))
-}
-
-/// Writes of version 1 of two files.
-fn two(alloc: Global, first: FileName, second: FileName) -> Result<Seq<Write>, Memory> {
-    let first = write(alloc, first, 1, b'x')?;
-    let second = write(alloc, second, 1, b'y')?;
-    pair(alloc, first, second)
+fn pair(alloc: Global, first: Write, second: Write) -> Result<SharedSeq<Write>, Memory> {
+    Ok(SharedSeq::from_vec(vec![in alloc; first, second]?)?)
 }
 
 fn lock(txn: u64, file: FileName, mode: Mode) -> NodeAsk {
     NodeAsk::Work(WorkAsk::Lock { txn, file, mode })
 }
 
-fn prepare(txn: u64, writes: Seq<Write>) -> NodeAsk {
+fn prepare(txn: u64, writes: SharedSeq<Write>) -> NodeAsk {
     NodeAsk::Work(WorkAsk::Prepare { txn, writes })
 }
 
@@ -152,18 +134,8 @@ fn prepare_one(alloc: Global, txn: u64, file: FileName, byte: u8) -> Result<Node
     Ok(prepare(txn, one(alloc, file, 1, byte)?))
 }
 
-/// A Prepare of writes of version 1 of two files.
-fn prepare_two(
-    alloc: Global,
-    txn: u64,
-    first: FileName,
-    second: FileName,
-) -> Result<NodeAsk, Memory> {
-    Ok(prepare(txn, two(alloc, first, second)?))
-}
-
-fn prepare_none(alloc: Global, txn: u64) -> NodeAsk {
-    prepare(txn, Seq::from_vec(Vec::new(alloc)))
+fn prepare_none(txn: u64) -> NodeAsk {
+    prepare(txn, SharedSeq::empty())
 }
 
 /// A Decide by a Commit that cites one vote.
@@ -218,9 +190,6 @@ impl Files {
 
 #[derive(Clone, Copy)]
 enum Trial {
-    Vote,
-    LeastHolder,
-    Refusals,
     Shown,
     Written,
     Copied,
@@ -229,9 +198,6 @@ enum Trial {
 fn passes_by(server: &mut Numbered, trial: Trial) -> bool {
     let files = Files::new();
     match trial {
-        Trial::Vote => outlives_a_crash(server, &files),
-        Trial::LeastHolder => names_the_least_holder(server, files.a),
-        Trial::Refusals => gives_the_first_refusal(server, &files),
         Trial::Shown => is_set_up_and_shown(server, &files),
         Trial::Written => writes_its_records(server, &files),
         Trial::Copied => votes_and_copies_itself(server, &files),
@@ -244,124 +210,7 @@ fn passes(alloc: Global, trial: Trial) -> bool {
     passes_by(&mut server, trial)
 }
 
-// ---- a vote that outlives a crash
-
-fn takes_locks(server: &mut Numbered, files: &Files) -> bool {
-    server.grants(7, files.a, Mode::Shared)
-        && server.grants(7, files.b, Mode::Exclusive)
-        && server.grants(7, files.a, Mode::Exclusive)
-}
-
-fn refuses_writes(server: &mut Numbered, files: &Files) -> bool {
-    let alloc = server.alloc;
-    let strange = NodeRefusal::NotLocked { file: files.c };
-    server.refuses_to(
-        prepare_two(alloc, 7, files.b, files.a),
-        NodeRefusal::BadWrites,
-    ) && server.refuses_to(prepare_two(alloc, 7, files.a, files.c), strange)
-}
-
-/// An exclusive lock, as a vote lists it.
-fn held(file: FileName, since: u64) -> HeldLock {
-    HeldLock {
-        file,
-        mode: Mode::Exclusive,
-        since,
-    }
-}
-
-/// The answer to the Prepare of a write of a, where b is locked too.
-fn yes(alloc: Global, files: &Files) -> Result<NodeReply, Memory> {
-    let held = Seq::from_vec(vec![in alloc; held(files.a, 1), held(files.b, 2)]?);
-    let writes = one(alloc, files.a, 1, b'y')?;
-    Ok(NodeReply::Yes { held, writes })
-}
-
-fn votes(server: &mut Numbered, files: &Files) -> bool {
-    match yes(server.alloc, files) {
-        Ok(wanted) => server.replies_to(prepare_one(server.alloc, 7, files.a, b'y'), wanted),
-        Err(_) => false,
-    }
-}
-
-fn crashes(server: &mut Numbered, files: &Files) -> bool {
-    server.refuses(lock(7, files.c, Mode::Shared), NodeRefusal::Prepared)
-        && server.grants(8, files.d, Mode::Shared)
-        && server.replies(NodeAsk::Crash, NodeReply::Crashed)
-        && server.refuses(lock(8, files.d, Mode::Shared), NodeRefusal::Down)
-        && server.replies(NodeAsk::Return, NodeReply::Returned)
-        && server.grants(9, files.d, Mode::Exclusive)
-}
-
-fn discards(server: &mut Numbered, files: &Files) -> bool {
-    let alloc = server.alloc;
-    server.refuses(lock(9, files.b, Mode::Shared), NodeRefusal::Held { by: 7 })
-        && server.replies_to(commit(alloc, 7, 2, 5), NodeReply::Discarded)
-        && server.grants(9, files.b, Mode::Shared)
-        && server.refuses_to(commit(alloc, 7, 2, 5), NodeRefusal::NothingHere)
-}
-
-/// An exclusive lock that the vote of this number keeps.
-fn keep(txn: u64, number: u64, file: FileName, since: u64, version: u64) -> Record {
-    let lock = KeptLock {
-        file,
-        mode: Mode::Exclusive,
-        since,
-        version,
-    };
-    Record::Keep { txn, number, lock }
-}
-
-fn intent(txn: u64, number: u64, write: Write) -> Record {
-    Record::Intent { txn, number, write }
-}
-
-/// What the vote and its end have written.
-fn vote_and_end(alloc: Global, files: &Files) -> Result<Vec<Record>, Memory> {
-    let write = write(alloc, files.a, 1, b'y')?;
-    Ok(vec![in alloc;
-        intent(7, 6, write),
-        keep(7, 6, files.a, 1, 0),
-        keep(7, 6, files.b, 2, 0),
-        Record::Prepared { txn: 7, number: 6 },
-        Record::Gone { txn: 7, number: 6 },
-    ]?)
-}
-
-fn keeps_the_vote(server: &Numbered, files: &Files) -> bool {
-    match vote_and_end(server.alloc, files) {
-        Ok(list) => server.keeps(list.as_slice()),
-        Err(_) => false,
-    }
-}
-
-fn outlives_a_crash(server: &mut Numbered, files: &Files) -> bool {
-    takes_locks(server, files)
-        && refuses_writes(server, files)
-        && votes(server, files)
-        && crashes(server, files)
-        && discards(server, files)
-        && keeps_the_vote(server, files)
-        && server.node.last() == 16
-}
-
-#[test]
-fn a_vote_outlives_a_crash(rt: HostRuntime) -> Result<(), Wrong> {
-    check(passes(rt.alloc(), Trial::Vote), "another answer")
-}
-
-fn names_the_least_holder(server: &mut Numbered, a: FileName) -> bool {
-    server.grants(3, a, Mode::Shared)
-        && server.grants(2, a, Mode::Shared)
-        && server.refuses(lock(1, a, Mode::Exclusive), NodeRefusal::Held { by: 2 })
-}
-
-#[test]
-fn the_least_holder_is_named(rt: HostRuntime) -> Result<(), Wrong> {
-    check(passes(rt.alloc(), Trial::LeastHolder), "another answer")
-}
-
-// ---- each refusal, and the first where two hold
+// ---- what is shown
 
 /// Transaction 1 has an open vote with a, transaction 2 holds b, and c has a copy of version 2.
 fn is_set_up(server: &mut Numbered, files: &Files) -> bool {
@@ -371,74 +220,6 @@ fn is_set_up(server: &mut Numbered, files: &Files) -> bool {
         && server.is_answered(prepare_one(alloc, 1, files.a, b'x'))
         && server.replies_to(refresh(alloc, files.c, 2, b'z'), NodeReply::Refreshed)
 }
-
-/// An open vote comes before all that its transaction could be refused for besides.
-fn refuses_a_voter(server: &mut Numbered, files: &Files) -> bool {
-    let alloc = server.alloc;
-    server.refuses(lock(1, files.b, Mode::Shared), NodeRefusal::Prepared)
-        && server.refuses_to(
-            prepare_two(alloc, 1, files.b, files.a),
-            NodeRefusal::Prepared,
-        )
-        && server.refuses(release(1), NodeRefusal::Prepared)
-}
-
-fn refuses_bad_writes(server: &mut Numbered, files: &Files) -> bool {
-    let alloc = server.alloc;
-    server.refuses(lock(3, files.b, Mode::Shared), NodeRefusal::Held { by: 2 })
-        && server.refuses_to(
-            prepare_two(alloc, 3, files.b, files.a),
-            NodeRefusal::BadWrites,
-        )
-}
-
-fn refuses_a_stranger(server: &mut Numbered, files: &Files) -> bool {
-    let alloc = server.alloc;
-    let strange = NodeRefusal::NotLocked { file: files.b };
-    server.refuses(prepare_none(alloc, 3), NodeRefusal::NothingHere)
-        && server.refuses_to(prepare_one(alloc, 3, files.b, b'x'), strange)
-}
-
-fn refuses_the_rest(server: &mut Numbered, files: &Files) -> bool {
-    let alloc = server.alloc;
-    server.refuses(decide(2, Verdict::Abort), NodeRefusal::NothingHere)
-        && server.refuses(release(3), NodeRefusal::NothingHere)
-        && server.refuses(NodeAsk::Return, NodeRefusal::AlreadyUp)
-        && server.refuses_to(refresh(alloc, files.c, 2, b'y'), NodeRefusal::NotNewer)
-        && server.refuses_to(refresh(alloc, files.c, 1, b'y'), NodeRefusal::NotNewer)
-}
-
-fn crashes_twice(server: &mut Numbered, files: &Files) -> bool {
-    server.replies(NodeAsk::Crash, NodeReply::Crashed)
-        && server.refuses(NodeAsk::Crash, NodeRefusal::AlreadyDown)
-        && server.refuses(lock(1, files.b, Mode::Shared), NodeRefusal::Down)
-        && server.refuses(release(1), NodeRefusal::Down)
-        && server.refuses(peek(files.a), NodeRefusal::Down)
-}
-
-fn refuses_while_down(server: &mut Numbered, files: &Files) -> bool {
-    let alloc = server.alloc;
-    server.refuses(decide(3, Verdict::Abort), NodeRefusal::Down)
-        && server.refuses_to(prepare_two(alloc, 1, files.b, files.a), NodeRefusal::Down)
-        && server.refuses_to(refresh(alloc, files.c, 1, b'y'), NodeRefusal::Down)
-}
-
-fn gives_the_first_refusal(server: &mut Numbered, files: &Files) -> bool {
-    is_set_up(server, files)
-        && refuses_a_voter(server, files)
-        && refuses_bad_writes(server, files)
-        && refuses_a_stranger(server, files)
-        && refuses_the_rest(server, files)
-        && crashes_twice(server, files)
-        && refuses_while_down(server, files)
-}
-
-#[test]
-fn the_first_refusal_is_given(rt: HostRuntime) -> Result<(), Wrong> {
-    check(passes(rt.alloc(), Trial::Refusals), "another answer")
-}
-
-// ---- what is shown
 
 /// Whether it is a lock of this transaction with this first number.
 fn is_lock_since(entry: Option<LockEntry>, txn: u64, since: u64) -> bool {
@@ -487,6 +268,21 @@ fn records_are_shown(rt: HostRuntime) -> Result<(), Wrong> {
 
 // ---- what each ask writes
 
+/// An exclusive lock that the vote of this number keeps.
+fn keep(txn: u64, number: u64, file: FileName, since: u64, version: u64) -> Record {
+    let lock = KeptLock {
+        file,
+        mode: Mode::Exclusive,
+        since,
+        version,
+    };
+    Record::Keep { txn, number, lock }
+}
+
+fn intent(txn: u64, number: u64, write: Write) -> Record {
+    Record::Intent { txn, number, write }
+}
+
 /// A Prepare of writes of which one is newer than the copy that a refresh has left.
 fn prepare_one_newer(alloc: Global, files: &Files) -> Result<NodeAsk, Memory> {
     let first = write(alloc, files.a, 3, b'x')?;
@@ -514,7 +310,7 @@ fn discards_a_vote(server: &mut Numbered, files: &Files) -> bool {
     server.grants(2, files.d, Mode::Shared)
         && server.replies(release(2), NodeReply::Released)
         && server.grants(2, files.d, Mode::Shared)
-        && server.is_answered(Ok(prepare_none(alloc, 2)))
+        && server.is_answered(Ok(prepare_none(2)))
         && server.replies_to(commit(alloc, 2, 1, 9), NodeReply::Discarded)
 }
 

@@ -5,3 +5,4 @@
 mod devices;
 #[cfg(test)]
 mod faults;
+mod scripts;

@@ -6,7 +6,7 @@ use std::alloc::Global;
 use tq_desk::{DeskAsk, DeskReply};
 use tq_locks::Mode;
 use tq_node::{HeldLock, NodeAsk, NodeReply, Verdict, WorkAsk};
-use tq_shape::{Levels, Limits, Memory, Seq, ServerId};
+use tq_shape::{Levels, Limits, Memory, ServerId, SharedSeq};
 use tq_states::{DeskTold, Ended, NodeTold, Open, TxnFault, Voting};
 use tq_store::{Content, FileName, Write};
 
@@ -311,25 +311,25 @@ const FOR_A_READ: Ballot = Ballot {
     writes: false,
 };
 
-fn held(alloc: Global, since: u64) -> Result<Seq<HeldLock>, Memory> {
+fn held(alloc: Global, since: u64) -> Result<SharedSeq<HeldLock>, Memory> {
     let lock = HeldLock {
         file: file(b'a'),
         mode: Mode::Shared,
         since,
     };
-    Ok(Seq::from_vec(vec![in alloc; lock]?))
+    Ok(SharedSeq::from_vec(vec![in alloc; lock]?)?)
 }
 
-fn voted(alloc: Global, has_write: bool) -> Result<Seq<Write>, Memory> {
+fn voted(alloc: Global, has_write: bool) -> Result<SharedSeq<Write>, Memory> {
     if !has_write {
-        return Ok(Seq::from_vec(Vec::new(alloc)));
+        return Ok(SharedSeq::empty());
     }
     let write = Write {
         file: file(b'a'),
         version: 8,
         content: content(alloc, b'x')?,
     };
-    Ok(Seq::from_vec(vec![in alloc; write]?))
+    Ok(SharedSeq::from_vec(vec![in alloc; write]?)?)
 }
 
 fn yes(alloc: Global, ballot: Ballot) -> Result<NodeTold, Memory> {
@@ -340,7 +340,7 @@ fn yes(alloc: Global, ballot: Ballot) -> Result<NodeTold, Memory> {
         number: 2,
         ask: NodeAsk::Work(WorkAsk::Prepare {
             txn: ballot.txn,
-            writes: Seq::from_vec(Vec::new(alloc)),
+            writes: SharedSeq::empty(),
         }),
         reply: NodeReply::Yes { held, writes },
     })

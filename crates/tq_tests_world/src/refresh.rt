@@ -4,7 +4,7 @@ use std::alloc::Global;
 use std::test::*;
 use tq_node::{NodeAsk, NodeRefusal, NodeReply, WorkAsk};
 use tq_refresh::{Job, copy_ask, peek_ask};
-use tq_shape::{Levels, Seq};
+use tq_shape::{Levels, SharedSeq};
 use tq_store::{Content, FileName};
 
 /// The job that mends `a` at server 3 of a tree of two levels from server 2.
@@ -84,8 +84,8 @@ fn nothing_is_asked_after_another_reply(rt: HostRuntime) -> Result<(), Fail> {
             content: Content::empty(),
         },
         NodeReply::Yes {
-            held: Seq::from_vec(Vec::new(alloc)),
-            writes: Seq::from_vec(Vec::new(alloc)),
+            held: SharedSeq::empty(),
+            writes: SharedSeq::empty(),
         },
         NodeReply::Installed,
         NodeReply::Discarded,

@@ -5,7 +5,7 @@ use tq_desk::{DeskAsk, DeskRefusal, DeskReply, Grant, Op, OpKind, Rule, Vote};
 use tq_live::{ViewAsk, ViewReply};
 use tq_locks::Mode;
 use tq_node::{CitedVote, HeldLock, NodeAsk, NodeReply, Verdict, WorkAsk};
-use tq_shape::{Levels, Limits, Seq};
+use tq_shape::{Levels, Limits, Seq, SharedSeq};
 use tq_store::{Content, FileName, Write};
 
 /// A service that is asked step by step.
@@ -80,7 +80,7 @@ fn lock(mode: Mode) -> Result<WorkAsk, Fail> {
     Ok(WorkAsk::Lock { txn: 1, file, mode })
 }
 
-fn writes(alloc: Global, version: u64, byte: u8) -> Result<Seq<Write>, Fail> {
+fn writes(alloc: Global, version: u64, byte: u8) -> Result<SharedSeq<Write>, Fail> {
     let file = file_a()?;
     let content = text(alloc, byte)?;
     let write = Write {
@@ -88,12 +88,12 @@ fn writes(alloc: Global, version: u64, byte: u8) -> Result<Seq<Write>, Fail> {
         version,
         content,
     };
-    Ok(Seq::from_vec(vec![in alloc; write]?))
+    Ok(SharedSeq::from_vec(vec![in alloc; write]?)?)
 }
 
-fn held(alloc: Global, mode: Mode, since: u64) -> Result<Seq<HeldLock>, Fail> {
+fn held(alloc: Global, mode: Mode, since: u64) -> Result<SharedSeq<HeldLock>, Fail> {
     let file = file_a()?;
-    Ok(Seq::from_vec(vec![in alloc; HeldLock { file, mode, since }]?))
+    Ok(SharedSeq::from_vec(vec![in alloc; HeldLock { file, mode, since }]?)?)
 }
 
 /// What a server answers that grants a file that was never written.
@@ -244,7 +244,7 @@ fn read_commit(alloc: Global, number: u64) -> Result<DeskAsk, Fail> {
         server: 1,
         number: 4,
         held: held(alloc, Mode::Shared, 3)?,
-        writes: Seq::from_vec(Vec::new(alloc)),
+        writes: SharedSeq::empty(),
     };
     let ops = Seq::from_vec(vec![in alloc; op]?);
     let votes = Seq::from_vec(vec![in alloc; vote]?);
@@ -263,14 +263,14 @@ fn vote_for_nothing(asked: &mut Asked) -> Result<(), Fail> {
     let held = held(alloc, Mode::Shared, 3)?;
     let prepare = WorkAsk::Prepare {
         txn: 1,
-        writes: Seq::from_vec(Vec::new(alloc)),
+        writes: SharedSeq::empty(),
     };
     asked.node(
         prepare,
         4,
         NodeReply::Yes {
             held,
-            writes: Seq::from_vec(Vec::new(alloc)),
+            writes: SharedSeq::empty(),
         },
     )
 }

@@ -307,10 +307,12 @@ fn are_told(quorums: &[Option<Least>], wanted: &[(u64, u64)]) -> bool {
 }
 
 /// Whether the tables follow three servers and a desk that began one transaction, and have no other rows.
-fn follow_few_journals(tables: &Tables) -> bool {
+fn follow_few_journals(alloc: Global, tables: &Tables) -> Result<bool, Memory> {
+    let locks = tables.locks(alloc)?;
+    let intentions = tables.intentions(alloc)?;
     let followed = tables.nodes().len() == 3 && tables.desk().begun() == 1;
-    let has_no_rows = tables.files().is_empty() && tables.locks().is_empty();
-    followed && has_no_rows && tables.intentions().is_empty() && tables.levels().count() == 2
+    let has_no_rows = tables.files().is_empty() && locks.is_empty();
+    Ok(followed && has_no_rows && intentions.is_empty() && tables.levels().count() == 2)
 }
 
 #[test]
@@ -318,6 +320,8 @@ fn the_tables_follow_all_journals(rt: HostRuntime) -> Result<(), Fail> {
     let journals = few_journals(rt.alloc())?;
     let tables = Tables::of(rt.alloc(), &journals)?;
     let wanted = [(2, 13), (0, 0), (1, 3)];
-    assert!(rt; follow_few_journals(&tables) && are_told(tables.quorums(), wanted.as_slice()));
+    let quorums = tables.quorums(rt.alloc())?;
+    let follow = follow_few_journals(rt.alloc(), &tables)?;
+    assert!(rt; follow && are_told(quorums.as_slice(), wanted.as_slice()));
     Ok(())
 }

@@ -2,7 +2,6 @@
 
 use std::alloc::Global;
 use tq_check::{Wrong, check};
-use tq_dice::Dice;
 use tq_form::{ReadFault, journals_from_json};
 use tq_written::journals_to_json;
 
@@ -244,60 +243,63 @@ fn limits_beyond_their_edges(rt: HostRuntime) -> Result<(), Wrong> {
     Ok(())
 }
 
-/// One of the texts, which the dice choose.
-fn any_of<'a>(dice: &mut Dice, texts: &[&'a str]) -> &'a str {
-    let sides = texts.len() as u64;
-    if sides == 0 {
+/// The text at that place, where the last is followed by the first.
+fn at<'a>(texts: &[&'a str], place: usize) -> &'a str {
+    let count = texts.len();
+    if count == 0 {
         return "";
     }
-    texts[dice.roll(sides) as usize]
+    texts[place % count]
 }
 
-/// Puts up to seven entries, of asks and replies that the dice choose, as a list.
+/// Puts so many entries as a list. Each round has other asks and other replies.
 fn push_journal(
     text: &mut String,
-    dice: &mut Dice,
+    round: usize,
+    count: usize,
     asks: &[&str],
     replies: &[&str],
 ) -> Result<(), Wrong> {
     text.push_str("[")?;
-    for place in 0..dice.roll(8) {
+    for place in 0..count {
         if place > 0 {
             text.push_str(",")?;
         }
-        let (ask, reply) = (any_of(dice, asks), any_of(dice, replies));
+        let ask = at(asks, round.wrapping_mul(5).wrapping_add(place));
+        let reply = at(replies, round.wrapping_mul(7).wrapping_add(place));
         push_entry(text, true, ask, reply)?;
     }
     text.push_str("]")?;
     Ok(())
 }
 
-/// A file of three levels with journals that the dice choose. The view's replies that name servers are left out.
-fn any_file(alloc: Global, dice: &mut Dice) -> Result<String, Wrong> {
+/// A file of three levels with journals of up to seven entries. The view's replies that name servers are left out.
+fn file_of_round(alloc: Global, round: usize) -> Result<String, Wrong> {
     let mut text = String::new(alloc);
     text.push_str("{\"desk\":")?;
-    push_journal(&mut text, dice, &DESK_ASKS, &DESK_REPLIES)?;
+    push_journal(&mut text, round, round % 8, &DESK_ASKS, &DESK_REPLIES)?;
     text.push_str(
         ",\"format\":1,\"levels\":3,\"limits\":{\"entries\":7,\"files\":2,\"ops\":3},\"servers\":[",
     )?;
-    for server in 1..8 {
-        if server > 1 {
+    for server in 0..7usize {
+        if server > 0 {
             text.push_str(",")?;
         }
-        push_journal(&mut text, dice, &NODE_ASKS, &NODE_REPLIES)?;
+        let round = round.wrapping_add(server);
+        push_journal(&mut text, round, round % 8, &NODE_ASKS, &NODE_REPLIES)?;
     }
     text.push_str("],\"view\":")?;
-    push_journal(&mut text, dice, &VIEW_ASKS, &VIEW_REPLIES[..2])?;
+    let count = round / 8 % 8;
+    push_journal(&mut text, round, count, &VIEW_ASKS, &VIEW_REPLIES[..2])?;
     text.push_str("}\n")?;
     Ok(text)
 }
 
 #[test]
-fn any_journals(rt: HostRuntime) -> Result<(), Wrong> {
+fn journals_of_all_parts(rt: HostRuntime) -> Result<(), Wrong> {
     let alloc = rt.alloc();
-    let mut dice = Dice::new(20261124);
-    for _ in 0..200 {
-        let text = any_file(alloc, &mut dice)?;
+    for round in 0..100usize {
+        let text = file_of_round(alloc, round)?;
         is_written_again(alloc, text.as_str())?;
     }
     Ok(())

@@ -1,6 +1,6 @@
 -- What clap finds in the program's words where it finds no fault with them.
-use Rattle.std.proofs.Common.{◌≡◌, ◌∙◌, ◌⊎◌, inl, inr, ◌++◌, ◌||◌, ◌&&◌, ◌<◌, ◌≤◌, ◌^◌, ℕ, Bool, true, false, not, cond, List, [], ◌∷◌, Option, Some, None, is_some, length, refl, sym, ap, subst, slice_get, codes}
-use Rattle.std.specs.Prelude.{pos, Ok, Err, Result, option_map, option_and_then, unwrap_or}
+use Rattle.std.proofs.Common.{◌≡◌, ◌∙◌, ◌⊎◌, inl, inr, ◌++◌, ◌||◌, ◌&&◌, ◌<◌, ◌≤◌, ◌^◌, ℕ, Bool, true, false, not, cond, List, [], ◌∷◌, Option, Some, None, is_some, length, refl, sym, ap, subst, slice_get, get_or, codes, arith}
+use Rattle.std.specs.Prelude.{Box, pos, Ok, Err, Result, option_map, option_and_then, unwrap_or}
 use Rattle.std.specs.Result.{IsErrAnd, IfErr}
 use Rattle.std.specs.List.{find}
 use Rattle.std.specs.Option.{option_map_or}
@@ -15,7 +15,7 @@ use Rattle.clap.specs.Walk.{Row, Rule, Text, answers_to, at_row, has_row, more_v
 use Rattle.clap.specs.Takes.{is_given}
 use Rattle.clap.specs.Simple.{Shape, argument_words, built, entered, filled, help_rule, label_of, names_of, rows_at, with_index}
 use Rattle.clap.specs.Faults.{entered_fault, fault_of, level_fault, repeat_fault, set_fault, use_fault}
-use Rattle.clap.specs.Words.{subcommand_of, without_minus}
+use Rattle.clap.specs.Words.{IsSignedIn, one_of, subcommand_name_of, subcommand_of, subcommand_rows, subcommand_rows_of, without_minus}
 use Rattle.clap.specs.declared.builder.value_parser.ValueParser.TheVariants as vp
 use Rattle.clap.specs.declared.error.Error.{Error}
 use Rattle.clap.specs.declared.error.kind.ErrorKind.{ErrorKind}
@@ -24,11 +24,15 @@ use Rattle.clap.specs.declared.parser.matches.ValueSource.{ValueSource}
 use Rattle.clap.specs.declared.parser.matches.ValueSource.TheVariants.{CommandLine}
 use Rattle.clap.specs.declared.builder.value_parser.Reading.TheVariants.{WithoutMinus}
 use Rattle.clap.specs.declared.parser.matches.Found.{Found}
+use Rattle.clap.specs.declared.parser.matches.ArgMatches.{ArgMatches}
+use Rattle.clap.specs.declared.parser.matches.ArgMatches.TheViews.{out-ArgMatches, out-SubCommand}
+use Rattle.clap.specs.declared.parser.matches.SubCommand.{SubCommand}
+use Rattle.std.specs.Box.{box_value}
 use Rattle.clap.proofs.WalkLemmas.{one_text-rows}
 use Rattle.clap.proofs.ValueTestLemmas.{accepts-Accepts}
 use Rattle.clap.proofs.CallerReads.{signed_reads}
 use Rattle.tq_words.specs.declared.command.WordsFault.{WordsFault}
-use Rattle.tq_words.specs.Command.{CanAsk, IsRefused, fault_by, fault_for, HasNumber, IsGiven, number_rule, audit_app, shell_app, tq_app}
+use Rattle.tq_words.specs.Command.{CanAsk, CanAskOther, CanBeGiven, IsGivenOrZero, IsRefused, MayHaveNumber, fault_by, fault_for, HasNumber, IsGiven, number_rule, audit_app, shell_app, threads_app, tq_app}
 use Rattle.tq_words.proofs.ParseLaws.{Keeps, both_none, level_kept}
 
 -- a fact of each row
@@ -74,6 +78,10 @@ more_fits name least most source values row fits = (
   tt,
 )
 
+no_other : (is : Bool) → is ≡ false → is ≡ true → ⊥
+no_other true differs same = absurd cc
+no_other false differs same = absurd cc
+
 passed_by : (passes : Bool) → cond passes [] (kinds.ValueValidation ∷ []) ≡ [] → passes ≡ true
 passed_by true clean = refl
 passed_by false clean = absurd (some_kind _ _ clean)
@@ -115,6 +123,31 @@ module _ (name : Text) (least most : ℕ) where
     λ rows clean each. rows_by (EachRow (Fits name least most)) rows (has_row name rows) each,
   )
 
+  -- rows of another name
+  other_fits : (other : Text) (source : ValueSource) (values : List Text) (rows : List Row) → bytes_eq other name ≡ false → EachRow (Fits name least most) rows → EachRow (Fits name least most) (with_values other WithoutMinus source values rows)
+  other_fits other source values rows differs each =
+      at_row_keeps (Fits name least most) other (more_values source values) (record {
+        id = other;
+        values = values;
+        count = None;
+        source = Some source;
+        reading = WithoutMinus;
+      } ∷ []) rows (more_fits name least most source values) (λ same. absurd (no_other (bytes_eq other name) differs same), tt) each
+
+  without_other : (other : Text) (rows : List Row) → EachRow (Fits name least most) rows → EachRow (Fits name least most) (without other rows)
+  without_other other rows each = at_row_keeps (Fits name least most) other (λ row. []) [] rows (λ row fits. tt) tt each
+
+  other_used : (other : Text) (low high : ℕ) (is_required again : Bool) (values : List Text) (rows : List Row) → bytes_eq other name ≡ false → use_fault again (with_index 1 (filled (number_rule other low high is_required))) values rows ≡ [] → EachRow (Fits name least most) rows → EachRow (Fits name least most) (used (with_index 1 (filled (number_rule other low high is_required))) values rows)
+  other_used other low high is_required again [] rows differs clean each = absurd (some_kind _ _ clean)
+  other_used other low high is_required again (first ∷ more) rows differs clean each = other_fits other CommandLine (first ∷ more) (without other rows) differs (without_other other rows each)
+
+  -- an option of another name keeps the rows of this one
+  pub other_keeps : (other : Text) (low high : ℕ) (is_required again : Bool) → bytes_eq other name ≡ false → Keeps (EachRow (Fits name least most)) again (with_index 1 (filled (number_rule other low high is_required)))
+  other_keeps other low high is_required again differs = (
+    λ values rows clean each. other_used other low high is_required again values rows differs clean each,
+    λ rows clean each. rows_by (EachRow (Fits name least most)) rows (has_row other rows) each,
+  )
+
   -- `--help` is a fault
   pub help_keeps : (again : Bool) → Keeps (EachRow (Fits name least most)) again (with_index 1 (filled help_rule))
   help_keeps again = (
@@ -138,6 +171,24 @@ module _ (name : Text) (least most : ℕ) where
   pub number_given : (rows : List Row) → EachRow (Fits name least most) rows → is_given name rows ≡ true → HasNumber name least most rows
   number_given rows each given = number_by rows (find (λ r. bytes_eq r.id name) rows) each refl given
 
+  number_text : (row : Row) → Fits name least most row → bytes_eq row.id name ≡ true → (text : Text) × (row_text row ≡ Some (without_minus text)) × IsSignedIn (pos least) (pos most) text
+  number_text row fits named =
+      let here = fits named in
+      let text : row_text row ≡ Some (without_minus here.0) =
+      ap (λ how. option_map (read_as how) (slice_get row.values 0)) here.4 ∙ ap (λ values. option_map (read_as WithoutMinus) (slice_get values 0)) here.2 in
+      (here.0, text, accepts-Accepts false (vp.Signed (pos least) (pos most)) here.0 here.3)
+
+  may_by : (rows : List Row) (found : Option Row) → EachRow (Fits name least most) rows → find (λ r. bytes_eq r.id name) rows ≡ found → (one_of name rows ≡ None) ⊎ HasNumber name least most rows
+  may_by rows None each is = inl (ap (λ found. option_and_then row_text found) is)
+  may_by rows (Some row) each is =
+      let here = row_found (Fits name least most) name rows row each is in
+      let text = number_text row here.0 here.1 in
+      inr (text.0, ap (λ found. option_and_then row_text found) is ∙ text.1, text.2)
+
+  -- no number is there, or one that passed the range
+  pub number_or_none : (rows : List Row) → EachRow (Fits name least most) rows → (one_of name rows ≡ None) ⊎ HasNumber name least most rows
+  number_or_none rows each = may_by rows (find (λ r. bytes_eq r.id name) rows) each refl
+
 -- the number that is read of an option
 pub number_read : (E : Type 0) (G : List ℕ → Result ℕ E → Type 0) (bits : ℕ) (found : Found) (name : Text) (least most : ℕ) (read : Option ℕ)
     → HasNumber name least most (rows_of found) → ((text : List ℕ) → one_text found name ≡ Some text → ReadsOne G text read)
@@ -149,13 +200,31 @@ number_read E G bits found name least most read has reads only fits =
     let number : ReadsOne G (without_minus has.0) (Some got.0) = subst (λ (r : Option ℕ). ReadsOne G (without_minus has.0) r) got.1 one in
     (got.0, got.1, got.2, got.3, (without_minus has.0, has.1, (only (without_minus has.0) (Ok got.0) number).1))
 
+-- the number that is read of an option that may be left out
+pub number_or_zero_read : (E : Type 0) (G : List ℕ → Result ℕ E → Type 0) (bits : ℕ) (found : Found) (name : Text) (most : ℕ) (read : Option ℕ)
+    → MayHaveNumber name most (rows_of found) → (one_text found name ≡ None → read ≡ None) → ((text : List ℕ) → one_text found name ≡ Some text → ReadsOne G text read)
+    → ((text : List ℕ) (result : Result ℕ E) → G text result → ParsesUnsigned bits 10 text result) → most < 2 ^ bits
+    → IsGivenOrZero name most (rows_of found) (unwrap_or read 0)
+number_or_zero_read E G bits found name most read has none reads only fits = elim has [
+  | inl without ↦
+      let nothing : read ≡ None = none (one_text-rows found name ∙ without) in
+      rw (nothing, without) (refl, omega arith)
+  | inr one ↦
+      let got = number_read E G bits found name 0 most read one reads only fits in
+      rw (got.1, got.4.1) (got.4.2, got.3)
+]
+
 -- `shell` as clap builds it
 abbrev shell : Shape
 shell = unwrap_or (slice_get (built tq_app).subs 0) shell_app.top
 
+-- and `threads`
+abbrev threads : Shape
+threads = unwrap_or (slice_get (built tq_app).subs 1) threads_app.top
+
 -- and `audit`
 abbrev audit : Shape
-audit = unwrap_or (slice_get (built tq_app).subs 1) audit_app.top
+audit = unwrap_or (slice_get (built tq_app).subs 2) audit_app.top
 
 level_clean : (first below third fourth last : Kinds) → or_else first (or_else below (or_else third (or_else fourth last))) ≡ [] → (below ≡ []) × (last ≡ [])
 level_clean first below third fourth last clean =
@@ -178,21 +247,48 @@ shell_has_levels words clean =
     let kept = level_kept (EachRow (Fits (codes "levels") 1 6)) shell (number_keeps (codes "levels") 1 6 true false, (help_keeps (codes "levels") 1 6 false, tt)) [] nothing_held words false [] clean tt in
     number_given (codes "levels") 1 6 rows kept.0 (given_by (is_given (codes "levels") rows) kept.1)
 
-shell_by : (words : List Text) (is : Bool) (later : Option Shape) → (is_some (option_map (λ s. rows_at s words) later) ≡ true → CanAsk (option_map (λ s. rows_at s words) later))
+others_given_by : (is : Bool) → check_kinds false false (not is || (false || (false || (false || false)))) ≡ [] → is ≡ true
+others_given_by true clean = refl
+others_given_by false clean = absurd (some_kind _ _ clean)
+
+threads_have : (words : List Text) → level_fault threads [] nothing_held words false [] ≡ [] → CanBeGiven (rows_at threads words).1
+threads_have words clean =
+    let rows = (rows_at threads words).1 in
+    let levels = codes "levels" in
+    let workers = codes "workers" in
+    let rounds = codes "rounds" in
+    let of_levels = level_kept (EachRow (Fits levels 1 6)) threads (number_keeps levels 1 6 true false, (other_keeps levels 1 6 workers 0 2 false false refl, (other_keeps levels 1 6 rounds 0 1000 false false refl, (help_keeps levels 1 6 false, tt)))) [] nothing_held words false [] clean tt in
+    let of_workers = level_kept (EachRow (Fits workers 0 2)) threads (other_keeps workers 0 2 levels 1 6 true false refl, (number_keeps workers 0 2 false false, (other_keeps workers 0 2 rounds 0 1000 false false refl, (help_keeps workers 0 2 false, tt)))) [] nothing_held words false [] clean tt in
+    let of_rounds = level_kept (EachRow (Fits rounds 0 1000)) threads (other_keeps rounds 0 1000 levels 1 6 true false refl, (other_keeps rounds 0 1000 workers 0 2 false false refl, (number_keeps rounds 0 1000 false false, (help_keeps rounds 0 1000 false, tt)))) [] nothing_held words false [] clean tt in (
+      number_given levels 1 6 rows of_levels.0 (others_given_by (is_given levels rows) of_levels.1),
+      number_or_none workers 0 2 rows of_workers.0,
+      number_or_none rounds 0 1000 rows of_rounds.0,
+    )
+
+shell_by : (words : List Text) (is : Bool) (later : Option Shape)
+    → (option_map_or (λ s. level_fault s [] nothing_held words false []) later [] ≡ [] → is_some (option_map (λ s. rows_at s words) later) ≡ true → CanAsk (option_map (λ s. rows_at s words) later))
     → option_map_or (λ s. level_fault s [] nothing_held words false []) (cond is (Some shell) later) [] ≡ [] → is_some (option_map (λ s. rows_at s words) (cond is (Some shell) later)) ≡ true
     → CanAsk (option_map (λ s. rows_at s words) (cond is (Some shell) later))
 shell_by words true later asks clean there = inl ((rows_at shell words).1, refl, shell_has_levels words clean)
-shell_by words false later asks clean there = asks there
+shell_by words false later asks clean there = asks clean there
 
 audit_by : (words : List Text) (is : Bool) → is_some (option_map (λ s. rows_at s words) (cond is (Some audit) None)) ≡ true → CanAsk (option_map (λ s. rows_at s words) (cond is (Some audit) None))
-audit_by words true there = inr ((rows_at audit words).1, refl)
+audit_by words true there = inr (inr ((rows_at audit words).1, refl))
 audit_by words false there = absurd cc
+
+threads_by : (words : List Text) (is : Bool) (later : Option Shape) → (is_some (option_map (λ s. rows_at s words) later) ≡ true → CanAsk (option_map (λ s. rows_at s words) later))
+    → option_map_or (λ s. level_fault s [] nothing_held words false []) (cond is (Some threads) later) [] ≡ [] → is_some (option_map (λ s. rows_at s words) (cond is (Some threads) later)) ≡ true
+    → CanAsk (option_map (λ s. rows_at s words) (cond is (Some threads) later))
+threads_by words true later asks clean there = inr (inl ((rows_at threads words).1, refl, threads_have words clean))
+threads_by words false later asks clean there = asks there
 
 stop_asks : (stop : Option (Text × List Text)) → entered_fault (built tq_app) stop ≡ [] → is_some (entered (built tq_app) stop) ≡ true → CanAsk (entered (built tq_app) stop)
 stop_asks None clean there = absurd cc
 stop_asks (Some p) clean there =
     let is_audit = answers_to p.0 (label_of audit) in
-    shell_by p.1 (answers_to p.0 (label_of shell)) (cond is_audit (Some audit) None) (audit_by p.1 is_audit) clean there
+    let is_threads = answers_to p.0 (label_of threads) in
+    let last = cond is_audit (Some audit) None in
+    shell_by p.1 (answers_to p.0 (label_of shell)) (cond is_threads (Some threads) last) (λ well. threads_by p.1 is_threads last (audit_by p.1 is_audit) well) clean there
 
 -- words without a fault name a subcommand, with the options that it needs
 pub can_ask : (words : List Text) → fault_of tq_app words ≡ [] → CanAsk (subcommand_of tq_app words)
@@ -212,3 +308,33 @@ refused_as words error kind is has = elim has [
 pub refused_by : {T : Type 0} (words : List Text) (error : Error) (result : Result T WordsFault) → HasKind (fault_of tq_app words) error → IsErrAnd result (λ fault. fault ≡ fault_for error) → IfErr result (IsRefused words)
 refused_by words error (Ok done) has is = tt
 refused_by words error (Err fault) has is = subst (IsRefused words) (sym is) (refused_as words error (kind_of error) refl has)
+
+-- the rows of a subcommand that was found under this name are those that can be read
+threads_rows : (found : Option (Text × List Row)) (rows given : List Row) → found ≡ Some (codes "threads", given) → option_map (λ (p : Text × List Row). p.1) found ≡ Some rows → CanBeGiven given → CanBeGiven rows
+threads_rows found rows given is named can =
+    let same : Some given ≡ Some rows = ap (option_map (λ (p : Text × List Row). p.1)) (sym is) ∙ named in
+    let equal : given ≡ rows = cc in
+    subst CanBeGiven equal can
+
+abbrev first_byte : Option Text → ℕ
+first_byte None = 0
+first_byte (Some text) = get_or text 0 0
+
+not_audit : (found : Option (Text × List Row)) (given : List Row) → found ≡ Some (codes "audit", given) → option_map (λ (p : Text × List Row). p.0) found ≡ Some (codes "threads") → ⊥
+not_audit found given is named =
+    let same : Some (codes "audit") ≡ Some (codes "threads") = ap (option_map (λ (p : Text × List Row). p.0)) (sym is) ∙ named in
+    let first : first_byte (Some (codes "audit")) ≡ first_byte (Some (codes "threads")) = ap first_byte same in
+    absurd (omega (arith, first))
+
+name_of : {Z : Type 0} (sub : Option (Box SubCommand Z)) → option_map (λ (p : Text × List Row). p.0) (subcommand_rows sub) ≡ option_map (λ b. (out-SubCommand (box_value b)).name.now) sub
+name_of None = refl
+name_of (Some sub) = refl
+
+pub name_found : (matches : ArgMatches) → option_map (λ (p : Text × List Row). p.0) (subcommand_rows_of matches) ≡ subcommand_name_of matches
+name_found matches = name_of (out-ArgMatches matches).subcommand
+
+pub threads_given : (found : Option (Text × List Row)) (rows : List Row) → CanAskOther found → option_map (λ (p : Text × List Row). p.0) found ≡ Some (codes "threads") → option_map (λ (p : Text × List Row). p.1) found ≡ Some rows → CanBeGiven rows
+threads_given found rows can name is = elim can [
+  | inl threads ↦ threads_rows found rows threads.0 threads.1 is threads.2
+  | inr audit ↦ absurd (not_audit found audit.0 audit.1 name)
+]

@@ -1,7 +1,7 @@
 ghost use Rattle.std.specs.Prelude.{◌≡◌, IfOk, false, codes};
 ghost use Rattle.clap.specs.Words.{app_of, found_of, rows_of, rule_of};
 ghost use Rattle.clap.specs.declared.builder.command.Command.TheViews.{out-Command};
-ghost use Rattle.tq_words.specs.Command.{HasNumber, IsGiven, audit_app, levels_rule, shell_app, tq_app};
+ghost use Rattle.tq_words.specs.Command.{HasNumber, IsGiven, IsGivenOrZero, MayHaveNumber, audit_app, levels_rule, rounds_rule, shell_app, threads_app, top_app, tq_app, workers_rule};
 
 use clap::error::ErrorKind;
 use clap::{Arg, ArgAction, ArgMatches, Command, Error};
@@ -12,7 +12,16 @@ use tq_shape::Levels;
 #[derive(Clone, Copy, Debug, PartialEq, Eq)]
 pub enum Words {
     /// Lines are answered, over a tree of so many levels.
-    Shell { levels: Levels },
+    Shell {
+        levels: Levels,
+    },
+    /// Scripts of clients are run in threads, over a tree of so many levels, while up to two workers mend stale copies in up
+    /// to 1,000 rounds.
+    Threads {
+        levels: Levels,
+        workers: u32,
+        rounds: u32,
+    },
     /// A journal file is audited.
     Audit,
 }
@@ -56,7 +65,7 @@ impl From<Error> for WordsFault {
 impl Words {
     ghost use Rattle.std.specs.Prelude.{IfOk, IfErr};
     ghost use Rattle.clap.specs.Words.{subcommand_rows_of};
-    ghost use Rattle.tq_words.specs.Command.{AsksFor, CanAsk, IsRead, IsRefused, texts_of};
+    ghost use Rattle.tq_words.specs.Command.{AsksFor, CanAsk, CanAskOther, IsRead, IsRefused, texts_of};
 
     /// Reads the words, of which the first is the name of the program.
     pub fn read(alloc: Global, words: &[String]) -> Result<Words, WordsFault>
@@ -77,6 +86,21 @@ impl Words {
             Some(shell) => Words::Shell {
                 levels: levels_of(shell),
             },
+            None => Words::beside_shell(matches),
+        }
+    }
+
+    /// What a subcommand other than `shell` asks for.
+    fn beside_shell(matches: &ArgMatches) -> Words
+        requires { CanAskOther (subcommand_rows_of matches.now) }
+        ensures { AsksFor (subcommand_rows_of matches.now) result }
+    {
+        match matches.subcommand_matches("threads") {
+            Some(threads) => Words::Threads {
+                levels: levels_of(threads),
+                workers: workers_of(threads),
+                rounds: rounds_of(threads),
+            },
             None => Words::Audit,
         }
     }
@@ -96,20 +120,45 @@ fn levels_of(matches: &ArgMatches) -> Levels
     }
 }
 
+/// The workers that a subcommand was given, or none.
+fn workers_of(matches: &ArgMatches) -> u32
+    requires { MayHaveNumber (codes "workers") 2 (rows_of (found_of matches.now)) }
+    ensures { IsGivenOrZero (codes "workers") 2 (rows_of (found_of matches.now)) result }
+{
+    matches.get_one::<u32>("workers").unwrap_or(0)
+}
+
+/// The rounds that a subcommand was given, or none.
+fn rounds_of(matches: &ArgMatches) -> u32
+    requires { MayHaveNumber (codes "rounds") 1000 (rows_of (found_of matches.now)) }
+    ensures { IsGivenOrZero (codes "rounds") 1000 (rows_of (found_of matches.now)) result }
+{
+    matches.get_one::<u32>("rounds").unwrap_or(0)
+}
+
 /// The program's words.
 fn tq_command<'a>(alloc: Global) -> Result<Command<'a>, AllocError>
     ensures { IfOk result (λ command. app_of command ≡ tq_app) }
 {
     let shell = shell_command(alloc)?;
+    let threads = threads_command(alloc)?;
     let audit = audit_command(alloc);
+    top_command(alloc)
+        .subcommand(shell)?
+        .subcommand(threads)?
+        .subcommand(audit)
+}
+
+/// The program without its subcommands.
+fn top_command<'a>(alloc: Global) -> Command<'a>
+    ensures { app_of result ≡ top_app }
+{
     Command::new(alloc, "tq")
         .about(ABOUT)
         .after_help(LINES)
         .version("0.1.0")
         .subcommand_required(true)
         .disable_help_subcommand(true)
-        .subcommand(shell)?
-        .subcommand(audit)
 }
 
 /// `shell --levels N`.
@@ -121,6 +170,19 @@ fn shell_command<'a>(alloc: Global) -> Result<Command<'a>, AllocError>
         .about("Reads lines from standard input and answers each")
         .after_help(LINES)
         .arg(levels_argument(alloc))
+}
+
+/// `threads --levels N [--workers W] [--rounds R]`.
+fn threads_command<'a>(alloc: Global) -> Result<Command<'a>, AllocError>
+    ensures app { IfOk result (λ command. app_of command ≡ threads_app) }
+    ensures local { IfOk result (λ command. (out-Command command).has_globals ≡ false) }
+{
+    Command::new(alloc, "threads")
+        .about("Reads scripts of clients from standard input and runs them in threads")
+        .after_help(SCRIPTS)
+        .arg(levels_argument(alloc))?
+        .arg(workers_argument(alloc))?
+        .arg(rounds_argument(alloc))
 }
 
 /// `audit`.
@@ -144,6 +206,30 @@ fn levels_argument<'a>(alloc: Global) -> Arg<'a>
         .required(true)
         .action(ArgAction::Set)
         .value_parser(clap::value_parser!(u32).range(1..=6))
+}
+
+fn workers_argument<'a>(alloc: Global) -> Arg<'a>
+    ensures rule { rule_of result ≡ workers_rule }
+    ensures local { result.global ≡ false }
+{
+    Arg::new(alloc, "workers")
+        .long("workers")
+        .value_name("W")
+        .help("The threads that mend stale copies, 0 to 2 (0 where not given)")
+        .action(ArgAction::Set)
+        .value_parser(clap::value_parser!(u32).range(0..=2))
+}
+
+fn rounds_argument<'a>(alloc: Global) -> Arg<'a>
+    ensures rule { rule_of result ≡ rounds_rule }
+    ensures local { result.global ≡ false }
+{
+    Arg::new(alloc, "rounds")
+        .long("rounds")
+        .value_name("R")
+        .help("How often stale copies are looked for, 0 to 1000 (0 where not given)")
+        .action(ArgAction::Set)
+        .value_parser(clap::value_parser!(u32).range(0..=1_000))
 }
 
 const ABOUT: &str = "\
@@ -183,6 +269,40 @@ prints
 
 Status: 0 at the end of the input, 1 after a fault (want of memory, a failed
 read or write, more than 16777216 bytes), 2 where the words are refused.";
+
+const SCRIPTS: &str = "\
+Each client runs its script in a thread of its own. A line client begins the
+next client's script, 1 to 16 in all; nothing but empty lines stands before the
+first. The lines of a script (F a file, S a server, C a cost):
+  begin             begins the client's transaction; one that is open is aborted
+                    first
+  read F            reads a file under shared locks at the least-cost quorum
+  write F TEXT      writes the text to a file under exclusive locks there
+  commit            gathers the votes, asks the desk, and tells the servers
+  abort             ends the transaction, and releases its locks
+  down S, up S      the server crashes or returns, and is marked so
+  cost S C          the server costs C from now on, 1 to 1000000 (at first 1)
+  choose            the view chooses a quorum
+Without an open transaction read, write, commit and abort do nothing. One that
+is refused a read, a write or its commit is aborted, and so is one that is open
+when its script ends.
+
+R times the journals of all parts are read on, and a job is put for each stale
+copy that can be mended; W threads do the jobs. When all threads have ended,
+the journals of all parts are printed as one line of JSON, which tq audit reads.
+
+Example:
+  printf 'client\\nbegin\\nwrite plan v1\\ncommit\\nclient\\nchoose\\n' |
+    tq threads --levels 2 | tq audit
+prints
+  explained 10
+
+Status: 0 where the journals are printed; 1 after a fault, which is printed:
+fault memory, fault read, fault write, or fault close where no one run explains
+the journals or a client was told something else; 2 where the words are refused,
+or for a bad script, where nothing is run and bad script line N is printed: a
+line is none of these, stands before the first client, begins a client too many,
+or passes 16777216 bytes in all. Where no client comes N is 1.";
 
 const AUDITS: &str = "\
 A journal file tells, as JSON, what each part of a system was asked and what it

@@ -18,7 +18,7 @@ use json::Writer;
 use std::alloc::Global;
 use tq_locks::Mode;
 use tq_node::{CitedVote, HeldLock, NodeAsk, NodeRefusal, NodeReply, Verdict, WorkAsk};
-use tq_shape::{Memory, Seq};
+use tq_shape::{Memory, Seq, SharedSeq};
 use tq_store::{Content, FileName, Write};
 
 impl Formed for CitedVote {
@@ -115,7 +115,7 @@ fn put_prepare(
     alloc: Global,
     out: &mut Writer<Global>,
     txn: u64,
-    writes: &Seq<Write>,
+    writes: &SharedSeq<Write>,
 ) -> Result<(), Memory>
     ensures adds { Adds result out.old out.new (spelled (work_value (WorkAsk.Prepare txn writes.now))) }
     ensures fits { OnOk result (IsFitting (work_value (WorkAsk.Prepare txn writes.now))) }
@@ -304,8 +304,8 @@ fn put_copy(
 fn put_yes(
     alloc: Global,
     out: &mut Writer<Global>,
-    held: &Seq<HeldLock>,
-    writes: &Seq<Write>,
+    held: &SharedSeq<HeldLock>,
+    writes: &SharedSeq<Write>,
 ) -> Result<(), Memory>
     ensures adds { Adds result out.old out.new (spelled (node_reply_value (NodeReply.Yes held.now writes.now))) }
     ensures fits { OnOk result (IsFitting (node_reply_value (NodeReply.Yes held.now writes.now))) }

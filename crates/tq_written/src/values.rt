@@ -8,7 +8,7 @@ use crate::formed::{Formed, close_member, open_member, put_list};
 use json::Writer;
 use std::alloc::Global;
 use tq_locks::Mode;
-use tq_shape::{Entry, Memory, Seq, ServerId};
+use tq_shape::{Entry, Memory, Seq, ServerId, SharedSeq};
 use tq_store::{Content, FileName};
 
 impl Formed for u64 {
@@ -120,6 +120,19 @@ impl Formed for Content {
 }
 
 impl<T: Formed> Formed for Seq<T> {
+    ghost use Rattle.tq_written.specs.Values.{list_value};
+    ghost use Rattle.std.specs.List.{AllByRecursion};
+
+    ghost value = { list_value T.value };
+
+    ghost sound = { AllByRecursion T.sound };
+
+    fn put(&self, alloc: Global, out: &mut Writer<Global>) -> Result<(), Memory> {
+        put_list(alloc, out, self.as_slice())
+    }
+}
+
+impl<T: Formed> Formed for SharedSeq<T> {
     ghost use Rattle.tq_written.specs.Values.{list_value};
     ghost use Rattle.std.specs.List.{AllByRecursion};
 

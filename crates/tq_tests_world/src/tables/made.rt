@@ -2,7 +2,7 @@
 use super::*;
 use tq_desk::{DeskAsk, DeskRefusal, DeskReply, Grant, Op, Vote};
 use tq_node::{CitedVote, HeldLock, NodeAsk, NodeReply, Verdict, WorkAsk};
-use tq_shape::Seq;
+use tq_shape::{Seq, SharedSeq};
 use tq_store::{Content, Write};
 
 /// What a server is asked.
@@ -151,24 +151,24 @@ fn op(alloc: Global, kind: OpKind, letter: u8, number: u64) -> Result<Op, Fail> 
     })
 }
 
-fn held(alloc: Global, pairs: &[(OpKind, u8)], since: u64) -> Result<Seq<HeldLock>, Fail> {
+fn held(alloc: Global, pairs: &[(OpKind, u8)], since: u64) -> Result<SharedSeq<HeldLock>, Fail> {
     let mut held = Vec::new(alloc);
     for (_, letter) in pairs {
         let file = file(*letter)?;
         let mode = Mode::Exclusive;
         held.push(HeldLock { file, mode, since })?;
     }
-    Ok(Seq::from_vec(held))
+    Ok(SharedSeq::from_vec(held)?)
 }
 
-fn writes_of(alloc: Global, pairs: &[(OpKind, u8)]) -> Result<Seq<Write>, Fail> {
+fn writes_of(alloc: Global, pairs: &[(OpKind, u8)]) -> Result<SharedSeq<Write>, Fail> {
     let mut writes = Vec::new(alloc);
     for (kind, letter) in pairs {
         if *kind == OpKind::Write {
             writes.push(write(*letter)?)?;
         }
     }
-    Ok(Seq::from_vec(writes))
+    Ok(SharedSeq::from_vec(writes)?)
 }
 
 fn write(letter: u8) -> Result<Write, Fail> {

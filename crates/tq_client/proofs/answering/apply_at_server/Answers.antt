@@ -1,4 +1,4 @@
-use Rattle.std.proofs.Common.{◌≡◌, Bool, cond, ◌++◌, codes, refl, sym, subst}
+use Rattle.std.proofs.Common.{Bool, cond, ◌++◌, codes, refl, sym, subst}
 use Rattle.std.specs.Fmt.{decimal}
 use Rattle.tq_client.specs.TxnAsked.{IsAnswered, apply_asked, txn_said}
 use Rattle.tq_client.proofs.Servers.{off_tree}

@@ -1,11 +1,7 @@
-use Rattle.std.proofs.Common.{◌≡◌, ◌∙◌, ◌++◌, ◌∷◌, [], refl, sym, ap, codes}
+use Rattle.std.proofs.Common.{refl}
 use Rattle.tq_txn.specs.Aborts.{abort_line}
-use Rattle.tq_txn.specs.States.{levels_of}
 use Rattle.tq_client.specs.TxnAsked.{no_servers, aborted_text}
-use Rattle.tq_txn.specs.declared.txn.Txn.TheVariants as states
-use Rattle.tq_client.specs.declared.kept.Kept.{Kept}
 use Rattle.tq_client.specs.Known.{in_state}
-use Rattle.tq_print.specs.Print.{printed}
 use Rattle.tq_client.proofs.Answered.{answered_by}
 use Rattle.tq_client.proofs.endings.abort_txn.Goals as goal
 

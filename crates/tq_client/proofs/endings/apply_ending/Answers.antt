@@ -1,10 +1,7 @@
-use Rattle.std.proofs.Common.{◌≡◌, ◌∙◌, ◌++◌, ◌∷◌, [], refl, sym, ap, codes}
+use Rattle.std.proofs.Common.{◌∙◌, ◌++◌, [], refl, ap}
 use Rattle.tq_txn.specs.Lines.{apply_line}
 use Rattle.tq_client.specs.TxnAsked.{no_servers, told_text, result_text}
 use Rattle.tq_print.specs.Print.{applied_text}
-use Rattle.tq_txn.specs.declared.txn.Txn.TheVariants as states
-use Rattle.tq_client.specs.declared.kept.Kept.{Kept}
-use Rattle.tq_client.specs.Known.{in_state}
 use Rattle.tq_print.specs.Print.{printed}
 use Rattle.tq_client.proofs.Answered.{answered_by}
 use Rattle.tq_client.proofs.endings.apply_ending.Goals as goal

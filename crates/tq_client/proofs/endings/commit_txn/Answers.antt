@@ -1,7 +1,6 @@
-use Rattle.std.proofs.Common.{◌≡◌, ◌∙◌, ◌++◌, ◌∷◌, [], refl, sym, ap, subst, codes}
+use Rattle.std.proofs.Common.{◌∙◌, refl, sym, subst}
 use Rattle.tq_txn.specs.Commits.{commit_line}
 use Rattle.tq_client.specs.TxnAsked.{missing_in, serial_text, commit_asked, commit_voting}
-use Rattle.tq_txn.specs.declared.txn.Txn.TheVariants as states
 use Rattle.tq_client.specs.declared.states.Closed.{Closed}
 use Rattle.tq_client.specs.States.{IsClosed}
 use Rattle.tq_client.specs.Known.{in_state}

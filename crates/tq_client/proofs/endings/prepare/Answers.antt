@@ -1,4 +1,4 @@
-use Rattle.std.proofs.Common.{◌≡◌, ◌∙◌, ◌++◌, ◌∷◌, [], refl, sym, ap, subst, codes}
+use Rattle.std.proofs.Common.{◌∙◌, ◌++◌, ◌∷◌, [], refl, ap, subst, codes}
 use Rattle.std.specs.Fmt.{decimal}
 use Rattle.tq_txn.specs.Lines.{prepare_line}
 use Rattle.tq_client.specs.TxnAsked.{voted_text, result_text, prepare_asked, prepare_voting}

@@ -1,4 +1,4 @@
-use Rattle.std.proofs.Common.{◌≡◌, ◌∙◌, ◌++◌, ◌∷◌, [], refl, sym, ap, subst, codes}
+use Rattle.std.proofs.Common.{◌∙◌, refl, sym, subst}
 use Rattle.tq_txn.specs.Lines.{write_line}
 use Rattle.tq_client.specs.TxnAsked.{no_servers, written_text, write_asked, write_open}
 use Rattle.tq_txn.specs.declared.txn.Txn.TheVariants as states

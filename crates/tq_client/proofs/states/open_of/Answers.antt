@@ -1,4 +1,4 @@
-use Rattle.std.proofs.Common.{◌≡◌, ◌++◌, sym, ap, codes}
+use Rattle.std.proofs.Common.{◌++◌, sym, ap, codes}
 use Rattle.std.specs.Fmt.{decimal}
 use Rattle.tq_client.specs.TxnAsked.{open_in}
 use Rattle.tq_client.proofs.states.open_of.Goals as goal

@@ -2,7 +2,7 @@ use Rattle.std.specs.Prelude.{string_bytes, IfOk}
 use Rattle.std.proofs.Common.{◌≡◌, subst}
 use Rattle.tq_live.specs.Live.{Live}
 use Rattle.tq_tables.specs.Tables.{TablesView, tables_of}
-use Rattle.tq_board.specs.Board.{board_text}
+use Rattle.tq_rendered.specs.Board.{board_text}
 use Rattle.tq_operators.proofs.operators.board_of.Goals as goal
 
 pub returns : goal.returns

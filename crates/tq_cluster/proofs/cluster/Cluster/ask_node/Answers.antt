@@ -1,11 +1,15 @@
-use Rattle.std.proofs.Common.{◌∙◌, ℕ, ap, sym, subst, arith}
+use Rattle.std.proofs.Common.{◌≡◌, ◌≤◌, ◌<◌, ◌-◌, ◌∙◌, ℕ, length, map, get_or, set, ap, sym, subst, arith}
 use Rattle.tq_shape.specs.Tree.{IsServer}
 use Rattle.tq_states.specs.declared.told.NodeTold.{NodeTold}
 use Rattle.tq_cluster.specs.declared.heard.Heard.TheVariants as heard
 use Rattle.tq_cluster.specs.Cluster.{ClusterView}
 use Rattle.tq_cluster.specs.Told.{CallerView, IsToldByServer}
 use Rattle.tq_cluster.proofs.Exchanges.{node_exchanged, one_more_heard}
+use Rattle.tq_cells.specs.Passes.{Seen}
+use Rattle.tq_node.specs.declared.ask.NodeAsk.{NodeAsk}
+use Rattle.tq_node.specs.declared.ask.NodeReply.{NodeReply}
 use Rattle.tq_cluster.proofs.Names.{named_by}
+use Rattle.tq_cluster.proofs.Seen.{seen_here}
 use Rattle.tq_cluster.proofs.cluster.Cluster.ask_node.Goals as goal
 
 pub returns-in-Ok-clause-exchanges : goal.returns-in-Ok-clause-exchanges
@@ -22,3 +26,18 @@ returns-in-Ok-clause-exchanges g c =
 
 pub returns-in-Ok-clause-reply : goal.returns-in-Ok-clause-reply
 returns-in-Ok-clause-reply g c = subst (λ (t : NodeTold). IsToldByServer t.number t.ask t.reply) (sym c.node_told.ensures) c.in-Ok.ensures.reply
+
+pub returns-in-Ok-clause-seen : goal.returns-in-Ok-clause-seen
+returns-in-Ok-clause-seen g c =
+    let passes = c.caller.inside.servers.items in
+    let number = c.number-number.result in
+    let of_tree = subst (λ (l : ℕ). IsServer l number) (c.requires.server ∙ sym c.requires.levels ∙ ap (λ (v : CallerView). v.levels) (sym c.caller.view_is)) c.number-number.ensures.within in
+    let least = of_tree.0 in
+    let most = of_tree.1 in
+    let count = c.caller.invariant in
+    let less : number - 1 < length passes = omega arith in
+    let here : get_or (map (λ (p : Seen NodeAsk NodeReply). p.seen) (set passes (number - 1) c.call.new.pass)) (c.args.server.number - 1) 0 ≡ c.call.new.pass.seen =
+    ap (λ (n : ℕ). get_or (map (λ (p : Seen NodeAsk NodeReply). p.seen) (set passes (number - 1) c.call.new.pass)) (n - 1) 0) (sym c.number-number.ensures.value) ∙ seen_here passes (number - 1) c.call.new.pass less in
+    let told : c.in-Ok.receipts.told.number ≤ c.call.new.pass.seen = c.in-Ok.ensures.seen in
+    let is : c.node_told.result.number ≡ c.in-Ok.receipts.told.number = ap (λ (t : NodeTold). t.number) c.node_told.ensures in
+    omega (arith, here, told, is)

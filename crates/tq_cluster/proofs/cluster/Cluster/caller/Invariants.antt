@@ -1,7 +1,10 @@
-use Rattle.std.proofs.Common.{◌≡◌}
+use Rattle.std.proofs.Common.{◌≡◌, map, replicate}
 use Rattle.std.specs.Prelude.{vec_len}
 use Rattle.tq_cluster.proofs.cluster.Cluster.caller.Given as goal
 
--- a pass for each cell so far
+-- a pass for each cell so far, with nothing seen
 abbrev pub invariant-loop-cell : goal.invariant-loop-cell
-invariant-loop-cell g l = vec_len l.servers ≡ l.cell-index
+invariant-loop-cell g l = record {
+  one_each : vec_len l.servers ≡ l.cell-index;
+  unseen : map (λ pass. pass.seen) l.servers.items ≡ replicate l.cell-index 0;
+}

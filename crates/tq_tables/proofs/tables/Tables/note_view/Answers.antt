@@ -1,14 +1,15 @@
-use Rattle.std.proofs.Common.{ap}
+use Rattle.std.proofs.Common.{ap, ◌∙◌}
 use Rattle.tq_live.specs.View.{view_after}
-use Rattle.tq_tables.proofs.Noted.{view-noted, view-stays}
+use Rattle.tq_tables.specs.Tables.{TablesView}
+use Rattle.tq_tables.proofs.Noted.{view-noted, view-stays, viewed, viewed-at}
 use Rattle.tq_tables.proofs.tables.Tables.note_view.Goals as goal
 
-pub returns-in-Choose-clause-noted : goal.returns-in-Choose-clause-noted
-returns-in-Choose-clause-noted c = λ journals legal stand.
-    view-stays journals c.args.entry.now legal c.args.self.now stand (λ l. ap (view_after l) c.in-Choose.is)
+pub returns-then-changes_nothing-clause-noted : goal.returns-then-changes_nothing-clause-noted
+returns-then-changes_nothing-clause-noted c = λ journals legal stand.
+    view-stays journals c.args.entry.now legal c.args.self.now stand (λ l. ap (view_after l) (c.changes_nothing.ensures c.if-changes_nothing.true))
 
-pub returns-in_ok-ask_view-in_default : goal.returns-in_ok-ask_view-in_default
-returns-in_ok-ask_view-in_default c = record {
-  noted = λ journals legal stand. view-noted journals c.args.entry.now legal c.args.self.now c.ask_view.new.self stand c.in_ok-ask_view-in_default.ensures.after;
-  unchanged = tt;
-}
+pub returns-clause-noted : goal.returns-clause-noted
+returns-clause-noted c = λ journals legal stand.
+    view-noted journals c.args.entry.now legal c.args.self.now _ stand
+    (viewed-at c.self.inside.parts c.ask_view.new.self c.self.inside.files.rows c.args.entry.now.ask c.in_ok-ask_view.ensures.after
+    ∙ ap (λ (t : TablesView). viewed t c.args.entry.now.ask) c.self.view_is)

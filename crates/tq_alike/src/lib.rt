@@ -1,0 +1,14 @@
+//! Whether two asks, two replies or two entries are the same.
+#![tactic(auto)]
+
+mod desk;
+mod kinds;
+mod node;
+mod same;
+mod view;
+
+pub use desk::OfDesk;
+pub use kinds::{Alike, begins, is_same_entry};
+pub use node::OfServer;
+pub use same::Same;
+pub use view::OfView;

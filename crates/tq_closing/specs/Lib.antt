@@ -1,0 +1,4 @@
+pub mod Told
+pub mod Kept
+pub mod Names
+pub mod Closed

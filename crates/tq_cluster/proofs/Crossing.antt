@@ -1,0 +1,86 @@
+-- What crosses threads in a run: callers and clusters, part by part, since a search through all of them runs out of steps.
+use denote.RattleType.{RattleType}
+use denote.Param.Send.{IsSend, IsSync, recorded_send, struct_send, sendable}
+use denote.Struct.Declared.{shape}
+use denote.Struct.Tuple.{TupleAt, type_at, field_at}
+use Rattle.std.proofs.Common.{ℕ, List, [], ◌∷◌}
+use Rattle.std.proofs.Crossing.{crosses}
+use Rattle.std.proofs.MapsCrossing as maps
+use Rattle.std.proofs.MapsCrossingOver as others
+use Rattle.tq_live.proofs.Crossing.{tree_send}
+use Rattle.tq_node.specs.contracts.ask.NodeAsk as NodeAsk
+use Rattle.tq_node.specs.contracts.ask.NodeReply as NodeReply
+use Rattle.tq_node.specs.contracts.node.Node as Node
+use Rattle.tq_desk.specs.contracts.ask.DeskAsk as DeskAsk
+use Rattle.tq_desk.specs.contracts.ask.DeskReply as DeskReply
+use Rattle.tq_desk.specs.contracts.desk.Desk as Desk
+use Rattle.tq_live.specs.contracts.view.ViewAsk as ViewAsk
+use Rattle.tq_live.specs.contracts.view.ViewReply as ViewReply
+use Rattle.tq_live.specs.contracts.view.View as View
+use Rattle.tq_txn.specs.contracts.asker.Exchange as Exchange
+use Rattle.tq_cluster.specs.contracts.heard.Heard as Heard
+use Rattle.tq_cluster.specs.contracts.caller.Caller as Caller
+use Rattle.tq_cluster.specs.contracts.cluster.Cluster as Cluster
+use Rattle.tq_script.specs.contracts.script.Script as Script
+use Rattle.tq_queue.specs.contracts.ends.Taker as Taker
+use Rattle.tq_queue.proofs.ends.Taker.TheSendSync as takers
+use Rattle.tq_cluster.specs.contracts.workers.Message as Message
+use Rattle.tq_cluster.proofs.workers.Message.TheSendSync as messages
+
+-- ---- asks and replies
+
+node_ask_send : IsSend NodeAsk.the_field.row
+node_ask_send = search (sendable, crosses, maps.crosses, others.crosses) depth 60 fits 30000
+
+node_reply_send : IsSend NodeReply.the_field.row
+node_reply_send = search (sendable, crosses, maps.crosses, others.crosses) depth 60 fits 30000
+
+desk_ask_send : IsSend DeskAsk.the_field.row
+desk_ask_send = search (sendable, crosses, maps.crosses, others.crosses) depth 60 fits 30000
+
+desk_reply_send : IsSend DeskReply.the_field.row
+desk_reply_send = search (sendable, crosses, maps.crosses, others.crosses) depth 60 fits 30000
+
+view_ask_send : IsSend ViewAsk.the_field.row
+view_ask_send = search (sendable, crosses, maps.crosses, others.crosses) depth 60 fits 30000
+
+view_reply_send : IsSend ViewReply.the_field.row
+view_reply_send = search (sendable, crosses, maps.crosses, others.crosses) depth 60 fits 30000
+
+-- ---- parts
+
+node_send : IsSend Node.the_field.row
+node_send = search (sendable, crosses, maps.crosses, others.crosses) depth 60 fits 30000
+
+desk_send : IsSend Desk.the_field.row
+desk_send = search (sendable, crosses, maps.crosses, others.crosses) depth 60 fits 30000
+
+view_send : IsSend View.the_field.row
+view_send = search (tree_send, sendable, crosses, maps.crosses, others.crosses) depth 60 fits 30000
+
+-- ---- callers, scripts and clusters
+
+exchange_send : IsSend Exchange.the_field.row
+exchange_send = search (node_ask_send, node_reply_send, desk_ask_send, desk_reply_send, view_ask_send, view_reply_send, sendable, crosses, maps.crosses, others.crosses) depth 60 fits 30000
+
+heard_send : IsSend Heard.the_field.row
+heard_send = search (exchange_send, node_ask_send, node_reply_send, desk_ask_send, desk_reply_send, view_ask_send, view_reply_send, sendable, crosses, maps.crosses, others.crosses) depth 60 fits 30000
+
+pub caller_send : IsSend Caller.the_field.row
+caller_send = search (heard_send, node_ask_send, node_reply_send, desk_ask_send, desk_reply_send, view_ask_send, view_reply_send, sendable, crosses) depth 60 fits 30000
+
+pub script_sync : IsSync Script.the_field.row
+script_sync = search (sendable, crosses) depth 60 fits 30000
+
+pub cluster_sync : (G : RattleType) → IsSync G → IsSync (Cluster.the_field G).row
+cluster_sync G y = search (node_send, desk_send, view_send, node_ask_send, node_reply_send, desk_ask_send, desk_reply_send, view_ask_send, view_reply_send, sendable, crosses) depth 60 fits 30000
+
+-- ---- ends of the queue, and what a thread takes along
+
+pub taker_send : IsSend (Taker.the_row Message.the_row)
+taker_send = takers.the_send Message.the_row messages.the_send
+
+pub five_send : (name : List ℕ) (A B C D E : RattleType) → IsSend A → IsSend B → IsSend C → IsSend D → IsSend E → IsSend (TupleAt name (A ∷ B ∷ C ∷ D ∷ E ∷ []))
+five_send name A B C D E a b c d e =
+    let parts = A ∷ B ∷ C ∷ D ∷ E ∷ [] in
+    recorded_send (field_at name parts).row _ _ (type_at name parts).to_one (struct_send (shape (type_at name parts)) (a, (b, (c, (d, (e, tt))))))

@@ -1,0 +1,24 @@
+use Rattle.std.proofs.Common.{◌∙◌, sym, subst}
+use Rattle.tq_shape.specs.declared.part.Part.TheVariants as parts
+use Rattle.tq_tables.specs.Journals.{JournalsView}
+use Rattle.tq_cluster.specs.Pulls.{Continues}
+use Rattle.tq_cluster.proofs.Pulled.{continues-grown, continues-after, fault-after, seen-after}
+use Rattle.tq_cluster.proofs.live_board.LiveBoard.pull.Goals as goal
+
+pub returns-clause-continues : goal.returns-clause-continues
+returns-clause-continues g c =
+    let grew = c.in-Ok-pull_part.ensures.grown in
+    let middle = subst (λ (o : JournalsView). Continues c.args.self.now o) (sym grew.1) (continues-grown c.args.self.now c.pull_servers.new.self parts.Desk grew.0 c.pull_servers.ensures.continues) in
+    continues-after c.args.self.now c.pull_part.new.self c.pull_part-2.new.self parts.View c.pull_part-2.result c.pull_part-2.ensures.grown c.pull_part-2.ensures.err middle
+
+pub returns-clause-seen : goal.returns-clause-seen
+returns-clause-seen g c =
+    let grew = c.in-Ok-pull_part.ensures.grown in
+    let saw = c.in-Ok-pull_part.ensures.caller in
+    let saw_more = c.pull_part-2.ensures.caller in
+    seen-after c.pull_servers.new.self c.pull_servers.new.caller c.args.cluster.now.levels grew.0 saw.0 saw_more.0 c.pull_part.new.self c.pull_part-2.new.self c.pull_part.new.caller c.pull_part-2.new.caller c.pull_part-2.result
+    c.in-Ok.ensures.seen grew.1 saw.2 c.pull_part-2.ensures.grown saw_more.2 c.in-Ok-pull_part.ensures.seen c.pull_part-2.ensures.seen ((returns-clause-continues g c).levels ∙ c.requires.levels)
+
+pub returns-clause-fault : goal.returns-clause-fault
+returns-clause-fault g c =
+    fault-after c.pull_part.new.self c.pull_part-2.new.self c.pull_part-2.new.caller parts.View c.pull_part-2.result c.pull_part-2.ensures.fault c.pull_part-2.ensures.err

@@ -1,0 +1,12 @@
+use Rattle.std.proofs.Common.{◌≡◌}
+use Rattle.tq_cluster.specs.Pulls.{Continues, HasSeenServers}
+use Rattle.tq_cluster.proofs.live_board.LiveBoard.pull_servers.Given as goal
+
+-- the servers so far were pulled, and the board has what the caller has seen of them
+abbrev pub invariant-loop-place : goal.invariant-loop-place
+invariant-loop-place g l = record {
+  continues : Continues l.initial.self l.self;
+  seen : HasSeenServers l.self l.caller l.place;
+  told : l.caller.told ≡ l.initial.caller.told;
+  tree : l.caller.levels ≡ l.initial.caller.levels;
+}

@@ -1,0 +1,5 @@
+use Rattle.std.proofs.Common.{◌-◌}
+use Rattle.tq_cluster.proofs.workers.+run_workers.Given as goal
+
+abbrev pub decreases-run_workers : goal.decreases-run_workers
+decreases-run_workers g l = l.team.workers - l.started

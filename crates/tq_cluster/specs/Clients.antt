@@ -1,0 +1,30 @@
+-- What the callers of a run were told: those of clients, of workers, and the one that pulls the board.
+use Rattle.std.specs.Prelude.{◌≡◌, ℕ, List, [], ◌∷◌, ◌++◌, length, None}
+use Rattle.std.specs.List.{AllByRecursion}
+use Rattle.tq_txn.specs.Dialogue.{Makes}
+use Rattle.tq_txn.specs.declared.asker.Exchange.{Exchange}
+use Rattle.tq_script.specs.declared.script.Line.{Line}
+use Rattle.tq_script.specs.Script.{script_asked}
+use Rattle.tq_shape.specs.Limits.{LimitsView}
+use Rattle.tq_refresh.specs.declared.job.Job.{Job}
+use Rattle.tq_worker.specs.Mending.{refresh_asked}
+use Rattle.tq_cluster.specs.Told.{CallerView}
+
+-- the caller was told what the lines of the script ask, each as the answers before demand
+abbrev pub RunsScript : ℕ → LimitsView → List Line → CallerView → Type 0
+RunsScript levels limits script caller = Makes (script_asked levels limits script None) caller.told tt
+
+-- these are the asks of the jobs, one after another: each asks its source for its copy and, exactly where that is told, its
+-- server to take it, citing the source's entry
+abbrev pub JobsMake : ℕ → List Job → List Exchange → Type 0
+JobsMake levels [] told = told ≡ []
+JobsMake levels (job ∷ jobs) told = (mine : List Exchange) × (rest : List Exchange) × (told ≡ mine ++ rest) × Makes (refresh_asked levels job) mine tt × JobsMake levels jobs rest
+
+-- the caller was told what some jobs ask
+abbrev pub Refreshes : ℕ → CallerView → Type 0
+Refreshes levels caller = (jobs : List Job) × JobsMake levels jobs caller.told
+
+-- for each script, in their order, a caller that ran it; then so many that refreshed; then one that asked nothing
+abbrev pub AllRan : ℕ → LimitsView → List (List Line) → ℕ → List CallerView → Type 0
+AllRan levels limits [] workers callers = (refreshers : List CallerView) × (own : CallerView) × (callers ≡ refreshers ++ own ∷ []) × (length refreshers ≡ workers) × AllByRecursion (Refreshes levels) refreshers × (own.told ≡ [])
+AllRan levels limits (s ∷ ss) workers callers = (c : CallerView) × (rest : List CallerView) × (callers ≡ c ∷ rest) × RunsScript levels limits s c × AllRan levels limits ss workers rest

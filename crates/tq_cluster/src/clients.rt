@@ -1,0 +1,225 @@
+ghost use Rattle.std.specs.Prelude.{◌≡◌, ◌<◌, ◌≤◌, ◌+◌, ◌-◌, ℕ, [], ◌∷◌, ◌++◌, List, length, vec_len, vec_capacity, true, false};
+ghost use Rattle.crossbeam_channel.specs.Claims.{view};
+ghost use Rattle.crossbeam_channel.specs.Ends.{sends_on};
+ghost use Rattle.tq_queue.specs.Rule.{hand, IsPrefixTaken};
+ghost use Rattle.tq_cluster.specs.declared.workers.Message.{Message};
+ghost use Rattle.tq_cluster.specs.Told.{CallerView};
+ghost use Rattle.tq_cluster.specs.Clients.{RunsScript, AllRan};
+ghost use Rattle.tq_cluster.specs.Backwards.{RunBackwards};
+
+use crate::asking::Asking;
+use crate::caller::Caller;
+use crate::cluster::Cluster;
+use crate::workers::{Message, Team, run_workers};
+use std::alloc::Global;
+use std::snapshot::Snapshot;
+use std::sync::Wait;
+use std::thread;
+use std::thread::{Promise, Scope, Threads};
+use tq_cells::Gate;
+use tq_queue::Putter;
+use tq_script::{Script, run_script};
+use tq_shape::{Levels, Limits};
+
+/// How many jobs wait in the queue at most.
+const ROOM: usize = 64;
+
+/// The callers that were made, and whether any met want of memory.
+#[derive(Drop)]
+pub struct Ran {
+    /// Those of the scripts, in their order, then those of the workers, then the one that pulled the board.
+    pub callers: Vec<Caller>,
+    /// Memory was refused to one of them, or to the queue, the board or a thread.
+    pub memory: bool,
+}
+
+/// A caller that ran a script, and whether it met want of memory.
+#[derive(Drop)]
+pub(crate) struct Client {
+    pub(crate) caller: Caller,
+    pub(crate) memory: bool,
+}
+
+/// Runs a script, by a caller that was told nothing yet.
+fn run_client<R: Wait, G: Gate + Drop>(
+    rt: &R,
+    alloc: Global,
+    cluster: &Cluster<G>,
+    caller: Caller,
+    script: &Script,
+) -> Client
+    requires tree { caller.levels ≡ cluster.now.levels }
+    requires fresh { caller.told ≡ [] }
+    ensures { result.memory ≡ false → RunsScript cluster.now.levels cluster.now.limits script.now result.caller }
+{
+    let levels = cluster.levels();
+    let limits = cluster.limits();
+    let mut asking = Asking::new(rt, cluster, caller);
+    let ended = run_script(&mut asking, alloc, levels, limits, script);
+    Client {
+        caller: asking.into_caller(),
+        memory: ended.is_err(),
+    }
+}
+
+/// The caller that comes back was told what the script's lines make, unless memory ran out.
+#[derive(Clone, Copy)]
+pub(crate) struct Follows<'a>(Levels, Limits, &'a Script);
+
+impl<'a> Promise<Client> for Follows<'a> {
+    ghost kept_by = { λ p r. r.memory ≡ false → RunsScript p.0 p.1 p.2.now r.caller };
+}
+
+/// Runs each script in a thread of its own, and then the workers, and puts all callers behind those that are there, the
+/// one that was made last first. Those whose threads were started come back also where another thread or its caller is
+/// refused. Whether memory was refused.
+fn run_all<'s, 'e: 's, R: Threads + Wait + Sync, G: Gate + Drop + Sync>(
+    scope: &'s Scope<'s, &'e ()>,
+    rt: &'e R,
+    alloc: Global,
+    cluster: &'e Cluster<G>,
+    scripts: &'e [Script],
+    team: Team,
+    putter: &mut Putter<Message>,
+    callers: &mut Vec<Caller>,
+) -> bool
+    requires parts { team.workers < (view putter.old.pass).parts }
+    requires room { vec_len callers.old + length scripts.now + team.workers + 1 ≤ vec_capacity callers.old }
+    ensures ran { result ≡ false → (more : List CallerView) × (taken : List (ℕ × Message)) × (callers.new.items ≡ callers.old.items ++ more) × ((view putter.new.pass).taken ≡ (view putter.old.pass).taken ++ taken) × RunBackwards cluster.now.levels cluster.now.limits scripts.now team.workers taken more }
+    ensures parts { result ≡ false → (view putter.new.pass).parts ≡ (view putter.old.pass).parts }
+    ensures len { vec_len callers.new ≤ vec_len callers.old + length scripts.now + team.workers + 1 }
+    ensures room { vec_capacity callers.new ≡ vec_capacity callers.old }
+{
+    let [script, rest @ ..] = scripts else {
+        return run_workers(scope, rt, alloc, cluster, team, 0, putter, callers);
+    };
+    let Ok(caller) = cluster.caller(alloc) else {
+        return true;
+    };
+    let started = scope.spawn_with(
+        Follows(cluster.levels(), cluster.limits(), script),
+        move || -> Client
+            requires { (caller.levels ≡ cluster.now.levels) × (caller.told ≡ []) }
+            ensures { result.memory ≡ false → RunsScript cluster.entry.now.levels cluster.entry.now.limits script.entry.now result.caller }
+        { run_client(rt, alloc, cluster, caller, script) },
+    );
+    match started {
+        Ok(child) => {
+            let memory = run_all(scope, rt, alloc, cluster, rest, team, putter, callers);
+            let Client {
+                caller,
+                memory: mine,
+            } = child.join(rt);
+            callers.push_reserved(caller);
+            memory || mine
+        }
+        Err(_refused) => true,
+    }
+}
+
+/// All that a run left: its callers, the one that was made last first, and the end of the queue as it was when all had
+/// come back to it, for the proofs alone.
+#[derive(Drop)]
+struct Left {
+    callers: Vec<Caller>,
+    queue: Snapshot<Putter<Message>>,
+    memory: bool,
+}
+
+/// Runs the scripts and the workers in threads, and joins them. Unless memory was refused, what the workers took together
+/// is the first of what was put, in order, each once, and each did the jobs that it took.
+fn run_in_threads<R: Threads + Wait + Sync, G: Gate + Drop + Sync>(
+    rt: &R,
+    alloc: Global,
+    cluster: &Cluster<G>,
+    scripts: &[Script],
+    team: Team,
+    mut putter: Putter<Message>,
+    mut callers: Vec<Caller>,
+) -> Left
+    requires workers { team.workers ≤ 2 }
+    requires room { length scripts.now + team.workers + 1 ≤ vec_capacity callers }
+    requires empty { callers.items ≡ [] }
+    requires fresh { view putter.pass ≡ hand 1024 true [] [] }
+    ensures ran { result.memory ≡ false → RunBackwards cluster.now.levels cluster.now.limits scripts.now team.workers (view result.queue.value.pass).taken result.callers.items }
+    ensures once { result.memory ≡ false → (items : List Message) × IsPrefixTaken (view result.queue.value.pass).put (view result.queue.value.pass).taken items }
+{
+    let (callers, mut putter, memory) = thread::scope(
+        thread::scope_env(),
+        rt,
+        |scope| -> (Vec<Caller>, Putter<Message>, bool)
+            requires { (team.workers ≤ 2) × (vec_len callers + length scripts.now + team.workers + 1 ≤ vec_capacity callers) × (callers.items ≡ []) × (view putter.pass ≡ hand 1024 true [] []) }
+            ensures { result.2 ≡ false → RunBackwards cluster.entry.now.levels cluster.entry.now.limits scripts.entry.now team.workers (view result.1.pass).taken result.0.items × ((view result.1.pass).parts ≡ 1024) }
+        {
+            let memory = run_all(
+                scope,
+                rt,
+                alloc,
+                cluster,
+                scripts,
+                team,
+                &mut putter,
+                &mut callers,
+            );
+            (callers, putter, memory)
+        },
+    );
+    let queue = Snapshot::of(&putter);
+    if memory {
+        return Left {
+            callers,
+            queue,
+            memory: true,
+        };
+    }
+    putter.settle();
+    Left {
+        callers,
+        queue,
+        memory: false,
+    }
+}
+
+impl<G: Gate + Drop + Sync> Cluster<G> {
+    /// Runs each script in a thread of its own, by a caller of its own, while so many workers, each in a thread of its
+    /// own too, refresh stale copies: so often the calling thread pulls the board, plans, and puts the jobs into the
+    /// workers' queue. It gives the callers back once all threads have ended. Where a caller, the queue or a thread is
+    /// refused, the threads that were started run to their end, and memory is refused.
+    #[tactic(auto, using(crate::proofs::Callers::run_in_order))]
+    pub fn run_clients<R: Threads + Wait + Sync>(
+        &self,
+        rt: &R,
+        alloc: Global,
+        scripts: Vec<Script>,
+        workers: u32,
+        rounds: u32,
+    ) -> Ran
+        requires scripts { vec_len scripts ≤ 16 }
+        requires workers { workers ≤ 2 }
+        requires rounds { rounds ≤ 1000 }
+        ensures { result.memory ≡ false → AllRan self.now.levels self.now.limits scripts.items workers result.callers.items }
+    {
+        let mut callers = Vec::new(alloc);
+        let many = scripts.len() + workers as usize + 1;
+        if callers.reserve(many).is_err() {
+            return Ran {
+                callers,
+                memory: true,
+            };
+        }
+        let Ok(putter) = Putter::new(alloc, ROOM) else {
+            return Ran {
+                callers,
+                memory: true,
+            };
+        };
+        let team = Team { workers, rounds };
+        let Left {
+            mut callers,
+            queue: _,
+            memory,
+        } = run_in_threads(rt, alloc, self, scripts.as_slice(), team, putter, callers);
+        callers.reverse();
+        Ran { callers, memory }
+    }
+}

@@ -1,0 +1,237 @@
+ghost use Rattle.std.specs.Prelude.{◌≡◌, ◌≤◌, ◌-◌, ◌^◌, ℕ, IfOk, IfErr, OnOk, OnErr};
+ghost use Rattle.tq_shape.specs.Tree.{IsServer};
+ghost use Rattle.tq_tables.specs.Parts.{AreLegal};
+ghost use Rattle.tq_tables.specs.Tables.{tables_of};
+ghost use Rattle.tq_prefixes.specs.Prefixes.{IsPartOf, IsPullFault, grown, nothing_pulled, prefix_length, server_prefix};
+ghost use Rattle.tq_cluster.specs.Told.{having_seen, seen_of};
+ghost use Rattle.tq_cluster.specs.Pulls.{Continues, HasSeenAll, HasSeenServers};
+
+use crate::caller::Caller;
+use crate::cluster::Cluster;
+use std::alloc::Global;
+use std::marker::Model;
+use std::sync::Wait;
+use tq_cells::Gate;
+use tq_prefixes::{Entries, Prefixes, PullFault};
+use tq_shape::{Levels, Limits, Memory, Part};
+use tq_tables::{DeskEntry, NodeEntry, Tables, ViewEntry};
+
+/// A board of a running cluster: of each part the entries that it pulled of the part's journal, from the first on, and
+/// the tables over these. Contracts see it as these entries.
+#[derive(Drop)]
+pub struct LiveBoard {
+    pub(crate) prefixes: Prefixes,
+}
+
+impl Model for LiveBoard {
+    ghost use Rattle.tq_tables.specs.Journals.{JournalsView};
+
+    ghost Value = { JournalsView };
+
+    ghost view = { λ board. board.prefixes };
+}
+
+impl LiveBoard {
+    /// A board that pulled nothing. Answers an error only where memory is refused.
+    pub fn new(alloc: Global, levels: Levels, limits: Limits) -> Result<LiveBoard, Memory>
+        ensures { IfOk result (λ board. board ≡ nothing_pulled levels limits) }
+    {
+        let prefixes = Prefixes::new(alloc, levels, limits)?;
+        Ok(LiveBoard { prefixes })
+    }
+
+    /// How many levels the tree of servers has.
+    pub fn levels(&self) -> Levels
+        ensures { result ≡ self.now.levels }
+    {
+        self.prefixes.levels()
+    }
+
+    /// The limits of the system.
+    pub fn limits(&self) -> Limits
+        ensures { result ≡ self.now.limits }
+    {
+        self.prefixes.limits()
+    }
+
+    /// The tables over what was pulled. The journals that have these entries alone are legal.
+    pub fn tables(&self) -> &Tables
+        ensures value { result.now ≡ tables_of self.now }
+        ensures legal { AreLegal self.now }
+    {
+        self.prefixes.tables()
+    }
+
+    /// What was pulled of the server of that number.
+    pub fn server(&self, number: u64) -> &[NodeEntry]
+        requires { IsServer self.now.levels number }
+        ensures { result.now ≡ server_prefix self.now number }
+    {
+        self.prefixes.server(number)
+    }
+
+    /// What was pulled of the desk.
+    pub fn desk(&self) -> &[DeskEntry]
+        ensures { result.now ≡ self.now.desk }
+    {
+        self.prefixes.desk()
+    }
+
+    /// What was pulled of the view.
+    pub fn view(&self) -> &[ViewEntry]
+        ensures { result.now ≡ self.now.view }
+    {
+        self.prefixes.view()
+    }
+
+    /// Pulls a part: asks it through the caller for the entries after those that were pulled of it, and takes them; the
+    /// tables are then those over all that was pulled. What the caller has seen of the part is then on the board.
+    /// Answers `Foreign` with the entries where the part, where the entries that were pulled of it leave it, would not
+    /// give them, or where with them there are fewer than the caller has seen, and `Memory` where memory is refused: then
+    /// the board is as it was.
+    pub fn pull_part<R: Wait, G: Gate + Drop>(
+        &mut self,
+        rt: &R,
+        alloc: Global,
+        cluster: &Cluster<G>,
+        caller: &mut Caller,
+        part: Part,
+    ) -> Result<(), PullFault>
+        requires caller { caller.old.levels ≡ cluster.now.levels }
+        requires levels { self.old.levels ≡ cluster.now.levels }
+        requires limits { self.old.limits ≡ cluster.now.limits }
+        requires part { IsPartOf cluster.now.levels part }
+        ensures grown { OnOk result ((more : Entries) × (self.new ≡ grown self.old part more)) }
+        ensures seen { OnOk result (seen_of caller.new part ≤ prefix_length self.new part) }
+        ensures err { OnErr result (self.new ≡ self.old) }
+        ensures fault { IfErr result (λ fault. (more : Entries) × IsPullFault self.old part more (seen_of caller.new part) fault) }
+        ensures caller { (seen : ℕ) × (seen_of caller.old part ≤ seen) × (caller.new ≡ having_seen caller.old part seen) }
+    {
+        match part {
+            Part::Server(number) => self.pull_server(rt, alloc, cluster, caller, number),
+            Part::Desk => self.pull_desk(rt, alloc, cluster, caller),
+            Part::View => self.pull_view(rt, alloc, cluster, caller),
+        }
+    }
+
+    /// Pulls all parts through the caller: the servers upwards, the desk and the view. Answers the fault of the first part
+    /// that is not pulled; the parts before it stay pulled, and nothing is pulled of those after it.
+    pub fn pull<R: Wait, G: Gate + Drop>(
+        &mut self,
+        rt: &R,
+        alloc: Global,
+        cluster: &Cluster<G>,
+        caller: &mut Caller,
+    ) -> Result<(), PullFault>
+        requires caller { caller.old.levels ≡ cluster.now.levels }
+        requires levels { self.old.levels ≡ cluster.now.levels }
+        requires limits { self.old.limits ≡ cluster.now.limits }
+        ensures continues { Continues self.old self.new }
+        ensures seen { OnOk result (HasSeenAll self.new caller.new) }
+        ensures fault { IfErr result (λ fault. (part : Part) × (more : Entries) × IsPullFault self.new part more (seen_of caller.new part) fault) }
+        ensures told { caller.new.told ≡ caller.old.told }
+        ensures tree { caller.new.levels ≡ caller.old.levels }
+    {
+        match self.pull_servers(rt, alloc, cluster, caller) {
+            Ok(()) => (),
+            Err(fault) => return Err(fault),
+        }
+        match self.pull_part(rt, alloc, cluster, caller, Part::Desk) {
+            Ok(()) => (),
+            Err(fault) => return Err(fault),
+        }
+        self.pull_part(rt, alloc, cluster, caller, Part::View)
+    }
+
+    /// Pulls all servers, as `pull` does all parts.
+    fn pull_servers<R: Wait, G: Gate + Drop>(
+        &mut self,
+        rt: &R,
+        alloc: Global,
+        cluster: &Cluster<G>,
+        caller: &mut Caller,
+    ) -> Result<(), PullFault>
+        requires caller { caller.old.levels ≡ cluster.now.levels }
+        requires levels { self.old.levels ≡ cluster.now.levels }
+        requires limits { self.old.limits ≡ cluster.now.limits }
+        ensures continues { Continues self.old self.new }
+        ensures seen { OnOk result (HasSeenServers self.new caller.new (2 ^ cluster.now.levels - 1)) }
+        ensures fault { IfErr result (λ fault. (part : Part) × (more : Entries) × IsPullFault self.new part more (seen_of caller.new part) fault) }
+        ensures told { caller.new.told ≡ caller.old.told }
+        ensures tree { caller.new.levels ≡ caller.old.levels }
+    {
+        for place in 0..cluster.levels().servers() {
+            match self.pull_part(rt, alloc, cluster, caller, Part::Server(place + 1)) {
+                Ok(()) => (),
+                Err(fault) => return Err(fault),
+            }
+        }
+        Ok(())
+    }
+
+    /// Pulls a server, as `pull_part` does.
+    fn pull_server<R: Wait, G: Gate + Drop>(
+        &mut self,
+        rt: &R,
+        alloc: Global,
+        cluster: &Cluster<G>,
+        caller: &mut Caller,
+        number: u64,
+    ) -> Result<(), PullFault>
+        requires caller { caller.old.levels ≡ cluster.now.levels }
+        requires levels { self.old.levels ≡ cluster.now.levels }
+        requires part { IsServer cluster.now.levels number }
+        ensures grown { OnOk result ((more : Entries) × (self.new ≡ grown self.old (Part.Server number) more)) }
+        ensures seen { OnOk result (seen_of caller.new (Part.Server number) ≤ prefix_length self.new (Part.Server number)) }
+        ensures err { OnErr result (self.new ≡ self.old) }
+        ensures fault { IfErr result (λ fault. (more : Entries) × IsPullFault self.old (Part.Server number) more (seen_of caller.new (Part.Server number)) fault) }
+        ensures caller { (seen : ℕ) × (seen_of caller.old (Part.Server number) ≤ seen) × (caller.new ≡ having_seen caller.old (Part.Server number) seen) }
+    {
+        let place = (number - 1) as usize;
+        let known = self.prefixes.server(number).len() as u64;
+        let pass = &mut caller.servers[place];
+        let entries = cluster.servers[place].since(rt, alloc, pass, known)?;
+        let seen = pass.seen();
+        self.prefixes.take_server(alloc, number, entries, seen)
+    }
+
+    /// Pulls the desk, as `pull_part` does.
+    fn pull_desk<R: Wait, G: Gate + Drop>(
+        &mut self,
+        rt: &R,
+        alloc: Global,
+        cluster: &Cluster<G>,
+        caller: &mut Caller,
+    ) -> Result<(), PullFault>
+        ensures grown { OnOk result ((more : Entries) × (self.new ≡ grown self.old Part.Desk more)) }
+        ensures seen { OnOk result (seen_of caller.new Part.Desk ≤ prefix_length self.new Part.Desk) }
+        ensures err { OnErr result (self.new ≡ self.old) }
+        ensures fault { IfErr result (λ fault. (more : Entries) × IsPullFault self.old Part.Desk more (seen_of caller.new Part.Desk) fault) }
+        ensures caller { (seen : ℕ) × (seen_of caller.old Part.Desk ≤ seen) × (caller.new ≡ having_seen caller.old Part.Desk seen) }
+    {
+        let known = self.prefixes.desk().len() as u64;
+        let entries = cluster.desk.since(rt, alloc, &mut caller.desk, known)?;
+        let seen = caller.desk.seen();
+        self.prefixes.take_desk(alloc, entries, seen)
+    }
+
+    /// Pulls the view, as `pull_part` does.
+    fn pull_view<R: Wait, G: Gate + Drop>(
+        &mut self,
+        rt: &R,
+        alloc: Global,
+        cluster: &Cluster<G>,
+        caller: &mut Caller,
+    ) -> Result<(), PullFault>
+        ensures grown { OnOk result ((more : Entries) × (self.new ≡ grown self.old Part.View more)) }
+        ensures seen { OnOk result (seen_of caller.new Part.View ≤ prefix_length self.new Part.View) }
+        ensures err { OnErr result (self.new ≡ self.old) }
+        ensures fault { IfErr result (λ fault. (more : Entries) × IsPullFault self.old Part.View more (seen_of caller.new Part.View) fault) }
+        ensures caller { (seen : ℕ) × (seen_of caller.old Part.View ≤ seen) × (caller.new ≡ having_seen caller.old Part.View seen) }
+    {
+        let known = self.prefixes.view().len() as u64;
+        let entries = cluster.view.since(rt, alloc, &mut caller.view, known)?;
+        let seen = caller.view.seen();
+        self.prefixes.take_view(alloc, entries, seen)
+    }
+}

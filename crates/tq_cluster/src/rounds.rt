@@ -1,0 +1,126 @@
+ghost use Rattle.std.specs.Prelude.{◌≡◌, ◌≤◌, ◌+◌, ℕ, [], ◌∷◌, ◌++◌, List, false, vec_len, vec_capacity};
+ghost use Rattle.crossbeam_channel.specs.Claims.{view};
+ghost use Rattle.crossbeam_channel.specs.Ends.{sends_on};
+ghost use Rattle.tq_cluster.specs.declared.workers.Message.{Message};
+ghost use Rattle.tq_cluster.specs.Told.{CallerView};
+ghost use Rattle.tq_cluster.specs.Backwards.{WorkBackwards};
+
+use crate::caller::Caller;
+use crate::cluster::Cluster;
+use crate::live_board::LiveBoard;
+use crate::workers::{Message, Team};
+use std::alloc::Global;
+use std::sync::Wait;
+use tq_cells::Gate;
+use tq_prefixes::PullFault;
+use tq_queue::Putter;
+use tq_refresh::{Job, plan};
+
+/// Puts the jobs, in their order.
+fn put_jobs<R: Wait>(rt: &R, putter: &mut Putter<Message>, jobs: &[Job])
+    ensures channel { sends_on putter.new.sender ≡ sends_on putter.old.sender }
+    ensures parts { (view putter.new.pass).parts ≡ (view putter.old.pass).parts }
+    ensures taken { (view putter.new.pass).taken ≡ (view putter.old.pass).taken }
+{
+    for job in jobs {
+        putter.put(rt, Message::Job(*job));
+    }
+}
+
+/// Puts so many stops: one for each worker.
+pub(crate) fn stop<R: Wait>(rt: &R, putter: &mut Putter<Message>, workers: u32)
+    ensures channel { sends_on putter.new.sender ≡ sends_on putter.old.sender }
+    ensures parts { (view putter.new.pass).parts ≡ (view putter.old.pass).parts }
+    ensures taken { (view putter.new.pass).taken ≡ (view putter.old.pass).taken }
+{
+    for _ in 0..workers {
+        putter.put(rt, Message::Stop);
+    }
+}
+
+/// One round: pulls the board, plans, and puts the jobs where there are workers. Entries that do not continue the board
+/// give none. Whether memory was refused: then the round is given up.
+fn run_round<R: Wait, G: Gate + Drop>(
+    rt: &R,
+    alloc: Global,
+    cluster: &Cluster<G>,
+    workers: u32,
+    board: &mut LiveBoard,
+    caller: &mut Caller,
+    putter: &mut Putter<Message>,
+) -> bool
+    requires caller { caller.old.levels ≡ cluster.now.levels }
+    requires levels { board.old.levels ≡ cluster.now.levels }
+    requires limits { board.old.limits ≡ cluster.now.limits }
+    ensures told { caller.new.told ≡ caller.old.told }
+    ensures tree { caller.new.levels ≡ caller.old.levels }
+    ensures levels { board.new.levels ≡ board.old.levels }
+    ensures limits { board.new.limits ≡ board.old.limits }
+    ensures channel { sends_on putter.new.sender ≡ sends_on putter.old.sender }
+    ensures parts { (view putter.new.pass).parts ≡ (view putter.old.pass).parts }
+    ensures taken { (view putter.new.pass).taken ≡ (view putter.old.pass).taken }
+{
+    match board.pull(rt, alloc, cluster, caller) {
+        Ok(()) => {}
+        Err(PullFault::Memory) => return true,
+        Err(
+            PullFault::Foreign {
+                part: _,
+                entries: _,
+            },
+        ) => return false,
+    }
+    let tables = board.tables();
+    let Ok(jobs) = plan(alloc, tables, tables.view()) else {
+        return true;
+    };
+    if workers > 0 {
+        put_jobs(rt, putter, jobs.as_slice());
+    }
+    false
+}
+
+/// Pulls the board so often as the team says, by a caller of its own, and puts the jobs of each round; then it puts a
+/// stop for each worker. Its caller is put behind those that are there. Whether memory was refused.
+pub(crate) fn run_rounds<R: Wait, G: Gate + Drop>(
+    rt: &R,
+    alloc: Global,
+    cluster: &Cluster<G>,
+    team: Team,
+    putter: &mut Putter<Message>,
+    callers: &mut Vec<Caller>,
+) -> bool
+    requires room { vec_len callers.old + 1 ≤ vec_capacity callers.old }
+    ensures ran { result ≡ false → (more : List CallerView) × (taken : List (ℕ × Message)) × (callers.new.items ≡ callers.old.items ++ more) × ((view putter.new.pass).taken ≡ (view putter.old.pass).taken ++ taken) × WorkBackwards cluster.now.levels 0 taken more }
+    ensures channel { sends_on putter.new.sender ≡ sends_on putter.old.sender }
+    ensures parts { (view putter.new.pass).parts ≡ (view putter.old.pass).parts }
+    ensures len { vec_len callers.new ≤ vec_len callers.old + 1 }
+    ensures room { vec_capacity callers.new ≡ vec_capacity callers.old }
+{
+    let Ok(mut caller) = cluster.caller(alloc) else {
+        stop(rt, putter, team.workers);
+        return true;
+    };
+    let Ok(mut board) = LiveBoard::new(alloc, cluster.levels(), cluster.limits()) else {
+        stop(rt, putter, team.workers);
+        callers.push_reserved(caller);
+        return true;
+    };
+    let mut memory = false;
+    for _ in 0..team.rounds {
+        if run_round(
+            rt,
+            alloc,
+            cluster,
+            team.workers,
+            &mut board,
+            &mut caller,
+            putter,
+        ) {
+            memory = true;
+        }
+    }
+    stop(rt, putter, team.workers);
+    callers.push_reserved(caller);
+    memory
+}

@@ -1,0 +1,168 @@
+ghost use Rattle.std.specs.Prelude.{◌≡◌, ◌<◌, ◌≤◌, ◌+◌, ◌-◌, ℕ, [], ◌∷◌, ◌++◌, List, false, IfSome, IfNone, vec_len, vec_capacity};
+ghost use Rattle.crossbeam_channel.specs.Claims.{view};
+ghost use Rattle.crossbeam_channel.specs.Ends.{sends_on, receives_on};
+ghost use Rattle.tq_cluster.specs.declared.workers.Message.{Message};
+ghost use Rattle.tq_cluster.specs.Told.{CallerView};
+ghost use Rattle.tq_cluster.specs.Backwards.{jobs_in, Works, WorkBackwards};
+
+use crate::asking::Asking;
+use crate::caller::Caller;
+use crate::cluster::Cluster;
+use crate::rounds::{run_rounds, stop};
+use std::alloc::Global;
+use std::snapshot::Snapshot;
+use std::sync::Wait;
+use std::thread::{Promise, Scope, Threads};
+use tq_cells::Gate;
+use tq_queue::{Putter, Taker};
+use tq_refresh::Job;
+use tq_shape::Levels;
+use tq_worker::refresh;
+
+/// What lies in the queue of jobs.
+#[derive(Drop)]
+pub(crate) enum Message {
+    Job(Job),
+    Stop,
+}
+
+/// How many workers refresh, and how often the board is pulled for them.
+#[derive(Clone, Copy)]
+pub(crate) struct Team {
+    pub(crate) workers: u32,
+    pub(crate) rounds: u32,
+}
+
+/// A worker's end: its caller, its end of the queue, and whether it met want of memory.
+#[derive(Drop)]
+pub(crate) struct Worked {
+    pub(crate) caller: Caller,
+    pub(crate) taker: Taker<Message>,
+    pub(crate) memory: bool,
+}
+
+/// The job that is next in the queue; none at a stop.
+fn next_job<R: Wait>(rt: &R, taker: &mut Taker<Message>) -> Option<Job>
+    ensures channel { receives_on taker.new.receiver ≡ receives_on taker.old.receiver }
+    ensures job { IfSome result (λ job. jobs_in (view taker.new.pass).taken ≡ jobs_in (view taker.old.pass).taken ++ job ∷ []) }
+    ensures stop { IfNone result (jobs_in (view taker.new.pass).taken ≡ jobs_in (view taker.old.pass).taken) }
+{
+    match taker.take(rt) {
+        Some(Message::Job(job)) => Some(job),
+        Some(Message::Stop) => None,
+        None => None,
+    }
+}
+
+/// Does the jobs of the queue until it is stopped, by a caller that was told nothing yet. A job that meets want of
+/// memory is given up.
+fn work<R: Wait, G: Gate + Drop>(
+    rt: &R,
+    alloc: Global,
+    cluster: &Cluster<G>,
+    caller: Caller,
+    mut taker: Taker<Message>,
+) -> Worked
+    requires tree { caller.levels ≡ cluster.now.levels }
+    requires fresh { caller.told ≡ [] }
+    requires idle { (view taker.pass).taken ≡ [] }
+    ensures told { result.memory ≡ false → Works cluster.now.levels (view result.taker.pass).taken result.caller }
+    ensures channel { receives_on result.taker.receiver ≡ receives_on taker.receiver }
+{
+    let levels = cluster.levels();
+    let mut asking = Asking::new(rt, cluster, caller);
+    let mut memory = false;
+    for _ in rt.forever() {
+        let Some(job) = next_job(rt, &mut taker) else {
+            break;
+        };
+        if refresh(&mut asking, alloc, levels, &job) {
+            memory = true;
+        }
+    }
+    Worked {
+        caller: asking.into_caller(),
+        taker,
+        memory,
+    }
+}
+
+/// The worker's caller was told what the jobs ask that it took, unless memory ran out, and its end is one of the same
+/// queue.
+#[derive(Drop)]
+pub(crate) struct Refreshed(Levels, Snapshot<Taker<Message>>);
+
+impl Promise<Worked> for Refreshed {
+    ghost kept_by = { λ p r. (r.memory ≡ false → Works p.0 (view r.taker.pass).taken r.caller) × (receives_on r.taker.receiver ≡ receives_on p.1.value.receiver) };
+}
+
+/// Starts the workers that are not started yet, pulls the board and puts the jobs for all of them, and joins them. Their
+/// callers are put behind those that are there, the calling thread's first, and then the last worker's. Where a caller,
+/// an end of the queue or a thread is refused, those that were started are stopped and come back, and no jobs are put.
+/// Whether memory was refused.
+pub(crate) fn run_workers<'s, 'e: 's, R: Threads + Wait + Sync, G: Gate + Drop + Sync>(
+    scope: &'s Scope<'s, &'e ()>,
+    rt: &'e R,
+    alloc: Global,
+    cluster: &'e Cluster<G>,
+    team: Team,
+    started: u32,
+    putter: &mut Putter<Message>,
+    callers: &mut Vec<Caller>,
+) -> bool
+    requires started { started ≤ team.workers }
+    requires parts { team.workers - started < (view putter.old.pass).parts }
+    requires room { vec_len callers.old + (team.workers - started) + 1 ≤ vec_capacity callers.old }
+    ensures ran { result ≡ false → (more : List CallerView) × (taken : List (ℕ × Message)) × (callers.new.items ≡ callers.old.items ++ more) × ((view putter.new.pass).taken ≡ (view putter.old.pass).taken ++ taken) × WorkBackwards cluster.now.levels (team.workers - started) taken more }
+    ensures channel { sends_on putter.new.sender ≡ sends_on putter.old.sender }
+    ensures parts { result ≡ false → (view putter.new.pass).parts ≡ (view putter.old.pass).parts }
+    ensures some_part { 0 < (view putter.new.pass).parts }
+    ensures len { vec_len callers.new ≤ vec_len callers.old + (team.workers - started) + 1 }
+    ensures room { vec_capacity callers.new ≡ vec_capacity callers.old }
+{
+    if started == team.workers {
+        return run_rounds(rt, alloc, cluster, team, putter, callers);
+    }
+    let Ok(caller) = cluster.caller(alloc) else {
+        stop(rt, putter, started);
+        return true;
+    };
+    let Ok(taker) = putter.taker() else {
+        stop(rt, putter, started);
+        return true;
+    };
+    let child = scope.spawn_with(
+        Refreshed(cluster.levels(), Snapshot::of(&taker)),
+        move || -> Worked
+            requires { (caller.levels ≡ cluster.now.levels) × (caller.told ≡ []) × ((view taker.pass).taken ≡ []) }
+            ensures { (result.memory ≡ false → Works cluster.entry.now.levels (view result.taker.pass).taken result.caller) × (receives_on result.taker.receiver ≡ receives_on taker.receiver) }
+        { work(rt, alloc, cluster, caller, taker) },
+    );
+    match child {
+        Ok(child) => {
+            let memory = run_workers(
+                scope,
+                rt,
+                alloc,
+                cluster,
+                team,
+                started + 1,
+                putter,
+                callers,
+            );
+            let Worked {
+                caller,
+                taker,
+                memory: mine,
+            } = child.join(rt);
+            putter.rejoin(taker);
+            callers.push_reserved(caller);
+            memory || mine
+        }
+        Err(refused) => {
+            drop(refused);
+            stop(rt, putter, started);
+            true
+        }
+    }
+}

@@ -1,0 +1,10 @@
+use Rattle.std.proofs.Common.{take}
+use Rattle.tq_receipts.specs.Names.{AreDifferent}
+use Rattle.tq_receipts.proofs.Marked.{KeepsMarks}
+use Rattle.tq_receipts.proofs.claimed.claim.Given as goal
+
+abbrev pub invariant-loop-name : goal.invariant-loop-name
+invariant-loop-name l = record {
+  keeps : KeepsMarks l.counts l.marks.items (take l.name-index l.names);
+  different : AreDifferent (take l.name-index l.names);
+}

@@ -1,0 +1,10 @@
+use Rattle.std.proofs.Common.{◌≡◌, ◌≤◌, ◌*◌, take}
+use Rattle.std.specs.Prelude.{not, count_by}
+use Rattle.std.specs.List.{sum_by}
+use Rattle.tq_receipts.proofs.marks.unnamed_in.Given as goal
+
+abbrev pub invariant-loop-named : goal.invariant-loop-named
+invariant-loop-named l = record {
+  sum : l.unnamed ≡ sum_by (count_by not) (take l.named-index l.marks);
+  within : l.unnamed ≤ 1000000 * l.named-index;
+}

@@ -1,0 +1,79 @@
+ghost use Rattle.std.specs.Prelude.{◌≡◌, ◌++◌, OnOk, string_bytes};
+ghost use Rattle.tq_rendered.specs.Board.{as_line, file_text, intent_text, least_text, lock_text, server_text};
+
+use crate::word::{mark_word, push_quorum, push_set, push_writes, state_word};
+use tq_live::{Least, LiveTree};
+use tq_shape::{Memory, ServerId};
+use tq_tables::{FileRow, IntentRow, LockRow};
+
+/// Puts the line of a server of the tree behind the text, with the least quorum of its subtree.
+pub fn push_server(
+    text: &mut String,
+    tree: &LiveTree,
+    server: ServerId,
+    least: &Option<Least>,
+) -> Result<(), Memory>
+    requires { server.levels ≡ tree.now.levels }
+    ensures { OnOk result (string_bytes text.new ≡ string_bytes text.old ++ as_line (server_text tree.now least.now server.number)) }
+{
+    let cost = tree.cost(server);
+    let mark = mark_word(tree.is_up(server));
+    write!(text, "server {} cost {cost} {mark} least ", server.number())?;
+    push_least(text, least)?;
+    text.push_str("\n")
+}
+
+/// Puts the cost and the servers of a least quorum behind the text, or `none` where there is none.
+fn push_least(text: &mut String, least: &Option<Least>) -> Result<(), Memory>
+    ensures { OnOk result (string_bytes text.new ≡ string_bytes text.old ++ least_text least.now) }
+{
+    match least {
+        None => text.push_str("none"),
+        Some(least) => {
+            write!(text, "{} by", least.cost)?;
+            push_quorum(text, least.servers.as_slice())
+        }
+    }
+}
+
+/// Puts the line of a file behind the text.
+pub fn push_file(text: &mut String, row: &FileRow) -> Result<(), Memory>
+    ensures { OnOk result (string_bytes text.new ≡ string_bytes text.old ++ as_line (file_text row.now)) }
+{
+    write!(text, "file {} version {} current", row.file, row.version)?;
+    push_set(text, &row.current)?;
+    text.push_str(" stale")?;
+    push_set(text, &row.stale)?;
+    text.push_str("\n")
+}
+
+/// Puts the line of a lock behind the text.
+pub fn push_lock(text: &mut String, row: &LockRow) -> Result<(), Memory>
+    ensures { OnOk result (string_bytes text.new ≡ string_bytes text.old ++ as_line (lock_text row.now)) }
+{
+    let mode = row.mode.word();
+    write!(
+        text,
+        "lock {} {} {} {mode}",
+        row.server.number(),
+        row.file,
+        row.txn
+    )?;
+    writeln!(text, " since {} version {}", row.since, row.version)
+}
+
+/// Puts the line of an open intention behind the text.
+pub fn push_intent(text: &mut String, row: &IntentRow) -> Result<(), Memory>
+    ensures { OnOk result (string_bytes text.new ≡ string_bytes text.old ++ as_line (intent_text row.now)) }
+{
+    let state = state_word(row.state);
+    write!(
+        text,
+        "intent {} {} number {} {state}",
+        row.server.number(),
+        row.txn,
+        row.number
+    )?;
+    push_writes(text, row.writes.as_slice())?;
+    text.push_str("\n")
+}

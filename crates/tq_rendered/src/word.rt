@@ -1,0 +1,65 @@
+ghost use Rattle.std.specs.Prelude.{◌≡◌, ◌++◌, OnOk, map, string_bytes};
+ghost use Rattle.tq_coterie.specs.Coterie.{numbers_of};
+ghost use Rattle.tq_rendered.specs.Board.{listed, mark_text, servers_text, state_text, write_text};
+
+use tq_shape::{Memory, ServerId, ServerSet};
+use tq_tables::{FileVersion, IntentState};
+
+/// The word for a mark.
+pub(crate) fn mark_word(up: bool) -> &'static str
+    ensures { result.now ≡ mark_text up }
+{
+    if up { "up" } else { "down" }
+}
+
+/// The word for what the desk's log says of an open vote.
+pub(crate) fn state_word(state: IntentState) -> &'static str
+    ensures { result.now ≡ state_text state }
+{
+    match state {
+        IntentState::Unknown => "unknown",
+        IntentState::Undecided => "undecided",
+        IntentState::Abort => "abort",
+        IntentState::Install => "install",
+        IntentState::Discard => "discard",
+    }
+}
+
+/// Puts the numbers of a set's servers behind the text, each after a space, or `-` where there is none.
+pub(crate) fn push_set(text: &mut String, servers: &ServerSet) -> Result<(), Memory>
+    ensures { OnOk result (string_bytes text.new ≡ string_bytes text.old ++ servers_text servers.now.numbers) }
+{
+    if servers.is_empty() {
+        return text.push_str(" -");
+    }
+    for server in servers.iter() {
+        write!(text, " {}", server.number())?;
+    }
+    Ok(())
+}
+
+/// Puts the numbers of a quorum's servers behind the text, each after a space, or `-` where there is none.
+pub(crate) fn push_quorum(text: &mut String, quorum: &[ServerId]) -> Result<(), Memory>
+    ensures { OnOk result (string_bytes text.new ≡ string_bytes text.old ++ servers_text (numbers_of quorum.now)) }
+{
+    if quorum.is_empty() {
+        return text.push_str(" -");
+    }
+    for server in quorum {
+        write!(text, " {}", server.number())?;
+    }
+    Ok(())
+}
+
+/// Puts the files of writes with their versions behind the text, each after a space, or `-` where there is none.
+pub(crate) fn push_writes(text: &mut String, writes: &[FileVersion]) -> Result<(), Memory>
+    ensures { OnOk result (string_bytes text.new ≡ string_bytes text.old ++ listed (map write_text writes.now)) }
+{
+    if writes.is_empty() {
+        return text.push_str(" -");
+    }
+    for write in writes {
+        write!(text, " {}:{}", write.file, write.version)?;
+    }
+    Ok(())
+}

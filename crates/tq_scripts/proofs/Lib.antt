@@ -1,0 +1,3 @@
+mod GatheringLaws
+mod ByteLaws
+mod ReadLaws

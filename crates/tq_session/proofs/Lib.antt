@@ -1,0 +1,5 @@
+mod StreamLaws
+mod Pieces
+mod RunLaws
+mod Answering
+mod Sayings

@@ -1,0 +1,159 @@
+-- How a run goes on, and what it has written where it ends.
+use Rattle.std.proofs.Common.{◌≡◌, ℕ, ◌+◌, ◌-◌, ◌<◌, ◌≤◌, List, [], ◌++◌, Option, Result, Ok, Err, length, drop, take, refl, sym, ap, subst, ◌∙◌, arith, append_assoc, length-append}
+use Rattle.std.proofs.lemmas.List.{length-take-le, length-drop, take-append-drop}
+use Rattle.std.proofs.Math.Seq.{take-add, take-append_seam}
+use Rattle.std.specs.Io.KnownBytes.{Appends, Keeps}
+use Rattle.tq_session.specs.Text.{text_of, whole_text}
+use Rattle.tq_session.specs.Stream.{Received, nothing_received, received_all, answers_to, answer_to_last}
+use Rattle.std.specs.Result.{IsErrAnd}
+use Rattle.tq_devices.specs.Faults.{IsWritten}
+use Rattle.tq_session.specs.Run.{IsRunText, IsGoing}
+use Rattle.tq_devices.specs.declared.fault.RunFault.{RunFault}
+use Rattle.tq_devices.specs.declared.fault.RunFault.TheVariants.{Memory, Read, Write, TooLong}
+use Rattle.tq_session.proofs.StreamLaws.{received_all-append, answers_to-append, whole_text-answers, text_of-answers}
+use Rattle.tq_devices.proofs.Written.{Appends-kept, Appends-none, Appends-then}
+
+-- the clause of a run
+abbrev pub HasRun : {T : Type 0} → Result T RunFault → ℕ → Option (List ℕ) → Option (List ℕ) → Option (List ℕ) → Option (List ℕ) → Type 0
+HasRun result levels given given_after taken taken_after =
+    (bytes : List ℕ) × (text : List ℕ) × Appends given given_after bytes × Appends taken taken_after text × IsRunText result levels bytes text
+
+pub going_starts : (levels : ℕ) (given taken : Option (List ℕ)) → IsGoing levels given given taken taken (nothing_received levels) 16777216
+going_starts levels given taken = record {
+  bytes = [];
+  read = Appends-none given;
+  wrote = Appends-none taken;
+  received_is = refl;
+  room = omega arith;
+}
+
+pub ends_before : (levels : ℕ) (given taken : Option (List ℕ)) → HasRun {T = Unit {0}} (Err Memory) levels given given taken taken
+ends_before levels given taken = ([], [], Appends-none given, Appends-none taken, (0, refl))
+
+-- a result that is this fault
+pub by_fault : (result : Result (Unit {0}) RunFault) (fault : RunFault) (levels : ℕ) (given given_after taken taken_after : Option (List ℕ)) → IsErrAnd result (λ e. e ≡ fault) → HasRun {T = Unit {0}} (Err fault) levels given given_after taken taken_after → HasRun result levels given given_after taken taken_after
+by_fault (Ok done) fault levels given given_after taken taken_after is has = absurd is
+by_fault (Err e) fault levels given given_after taken taken_after is has = rw is has
+
+-- a front of what was read, and what is behind it
+pub piece_splits : (within count : ℕ) (buffer : List ℕ) → within ≤ count → take count buffer ≡ take within buffer ++ take (count - within) (drop within buffer)
+piece_splits within count buffer few =
+    let all : count ≡ within + (count - within) = omega arith in
+    ap (λ n. take n buffer) all ∙ take-add within (count - within) buffer
+
+pub behind_some : (within count : ℕ) (buffer : List ℕ) → within < count → count ≤ length buffer → 0 < length (take (count - within) (drop within buffer))
+behind_some within count buffer few all =
+    let dropped = length-drop within buffer in
+    let taken = length-take-le (count - within) (drop within buffer) (omega (arith, dropped)) in
+    omega (arith, taken)
+
+module _ (levels : ℕ) (given given_now taken taken_now : Option (List ℕ)) (received : Received) (left : ℕ) (going : IsGoing levels given given_now taken taken_now received left) where
+  pub ends_read : (given_after : Option (List ℕ)) → Keeps given_now given_after → HasRun {T = Unit {0}} (Err Read) levels given given_after taken taken_now
+  ends_read given_after kept =
+      (going.bytes, answers_to (nothing_received levels) going.bytes, Appends-kept given given_now given_after going.bytes going.read kept, going.wrote, whole_text-answers levels going.bytes)
+
+  pub ends_memory : (given_after : Option (List ℕ)) (piece : List ℕ) → Appends given_now given_after piece → HasRun {T = Unit {0}} (Err Memory) levels given given_after taken taken_now
+  ends_memory given_after piece read =
+      let front : take (length going.bytes) (going.bytes ++ piece) ≡ going.bytes = take-append_seam going.bytes piece in (
+        going.bytes ++ piece,
+        answers_to (nothing_received levels) going.bytes,
+        Appends-then given given_now given_after going.bytes piece going.read read,
+        going.wrote,
+        (length going.bytes, whole_text-answers levels going.bytes ∙ ap (whole_text levels) (sym front)),
+      )
+
+  -- the text of more bytes begins with that of the bytes so far
+  text_goes_on : (more : List ℕ) → answers_to (nothing_received levels) going.bytes ++ (answers_to received more ++ answer_to_last (received_all received more)) ≡ text_of levels (going.bytes ++ more)
+  text_goes_on more =
+      let start = nothing_received levels in
+      let bytes = going.bytes in
+      let said : answers_to start (bytes ++ more) ≡ answers_to start bytes ++ answers_to received more = answers_to-append start bytes more ∙ ap (λ h. answers_to start bytes ++ answers_to h more) (sym going.received_is) in
+      let after : received_all start (bytes ++ more) ≡ received_all received more = received_all-append start bytes more ∙ ap (λ h. received_all h more) (sym going.received_is) in
+      sym (append_assoc (answers_to start bytes) (answers_to received more) (answer_to_last (received_all received more)))
+      ∙ ap (λ text. text ++ answer_to_last (received_all received more)) (sym said) ∙ ap (λ h. answers_to start (bytes ++ more) ++ answer_to_last h) (sym after) ∙ text_of-answers levels (bytes ++ more)
+
+  few_bytes : length (going.bytes ++ []) ≤ 16777216
+  few_bytes = let count = length-append going.bytes [] in omega (arith, count, going.room)
+
+  pub ends_well : (given_after taken_after : Option (List ℕ)) (text : List ℕ) → Appends given_now given_after [] → text ≡ answer_to_last received → Appends taken_now taken_after text → HasRun {T = Unit {0}} (Ok tt) levels given given_after taken taken_after
+  ends_well given_after taken_after text read is wrote = (
+    going.bytes ++ [],
+    answers_to (nothing_received levels) going.bytes ++ text,
+    Appends-then given given_now given_after going.bytes [] going.read read,
+    Appends-then taken taken_now taken_after (answers_to (nothing_received levels) going.bytes) text going.wrote wrote,
+    (few_bytes, ap (λ last. answers_to (nothing_received levels) going.bytes ++ last) is ∙ text_goes_on []),
+  )
+
+  pub ends_last_write : (given_after taken_after : Option (List ℕ)) (text : List ℕ) (count : ℕ) → Appends given_now given_after [] → text ≡ answer_to_last received → Appends taken_now taken_after (take count text) → HasRun {T = Unit {0}} (Err Write) levels given given_after taken taken_after
+  ends_last_write given_after taken_after text count read is wrote =
+      let said = answers_to (nothing_received levels) going.bytes in (
+        going.bytes ++ [],
+        said ++ take count text,
+        Appends-then given given_now given_after going.bytes [] going.read read,
+        Appends-then taken taken_now taken_after said (take count text) going.wrote wrote,
+        (drop count text, append_assoc said (take count text) (drop count text) ∙ ap (λ last. said ++ last) (take-append-drop count text ∙ is) ∙ text_goes_on []),
+      )
+
+  pub ends_last : (result : Result (Unit {0}) RunFault) (given_after taken_after : Option (List ℕ)) (text : List ℕ) (failed failed_after : ℕ) → Appends given_now given_after [] → text ≡ answer_to_last received → IsWritten result text taken_now taken_after failed failed_after → HasRun result levels given given_after taken taken_after
+  ends_last (Ok done) given_after taken_after text failed failed_after read is written = ends_well given_after taken_after text read is written.0
+  ends_last (Err Write) given_after taken_after text failed failed_after read is written = ends_last_write given_after taken_after text written.0 read is written.1
+  ends_last (Err Memory) given_after taken_after text failed failed_after read is written = absurd written
+  ends_last (Err Read) given_after taken_after text failed failed_after read is written = absurd written
+  ends_last (Err TooLong) given_after taken_after text failed failed_after read is written = absurd written
+
+  pub ends_write : (given_after taken_after : Option (List ℕ)) (front behind text : List ℕ) (count : ℕ) → Appends given_now given_after (front ++ behind) → text ≡ answers_to received front → Appends taken_now taken_after (take count text) → HasRun {T = Unit {0}} (Err Write) levels given given_after taken taken_after
+  ends_write given_after taken_after front behind text count read is wrote =
+      let said = answers_to (nothing_received levels) going.bytes in
+      let last = answer_to_last (received_all received (front ++ behind)) in
+      let later = answers_to (received_all received front) behind in
+      let split : answers_to received (front ++ behind) ≡ text ++ later = answers_to-append received front behind ∙ ap (λ first. first ++ later) (sym is) in
+      let parts : take count text ++ (drop count text ++ (later ++ last)) ≡ answers_to received (front ++ behind) ++ last =
+      sym (append_assoc (take count text) (drop count text) (later ++ last)) ∙ ap (λ first. first ++ (later ++ last)) (take-append-drop count text)
+      ∙ sym (append_assoc text later last) ∙ ap (λ first. first ++ last) (sym split) in (
+        going.bytes ++ (front ++ behind),
+        said ++ take count text,
+        Appends-then given given_now given_after going.bytes (front ++ behind) going.read read,
+        Appends-then taken taken_now taken_after said (take count text) going.wrote wrote,
+        (drop count text ++ (later ++ last), append_assoc said (take count text) (drop count text ++ (later ++ last)) ∙ ap (λ rest. said ++ rest) parts ∙ text_goes_on (front ++ behind)),
+      )
+
+  pub ends_piece : (fault : RunFault) (given_after taken_after : Option (List ℕ)) (front behind text : List ℕ) (failed failed_after : ℕ) → Appends given_now given_after (front ++ behind) → text ≡ answers_to received front → IsWritten {T = Unit {0}} (Err fault) text taken_now taken_after failed failed_after → HasRun {T = Unit {0}} (Err fault) levels given given_after taken taken_after
+  ends_piece Write given_after taken_after front behind text failed failed_after read is written = ends_write given_after taken_after front behind text written.0 read is written.1
+  ends_piece Memory given_after taken_after front behind text failed failed_after read is written = absurd written
+  ends_piece Read given_after taken_after front behind text failed failed_after read is written = absurd written
+  ends_piece TooLong given_after taken_after front behind text failed failed_after read is written = absurd written
+
+  said_on : (front : List ℕ) → answers_to (nothing_received levels) (going.bytes ++ front) ≡ answers_to (nothing_received levels) going.bytes ++ answers_to received front
+  said_on front = answers_to-append (nothing_received levels) going.bytes front ∙ ap (λ h. answers_to (nothing_received levels) going.bytes ++ answers_to h front) (sym going.received_is)
+
+  pub goes_on : (given_after taken_after : Option (List ℕ)) (front text : List ℕ) (received_after : Received) (left_after : ℕ) → Appends given_now given_after front → text ≡ answers_to received front → received_after ≡ received_all received front → Appends taken_now taken_after text → length front + left_after ≡ left → IsGoing levels given given_after taken taken_after received_after left_after
+  goes_on given_after taken_after front text received_after left_after read is after wrote fits =
+      let said = answers_to (nothing_received levels) going.bytes in
+      let count = length-append going.bytes front in
+      let P : List ℕ → Type 0 = λ all. Appends taken taken_after all in
+      record {
+        bytes = going.bytes ++ front;
+        read = Appends-then given given_now given_after going.bytes front going.read read;
+        wrote = subst P (ap (λ more. said ++ more) is ∙ sym (said_on front)) (Appends-then taken taken_now taken_after said text going.wrote wrote);
+        received_is = after ∙ ap (λ h. received_all h front) going.received_is ∙ sym (received_all-append (nothing_received levels) going.bytes front);
+        room = omega (arith, count, going.room, fits);
+      }
+
+  pub ends_too_long : (given_after taken_after : Option (List ℕ)) (front behind text : List ℕ) → Appends given_now given_after (front ++ behind) → text ≡ answers_to received front → Appends taken_now taken_after text → length front ≡ left → 0 < length behind → HasRun {T = Unit {0}} (Err TooLong) levels given given_after taken taken_after
+  ends_too_long given_after taken_after front behind text read is wrote full more =
+      let said = answers_to (nothing_received levels) going.bytes in
+      let bytes = going.bytes in
+      let one = length-append bytes (front ++ behind) in
+      let two = length-append front behind in
+      let limit : length (bytes ++ front) ≡ 16777216 = length-append bytes front ∙ (omega (arith, going.room, full)) in
+      let begins : take 16777216 (bytes ++ (front ++ behind)) ≡ bytes ++ front =
+      ap (take 16777216) (sym (append_assoc bytes front behind)) ∙ ap (λ n. take n ((bytes ++ front) ++ behind)) (sym limit) ∙ take-append_seam (bytes ++ front) behind in (
+        bytes ++ (front ++ behind),
+        said ++ text,
+        Appends-then given given_now given_after bytes (front ++ behind) going.read read,
+        Appends-then taken taken_now taken_after said text going.wrote wrote,
+        (
+          omega (arith, one, two, going.room, full, more),
+          ap (λ last. said ++ last) is ∙ sym (said_on front) ∙ whole_text-answers levels (bytes ++ front) ∙ ap (whole_text levels) (sym begins),
+        ),
+      )

@@ -1,0 +1,52 @@
+-- Bytes that come in pieces: a machine that goes from byte to byte and keeps one line.
+use Rattle.std.specs.Prelude.{ℕ, ◌==◌, cond, List, [], ◌∷◌, ◌++◌, take}
+use Rattle.tq_session.specs.declared.receiver.TheConstants.{KEPT}
+use Rattle.tq_lines.specs.Line.{line_of}
+use Rattle.tq_session.specs.Answer.{World, Answer, opening, answer}
+use Rattle.tq_lines.specs.Word.{without_return}
+
+-- what was received: the world after the whole lines, and what is kept of the line that goes on
+pub record Received : Type 0 where
+  pub world : World
+  pub line : List ℕ
+
+abbrev pub nothing_received : ℕ → Received
+nothing_received levels = record { world = opening levels; line = [] }
+
+-- of a line no more bytes are kept than show that it is too long, also if one of them is a carriage return
+abbrev pub kept : List ℕ → List ℕ → List ℕ
+kept line bytes = take KEPT (line ++ bytes)
+
+-- the line that goes on, with these bytes more
+abbrev pub grown : Received → List ℕ → Received
+grown received bytes = record { world = received.world; line = kept received.line bytes }
+
+abbrev pub line_answer : World → List ℕ → Answer
+line_answer world line = answer world (line_of (without_return line))
+
+abbrev pub received_byte : Received → ℕ → Received
+received_byte received byte =
+    cond (byte == 10)
+    (record { world = (line_answer received.world received.line).after; line = [] })
+    (grown received (byte ∷ []))
+
+abbrev pub answer_to_byte : Received → ℕ → List ℕ
+answer_to_byte received byte = cond (byte == 10) (line_answer received.world received.line).text []
+
+-- what was received after these bytes
+abbrev pub received_all : Received → List ℕ → Received
+received_all received [] = received
+received_all received (byte ∷ bytes) = received_all (received_byte received byte) bytes
+
+-- the answers to the lines that these bytes end
+abbrev pub answers_to : Received → List ℕ → List ℕ
+answers_to received [] = []
+answers_to received (byte ∷ bytes) = answer_to_byte received byte ++ answers_to (received_byte received byte) bytes
+
+-- the answer to a last line without a line feed
+abbrev pub answer_to_rest : World → List ℕ → List ℕ
+answer_to_rest world [] = []
+answer_to_rest world (byte ∷ bytes) = (answer world (line_of (byte ∷ bytes))).text
+
+abbrev pub answer_to_last : Received → List ℕ
+answer_to_last received = answer_to_rest received.world received.line

@@ -1,0 +1,19 @@
+-- The text that answers the lines of bytes.
+use Rattle.std.specs.Prelude.{ℕ, List, [], ◌∷◌, ◌++◌}
+use Rattle.tq_lines.specs.Line.{line_of}
+use Rattle.tq_lines.specs.Text.{lines_of, whole_lines}
+use Rattle.tq_session.specs.Answer.{World, opening, answer}
+
+-- the answers to lines, one after another
+abbrev pub lines_text : World → List (List ℕ) → List ℕ
+lines_text world [] = []
+lines_text world (line ∷ lines) =
+    let answered = answer world (line_of line) in answered.text ++ lines_text answered.after lines
+
+-- the text of a run over all bytes
+abbrev pub text_of : ℕ → List ℕ → List ℕ
+text_of levels bytes = lines_text (opening levels) (lines_of bytes)
+
+-- the text of the lines that a line feed ends
+abbrev pub whole_text : ℕ → List ℕ → List ℕ
+whole_text levels bytes = lines_text (opening levels) (whole_lines bytes)

@@ -1,0 +1,71 @@
+ghost use Rattle.std.specs.Prelude.{◌≡◌, ◌+◌, ◌-◌, ◌^◌, ◌<◌, ◌≤◌, ◌++◌, ℕ, List, IsTrue, OnOk, OnErr, length, take};
+ghost use Rattle.std.specs.Io.KnownBytes.{Appends};
+ghost use Rattle.tq_devices.specs.Faults.{IsRunCount};
+ghost use Rattle.tq_session.specs.Run.{IsRunText};
+ghost use Rattle.tq_session.specs.Stream.{nothing_received};
+
+use crate::receiver::Receiver;
+use std::alloc::Global;
+use tq_devices::{RunFault, Sink, Source, write_out};
+use tq_shape::Levels;
+
+/// The most bytes that a run takes.
+pub const INPUT_LIMIT: usize = 16_777_216;
+
+/// How many bytes are read at a time.
+const PIECE: usize = 65_536;
+
+/// Answers the lines of the source, and writes the answers to each piece of it before it reads the next.
+pub fn run<R: Source, W: Sink>(
+    alloc: Global,
+    levels: Levels,
+    reader: &mut R,
+    writer: &mut W,
+) -> Result<(), RunFault>
+    requires reads { R.failed reader.old < 2 ^ 64 - 1 }
+    requires writes { W.failed writer.old < 2 ^ 64 - 1 }
+    ensures text { (bytes : List ℕ) × (text : List ℕ) × Appends (R.given reader.old) (R.given reader.new) bytes
+        × Appends (W.taken writer.old) (W.taken writer.new) text × IsRunText result levels bytes text }
+    ensures end { OnOk result (IsTrue (R.is_ended reader.new)) }
+    ensures counts { IsRunCount result (R.failed reader.old) (R.failed reader.new) (W.failed writer.old) (W.failed writer.new) }
+{
+    let mut receiver = Receiver::new(alloc, levels)?;
+    answer_pieces(alloc, levels, &mut receiver, reader, writer)
+}
+
+/// Answers what the source gives, a piece after another, by a receiver that received nothing yet.
+fn answer_pieces<R: Source, W: Sink>(
+    alloc: Global,
+    levels: Levels,
+    receiver: &mut Receiver,
+    reader: &mut R,
+    writer: &mut W,
+) -> Result<(), RunFault>
+    requires new { receiver.old ≡ nothing_received levels }
+    requires reads { R.failed reader.old < 2 ^ 64 - 1 }
+    requires writes { W.failed writer.old < 2 ^ 64 - 1 }
+    ensures text { (bytes : List ℕ) × (text : List ℕ) × Appends (R.given reader.old) (R.given reader.new) bytes
+        × Appends (W.taken writer.old) (W.taken writer.new) text × IsRunText result levels bytes text }
+    ensures end { OnOk result (IsTrue (R.is_ended reader.new)) }
+    ensures counts { IsRunCount result (R.failed reader.old) (R.failed reader.new) (W.failed writer.old) (W.failed writer.new) }
+{
+    let mut buffer = [0; PIECE];
+    let mut text = Vec::new(alloc);
+    let mut left = INPUT_LIMIT;
+    loop {
+        let Ok(count) = reader.read(&mut buffer) else {
+            return Err(RunFault::Read);
+        };
+        if count == 0 {
+            receiver.finish(alloc, &mut text)?;
+            return write_out(writer, text.as_slice());
+        }
+        receiver.receive(alloc, &buffer[..count.min(left)], &mut text)?;
+        write_out(writer, text.as_slice())?;
+        if count > left {
+            return Err(RunFault::TooLong);
+        }
+        text.clear();
+        left -= count;
+    }
+}

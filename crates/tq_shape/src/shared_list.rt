@@ -1,0 +1,105 @@
+ghost use Rattle.std.specs.Prelude.{◌≡◌, [], IfOk, length, ◌↔◌, IsTrue};
+
+use crate::ExactClone;
+use std::alloc::AllocError;
+use std::marker::Model;
+use std::sync::ArcSlice;
+
+/// A list of values that its clones share: a clone is a count, not a copy. Contracts see it as the list alone, as they
+/// see a `Seq`.
+#[derive(Debug, Drop)]
+pub struct SharedSeq<T> {
+    /// None where there is no value.
+    items: Option<ArcSlice<T>>,
+}
+
+impl<T> Model for SharedSeq<T> {
+    ghost use Rattle.std.specs.Prelude.{List, []};
+    ghost use Rattle.std.specs.Coded.{coded_list};
+    ghost use Rattle.std.specs.Arc.{arc_slice_items};
+    ghost use Rattle.std.specs.Option.{option_map_or};
+
+    ghost Value = { List T };
+
+    ghost coded = { coded_list T.code };
+
+    ghost view = { λ a. option_map_or arc_slice_items a.items [] };
+}
+
+impl<T> SharedSeq<T> {
+    /// The list of no value. It takes no memory.
+    pub fn empty() -> Self
+        ensures { result ≡ [] }
+    {
+        SharedSeq { items: None }
+    }
+
+    /// The values, in order.
+    pub fn as_slice(&self) -> &[T]
+        ensures { result.now ≡ self.now }
+    {
+        match &self.items {
+            Some(items) => items.as_slice(),
+            None => &[],
+        }
+    }
+
+    /// How many values there are.
+    pub fn len(&self) -> usize
+        ensures { result ≡ length self.now }
+    {
+        self.as_slice().len()
+    }
+
+    /// Whether there is no value.
+    pub fn is_empty(&self) -> bool
+        ensures { IsTrue result ↔ (self.now ≡ []) }
+    {
+        self.as_slice().is_empty()
+    }
+}
+
+impl<T: Drop> SharedSeq<T> {
+    /// The list that a vector holds.
+    ///
+    /// # Errors
+    ///
+    /// Refuses where there is no memory for what clones will share.
+    pub fn from_vec(items: Vec<T>) -> Result<Self, AllocError>
+        ensures { IfOk result (λ list. list ≡ items.items) }
+    {
+        if items.is_empty() {
+            return Ok(SharedSeq::empty());
+        }
+        let items = Some(ArcSlice::from_vec(items)?);
+        Ok(SharedSeq { items })
+    }
+}
+
+impl<T: Drop> Clone for SharedSeq<T> {
+    ghost use Rattle.std.specs.Prelude.{◌≡◌};
+
+    ghost is_clone = { λ x y. y ≡ x };
+
+    fn clone(&self) -> Result<Self, AllocError> {
+        Ok(SharedSeq {
+            items: self.items.clone()?,
+        })
+    }
+}
+
+impl<T: PartialEq> PartialEq for SharedSeq<T> {
+    ghost use Rattle.std.specs.Cmp.Lexicographic.{lists_per, pointwise};
+
+    ghost eq = { pointwise T.eq };
+
+    ghost laws = { lists_per T.laws };
+
+    fn eq(&self, other: &Self) -> bool {
+        self.as_slice() == other.as_slice()
+    }
+}
+
+impl<T: Drop + PartialEq> ExactClone for SharedSeq<T> {
+    ghost clones = { λ x y h. h };
+}

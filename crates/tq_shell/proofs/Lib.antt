@@ -1,4 +1,0 @@
-mod StreamLaws
-mod Pieces
-mod RunLaws
-mod Answering

@@ -1,0 +1,49 @@
+-- Copies that a server's step leaves.
+use Rattle.std.proofs.Common.{◌≡◌, ℕ, false, List, [], ◌∷◌, map, refl, ap, sym, ◌∙◌}
+use mathlib.Core.Bool.{true≢false}
+use Rattle.tq_store.specs.Copies.{Files, copy_in, copy_of, installed, installed_all}
+use Rattle.tq_store.specs.Names.{same_name}
+use Rattle.tq_store.specs.declared.copies.FileCopy.{FileCopy}
+use Rattle.tq_store.specs.declared.write.Write.{Write}
+use Rattle.tq_store.proofs.Installed.{Installs-installed}
+use Rattle.tq_store.proofs.SameName.{same_name-refl}
+use Rattle.tq_node.specs.Node.{NodeView, answered}
+use Rattle.tq_node.specs.NodeChanges.{node_change, stepped}
+use Rattle.tq_node.specs.NodePlans.{change_leads}
+use Rattle.tq_node.specs.Records.{Records}
+use Rattle.tq_node.specs.declared.ask.NodeAsk.{NodeAsk}
+use Rattle.tq_node.specs.declared.change.NodeStep.{NodeStep}
+use Rattle.tq_node.specs.declared.change.NodeStep.TheVariants as steps
+use Rattle.tq_tables.specs.Files.{files_changed}
+use Rattle.tq_tables.specs.NamesApart.{is_in}
+use Rattle.tq_tables.proofs.Names.{or_false}
+
+other-installed : (files : Files) (name : List ℕ) (copy : FileCopy) (other : List ℕ) → same_name other name ≡ false → copy_of (installed files name copy) other ≡ copy_of files other
+other-installed files name copy other differs =
+    (Installs-installed files name copy).others other (λ same. true≢false (sym (same_name-refl other) ∙ ap (same_name other) same ∙ differs))
+
+other-installed_all : (files : Files) (writes : List Write) (other : List ℕ) → is_in other (map (λ write. write.file) writes) ≡ false → copy_of (installed_all files writes) other ≡ copy_of files other
+other-installed_all files [] other none = refl
+other-installed_all files (write ∷ writes) other none =
+    let both = or_false (same_name other write.file) (is_in other (map (λ w. w.file) writes)) none in
+    other-installed_all (installed files write.file (copy_in write)) writes other both.1
+    ∙ other-installed files write.file (copy_in write) other both.0
+
+step-keeps : (old : Records) (number : ℕ) (step : NodeStep) (file : List ℕ) → is_in file (files_changed step) ≡ false → copy_of (stepped old number step).copies file ≡ copy_of old.copies file
+step-keeps old number steps.Nothing file none = refl
+step-keeps old number (steps.Lock txn name mode version) file none = refl
+step-keeps old number (steps.Vote txn vote) file none = refl
+step-keeps old number (steps.Discard txn vote) file none = refl
+step-keeps old number (steps.Install txn vote writes newer) file none = other-installed_all old.copies writes file none
+step-keeps old number (steps.Release txn) file none = refl
+step-keeps old number (steps.Refresh write) file none =
+    other-installed old.copies write.file (record { version = write.version; content = write.content }) file (or_false (same_name file write.file) false none).0
+step-keeps old number steps.Crash file none = refl
+step-keeps old number steps.Return file none = refl
+
+-- the copies of other files stay under an ask
+pub ask-keeps : (old : NodeView) (number : ℕ) (ask : NodeAsk) (file : List ℕ) → is_in file (files_changed (node_change old number ask).step) ≡ false
+    → copy_of (answered old number ask).state.records.copies file ≡ copy_of old.state.records.copies file
+ask-keeps old number ask file none =
+    ap (λ (n : NodeView). copy_of n.state.records.copies file) (sym (change_leads old number ask))
+    ∙ step-keeps old.state.records number (node_change old number ask).step file none

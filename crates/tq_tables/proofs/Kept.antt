@@ -1,0 +1,217 @@
+-- Rows that are kept under the names of their files.
+use Rattle.std.specs.Prelude.{◌||◌}
+use Rattle.std.proofs.Common.{◌≡◌, ℕ, ◌+◌, ◌<◌, Bool, true, false, cond, List, [], ◌∷◌, ◌++◌, length, map, take, get_or, Some, None, refl, ap, sym, subst, ◌∙◌}
+use Rattle.std.specs.List.{All, fold}
+use Rattle.std.specs.Map.{lookup, set_value}
+use Rattle.std.specs.Option.{unwrap_or}
+use Rattle.std.proofs.lemmas.List.{append-nil, append_assoc}
+use Rattle.std.proofs.lemmas.List.Elements.{All-nil, All-cons, All-head, All-tail}
+use Rattle.indexmap.specs.IndexMap.{insert_entry}
+use Rattle.tq_store.specs.Names.{same_name}
+use Rattle.tq_store.proofs.SameName.{same_name-is, same_name-refl, same_name-sym}
+use Rattle.tq_node.specs.Node.{NodeView}
+use Rattle.tq_tables.specs.declared.file_row.FileRow.{FileRow}
+use Rattle.tq_tables.specs.Counted.{count_in, version_of}
+use Rattle.tq_tables.specs.Files.{AreFiles, AreOfLevels, all_stood, moved, names_in, stood, stood_at, version_in, with_row, with_rows}
+use Rattle.tq_tables.specs.NamesApart.{is_in, Apart}
+use Rattle.tq_tables.specs.Rows.{has_version}
+use Rattle.tq_tables.proofs.Names.{differ, or_false, or_true}
+use Rattle.tq_tables.proofs.RowLaws.{take-next}
+
+-- ---- rows by their names
+
+abbrev pub by_file : List FileRow → List (List ℕ × FileRow)
+by_file rows = map (λ row. (row.file, row)) rows
+
+rows-by_file : (rows : List FileRow) → map (λ entry. entry.1) (by_file rows) ≡ rows
+rows-by_file [] = refl
+rows-by_file (row ∷ rows) = ap (λ (rest : List FileRow). row ∷ rest) (rows-by_file rows)
+
+abbrev HasLevels : ℕ → FileRow → Type 0
+HasLevels levels row = (row.current.levels ≡ levels) × (row.stale.levels ≡ levels)
+
+pub are-files : (levels : ℕ) (entries : List (List ℕ × FileRow)) (rows : List FileRow) → entries ≡ by_file rows → Apart (names_in rows) → AreOfLevels levels rows → AreFiles levels entries
+are-files levels entries rows is apart of_tree =
+    let same : map (λ entry. entry.1) entries ≡ rows = ap (map (λ entry. entry.1)) is ∙ rows-by_file rows in
+    record {
+      named = is ∙ sym (ap by_file same);
+      apart = subst (λ (r : List FileRow). Apart (names_in r)) (sym same) apart;
+      of_tree = subst (λ (r : List FileRow). AreOfLevels levels r) (sym same) of_tree;
+    }
+
+pub are-rows : (entries : List (List ℕ × FileRow)) (rows : List FileRow) → entries ≡ by_file rows → map (λ entry. entry.1) entries ≡ rows
+are-rows entries rows is = ap (map (λ entry. entry.1)) is ∙ rows-by_file rows
+
+-- ---- a row that comes
+
+pub put-entries : (rows : List FileRow) (row : FileRow) → insert_entry same_name (by_file rows) row.file row ≡ by_file (with_row rows row)
+put-entries [] row = refl
+put-entries (first ∷ rows) row = by (same_name row.file first.file) refl (put-entries rows row)
+  where
+    by : (b : Bool) → same_name row.file first.file ≡ b → insert_entry same_name (by_file rows) row.file row ≡ by_file (with_row rows row)
+        → cond b ((first.file, row) ∷ by_file rows) ((first.file, first) ∷ insert_entry same_name (by_file rows) row.file row) ≡ by_file (cond b (row ∷ rows) (first ∷ with_row rows row))
+    by true s rest = λ i. (sym (same_name-is row.file first.file s) i, row) ∷ by_file rows
+    by false s rest = λ i. (first.file, first) ∷ rest i
+
+is_in-with_row : (other : List ℕ) (rows : List FileRow) (row : FileRow) → is_in other (names_in rows) ≡ false → same_name other row.file ≡ false → is_in other (names_in (with_row rows row)) ≡ false
+is_in-with_row other [] row none differs = ap (λ (b : Bool). b || false) differs
+is_in-with_row other (first ∷ rows) row none differs =
+    let both = or_false (same_name other first.file) (is_in other (names_in rows)) none in
+    by (same_name row.file first.file) both.0 both.1 (is_in-with_row other rows row both.1 differs)
+  where
+    by : (b : Bool) → same_name other first.file ≡ false → is_in other (names_in rows) ≡ false → is_in other (names_in (with_row rows row)) ≡ false
+        → is_in other (names_in (cond b (row ∷ rows) (first ∷ with_row rows row))) ≡ false
+    by true here rest all = (λ i. differs i || rest i)
+    by false here rest all = (λ i. here i || all i)
+
+pub Apart-with_row : (rows : List FileRow) (row : FileRow) → Apart (names_in rows) → Apart (names_in (with_row rows row))
+Apart-with_row [] row apart = (refl, tt)
+Apart-with_row (first ∷ rows) row apart = by (same_name row.file first.file) refl (Apart-with_row rows row apart.1)
+  where
+    by : (b : Bool) → same_name row.file first.file ≡ b → Apart (names_in (with_row rows row)) → Apart (names_in (cond b (row ∷ rows) (first ∷ with_row rows row)))
+    by true s rest = (ap (λ (o : List ℕ). is_in o (names_in rows)) (same_name-is row.file first.file s) ∙ apart.0, apart.1)
+    by false s rest = (is_in-with_row first.file rows row apart.0 (same_name-sym first.file row.file ∙ s), rest)
+
+pub of_tree-with_row : (levels : ℕ) (rows : List FileRow) (row : FileRow) → AreOfLevels levels rows → (row.current.levels ≡ levels) × (row.stale.levels ≡ levels) → AreOfLevels levels (with_row rows row)
+of_tree-with_row levels [] row of_tree is = All-cons (HasLevels levels) row [] is (All-nil (HasLevels levels))
+of_tree-with_row levels (first ∷ rows) row of_tree is = by (same_name row.file first.file) (of_tree-with_row levels rows row (All-tail (HasLevels levels) first rows of_tree) is)
+  where
+    by : (b : Bool) → AreOfLevels levels (with_row rows row) → AreOfLevels levels (cond b (row ∷ rows) (first ∷ with_row rows row))
+    by true rest = All-cons (HasLevels levels) row rows is (All-tail (HasLevels levels) first rows of_tree)
+    by false rest = All-cons (HasLevels levels) first (with_row rows row) (All-head (HasLevels levels) first rows of_tree) rest
+
+-- ---- a server that stands in a row
+
+stood-file : (node : NodeView) (row : FileRow) → (stood node row).file ≡ row.file
+stood-file node row = by (has_version row.file row.version node)
+  where
+    by : (b : Bool) → (moved b node.server row).file ≡ row.file
+    by true = refl
+    by false = refl
+
+stood-levels : (levels : ℕ) (node : NodeView) (row : FileRow) → HasLevels levels row → HasLevels levels (stood node row)
+stood-levels levels node row has = by (has_version row.file row.version node)
+  where
+    by : (b : Bool) → HasLevels levels (moved b node.server row)
+    by true = has
+    by false = has
+
+stood_at-file : (node : NodeView) (file : List ℕ) (row : FileRow) → (stood_at node file row).file ≡ row.file
+stood_at-file node file row = by (same_name file row.file)
+  where
+    by : (b : Bool) → (cond b (stood node row) row).file ≡ row.file
+    by true = stood-file node row
+    by false = refl
+
+stood_at-levels : (levels : ℕ) (node : NodeView) (file : List ℕ) (row : FileRow) → HasLevels levels row → HasLevels levels (stood_at node file row)
+stood_at-levels levels node file row has = by (same_name file row.file)
+  where
+    by : (b : Bool) → HasLevels levels (cond b (stood node row) row)
+    by true = stood-levels levels node row has
+    by false = has
+
+names-stood : (node : NodeView) (file : List ℕ) (rows : List FileRow) → names_in (map (stood_at node file) rows) ≡ names_in rows
+names-stood node file [] = refl
+names-stood node file (row ∷ rows) = λ i. stood_at-file node file row i ∷ names-stood node file rows i
+
+pub Apart-stood : (node : NodeView) (file : List ℕ) (rows : List FileRow) → Apart (names_in rows) → Apart (names_in (map (stood_at node file) rows))
+Apart-stood node file rows apart = subst Apart (sym (names-stood node file rows)) apart
+
+pub of_tree-stood : (levels : ℕ) (node : NodeView) (file : List ℕ) (rows : List FileRow) → AreOfLevels levels rows → AreOfLevels levels (map (stood_at node file) rows)
+of_tree-stood levels node file [] of_tree = All-nil (HasLevels levels)
+of_tree-stood levels node file (row ∷ rows) of_tree =
+    All-cons (HasLevels levels) (stood_at node file row) (map (stood_at node file) rows)
+    (stood_at-levels levels node file row (All-head (HasLevels levels) row rows of_tree)) (of_tree-stood levels node file rows (All-tail (HasLevels levels) row rows of_tree))
+
+-- where the file has no row, none changes
+absent-stood : (node : NodeView) (file : List ℕ) (rows : List FileRow) → is_in file (names_in rows) ≡ false → map (stood_at node file) rows ≡ rows
+absent-stood node file [] none = refl
+absent-stood node file (row ∷ rows) none =
+    let both = or_false (same_name file row.file) (is_in file (names_in rows)) none in
+    λ i. cond (both.0 i) (stood node row) row ∷ absent-stood node file rows both.1 i
+
+no_row : (file : List ℕ) (rows : List FileRow) → lookup (same_name file) (by_file rows) ≡ None → is_in file (names_in rows) ≡ false
+no_row file [] none = refl
+no_row file (row ∷ rows) none = by (same_name file row.file) none (no_row file rows)
+  where
+    by : (b : Bool) → cond b (Some row) (lookup (same_name file) (by_file rows)) ≡ None → (lookup (same_name file) (by_file rows) ≡ None → is_in file (names_in rows) ≡ false) → (b || is_in file (names_in rows)) ≡ false
+    by true h rest = cc
+    by false h rest = rest h
+
+pub stand-none : (node : NodeView) (file : List ℕ) (rows : List FileRow) → lookup (same_name file) (by_file rows) ≡ None → map (stood_at node file) rows ≡ rows
+stand-none node file rows none = absent-stood node file rows (no_row file rows none)
+
+pub stand-entries : (node : NodeView) (file : List ℕ) (rows : List FileRow) (row : FileRow) → Apart (names_in rows) → lookup (same_name file) (by_file rows) ≡ Some row
+    → set_value (same_name file) (by_file rows) (stood node row) ≡ by_file (map (stood_at node file) rows)
+stand-entries node file [] row apart found = cc
+stand-entries node file (first ∷ rows) row apart found = by (same_name file first.file) refl found (stand-entries node file rows row apart.1)
+  where
+    same_row : (a b : FileRow) → Some a ≡ Some b → a ≡ b
+    same_row a b h = ap (λ o. unwrap_or o a) h
+
+    by : (b : Bool) → same_name file first.file ≡ b → cond b (Some first) (lookup (same_name file) (by_file rows)) ≡ Some row
+        → (lookup (same_name file) (by_file rows) ≡ Some row → set_value (same_name file) (by_file rows) (stood node row) ≡ by_file (map (stood_at node file) rows))
+        → cond b ((first.file, stood node row) ∷ by_file rows) ((first.file, first) ∷ set_value (same_name file) (by_file rows) (stood node row))
+        ≡ ((cond b (stood node first) first).file, cond b (stood node first) first) ∷ by_file (map (stood_at node file) rows)
+    by true s h rest =
+        let is = same_row first row h in
+        let none : is_in file (names_in rows) ≡ false = ap (λ (o : List ℕ). is_in o (names_in rows)) (same_name-is file first.file s) ∙ apart.0 in
+        (λ i. (sym (stood-file node first) i, stood node (sym is i)) ∷ by_file (sym (absent-stood node file rows none) i))
+    by false s h rest = λ i. (first.file, first) ∷ rest h i
+
+-- ---- the version that a row says
+
+lookup-version : (file : List ℕ) (rows : List FileRow) → count_in (map version_of rows) file ≡ unwrap_or (Rattle.std.specs.Option.option_map (λ (row : FileRow). row.version) (lookup (same_name file) (by_file rows))) 0
+lookup-version file [] = refl
+lookup-version file (row ∷ rows) = by (same_name file row.file) (lookup-version file rows)
+  where
+    by : (b : Bool) → count_in (map version_of rows) file ≡ unwrap_or (Rattle.std.specs.Option.option_map (λ (r : FileRow). r.version) (lookup (same_name file) (by_file rows))) 0
+        → unwrap_or (cond b (Some row.version) (lookup (same_name file) (map version_of rows))) 0 ≡ unwrap_or (Rattle.std.specs.Option.option_map (λ (r : FileRow). r.version) (cond b (Some row) (lookup (same_name file) (by_file rows)))) 0
+    by true rest = refl
+    by false rest = rest
+
+pub version-some : (file : List ℕ) (rows : List FileRow) (row : FileRow) → lookup (same_name file) (by_file rows) ≡ Some row → row.version ≡ version_in rows file
+version-some file rows row found = sym (lookup-version file rows ∙ ap (λ o. unwrap_or (Rattle.std.specs.Option.option_map (λ (r : FileRow). r.version) o) 0) found)
+
+pub version-none : (file : List ℕ) (rows : List FileRow) → lookup (same_name file) (by_file rows) ≡ None → 0 ≡ version_in rows file
+version-none file rows none = sym (lookup-version file rows ∙ ap (λ o. unwrap_or (Rattle.std.specs.Option.option_map (λ (r : FileRow). r.version) o) 0) none)
+
+-- ---- one file more
+
+all_stood-append : (node : NodeView) (rows : List FileRow) (files : List (List ℕ)) (file : List ℕ) → all_stood node rows (files ++ file ∷ []) ≡ map (stood_at node file) (all_stood node rows files)
+all_stood-append node rows [] file = refl
+all_stood-append node rows (first ∷ files) file = all_stood-append node (map (stood_at node first) rows) files file
+
+pub all_stood-next : (node : NodeView) (rows : List FileRow) (files : List (List ℕ)) (i : ℕ) (file : List ℕ) → i < length files → file ≡ get_or files i file
+    → map (stood_at node file) (all_stood node rows (take i files)) ≡ all_stood node rows (take (i + 1) files)
+all_stood-next node rows files i file less is = sym (ap (all_stood node rows) (take-next files i file less is) ∙ all_stood-append node rows (take i files) file)
+
+-- ---- rows put where there is none of their files
+
+with_row-new : (rows : List FileRow) (row : FileRow) → is_in row.file (names_in rows) ≡ false → with_row rows row ≡ rows ++ row ∷ []
+with_row-new [] row none = refl
+with_row-new (first ∷ rows) row none =
+    let both = or_false (same_name row.file first.file) (is_in row.file (names_in rows)) none in
+    ap (λ (b : Bool). cond b (row ∷ rows) (first ∷ with_row rows row)) both.0 ∙ ap (λ (rest : List FileRow). first ∷ rest) (with_row-new rows row both.1)
+
+still-fresh : (other : List ℕ) (done : List FileRow) (row : FileRow) → is_in other (names_in done) ≡ false → same_name other row.file ≡ false → is_in other (names_in (done ++ row ∷ [])) ≡ false
+still-fresh other [] row none differs = ap (λ (b : Bool). b || false) differs
+still-fresh other (first ∷ done) row none differs =
+    let both = or_false (same_name other first.file) (is_in other (names_in done)) none in
+    λ i. both.0 i || still-fresh other done row both.1 differs i
+
+with_rows-from : (done rows : List FileRow) → ((name : List ℕ) → is_in name (names_in rows) ≡ true → is_in name (names_in done) ≡ false) → Apart (names_in rows) → with_rows done rows ≡ done ++ rows
+with_rows-from done [] fresh apart = sym (append-nil done)
+with_rows-from done (row ∷ rows) fresh apart =
+    ap (λ (all : List FileRow). with_rows all rows) (with_row-new done row (fresh row.file (ap (λ (b : Bool). b || is_in row.file (names_in rows)) (same_name-refl row.file))))
+    ∙ with_rows-from (done ++ row ∷ []) rows still apart.1
+    ∙ append_assoc done (row ∷ []) rows
+  where
+    still : (other : List ℕ) → is_in other (names_in rows) ≡ true → is_in other (names_in (done ++ row ∷ [])) ≡ false
+    still other there =
+        still-fresh other done row (fresh other (ap (λ (b : Bool). same_name other row.file || b) there ∙ or_true (same_name other row.file)))
+        (same_name-sym other row.file ∙ differ (names_in rows) row.file other apart.0 there)
+
+-- rows of files apart stand as they came
+pub with_rows-apart : (rows : List FileRow) → Apart (names_in rows) → with_rows [] rows ≡ rows
+with_rows-apart rows apart = with_rows-from [] rows (λ name there. refl) apart

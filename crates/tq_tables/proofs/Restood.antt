@@ -1,0 +1,141 @@
+-- The tables with an entry more of a server.
+use Rattle.std.specs.Prelude.{reverse}
+use Rattle.std.proofs.Common.{◌≡◌, ◌+◌, ◌-◌, ◌<◌, ◌≤◌, ℕ, zero, suc, false, List, [], ◌∷◌, ◌++◌, length, set, get_or, refl, ap, ◌∙◌, arith}
+use Rattle.tq_desk.specs.DeskJournal.{commits}
+use Rattle.tq_node.specs.Node.{NodeView, answered}
+use Rattle.tq_node.specs.NodeJournal.{NodeEntry}
+use Rattle.tq_store.specs.Copies.{copy_of}
+use Rattle.tq_tables.specs.declared.file_row.FileRow.{FileRow}
+use Rattle.tq_tables.specs.declared.intent_row.IntentState.{IntentState}
+use Rattle.tq_tables.specs.DeskStates.{intent_state_at}
+use Rattle.tq_tables.specs.Files.{all_stood}
+use Rattle.tq_tables.specs.Journals.{JournalsView}
+use Rattle.tq_tables.specs.NamesApart.{is_in}
+use Rattle.tq_tables.specs.NextOfServer.{IsNextOfServer, entries_of, with_node}
+use Rattle.tq_tables.specs.Parts.{AreLegal, AreOfTree, PartsView, bounds_of, desk_at, node_after_all, nodes_at}
+use Rattle.tq_tables.specs.Rows.{file_rows, intent_rows, intent_state, lock_rows}
+use Rattle.tq_tables.specs.Tables.{TablesView, tables_at, tables_of}
+use Rattle.tq_tables.proofs.Replayed.{answered-push, desk_at-is}
+use Rattle.tq_tables.proofs.RowLaws.{at-place}
+use Rattle.tq_tables.proofs.Stood.{all_stood-are}
+use Rattle.tq_tables.proofs.Whole.{states-same}
+
+-- ---- the servers after their journals
+
+length-nodes_at : (levels first : ℕ) (servers : List (List NodeEntry)) → length (nodes_at levels first servers) ≡ length servers
+length-nodes_at levels first [] = refl
+length-nodes_at levels first (x ∷ servers) = ap (λ (k : ℕ). suc k) (length-nodes_at levels (first + 1) servers)
+
+get-nodes_at : (levels first : ℕ) (servers : List (List NodeEntry)) (place : ℕ) (d : NodeView) → place < length servers
+    → get_or (nodes_at levels first servers) place d ≡ node_after_all levels (first + place) (get_or servers place [])
+get-nodes_at levels first [] place d less = absurd (omega (arith, less))
+get-nodes_at levels first (x ∷ servers) zero d less = ap (λ (n : ℕ). node_after_all levels n x) (omega arith)
+get-nodes_at levels first (x ∷ servers) (suc place) d less =
+    get-nodes_at levels (first + 1) servers place d (omega (arith, less))
+    ∙ ap (λ (n : ℕ). node_after_all levels n (get_or servers place [])) (omega arith)
+
+nodes_at-set : (levels first : ℕ) (servers : List (List NodeEntry)) (place : ℕ) (entries : List NodeEntry)
+    → set (nodes_at levels first servers) place (node_after_all levels (first + place) entries) ≡ nodes_at levels first (set servers place entries)
+nodes_at-set levels first [] place entries = refl
+nodes_at-set levels first (x ∷ servers) zero entries = ap (λ (n : ℕ). node_after_all levels n entries ∷ nodes_at levels (first + 1) servers) (omega arith)
+nodes_at-set levels first (x ∷ servers) (suc place) entries =
+    ap (λ (n : ℕ). node_after_all levels first x ∷ set (nodes_at levels (first + 1) servers) place (node_after_all levels n entries)) (omega arith)
+    ∙ ap (λ rest. node_after_all levels first x ∷ rest) (nodes_at-set levels (first + 1) servers place entries)
+
+-- ---- what stands at a place
+
+pub get_or-any : (nodes : List NodeView) (place : ℕ) (d e : NodeView) → place < length nodes → get_or nodes place d ≡ get_or nodes place e
+get_or-any [] place d e less = absurd (omega (arith, less))
+get_or-any (n ∷ nodes) zero d e less = refl
+get_or-any (n ∷ nodes) (suc place) d e less = get_or-any nodes place d e (omega (arith, less))
+
+pub get_or-put : (nodes : List NodeView) (place : ℕ) (node d : NodeView) → place < length nodes → get_or (set nodes place node) place d ≡ node
+get_or-put [] place node d less = absurd (omega (arith, less))
+get_or-put (n ∷ nodes) zero node d less = refl
+get_or-put (n ∷ nodes) (suc place) node d less = get_or-put nodes place node d (omega (arith, less))
+
+-- ---- a server with one entry more
+
+-- the tables with other servers, and with these rows of files
+abbrev pub with_nodes : TablesView → List NodeView → List FileRow → TablesView
+with_nodes old nodes files = record old { nodes = nodes; files = files; locks = lock_rows nodes; intentions = intent_rows (intent_state_at old.desk) nodes }
+
+module _ (journals : JournalsView) (server : ℕ) (tables : TablesView) (node : NodeView) (stand : tables ≡ tables_of journals) (positive : 0 < server) (at : node ≡ get_or tables.nodes (server - 1) node) where
+  many : length tables.nodes ≡ length journals.servers
+  many = ap (λ (t : TablesView). length t.nodes) stand ∙ length-nodes_at journals.levels 1 journals.servers
+
+  module _ (there : server ≤ length tables.nodes) where
+    node_is : node ≡ node_after_all journals.levels server (entries_of journals server)
+    node_is =
+        let less : server - 1 < length journals.servers = omega (arith, positive, there, many) in
+        let number : 1 + (server - 1) ≡ server = omega (arith, positive) in
+        at
+        ∙ ap (λ (t : TablesView). get_or t.nodes (server - 1) node) stand
+        ∙ get-nodes_at journals.levels 1 journals.servers (server - 1) node less
+        ∙ ap (λ (n : ℕ). node_after_all journals.levels n (entries_of journals server)) number
+
+    pub last-is : node.last ≡ length (entries_of journals server)
+    last-is = ap (λ (n : NodeView). n.last) node_is
+
+    module _ (e : NodeEntry) (legal : AreLegal (with_node journals server e)) (number : ℕ) (next : number ≡ node.last + 1) where
+      after_is : answered node number e.ask ≡ node_after_all journals.levels server (entries_of journals server ++ e ∷ [])
+      after_is =
+          let count : number ≡ suc (length (entries_of journals server)) = omega (arith, next, last-is) in
+          (λ i. answered (node_is i) (count i) e.ask) ∙ answered-push journals.levels server (entries_of journals server) e
+
+      nodes_next : set (nodes_at journals.levels 1 journals.servers) (server - 1) (answered node number e.ask) ≡ nodes_at journals.levels 1 (with_node journals server e).servers
+      nodes_next =
+          let entries = entries_of journals server ++ e ∷ [] in
+          let number : server ≡ 1 + (server - 1) = omega (arith, positive) in
+          ap (λ (n : NodeView). set (nodes_at journals.levels 1 journals.servers) (server - 1) n) after_is
+          ∙ ap (λ (n : ℕ). set (nodes_at journals.levels 1 journals.servers) (server - 1) (node_after_all journals.levels n entries)) number
+          ∙ nodes_at-set journals.levels 1 journals.servers (server - 1) entries
+
+      -- the tables with the servers so, and the rows of files that the servers then have
+      pub node-noted : (new : TablesView) (nodes : List NodeView) (files : List FileRow) → nodes ≡ set tables.nodes (server - 1) (answered node number e.ask)
+          → files ≡ file_rows tables.view.levels nodes (commits (reverse journals.desk)) → new ≡ with_nodes tables nodes files → new ≡ tables_of (with_node journals server e)
+      node-noted new nodes files nodes_are are is =
+          let nodes_is : nodes ≡ nodes_at journals.levels 1 (with_node journals server e).servers =
+          nodes_are ∙ ap (λ (t : TablesView). set t.nodes (server - 1) (answered node number e.ask)) stand ∙ nodes_next in
+          let desk = desk_at journals.levels journals.limits journals.desk in
+          let states = states-same (bounds_of journals.levels journals.limits) (reverse journals.desk) desk legal.desk (desk_at-is journals.levels journals.limits journals.desk) in
+          let files_is = are ∙ (λ i. file_rows (stand i).view.levels (nodes_is i) (commits (reverse journals.desk))) in
+          let intents : intent_rows (intent_state_at desk) (nodes_at journals.levels 1 (with_node journals server e).servers) ≡ intent_rows (intent_state (reverse journals.desk)) (nodes_at journals.levels 1 (with_node journals server e).servers) =
+          ap (λ (state : ℕ → ℕ → ℕ → IntentState). intent_rows state (nodes_at journals.levels 1 (with_node journals server e).servers)) states in
+          is
+          ∙ (λ i. with_nodes (stand i) (nodes_is i) (files_is i))
+          ∙ (λ i. record (tables_of (with_node journals server e)) { intentions = intents i })
+
+-- a server that gets an entry is there
+pub is_there : (tables : TablesView) (server number : ℕ) (e : NodeEntry) → IsNextOfServer tables server number e → (0 < server) × (server ≤ length tables.nodes)
+is_there tables server number e next =
+    let many = ap (λ (t : TablesView). length t.nodes) next.stand ∙ length-nodes_at next.journals.levels 1 next.journals.servers in
+    (next.there.0, omega (arith, many, next.there.1))
+
+-- and the entry has the next number
+pub next-number : (tables : TablesView) (server number : ℕ) (e : NodeEntry) (node : NodeView) → IsNextOfServer tables server number e → node ≡ get_or tables.nodes (server - 1) node → number ≡ node.last + 1
+next-number tables server number e node next at =
+    let there = is_there tables server number e next in
+    let last = last-is next.journals server tables node next.stand there.0 at there.1 in
+    omega (arith, next.next, last)
+
+-- ---- the rows of files, where the server stands in those of the files whose copies changed
+
+module _ (parts : PartsView) (of_tree : AreOfTree parts.view.levels 1 parts.nodes) (server : ℕ) (positive : 0 < server) (there : server ≤ length parts.nodes) (old node : NodeView)
+    (at : old ≡ get_or parts.nodes (server - 1) old) (tree : node.levels ≡ old.levels) (same : node.server ≡ old.server) where
+  place : (old.levels ≡ parts.view.levels) × (old.server ≡ 1 + (server - 1))
+  place = at-place parts.view.levels 1 parts.nodes of_tree (server - 1) old (omega (arith, positive, there)) at
+
+  pub of_levels : node.levels ≡ parts.view.levels
+  of_levels = tree ∙ place.0
+
+  pub rows-stand : (files : List (List ℕ)) → ((file : List ℕ) → is_in file files ≡ false → copy_of node.state.records.copies file ≡ copy_of old.state.records.copies file)
+      → (rows : List FileRow) (journals : JournalsView) → rows ≡ file_rows parts.view.levels parts.nodes (commits (reverse journals.desk))
+      → all_stood node rows files ≡ file_rows parts.view.levels (set parts.nodes (server - 1) node) (commits (reverse journals.desk))
+  rows-stand files kept rows journals are =
+      ap (λ (r : List FileRow). all_stood node r files) are
+      ∙ all_stood-are parts.view.levels parts.nodes (server - 1) node of_tree (omega (arith, positive, there)) of_levels (same ∙ place.1) old at same files kept (commits (reverse journals.desk))
+
+-- the tables at parts with other servers
+pub with_nodes-at : (parts new : PartsView) (nodes : List NodeView) (files rows : List FileRow) → new ≡ record parts { nodes = nodes } → tables_at new files ≡ with_nodes (tables_at parts rows) new.nodes files
+with_nodes-at parts new nodes files rows is = λ i. tables_at (record { nodes = new.nodes; desk = (is i).desk; view = (is i).view }) files

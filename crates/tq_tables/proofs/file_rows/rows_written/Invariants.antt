@@ -1,0 +1,10 @@
+use Rattle.std.proofs.Common.{◌≡◌, ◌++◌, ◌+◌, map}
+use Rattle.tq_tables.specs.Counted.{names_of}
+use Rattle.tq_tables.specs.Files.{version_in}
+use Rattle.tq_tables.specs.Rows.{row_at}
+use Rattle.tq_tables.proofs.file_rows.rows_written.Given as goal
+
+abbrev pub invariant-loop-file : goal.invariant-loop-file
+invariant-loop-file l =
+    l.rows.items ++ map (λ file. row_at l.table.levels l.nodes file (version_in l.table.rows file + 1)) (map (λ entry. entry.0) l.file-iterator)
+    ≡ map (λ file. row_at l.table.levels l.nodes file (version_in l.table.rows file + 1)) (names_of l.ops)

@@ -1,0 +1,93 @@
+-- The rows of files as they are kept, and how one of them changes.
+use Rattle.std.specs.Prelude.{◌≡◌, ℕ, Bool, true, false, cond, List, [], ◌∷◌, map, fold, refl}
+use Rattle.std.specs.Coded.{Coded, code_by, coded×, coded_list, coded_ℕ}
+use Rattle.std.specs.List.{All}
+use Rattle.tq_shape.specs.ServerSet.{Servers, with_number, without_number}
+use Rattle.tq_store.specs.Names.{same_name}
+use Rattle.tq_evidence.specs.declared.op.Op.{Op}
+use Rattle.tq_desk.specs.declared.ask.DeskAsk.{DeskAsk}
+use Rattle.tq_desk.specs.declared.ask.DeskAsk.TheVariants as asks
+use Rattle.tq_desk.specs.declared.ask.DeskReply.{DeskReply}
+use Rattle.tq_desk.specs.declared.ask.DeskReply.TheVariants as replies
+use Rattle.tq_node.specs.Node.{NodeView}
+use Rattle.tq_node.specs.declared.change.NodeStep.{NodeStep}
+use Rattle.tq_node.specs.declared.change.NodeStep.TheVariants as steps
+use Rattle.tq_tables.specs.NamesApart.{Apart}
+use Rattle.tq_tables.specs.Counted.{count_in, version_of}
+use Rattle.tq_tables.specs.Rows.{has_version}
+use Rattle.tq_tables.specs.declared.file_row.FileRow.{FileRow}
+
+-- what callers see of a table of files: the levels of the tree of servers, the rows, and for how many files more there
+-- is room with no memory asked for
+pub record FilesView : Type 0 where
+  pub levels : ℕ
+  pub rows : List FileRow
+  pub room : ℕ
+
+-- the names of the files that have a row
+abbrev pub names_in : List FileRow → List (List ℕ)
+names_in rows = map (λ row. row.file) rows
+
+-- the sets of servers of each row are of the tree
+abbrev pub AreOfLevels : ℕ → List FileRow → Type 0
+AreOfLevels levels rows = All (λ row. (row.current.levels ≡ levels) × (row.stale.levels ≡ levels)) rows
+
+-- each row stands under its name, no file has two, and the sets of servers are of the tree
+pub record AreFiles (levels : ℕ) (entries : List (List ℕ × FileRow)) : Type 0 where
+  pub named : entries ≡ map (λ row. (row.file, row)) (map (λ entry. entry.1) entries)
+  pub apart : Apart (names_in (map (λ entry. entry.1) entries))
+  pub of_tree : AreOfLevels levels (map (λ entry. entry.1) entries)
+
+-- the version that a file's row says, 0 where it has none
+abbrev pub version_in : List FileRow → List ℕ → ℕ
+version_in rows file = count_in (map version_of rows) file
+
+-- the rows with this one, in the place of the one of its file, or at the end where there is none
+abbrev pub with_row : List FileRow → FileRow → List FileRow
+with_row [] row = row ∷ []
+with_row (first ∷ rows) row = cond (same_name row.file first.file) (row ∷ rows) (first ∷ with_row rows row)
+
+abbrev pub with_rows : List FileRow → List FileRow → List FileRow
+with_rows rows more = fold with_row rows more
+
+-- ---- a server's copy
+
+abbrev pub put_in : ℕ → Servers → Servers
+put_in server set = record { levels = set.levels; numbers = with_number server set.numbers }
+
+abbrev pub taken_out : ℕ → Servers → Servers
+taken_out server set = record { levels = set.levels; numbers = without_number server set.numbers }
+
+-- the row with a server among the current ones, or else among the stale ones
+abbrev pub moved : Bool → ℕ → FileRow → FileRow
+moved true server row = record { file = row.file; version = row.version; current = put_in server row.current; stale = taken_out server row.stale }
+moved false server row = record { file = row.file; version = row.version; current = taken_out server row.current; stale = put_in server row.stale }
+
+-- the row with a server where its copy of the file says
+abbrev pub stood : NodeView → FileRow → FileRow
+stood node row = moved (has_version row.file row.version node) node.server row
+
+-- that for one file alone
+abbrev pub stood_at : NodeView → List ℕ → FileRow → FileRow
+stood_at node file row = cond (same_name file row.file) (stood node row) row
+
+-- the rows with a server where its copies of these files say
+abbrev pub all_stood : NodeView → List FileRow → List (List ℕ) → List FileRow
+all_stood node rows files = fold (λ all file. map (stood_at node file) all) rows files
+
+-- ---- what changes
+
+-- the files whose copies a server's step may raise
+abbrev pub files_changed : NodeStep → List (List ℕ)
+files_changed (steps.Install txn number writes newer) = map (λ write. write.file) writes
+files_changed (steps.Refresh write) = write.file ∷ []
+files_changed other = []
+
+-- the ops of the commit that an entry of the desk records, none where it records none
+abbrev pub committed_ops : DeskAsk → DeskReply → List Op
+committed_ops (asks.Commit txn ops votes) (replies.Committed serial) = ops
+committed_ops ask reply = []
+
+-- codes, by which a proof tells values apart
+abbrev pub files_view_code : Coded FileRow → Coded FilesView
+files_view_code row_code = code_by (ℕ × (List FileRow × ℕ)) (coded× coded_ℕ (coded× (coded_list row_code) coded_ℕ)) (λ f. (f.levels, (f.rows, f.room))) (λ p. record { levels = p.0; rows = p.1.0; room = p.1.1 }) (λ _. refl)

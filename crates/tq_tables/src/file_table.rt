@@ -1,0 +1,158 @@
+//! The rows of files, found by the names of the files.
+ghost use Rattle.std.specs.Prelude.{[], ◌≡◌, ◌≤◌, ◌<◌, ◌+◌, length, map, IfOk, OnOk};
+ghost use Rattle.tq_tables.specs.NamesApart.{Apart};
+ghost use Rattle.tq_tables.specs.Files as spec;
+ghost use Rattle.tq_tables.specs.Files.{AreOfLevels};
+
+use crate::FileRow;
+use crate::file_rows::copy_files;
+use indexmap::IndexMap;
+use std::alloc::Global;
+use std::marker::Model;
+use tq_node::Node;
+use tq_shape::{Levels, Memory};
+use tq_store::FileName;
+
+/// A row for each file, in the order in which the files came. The row of a file is found at once by its name, and
+/// changes without memory.
+#[derive(Drop)]
+pub(crate) struct FileTable {
+    levels: Levels,
+    rows: IndexMap<FileName, FileRow>,
+}
+
+impl Model for FileTable {
+    ghost use Rattle.std.specs.Prelude.{map};
+    ghost use Rattle.indexmap.specs.IndexMap.{spare};
+    ghost use Rattle.tq_tables.specs.contracts.file_row.FileRow as file_type;
+    ghost use Rattle.tq_tables.specs.Files.{AreFiles, FilesView, files_view_code};
+
+    ghost Value = { FilesView };
+
+    ghost coded = { files_view_code file_type.the_row.coded };
+
+    ghost view = { λ a. record {
+      levels = a.levels;
+      rows = map (λ entry. entry.1) a.rows.entries;
+      room = spare a.rows;
+    } };
+
+    ghost invariant = { λ a. AreFiles a.levels a.rows.entries };
+}
+
+impl FileTable {
+    /// A table with these rows, each of another file, whose sets of servers are of the tree.
+    pub(crate) fn of(alloc: Global, levels: Levels, rows: Vec<FileRow>) -> Result<FileTable, Memory>
+        requires apart { Apart (spec.names_in rows.items) }
+        requires of_tree { AreOfLevels levels rows.items }
+        ensures { IfOk result (λ table. (table.levels ≡ levels) × (table.rows ≡ rows.items)) }
+    {
+        let mut table = FileTable::new(alloc, levels);
+        table.reserve(rows.len())?;
+        table.put_all(rows);
+        Ok(table)
+    }
+
+    /// A table with no row. It takes no memory yet.
+    fn new(alloc: Global, levels: Levels) -> FileTable
+        ensures levels { result.levels ≡ levels }
+        ensures rows { result.rows ≡ [] }
+    {
+        FileTable {
+            levels,
+            rows: IndexMap::new(alloc),
+        }
+    }
+
+    /// A table with equal rows, with memory of its own.
+    pub(crate) fn copy(&self, alloc: Global) -> Result<FileTable, Memory>
+        ensures { IfOk result (λ copy. (copy.levels ≡ self.now.levels) × (copy.rows ≡ self.now.rows)) }
+    {
+        let rows = copy_files(alloc, self.rows())?;
+        FileTable::of(alloc, self.levels, rows)
+    }
+
+    /// How many levels the tree of servers has.
+    pub(crate) fn levels(&self) -> Levels
+        ensures { result ≡ self.now.levels }
+    {
+        self.levels
+    }
+
+    /// The rows.
+    pub(crate) fn rows(&self) -> &[FileRow]
+        ensures value { result.now ≡ self.now.rows }
+        ensures apart { Apart (spec.names_in result.now) }
+        ensures of_tree { AreOfLevels self.now.levels result.now }
+    {
+        let _levels = self.levels;
+        self.rows.values().as_slice()
+    }
+
+    /// The version that the row of the file says, 0 where it has none.
+    pub(crate) fn version(&self, file: &FileName) -> u64
+        ensures { result ≡ spec.version_in self.now.rows file.now }
+    {
+        match self.rows.get(file) {
+            Some(row) => row.version,
+            None => 0,
+        }
+    }
+
+    /// Makes room for the rows of so many files more. The rows stay, also without memory.
+    pub(crate) fn reserve(&mut self, additional: usize) -> Result<(), Memory>
+        ensures levels { self.new.levels ≡ self.old.levels }
+        ensures rows { self.new.rows ≡ self.old.rows }
+        ensures room { OnOk result (additional ≤ self.new.room) }
+    {
+        self.rows.reserve(additional)?;
+        Ok(())
+    }
+
+    /// Puts the row in the place of the one of its file, or at the end where there is none. It takes no memory.
+    fn put(&mut self, row: FileRow)
+        requires room { 0 < self.old.room }
+        requires of_tree { (row.current.levels ≡ self.old.levels) × (row.stale.levels ≡ self.old.levels) }
+        ensures levels { self.new.levels ≡ self.old.levels }
+        ensures rows { self.new.rows ≡ spec.with_row self.old.rows row }
+        ensures room { self.old.room ≤ self.new.room + 1 }
+    {
+        let file = row.file;
+        let _replaced = self.rows.insert(file, row).unwrap();
+    }
+
+    /// Puts the rows, one after another, in the room that was made for them. It takes no memory.
+    pub(crate) fn put_all(&mut self, rows: Vec<FileRow>)
+        requires room { length rows.items ≤ self.old.room }
+        requires of_tree { AreOfLevels self.old.levels rows.items }
+        ensures levels { self.new.levels ≡ self.old.levels }
+        ensures rows { self.new.rows ≡ spec.with_rows self.old.rows rows.items }
+    {
+        for row in rows {
+            self.put(row);
+        }
+    }
+
+    /// In the row of the file, if it has one, the server stands where its copy says. It takes no memory.
+    fn stand(&mut self, node: &Node, file: &FileName)
+        requires { node.now.levels ≡ self.old.levels }
+        ensures levels { self.new.levels ≡ self.old.levels }
+        ensures rows { self.new.rows ≡ map (spec.stood_at node.now file.now) self.old.rows }
+    {
+        let _levels = self.levels;
+        if let Some(row) = self.rows.get_mut(file) {
+            row.stand(node);
+        }
+    }
+
+    /// In the rows of these files the server stands where its copies say. It takes no memory.
+    pub(crate) fn stand_all(&mut self, node: &Node, files: &[FileName])
+        requires { node.now.levels ≡ self.old.levels }
+        ensures levels { self.new.levels ≡ self.old.levels }
+        ensures rows { self.new.rows ≡ spec.all_stood node.now self.old.rows files.now }
+    {
+        for file in files {
+            self.stand(node, file);
+        }
+    }
+}

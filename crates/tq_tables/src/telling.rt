@@ -1,0 +1,58 @@
+//! A server's answers, with the files whose copies they may change.
+ghost use Rattle.std.specs.Prelude.{◌≡◌, ◌<◌, ◌++◌, ℕ, List, false, map, IfOk, OnOk, OnErr};
+ghost use Rattle.tq_node.specs.Node.{answered};
+ghost use Rattle.tq_store.specs.Copies.{copy_of};
+ghost use Rattle.tq_tables.specs.Files as spec;
+ghost use Rattle.tq_tables.specs.NamesApart.{is_in};
+
+use std::alloc::Global;
+use tq_node::{Node, NodeAsk, NodeStep};
+use tq_shape::Memory;
+use tq_store::{FileName, Write};
+
+/// The server answers the ask, of a number above that of the last one answered, and the files are told whose copies
+/// there this may change: no other copy does. Out of memory leaves the server as it was.
+pub(crate) fn answer_telling(
+    alloc: Global,
+    node: &mut Node,
+    number: u64,
+    ask: &NodeAsk,
+) -> Result<Vec<FileName>, Memory>
+    requires { node.old.last < number }
+    ensures after { OnOk result (node.new ≡ answered node.old number ask.now) }
+    ensures told { IfOk result (λ files. (file : List ℕ) → is_in file files.items ≡ false
+        → copy_of node.new.state.records.copies file ≡ copy_of node.old.state.records.copies file) }
+    ensures unchanged { OnErr result (node.new ≡ node.old) }
+{
+    let plan = node.plan(alloc, number, ask)?;
+    let change = plan.change;
+    let files = files_changed(alloc, &change.step)?;
+    node.apply(alloc, change)?;
+    Ok(files)
+}
+
+/// The files whose copies the step may raise.
+fn files_changed(alloc: Global, step: &NodeStep) -> Result<Vec<FileName>, Memory>
+    ensures { IfOk result (λ files. files.items ≡ spec.files_changed step.now) }
+{
+    match step {
+        NodeStep::Install { writes, .. } => files_written(alloc, writes.as_slice()),
+        NodeStep::Refresh { write } => {
+            let mut files = Vec::new(alloc);
+            files.push(write.file)?;
+            Ok(files)
+        }
+        _ => Ok(Vec::new(alloc)),
+    }
+}
+
+/// The files of the writes.
+fn files_written(alloc: Global, writes: &[Write]) -> Result<Vec<FileName>, Memory>
+    ensures { IfOk result (λ files. files.items ≡ map (λ write. write.file) writes.now) }
+{
+    let mut files = Vec::new(alloc);
+    for write in writes {
+        files.push(write.file)?;
+    }
+    Ok(files)
+}

@@ -1,0 +1,4 @@
+pub mod InputLaws
+pub mod ThreadsLaws
+pub mod FewScripts
+pub mod BadLine

@@ -1,0 +1,4 @@
+pub mod Input
+pub mod Outcome
+pub mod Running
+pub mod Threads

@@ -1,0 +1,6 @@
+//! What a worker of the refresh asks for its jobs, over any asker.
+#![tactic(auto)]
+
+mod mending;
+
+pub use mending::{mend, refresh};

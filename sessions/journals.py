@@ -1,0 +1,177 @@
+"""What files, parts and orders have in common: journals as a file, what an audit of them is to say, and the audit itself.
+
+Journals are those of sessions/plain.py: of each part, which is a server's number, "desk" or "view", a list of entries (ask, reply)."""
+import argparse
+import importlib.machinery
+import importlib.util
+import json
+import os
+import subprocess
+
+import plain
+
+HERE = os.path.dirname(os.path.realpath(__file__))
+ROOT = os.path.dirname(HERE)
+BUILT = "crates/tq/out/tq"
+
+
+def walks():
+    """The script sessions/walks as a module."""
+    loader = importlib.machinery.SourceFileLoader("walks", f"{HERE}/walks")
+    made = importlib.util.module_from_spec(importlib.util.spec_from_loader("walks", loader))
+    loader.exec_module(made)
+    return made
+
+
+def given(about, rounds):
+    """The words of a command line: how many rounds, the seed, whether to count, and the program."""
+    words = argparse.ArgumentParser(description=about, formatter_class=argparse.RawDescriptionHelpFormatter)
+    words.add_argument("--sessions", type=int, default=rounds)
+    words.add_argument("--seed", type=int, default=1)
+    words.add_argument("--count", action="store_true")
+    words.add_argument("program", nargs=argparse.REMAINDER, metavar="PROGRAM")
+    read = words.parse_args()
+    read.program = read.program or [BUILT if os.access(f"{ROOT}/{BUILT}", os.X_OK) else "./bin/tq"]
+    return read
+
+
+def audited(program, text):
+    """What `PROGRAM.. audit` says of a file, and its status."""
+    done = subprocess.run([*program, "audit"], cwd=ROOT, input=text, stdout=subprocess.PIPE)
+    return done.stdout, done.returncode
+
+
+# Journals as a file
+
+
+def content(text):
+    return text.encode().hex()
+
+
+def writes(all_writes):
+    return [{"content": content(one.content), "file": one.file, "version": one.version} for one in all_writes]
+
+
+def held(locks):
+    return [one._asdict() for one in locks]
+
+
+def verdict(said):
+    if said[0] == "abort":
+        return {"is": "abort"}
+    return {"is": "commit", "votes": [{"number": number, "server": server} for server, number in said[1]]}
+
+
+def grant(told):
+    return told._asdict() | {"content": content(told.content)}
+
+
+def op(done):
+    return done._asdict() | {"content": content(done.content), "grants": list(map(grant, done.grants))}
+
+
+def vote(given):
+    return given._asdict() | {"held": held(given.held), "writes": writes(given.writes)}
+
+
+ASKS = {
+    "lock": lambda txn, file, mode: {"file": file, "mode": mode, "txn": txn},
+    "prepare": lambda txn, all_writes: {"txn": txn, "writes": writes(all_writes)},
+    "decide": lambda txn, said, cite: {"cite": cite, "txn": txn, "verdict": verdict(said)},
+    "release": lambda txn: {"txn": txn},
+    "peek": lambda file: {"file": file},
+    "refresh": lambda file, version, text, source: {
+        "content": content(text), "file": file, "from": {"number": source[1], "server": source[0]}, "version": version},
+    "commit": lambda txn, ops, votes: {"ops": list(map(op, ops)), "txn": txn, "votes": list(map(vote, votes))},
+    "resolve": lambda txn: {"txn": txn},
+    "set cost": lambda server, cost: {"cost": cost, "server": server},
+    "mark": lambda server, up: {"server": server, "up": up},
+}
+REPLIES = {
+    "granted": lambda version, text: {"content": content(text), "version": version},
+    "copy": lambda version, text: {"content": content(text), "version": version},
+    "yes": lambda locks, all_writes: {"held": held(locks), "writes": writes(all_writes)},
+    "txn": lambda txn: {"txn": txn},
+    "verdict": lambda said: {"verdict": verdict(said)},
+    "committed": lambda serial: {"serial": serial},
+    "chosen": lambda servers, cost: {"cost": cost, "servers": list(servers)},
+}
+MORE_OF_REFUSALS = {
+    plain.HELD: lambda txn: {"by": txn},
+    plain.NOT_LOCKED: lambda file: {"file": file},
+    plain.DECIDED: lambda said: {"verdict": verdict(said)},
+    plain.BAD_EVIDENCE: lambda rule: {"rule": rule},
+    plain.BLOCKED: lambda servers: {"servers": list(servers)},
+}
+
+
+def said(table, words):
+    """An ask or a reply as an object."""
+    more = table.get(words[0], lambda: {})
+    return {"is": words[0].replace(" ", "")} | more(*words[1:])
+
+
+def entry(asked, reply):
+    if reply[0] != "refused":
+        return {"ask": said(ASKS, asked), "reply": said(REPLIES, reply)}
+    more = MORE_OF_REFUSALS.get(reply[1], lambda: {})
+    return {"ask": said(ASKS, asked), "reply": {"code": reply[1], "is": "refused"} | more(*reply[2:])}
+
+
+def file_of(levels, journals):
+    lists = {part: [entry(*one) for one in journals[part]] for part in journals}
+    limits = {"entries": plain.MOST_ENTRIES, "files": plain.MOST_FILES, "ops": plain.MOST_OPS}
+    servers = [lists[server] for server in range(1, 2**levels)]
+    return {"desk": lists["desk"], "format": 1, "levels": levels, "limits": limits, "servers": servers, "view": lists["view"]}
+
+
+def text_of(file):
+    return json.dumps(file, separators=(",", ":"), sort_keys=True).encode() + b"\n"
+
+
+# What an audit is to say
+
+
+def first_wrong(levels, journals):
+    """The first entry that its part would not give: servers upwards, then the desk, then the view."""
+    for server in range(1, 2**levels):
+        records = plain.Records()
+        for number, (asked, reply) in enumerate(journals[server], 1):
+            replied, records = plain.server_step(records, server, number, asked)
+            if replied != reply:
+                return server, number
+    for part, reply_of in (("desk", plain.desk_reply), ("view", plain.view_reply)):
+        for number, (asked, reply) in enumerate(journals[part], 1):
+            if reply_of(levels, journals[part][: number - 1], asked) != reply:
+                return part, number
+    return None
+
+
+def placed(levels, journals):
+    """All first entries that can be placed."""
+    world, went_on = plain.World(levels), True
+    while went_on:
+        went_on = False
+        for part, entries in journals.items():
+            at = len(world.journals[part])
+            while at < len(entries) and all(world.stands(*cited) for cited in world.citations(entries[at][0])):
+                world.journals[part].append(entries[at])
+                at, went_on = at + 1, True
+    return {part: len(world.journals[part]) for part in journals}
+
+
+def wrong_at(part, number):
+    return f"wrong {plain.part_name(part)} entry {number}\n".encode(), 3
+
+
+def wanted(levels, journals):
+    wrong = first_wrong(levels, journals)
+    return wrong_at(*wrong) if wrong else of_counts(levels, journals, placed(levels, journals))
+
+
+def of_counts(levels, journals, counts):
+    """What is said of journals without a wrong entry of which so many entries can be placed."""
+    if all(counts[part] == len(journals[part]) for part in journals):
+        return f"explained {sum(counts.values())}\n".encode(), 0
+    servers = " ".join(str(counts[server]) for server in range(1, 2**levels))
+    return f"stuck {servers} desk {counts['desk']} view {counts['view']}\n".encode(), 3
