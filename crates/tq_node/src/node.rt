@@ -588,10 +588,12 @@ impl Node {
     }
 
     /// Makes a change that was planned, of this server as it stands. All memory is asked for before the first step of
-    /// it, so that out of memory leaves the server as it was.
+    /// it, so that out of memory leaves the server as it was. The copies are those that the step leaves, also where the
+    /// server stops behind it.
     pub fn apply(&mut self, alloc: Global, change: NodeChange) -> Result<(), Memory>
         requires { NodeFits self.old change }
         ensures ok { OnOk result (self.new ≡ node_changed self.old change) }
+        ensures copies { OnOk result (self.new.state.records.copies ≡ (stepped self.old.state.records change.number change.step).copies) }
         ensures err { OnErr result (self.new ≡ self.old) }
     {
         let NodeChange {
@@ -663,7 +665,8 @@ impl Node {
 
     /// Where it stops, goes down with what its stable records keep.
     fn leave(&mut self, stops: bool)
-        ensures { self.new ≡ left stops self.old }
+        ensures after { self.new ≡ left stops self.old }
+        ensures copies { self.new.state.records.copies ≡ self.old.state.records.copies }
     {
         if stops {
             self.locks.drop_unstable();
