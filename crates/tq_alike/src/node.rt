@@ -99,6 +99,13 @@ fn test_of_ask(one: &NodeAsk, other: &NodeAsk) -> bool
         },
         NodeAsk::Crash => matches!(other, NodeAsk::Crash),
         NodeAsk::Return => matches!(other, NodeAsk::Return),
+        NodeAsk::CrashIn { ask, after } => match other {
+            NodeAsk::CrashIn {
+                ask: work,
+                after: count,
+            } => test_of_work(ask.get(), work.get()) && *after == *count,
+            _ => false,
+        },
     }
 }
 

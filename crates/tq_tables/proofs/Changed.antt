@@ -7,11 +7,8 @@ use Rattle.tq_store.specs.declared.copies.FileCopy.{FileCopy}
 use Rattle.tq_store.specs.declared.write.Write.{Write}
 use Rattle.tq_store.proofs.Installed.{Installs-installed}
 use Rattle.tq_store.proofs.SameName.{same_name-refl}
-use Rattle.tq_node.specs.Node.{NodeView, answered}
-use Rattle.tq_node.specs.NodeChanges.{node_change, stepped}
-use Rattle.tq_node.specs.NodePlans.{change_leads}
+use Rattle.tq_node.specs.NodeChanges.{stepped}
 use Rattle.tq_node.specs.Records.{Records}
-use Rattle.tq_node.specs.declared.ask.NodeAsk.{NodeAsk}
 use Rattle.tq_node.specs.declared.change.NodeStep.{NodeStep}
 use Rattle.tq_node.specs.declared.change.NodeStep.TheVariants as steps
 use Rattle.tq_tables.specs.Files.{files_changed}
@@ -29,7 +26,8 @@ other-installed_all files (write ∷ writes) other none =
     other-installed_all (installed files write.file (copy_in write)) writes other both.1
     ∙ other-installed files write.file (copy_in write) other both.0
 
-step-keeps : (old : Records) (number : ℕ) (step : NodeStep) (file : List ℕ) → is_in file (files_changed step) ≡ false → copy_of (stepped old number step).copies file ≡ copy_of old.copies file
+-- the copies of other files stay under a step
+pub step-keeps : (old : Records) (number : ℕ) (step : NodeStep) (file : List ℕ) → is_in file (files_changed step) ≡ false → copy_of (stepped old number step).copies file ≡ copy_of old.copies file
 step-keeps old number steps.Nothing file none = refl
 step-keeps old number (steps.Lock txn name mode version) file none = refl
 step-keeps old number (steps.Vote txn vote) file none = refl
@@ -38,12 +36,7 @@ step-keeps old number (steps.Install txn vote writes newer) file none = other-in
 step-keeps old number (steps.Release txn) file none = refl
 step-keeps old number (steps.Refresh write) file none =
     other-installed old.copies write.file (record { version = write.version; content = write.content }) file (or_false (same_name file write.file) false none).0
+step-keeps old number (steps.Unfinished records) file none = refl
+step-keeps old number (steps.Copies newer) file none = other-installed_all old.copies newer file none
 step-keeps old number steps.Crash file none = refl
 step-keeps old number steps.Return file none = refl
-
--- the copies of other files stay under an ask
-pub ask-keeps : (old : NodeView) (number : ℕ) (ask : NodeAsk) (file : List ℕ) → is_in file (files_changed (node_change old number ask).step) ≡ false
-    → copy_of (answered old number ask).state.records.copies file ≡ copy_of old.state.records.copies file
-ask-keeps old number ask file none =
-    ap (λ (n : NodeView). copy_of n.state.records.copies file) (sym (change_leads old number ask))
-    ∙ step-keeps old.state.records number (node_change old number ask).step file none

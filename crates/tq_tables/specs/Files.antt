@@ -81,6 +81,7 @@ all_stood node rows files = fold (λ all file. map (stood_at node file) all) row
 abbrev pub files_changed : NodeStep → List (List ℕ)
 files_changed (steps.Install txn number writes newer) = map (λ write. write.file) writes
 files_changed (steps.Refresh write) = write.file ∷ []
+files_changed (steps.Copies newer) = map (λ write. write.file) newer
 files_changed other = []
 
 -- the ops of the commit that an entry of the desk records, none where it records none

@@ -37,6 +37,7 @@ fn files_changed(alloc: Global, step: &NodeStep) -> Result<Vec<FileName>, Memory
 {
     match step {
         NodeStep::Install { writes, .. } => files_written(alloc, writes.as_slice()),
+        NodeStep::Copies { newer } => files_written(alloc, newer.as_slice()),
         NodeStep::Refresh { write } => {
             let mut files = Vec::new(alloc);
             files.push(write.file)?;
