@@ -3,14 +3,12 @@ use Rattle.std.specs.Prelude.{◌==◌, ◌&&◌, ◌||◌}
 use Rattle.std.proofs.Common.{◌≡◌, ℕ, ◌+◌, ◌<◌, Bool, true, false, cond, List, [], ◌∷◌, ◌++◌, Option, Some, None, refl, sym, ap, subst, ◌∙◌, inl, inr, arith}
 use Rattle.std.proofs.lemmas.Bool.{cond-false, false≢true, and_right, eqb-true, ne_eqb}
 use Rattle.std.specs.FinMap as fin
-use Rattle.std.specs.List.{AllByRecursion, list_any, filter_map, cons_option}
-use Rattle.std.specs.Ordering.{nat_cmp}
+use Rattle.std.specs.List.{list_any, filter_map, cons_option}
 use Rattle.tq_shape.specs.Journal.{Has}
 use Rattle.tq_intents.specs.Kept.{Votes, IsAbove, IsUnfinished, is_dead, AreDead, ends_vote, write_of, lock_of, vote_of, opened, open_votes, kept_votes, kept_copies}
 use Rattle.tq_intents.specs.declared.record.OpenVote.{OpenVote}
 use Rattle.tq_intents.specs.declared.record.Record.{Record}
 use Rattle.tq_intents.specs.declared.record.Record.TheVariants.{Copy, Intent, Keep, Prepared, Gone}
-use Rattle.tq_intents.proofs.CopiesPush.{kept_copies-others}
 use Rattle.tq_intents.specs.Index.{IsIndex}
 use Rattle.tq_intents.proofs.CopyPush.{AreOneEach}
 

@@ -4,6 +4,7 @@ use Rattle.std.proofs.lemmas.Bool.{false≢true}
 use Rattle.std.proofs.lemmas.List.{append-nil}
 use Rattle.std.specs.FinMap as fin
 use Rattle.std.specs.List.{AllByRecursion}
+use Rattle.std.specs.Ordering.{nat_cmp}
 use Rattle.std.specs.Option.{option_map_or}
 use Rattle.tq_store.specs.Copies.{Files, installed_all, is_newer}
 use Rattle.tq_store.specs.declared.write.Write.{Write}
@@ -17,8 +18,10 @@ use Rattle.tq_intents.proofs.CopiesPush.{installed_all-newer, kept_copies-others
 use Rattle.tq_intents.proofs.CopyPush.{open_votes-push_copy}
 use Rattle.tq_intents.proofs.DeadRecords.{dead_above, dead_copies, open_votes-dead}
 use Rattle.tq_intents.proofs.Votes.{HasOneVoteEach-ended, HasOneVoteEach-given, kept_votes-ended, kept_votes-given}
-use Rattle.tq_node.specs.Node.{IsKept, IsSound, LocksIn}
-use Rattle.tq_node.specs.Records.{kept_lock, kept_records}
+use Rattle.tq_node.specs.Node.{IsKept, IsSound, LocksIn, NodeView}
+use Rattle.tq_node.specs.NodeChanges.{left, unnoted}
+use Rattle.tq_node.specs.declared.change.NodeStep.TheVariants.{Crash}
+use Rattle.tq_node.specs.Records.{kept_lock}
 use Rattle.tq_node.proofs.KeptLocks.{kept_locks-is, locks-crashed, locks-decided, locks-granted, locks-none, locks-prepared, locks-released}
 use Rattle.tq_node.proofs.Numbers.{above_append, above_copies, above_ended, above_greater, above_vote}
 
@@ -74,7 +77,7 @@ module _ (list : List Record) (last : ℕ) (files : Files) (locks : Locks) (soun
       let same = open_votes-copies writes list in
       record {
         numbers = above_append (last + 1) list (map Copy writes) sound.numbers (above_copies (last + 1) writes);
-        one_each = subst (λ (es : List (ℕ × OpenVote)). AllByRecursion (λ entry. fin.get {R = Rattle.std.specs.Ordering.nat_cmp} (fin.from_entries es) entry.0 ≡ Some entry.1) es) (sym same) sound.one_each;
+        one_each = subst (λ (es : List (ℕ × OpenVote)). AllByRecursion (λ entry. fin.get {R = nat_cmp} (fin.from_entries es) entry.0 ≡ Some entry.1) es) (sym same) sound.one_each;
         copies = kept_copies-all writes list ∙ ap (λ (f : Files). installed_all f writes) sound.copies;
         locks = subst (λ (es : List (ℕ × OpenVote)). LocksIn locks (fin.from_entries es)) (sym same) sound.locks;
       }
@@ -103,7 +106,7 @@ module _ (list : List Record) (last : ℕ) (files : Files) (locks : Locks) (soun
       let same = open_votes-dead n list dead d (above_greater (last + 1) n list (omega (arith, less)) sound.numbers) in
       record {
         numbers = above_append (n + 1) list dead (above_greater (last + 1) (n + 1) list (omega (arith, less)) sound.numbers) (dead_above n dead d);
-        one_each = subst (λ (es : List (ℕ × OpenVote)). AllByRecursion (λ entry. fin.get {R = Rattle.std.specs.Ordering.nat_cmp} (fin.from_entries es) entry.0 ≡ Some entry.1) es) (sym same) sound.one_each;
+        one_each = subst (λ (es : List (ℕ × OpenVote)). AllByRecursion (λ entry. fin.get {R = nat_cmp} (fin.from_entries es) entry.0 ≡ Some entry.1) es) (sym same) sound.one_each;
         copies = kept_copies-others list dead (dead_copies n dead d) ∙ sound.copies;
         locks = subst (λ (es : List (ℕ × OpenVote)). LocksIn locks (fin.from_entries es)) (sym same) sound.locks;
       }
@@ -130,9 +133,12 @@ module _ (list : List Record) (last : ℕ) (files : Files) (locks : Locks) (soun
       let c = sound.copies in
       λ i. record { copies = c i; locks = l i; votes = kept_votes list; down = true }
 
--- down, with the stable locks alone, the records are those that the list keeps
-pub left_is : (list : List Record) (last : ℕ) (files : Files) (locks : Locks) → IsSound list last files locks → record { copies = files; locks = only_stable locks; votes = kept_votes list; down = true } ≡ kept_records list
-left_is list last files locks sound = sym (kept_is list last files locks sound true)
+-- a crash leaves what the stable list keeps
+pub left_is : (old : NodeView) (number : ℕ) → IsKept old.state → unnoted old number Crash ≡ left true old
+left_is old number h =
+    let records = sym h in
+    let list = append-nil old.state.stable in
+    λ i. record { levels = old.levels; server = old.server; state = record { records = records i; stable = list i }; last = old.last }
 
 pub sound-opening : IsSound [] 0 fin.empty fin.empty
 sound-opening = record { numbers = tt; one_each = tt; copies = refl; locks = locks-none }

@@ -18,7 +18,7 @@ impl<T> Model for Boxed<T> {
     ghost view = { λ a. a.value.value };
 }
 
-impl<T> Boxed<T> {
+impl<T: Drop> Boxed<T> {
     /// The value, on the heap.
     pub fn new(alloc: Global, value: T) -> Result<Self, Memory>
         ensures { IfOk result (λ boxed. boxed ≡ value) }

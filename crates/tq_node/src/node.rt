@@ -1,4 +1,4 @@
-ghost use Rattle.std.specs.Prelude.{◌≡◌, if◌then◌else◌, ◌<◌, ◌≤◌, OnOk, OnErr, IfOk, None, Ok, Some};
+ghost use Rattle.std.specs.Prelude.{◌≡◌, if◌then◌else◌, ◌<◌, ◌≤◌, false, OnOk, OnErr, IfOk, None, Ok, Some};
 ghost use Rattle.std.specs.Prelude.{IsSome, [], map, filter};
 ghost use Rattle.std.specs.FinMap as fin;
 ghost use Rattle.tq_intents.specs.Kept.{AreDead};
@@ -669,8 +669,8 @@ impl Node {
         ensures copies { self.new.state.records.copies ≡ self.old.state.records.copies }
     {
         if stops {
-            self.locks.drop_unstable();
-            self.down = true;
+            let last = self.last;
+            self.crash(last);
         }
     }
 

@@ -1,7 +1,11 @@
-use Rattle.std.proofs.Common.{sym, ap, ◌∙◌}
+use Rattle.std.proofs.Common.{Bool, ap, sym, subst, ◌∙◌}
+use Rattle.tq_node.specs.Node.{IsKept, NodeView}
 use Rattle.tq_node.specs.NodeChanges.{left}
-use Rattle.tq_node.proofs.Sound.{left_is, sound-crashed}
+use Rattle.tq_node.proofs.Sound.{kept_is, left_is}
 use Rattle.tq_node.proofs.node.Node.leave.Goals as goal
 
--- DRAFT, never checked: names of the goals at the two ways of the `if`, and how the join is named, are guesses.
--- What is wanted where it stops: the invariant by `sound-crashed`, the value by `left_is` of the old invariant.
+pub returns-then-stops-clause-after : goal.returns-then-stops-clause-after
+returns-then-stops-clause-after c =
+    let inside = c.self.inside in
+    let kept = subst (λ (v : NodeView). IsKept v.state) c.self.view_is (kept_is inside.intents.records inside.last inside.copies.files inside.locks c.self.invariant inside.down) in
+    c.crash.ensures ∙ left_is c.args.self.now inside.last kept ∙ ap (λ (b : Bool). left b c.args.self.now) (sym c.if-stops.true)
