@@ -6,6 +6,7 @@ use Rattle.tq_desk.specs.declared.ask.DeskAsk.TheVariants as desk_asks
 use Rattle.tq_desk.specs.declared.ask.DeskReply.{DeskReply}
 use Rattle.tq_desk.specs.declared.ask.DeskReply.TheVariants as desk_replies
 use Rattle.tq_live.specs.View.{is_server}
+use Rattle.tq_node.specs.declared.ask.WorkAsk.TheVariants.{Decide}
 use Rattle.tq_tables.specs.Journals.{JournalsView}
 use Rattle.tq_txn.specs.declared.fault.LineFault.{LineFault}
 use Rattle.tq_txn.specs.declared.reading.Reading.{Reading}
@@ -120,6 +121,21 @@ prepare_voting kept server old =
 abbrev pub prepare_asked : ℕ → ℕ → Kept → asks.Dialogue TxnAnswer
 prepare_asked server number kept = voting_in kept kept.txn (prepare_voting kept server)
 
+abbrev pub down_text : ℕ → List ℕ
+down_text server = codes "down " ++ decimal server
+
+-- the vote that is there, or that the server is down
+abbrev pub stopped_text : ℕ → VotingView → Bool → List ℕ
+stopped_text server new there = cond there (codes "yes " ++ decimal server) (down_text server)
+
+abbrev pub prepare_crash_voting : Kept → ℕ → ℕ → VotingView → asks.Dialogue TxnAnswer
+prepare_crash_voting kept server after old =
+    answered (lines.prepare_stop_line old server after) (λ new. in_state kept (states.Voting new)) (λ new. server ∷ []) (stopped_text server)
+
+-- the voter stops in its vote
+abbrev pub prepare_crash_asked : ℕ → ℕ → ℕ → Kept → asks.Dialogue TxnAnswer
+prepare_crash_asked server after number kept = voting_in kept kept.txn (prepare_crash_voting kept server after)
+
 abbrev pub serial_text : Txn → ℕ → List ℕ
 serial_text new serial = codes "committed " ++ decimal serial
 
@@ -172,6 +188,18 @@ apply_by server number kept (Some ending) =
 abbrev pub apply_asked : ℕ → ℕ → Kept → asks.Dialogue TxnAnswer
 apply_asked server number kept = apply_by server number kept (ending_in kept)
 
+abbrev pub apply_stopped_text : ℕ → Unit {0} → Unit {0} → List ℕ
+apply_stopped_text server none all = down_text server
+
+abbrev pub apply_crash_by : ℕ → ℕ → ℕ → Kept → Option Ending → asks.Dialogue TxnAnswer
+apply_crash_by server after number kept None = txn_said kept (codes "not decided " ++ decimal number)
+apply_crash_by server after number kept (Some ending) =
+    answered (lines.stop_line server (Decide number ending.verdict ending.cite) after) (λ none. kept) no_servers (apply_stopped_text server)
+
+-- the server stops where it is told the verdict
+abbrev pub apply_crash_asked : ℕ → ℕ → ℕ → Kept → asks.Dialogue TxnAnswer
+apply_crash_asked server after number kept = apply_crash_by server after number kept (ending_in kept)
+
 -- ---- the server is one of the tree
 abbrev pub server_asked : ℕ → ℕ → (ℕ → Kept → asks.Dialogue TxnAnswer) → ℕ → Kept → asks.Dialogue TxnAnswer
 server_asked levels server next number kept = cond (is_server levels server) (next number kept) (txn_said kept (codes "no such server " ++ decimal server))
@@ -186,6 +214,8 @@ line_asked levels (of.Apply server) = server_asked levels server (apply_asked se
 line_asked levels of.Commit = commit_asked
 line_asked levels of.Abort = abort_asked
 line_asked levels of.Resolve = resolve_asked
+line_asked levels (of.PrepareCrash server after) = server_asked levels server (prepare_crash_asked server after)
+line_asked levels (of.ApplyCrash server after) = server_asked levels server (apply_crash_asked server after)
 
 -- a line of a transaction that was printed so: the text that it adds, the journals and what is kept of the transaction
 pub record IsAnswered (line : asks.Dialogue TxnAnswer) (old new : JournalsView) (before after : List ℕ) (left : Kept) : Type 0 where

@@ -5,6 +5,7 @@ ghost use Rattle.tq_client.specs.Possible.{IsSaid};
 ghost use Rattle.tq_client.specs.TxnAsked as spec;
 
 use crate::endings::{abort_txn, apply, commit_txn, decide_txn, prepare, resolve};
+use crate::stops::{apply_crash_at_server, prepare_crash_at_server};
 use crate::kept::Kept;
 use crate::operations::{read, write};
 use std::alloc::Global;
@@ -65,6 +66,12 @@ fn answer_line(
         TxnLine::Commit => Ok(commit_txn(recorder, alloc, kept, text)?),
         TxnLine::Abort => Ok(abort_txn(recorder, alloc, kept, text)?),
         TxnLine::Resolve => Ok(resolve(recorder, alloc, number, kept, text)?),
+        TxnLine::PrepareCrash { server, after } => Ok(prepare_crash_at_server(
+            recorder, alloc, levels, kept, server, after, text,
+        )?),
+        TxnLine::ApplyCrash { server, after } => Ok(apply_crash_at_server(
+            recorder, alloc, levels, number, kept, server, after, text,
+        )?),
     }
 }
 

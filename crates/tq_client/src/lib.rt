@@ -6,6 +6,7 @@ mod endings;
 mod kept;
 mod operations;
 mod states;
+mod stops;
 
 pub use answering::answer_txn;
 pub use kept::{Ending, Kept};

@@ -7,8 +7,9 @@ use Rattle.tq_store.specs.Names.{is_file_name}
 use Rattle.tq_lines.specs.Word.{number_of, word_of, rest_of}
 use Rattle.tq_lines.specs.declared.line.Line.{Line}
 use Rattle.tq_lines.specs.declared.line.Line.TheVariants.{Empty, Bad, Cost, Mark, Choose, Begin, Refresh, Board, Txn}
-use Rattle.tq_lines.specs.declared.line.TxnLine.TheVariants.{Read, Write, Prepare, Decide, Apply, Commit, Abort, Resolve}
+use Rattle.tq_lines.specs.declared.line.TxnLine.TheVariants.{Read, Write, Prepare, Decide, Apply, Commit, Abort, Resolve, PrepareCrash, ApplyCrash}
 use Rattle.tq_lines.specs.declared.operands.Numbers.{Numbers}
+use Rattle.tq_lines.specs.declared.operands.Stop.{Stop}
 use Rattle.tq_lines.specs.declared.operands.Target.{Target}
 
 -- ---- what follows the verb
@@ -54,6 +55,33 @@ abbrev pub text_of : Option (List ℕ) → Option (List ℕ)
 text_of None = Some []
 text_of (Some text) = content_of text
 
+-- a number of 32 bits
+abbrev pub small_of : Option ℕ → Option ℕ
+small_of None = None
+small_of (Some number) = cond (nat_le number 4294967295) (Some number) None
+
+abbrev pub crash_words : List ℕ → Option (List ℕ) → Option ℕ
+crash_words word rest = cond (bytes_eq word (codes "crash")) (small_of (one_number rest)) None
+
+-- what follows the server: `crash`, and behind how many records
+abbrev pub crash_of : Option (List ℕ) → Option ℕ
+crash_of None = None
+crash_of (Some words) = crash_words (word_of words) (rest_of words)
+
+abbrev pub stop_by : Option Numbers → Option ℕ → Option Stop
+stop_by None after = None
+stop_by (Some numbers) None = None
+stop_by (Some numbers) (Some after) = Some (record { txn = numbers.first; server = numbers.second; after = after })
+
+abbrev pub stop_words : List ℕ → Option (List ℕ) → Option Stop
+stop_words first None = None
+stop_words first (Some words) = stop_by (both_numbers (number_of first) (number_of (word_of words))) (crash_of (rest_of words))
+
+-- a transaction, a server, and behind how many records it stops
+abbrev pub stop_of : Option (List ℕ) → Option Stop
+stop_of None = None
+stop_of (Some words) = stop_words (word_of words) (rest_of words)
+
 -- ---- the lines
 
 abbrev pub alone : Line → Option (List ℕ) → Line
@@ -67,6 +95,25 @@ with_number line (Some number) = line number
 abbrev pub with_numbers : (ℕ → ℕ → Line) → Option Numbers → Line
 with_numbers line None = Bad
 with_numbers line (Some numbers) = line numbers.first numbers.second
+
+abbrev pub with_stop : (ℕ → ℕ → ℕ → Line) → Option Stop → Line
+with_stop line None = Bad
+with_stop line (Some stop) = line stop.txn stop.server stop.after
+
+-- two numbers, or these and a stop
+abbrev pub or_with_stop : (ℕ → ℕ → Line) → (ℕ → ℕ → ℕ → Line) → Option Numbers → Option Stop → Line
+or_with_stop line stopped None stop = with_stop stopped stop
+or_with_stop line stopped (Some numbers) stop = line numbers.first numbers.second
+
+-- what follows `prepare`: a transaction and a server, which may stop in it
+abbrev pub prepare_line : Option (List ℕ) → Line
+prepare_line rest =
+    or_with_stop (λ txn server. Txn txn (Prepare server)) (λ txn server after. Txn txn (PrepareCrash server after)) (two_numbers rest) (stop_of rest)
+
+-- what follows `apply`, likewise
+abbrev pub apply_line : Option (List ℕ) → Line
+apply_line rest =
+    or_with_stop (λ txn server. Txn txn (Apply server)) (λ txn server after. Txn txn (ApplyCrash server after)) (two_numbers rest) (stop_of rest)
 
 abbrev pub read_by : Option Target → Line
 read_by None = Bad
@@ -114,8 +161,8 @@ abbrev pub txn_by : List ℕ → Option (List ℕ) → Line
 txn_by verb rest =
     cond (bytes_eq verb (codes "read")) (read_line rest)
     (cond (bytes_eq verb (codes "write")) (write_line rest)
-    (cond (bytes_eq verb (codes "prepare")) (with_numbers (λ txn server. Txn txn (Prepare server)) (two_numbers rest))
-    (cond (bytes_eq verb (codes "apply")) (with_numbers (λ txn server. Txn txn (Apply server)) (two_numbers rest)) (end_by verb rest))))
+    (cond (bytes_eq verb (codes "prepare")) (prepare_line rest)
+    (cond (bytes_eq verb (codes "apply")) (apply_line rest) (end_by verb rest))))
 
 abbrev pub line_by : List ℕ → Option (List ℕ) → Line
 line_by verb rest =

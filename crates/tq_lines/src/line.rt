@@ -3,7 +3,7 @@ ghost use Rattle.std.specs.Prelude.{◌≡◌, IfOk};
 ghost use Rattle.tq_lines.specs.Line as spec;
 ghost use Rattle.tq_lines.specs.Word.{options_now};
 
-use crate::operands::{one_number, target_of, text_of, two_numbers};
+use crate::operands::{one_number, stop_of, target_of, text_of, two_numbers};
 use crate::word::first_word;
 use std::alloc::Global;
 use tq_shape::Memory;
@@ -39,6 +39,10 @@ pub enum TxnLine {
     Commit,
     Abort,
     Resolve,
+    /// The server stops in its vote, behind so many of the records that it would write.
+    PrepareCrash { server: u64, after: u32 },
+    /// The server stops likewise where it is told the verdict.
+    ApplyCrash { server: u64, after: u32 },
 }
 
 /// The most bytes of a line that is no bad line.
@@ -176,10 +180,10 @@ fn cost(rest: Option<&[u8]>) -> Line
 }
 
 fn prepare(rest: Option<&[u8]>) -> Line
-    ensures { result ≡ spec.with_numbers (λ txn server. Line.Txn txn (TxnLine.Prepare server)) (spec.two_numbers (options_now rest.entry)) }
+    ensures { result ≡ spec.prepare_line (options_now rest.entry) }
 {
     match two_numbers(rest) {
-        None => Line::Bad,
+        None => prepare_crash(rest),
         Some(numbers) => Line::Txn {
             number: numbers.first,
             line: TxnLine::Prepare {
@@ -189,15 +193,45 @@ fn prepare(rest: Option<&[u8]>) -> Line
     }
 }
 
+fn prepare_crash(rest: Option<&[u8]>) -> Line
+    ensures { result ≡ spec.with_stop (λ txn server after. Line.Txn txn (TxnLine.PrepareCrash server after)) (spec.stop_of (options_now rest.entry)) }
+{
+    match stop_of(rest) {
+        None => Line::Bad,
+        Some(stop) => Line::Txn {
+            number: stop.txn,
+            line: TxnLine::PrepareCrash {
+                server: stop.server,
+                after: stop.after,
+            },
+        },
+    }
+}
+
 fn apply(rest: Option<&[u8]>) -> Line
-    ensures { result ≡ spec.with_numbers (λ txn server. Line.Txn txn (TxnLine.Apply server)) (spec.two_numbers (options_now rest.entry)) }
+    ensures { result ≡ spec.apply_line (options_now rest.entry) }
 {
     match two_numbers(rest) {
-        None => Line::Bad,
+        None => apply_crash(rest),
         Some(numbers) => Line::Txn {
             number: numbers.first,
             line: TxnLine::Apply {
                 server: numbers.second,
+            },
+        },
+    }
+}
+
+fn apply_crash(rest: Option<&[u8]>) -> Line
+    ensures { result ≡ spec.with_stop (λ txn server after. Line.Txn txn (TxnLine.ApplyCrash server after)) (spec.stop_of (options_now rest.entry)) }
+{
+    match stop_of(rest) {
+        None => Line::Bad,
+        Some(stop) => Line::Txn {
+            number: stop.txn,
+            line: TxnLine::ApplyCrash {
+                server: stop.server,
+                after: stop.after,
             },
         },
     }

@@ -1,8 +1,9 @@
 ghost use Rattle.std.specs.Prelude.{◌≡◌, IfOk};
 ghost use Rattle.std.specs.List.{list_all};
 ghost use Rattle.tq_lines.specs.Line as spec;
-ghost use Rattle.tq_lines.specs.Word.{options_now};
+ghost use Rattle.tq_lines.specs.Word.{options_now, number_of};
 
+use crate::line::is_same;
 use crate::word::{first_word, number_of};
 use std::alloc::Global;
 use tq_shape::Memory;
@@ -13,6 +14,14 @@ use tq_store::{Content, FileName, MAX_CONTENT};
 pub(crate) struct Numbers {
     pub(crate) first: u64,
     pub(crate) second: u64,
+}
+
+/// A transaction, a server, and behind how many records it stops.
+#[derive(Clone, Copy)]
+pub(crate) struct Stop {
+    pub(crate) txn: u64,
+    pub(crate) server: u64,
+    pub(crate) after: u32,
 }
 
 /// A transaction and a file that follow a verb.
@@ -45,6 +54,71 @@ pub(crate) fn two_numbers(rest: Option<&[u8]>) -> Option<Numbers>
     };
     match one_number(more) {
         Some(second) => Some(Numbers { first, second }),
+        None => None,
+    }
+}
+
+/// The numbers that two words spell.
+fn both_numbers(first: &[u8], second: &[u8]) -> Option<Numbers>
+    ensures { result ≡ spec.both_numbers (number_of first.now) (number_of second.now) }
+{
+    let Some(first) = number_of(first) else {
+        return None;
+    };
+    match number_of(second) {
+        Some(second) => Some(Numbers { first, second }),
+        None => None,
+    }
+}
+
+/// The one number of 32 bits that follows.
+fn small_number(rest: Option<&[u8]>) -> Option<u32>
+    ensures { result ≡ spec.small_of (spec.one_number (options_now rest.entry)) }
+{
+    let Some(number) = one_number(rest) else {
+        return None;
+    };
+    if number > u32::MAX as u64 {
+        return None;
+    }
+    Some(number as u32)
+}
+
+/// Behind how many records a server stops, where `crash` and their number follow.
+fn crash_of(rest: Option<&[u8]>) -> Option<u32>
+    ensures { result ≡ spec.crash_of (options_now rest.entry) }
+{
+    let Some(words) = rest else {
+        return None;
+    };
+    let (word, more) = first_word(words);
+    if !is_same(word, b"crash") {
+        return None;
+    }
+    small_number(more)
+}
+
+/// The transaction, the server and the stop that follow.
+pub(crate) fn stop_of(rest: Option<&[u8]>) -> Option<Stop>
+    ensures { result ≡ spec.stop_of (options_now rest.entry) }
+{
+    let Some(words) = rest else {
+        return None;
+    };
+    let (first, more) = first_word(words);
+    let Some(others) = more else {
+        return None;
+    };
+    let (second, last) = first_word(others);
+    let Some(numbers) = both_numbers(first, second) else {
+        return None;
+    };
+    match crash_of(last) {
+        Some(after) => Some(Stop {
+            txn: numbers.first,
+            server: numbers.second,
+            after,
+        }),
         None => None,
     }
 }

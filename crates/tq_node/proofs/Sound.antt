@@ -21,7 +21,7 @@ use Rattle.tq_intents.proofs.Votes.{HasOneVoteEach-ended, HasOneVoteEach-given, 
 use Rattle.tq_node.specs.Node.{IsKept, IsSound, LocksIn, NodeView}
 use Rattle.tq_node.specs.NodeChanges.{left, unnoted}
 use Rattle.tq_node.specs.declared.change.NodeStep.TheVariants.{Crash}
-use Rattle.tq_node.specs.Records.{kept_lock, kept_records}
+use Rattle.tq_node.specs.Records.{kept_lock}
 use Rattle.tq_node.proofs.KeptLocks.{kept_locks-is, locks-crashed, locks-decided, locks-granted, locks-none, locks-prepared, locks-released}
 use Rattle.tq_node.proofs.Numbers.{above_append, above_copies, above_ended, above_greater, above_vote}
 

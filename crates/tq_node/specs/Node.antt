@@ -1,5 +1,5 @@
 -- What contracts see of a server.
-use Rattle.std.specs.Prelude.{◌≡◌, ℕ, Bool, true, false, List, [], ◌∷◌, Some, ◌+◌, ◌++◌, take, refl}
+use Rattle.std.specs.Prelude.{◌≡◌, ℕ, Bool, true, false, List, [], ◌∷◌, Some, ◌+◌, ◌++◌, refl}
 use Rattle.std.specs.Coded.{Coded, code_by, coded×, coded_list, coded_ℕ, coded_bool}
 use Rattle.std.specs.FinMap as fin
 use Rattle.tq_shape.specs.Journal.{Has}
@@ -11,10 +11,8 @@ use Rattle.tq_intents.specs.declared.record.KeptLock.{KeptLock}
 use Rattle.tq_intents.specs.declared.record.OpenVote.{OpenVote}
 use Rattle.tq_intents.specs.declared.record.Record.{Record}
 use Rattle.tq_intents.specs.declared.record.Record.TheVariants as stable
-use Rattle.tq_node.specs.Records.{Records, NodeState, open_vote, work_writes, records_after, node_after, kept_records, work_refusal}
-use Rattle.tq_shape.specs.Steps.{state_at}
+use Rattle.tq_node.specs.Records.{Records, NodeState, open_vote, node_after, kept_records}
 use Rattle.tq_node.specs.declared.ask.NodeAsk.{NodeAsk}
-use Rattle.tq_node.specs.declared.ask.WorkAsk.{WorkAsk}
 
 pub record NodeView : Type 0 where
   -- the levels of its tree, and its number there

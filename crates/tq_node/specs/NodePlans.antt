@@ -1,12 +1,11 @@
 -- A server's plans may be made, and lead where its asks do.
 use Rattle.std.specs.Prelude.{◌==◌, nat_le, nat_lt, not, take, if◌then◌else◌}
-use Rattle.std.proofs.Common.{◌≡◌, ◌≤◌, ◌<◌, ◌+◌, suc, zero, length, cond, sym, subst, ◌∙◌, inl, inr, ◌++◌, ℕ, Bool, true, false, List, [], ◌∷◌, Option, Some, None, IsSome, is_some, map, filter, refl, ap, arith}
+use Rattle.std.proofs.Common.{◌≡◌, ◌<◌, ◌+◌, suc, zero, length, sym, subst, ◌∙◌, inl, inr, ◌++◌, ℕ, Bool, true, false, List, [], ◌∷◌, Option, Some, None, IsSome, is_some, map, filter, refl, ap, arith}
 use Rattle.std.proofs.lemmas.Bool.{eq-eqb, eqb-true, false≢true, leb-false, leb-true, ltb-false, ltb-true}
 use Rattle.std.proofs.lemmas.List.{append-nil, take-append-le, take_all}
 use Rattle.std.specs.FinMap as fin
 use Rattle.tq_store.specs.Copies.{installed_all, is_newer}
 use Rattle.tq_locks.specs.Locks.{blocker, released}
-use Rattle.tq_shape.specs.Journal.{Has}
 use Rattle.tq_store.specs.declared.write.Write.{Write}
 use Rattle.tq_intents.specs.Kept.{AreDead, is_dead, vote_records}
 use Rattle.tq_intents.specs.declared.record.KeptLock.{KeptLock}
@@ -24,7 +23,7 @@ use Rattle.tq_node.specs.declared.change.NodeStep.TheVariants as steps
 use Rattle.tq_node.specs.Records.{Records, NodeState, has_vote, installs, refusal, open_vote, work_refusal, kept_records, records_after, work_after, work_writes, writes_of}
 use Rattle.tq_shape.specs.Steps.{state_at}
 use Rattle.tq_node.specs.Node.{NodeView, answered, opening}
-use Rattle.tq_node.specs.NodeChanges.{cut, end_step, is_stop, work_step, state_left, step_of, stop_step, node_change, node_changed, records_of, stepped, NodeFits, StepFits}
+use Rattle.tq_node.specs.NodeChanges.{cut, end_step, is_stop, work_step, state_left, step_of, node_change, node_changed, records_of, stepped, NodeFits, StepFits}
 use Rattle.tq_shape.specs.Unrefused.{refuse-none, refuse_for-none}
 
 -- ---- a plan may be made

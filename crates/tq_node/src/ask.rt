@@ -79,10 +79,7 @@ pub enum NodeAsk {
     Return,
     /// To stop in the midst of the work, behind so many of the stable records that it would write, and go down: these
     /// records are kept, and what isn't stable is lost.
-    CrashIn {
-        ask: Boxed<WorkAsk>,
-        after: u32,
-    },
+    CrashIn { ask: Boxed<WorkAsk>, after: u32 },
 }
 
 /// Why a server refuses an ask. A refusal changes nothing.

@@ -7,6 +7,7 @@ use Rattle.tq_node.specs.declared.ask.NodeAsk.{NodeAsk}
 use Rattle.tq_node.specs.declared.ask.NodeAsk.TheVariants.{Work}
 use Rattle.tq_node.specs.declared.ask.NodeReply.{NodeReply}
 use Rattle.tq_node.specs.declared.ask.NodeReply.TheVariants.{Yes}
+use Rattle.tq_node.specs.declared.ask.WorkAsk.{WorkAsk}
 use Rattle.tq_node.specs.declared.ask.WorkAsk.TheVariants.{Prepare}
 use Rattle.tq_desk.specs.declared.ask.DeskAsk.{DeskAsk}
 use Rattle.tq_desk.specs.declared.ask.DeskAsk.TheVariants.{Commit}
@@ -40,6 +41,10 @@ write_in op = record { file = op.file; version = op.version; content = op.conten
 -- what the transaction writes at a server
 abbrev pub writes_at : List Op → ℕ → List Write
 writes_at ops server = map write_in (filter (λ op. has_server op server) (writes_in ops))
+
+-- the work that a voter is asked for its vote
+abbrev pub prepare_work : OpenView → ℕ → WorkAsk
+prepare_work old server = Prepare old.txn (writes_at old.ops server)
 
 -- the ask for a voter's vote
 abbrev pub prepare_ask : OpenView → ℕ → NodeAsk

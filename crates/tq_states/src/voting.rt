@@ -82,15 +82,27 @@ impl Voting {
         ensures value { IfOk result (λ ask. ask ≡ spec.prepare_ask self.now.txn server.number) }
         ensures fault { IfErr result (λ fault. open_spec.ComesOf (spec.ask_fault self.now.txn server.number) fault) }
     {
+        match self.work(alloc, server) {
+            Ok(work) => Ok(NodeAsk::Work(work)),
+            Err(fault) => Err(fault),
+        }
+    }
+
+    /// The work that a voter is asked for its vote.
+    pub fn work(&self, alloc: Global, server: ServerId) -> Result<WorkAsk, TxnFault>
+        ensures succeeds { IfOk result (λ work. spec.ask_fault self.now.txn server.number ≡ None) }
+        ensures value { IfOk result (λ work. work ≡ spec.prepare_work self.now.txn server.number) }
+        ensures fault { IfErr result (λ fault. open_spec.ComesOf (spec.ask_fault self.now.txn server.number) fault) }
+    {
         let ops = self.txn.ops();
         if !is_server_of(ops, server.number()) {
             return Err(TxnFault::NotAVoter);
         }
         let writes = writes_at(alloc, ops, server.number())?;
-        Ok(NodeAsk::Work(WorkAsk::Prepare {
+        Ok(WorkAsk::Prepare {
             txn: self.txn.txn(),
             writes,
-        }))
+        })
     }
 
     /// Takes a vote, in place of one of its server that is there. A fault leaves the transaction as it was.

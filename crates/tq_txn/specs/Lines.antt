@@ -5,18 +5,19 @@ use Rattle.tq_store.specs.declared.copies.FileCopy.{FileCopy}
 use Rattle.tq_locks.specs.declared.mode.Mode.{Mode}
 use Rattle.tq_locks.specs.declared.mode.Mode.TheVariants.{Shared, Exclusive}
 use Rattle.tq_node.specs.declared.ask.NodeAsk.{NodeAsk}
-use Rattle.tq_node.specs.declared.ask.NodeAsk.TheVariants.{Work}
+use Rattle.tq_node.specs.declared.ask.NodeAsk.TheVariants.{Work, CrashIn}
 use Rattle.tq_node.specs.declared.ask.NodeRefusal.{NodeRefusal}
 use Rattle.tq_node.specs.declared.ask.NodeRefusal.TheVariants.{NothingHere}
 use Rattle.tq_coterie.specs.Coterie.{ServerList}
 use Rattle.tq_node.specs.declared.ask.NodeReply.{NodeReply}
 use Rattle.tq_node.specs.declared.ask.NodeReply.TheVariants as replies
 use Rattle.tq_node.specs.declared.ask.Verdict.{Verdict}
+use Rattle.tq_node.specs.declared.ask.WorkAsk.{WorkAsk}
 use Rattle.tq_node.specs.declared.ask.WorkAsk.TheVariants.{Lock, Decide, Release}
 use Rattle.tq_evidence.specs.declared.op.Op.{Op}
 use Rattle.tq_evidence.specs.declared.op.OpKind.TheVariants as kinds
 use Rattle.tq_evidence.specs.Evidence.{greatest}
-use Rattle.tq_live.specs.declared.view.ViewAsk.TheVariants.{Choose}
+use Rattle.tq_live.specs.declared.view.ViewAsk.TheVariants.{Choose, Mark}
 use Rattle.tq_live.specs.declared.view.ViewReply.{ViewReply}
 use Rattle.tq_live.specs.declared.view.ViewReply.TheVariants as view_replies
 use Rattle.tq_txn.specs.declared.fault.LineFault.{LineFault}
@@ -30,7 +31,7 @@ use Rattle.tq_txn.specs.declared.applying.Applied.TheVariants.{Installed, Discar
 use Rattle.tq_states.specs.Ended.{EndedView, decide_ask}
 use Rattle.tq_txn.specs.Dialogue.{Told, Dialogue, LineEnd, Ends, AsksNode, done, failed, and_then, unless, node_line, view_line}
 use Rattle.tq_states.specs.Open.{OpenView, pending, seen, written, has_all_ops, read_fault, read_copy, read_after, write_fault, write_after, grants_of, touched_by, rewritten}
-use Rattle.tq_states.specs.Voting.{VotingView, has_vote, ask_fault, prepare_ask, vote_fault, vote_after}
+use Rattle.tq_states.specs.Voting.{VotingView, has_vote, ask_fault, prepare_work, prepare_ask, vote_fault, vote_after}
 
 -- what a function of the answer says ends the line
 abbrev pub answers : {A S : Type 0} → Result A LineFault → S → Dialogue (LineEnd A S)
@@ -193,3 +194,23 @@ applied server reply = Err (faults.WrongReply (parts.Server server))
 abbrev pub apply_line : ℕ → Verdict → ℕ → ℕ → Dialogue (LineEnd Applied (Unit {0}))
 apply_line txn verdict cite server =
     and_then (node_line server (Work (Decide txn verdict cite))) (λ none. none) (λ told none. answers (applied told.server told.reply) none)
+
+-- ---- a stop in the midst of an ask
+
+-- the server is marked down
+abbrev pub down_line : ℕ → Dialogue (LineEnd (Unit {0}) (Unit {0}))
+down_line server = and_then (view_line (Mark server false)) (λ none. none) (λ told none. done tt none)
+
+-- the server stops in the work, behind so many of its records, and is marked down, whatever is answered
+abbrev pub stop_line : ℕ → WorkAsk → ℕ → Dialogue (LineEnd (Unit {0}) (Unit {0}))
+stop_line server ask after = and_then (any_line server (CrashIn ask after)) (λ none. none) (λ reply none. down_line server)
+
+-- a voter stops in its vote, which is not taken
+abbrev pub first_prepare_stop : VotingView → ℕ → ℕ → Dialogue (LineEnd Bool VotingView)
+first_prepare_stop old server after =
+    unless (ask_fault old.txn server) old
+    (and_then (stop_line server (prepare_work old.txn server) after) (λ none. old) (λ all none. done false old))
+
+-- whether the vote is there, which is answered with no ask
+abbrev pub prepare_stop_line : VotingView → ℕ → ℕ → Dialogue (LineEnd Bool VotingView)
+prepare_stop_line old server after = if has_vote old.votes server then done true old else first_prepare_stop old server after

@@ -9,6 +9,7 @@ mod endings;
 mod fault;
 mod operations;
 mod reading;
+mod stops;
 mod txn;
 
 pub use aborts::abort;
@@ -19,6 +20,7 @@ pub use endings::{apply_at, ask_any, prepare_at};
 pub use fault::LineFault;
 pub use operations::{read_file, write_file};
 pub use reading::Reading;
+pub use stops::{prepare_stopping, stop_at};
 pub use tq_part::{Answered, AskFault};
 pub use tq_states::{DeskTold, Ended, NodeTold, Open, Ready, TxnFault, Voting};
 pub use txn::{Abortion, Decision, Txn};

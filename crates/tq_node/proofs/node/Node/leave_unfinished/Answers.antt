@@ -1,4 +1,4 @@
-use Rattle.std.proofs.Common.{◌<◌, ◌++◌, refl, ap, arith, ◌∙◌}
+use Rattle.std.proofs.Common.{◌<◌, refl, arith}
 use Rattle.tq_node.proofs.Sound.{sound-as, sound-dead, sound-unfinished}
 use Rattle.tq_node.proofs.node.Node.leave_unfinished.Goals as goal
 
