@@ -18,7 +18,7 @@ use Rattle.tq_locks.proofs.LockMaps.{locks_total, locks_same}
 use Rattle.tq_intents.specs.Kept.{Votes, stable_lock}
 use Rattle.tq_intents.specs.declared.record.KeptLock.{KeptLock}
 use Rattle.tq_intents.specs.declared.record.OpenVote.{OpenVote}
-use Rattle.tq_node.specs.Records.{Records, NodeState, has_vote, holds_exclusively, not_locked, are_good_writes, work_refusal, refusal, open_vote, installs, held_lock, kept_lock, work_reply, work_after, records_after, answer_at, node_reply, node_after}
+use Rattle.tq_node.specs.Records.{Records, NodeState, has_vote, holds_exclusively, not_locked, are_good_writes, work_refusal, refusal, open_vote, installs, held_lock, kept_lock, work_reply, work_after, crashed, answer_at, node_reply, node_after}
 use Rattle.tq_shape.specs.Steps.{refuse, refuse_for, state_at}
 use Rattle.tq_node.specs.declared.ask.CitedVote.{CitedVote}
 use Rattle.tq_node.specs.declared.ask.HeldLock.{HeldLock}
