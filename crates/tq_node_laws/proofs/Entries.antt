@@ -1,8 +1,8 @@
 -- What each entry does to a server's records, and that the stable records keep them, stops inside an ask among them.
-use Rattle.std.proofs.Common.{◌≡◌, ℕ, suc, ◌++◌, true, false, List, [], ◌∷◌, length, Option, Some, None, refl, ap, arith}
+use Rattle.std.proofs.Common.{◌≡◌, ℕ, suc, true, false, List, [], ◌∷◌, length, Option, Some, None, refl, ap, arith}
 use Rattle.tq_locks.specs.Locks.{only_stable}
 use Rattle.tq_node.specs.NodeJournal.{NodeEntry, node_state, IsLegalNode}
-use Rattle.tq_node.specs.Records.{Records, NodeState, answer_at, crashed, node_after, node_reply, records_after, refusal, stop_writes, work_refusal, work_reply}
+use Rattle.tq_node.specs.Records.{NodeState, answer_at, node_after, node_reply, refusal, work_refusal, work_reply}
 use Rattle.tq_node.specs.declared.ask.NodeAsk.{NodeAsk}
 use Rattle.tq_node.specs.declared.ask.NodeAsk.TheVariants.{Work, Crash, Return, CrashIn}
 use Rattle.tq_node.specs.declared.ask.NodeRefusal.{NodeRefusal}
