@@ -1,11 +1,15 @@
-use Rattle.std.proofs.Common.{ap, sym, ◌∙◌}
-use Rattle.tq_node.specs.NodeChanges.{node_changed}
-use Rattle.tq_node.specs.NodePlans.{change_leads}
+use Rattle.std.proofs.Common.{ap, sym, subst, ◌∙◌}
+use Rattle.tq_node.specs.NodeChanges.{node_changed, NodeFits}
+use Rattle.tq_node.specs.NodePlans.{change_fits, change_leads}
 use Rattle.tq_node.specs.declared.change.NodeChange.{NodeChange}
 use Rattle.tq_store.specs.Copies.{Files, copy_of}
 use Rattle.tq_tables.specs.NamesApart.{is_in}
 use Rattle.tq_tables.proofs.Changed.{step-keeps}
 use Rattle.tq_tables.proofs.telling.answer_telling.Goals as goal
+
+pub apply-requires : goal.apply-requires
+apply-requires c =
+    subst (λ (change : NodeChange). NodeFits c.args.node.now change) (sym c.in_ok-plan.ensures.change) (change_fits c.args.node.now c.args.number c.args.ask.now c.requires)
 
 pub returns-clause-after : goal.returns-clause-after
 returns-clause-after c =
