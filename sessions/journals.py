@@ -82,6 +82,7 @@ ASKS = {
     "peek": lambda file: {"file": file},
     "refresh": lambda file, version, text, source: {
         "content": content(text), "file": file, "from": {"number": source[1], "server": source[0]}, "version": version},
+    "crash in": lambda work, after: {"after": after, "ask": said(ASKS, work)},
     "commit": lambda txn, ops, votes: {"ops": list(map(op, ops)), "txn": txn, "votes": list(map(vote, votes))},
     "resolve": lambda txn: {"txn": txn},
     "set cost": lambda server, cost: {"cost": cost, "server": server},

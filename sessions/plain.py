@@ -18,7 +18,7 @@ from typing import NamedTuple
 MOST_LEVELS, LISTED_LEVELS = 6, 4
 MOST_COST = 1_000_000
 MOST_FILES, MOST_OPS, MOST_ENTRIES = 1_000, 64, 1_000_000
-MOST_NUMBER = 2**64 - 1
+MOST_NUMBER, MOST_COUNT = 2**64 - 1, 2**32 - 1
 LINE_LIMIT, TEXT_LIMIT, INPUT_LIMIT = 1_200, 1_000, 16_777_216
 
 FULL, UNFOUNDED, DOWN, ALREADY_UP, ALREADY_DOWN, HELD, PREPARED, NOT_LOCKED = 2, 3, 11, 12, 13, 14, 15, 16
@@ -307,6 +307,16 @@ def step_return(records, _server, _number):
     return ("returned",), records._replace(down=False)
 
 
+def step_crash_in(records, server, number, work, after):
+    """The first records that the work writes are kept, and then the server is as after a crash."""
+    if records.down:
+        return ("refused", ALREADY_DOWN), records
+    _, worked = server_step(records, server, number, work)
+    written = worked.stable[len(records.stable) :]
+    stable = (*records.stable, *written[:after])
+    return ("crashed",), Records(stable, kept_locks(stable), True)
+
+
 SERVER_STEPS = {
     "lock": step_lock,
     "prepare": step_prepare,
@@ -315,13 +325,14 @@ SERVER_STEPS = {
     "peek": step_peek,
     "refresh": step_refresh,
     "crash": step_crash,
+    "crash in": step_crash_in,
     "return": step_return,
 }
 
 
 def server_step(records, server, number, ask):
     """What the server replies to an ask under this number, and its records afterwards. A refusal leaves them as they are."""
-    if records.down and ask[0] not in ("crash", "return"):
+    if records.down and ask[0] not in ("crash", "crash in", "return"):
         return ("refused", DOWN), records
     return SERVER_STEPS[ask[0]](records, server, number, *ask[1:])
 
@@ -485,7 +496,7 @@ class World:
         if ask[0] == "refresh":
             file, version, content, (server, number) = ask[1:]
             return [(server, number, lambda asked, reply: asked == ("peek", file) and reply == ("copy", version, content))]
-        return []
+        return self.citations(ask[1]) if ask[0] == "crash in" else []
 
     def stands(self, part, number, test):
         journal = self.journals[part]
@@ -702,7 +713,7 @@ class Shell:
         if words is None:
             return ["bad line"]
         try:
-            return getattr(self, f"line_{words[0]}")(*words[1:])
+            return getattr(self, f"line_{words[0].replace(' ', '_')}")(*words[1:])
         except Ends as end:
             return [str(end)]
 
@@ -828,15 +839,32 @@ class Shell:
         txn.ops.append(op)
         return op
 
-    def line_prepare(self, number, server):
+    def voter(self, number, server):
+        """The transaction, taken to voting, if the server is one of its voters."""
         txn = self.known(number)
         self.check_server(server)
         self.take_to_voting(txn)
         if server not in txn.voters():
             raise Ends(f"not a voter {server}")
+        return txn
+
+    def line_prepare(self, number, server):
+        txn = self.voter(number, server)
         if server not in txn.votes:
             self.gather(txn, server)
         return [f"yes {server}"]
+
+    def line_prepare_crash(self, number, server, after):
+        txn = self.voter(number, server)
+        if server in txn.votes:
+            return [f"yes {server}"]
+        return self.stop(server, ("prepare", number, writes_at(txn.ops, server)), after)
+
+    def stop(self, server, work, after):
+        """The server stops inside this ask, whatever it answers, and is marked down."""
+        self.world.ask(server, ("crash in", work, after))
+        self.ask("view", ("mark", server, False))
+        return [f"down {server}"]
 
     def gather(self, txn, server):
         """Asks for a vote. It is taken if it covers all grants of its server."""
@@ -899,13 +927,20 @@ class Shell:
         txn.hear(verdict, at)
         return [f"verdict {verdict[0]}"]
 
-    def line_apply(self, number, server):
+    def told(self, number, server):
+        """What the server is asked to end the transaction there, if a verdict was told."""
         txn = self.known(number)
         self.check_server(server)
         if not txn.verdict:
             raise Ends(f"not decided {number}")
-        _, reply = self.ask(server, ("decide", number, txn.verdict, txn.cite))
+        return "decide", number, txn.verdict, txn.cite
+
+    def line_apply(self, number, server):
+        _, reply = self.ask(server, self.told(number, server))
         return [f"{reply[0]} {server}"]
+
+    def line_apply_crash(self, number, server, after):
+        return self.stop(server, self.told(number, server), after)
 
 
 # Lines
@@ -914,6 +949,11 @@ class Shell:
 def read_number(word):
     """Decimal digits without sign or leading zero, below 2^64; None for any other word."""
     return int(word) if re.fullmatch("0|[1-9][0-9]{0,19}", word) and int(word) <= MOST_NUMBER else None
+
+
+def read_count(word):
+    number = read_number(word)
+    return number if number is not None and number <= MOST_COUNT else None
 
 
 def read_name(word):
@@ -935,6 +975,8 @@ FORMS = {
     "prepare": [read_number, read_number],
     "decide": [read_number],
     "apply": [read_number, read_number],
+    "prepare crash": [read_number, read_number, read_count],
+    "apply crash": [read_number, read_number, read_count],
     "commit": [read_number],
     "abort": [read_number],
     "resolve": [read_number],
@@ -951,6 +993,8 @@ def read_line(line):
     words = line.decode("ascii").split(" ")
     if words[0] == "write" and len(words) >= 3:
         words = [*words[:3], " ".join(words[3:])]
+    if words[3:4] == ["crash"] and words[0] in ("prepare", "apply"):
+        words = [f"{words[0]} crash", *words[1:3], *words[4:]]
     form = FORMS.get(words[0])
     if form is None or len(form) != len(words) - 1:
         return None
