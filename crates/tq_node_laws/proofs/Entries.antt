@@ -1,8 +1,8 @@
 -- What each entry does to a server's records, and that the stable records keep them, stops inside an ask among them.
-use Rattle.std.proofs.Common.{◌≡◌, ℕ, suc, ◌++◌, true, false, List, [], ◌∷◌, length, Option, Some, None, refl, sym, subst, arith}
+use Rattle.std.proofs.Common.{◌≡◌, ℕ, suc, true, false, List, [], ◌∷◌, length, Option, Some, None, refl, ap, arith}
 use Rattle.tq_locks.specs.Locks.{only_stable}
 use Rattle.tq_node.specs.NodeJournal.{NodeEntry, node_state, IsLegalNode}
-use Rattle.tq_node.specs.Records.{Records, NodeState, answer_at, crashed, node_after, node_reply, records_after, refusal, stop_writes, work_refusal, work_reply}
+use Rattle.tq_node.specs.Records.{NodeState, answer_at, node_after, node_reply, refusal, work_refusal, work_reply}
 use Rattle.tq_node.specs.declared.ask.NodeAsk.{NodeAsk}
 use Rattle.tq_node.specs.declared.ask.NodeAsk.TheVariants.{Work, Crash, Return, CrashIn}
 use Rattle.tq_node.specs.declared.ask.NodeRefusal.{NodeRefusal}
@@ -44,7 +44,7 @@ step_frame : (s last : ℕ) (old : NodeState) (ask : NodeAsk) (r : NodeReply) �
 step_frame s last old (Work a) r h legal = picked s (suc last) _ old (work_refusal old.records a) _ (work_reply s old.records a) legal (λ none reply. work_frame s (suc last) old.records a r none reply)
 step_frame s last old Crash r h legal = picked s (suc last) _ old (refusal old.records Crash) _ replies.Crashed legal (λ none reply. crash_frame s (suc last) old.records r)
 step_frame s last old Return r h legal = picked s (suc last) _ old (refusal old.records Return) _ replies.Returned legal (λ none reply. return_frame s (suc last) old.records r)
-step_frame s last old (CrashIn a k) r h legal = picked s (suc last) _ old (refusal old.records (CrashIn a k)) _ replies.Crashed legal (λ none reply. stop_step_frame s last old a k (record { ask = CrashIn a k; reply = r }) refl h)
+step_frame s last old (CrashIn a k) r h legal = picked s (suc last) _ old (refusal old.records (CrashIn a k)) _ replies.Crashed legal (λ none reply. stop_step_frame s last old a k (record { ask = CrashIn a k; reply = r }) (ap (λ (x : NodeReply). record { ask = CrashIn a k; reply = x }) reply) h)
 
 pub frames : (s : ℕ) (e : NodeEntry) (K : List NodeEntry) → IsLegalNode s (e ∷ K) → Frame s (suc (length K)) e (node_state s K).records (node_state s (e ∷ K)).records
 frames s e K legal = step_frame s (length K) (node_state s K) e.ask e.reply (recorded s K) legal.0

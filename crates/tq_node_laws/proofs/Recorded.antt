@@ -1,6 +1,6 @@
 -- At all times the stable records of a server are those of its copies, its open votes and their locks.
 use Rattle.std.specs.Prelude.{not}
-use Rattle.std.proofs.Common.{◌≡◌, ℕ, suc, ◌+◌, ◌≤◌, Bool, true, false, cond, List, [], ◌∷◌, ◌++◌, length, map, filter, Option, Some, None, refl, sym, ap, subst, ◌∙◌, arith, append_assoc}
+use Rattle.std.proofs.Common.{◌≡◌, ℕ, suc, ◌+◌, ◌≤◌, Bool, true, false, cond, List, [], ◌∷◌, ◌++◌, map, filter, Option, Some, None, refl, sym, ap, subst, ◌∙◌, arith, append_assoc}
 use Rattle.std.proofs.lemmas.List.{append-nil}
 use Rattle.std.specs.FinMap as fin
 use Rattle.std.specs.Option.{is_some}
@@ -13,18 +13,15 @@ use Rattle.tq_intents.specs.declared.record.OpenVote.{OpenVote}
 use Rattle.tq_intents.specs.declared.record.Record.{Record}
 use Rattle.tq_intents.specs.declared.record.Record.TheVariants.{Copy, Gone}
 use Rattle.tq_intents.proofs.Votes.{kept_votes-ended, kept_votes-given}
-use Rattle.tq_node.specs.declared.ask.NodeAsk.{NodeAsk}
-use Rattle.tq_node.specs.declared.ask.NodeAsk.TheVariants.{Work, Crash, Return}
 use Rattle.tq_node.specs.declared.ask.NodeRefusal.{NodeRefusal}
 use Rattle.tq_node.specs.declared.ask.NodeRefusal.TheVariants as refusals
 use Rattle.tq_node.specs.declared.ask.WorkAsk.{WorkAsk}
 use Rattle.tq_node.specs.declared.ask.WorkAsk.TheVariants as work
 use Rattle.tq_node.specs.Node.{IsKept, IsSound}
-use Rattle.tq_node.specs.NodeJournal.{NodeEntry, node_state}
-use Rattle.tq_node.specs.Records.{Records, NodeState, has_vote, work_refusal, refusal, open_vote, installs, kept_lock, work_after, work_writes, node_after}
-use Rattle.tq_shape.specs.Steps.{refuse, state_at}
+use Rattle.tq_node.specs.Records.{Records, NodeState, has_vote, work_refusal, open_vote, installs, kept_lock, work_after, work_writes}
+use Rattle.tq_shape.specs.Steps.{refuse}
 use Rattle.tq_node.proofs.Numbers.{above_greater}
-use Rattle.tq_node.proofs.Sound.{open_votes-copies, sound-later, sound-granted, sound-released, sound-crashed, sound-copies, sound-newer, sound-prepared, sound-ended, sound-opening, sound-as, kept_is}
+use Rattle.tq_node.proofs.Sound.{open_votes-copies, sound-later, sound-granted, sound-released, sound-copies, sound-newer, sound-prepared, sound-ended, sound-as, kept_is}
 use Rattle.tq_node_laws.proofs.StepFrames.{open_vote-is}
 use Rattle.tq_shape.proofs.Options.{none_of, some_of}
 use Rattle.tq_shape.specs.Unrefused.{refuse-none}

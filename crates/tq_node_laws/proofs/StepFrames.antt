@@ -1,6 +1,6 @@
 -- What each ask of a server does to its records: the frames hold of its step.
 use Rattle.std.specs.Prelude.{◌==◌, not}
-use Rattle.std.proofs.Common.{◌≡◌, ◌≢◌, ℕ, suc, ◌≤◌, ◌<◌, Bool, true, false, cond, List, [], ◌∷◌, length, map, Option, Some, None, refl, sym, ap, subst, ◌∙◌, ◌⊎◌, inl, inr, arith}
+use Rattle.std.proofs.Common.{◌≡◌, ◌≢◌, ℕ, ◌≤◌, ◌<◌, Bool, true, false, cond, List, [], ◌∷◌, map, Option, Some, None, refl, sym, ap, subst, ◌∙◌, ◌⊎◌, inl, inr, arith}
 use Rattle.std.proofs.lemmas.Bool.{cases_Bool, cond-true, cond-false, false≢true, true≢false, and_parts, and_from, or_right, eqb-true, ne_eqb, eq-eqb, leb-false}
 use Rattle.std.specs.Cmp.{nat_cmp_total}
 use Rattle.std.specs.FinMap as fin
@@ -18,8 +18,8 @@ use Rattle.tq_locks.proofs.LockMaps.{locks_total, locks_same}
 use Rattle.tq_intents.specs.Kept.{Votes, stable_lock}
 use Rattle.tq_intents.specs.declared.record.KeptLock.{KeptLock}
 use Rattle.tq_intents.specs.declared.record.OpenVote.{OpenVote}
-use Rattle.tq_node.specs.Records.{Records, NodeState, has_vote, holds_exclusively, not_locked, are_good_writes, work_refusal, refusal, open_vote, installs, held_lock, kept_lock, work_reply, work_after, records_after, answer_at, node_reply, node_after}
-use Rattle.tq_shape.specs.Steps.{refuse, refuse_for, state_at}
+use Rattle.tq_node.specs.Records.{Records, has_vote, holds_exclusively, not_locked, are_good_writes, work_refusal, open_vote, installs, held_lock, kept_lock, work_reply, work_after, crashed, answer_at}
+use Rattle.tq_shape.specs.Steps.{refuse, refuse_for}
 use Rattle.tq_node.specs.declared.ask.CitedVote.{CitedVote}
 use Rattle.tq_node.specs.declared.ask.HeldLock.{HeldLock}
 use Rattle.tq_node.specs.declared.ask.NodeAsk.{NodeAsk}

@@ -18,6 +18,7 @@ use Rattle.tq_intents.specs.declared.record.Record.{Record}
 use Rattle.tq_intents.specs.declared.record.Record.TheVariants.{Copy, Intent, Keep, Prepared, Gone}
 use Rattle.tq_node.specs.declared.ask.NodeAsk.TheVariants.{Work, CrashIn}
 use Rattle.tq_node.specs.declared.ask.NodeRefusal.{NodeRefusal}
+use Rattle.tq_node.specs.declared.ask.NodeReply.TheVariants as replies
 use Rattle.tq_node.specs.declared.ask.Verdict.{Verdict}
 use Rattle.tq_node.specs.declared.ask.WorkAsk.{WorkAsk}
 use Rattle.tq_node.specs.declared.ask.WorkAsk.TheVariants as work
@@ -278,8 +279,9 @@ stop_recorded s last st a k h =
 
 -- ---- the ask itself
 
-pub stop_step_frame : (s last : ℕ) (st : NodeState) (a : WorkAsk) (k : ℕ) (e : NodeEntry) → e.ask ≡ CrashIn a k → IsRecorded last st
+pub stop_step_frame : (s last : ℕ) (st : NodeState) (a : WorkAsk) (k : ℕ) (e : NodeEntry) → e ≡ record { ask = CrashIn a k; reply = replies.Crashed } → IsRecorded last st
     → Frame s (suc last) e st.records (records_after s st (suc last) (CrashIn a k))
 stop_step_frame s last st a k e is h =
+    let asked = ap (λ (x : NodeEntry). x.ask) is in
     stop_frame s (suc last) st.records (records_after s st (suc last) (CrashIn a k)) a e
-    (ap inner is) (ap is_prepare is) (ap is_telling is) (stop_is s last st a k h)
+    (ap inner asked) (ap is_prepare asked) (ap is_telling asked) (ap (λ (x : NodeEntry). is_refusal x.reply) is) (stop_is s last st a k h)

@@ -6,6 +6,7 @@ ghost use Rattle.tq_session.specs.Stream.{nothing_received};
 
 use crate::receiver::Receiver;
 use std::alloc::Global;
+use std::mem;
 use tq_devices::{RunFault, Sink, Source, write_out};
 use tq_shape::Levels;
 
@@ -15,7 +16,8 @@ pub const INPUT_LIMIT: usize = 16_777_216;
 /// How many bytes are read at a time.
 const PIECE: usize = 65_536;
 
-/// Answers the lines of the source, and writes the answers to each piece of it before it reads the next.
+/// Answers the lines of the source, and writes the answers to each piece of it before it reads the next. What the service
+/// kept is left to the end of the process, which takes it back at once: to free it entry by entry takes a tenth of a run.
 pub fn run<R: Source, W: Sink>(
     alloc: Global,
     levels: Levels,
@@ -30,7 +32,9 @@ pub fn run<R: Source, W: Sink>(
     ensures counts { IsRunCount result (R.failed reader.old) (R.failed reader.new) (W.failed writer.old) (W.failed writer.new) }
 {
     let mut receiver = Receiver::new(alloc, levels)?;
-    answer_pieces(alloc, levels, &mut receiver, reader, writer)
+    let ran = answer_pieces(alloc, levels, &mut receiver, reader, writer);
+    mem::forget(receiver);
+    ran
 }
 
 /// Answers what the source gives, a piece after another, by a receiver that received nothing yet.

@@ -6,8 +6,8 @@ use Rattle.tq_shape.specs.declared.entry.Entry.{Entry}
 use Rattle.tq_shape.specs.Journal.{IsLegalFrom}
 use Rattle.tq_shape.proofs.Joined.{reverse-push, state-push}
 use Rattle.tq_desk.specs.declared.ask.DeskAsk.{DeskAsk}
-use Rattle.tq_desk.specs.DeskStep.{desk_after}
-use Rattle.tq_desk.specs.DeskJournal.{DeskEntry, commits, with_commit}
+use Rattle.tq_desk.specs.DeskStep.{DeskView, desk_after, desk_reply}
+use Rattle.tq_desk.specs.DeskJournal.{DeskEntry, IsLegalDesk, commits, with_commit}
 use Rattle.tq_live.specs.Live.{Live}
 use Rattle.tq_live.specs.View.{IsLegalView, view_after, view_after_at, view_reply_at, view_state}
 use Rattle.tq_live.specs.ViewLaws.{keeps_levels}
@@ -19,7 +19,8 @@ use Rattle.tq_tables.specs.DeskStates.{intent_state_at}
 use Rattle.tq_tables.specs.Journals.{JournalsView, ViewEntry, with_desk, with_view}
 use Rattle.tq_tables.specs.Parts.{AreLegal, PartsView, bounds_of, desk_at, nodes_at, view_at}
 use Rattle.tq_tables.specs.Rows.{file_rows, intent_rows, intent_state, quorum_rows}
-use Rattle.tq_tables.specs.Tables.{IsNextOfDesk, TablesView, tables_at, tables_of}
+use Rattle.tq_tables.specs.Asked.{MayAskDesk}
+use Rattle.tq_tables.specs.Tables.{TablesView, tables_at, tables_of}
 use Rattle.tq_tables.proofs.Counting.{commits-most}
 use Rattle.tq_tables.proofs.Replayed.{begun-bound, desk_at-is, desk-push}
 use Rattle.tq_tables.proofs.Whole.{states-same}
@@ -74,6 +75,12 @@ pub asked-at : (parts new : PartsView) (files more : List FileRow) (ask : DeskAs
 asked-at parts new files more ask is = ap (λ (p : PartsView). tables_at p more) is
 
 module _ (journals : JournalsView) (e : DeskEntry) (legal : AreLegal (with_desk journals e)) where
+  -- the reply is the one that the desk gives
+  pub desk-replied : e.reply ≡ desk_reply (desk_at journals.levels journals.limits journals.desk) e.ask
+  desk-replied =
+      let whole = subst (λ (entries : List DeskEntry). IsLegalDesk (bounds_of journals.levels journals.limits) entries) (reverse-push journals.desk e) legal.desk in
+      whole.0 ∙ sym (ap (λ (d : DeskView). desk_reply d e.ask) (desk_at-is journals.levels journals.limits journals.desk))
+
   desk_next : desk_after (desk_at journals.levels journals.limits journals.desk) e.ask ≡ desk_at journals.levels journals.limits (journals.desk ++ e ∷ [])
   desk_next = sym (desk-push journals.levels journals.limits journals.desk e)
 
@@ -99,7 +106,7 @@ module _ (journals : JournalsView) (e : DeskEntry) (legal : AreLegal (with_desk 
   desk-noted old new files stand are is = is ∙ ap (λ (t : TablesView). asked t e.ask files) stand ∙ asked-next files are
 
 -- there is room for one transaction more, and for one commit more
-module _ (tables : TablesView) (e : DeskEntry) (next : IsNextOfDesk tables e) where
+module _ (tables : TablesView) (next : MayAskDesk tables) where
   pub begun-room : tables.desk.begun + 1 < 2 ^ 64
   begun-room =
       let begun = begun-bound next.journals.levels next.journals.limits next.journals.desk in

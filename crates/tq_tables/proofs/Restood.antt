@@ -11,7 +11,8 @@ use Rattle.tq_tables.specs.DeskStates.{intent_state_at}
 use Rattle.tq_tables.specs.Files.{all_stood}
 use Rattle.tq_tables.specs.Journals.{JournalsView}
 use Rattle.tq_tables.specs.NamesApart.{is_in}
-use Rattle.tq_tables.specs.NextOfServer.{IsNextOfServer, entries_of, with_node}
+use Rattle.tq_tables.specs.Asked.{MayAskNode, node_in}
+use Rattle.tq_tables.specs.NextOfServer.{entries_of, with_node}
 use Rattle.tq_tables.specs.Parts.{AreLegal, AreOfTree, PartsView, bounds_of, desk_at, node_after_all, nodes_at}
 use Rattle.tq_tables.specs.Rows.{file_rows, intent_rows, intent_state, lock_rows}
 use Rattle.tq_tables.specs.Tables.{TablesView, tables_at, tables_of}
@@ -44,10 +45,13 @@ nodes_at-set levels first (x ∷ servers) (suc place) entries =
 
 -- ---- what stands at a place
 
-pub get_or-any : (nodes : List NodeView) (place : ℕ) (d e : NodeView) → place < length nodes → get_or nodes place d ≡ get_or nodes place e
+get_or-any : (nodes : List NodeView) (place : ℕ) (d e : NodeView) → place < length nodes → get_or nodes place d ≡ get_or nodes place e
 get_or-any [] place d e less = absurd (omega (arith, less))
 get_or-any (n ∷ nodes) zero d e less = refl
 get_or-any (n ∷ nodes) (suc place) d e less = get_or-any nodes place d e (omega (arith, less))
+
+pub node_in-at : (nodes : List NodeView) (server : ℕ) → server - 1 < length nodes → node_in nodes server ≡ get_or nodes (server - 1) (node_in nodes server)
+node_in-at nodes server less = get_or-any nodes (server - 1) (node_after_all 0 0 []) (node_in nodes server) less
 
 pub get_or-put : (nodes : List NodeView) (place : ℕ) (node d : NodeView) → place < length nodes → get_or (set nodes place node) place d ≡ node
 get_or-put [] place node d less = absurd (omega (arith, less))
@@ -65,7 +69,7 @@ module _ (journals : JournalsView) (server : ℕ) (tables : TablesView) (node : 
   many = ap (λ (t : TablesView). length t.nodes) stand ∙ length-nodes_at journals.levels 1 journals.servers
 
   module _ (there : server ≤ length tables.nodes) where
-    node_is : node ≡ node_after_all journals.levels server (entries_of journals server)
+    pub node_is : node ≡ node_after_all journals.levels server (entries_of journals server)
     node_is =
         let less : server - 1 < length journals.servers = omega (arith, positive, there, many) in
         let number : 1 + (server - 1) ≡ server = omega (arith, positive) in
@@ -106,16 +110,16 @@ module _ (journals : JournalsView) (server : ℕ) (tables : TablesView) (node : 
           ∙ (λ i. with_nodes (stand i) (nodes_is i) (files_is i))
           ∙ (λ i. record (tables_of (with_node journals server e)) { intentions = intents i })
 
--- a server that gets an entry is there
-pub is_there : (tables : TablesView) (server number : ℕ) (e : NodeEntry) → IsNextOfServer tables server number e → (0 < server) × (server ≤ length tables.nodes)
-is_there tables server number e next =
+-- a server that may be asked is there
+pub is_there : (tables : TablesView) (server number : ℕ) → MayAskNode tables server number → (0 < server) × (server ≤ length tables.nodes)
+is_there tables server number next =
     let many = ap (λ (t : TablesView). length t.nodes) next.stand ∙ length-nodes_at next.journals.levels 1 next.journals.servers in
     (next.there.0, omega (arith, many, next.there.1))
 
--- and the entry has the next number
-pub next-number : (tables : TablesView) (server number : ℕ) (e : NodeEntry) (node : NodeView) → IsNextOfServer tables server number e → node ≡ get_or tables.nodes (server - 1) node → number ≡ node.last + 1
-next-number tables server number e node next at =
-    let there = is_there tables server number e next in
+-- and the number is the next one
+pub next-number : (tables : TablesView) (server number : ℕ) (node : NodeView) → MayAskNode tables server number → node ≡ get_or tables.nodes (server - 1) node → number ≡ node.last + 1
+next-number tables server number node next at =
+    let there = is_there tables server number next in
     let last = last-is next.journals server tables node next.stand there.0 at there.1 in
     omega (arith, next.next, last)
 

@@ -8,3 +8,4 @@ pub mod DeskStates
 pub mod NamesApart
 pub mod Files
 pub mod NextOfServer
+pub mod Asked

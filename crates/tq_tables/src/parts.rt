@@ -1,20 +1,22 @@
 ghost use Rattle.std.specs.Prelude.{◌≡◌, ◌+◌, ◌-◌, ◌<◌, ◌≤◌, ◌^◌, ℕ, List, false, IfOk, OnOk, OnErr, length, slice_set, slice_index_or};
-ghost use Rattle.tq_desk.specs.DeskStep.{desk_after};
-ghost use Rattle.tq_live.specs.View.{view_after};
+ghost use Rattle.tq_desk.specs.DeskChanges.{DeskFits, desk_changed};
+ghost use Rattle.tq_live.specs.View.{view_after, view_reply};
 ghost use Rattle.tq_node.specs.Node.{NodeView, answered};
+ghost use Rattle.tq_node.specs.Records.{node_reply};
 ghost use Rattle.tq_store.specs.Copies.{copy_of};
+ghost use Rattle.tq_tables.specs.Asked.{both};
 ghost use Rattle.tq_tables.specs.NamesApart.{is_in};
 
 use crate::Journals;
 use crate::replay::{replay_desk, replay_nodes, replay_view};
-use crate::telling::answer_telling;
+use crate::replies::{Replies, twice};
+use crate::telling::{Telling, answer_telling};
 use std::alloc::Global;
 use std::marker::Model;
-use tq_desk::{Desk, DeskAsk};
-use tq_live::{View, ViewAsk};
+use tq_desk::{Desk, DeskChange};
+use tq_live::{View, ViewAsk, ViewReply};
 use tq_node::{Node, NodeAsk};
 use tq_shape::{Levels, Memory};
-use tq_store::FileName;
 
 /// All parts of a system: the servers of one tree, upwards from server 1, the desk and the view of that tree.
 #[derive(Drop)]
@@ -72,25 +74,33 @@ impl Parts {
         Ok(Parts { nodes, desk, view })
     }
 
-    /// The desk answers one ask more. Out of memory leaves the parts as they were.
-    pub(crate) fn ask_desk(&mut self, alloc: Global, ask: &DeskAsk) -> Result<(), Memory>
-        requires { self.old.desk.begun + 1 < 2 ^ 64 }
-        ensures after { OnOk result (self.new ≡ record self.old { desk = desk_after self.old.desk ask.now }) }
+    /// Makes a change of the desk that was planned. Out of memory leaves the parts as they were.
+    pub(crate) fn change_desk(&mut self, change: DeskChange) -> Result<(), Memory>
+        requires { DeskFits self.old.desk change }
+        ensures after { OnOk result (self.new ≡ record self.old { desk = desk_changed self.old.desk change }) }
         ensures unchanged { OnErr result (self.new ≡ self.old) }
     {
         let _view = &self.view;
-        self.desk.answer(alloc, ask)?;
+        self.desk.apply(change)?;
         Ok(())
     }
 
     /// The view answers one ask more. Out of memory leaves the parts as they were.
-    pub(crate) fn ask_view(&mut self, alloc: Global, ask: &ViewAsk) -> Result<(), Memory>
+    pub(crate) fn ask_view(
+        &mut self,
+        alloc: Global,
+        ask: &ViewAsk,
+    ) -> Result<Replies<ViewReply>, Memory>
+        ensures replies { IfOk result (λ replies. replies ≡ both (view_reply self.old.view ask.now)) }
         ensures after { OnOk result (self.new ≡ record self.old { view = view_after self.old.view ask.now }) }
         ensures unchanged { OnErr result (self.new ≡ self.old) }
     {
         let _desk = &self.desk;
-        self.view.answer(alloc, ask)?;
-        Ok(())
+        let plan = self.view.plan(alloc, ask)?;
+        let change = plan.change;
+        let replies = twice::<View>(alloc, plan.reply)?;
+        self.view.apply(change);
+        Ok(replies)
     }
 
     /// The server answers one ask more, of that number, and the files are told whose copies there may have changed. Out
@@ -101,20 +111,22 @@ impl Parts {
         server: u64,
         number: u64,
         ask: &NodeAsk,
-    ) -> Result<Vec<FileName>, Memory>
+    ) -> Result<Telling, Memory>
         requires there { (0 < server) × (server ≤ length self.old.nodes) }
         requires next { (node : NodeView) → node ≡ slice_index_or self.old.nodes (server - 1) node → node.last < number }
+        ensures replies { IfOk result (λ telling. (node : NodeView) → node ≡ slice_index_or self.old.nodes (server - 1) node
+            → telling.replies ≡ both (node_reply node.server node.state ask.now)) }
         ensures after { OnOk result ((node : NodeView) → node ≡ slice_index_or self.old.nodes (server - 1) node
             → self.new ≡ record self.old { nodes = slice_set self.old.nodes (server - 1) (answered node number ask.now) }) }
-        ensures told { IfOk result (λ files. (node : NodeView) → node ≡ slice_index_or self.old.nodes (server - 1) node
-            → (file : List ℕ) → is_in file files.items ≡ false
+        ensures told { IfOk result (λ telling. (node : NodeView) → node ≡ slice_index_or self.old.nodes (server - 1) node
+            → (file : List ℕ) → is_in file telling.files.items ≡ false
             → copy_of (answered node number ask.now).state.records.copies file ≡ copy_of node.state.records.copies file) }
         ensures unchanged { OnErr result (self.new ≡ self.old) }
     {
         let _view = &self.view;
         let place = (server - 1) as usize;
-        let files = answer_telling(alloc, &mut self.nodes[place], number, ask)?;
-        Ok(files)
+        let telling = answer_telling(alloc, &mut self.nodes[place], number, ask)?;
+        Ok(telling)
     }
 
     /// How many levels the tree of servers has.

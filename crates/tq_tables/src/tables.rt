@@ -1,6 +1,11 @@
 ghost use Rattle.std.specs.Prelude.{◌≡◌, ◌+◌, ◌^◌, true, length, reverse, IfOk, OnOk, OnErr};
 ghost use Rattle.std.specs.List.{All};
 ghost use Rattle.tq_desk.specs.DeskJournal.{IsLegalDesk, desk_state};
+ghost use Rattle.tq_desk.specs.DeskStep.{desk_reply};
+ghost use Rattle.tq_live.specs.View.{view_reply};
+ghost use Rattle.tq_node.specs.Records.{node_reply};
+ghost use Rattle.tq_shape.specs.Journal.{entry};
+ghost use Rattle.tq_tables.specs.Asked.{MayAskDesk, MayAskNode, both, node_in};
 ghost use Rattle.tq_tables.specs.Files as spec;
 
 use crate::file_rows::{file_rows, rows_written};
@@ -8,18 +13,19 @@ use crate::file_table::FileTable;
 use crate::intent_rows::intent_rows;
 use crate::lock_rows::lock_rows;
 use crate::quorum_rows::quorum_rows;
+use crate::replies::{Replies, twice};
 use crate::{DeskEntry, FileRow, IntentRow, Journals, LockRow, NodeEntry, Parts, ViewEntry};
 use std::alloc::Global;
 use std::marker::Model;
 use tq_desk::{Desk, DeskAsk, DeskReply, Op};
-use tq_live::{Least, View, ViewAsk};
-use tq_node::Node;
+use tq_live::{Least, View, ViewAsk, ViewReply};
+use tq_node::{Node, NodeAsk, NodeReply};
 use tq_shape::{Levels, Memory};
 
 /// The servers, the desk and the view that the tables follow, and rows that say how these stand: the least quorum of
 /// each subtree, the files that commits wrote, the locks that are held, and the votes that are open.
 ///
-/// The rows of files are kept, and an entry changes only those of the files that it is about. The other rows are read
+/// The rows of files are kept, and an ask changes only those of the files that it is about. The other rows are read
 /// off the parts, which keep them in order: the best of each subtree, the lock tables, and the open votes.
 #[derive(Drop)]
 pub struct Tables {
@@ -85,8 +91,60 @@ impl Tables {
         Ok(Tables { parts, files })
     }
 
-    /// Follows the entry, of that number, that the server's journal got next. Only the rows of the files change whose
-    /// copies the entry changed there, and in each that server alone. Out of memory leaves the tables as they were.
+    /// Asks the server, under the number of the next entry of its journal. Only the rows of the files change whose copies
+    /// the ask changed there, and in each that server alone. Out of memory leaves the tables as they were.
+    pub fn ask_node(
+        &mut self,
+        alloc: Global,
+        server: u64,
+        number: u64,
+        ask: &NodeAsk,
+    ) -> Result<Replies<NodeReply>, Memory>
+        requires { MayAskNode self.old server number }
+        ensures replies { IfOk result (λ replies. replies
+            ≡ both (node_reply (node_in self.old.nodes server).server (node_in self.old.nodes server).state ask.now)) }
+        ensures asked { OnOk result ((journals : JournalsView) (reply : NodeReply) → AreLegal (with_node journals server (entry ask.now reply))
+            → self.old ≡ tables_of journals → self.new ≡ tables_of (with_node journals server (entry ask.now reply))) }
+        ensures unchanged { OnErr result (self.new ≡ self.old) }
+    {
+        let telling = self.parts.ask_node(alloc, server, number, ask)?;
+        let node = self.parts.node(server);
+        self.files.stand_all(node, telling.files.as_slice());
+        Ok(telling.replies)
+    }
+
+    /// Asks the view. No row of files changes. Out of memory leaves the tables as they were.
+    pub fn ask_view(&mut self, alloc: Global, ask: &ViewAsk) -> Result<Replies<ViewReply>, Memory>
+        ensures replies { IfOk result (λ replies. replies ≡ both (view_reply self.old.view ask.now)) }
+        ensures asked { OnOk result ((journals : JournalsView) (reply : ViewReply) → AreLegal (with_view journals (entry ask.now reply))
+            → self.old ≡ tables_of journals → self.new ≡ tables_of (with_view journals (entry ask.now reply))) }
+        ensures unchanged { OnErr result (self.new ≡ self.old) }
+    {
+        let replies = self.parts.ask_view(alloc, ask)?;
+        Ok(replies)
+    }
+
+    /// Asks the desk. Only the rows of the files change that a commit writes. All memory is taken before the first
+    /// change, so that out of memory leaves the tables as they were.
+    pub fn ask_desk(&mut self, alloc: Global, ask: &DeskAsk) -> Result<Replies<DeskReply>, Memory>
+        requires { MayAskDesk self.old }
+        ensures replies { IfOk result (λ replies. replies ≡ both (desk_reply self.old.desk ask.now)) }
+        ensures asked { OnOk result ((journals : JournalsView) (reply : DeskReply) → AreLegal (with_desk journals (entry ask.now reply))
+            → self.old ≡ tables_of journals → self.new ≡ tables_of (with_desk journals (entry ask.now reply))) }
+        ensures unchanged { OnErr result (self.new ≡ self.old) }
+    {
+        let plan = self.parts.desk().plan(alloc, ask)?;
+        let change = plan.change;
+        let replies = twice::<Desk>(alloc, plan.reply)?;
+        let ops = committed_ops(ask, &replies.entered);
+        let rows = rows_written(alloc, self.parts.nodes(), &self.files, ops)?;
+        self.files.reserve(rows.len())?;
+        self.parts.change_desk(change)?;
+        self.files.put_all(rows);
+        Ok(replies)
+    }
+
+    /// Follows the entry, of that number, that the server's journal got next, as `ask_node`.
     pub fn note_node(
         &mut self,
         alloc: Global,
@@ -99,14 +157,11 @@ impl Tables {
             → self.old ≡ tables_of journals → self.new ≡ tables_of (with_node journals server entry.now)) }
         ensures unchanged { OnErr result (self.new ≡ self.old) }
     {
-        let files = self.parts.ask_node(alloc, server, number, &entry.ask)?;
-        let node = self.parts.node(server);
-        self.files.stand_all(node, files.as_slice());
+        self.ask_node(alloc, server, number, &entry.ask)?;
         Ok(())
     }
 
-    /// Follows the entry that the view's journal got next. No row of files changes. Out of memory leaves the tables as
-    /// they were.
+    /// Follows the entry that the view's journal got next, as `ask_view`.
     pub fn note_view(&mut self, alloc: Global, entry: &ViewEntry) -> Result<(), Memory>
         ensures noted { OnOk result ((journals : JournalsView) → AreLegal (with_view journals entry.now)
             → self.old ≡ tables_of journals → self.new ≡ tables_of (with_view journals entry.now)) }
@@ -115,23 +170,18 @@ impl Tables {
         if changes_nothing(&entry.ask) {
             return Ok(());
         }
-        self.parts.ask_view(alloc, &entry.ask)?;
+        self.ask_view(alloc, &entry.ask)?;
         Ok(())
     }
 
-    /// Follows the entry that the desk's journal got next. Only the rows of the files change that a commit writes. All
-    /// memory is taken before the first change, so that out of memory leaves the tables as they were.
+    /// Follows the entry that the desk's journal got next, as `ask_desk`.
     pub fn note_desk(&mut self, alloc: Global, entry: &DeskEntry) -> Result<(), Memory>
         requires { IsNextOfDesk self.old entry.now }
         ensures noted { OnOk result ((journals : JournalsView) → AreLegal (with_desk journals entry.now)
             → self.old ≡ tables_of journals → self.new ≡ tables_of (with_desk journals entry.now)) }
         ensures unchanged { OnErr result (self.new ≡ self.old) }
     {
-        let ops = committed_ops(entry);
-        let rows = rows_written(alloc, self.parts.nodes(), &self.files, ops)?;
-        self.files.reserve(rows.len())?;
-        self.parts.ask_desk(alloc, &entry.ask)?;
-        self.files.put_all(rows);
+        self.ask_desk(alloc, &entry.ask)?;
         Ok(())
     }
 
@@ -207,12 +257,12 @@ fn changes_nothing(ask: &ViewAsk) -> bool
     matches!(ask, ViewAsk::Choose)
 }
 
-/// The ops of the commit that the entry records, none where it records none.
-fn committed_ops(entry: &DeskEntry) -> &[Op]
-    ensures { result.now ≡ spec.committed_ops entry.now.ask entry.now.reply }
+/// The ops of the commit that the desk replied to so, none where it replied otherwise.
+fn committed_ops<'a>(ask: &'a DeskAsk, reply: &DeskReply) -> &'a [Op]
+    ensures { result.now ≡ spec.committed_ops ask.now reply.now }
 {
-    match &entry.ask {
-        DeskAsk::Commit { ops, .. } => match &entry.reply {
+    match ask {
+        DeskAsk::Commit { ops, .. } => match reply {
             DeskReply::Committed { .. } => ops.as_slice(),
             _ => &[],
         },

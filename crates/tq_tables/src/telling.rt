@@ -1,14 +1,24 @@
 //! A server's answers, with the files whose copies they may change.
 ghost use Rattle.std.specs.Prelude.{◌≡◌, ◌<◌, ◌++◌, ℕ, List, false, map, IfOk, OnOk, OnErr};
 ghost use Rattle.tq_node.specs.Node.{answered};
+ghost use Rattle.tq_node.specs.Records.{node_reply};
 ghost use Rattle.tq_store.specs.Copies.{copy_of};
+ghost use Rattle.tq_tables.specs.Asked.{both};
 ghost use Rattle.tq_tables.specs.Files as spec;
 ghost use Rattle.tq_tables.specs.NamesApart.{is_in};
 
+use crate::replies::{Replies, twice};
 use std::alloc::Global;
-use tq_node::{Node, NodeAsk, NodeStep};
+use tq_node::{Node, NodeAsk, NodeReply, NodeStep};
 use tq_shape::Memory;
 use tq_store::{FileName, Write};
+
+/// A server's reply, twice, and the files whose copies there may have changed.
+#[derive(Drop)]
+pub(crate) struct Telling {
+    pub(crate) replies: Replies<NodeReply>,
+    pub(crate) files: Vec<FileName>,
+}
 
 /// The server answers the ask, of a number above that of the last one answered, and the files are told whose copies
 /// there this may change: no other copy does. Out of memory leaves the server as it was.
@@ -17,18 +27,20 @@ pub(crate) fn answer_telling(
     node: &mut Node,
     number: u64,
     ask: &NodeAsk,
-) -> Result<Vec<FileName>, Memory>
+) -> Result<Telling, Memory>
     requires { node.old.last < number }
+    ensures replies { IfOk result (λ telling. telling.replies ≡ both (node_reply node.old.server node.old.state ask.now)) }
     ensures after { OnOk result (node.new ≡ answered node.old number ask.now) }
-    ensures told { IfOk result (λ files. (file : List ℕ) → is_in file files.items ≡ false
+    ensures told { IfOk result (λ telling. (file : List ℕ) → is_in file telling.files.items ≡ false
         → copy_of node.new.state.records.copies file ≡ copy_of node.old.state.records.copies file) }
     ensures unchanged { OnErr result (node.new ≡ node.old) }
 {
     let plan = node.plan(alloc, number, ask)?;
     let change = plan.change;
+    let replies = twice::<Node>(alloc, plan.reply)?;
     let files = files_changed(alloc, &change.step)?;
     node.apply(alloc, change)?;
-    Ok(files)
+    Ok(Telling { replies, files })
 }
 
 /// The files whose copies the step may raise.

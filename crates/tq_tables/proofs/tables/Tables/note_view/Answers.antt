@@ -1,7 +1,6 @@
-use Rattle.std.proofs.Common.{ap, ◌∙◌}
+use Rattle.std.proofs.Common.{ap}
 use Rattle.tq_live.specs.View.{view_after}
-use Rattle.tq_tables.specs.Tables.{TablesView}
-use Rattle.tq_tables.proofs.Noted.{view-noted, view-stays, viewed, viewed-at}
+use Rattle.tq_tables.proofs.Noted.{view-stays}
 use Rattle.tq_tables.proofs.tables.Tables.note_view.Goals as goal
 
 pub returns-then-changes_nothing-clause-noted : goal.returns-then-changes_nothing-clause-noted
@@ -9,7 +8,4 @@ returns-then-changes_nothing-clause-noted c = λ journals legal stand.
     view-stays journals c.args.entry.now legal c.args.self.now stand (λ l. ap (view_after l) (c.changes_nothing.ensures c.if-changes_nothing.true))
 
 pub returns-clause-noted : goal.returns-clause-noted
-returns-clause-noted c = λ journals legal stand.
-    view-noted journals c.args.entry.now legal c.args.self.now _ stand
-    (viewed-at c.self.inside.parts c.ask_view.new.self c.self.inside.files.rows c.args.entry.now.ask c.in_ok-ask_view.ensures.after
-    ∙ ap (λ (t : TablesView). viewed t c.args.entry.now.ask) c.self.view_is)
+returns-clause-noted c = λ journals legal stand. c.in_ok-ask_view.ensures.asked journals c.args.entry.now.reply legal stand
