@@ -21,6 +21,7 @@ use Rattle.tq_node.specs.declared.ask.NodeReply.{NodeReply}
 use Rattle.tq_node.specs.declared.ask.NodeReply.TheVariants as replies
 use Rattle.tq_node.specs.declared.ask.Verdict.{Verdict}
 use Rattle.tq_node.specs.declared.ask.Verdict.TheVariants as verdicts
+use Rattle.tq_node.specs.declared.ask.WorkAsk.{WorkAsk}
 use Rattle.tq_node.specs.declared.ask.WorkAsk.TheVariants as work
 use Rattle.tq_desk.specs.declared.ask.DeskAsk.TheVariants as desk_asks
 use Rattle.tq_desk.specs.declared.ask.DeskReply.{DeskReply}
@@ -39,7 +40,7 @@ use Rattle.tq_states.specs.declared.fault.TxnFault.TheVariants as txn_faults
 use Rattle.tq_states.specs.declared.told.NodeTold.{NodeTold}
 use Rattle.tq_states.specs.Ended.{EndedView, decide_ask}
 use Rattle.tq_states.specs.Open.{OpenView, fits, grant_of, grants_of, not_a_grant, is_member, is_used, is_read_of, is_written, seen, written, pending, has_all_ops, grants_fault, read_fault, write_fault, read_after, write_after, rewritten, is_full, touched_by, read_copy}
-use Rattle.tq_states.specs.Voting.{VotingView, writes_in, write_in, writes_at, prepare_ask, ask_fault, vote_of, vote_refusal, vote_fault, vote_after, lost, has_vote, has_votes, evidence_of}
+use Rattle.tq_states.specs.Voting.{VotingView, writes_in, write_in, writes_at, prepare_work, prepare_ask, ask_fault, vote_of, vote_refusal, vote_fault, vote_after, lost, has_vote, has_votes, evidence_of}
 use Rattle.tq_states.proofs.NumberSets.{rises_from, rises-from}
 use Rattle.tq_states.proofs.Tested.{a_member}
 use Rattle.tq_txn.specs.declared.fault.LineFault.TheVariants as faults
@@ -47,7 +48,7 @@ use Rattle.tq_txn.specs.declared.reading.Reading.TheVariants.{Copy}
 use Rattle.tq_txn.specs.declared.txn.Txn.{Txn}
 use Rattle.tq_txn.specs.declared.txn.Txn.TheVariants as states
 use Rattle.tq_txn.specs.Dialogue.{done, failed, and_then, node_line}
-use Rattle.tq_txn.specs.Lines.{LocksView, answers, chosen, choose_line, lock_ask, granted, lock_line, next_lock, locks_line, quorum_line, read_end, quorum_read, first_read, read_again, read_line, write_end, quorum_write, first_write, written_again, write_line, voted, first_prepare, prepare_line, any_line, is_nothing_here, release_line, end_line, ending_line, applied, apply_line}
+use Rattle.tq_txn.specs.Lines.{LocksView, answers, chosen, choose_line, lock_ask, granted, lock_line, next_lock, locks_line, quorum_line, read_end, quorum_read, first_read, read_again, read_line, write_end, quorum_write, first_write, written_again, write_line, voted, first_prepare, prepare_line, any_line, is_nothing_here, release_line, end_line, ending_line, applied, apply_line, down_line, stop_line, first_prepare_stop, prepare_stop_line}
 use Rattle.tq_txn.specs.Commits.{prepares_line, committed, decided, ready_line, decide_line, commit_end, decide_and_end_line, commit_line}
 use Rattle.tq_txn.specs.Aborts.{resolved, end_aborted, abort_end, abort_line}
 use Rattle.tq_txn.specs.States.{number_of}
@@ -400,3 +401,27 @@ pub apply_well : (levels txn : ℕ) (verdict : Verdict) (cite server : ℕ) → 
 apply_well levels txn verdict cite server =
     ends_node levels Any server (asks.Work (work.Decide txn verdict cite)) (λ none. none) (λ told none. answers (applied told.server told.reply) none)
     (λ number reply is. applied_well server txn verdict cite reply is)
+
+-- ---- a stop in the midst of an ask
+
+down_ends : (levels server : ℕ) → EndsIn levels (IsWell Any) (down_line server)
+down_ends levels server = ends_view {B = Unit {0}} {T = Unit {0}} levels Any (view_asks.Mark server false) (λ none. none) (λ told none. done tt none) (λ number reply is. tt)
+
+pub stop_well : (levels server : ℕ) (ask : WorkAsk) (after : ℕ) → EndsIn levels (IsWell Any) (stop_line server ask after)
+stop_well levels server ask after =
+    ends_and levels Any Any (any_line server (asks.CrashIn ask after)) (λ none. none) (λ reply none. down_line server)
+    (any_ends levels server (asks.CrashIn ask after)) (λ reply none so. down_ends levels server)
+
+pub prepare_stop_well : (levels : ℕ) (old : VotingView) (server after : ℕ) → EndsIn levels (IsWell Any) (prepare_stop_line old server after)
+prepare_stop_well levels old server after = by (has_vote old.votes server)
+  where
+    first : EndsIn levels (IsWell Any) (first_prepare_stop old server after)
+    first =
+        ends_unless levels Any (ask_fault old.txn server) old (and_then (stop_line server (prepare_work old.txn server) after) (λ none. old) (λ all none. done false old))
+        (refuse_all IsOfOwn (not (is_server_of old.txn.ops server)) txn_faults.NotAVoter None tt tt)
+        (ends_and levels Any Any (stop_line server (prepare_work old.txn server) after) (λ none. old) (λ all none. done false old)
+        (stop_well levels server (prepare_work old.txn server) after) (λ all none so. tt))
+
+    by : (there : Bool) → EndsIn levels (IsWell Any) (cond there (done true old) (first_prepare_stop old server after))
+    by true = tt
+    by false = first

@@ -25,7 +25,7 @@ use Rattle.tq_txn.specs.declared.reading.Reading.{Reading}
 use Rattle.tq_txn.specs.declared.reading.Reading.TheVariants as readings
 use Rattle.tq_print.specs.Print.{numbers_text, op_servers, bracketed, version_text, reading_text, applied_text, verdict_text}
 use Rattle.tq_print.specs.Refusals.{decided_text, server_refusal_text, desk_refusal_text, view_refusal_text, txn_fault_text, fault_text}
-use Rattle.tq_client.specs.Possible.{IsOfWork, IsOfOwn, IsOfChoice, IsPossible, Saying, Reads, Writes, Votes, Commits, Aborts, Resolves, Applies, Closed, Undecided, OffTree, Fails, saying_text, CanCome, IsFit}
+use Rattle.tq_client.specs.Possible.{IsOfWork, IsOfOwn, IsOfChoice, IsPossible, Saying, Reads, Writes, Votes, Commits, Aborts, Resolves, Applies, Closed, Undecided, Stops, OffTree, Fails, saying_text, CanCome, IsFit}
 
 -- ---- texts that differ at some place
 
@@ -147,5 +147,6 @@ fits_text (Resolves verdict) can = fit_verdict verdict
 fits_text (Applies server done) can = fit_applied server done
 fits_text (Closed number) can = fit (saying_text (Closed number)) refl refl refl
 fits_text (Undecided number) can = fit (saying_text (Undecided number)) refl refl refl
+fits_text (Stops server) can = fit (saying_text (Stops server)) refl refl refl
 fits_text (OffTree server) can = fit (saying_text (OffTree server)) refl refl refl
 fits_text (Fails servers fault) can = fit_fault servers fault can

@@ -7,6 +7,8 @@ use Rattle.tq_desk.specs.declared.ask.DeskRefusal.TheVariants.{Decided}
 use Rattle.tq_desk.specs.declared.ask.DeskReply.{DeskReply}
 use Rattle.tq_desk.specs.declared.ask.DeskReply.TheVariants as replies
 use Rattle.tq_live.specs.View.{is_server}
+use Rattle.tq_node.specs.declared.ask.WorkAsk.{WorkAsk}
+use Rattle.tq_node.specs.declared.ask.WorkAsk.TheVariants.{Decide}
 use Rattle.tq_states.specs.declared.fault.TxnFault.{TxnFault}
 use Rattle.tq_states.specs.declared.fault.TxnFault.TheVariants as txn_faults
 use Rattle.tq_states.specs.declared.told.DeskTold.{DeskTold}
@@ -18,7 +20,7 @@ use Rattle.tq_txn.specs.declared.fault.LineFault.TheVariants as faults
 use Rattle.tq_txn.specs.declared.txn.Txn.{Txn}
 use Rattle.tq_txn.specs.declared.txn.Txn.TheVariants as states
 use Rattle.tq_txn.specs.Dialogue.{Dialogue, LineEnd, Ends, desk_line}
-use Rattle.tq_txn.specs.Lines.{read_line, write_line, prepare_line, apply_line}
+use Rattle.tq_txn.specs.Lines.{read_line, write_line, prepare_line, apply_line, stop_line, prepare_stop_line}
 use Rattle.tq_txn.specs.Commits.{decide_line, commit_line}
 use Rattle.tq_txn.specs.Aborts.{abort_line}
 use Rattle.tq_txn.specs.States.{levels_of}
@@ -28,11 +30,11 @@ use Rattle.tq_print.specs.Print.{printed}
 use Rattle.tq_client.specs.declared.kept.Kept.{Kept}
 use Rattle.tq_client.specs.declared.kept.Ending.{Ending}
 use Rattle.tq_client.specs.Known.{in_state, ending_in}
-use Rattle.tq_client.specs.Possible.{IsOfOwn, Saying, Reads, Writes, Votes, Commits, Aborts, Resolves, Applies, Closed, Undecided, OffTree, Fails, saying_text, CanCome, IsSaid}
-use Rattle.tq_client.specs.TxnAsked.{TxnAnswer, IsAnswered, txn_said, result_text, answer_end, answered, no_servers, open_in, closing, voting_in, missing_in, read_text, read_open, written_text, write_open, voted_text, prepare_asked, prepare_voting, serial_text, decide_asked, decide_voting, commit_asked, commit_voting, aborted_text, abort_asked, resolved_text, resolve_end, resolve_asked, told_text, apply_by, apply_asked, server_asked, line_asked}
+use Rattle.tq_client.specs.Possible.{IsOfOwn, Saying, Reads, Writes, Votes, Commits, Aborts, Resolves, Applies, Closed, Undecided, Stops, OffTree, Fails, saying_text, CanCome, IsSaid}
+use Rattle.tq_client.specs.TxnAsked.{TxnAnswer, IsAnswered, txn_said, result_text, answer_end, answered, no_servers, open_in, closing, voting_in, missing_in, read_text, read_open, written_text, write_open, voted_text, prepare_asked, prepare_voting, stopped_text, prepare_crash_asked, prepare_crash_voting, serial_text, decide_asked, decide_voting, commit_asked, commit_voting, aborted_text, abort_asked, resolved_text, resolve_end, resolve_asked, told_text, apply_by, apply_asked, apply_stopped_text, apply_crash_by, apply_crash_asked, server_asked, line_asked}
 use Rattle.tq_client.proofs.Replies.{IsDeskReply, refuse_all}
 use Rattle.tq_client.proofs.EndsIn.{EndsIn, Answers, IsWell, Any, ends_so, ends_then, desk_ends}
-use Rattle.tq_client.proofs.EndsWell.{read_well, write_well, prepare_well, decide_well, commit_well, abort_well, apply_well}
+use Rattle.tq_client.proofs.EndsWell.{read_well, write_well, prepare_well, decide_well, commit_well, abort_well, apply_well, stop_well, prepare_stop_well}
 use Rattle.tq_client.proofs.Fits.{fits_text}
 
 -- the text is one that can come
@@ -121,6 +123,22 @@ ended_says levels server number kept (Some ending) =
     answered_says levels Any (apply_line number ending.verdict ending.cite server) (λ none. kept) no_servers (told_text server) (apply_well levels number ending.verdict ending.cite server)
     (λ applied none any. (Applies server applied, tt, refl))
 
+stopped_says : (server : ℕ) (new : VotingView) (there : Bool) → IsSayable (stopped_text server new there)
+stopped_says server new true = (Votes server, tt, refl)
+stopped_says server new false = (Stops server, tt, refl)
+
+prepare_crash_says : (levels server after number : ℕ) (kept : Kept) → EndsIn levels Says (prepare_crash_asked server after number kept)
+prepare_crash_says levels server after number kept =
+    voting_says levels kept kept.txn (prepare_crash_voting kept server after)
+    (λ old. answered_says levels Any (prepare_stop_line old server after) (λ new. in_state kept (states.Voting new)) (λ new. server ∷ []) (stopped_text server) (prepare_stop_well levels old server after)
+    (λ there new any. stopped_says server new there))
+
+apply_crash_says : (levels server after number : ℕ) (kept : Kept) (ending : Option Ending) → EndsIn levels Says (apply_crash_by server after number kept ending)
+apply_crash_says levels server after number kept None = (Undecided number, tt, refl)
+apply_crash_says levels server after number kept (Some ending) =
+    let ask : WorkAsk = Decide number ending.verdict ending.cite in
+    answered_says levels Any (stop_line server ask after) (λ none. kept) no_servers (apply_stopped_text server) (stop_well levels server ask after) (λ all none any. (Stops server, tt, refl))
+
 server_says : (levels tree server number : ℕ) (kept : Kept) (next : ℕ → Kept → Dialogue TxnAnswer) → EndsIn levels Says (next number kept) → EndsIn levels Says (server_asked tree server next number kept)
 server_says levels tree server number kept next is = by (is_server tree server)
   where
@@ -137,6 +155,8 @@ line_says levels tree (of.Apply server) number kept same = server_says levels tr
 line_says levels tree of.Commit number kept same = commit_says levels number kept
 line_says levels tree of.Abort number kept same = abort_says levels number kept
 line_says levels tree of.Resolve number kept same = resolve_says levels number kept
+line_says levels tree (of.PrepareCrash server after) number kept same = server_says levels tree server number kept (prepare_crash_asked server after) (prepare_crash_says levels server after number kept)
+line_says levels tree (of.ApplyCrash server after) number kept same = server_says levels tree server number kept (apply_crash_asked server after) (apply_crash_says levels server after number kept (ending_in kept))
 
 -- what was printed of a line of a transaction of the world's tree
 pub said_by_line : (levels : ℕ) (line : TxnLine) (number : ℕ) (kept : Kept) (old new : JournalsView) (before after : List ℕ) (left : Kept)

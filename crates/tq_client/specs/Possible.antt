@@ -66,6 +66,7 @@ pub data Saying : Type 0 where
   Applies : ℕ → Applied → Saying
   Closed : ℕ → Saying
   Undecided : ℕ → Saying
+  Stops : ℕ → Saying
   OffTree : ℕ → Saying
   Fails : List ℕ → LineFault → Saying
 
@@ -79,6 +80,7 @@ saying_text (Resolves verdict) = verdict_text verdict
 saying_text (Applies server applied) = applied_text server applied
 saying_text (Closed number) = codes "voting " ++ decimal number
 saying_text (Undecided number) = codes "not decided " ++ decimal number
+saying_text (Stops server) = codes "down " ++ decimal server
 saying_text (OffTree server) = codes "no such server " ++ decimal server
 saying_text (Fails servers fault) = fault_text servers fault
 
