@@ -1,5 +1,5 @@
 use Rattle.std.proofs.Common.{ap, sym, subst, ◌∙◌}
-use Rattle.tq_live.specs.Live.{Live}
+use Rattle.tq_live.specs.View.{view_after}
 use Rattle.tq_live.specs.ViewChanges.{ViewFits, view_changed}
 use Rattle.tq_live.specs.ViewLaws.{change_fits, change_leads}
 use Rattle.tq_live.specs.declared.change.ViewChange.{ViewChange}
@@ -15,3 +15,4 @@ returns-clause-after c =
     let live = c.self.inside.view in
     let view_is = c.apply.ensures ∙ ap (view_changed live) c.in_ok-plan.ensures.change ∙ change_leads live c.args.ask.now in
     (λ i. record { nodes = c.self.inside.nodes.items; desk = c.self.inside.desk; view = view_is i })
+    ∙ ap (λ (p : PartsView). record p { view = view_after p.view c.args.ask.now }) c.self.view_is

@@ -9,7 +9,6 @@ use Rattle.tq_desk.specs.declared.change.DeskChange.{DeskChange}
 use Rattle.tq_shape.specs.Journal.{entry}
 use Rattle.tq_tables.specs.Counted.{names_of}
 use Rattle.tq_tables.specs.Files as spec
-use Rattle.tq_tables.specs.Parts.{PartsView}
 use Rattle.tq_tables.specs.Rows.{file_rows}
 use Rattle.tq_tables.specs.Tables.{TablesView}
 use Rattle.tq_tables.specs.declared.file_row.FileRow.{FileRow}
