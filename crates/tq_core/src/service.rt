@@ -199,8 +199,7 @@ impl Service {
             ask,
         );
         self.ran();
-        let told = asked?;
-        Ok(told)
+        told_of(asked)
     }
 
     /// Asks the desk: the ask is entered into its journal with its reply, which is told with the number of the entry.
@@ -219,8 +218,7 @@ impl Service {
         }
         let asked = enter_desk(&mut self.tables, &mut self.desk, alloc, ask);
         self.ran();
-        let told = asked?;
-        Ok(told)
+        told_of(asked)
     }
 
     /// Asks the view: the ask is entered into its journal with its reply, which is told with the number of the entry.
@@ -239,8 +237,7 @@ impl Service {
         }
         let asked = enter_view(&mut self.tables, &mut self.view, alloc, ask);
         self.ran();
-        let told = asked?;
-        Ok(told)
+        told_of(asked)
     }
 
     /// Takes a step: asks a part, and enters the ask with the part's reply into its journal. Where the step is
@@ -408,6 +405,16 @@ fn enter_view(
         number,
         reply: told,
     })
+}
+
+/// What an ask is told where it was taken, or memory was refused.
+fn told_of<R: Drop>(asked: Result<Answered<R>, Memory>) -> Result<Answered<R>, AskFault>
+    ensures { result ≡ asks.told_of asked }
+{
+    match asked {
+        Ok(told) => Ok(told),
+        Err(_) => Err(AskFault::Memory),
+    }
 }
 
 /// Why a step is refused where its ask is not taken.
