@@ -226,23 +226,7 @@ told_offers reply world step (Err fault) is = tt
 
 -- ---- a server
 
-pub has_none : (world : JournalsView) → AreJournals world → (server : ℕ) → (IsServer world.levels server → ⊥) → item_at world.servers server ≡ None
-has_none world journals server off = by (item_at world.servers server) refl
-  where
-    by : (o : Option (List NodeEntry)) → item_at world.servers server ≡ o → item_at world.servers server ≡ None
-    by None is = is
-    by (Some entries) is =
-        let there = item_above world.servers server entries is in
-        let less = slice_get_within world.servers (server - 1) entries there.1 in
-        let one = journals.one_each in
-        absurd (off (there.0, omega (arith, less, one, there.0)))
-
--- a step of a server that is not there
-pub no_server : (world : JournalsView) (server : ℕ) (ask : NodeAsk) → AreJournals world → (IsServer world.levels server → ⊥) → IsTold world (steps.Node server ask) (Err refusals.NoSuchServer)
-no_server world server ask journals off =
-    told_refusal world (steps.Node server ask) refusals.NoSuchServer (sym (ap (λ (o : Option (List NodeEntry)). refuse_at world server o (unfounded_in_node_ask world ask)) (has_none world journals server off)))
-
--- the server's journal, in a service
+-- its journal, in a service
 module _ (tables : TablesView) (world : JournalsView) (service : IsService tables world) (server : ℕ) (journal : List NodeEntry) (at : item_at world.servers server ≡ Some journal) where
   there : (0 < server) × (slice_get world.servers (server - 1) ≡ Some journal)
   there = item_above world.servers server journal at
