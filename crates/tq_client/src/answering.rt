@@ -5,9 +5,9 @@ ghost use Rattle.tq_client.specs.Possible.{IsSaid};
 ghost use Rattle.tq_client.specs.TxnAsked as spec;
 
 use crate::endings::{abort_txn, apply, commit_txn, decide_txn, prepare, resolve};
-use crate::stops::{apply_crash_at_server, prepare_crash_at_server};
 use crate::kept::Kept;
 use crate::operations::{read, write};
+use crate::stops::{apply_crash_at_server, prepare_crash_at_server};
 use std::alloc::Global;
 use tq_asking::Recorder;
 use tq_lines::TxnLine;
