@@ -2,24 +2,22 @@
 use Rattle.std.proofs.Common.{◌≡◌, ◌≤◌, ◌<◌, ◌+◌, ◌-◌, ◌^◌, ℕ, suc, Bool, true, false, cond, List, [], ◌∷◌, ◌++◌, length, map, set, get_or, replicate, Option, Some, None, refl, sym, ap, subst, ◌∙◌, arith}
 use Rattle.std.specs.Prelude.{nat_lt, slice_get, Result, Ok, Err, IfOk, OnOk, OnErr}
 use Rattle.std.specs.Option.{option_map, unwrap_or}
-use Rattle.std.specs.List.{All}
 use Rattle.std.proofs.lemmas.List.{get_or-map, length-map, length-set, length-replicate, length_push, map-set, set-get_or}
 use Rattle.std.proofs.lemmas.Option.{get_or_from_slice_get, slice_get-get_or, slice_get_within}
-use Rattle.std.proofs.lemmas.List.Elements.{All-get_or, All-set, All-replicate, All-push}
+use Rattle.std.proofs.lemmas.List.Elements.{All-set, All-replicate, All-push}
 use Rattle.std.proofs.lemmas.List.Sums.{fold-append}
 use Rattle.std.proofs.lemmas.Nat.{pow_pos}
 use Rattle.tq_shape.specs.Limits.{LimitsView}
 use Rattle.tq_shape.specs.Tree.{IsServer}
 use Rattle.tq_shape.specs.Journal.{entry}
+use Rattle.tq_shape.specs.declared.entry.Entry.{Entry}
 use Rattle.tq_shape.specs.declared.part.Part.TheVariants as parts
 use Rattle.tq_part.specs.declared.fault.AskFault.{AskFault}
-use Rattle.tq_part.specs.declared.fault.AskFault.TheVariants as ask_faults
 use Rattle.tq_part.specs.declared.journaled.Answered.{Answered}
 use Rattle.tq_node.specs.declared.ask.NodeAsk.{NodeAsk}
 use Rattle.tq_node.specs.declared.ask.NodeReply.{NodeReply}
 use Rattle.tq_node.specs.Node.{NodeView}
 use Rattle.tq_node.specs.NodeJournal.{NodeEntry}
-use Rattle.tq_node.specs.Records.{node_reply}
 use Rattle.tq_desk.specs.declared.ask.DeskAsk.{DeskAsk}
 use Rattle.tq_desk.specs.declared.ask.DeskReply.{DeskReply}
 use Rattle.tq_desk.specs.DeskJournal.{DeskEntry}
@@ -31,18 +29,17 @@ use Rattle.tq_live.specs.declared.view.ViewAsk.TheVariants.{SetCost, Mark, Choos
 use Rattle.tq_live.specs.declared.view.ViewReply.{ViewReply}
 use Rattle.tq_live.specs.declared.view.ViewReply.TheVariants.{CostSet, Marked, Refused}
 use Rattle.tq_live.specs.declared.view.ViewRefusal.TheVariants.{NoSuchServer, BadCost}
-use Rattle.tq_tables.specs.Asked.{MayAskDesk, MayAskNode, node_in}
+use Rattle.tq_tables.specs.Asked.{MayAskNode, node_in}
 use Rattle.tq_tables.specs.Journals.{JournalsView, AreJournals, IsOfTree, ViewEntry, with_desk, with_view}
 use Rattle.tq_tables.specs.NextOfServer.{entries_of, with_node}
 use Rattle.tq_tables.specs.Parts.{AreLegal, node_after_all}
 use Rattle.tq_tables.specs.Tables.{TablesView, tables_of}
 use Rattle.tq_tables.proofs.Restood.{is_there, node_in-at, node_is}
+use Rattle.tq_world.specs.declared.answer.Answer.{Answer}
 use Rattle.tq_world.specs.declared.answer.Reply.{Reply}
 use Rattle.tq_world.specs.declared.answer.Reply.TheVariants as replies
 use Rattle.tq_world.specs.declared.answer.Step.{Step}
 use Rattle.tq_world.specs.declared.answer.Step.TheVariants as steps
-use Rattle.tq_world.specs.declared.answer.Refusal.{Refusal}
-use Rattle.tq_world.specs.declared.answer.Refusal.TheVariants as refusals
 use Rattle.tq_world.specs.declared.citation.Citation.{Citation}
 use Rattle.tq_world.specs.World.{item_at, empty_world, view_at}
 use Rattle.tq_world.specs.Founded.{unfounded_in_node_ask, unfounded_in_desk_ask}
@@ -52,7 +49,7 @@ use Rattle.tq_world.proofs.Legal.{all_offered, legal_run}
 use Rattle.tq_world.proofs.Rooms.{entry_room, item_above, node_room}
 use Rattle.tq_world.proofs.Runs.{told_answer, told_refusal, world_grown}
 use Rattle.tq_core.specs.Asked.{answer_of, refusal_of, told_by, told_of}
-use Rattle.tq_core.specs.Service.{journals_in, IsService}
+use Rattle.tq_core.specs.Service.{IsEntered, IsService, journals_in, reply_of}
 
 -- ---- whether an ask is taken
 
@@ -65,9 +62,9 @@ module _ (world : JournalsView) (step : Step) (found : Option AskFault) (is : op
   not-refused none = sym is ∙ ap (option_map refusal_of) none
 
 -- an ask of a service: it stands afterwards, and the ask was told what a step is to be told
-pub record Asked {R : Type 0} (reply : R → Reply) (tables : TablesView) (old new : JournalsView) (step : Step) (result : Result (Answered R) AskFault) : Type 0 where
+pub record Asked {R : Type 0} (into : R → Reply) (tables : TablesView) (old new : JournalsView) (step : Step) (result : Result (Answered R) AskFault) : Type 0 where
   pub stands : IsService tables new
-  pub told : IsTold old step (told_by reply result)
+  pub told : IsTold old step (told_by into result)
   pub after : OnOk result (new ≡ world_after old step)
   pub err : OnErr result (new ≡ old)
 
@@ -78,40 +75,50 @@ ran-push world step none done ran =
     ∙ ap (λ (w : JournalsView). world_after w step) ran
     ∙ sym (fold-append world_after (empty_world world.levels world.limits) done (step ∷ []))
 
-module _ {R : Type 0} (reply : R → Reply) (tables new : TablesView) (world after : JournalsView) (step : Step) (service : IsService tables world) (none : refusal world step ≡ None) where
-  taken : (told : Answered R) → AreJournals (grown world step) → IsOfRun (grown world step) → new ≡ tables_of (grown world step) → after ≡ grown world step
-      → answer_of reply told ≡ answer world step → Asked reply new world after step (Ok told)
-  taken told journals ran stand goes is = record {
-    stands = subst (λ (w : JournalsView). IsService new w) (sym goes) (record { journals = journals; ran = ran; stand = stand });
-    told = told_answer world step (answer_of reply told) none is;
-    after = goes ∙ sym (world_grown world step none);
-    err = tt;
-  }
-
-  not_taken : new ≡ tables → after ≡ world → Asked reply new world after step (Err ask_faults.Memory)
-  not_taken same stays = record {
-    stands = subst (λ (t : TablesView). IsService t after) (sym same) (subst (λ (w : JournalsView). IsService tables w) (sym stays) service);
-    told = none;
-    after = tt;
-    err = stays;
-  }
-
 -- the journals beside the tables that are theirs
 same_levels : (tables : TablesView) (world : JournalsView) → IsService tables world → journals_in tables world.limits world.servers world.desk world.view ≡ world
 same_levels tables world service = λ i. record { levels = (service.stand i).levels; limits = world.limits; servers = world.servers; desk = world.desk; view = world.view }
 
-at_out : {R M : Type 0} (reply : R → Reply) (tables : TablesView) (given old new : JournalsView) (step : Step) → given ≡ old → (result : Result (Answered R) M) (out : Result (Answered R) AskFault) → out ≡ told_of result
-    → Asked reply tables old new step (told_of result) → Asked reply tables given new step out
-at_out {R} reply tables given old new step here result out told asked =
-    subst (λ (o : Result (Answered R) AskFault). Asked reply tables given new step o) (sym told)
-    (subst (λ (w : JournalsView). Asked reply tables w new step (told_of result)) (sym here) asked)
+-- ---- an ask that is entered
+
+module _ {A R : Type 0} (into : R → Reply) (with_entry : JournalsView → Entry A R → JournalsView) (tables new : TablesView) (world after : JournalsView) (service : IsService tables world)
+    (step : Step) (ask : A) (reply : R) (journal next : List (Entry A R)) where
+  entered_here : {M : Type 0} (result : Result (Answered R) M) → refusal world step ≡ None → IsEntered with_entry tables new journal next ask reply result
+      → with_entry world (entry ask reply) ≡ grown world step → AreJournals (grown world step) → IsOfRun (grown world step)
+      → (let told : Answer = record { number = length journal + 1; reply = into reply } in told ≡ answer world step)
+      → (new ≡ tables_of (grown world step) → next ≡ journal ++ entry ask reply ∷ [] → after ≡ grown world step)
+      → (new ≡ tables → next ≡ journal → after ≡ world)
+      → Asked into new world after step (told_of result)
+  entered_here (Ok told) none entered grows journals ran answers moved stays =
+      let legal = subst (λ (w : JournalsView). AreLegal w) (sym grows) (legal_run (grown world step) ran) in
+      let stand = entered.asked world reply legal service.stand ∙ ap tables_of grows in
+      let goes = moved stand entered.entered in
+      record {
+        stands = subst (λ (w : JournalsView). IsService new w) (sym goes) (record { journals = journals; ran = ran; stand = stand });
+        told = told_answer world step (answer_of into told) none (ap (λ (t : Answered R). answer_of into t) entered.told ∙ answers);
+        after = goes ∙ sym (world_grown world step none);
+        err = tt;
+      }
+  entered_here (Err refused) none entered grows journals ran answers moved stays =
+      let all = stays entered.err.0 entered.err.1 in
+      record {
+        stands = subst (λ (t : TablesView). IsService t after) (sym entered.err.0) (subst (λ (w : JournalsView). IsService tables w) (sym all) service);
+        told = none;
+        after = tt;
+        err = all;
+      }
+
+-- the same of what was given, and of what is told in the end
+asked_at : {R M : Type 0} (into : R → Reply) (tables : TablesView) (world given new : JournalsView) (step : Step) → world ≡ given → (result : Result (Answered R) M) (out : Result (Answered R) AskFault) → out ≡ told_of result
+    → (refusal world step ≡ None → Asked into tables world new step (told_of result)) → refusal given step ≡ None → Asked into tables given new step out
+asked_at {R} into tables world given new step here result out told asked none =
+    subst (λ (o : Result (Answered R) AskFault). Asked into tables given new step o) (sym told)
+    (subst (λ (w : JournalsView). Asked into tables w new step (told_of result)) here
+    (asked (ap (λ (w : JournalsView). refusal w step) here ∙ none)))
 
 -- ---- the desk
 
 module _ (tables new : TablesView) (world given : JournalsView) (here : world ≡ given) (service : IsService tables world) (after : List DeskEntry) (ask : DeskAsk) where
-  desk_ran : refusal world (steps.Desk ask) ≡ None → IsOfRun (grown world (steps.Desk ask))
-  desk_ran none = (service.ran.0 ++ steps.Desk ask ∷ [], ran-push world (steps.Desk ask) none service.ran.0 service.ran.1)
-
   desk_journals : refusal world (steps.Desk ask) ≡ None → AreJournals (grown world (steps.Desk ask))
   desk_journals none =
       let room = entry_room world parts.Desk (length world.desk) (unfounded_in_desk_ask world ask) none in
@@ -123,34 +130,20 @@ module _ (tables new : TablesView) (world given : JournalsView) (here : world �
         of_tree = service.journals.of_tree;
       }
 
-  desk_here : {M : Type 0} (result : Result (Answered DeskReply) M) → refusal world (steps.Desk ask) ≡ None
-      → IfOk result (λ told. told ≡ record { number = length world.desk + 1; reply = desk_reply tables.desk ask })
-      → IfOk result (λ told. after ≡ world.desk ++ entry ask told.reply ∷ [])
-      → OnOk result ((journals : JournalsView) (reply : DeskReply) → AreLegal (with_desk journals (entry ask reply)) → tables ≡ tables_of journals → new ≡ tables_of (with_desk journals (entry ask reply)))
-      → OnErr result ((new ≡ tables) × (after ≡ world.desk))
-      → Asked replies.Desk new world (journals_in new world.limits world.servers after world.view) (steps.Desk ask) (told_of result)
-  desk_here (Ok told) none is entered asked err =
-      let e = desk_entry world ask in
-      let stand = asked world e.reply (legal_run (grown world (steps.Desk ask)) (desk_ran none)) service.stand in
-      let reply_is : told.reply ≡ e.reply = ap (λ (t : Answered DeskReply). t.reply) is ∙ ap (λ (t : TablesView). desk_reply t.desk ask) service.stand in
-      let next : length world.desk + 1 ≡ suc (length world.desk) = omega arith in
-      let entered_is : after ≡ world.desk ++ e ∷ [] = entered ∙ ap (λ (r : DeskReply). world.desk ++ entry ask r ∷ []) reply_is in
-      taken replies.Desk tables new world (journals_in new world.limits world.servers after world.view) (steps.Desk ask) service none told (desk_journals none) (desk_ran none) stand
-      (λ i. record { levels = (stand i).levels; limits = world.limits; servers = world.servers; desk = entered_is i; view = world.view })
-      (λ i. record { number = (ap (λ (t : Answered DeskReply). t.number) is ∙ next) i; reply = replies.Desk (reply_is i) })
-  desk_here (Err refused) none is entered asked err =
-      not_taken replies.Desk tables new world (journals_in new world.limits world.servers after world.view) (steps.Desk ask) service none err.0
-      ((λ i. journals_in (err.0 i) world.limits world.servers (err.1 i) world.view) ∙ same_levels tables world service)
-
   pub desk_asked : {M : Type 0} (result : Result (Answered DeskReply) M) (out : Result (Answered DeskReply) AskFault) → out ≡ told_of result → refusal given (steps.Desk ask) ≡ None
-      → IfOk result (λ told. told ≡ record { number = length world.desk + 1; reply = desk_reply tables.desk ask })
-      → IfOk result (λ told. after ≡ world.desk ++ entry ask told.reply ∷ [])
-      → OnOk result ((journals : JournalsView) (reply : DeskReply) → AreLegal (with_desk journals (entry ask reply)) → tables ≡ tables_of journals → new ≡ tables_of (with_desk journals (entry ask reply)))
-      → OnErr result ((new ≡ tables) × (after ≡ world.desk))
+      → IsEntered with_desk tables new world.desk after ask (desk_reply tables.desk ask) result
       → Asked replies.Desk new given (journals_in new world.limits world.servers after world.view) (steps.Desk ask) out
-  desk_asked result out told none is entered asked err =
-      at_out replies.Desk new given world (journals_in new world.limits world.servers after world.view) (steps.Desk ask) (sym here) result out told
-      (desk_here result (ap (λ (w : JournalsView). refusal w (steps.Desk ask)) here ∙ none) is entered asked err)
+  desk_asked result out told none entered =
+      let now = journals_in new world.limits world.servers after world.view in
+      let reply = (desk_entry world ask).reply in
+      let next : length world.desk + 1 ≡ suc (length world.desk) = omega arith in
+      asked_at replies.Desk new world given now (steps.Desk ask) here result out told
+      (λ none. entered_here replies.Desk with_desk tables new world now service (steps.Desk ask) ask reply world.desk after result none
+      (subst (λ (r : DeskReply). IsEntered with_desk tables new world.desk after ask r result) (ap (λ (t : TablesView). desk_reply t.desk ask) service.stand) entered)
+      refl (desk_journals none) (service.ran.0 ++ steps.Desk ask ∷ [], ran-push world (steps.Desk ask) none service.ran.0 service.ran.1)
+      (λ i. record { number = next i; reply = replies.Desk reply })
+      (λ stand more i. record { levels = (stand i).levels; limits = world.limits; servers = world.servers; desk = more i; view = world.view })
+      (λ same stays. (λ i. journals_in (same i) world.limits world.servers (stays i) world.view) ∙ same_levels tables world service)) none
 
 -- ---- the view
 
@@ -173,9 +166,6 @@ reply_of_tree live (Mark server up) = mark_of_tree live.levels (is_server live.l
 reply_of_tree live Choose = choice_of_tree live (best live 1)
 
 module _ (tables new : TablesView) (world given : JournalsView) (here : world ≡ given) (service : IsService tables world) (after : List ViewEntry) (ask : ViewAsk) where
-  view_ran : refusal world (steps.View ask) ≡ None → IsOfRun (grown world (steps.View ask))
-  view_ran none = (service.ran.0 ++ steps.View ask ∷ [], ran-push world (steps.View ask) none service.ran.0 service.ran.1)
-
   view_journals : refusal world (steps.View ask) ≡ None → AreJournals (grown world (steps.View ask))
   view_journals none =
       let e = view_entry world ask in
@@ -189,34 +179,20 @@ module _ (tables new : TablesView) (world given : JournalsView) (here : world �
         of_tree = All-push P world.view e service.journals.of_tree (reply_of_tree (view_at world.levels world.view) ask);
       }
 
-  view_here : {M : Type 0} (result : Result (Answered ViewReply) M) → refusal world (steps.View ask) ≡ None
-      → IfOk result (λ told. told ≡ record { number = length world.view + 1; reply = view_reply tables.view ask })
-      → IfOk result (λ told. after ≡ world.view ++ entry ask told.reply ∷ [])
-      → OnOk result ((journals : JournalsView) (reply : ViewReply) → AreLegal (with_view journals (entry ask reply)) → tables ≡ tables_of journals → new ≡ tables_of (with_view journals (entry ask reply)))
-      → OnErr result ((new ≡ tables) × (after ≡ world.view))
-      → Asked replies.View new world (journals_in new world.limits world.servers world.desk after) (steps.View ask) (told_of result)
-  view_here (Ok told) none is entered asked err =
-      let e = view_entry world ask in
-      let stand = asked world e.reply (legal_run (grown world (steps.View ask)) (view_ran none)) service.stand in
-      let reply_is : told.reply ≡ e.reply = ap (λ (t : Answered ViewReply). t.reply) is ∙ ap (λ (t : TablesView). view_reply t.view ask) service.stand in
-      let next : length world.view + 1 ≡ suc (length world.view) = omega arith in
-      let entered_is : after ≡ world.view ++ e ∷ [] = entered ∙ ap (λ (r : ViewReply). world.view ++ entry ask r ∷ []) reply_is in
-      taken replies.View tables new world (journals_in new world.limits world.servers world.desk after) (steps.View ask) service none told (view_journals none) (view_ran none) stand
-      (λ i. record { levels = (stand i).levels; limits = world.limits; servers = world.servers; desk = world.desk; view = entered_is i })
-      (λ i. record { number = (ap (λ (t : Answered ViewReply). t.number) is ∙ next) i; reply = replies.View (reply_is i) })
-  view_here (Err refused) none is entered asked err =
-      not_taken replies.View tables new world (journals_in new world.limits world.servers world.desk after) (steps.View ask) service none err.0
-      ((λ i. journals_in (err.0 i) world.limits world.servers world.desk (err.1 i)) ∙ same_levels tables world service)
-
   pub view_asked : {M : Type 0} (result : Result (Answered ViewReply) M) (out : Result (Answered ViewReply) AskFault) → out ≡ told_of result → refusal given (steps.View ask) ≡ None
-      → IfOk result (λ told. told ≡ record { number = length world.view + 1; reply = view_reply tables.view ask })
-      → IfOk result (λ told. after ≡ world.view ++ entry ask told.reply ∷ [])
-      → OnOk result ((journals : JournalsView) (reply : ViewReply) → AreLegal (with_view journals (entry ask reply)) → tables ≡ tables_of journals → new ≡ tables_of (with_view journals (entry ask reply)))
-      → OnErr result ((new ≡ tables) × (after ≡ world.view))
+      → IsEntered with_view tables new world.view after ask (view_reply tables.view ask) result
       → Asked replies.View new given (journals_in new world.limits world.servers world.desk after) (steps.View ask) out
-  view_asked result out told none is entered asked err =
-      at_out replies.View new given world (journals_in new world.limits world.servers world.desk after) (steps.View ask) (sym here) result out told
-      (view_here result (ap (λ (w : JournalsView). refusal w (steps.View ask)) here ∙ none) is entered asked err)
+  view_asked result out told none entered =
+      let now = journals_in new world.limits world.servers world.desk after in
+      let reply = (view_entry world ask).reply in
+      let next : length world.view + 1 ≡ suc (length world.view) = omega arith in
+      asked_at replies.View new world given now (steps.View ask) here result out told
+      (λ none. entered_here replies.View with_view tables new world now service (steps.View ask) ask reply world.view after result none
+      (subst (λ (r : ViewReply). IsEntered with_view tables new world.view after ask r result) (ap (λ (t : TablesView). view_reply t.view ask) service.stand) entered)
+      refl (view_journals none) (service.ran.0 ++ steps.View ask ∷ [], ran-push world (steps.View ask) none service.ran.0 service.ran.1)
+      (λ i. record { number = next i; reply = replies.View reply })
+      (λ stand more i. record { levels = (stand i).levels; limits = world.limits; servers = world.servers; desk = world.desk; view = more i })
+      (λ same stays. (λ i. journals_in (same i) world.limits world.servers world.desk (stays i)) ∙ same_levels tables world service)) none
 
 -- what an ask of the view is told is an offer
 pub told_offers : {R : Type 0} (reply : R → Reply) (world : JournalsView) (step : Step) (result : Result (Answered R) AskFault)
@@ -237,8 +213,8 @@ module _ (tables : TablesView) (world : JournalsView) (service : IsService table
   journal_is : server_journal world server ≡ journal
   journal_is = ap (λ (o : Option (List NodeEntry)). unwrap_or o []) at
 
-  may_ask_node : MayAskNode tables server (length journal + 1)
-  may_ask_node =
+  may_ask : MayAskNode tables server (length journal + 1)
+  may_ask =
       let less = slice_get_within world.servers (server - 1) journal there.1 in
       record {
         journals = world;
@@ -249,19 +225,13 @@ module _ (tables : TablesView) (world : JournalsView) (service : IsService table
 
   node_stands : node_in tables.nodes server ≡ node_after_all world.levels server (server_journal world server)
   node_stands =
-      let within = is_there tables server (length journal + 1) may_ask_node in
+      let within = is_there tables server (length journal + 1) may_ask in
       node_is world server tables (node_in tables.nodes server) service.stand within.0 (node_in-at tables.nodes server (omega (arith, within.0, within.1))) within.1
       ∙ ap (node_after_all world.levels server) (entries_are ∙ sym journal_is)
 
   module _ (ask : NodeAsk) where
     node_refusal : refusal world (steps.Node server ask) ≡ refuse_entry world (parts.Server server) (length journal) (unfounded_in_node_ask world ask)
     node_refusal = ap (λ (o : Option (List NodeEntry)). refuse_at world server o (unfounded_in_node_ask world ask)) at
-
-    grown_is : with_node world server (node_entry world server ask) ≡ grown world (steps.Node server ask)
-    grown_is = λ i. record world { servers = set world.servers (server - 1) ((entries_are ∙ sym journal_is) i ++ node_entry world server ask ∷ []) }
-
-    node_ran : refusal world (steps.Node server ask) ≡ None → IsOfRun (grown world (steps.Node server ask))
-    node_ran none = (service.ran.0 ++ steps.Node server ask ∷ [], ran-push world (steps.Node server ask) none service.ran.0 service.ran.1)
 
     node_journals : refusal world (steps.Node server ask) ≡ None → AreJournals (grown world (steps.Node server ask))
     node_journals none =
@@ -278,98 +248,74 @@ module _ (tables : TablesView) (world : JournalsView) (service : IsService table
           of_tree = service.journals.of_tree;
         }
 
-    module _ (new : TablesView) (servers : List (List NodeEntry)) (after : List NodeEntry) (placed : servers ≡ set world.servers (server - 1) after) where
-      node_here : {M : Type 0} (result : Result (Answered NodeReply) M) → refusal world (steps.Node server ask) ≡ None
-          → IfOk result (λ told. told ≡ record { number = length journal + 1; reply = node_reply (node_in tables.nodes server).server (node_in tables.nodes server).state ask })
-          → IfOk result (λ told. after ≡ journal ++ entry ask told.reply ∷ [])
-          → OnOk result ((journals : JournalsView) (reply : NodeReply) → AreLegal (with_node journals server (entry ask reply)) → tables ≡ tables_of journals → new ≡ tables_of (with_node journals server (entry ask reply)))
-          → OnErr result ((new ≡ tables) × (after ≡ journal))
-          → Asked replies.Node new world (journals_in new world.limits servers world.desk world.view) (steps.Node server ask) (told_of result)
-      node_here (Ok told) none is entered asked err =
-          let e = node_entry world server ask in
-          let legal = subst (λ (w : JournalsView). AreLegal w) (sym grown_is) (legal_run (grown world (steps.Node server ask)) (node_ran none)) in
-          let stand = asked world e.reply legal service.stand ∙ ap tables_of grown_is in
-          let reply_is : told.reply ≡ e.reply = ap (λ (t : Answered NodeReply). t.reply) is ∙ ap (λ (n : NodeView). node_reply n.server n.state ask) node_stands in
-          let count = ap (λ (entries : List NodeEntry). length entries) journal_is in
-          let next : length journal + 1 ≡ suc (length (server_journal world server)) = omega (arith, count) in
-          let entered_is : after ≡ server_journal world server ++ e ∷ [] = entered ∙ (λ i. sym journal_is i ++ entry ask (reply_is i) ∷ []) in
-          let servers_are = placed ∙ ap (λ (entries : List NodeEntry). set world.servers (server - 1) entries) entered_is in
-          taken replies.Node tables new world (journals_in new world.limits servers world.desk world.view) (steps.Node server ask) service none told (node_journals none) (node_ran none) stand
-          (λ i. record { levels = (stand i).levels; limits = world.limits; servers = servers_are i; desk = world.desk; view = world.view })
-          (λ i. record { number = (ap (λ (t : Answered NodeReply). t.number) is ∙ next) i; reply = replies.Node (reply_is i) })
-      node_here (Err refused) none is entered asked err =
-          let stays : servers ≡ world.servers =
-          placed
-          ∙ ap (λ (entries : List NodeEntry). set world.servers (server - 1) entries) (err.1 ∙ sym (get_or_from_slice_get world.servers (server - 1) journal journal there.1))
-          ∙ set-get_or world.servers (server - 1) journal in
-          not_taken replies.Node tables new world (journals_in new world.limits servers world.desk world.view) (steps.Node server ask) service none err.0
-          ((λ i. journals_in (err.0 i) world.limits (stays i) world.desk world.view) ∙ same_levels tables world service)
+    node_here : (new : TablesView) (servers : List (List NodeEntry)) (after : List NodeEntry) → servers ≡ set world.servers (server - 1) after
+        → {M : Type 0} (result : Result (Answered NodeReply) M) → refusal world (steps.Node server ask) ≡ None
+        → IsEntered (λ all e. with_node all server e) tables new journal after ask (reply_of (node_in tables.nodes server) ask) result
+        → Asked replies.Node new world (journals_in new world.limits servers world.desk world.view) (steps.Node server ask) (told_of result)
+    node_here new servers after placed result none entered =
+        let e = node_entry world server ask in
+        let count = ap (λ (entries : List NodeEntry). length entries) journal_is in
+        let next : length journal + 1 ≡ suc (length (server_journal world server)) = omega (arith, count) in
+        entered_here replies.Node (λ all e. with_node all server e) tables new world (journals_in new world.limits servers world.desk world.view) service (steps.Node server ask) ask e.reply journal after result none
+        (subst (λ (r : NodeReply). IsEntered (λ all e. with_node all server e) tables new journal after ask r result) (ap (λ (n : NodeView). reply_of n ask) node_stands) entered)
+        (λ i. record world { servers = set world.servers (server - 1) ((entries_are ∙ sym journal_is) i ++ e ∷ []) })
+        (node_journals none) (service.ran.0 ++ steps.Node server ask ∷ [], ran-push world (steps.Node server ask) none service.ran.0 service.ran.1)
+        (λ i. record { number = next i; reply = replies.Node e.reply })
+        (λ stand more i. record {
+          levels = (stand i).levels;
+          limits = world.limits;
+          servers = (placed ∙ ap (λ (entries : List NodeEntry). set world.servers (server - 1) entries) (more ∙ ap (λ (entries : List NodeEntry). entries ++ e ∷ []) (sym journal_is))) i;
+          desk = world.desk;
+          view = world.view;
+        })
+        (λ same stays.
+        (λ i. journals_in (same i) world.limits
+        ((placed
+        ∙ ap (λ (entries : List NodeEntry). set world.servers (server - 1) entries) (stays ∙ sym (get_or_from_slice_get world.servers (server - 1) journal journal there.1))
+        ∙ set-get_or world.servers (server - 1) journal) i) world.desk world.view)
+        ∙ same_levels tables world service)
 
--- an ask of a server of the tree
+-- an ask of a server of the tree, whatever the number is called that the step has
 module _ {V : Type 0} (items : V → List NodeEntry) (journals : List V) (tables : TablesView) (limits : LimitsView) (desk : List DeskEntry) (view : List ViewEntry) (given : JournalsView)
     (here : journals_in tables limits (map items journals) desk view ≡ given) (service : IsService tables (journals_in tables limits (map items journals) desk view))
-    (levels server : ℕ) (tree : levels ≡ given.levels) (of_tree : IsServer levels server) (journal : V) (at : journal ≡ get_or journals (server - 1) journal) (ask : NodeAsk) where
-  there_at : (here : V) → here ≡ get_or journals (server - 1) here → item_at (map items journals) server ≡ Some (items here)
+    (levels server number : ℕ) (tree : levels ≡ given.levels) (of_tree : IsServer levels server) (same : server ≡ number) (ask : NodeAsk)
+    (counted : V) (found : Option AskFault) (entries : ℕ) (unfounded : Option Citation)
+    (at : counted ≡ get_or journals (server - 1) counted) (count : entries ≡ length (items counted)) (cited : unfounded ≡ unfounded_in_node_ask given ask)
+    (refused : option_map refusal_of found ≡ refuse_entry given (parts.Server server) entries unfounded) where
+  there_at : (journal : V) → journal ≡ get_or journals (server - 1) journal → item_at (map items journals) server ≡ Some (items journal)
   there_at journal at =
       let above : nat_lt 0 server ≡ true = (let positive = of_tree.0 in grind (arith, positive)) in
       let one = service.journals.one_each in
-      let same = tree ∙ ap (λ (w : JournalsView). w.levels) (sym here) in
-      let inside : server < 2 ^ tables.levels = subst (λ (l : ℕ). server < 2 ^ l) same of_tree.1 in
+      let inside : server < 2 ^ tables.levels = subst (λ (l : ℕ). server < 2 ^ l) (tree ∙ ap (λ (w : JournalsView). w.levels) (sym here)) of_tree.1 in
       let within : server - 1 < length (map items journals) = omega (arith, one, of_tree.0, inside) in
       let less : server - 1 < length journals = (let l = length-map journals items in omega (arith, l, within)) in
       ap (λ (b : Bool). cond b (slice_get (map items journals) (server - 1)) None) above
       ∙ slice_get-get_or (map items journals) (server - 1) [] within
       ∙ ap (λ (entries : List NodeEntry). Some entries) (get_or-map items journals (server - 1) journal [] less ∙ ap items (sym at))
 
-  there_is : item_at (map items journals) server ≡ Some (items journal)
-  there_is = there_at journal at
-
-  same_journal : (other : V) → other ≡ get_or journals (server - 1) other → items other ≡ items journal
-  same_journal other where_other =
-      let some : Path (Option (List NodeEntry)) (Some (items other)) (Some (items journal)) = sym (there_at other where_other) ∙ there_is in cc
-
-  refused_there : (found : Option AskFault) (entries : ℕ) (unfounded : Option Citation)
-      → option_map refusal_of found ≡ refuse_entry given (parts.Server server) entries unfounded → entries ≡ length (items journal) → unfounded ≡ unfounded_in_node_ask given ask
-      → option_map refusal_of found ≡ refusal given (steps.Node server ask)
-  refused_there found entries unfounded refused count cited =
+  refusal_is : option_map refusal_of found ≡ refusal given (steps.Node server ask)
+  refusal_is =
       refused
       ∙ (λ i. refuse_entry given (parts.Server server) (count i) (cited i))
-      ∙ ap (λ (w : JournalsView). refuse_entry w (parts.Server server) (length (items journal)) (unfounded_in_node_ask w ask)) (sym here)
-      ∙ sym (node_refusal tables (journals_in tables limits (map items journals) desk view) service server (items journal) there_is ask)
+      ∙ ap (λ (w : JournalsView). refuse_entry w (parts.Server server) (length (items counted)) (unfounded_in_node_ask w ask)) (sym here)
+      ∙ sym (node_refusal tables (journals_in tables limits (map items journals) desk view) service server (items counted) (there_at counted at) ask)
       ∙ ap (λ (w : JournalsView). refusal w (steps.Node server ask)) here
 
-  node_asked_there : (new : TablesView) (after : V) → {M : Type 0} (result : Result (Answered NodeReply) M) (out : Result (Answered NodeReply) AskFault) → out ≡ told_of result → refusal given (steps.Node server ask) ≡ None
-      → IfOk result (λ told. told ≡ record { number = length (items journal) + 1; reply = node_reply (node_in tables.nodes server).server (node_in tables.nodes server).state ask })
-      → IfOk result (λ told. items after ≡ items journal ++ entry ask told.reply ∷ [])
-      → OnOk result ((all : JournalsView) (reply : NodeReply) → AreLegal (with_node all server (entry ask reply)) → tables ≡ tables_of all → new ≡ tables_of (with_node all server (entry ask reply)))
-      → OnErr result ((new ≡ tables) × (items after ≡ items journal))
-      → Asked replies.Node new given (journals_in new limits (map items (set journals (server - 1) after)) desk view) (steps.Node server ask) out
-  node_asked_there new after result out told none is entered asked err =
+  pub node_refused : (fault : AskFault) → found ≡ Some fault → IsTold given (steps.Node number ask) (Err (refusal_of fault))
+  node_refused fault some =
+      subst (λ (n : ℕ). IsTold given (steps.Node n ask) (Err (refusal_of fault))) same (refused-told given (steps.Node server ask) found refusal_is fault some)
+
+  pub node_asked : found ≡ None → (journal : V) → journal ≡ get_or journals (server - 1) journal → (new : TablesView) (after : V)
+      → {M : Type 0} (result : Result (Answered NodeReply) M) (out : Result (Answered NodeReply) AskFault) → out ≡ told_of result
+      → IsEntered (λ all e. with_node all server e) tables new (items journal) (items after) ask (reply_of (node_in tables.nodes server) ask) result
+      → Asked replies.Node new given (journals_in new limits (map items (set journals (server - 1) after)) desk view) (steps.Node number ask) out
+  node_asked none journal where_journal new after result out told entered =
       let world = journals_in tables limits (map items journals) desk view in
       let servers = map items (set journals (server - 1) after) in
-      at_out replies.Node new given world (journals_in new limits servers desk view) (steps.Node server ask) (sym here) result out told
-      (node_here tables world service server (items journal) there_is ask new servers (items after) (map-set items journals (server - 1) after) result
-      (ap (λ (w : JournalsView). refusal w (steps.Node server ask)) here ∙ none) is entered asked err)
-
-  pub node_refused : (found : Option AskFault) (entries number : ℕ) (unfounded : Option Citation)
-      → option_map refusal_of found ≡ refuse_entry given (parts.Server server) entries unfounded → entries ≡ length (items journal) → unfounded ≡ unfounded_in_node_ask given ask
-      → (fault : AskFault) → found ≡ Some fault → server ≡ number → IsTold given (steps.Node number ask) (Err (refusal_of fault))
-  node_refused found entries number unfounded refused count cited fault some same =
-      subst (λ (n : ℕ). IsTold given (steps.Node n ask) (Err (refusal_of fault))) same
-      (refused-told given (steps.Node server ask) found (refused_there found entries unfounded refused count cited) fault some)
-
-  pub node_asked : (new : TablesView) (after : V) (found : Option AskFault) (entries number : ℕ) (unfounded : Option Citation) (counted : V) → counted ≡ get_or journals (server - 1) counted
-      → option_map refusal_of found ≡ refuse_entry given (parts.Server server) entries unfounded → entries ≡ length (items counted) → unfounded ≡ unfounded_in_node_ask given ask → found ≡ None → server ≡ number
-      → {M : Type 0} (result : Result (Answered NodeReply) M) (out : Result (Answered NodeReply) AskFault) → out ≡ told_of result
-      → IfOk result (λ told. told ≡ record { number = length (items journal) + 1; reply = node_reply (node_in tables.nodes server).server (node_in tables.nodes server).state ask })
-      → IfOk result (λ told. items after ≡ items journal ++ entry ask told.reply ∷ [])
-      → OnOk result ((all : JournalsView) (reply : NodeReply) → AreLegal (with_node all server (entry ask reply)) → tables ≡ tables_of all → new ≡ tables_of (with_node all server (entry ask reply)))
-      → OnErr result ((new ≡ tables) × (items after ≡ items journal))
-      → Asked replies.Node new given (journals_in new limits (map items (set journals (server - 1) after)) desk view) (steps.Node number ask) out
-  node_asked new after found entries number unfounded counted where_counted refused count cited none same result out told is entered asked err =
-      subst (λ (n : ℕ). Asked replies.Node new given (journals_in new limits (map items (set journals (server - 1) after)) desk view) (steps.Node n ask) out) same
-      (node_asked_there new after result out told
-      (not-refused given (steps.Node server ask) found (refused_there found entries unfounded refused (count ∙ ap (λ (es : List NodeEntry). length es) (same_journal counted where_counted)) cited) none) is entered asked err)
+      subst (λ (n : ℕ). Asked replies.Node new given (journals_in new limits servers desk view) (steps.Node n ask) out) same
+      (asked_at replies.Node new world given (journals_in new limits servers desk view) (steps.Node server ask) here result out told
+      (λ none. node_here tables world service server (items journal) (there_at journal where_journal) ask new servers (items after) (map-set items journals (server - 1) after) result none entered)
+      (not-refused given (steps.Node server ask) found refusal_is none))
 
 -- ---- a new service
 

@@ -1,15 +1,14 @@
-ghost use Rattle.std.specs.Prelude.{◌≡◌, ◌+◌, ◌-◌, ◌^◌, ◌∷◌, ◌++◌, [], IfOk, OnOk, OnErr, length, map, replicate};
+ghost use Rattle.std.specs.Prelude.{◌≡◌, ◌+◌, ◌-◌, ◌^◌, [], IfOk, OnOk, OnErr, length, map, replicate};
 ghost use Rattle.std.specs.Option.{option_copied, option_map};
-ghost use Rattle.tq_shape.specs.Journal.{entry};
-ghost use Rattle.tq_node.specs.Records.{node_reply};
 ghost use Rattle.tq_desk.specs.DeskStep.{desk_reply};
 ghost use Rattle.tq_live.specs.View.{view_reply};
 ghost use Rattle.tq_tables.specs.Asked.{MayAskDesk, MayAskNode, node_in};
-ghost use Rattle.tq_tables.specs.Journals.{JournalsView, with_desk, with_view};
+ghost use Rattle.tq_tables.specs.Journals.{with_desk, with_view};
 ghost use Rattle.tq_tables.specs.NextOfServer.{with_node};
 ghost use Rattle.tq_tables.specs.Parts.{AreLegal};
 ghost use Rattle.tq_tables.specs.Tables.{tables_of};
 ghost use Rattle.tq_core.specs.Asked as asks;
+ghost use Rattle.tq_core.specs.Service.{IsEntered, reply_of};
 
 use crate::unfounded::item_at;
 use crate::{Answer, Answered, Journal, Refusal, Reply, Step};
@@ -151,12 +150,7 @@ impl Service {
 
     /// Why an ask of a part that has so many entries is not taken: the journal is full, or the ask cites this, which does
     /// not stand.
-    fn refusal(
-        &self,
-        part: Part,
-        entries: usize,
-        unfounded: Option<Citation>,
-    ) -> Option<AskFault>
+    fn refusal(&self, part: Part, entries: usize, unfounded: Option<Citation>) -> Option<AskFault>
         ensures { option_map asks.refusal_of result ≡ spec.refuse_entry self.now part entries unfounded }
     {
         if entries >= self.limits.entries() as usize {
@@ -330,11 +324,8 @@ fn enter_node(
     ask: NodeAsk,
 ) -> Result<Answered<NodeReply>, Memory>
     requires { MayAskNode tables.old server (length journal.old.items + 1) }
-    ensures told { IfOk result (λ told. told ≡ record { number = length journal.old.items + 1; reply = node_reply (node_in tables.old.nodes server).server (node_in tables.old.nodes server).state ask }) }
-    ensures entered { IfOk result (λ told. journal.new.items ≡ journal.old.items ++ entry ask told.reply ∷ []) }
-    ensures asked { OnOk result ((journals : JournalsView) (reply : NodeReply) → AreLegal (with_node journals server (entry ask reply))
-        → tables.old ≡ tables_of journals → tables.new ≡ tables_of (with_node journals server (entry ask reply))) }
-    ensures err { OnErr result ((tables.new ≡ tables.old) × (journal.new.items ≡ journal.old.items)) }
+    ensures { IsEntered (λ journals e. with_node journals server e) tables.old tables.new journal.old.items journal.new.items ask
+        (reply_of (node_in tables.old.nodes server) ask) result }
 {
     let number = journal.len() as u64 + 1;
     journal.reserve(1)?;
@@ -359,11 +350,7 @@ fn enter_desk(
     ask: DeskAsk,
 ) -> Result<Answered<DeskReply>, Memory>
     requires { MayAskDesk tables.old }
-    ensures told { IfOk result (λ told. told ≡ record { number = length journal.old.items + 1; reply = desk_reply tables.old.desk ask }) }
-    ensures entered { IfOk result (λ told. journal.new.items ≡ journal.old.items ++ entry ask told.reply ∷ []) }
-    ensures asked { OnOk result ((journals : JournalsView) (reply : DeskReply) → AreLegal (with_desk journals (entry ask reply))
-        → tables.old ≡ tables_of journals → tables.new ≡ tables_of (with_desk journals (entry ask reply))) }
-    ensures err { OnErr result ((tables.new ≡ tables.old) × (journal.new.items ≡ journal.old.items)) }
+    ensures { IsEntered with_desk tables.old tables.new journal.old.items journal.new.items ask (desk_reply tables.old.desk ask) result }
 {
     let number = journal.len() as u64 + 1;
     journal.reserve(1)?;
@@ -387,11 +374,7 @@ fn enter_view(
     alloc: Global,
     ask: ViewAsk,
 ) -> Result<Answered<ViewReply>, Memory>
-    ensures told { IfOk result (λ told. told ≡ record { number = length journal.old.items + 1; reply = view_reply tables.old.view ask }) }
-    ensures entered { IfOk result (λ told. journal.new.items ≡ journal.old.items ++ entry ask told.reply ∷ []) }
-    ensures asked { OnOk result ((journals : JournalsView) (reply : ViewReply) → AreLegal (with_view journals (entry ask reply))
-        → tables.old ≡ tables_of journals → tables.new ≡ tables_of (with_view journals (entry ask reply))) }
-    ensures err { OnErr result ((tables.new ≡ tables.old) × (journal.new.items ≡ journal.old.items)) }
+    ensures { IsEntered with_view tables.old tables.new journal.old.items journal.new.items ask (view_reply tables.old.view ask) result }
 {
     let number = journal.len() as u64 + 1;
     journal.reserve(1)?;

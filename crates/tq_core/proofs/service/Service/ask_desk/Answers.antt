@@ -1,4 +1,4 @@
-use Rattle.std.proofs.Common.{◌∙◌, length, ap, refl, sym}
+use Rattle.std.proofs.Common.{◌∙◌, length, refl}
 use Rattle.tq_shape.specs.declared.part.Part.TheVariants.{Desk}
 use Rattle.tq_world.specs.declared.answer.Step.TheVariants as steps
 use Rattle.tq_world.specs.Steps.{refuse_entry}
@@ -11,7 +11,7 @@ invariant_of-self c =
     let refusal_is = c.refusal.ensures ∙ (λ i. refuse_entry now Desk (length (c.desk_journal.ensures i)) (c.unfounded_in_desk_ask-unfounded.ensures i)) in
     let asked = desk_asked c.self.inside.tables c.enter_desk-asked.new.tables _ now c.self.view_is c.self.invariant c.enter_desk-asked.new.journal.items c.args.ask c.enter_desk-asked.result _ refl
     (not-refused now (steps.Desk c.args.ask) c.refusal.result refusal_is c.in_default.is)
-    c.enter_desk-asked.ensures.told c.enter_desk-asked.ensures.entered c.enter_desk-asked.ensures.asked c.enter_desk-asked.ensures.err in
+    c.enter_desk-asked.ensures in
     asked.stands
 
 pub returns-clause-after : goal.returns-clause-after
@@ -20,5 +20,5 @@ returns-clause-after c =
     let refusal_is = c.refusal.ensures ∙ (λ i. refuse_entry now Desk (length (c.desk_journal.ensures i)) (c.unfounded_in_desk_ask-unfounded.ensures i)) in
     let asked = desk_asked c.self.inside.tables c.enter_desk-asked.new.tables _ now c.self.view_is c.self.invariant c.enter_desk-asked.new.journal.items c.args.ask c.enter_desk-asked.result _ c.told_of.ensures
     (not-refused now (steps.Desk c.args.ask) c.refusal.result refusal_is c.in_default.is)
-    c.enter_desk-asked.ensures.told c.enter_desk-asked.ensures.entered c.enter_desk-asked.ensures.asked c.enter_desk-asked.ensures.err in
+    c.enter_desk-asked.ensures in
     asked.after

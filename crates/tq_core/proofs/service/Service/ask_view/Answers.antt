@@ -13,7 +13,7 @@ invariant_of-self c =
     let refusal_is = c.refusal.ensures ∙ (λ i. refuse_entry now View ((c.len.ensures ∙ c.self.inside.view.ok.0 ∙ ap (λ (w : JournalsView). length w.view) c.self.view_is) i) None) in
     let asked = view_asked c.self.inside.tables c.enter_view-asked.new.tables _ now c.self.view_is c.self.invariant c.enter_view-asked.new.journal.items c.args.ask c.enter_view-asked.result _ refl
     (not-refused now (steps.View c.args.ask) c.refusal.result refusal_is c.in_default.is)
-    c.enter_view-asked.ensures.told c.enter_view-asked.ensures.entered c.enter_view-asked.ensures.asked c.enter_view-asked.ensures.err in
+    c.enter_view-asked.ensures in
     asked.stands
 
 pub returns-clause-after : goal.returns-clause-after
@@ -22,7 +22,7 @@ returns-clause-after c =
     let refusal_is = c.refusal.ensures ∙ (λ i. refuse_entry now View ((c.len.ensures ∙ c.self.inside.view.ok.0 ∙ ap (λ (w : JournalsView). length w.view) c.self.view_is) i) None) in
     let asked = view_asked c.self.inside.tables c.enter_view-asked.new.tables _ now c.self.view_is c.self.invariant c.enter_view-asked.new.journal.items c.args.ask c.enter_view-asked.result _ c.told_of.ensures
     (not-refused now (steps.View c.args.ask) c.refusal.result refusal_is c.in_default.is)
-    c.enter_view-asked.ensures.told c.enter_view-asked.ensures.entered c.enter_view-asked.ensures.asked c.enter_view-asked.ensures.err in
+    c.enter_view-asked.ensures in
     asked.after
 
 pub returns-clause-told : goal.returns-clause-told
@@ -31,7 +31,7 @@ returns-clause-told c =
     let refusal_is = c.refusal.ensures ∙ (λ i. refuse_entry now View ((c.len.ensures ∙ c.self.inside.view.ok.0 ∙ ap (λ (w : JournalsView). length w.view) c.self.view_is) i) None) in
     let asked = view_asked c.self.inside.tables c.enter_view-asked.new.tables _ now c.self.view_is c.self.invariant c.enter_view-asked.new.journal.items c.args.ask c.enter_view-asked.result _ c.told_of.ensures
     (not-refused now (steps.View c.args.ask) c.refusal.result refusal_is c.in_default.is)
-    c.enter_view-asked.ensures.told c.enter_view-asked.ensures.entered c.enter_view-asked.ensures.asked c.enter_view-asked.ensures.err in
+    c.enter_view-asked.ensures in
     asked.told
 
 pub returns-clause-offered : goal.returns-clause-offered

@@ -1,4 +1,4 @@
-use Rattle.std.proofs.Common.{◌≡◌, ◌^◌, ◌-◌, [], map, replicate, ap, ◌∙◌}
+use Rattle.std.proofs.Common.{[], map, ap, ◌∙◌}
 use Rattle.tq_live.specs.Live.{Live}
 use Rattle.tq_tables.specs.Parts.{nodes_at}
 use Rattle.tq_tables.specs.Tables.{tables_over}
