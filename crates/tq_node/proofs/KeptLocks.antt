@@ -281,9 +281,6 @@ kept_locks-is list locks one l =
         (Has-looked_up nat_cmp_total nat_cmp-IsAntisymmetric (open_votes list) q.1 s.0 (sym (fin.get-from_entries nat_cmp_total (open_votes list) q.1) ∙ s.1))
         (subst (λ (x : LockKey × Lock). Has (map (stable_lock q.1) (s.0).locks) x) k.2 (map-Has (stable_lock q.1) (s.0).locks k.0 k.1))
 
-stable_lock-stable : (t : ℕ) (kept : KeptLock) (entry : LockKey × Lock) → stable_lock t kept ≡ entry → entry.1.stable ≡ true
-stable_lock-stable t kept entry h = sym (ap (λ (x : LockKey × Lock). x.1.stable) h)
-
 -- locks that a list keeps are stable
 kept_lock-stable : (list : List Record) (q : LockKey) (lock : Lock) → fin.get (kept_locks list) q ≡ Some lock → lock.stable ≡ true
 kept_lock-stable list q lock h =
@@ -291,7 +288,7 @@ kept_lock-stable list q lock h =
     let has = Has-looked_up locks_total locks_same es q lock (sym (fin.get-from_entries locks_total es q) ∙ h) in
     let e = flat_map-Has (λ (vote : ℕ × OpenVote). map (stable_lock vote.0) vote.1.locks) (open_votes list) (q, lock) has in
     let k = Has-map (stable_lock e.0.0) e.0.1.locks (q, lock) e.2 in
-    stable_lock-stable e.0.0 k.0 (q, lock) k.2
+    sym (ap (λ (x : LockKey × Lock). x.1.stable) k.2)
 
 pub kept_locks-stable : (list : List Record) → kept_locks list ≡ only_stable (kept_locks list)
 kept_locks-stable list =

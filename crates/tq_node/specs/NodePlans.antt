@@ -2,7 +2,7 @@
 use Rattle.std.specs.Prelude.{◌==◌, nat_le, nat_lt, not, take, if◌then◌else◌}
 use Rattle.std.proofs.Common.{◌≡◌, ◌<◌, ◌+◌, suc, zero, length, sym, subst, ◌∙◌, inl, inr, ◌++◌, ℕ, Bool, true, false, List, [], ◌∷◌, Option, Some, None, IsSome, is_some, map, filter, refl, ap, arith}
 use Rattle.std.proofs.lemmas.Bool.{eq-eqb, eqb-true, false≢true, leb-false, leb-true, ltb-false, ltb-true}
-use Rattle.std.proofs.lemmas.List.{append-nil, length-append, length-map, take-append-le, take-map, take_all}
+use Rattle.std.proofs.lemmas.List.{append-nil, take-append-le, take_all}
 use Rattle.std.specs.FinMap as fin
 use Rattle.tq_store.specs.Copies.{installed_all, is_newer}
 use Rattle.tq_locks.specs.Locks.{blocker, released}
@@ -68,7 +68,7 @@ dead_locks txn n (lock ∷ locks) zero less r has = absurd has
 dead_locks txn n (lock ∷ locks) (suc k) less r (inl e) = subst (λ (x : Record). is_dead n x ≡ true) e (eq-eqb n n refl)
 dead_locks txn n (lock ∷ locks) (suc k) less r (inr has) = dead_locks txn n locks k (omega arith) r has
 
-pub dead_vote : (txn n : ℕ) (writes : List Write) (locks : List KeptLock) (k : ℕ) → k < length (vote_records txn n writes locks) → AreDead n (take k (vote_records txn n writes locks))
+dead_vote : (txn n : ℕ) (writes : List Write) (locks : List KeptLock) (k : ℕ) → k < length (vote_records txn n writes locks) → AreDead n (take k (vote_records txn n writes locks))
 dead_vote txn n [] locks k less r has = dead_locks txn n locks k less r has
 dead_vote txn n (write ∷ writes) locks zero less r has = absurd has
 dead_vote txn n (write ∷ writes) locks (suc k) less r (inl e) = subst (λ (x : Record). is_dead n x ≡ true) e (eq-eqb n n refl)
@@ -154,7 +154,8 @@ work_writes_lead server old number (work.Refresh file version content from) = re
 -- ---- what a stop leaves of a step writes the first so many of its records
 
 none_of_none : (k : ℕ) → ◌≡◌ {A = List Record} [] (take k [])
-none_of_none k = sym (take_all k [] (omega arith))
+none_of_none zero = refl
+none_of_none (suc k) = refl
 
 one_or_none : (after : ℕ) (only : Record) (b : Bool) → (after == 0) ≡ b → (if b then [] else only ∷ []) ≡ take after (only ∷ [])
 one_or_none zero only true e = refl
@@ -171,16 +172,28 @@ cut_vote : (txn : ℕ) (vote : OpenVote) (after : ℕ) (b : Bool) → nat_lt aft
 cut_vote txn vote after true e = refl
 cut_vote txn vote after false e = sym (take_all after (vote_records txn vote.number vote.writes vote.locks) (ltb-false after (length (vote_records txn vote.number vote.writes vote.locks)) e))
 
+copies_taken : (k : ℕ) (newer : List Write) → map stable.Copy (take k newer) ≡ take k (map stable.Copy newer)
+copies_taken zero newer = refl
+copies_taken (suc k) [] = refl
+copies_taken (suc k) (write ∷ newer) = ap (λ (list : List Record). stable.Copy write ∷ list) (copies_taken k newer)
+
+copies_many : (newer : List Write) → length (map stable.Copy newer) ≡ length newer
+copies_many [] = refl
+copies_many (write ∷ newer) = ap suc (copies_many newer)
+
+with_end : (newer : List Write) (only : Record) → length (map stable.Copy newer ++ only ∷ []) ≡ suc (length newer)
+with_end [] only = refl
+with_end (write ∷ newer) only = ap suc (with_end newer only)
+
 cut_install : (txn number : ℕ) (writes newer : List Write) (after : ℕ) (b : Bool) → nat_le after (length newer) ≡ b
     → records_of (if b then steps.Copies (take after newer) else steps.Install txn number writes newer) ≡ take after (map stable.Copy newer ++ stable.Gone txn number ∷ [])
 cut_install txn number writes newer after true e =
     let few = leb-true after (length newer) e in
-    let many = length-map newer stable.Copy in
-    sym (take-map stable.Copy after newer) ∙ sym (take-append-le after (map stable.Copy newer) (stable.Gone txn number ∷ []) (omega arith))
+    let many = copies_many newer in
+    copies_taken after newer ∙ sym (take-append-le after (map stable.Copy newer) (stable.Gone txn number ∷ []) (omega arith))
 cut_install txn number writes newer after false e =
     let more = leb-false after (length newer) e in
-    let many = length-map newer stable.Copy in
-    let with_end = length-append (map stable.Copy newer) (stable.Gone txn number ∷ []) in
+    let many = with_end newer (stable.Gone txn number) in
     sym (take_all after (map stable.Copy newer ++ stable.Gone txn number ∷ []) (omega arith))
 
 cut_end : (old : Records) (txn after : ℕ) (comes : Bool) → records_of (cut after (end_step old txn comes)) ≡ take after (records_of (end_step old txn comes))
