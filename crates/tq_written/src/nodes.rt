@@ -1,13 +1,14 @@
 //! What servers are asked and what they reply.
-ghost use Rattle.std.specs.Prelude.{◌≡◌, codes, OnOk};
+ghost use Rattle.std.specs.Prelude.{◌≡◌, ◌≤◌, codes, OnOk};
 ghost use Rattle.std.specs.List.{AllByRecursion};
+ghost use Rattle.tq_node.specs.declared.ask.NodeAsk.{NodeAsk};
 ghost use Rattle.tq_node.specs.declared.ask.NodeRefusal.{NodeRefusal};
 ghost use Rattle.tq_node.specs.declared.ask.NodeReply.{NodeReply};
 ghost use Rattle.tq_node.specs.declared.ask.Verdict.{Verdict};
 ghost use Rattle.tq_node.specs.declared.ask.WorkAsk.{WorkAsk};
-ghost use Rattle.tq_written.specs.Nodes.{copy_value, node_refusal_value, node_reply_value, verdict_value, work_value};
+ghost use Rattle.tq_written.specs.Nodes.{copy_value, node_ask_value, node_refusal_value, node_reply_value, verdict_value, work_value};
 ghost use Rattle.tq_written.specs.Fitting.{IsFitting};
-ghost use Rattle.tq_written.specs.Sound.{IsContent, IsFile, IsHeldLock, IsWrite};
+ghost use Rattle.tq_written.specs.Sound.{IsContent, IsFile, IsHeldLock, IsWork, IsWrite};
 ghost use Rattle.tq_written.specs.Written.{Adds, spelled};
 
 use crate::formed::{
@@ -235,13 +236,14 @@ fn put_stop(
     ask: &WorkAsk,
     after: u32,
 ) -> Result<(), Memory>
-    requires { IsWork ask.now }
     ensures adds { Adds result out.old out.new (spelled (node_ask_value (NodeAsk.CrashIn ask.now after))) }
     ensures fits { OnOk result (IsFitting (node_ask_value (NodeAsk.CrashIn ask.now after))) }
+    ensures kept { OnOk result (IsWork ask.now × (after ≤ 4294967295)) }
 {
     open_member(alloc, out, "after", &(after as u64))?;
     put_member(alloc, out, "ask", ask)?;
-    close_kind(out, "crashin")
+    close_kind(out, "crashin")?;
+    Ok(())
 }
 
 fn put_held(alloc: Global, out: &mut Writer<Global>, by: u64) -> Result<(), Memory>

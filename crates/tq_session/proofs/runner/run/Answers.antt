@@ -10,4 +10,4 @@ returns-in_err-receiver-clause-text g c =
     by_fault c.from_residual.result Memory c.args.levels _ _ _ _ (search rules) (ends_before c.args.levels (given c.args.reader.now) (taken c.args.writer.now))
 
 pub returns-clause-text : goal.returns-clause-text
-returns-clause-text g c = c.answer_pieces.ensures.text
+returns-clause-text g c = c.answer_pieces-ran.ensures.text
