@@ -1,8 +1,5 @@
 -- An ask of one part and a step: the same things are told.
 use Rattle.std.specs.Prelude.{Result, Ok, Err}
-use Rattle.tq_shape.specs.declared.part.Part.{Part}
-use Rattle.tq_part.specs.declared.fault.Fault.{Fault}
-use Rattle.tq_part.specs.declared.fault.Fault.TheVariants as faults
 use Rattle.tq_part.specs.declared.fault.AskFault.{AskFault}
 use Rattle.tq_part.specs.declared.fault.AskFault.TheVariants as ask_faults
 use Rattle.tq_part.specs.declared.journaled.Answered.{Answered}
@@ -26,12 +23,7 @@ abbrev pub told_by : {R : Type 0} → (R → Reply) → Result (Answered R) AskF
 told_by reply (Ok told) = Ok (answer_of reply told)
 told_by reply (Err fault) = Err (refusal_of fault)
 
--- why the ask is not taken where the part did not take it
-abbrev pub fault_at : Part → Fault → AskFault
-fault_at part faults.Memory = ask_faults.Memory
-fault_at part faults.JournalFull = ask_faults.JournalFull part
-
--- what the ask is told where the part told this
-abbrev pub told_at : {R : Type 0} → Part → Result (Answered R) Fault → Result (Answered R) AskFault
-told_at part (Ok told) = Ok told
-told_at part (Err fault) = Err (fault_at part fault)
+-- what is told of an ask for which memory may have been refused
+abbrev pub told_of : {R M : Type 0} → Result (Answered R) M → Result (Answered R) AskFault
+told_of (Ok told) = Ok told
+told_of (Err refused) = Err ask_faults.Memory

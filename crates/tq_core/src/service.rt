@@ -1,5 +1,14 @@
-ghost use Rattle.std.specs.Prelude.{◌≡◌, ◌≤◌, [], Some, IfOk, OnOk, OnErr, map, vec_len, vec_capacity};
+ghost use Rattle.std.specs.Prelude.{◌≡◌, ◌+◌, ◌-◌, ◌^◌, ◌∷◌, ◌++◌, [], IfOk, OnOk, OnErr, length, map, replicate};
 ghost use Rattle.std.specs.Option.{option_copied, option_map};
+ghost use Rattle.tq_shape.specs.Journal.{entry};
+ghost use Rattle.tq_node.specs.Records.{node_reply};
+ghost use Rattle.tq_desk.specs.DeskStep.{desk_reply};
+ghost use Rattle.tq_live.specs.View.{view_reply};
+ghost use Rattle.tq_tables.specs.Asked.{MayAskDesk, MayAskNode, node_in};
+ghost use Rattle.tq_tables.specs.Journals.{JournalsView, with_desk, with_view};
+ghost use Rattle.tq_tables.specs.NextOfServer.{with_node};
+ghost use Rattle.tq_tables.specs.Parts.{AreLegal};
+ghost use Rattle.tq_tables.specs.Tables.{tables_of};
 ghost use Rattle.tq_core.specs.Asked as asks;
 
 use crate::unfounded::item_at;
@@ -8,36 +17,36 @@ use std::alloc::Global;
 use std::marker::Model;
 use tq_desk::{Desk, DeskAsk, DeskReply};
 use tq_live::{View, ViewAsk, ViewReply};
-use tq_node::{Node, NodeAsk, NodeReply};
-use tq_part::{AskFault, Fault, Journaled};
+use tq_node::{NodeAsk, NodeReply};
+use tq_part::AskFault;
 use tq_shape::{Levels, Limits, Memory, Part, ServerId};
-use tq_tables::{DeskEntry, Journals, NodeEntry, Parts, Tables};
+use tq_tables::{
+    DeskEntry, Entry, Journals, NodeEntry, Parts, Replies, Tables, ViewEntry, replay_nodes,
+};
 use tq_world::Citation;
 
-/// All parts of a system, each beside its journal: its servers, its desk and its view. Each ask that a part answers is
-/// entered into the part's journal with the reply.
+/// All parts of a system, which the tables follow, and beside them a journal of each: its servers, its desk and its
+/// view. Each ask that a part answers is entered into the part's journal with the reply, and changes the rows of the
+/// tables that it is about.
 #[derive(Drop)]
 pub struct Service {
-    levels: Levels,
     limits: Limits,
-    servers: Vec<Journaled<Node>>,
-    desk: Journaled<Desk>,
-    view: Journaled<View>,
-    /// Empty, with room for the journal of each server, so that handing out the journals takes no memory.
-    room: Vec<Vec<NodeEntry>>,
+    tables: Tables,
+    servers: Vec<Vec<NodeEntry>>,
+    desk: Vec<DeskEntry>,
+    view: Vec<ViewEntry>,
 }
 
 impl Model for Service {
-    ghost use Rattle.std.specs.Prelude.{◌≡◌, ◌≤◌, ◌+◌, ◌^◌, [], vec_capacity};
+    ghost use Rattle.std.specs.Prelude.{map};
     ghost use Rattle.tq_tables.specs.Journals.{JournalsView};
     ghost use Rattle.tq_core.specs.Service.{IsService, journals_in};
 
     ghost Value = { JournalsView };
 
-    ghost view = { λ a. journals_in a.levels a.limits a.servers.items a.desk a.view };
+    ghost view = { λ a. journals_in a.tables a.limits (map (λ entries. entries.items) a.servers.items) a.desk.items a.view.items };
 
-    ghost invariant = { λ a. IsService a.servers.items a.desk a.view (journals_in a.levels a.limits a.servers.items a.desk a.view)
-        × ((a.room.items ≡ []) × (2 ^ a.levels ≤ vec_capacity a.room + 1)) };
+    ghost invariant = { λ a. IsService a.tables (journals_in a.tables a.limits (map (λ entries. entries.items) a.servers.items) a.desk.items a.view.items) };
 }
 
 impl Service {
@@ -48,33 +57,23 @@ impl Service {
     ghost use Rattle.tq_world.specs.CommittedReads.{HasCommittedReads};
     ghost use Rattle.tq_world.specs.Offered.{OffersBest};
     ghost use Rattle.tq_world.specs.Headline.{AreOffered, Headline};
-    ghost use Rattle.tq_tables.specs.Parts.{AreLegal, parts_of};
-    ghost use Rattle.tq_tables.specs.Tables.{tables_of};
     ghost use Rattle.tq_core.specs.Asked.{answer_of, told_by};
 
     /// A service that was asked nothing: each server is up and has stored nothing.
     pub fn new(alloc: Global, levels: Levels, limits: Limits) -> Result<Service, Memory>
         ensures { IfOk result (λ service. service ≡ world.empty_world levels limits) }
     {
-        let view = View::new(alloc, levels)?;
-        let most = limits.entries();
-        let room = Vec::with_capacity(alloc, levels.servers() as usize)?;
-        let mut servers = Vec::new(alloc);
-        for place in 0..levels.servers() {
-            let server = ServerId::new(levels, place + 1);
-            let node = Node::new(alloc, levels, server);
-            servers.push(Journaled::new(alloc, node, most))?;
-        }
+        let servers = empty_journals(alloc, levels)?;
+        let nodes = replay_nodes(alloc, levels, servers.as_slice())?;
         let desk = Desk::new(alloc, levels, limits);
-        let desk_part = Journaled::new(alloc, desk, most);
-        let view_part = Journaled::new(alloc, view, most);
+        let view = View::new(alloc, levels)?;
+        let tables = Tables::over(alloc, Parts::new(nodes, desk, view), &[])?;
         Ok(Service {
-            levels,
             limits,
+            tables,
             servers,
-            desk: desk_part,
-            view: view_part,
-            room,
+            desk: Vec::new(alloc),
+            view: Vec::new(alloc),
         })
     }
 
@@ -82,29 +81,17 @@ impl Service {
     pub fn view(&self) -> &View
         ensures { result.now ≡ world.view_at self.now.levels self.now.view }
     {
-        self.view.part()
+        let _ = &self.limits;
+        self.tables.view()
     }
 
     /// The tables, as all journals leave them.
-    pub fn tables(&self, alloc: Global) -> Result<Tables, Memory>
-        ensures value { IfOk result (λ tables. tables ≡ tables_of self.now) }
-        ensures headline { IfOk result (λ tables. Headline self.now tables) }
+    pub fn tables(&self) -> &Tables
+        ensures value { result.now ≡ tables_of self.now }
+        ensures headline { Headline self.now result.now }
     {
-        let _ = &self.levels;
-        let parts = self.parts(alloc)?;
-        let tables = Tables::over(alloc, parts, self.desk.entries())?;
-        Ok(tables)
-    }
-
-    /// The parts once more, as the journals leave them.
-    fn parts(&self, alloc: Global) -> Result<Parts, Memory>
-        ensures { IfOk result (λ parts. parts ≡ parts_of self.now) }
-    {
-        let _ = &self.levels;
-        let nodes = copy_nodes(alloc, self.servers.as_slice())?;
-        let desk = self.desk.part().copy(alloc)?;
-        let view = self.view.part().copy(alloc)?;
-        Ok(Parts::new(nodes, desk, view))
+        let _ = &self.limits;
+        &self.tables
     }
 
     /// The journals. It takes no memory.
@@ -114,16 +101,13 @@ impl Service {
         ensures committed_reads { HasCommittedReads result }
     {
         let Service {
-            levels,
             limits,
+            tables,
             servers,
             desk,
             view,
-            room,
         } = self;
-        let journals = server_journals(servers, room);
-        let desk = desk.into_entries();
-        Journals::new(levels, limits, journals, desk, view.into_entries())
+        Journals::new(tables.levels(), limits, servers, desk, view)
     }
 
     /// The entries of a server, if there is such a server.
@@ -131,7 +115,7 @@ impl Service {
         ensures { option_copied result ≡ world.item_at self.now.servers server }
     {
         match item_at(self.servers.as_slice(), server) {
-            Some(server) => Some(server.entries()),
+            Some(entries) => Some(entries.as_slice()),
             None => None,
         }
     }
@@ -145,8 +129,8 @@ impl Service {
                 Some(entries) => Some(Journal::Server(entries)),
                 None => None,
             },
-            Part::Desk => Some(Journal::Desk(self.desk.entries())),
-            Part::View => Some(Journal::View(self.view.entries())),
+            Part::Desk => Some(Journal::Desk(self.desk.as_slice())),
+            Part::View => Some(Journal::View(self.view.as_slice())),
         }
     }
 
@@ -154,7 +138,7 @@ impl Service {
     pub(crate) fn desk_journal(&self) -> &[DeskEntry]
         ensures { result.now ≡ self.now.desk }
     {
-        self.desk.entries()
+        self.desk.as_slice()
     }
 
     /// The journals are those of a run: this does nothing, and says what follows.
@@ -162,18 +146,26 @@ impl Service {
         ensures committed_reads { HasCommittedReads self.now }
         ensures headline { Headline self.now (tables_of self.now) }
     {
-        let _ = &self.levels;
+        let _ = &self.limits;
     }
 
-    /// Why an ask is not taken that cites what does not stand, of a part that has so many entries.
-    fn unfounded(&self, part: Part, entries: usize, citation: Citation) -> AskFault
-        ensures { Some (asks.refusal_of result) ≡ spec.refuse_entry self.now part entries (Some citation) }
+    /// Why an ask of a part that has so many entries is not taken: the journal is full, or the ask cites this, which does
+    /// not stand.
+    fn refusal(
+        &self,
+        part: Part,
+        entries: usize,
+        unfounded: Option<Citation>,
+    ) -> Option<AskFault>
+        ensures { option_map asks.refusal_of result ≡ spec.refuse_entry self.now part entries unfounded }
     {
         if entries >= self.limits.entries() as usize {
-            return AskFault::JournalFull { part };
+            return Some(AskFault::JournalFull { part });
         }
-        let Citation { part, number } = citation;
-        AskFault::Unfounded { part, number }
+        match unfounded {
+            Some(Citation { part, number }) => Some(AskFault::Unfounded { part, number }),
+            None => None,
+        }
     }
 
     /// Asks a server: the ask is entered into its journal with its reply, which is told with the number of the entry.
@@ -193,14 +185,21 @@ impl Service {
     {
         let number = server.number();
         let place = (number - 1) as usize;
-        if let Some(citation) = self.unfounded_in_node_ask(&ask) {
+        let unfounded = self.unfounded_in_node_ask(&ask);
+        let entries = self.servers[place].len();
+        if let Some(fault) = self.refusal(Part::Server(number), entries, unfounded) {
             self.ran();
-            let entries = self.servers[place].entries().len();
-            return Err(self.unfounded(Part::Server(number), entries, citation));
+            return Err(fault);
         }
-        let asked = self.servers[place].ask(alloc, ask);
+        let asked = enter_node(
+            &mut self.tables,
+            &mut self.servers[place],
+            alloc,
+            number,
+            ask,
+        );
         self.ran();
-        told_at(Part::Server(number), asked)
+        told_of(asked)
     }
 
     /// Asks the desk: the ask is entered into its journal with its reply, which is told with the number of the entry.
@@ -212,13 +211,14 @@ impl Service {
         ensures committed_reads { HasCommittedReads self.new }
         ensures headline { Headline self.new (tables_of self.new) }
     {
-        if let Some(citation) = self.unfounded_in_desk_ask(&ask) {
+        let unfounded = self.unfounded_in_desk_ask(&ask);
+        if let Some(fault) = self.refusal(Part::Desk, self.desk_journal().len(), unfounded) {
             self.ran();
-            return Err(self.unfounded(Part::Desk, self.desk_journal().len(), citation));
+            return Err(fault);
         }
-        let asked = self.desk.ask(alloc, ask);
+        let asked = enter_desk(&mut self.tables, &mut self.desk, alloc, ask);
         self.ran();
-        told_at(Part::Desk, asked)
+        told_of(asked)
     }
 
     /// Asks the view: the ask is entered into its journal with its reply, which is told with the number of the entry.
@@ -231,9 +231,13 @@ impl Service {
         ensures committed_reads { HasCommittedReads self.new }
         ensures headline { Headline self.new (tables_of self.new) }
     {
-        let asked = self.view.ask(alloc, ask);
+        if let Some(fault) = self.refusal(Part::View, self.view.len(), None) {
+            self.ran();
+            return Err(fault);
+        }
+        let asked = enter_view(&mut self.tables, &mut self.view, alloc, ask);
         self.ran();
-        told_at(Part::View, asked)
+        told_of(asked)
     }
 
     /// Takes a step: asks a part, and enters the ask with the part's reply into its journal. Where the step is
@@ -246,10 +250,10 @@ impl Service {
         ensures committed_reads { HasCommittedReads self.new }
         ensures headline { Headline self.new (tables_of self.new) }
     {
-        let _ = &self.levels;
+        let _ = &self.limits;
         match step {
             Step::Node { server, ask } => {
-                let Some(id) = self.levels.server(server) else {
+                let Some(id) = self.tables.levels().server(server) else {
                     self.ran();
                     return Err(Refusal::NoSuchServer);
                 };
@@ -291,7 +295,7 @@ impl Service {
         ensures committed_reads { HasCommittedReads self.new }
         ensures headline { Headline self.new (tables_of self.new) }
     {
-        let _ = &self.levels;
+        let _ = &self.limits;
         let results = self.take(alloc, steps)?;
         Ok(results)
     }
@@ -306,7 +310,7 @@ impl Service {
         ensures err { OnErr result (self.new ≡ self.old) }
         ensures committed_reads { HasCommittedReads self.new }
     {
-        let _ = &self.levels;
+        let _ = &self.limits;
         let mut results = Vec::with_capacity(alloc, steps.len())?;
         for step in steps {
             let result = self.step(alloc, step);
@@ -316,14 +320,100 @@ impl Service {
     }
 }
 
-/// What an ask is told where its part told this.
-fn told_at<R: Drop>(part: Part, asked: Result<Answered<R>, Fault>) -> Result<Answered<R>, AskFault>
-    ensures { result ≡ asks.told_at part asked }
+/// Asks a server under the number of its next entry, and enters the ask with its reply into the server's journal. Out of
+/// memory leaves the tables and the journal as they were.
+fn enter_node(
+    tables: &mut Tables,
+    journal: &mut Vec<NodeEntry>,
+    alloc: Global,
+    server: u64,
+    ask: NodeAsk,
+) -> Result<Answered<NodeReply>, Memory>
+    requires { MayAskNode tables.old server (length journal.old.items + 1) }
+    ensures told { IfOk result (λ told. told ≡ record { number = length journal.old.items + 1; reply = node_reply (node_in tables.old.nodes server).server (node_in tables.old.nodes server).state ask }) }
+    ensures entered { IfOk result (λ told. journal.new.items ≡ journal.old.items ++ entry ask told.reply ∷ []) }
+    ensures asked { OnOk result ((journals : JournalsView) (reply : NodeReply) → AreLegal (with_node journals server (entry ask reply))
+        → tables.old ≡ tables_of journals → tables.new ≡ tables_of (with_node journals server (entry ask reply))) }
+    ensures err { OnErr result ((tables.new ≡ tables.old) × (journal.new.items ≡ journal.old.items)) }
+{
+    let number = journal.len() as u64 + 1;
+    journal.reserve(1)?;
+    let replies = tables.ask_node(alloc, server, number, &ask)?;
+    let Replies { entered, told } = replies;
+    journal.push_reserved(Entry {
+        ask,
+        reply: entered,
+    });
+    Ok(Answered {
+        number,
+        reply: told,
+    })
+}
+
+/// Asks the desk, and enters the ask with its reply into the desk's journal. Out of memory leaves the tables and the
+/// journal as they were.
+fn enter_desk(
+    tables: &mut Tables,
+    journal: &mut Vec<DeskEntry>,
+    alloc: Global,
+    ask: DeskAsk,
+) -> Result<Answered<DeskReply>, Memory>
+    requires { MayAskDesk tables.old }
+    ensures told { IfOk result (λ told. told ≡ record { number = length journal.old.items + 1; reply = desk_reply tables.old.desk ask }) }
+    ensures entered { IfOk result (λ told. journal.new.items ≡ journal.old.items ++ entry ask told.reply ∷ []) }
+    ensures asked { OnOk result ((journals : JournalsView) (reply : DeskReply) → AreLegal (with_desk journals (entry ask reply))
+        → tables.old ≡ tables_of journals → tables.new ≡ tables_of (with_desk journals (entry ask reply))) }
+    ensures err { OnErr result ((tables.new ≡ tables.old) × (journal.new.items ≡ journal.old.items)) }
+{
+    let number = journal.len() as u64 + 1;
+    journal.reserve(1)?;
+    let replies = tables.ask_desk(alloc, &ask)?;
+    let Replies { entered, told } = replies;
+    journal.push_reserved(Entry {
+        ask,
+        reply: entered,
+    });
+    Ok(Answered {
+        number,
+        reply: told,
+    })
+}
+
+/// Asks the view, and enters the ask with its reply into the view's journal. Out of memory leaves the tables and the
+/// journal as they were.
+fn enter_view(
+    tables: &mut Tables,
+    journal: &mut Vec<ViewEntry>,
+    alloc: Global,
+    ask: ViewAsk,
+) -> Result<Answered<ViewReply>, Memory>
+    ensures told { IfOk result (λ told. told ≡ record { number = length journal.old.items + 1; reply = view_reply tables.old.view ask }) }
+    ensures entered { IfOk result (λ told. journal.new.items ≡ journal.old.items ++ entry ask told.reply ∷ []) }
+    ensures asked { OnOk result ((journals : JournalsView) (reply : ViewReply) → AreLegal (with_view journals (entry ask reply))
+        → tables.old ≡ tables_of journals → tables.new ≡ tables_of (with_view journals (entry ask reply))) }
+    ensures err { OnErr result ((tables.new ≡ tables.old) × (journal.new.items ≡ journal.old.items)) }
+{
+    let number = journal.len() as u64 + 1;
+    journal.reserve(1)?;
+    let replies = tables.ask_view(alloc, &ask)?;
+    let Replies { entered, told } = replies;
+    journal.push_reserved(Entry {
+        ask,
+        reply: entered,
+    });
+    Ok(Answered {
+        number,
+        reply: told,
+    })
+}
+
+/// What an ask is told where it was taken, or memory was refused.
+fn told_of<R: Drop>(asked: Result<Answered<R>, Memory>) -> Result<Answered<R>, AskFault>
+    ensures { result ≡ asks.told_of asked }
 {
     match asked {
         Ok(told) => Ok(told),
-        Err(Fault::Memory) => Err(AskFault::Memory),
-        Err(Fault::JournalFull) => Err(AskFault::JournalFull { part }),
+        Err(_) => Err(AskFault::Memory),
     }
 }
 
@@ -338,26 +428,13 @@ fn refusal_of(fault: AskFault) -> Refusal
     }
 }
 
-/// Servers equal to these, with memory of their own.
-fn copy_nodes(alloc: Global, servers: &[Journaled<Node>]) -> Result<Vec<Node>, Memory>
-    ensures { IfOk result (λ copies. copies.items ≡ map (λ server. server.part) servers.now) }
+/// A journal with no entry for each server of the tree.
+fn empty_journals(alloc: Global, levels: Levels) -> Result<Vec<Vec<NodeEntry>>, Memory>
+    ensures { IfOk result (λ servers. map (λ entries. entries.items) servers.items ≡ replicate (2 ^ levels - 1) []) }
 {
-    let mut copies = Vec::new(alloc);
-    for server in servers {
-        copies.push(server.part().copy(alloc)?)?;
+    let mut servers = Vec::new(alloc);
+    for _ in 0..levels.servers() {
+        servers.push(Vec::new(alloc))?;
     }
-    Ok(copies)
-}
-
-/// The journals of these servers, put into the room for them.
-fn server_journals(servers: Vec<Journaled<Node>>, room: Vec<Vec<NodeEntry>>) -> Vec<Vec<NodeEntry>>
-    requires empty { room.items ≡ [] }
-    requires room { vec_len servers ≤ vec_capacity room }
-    ensures { map (λ entries. entries.items) result.items ≡ map (λ server. server.journal) servers.items }
-{
-    let mut journals = room;
-    for server in servers {
-        journals.push_reserved(server.into_entries());
-    }
-    journals
+    Ok(servers)
 }

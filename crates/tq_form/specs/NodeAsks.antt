@@ -1,5 +1,5 @@
 -- What servers are asked.
-use Rattle.std.specs.Prelude.{ℕ, List, Option, Some, None, cond, codes}
+use Rattle.std.specs.Prelude.{nat_le, ℕ, List, Option, Some, None, cond, codes}
 use Rattle.std.specs.Str.{bytes_eq}
 use Rattle.serde_json.specs.Data.{Data}
 use Rattle.serde_json.specs.Find.{get}
@@ -71,14 +71,25 @@ work format kind value = do
   ask ← work_by format kind value
   Some (Work ask)
 
--- in which work a server stops, one of the six, and behind how many of its records
+-- behind how many records a server stops: a number of 32 bits
+abbrev pub count_at : Data → Option ℕ
+count_at value = do
+  after ← number_at (codes "after") value
+  cond (nat_le after 4294967295) (Some after) None
+
+-- the work that a value is, one of the six
+abbrev pub work_at : Format → Data → Option WorkAsk
+work_at format value = do
+  kind ← text_at (codes "is") value
+  work_by format kind value
+
+-- in which work a server stops, and behind how many of its records
 abbrev pub stop : Format → Data → Option NodeAsk
 stop format value = do
-  after ← number_at (codes "after") value
+  after ← count_at value
   inside ← get (codes "ask") value
-  kind ← text_at (codes "is") inside
-  ask ← work_by format kind inside
-  cond (nat_le after 4294967295) (Some (CrashIn ask after)) None
+  ask ← work_at format inside
+  Some (CrashIn ask after)
 
 abbrev pub node_ask_by : Format → List ℕ → Data → Option NodeAsk
 node_ask_by format kind value =

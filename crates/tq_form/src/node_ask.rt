@@ -40,26 +40,39 @@ fn node_ask_by(alloc: Global, kind: &str, value: &Value<'_>) -> Result<Option<No
 fn stop(alloc: Global, value: &Value<'_>) -> Result<Option<NodeAsk>, Memory>
     ensures { IfOk result (λ ask. ask ≡ spec.stop one (view value.now)) }
 {
-    let Some(after) = number_at(value, "after") else {
+    let Some(after) = count_at(value) else {
         return Ok(None);
     };
-    if after > u32::MAX as u64 {
-        return Ok(None);
-    }
     let Some(inside) = get(value, "ask") else {
         return Ok(None);
     };
-    let Some(kind) = text_at(inside, "is") else {
+    let Some(work) = work_at(alloc, inside)? else {
         return Ok(None);
     };
-    let Some(ask) = work_by(alloc, kind, inside)? else {
+    let ask = Boxed::new(alloc, work)?;
+    Ok(Some(NodeAsk::CrashIn { ask, after }))
+}
+
+/// Behind how many records a server stops: a number of 32 bits.
+fn count_at(value: &Value<'_>) -> Option<u32>
+    ensures { result ≡ spec.count_at (view value.now) }
+{
+    let Some(after) = number_at(value, "after") else {
+        return None;
+    };
+    if after > u32::MAX as u64 {
+        return None;
+    }
+    Some(after as u32)
+}
+
+fn work_at(alloc: Global, value: &Value<'_>) -> Result<Option<WorkAsk>, Memory>
+    ensures { IfOk result (λ ask. ask ≡ spec.work_at one (view value.now)) }
+{
+    let Some(kind) = text_at(value, "is") else {
         return Ok(None);
     };
-    let ask = Boxed::new(alloc, ask)?;
-    Ok(Some(NodeAsk::CrashIn {
-        ask,
-        after: after as u32,
-    }))
+    Ok(work_by(alloc, kind, value)?)
 }
 
 fn work(alloc: Global, kind: &str, value: &Value<'_>) -> Result<Option<NodeAsk>, Memory>

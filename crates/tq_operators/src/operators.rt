@@ -40,8 +40,8 @@ pub fn say_board(service: &Service, alloc: Global, text: &mut Vec<u8>) -> Result
 fn board_of(service: &Service, alloc: Global) -> Result<String, Memory>
     ensures { IfOk result (λ board. string_bytes board ≡ spec.board_of service.now) }
 {
-    let tables = service.tables(alloc)?;
-    render(alloc, &tables, service.view())
+    let tables = service.tables();
+    render(alloc, tables, service.view())
 }
 
 /// Mends the stale copies that can be mended now. What came of each goes behind the text, as a line, and then how many
@@ -63,8 +63,8 @@ fn planned(service: &Service, alloc: Global) -> Result<Vec<Job>, Memory>
     ensures jobs { IfOk result (λ jobs. jobs.items ≡ spec.refresh_jobs service.now) }
     ensures of_tree { IfOk result (λ jobs. All (spec.IsOfTree service.now.levels) jobs.items) }
 {
-    let tables = service.tables(alloc)?;
-    plan(alloc, &tables, service.view())
+    let tables = service.tables();
+    plan(alloc, tables, service.view())
 }
 
 /// Does the jobs one after another.

@@ -1,6 +1,7 @@
 -- What a part is asked and replies is read again from its value.
 use Rattle.std.proofs.Common.{◌≡◌, ℕ, List, Some, refl, sym}
 use Rattle.std.specs.List.{AllByRecursion}
+use Rattle.std.proofs.lemmas.Bool.{le-leb}
 use Rattle.tq_store.specs.declared.write.Write.{Write}
 use Rattle.tq_locks.specs.declared.mode.Mode.{Mode}
 use Rattle.tq_locks.specs.declared.mode.Mode.TheVariants as mode
@@ -15,6 +16,7 @@ use Rattle.tq_node.specs.declared.ask.NodeReply.{NodeReply}
 use Rattle.tq_node.specs.declared.ask.NodeReply.TheVariants as reply
 use Rattle.tq_node.specs.declared.ask.Verdict.{Verdict}
 use Rattle.tq_node.specs.declared.ask.Verdict.TheVariants as verdict
+use Rattle.tq_node.specs.declared.ask.WorkAsk.{WorkAsk}
 use Rattle.tq_node.specs.declared.ask.WorkAsk.TheVariants as work
 use Rattle.tq_node.specs.NodeJournal.{NodeEntry}
 use Rattle.tq_evidence.specs.declared.grant.Grant.{Grant}
@@ -51,7 +53,7 @@ use Rattle.tq_written.specs.Values.{listed}
 use Rattle.tq_written.specs.Nodes as nodes
 use Rattle.tq_written.specs.Desks as desks
 use Rattle.tq_written.specs.Views as views
-use Rattle.tq_written.specs.Sound.{IsAny, IsWrite, IsHeldLock, IsNodeAsk, IsNodeRefusal, IsNodeReply, IsNodeEntry, IsGrant, IsOp, IsVote, IsDeskAsk, IsDeskEntry, IsViewReply, IsViewEntry}
+use Rattle.tq_written.specs.Sound.{IsAny, IsWrite, IsHeldLock, IsWork, IsNodeAsk, IsNodeRefusal, IsNodeReply, IsNodeEntry, IsGrant, IsOp, IsVote, IsDeskAsk, IsDeskEntry, IsViewReply, IsViewEntry}
 use Rattle.tq_written.proofs.Again.{name-again, content-again, each-again, all, numbers-again, entry-again}
 
 -- ---- servers
@@ -82,6 +84,14 @@ verdict-again : (v : Verdict) → locking.verdict (nodes.verdict_value v) ≡ So
 verdict-again verdict.Abort = refl
 verdict-again (verdict.Commit votes) = rw (votes-again votes)
 
+work-again : (w : WorkAsk) → IsWork w → asks.work_at one (nodes.work_value w) ≡ Some w
+work-again (work.Lock txn file m) h = rw (name-again file h, mode-again m)
+work-again (work.Prepare txn writes) h = rw (writes-again writes h)
+work-again (work.Decide txn v cite) h = rw (verdict-again v)
+work-again (work.Release txn) h = refl
+work-again (work.Peek file) h = rw (name-again file h)
+work-again (work.Refresh file version content from) h = rw (name-again file h.0, content-again content h.1)
+
 node-ask-again : (a : NodeAsk) → IsNodeAsk a → asks.node_ask one (nodes.node_ask_value a) ≡ Some a
 node-ask-again (ask.Work (work.Lock txn file m)) h = rw (name-again file h, mode-again m)
 node-ask-again (ask.Work (work.Prepare txn writes)) h = rw (writes-again writes h)
@@ -91,8 +101,7 @@ node-ask-again (ask.Work (work.Peek file)) h = rw (name-again file h)
 node-ask-again (ask.Work (work.Refresh file version content from)) h = rw (name-again file h.0, content-again content h.1)
 node-ask-again ask.Crash h = refl
 node-ask-again ask.Return h = refl
--- DRAFT: `work-again` is the six cases above, split off for `work_by`
-node-ask-again (ask.CrashIn a after) h = rw (work-again a h.0, le-leb after 4294967295 h.1)
+node-ask-again (ask.CrashIn a after) h = rw (le-leb after 4294967295 h.1, work-again a h.0)
 
 node-refusal-again : (r : NodeRefusal) → IsNodeRefusal r → replies.node_reply one (nodes.node_refusal_value r) ≡ Some (reply.Refused r)
 node-refusal-again refusal.Down h = refl

@@ -69,19 +69,20 @@ verdict-shaped levels deep verdict.Abort = kind-shaped levels (omega (arith, dee
 verdict-shaped levels deep (verdict.Commit votes) =
     (omega (arith, deep), (tt, (list-shaped nodes.cited_value (levels - 1) (omega (arith, deep)) (cited-shaped (levels - 1 - 1) (omega (arith, deep))) votes, tt)), refl)
 
-work-shaped : (a : WorkAsk) → IsShaped (nodes.work_value a) 123
-work-shaped (work.Lock txn file m) = (omega arith, (tt, (tt, (tt, (tt, tt)))), refl)
-work-shaped (work.Prepare txn writes) = (omega arith, (tt, (tt, (list-shaped nodes.write_value 122 (omega arith) (write-shaped 121 (omega arith)) writes, tt))), refl)
-work-shaped (work.Decide txn v cite) = (omega arith, (tt, (tt, (tt, (verdict-shaped 122 (omega arith) v, tt)))), refl)
-work-shaped (work.Release txn) = (omega arith, (tt, (tt, tt)), refl)
-work-shaped (work.Peek file) = (omega arith, (tt, (tt, tt)), refl)
-work-shaped (work.Refresh file version content from) = (omega arith, (tt, (tt, (cited-shaped 122 (omega arith) from, (tt, (tt, tt))))), refl)
+work-shaped : (levels : ℕ) → 4 ≤ levels → (w : WorkAsk) → IsShaped (nodes.work_value w) levels
+work-shaped levels deep (work.Lock txn file m) = (omega (arith, deep), (tt, (tt, (tt, (tt, tt)))), refl)
+work-shaped levels deep (work.Prepare txn writes) =
+    (omega (arith, deep), (tt, (tt, (list-shaped nodes.write_value (levels - 1) (omega (arith, deep)) (write-shaped (levels - 1 - 1) (omega (arith, deep))) writes, tt))), refl)
+work-shaped levels deep (work.Decide txn v cite) = (omega (arith, deep), (tt, (tt, (tt, (verdict-shaped (levels - 1) (omega (arith, deep)) v, tt)))), refl)
+work-shaped levels deep (work.Release txn) = (omega (arith, deep), (tt, (tt, tt)), refl)
+work-shaped levels deep (work.Peek file) = (omega (arith, deep), (tt, (tt, tt)), refl)
+work-shaped levels deep (work.Refresh file version content from) =
+    (omega (arith, deep), (tt, (tt, (cited-shaped (levels - 1) (omega (arith, deep)) from, (tt, (tt, tt))))), refl)
 
 node-ask-shaped : (a : NodeAsk) → IsShaped (nodes.node_ask_value a) 123
-node-ask-shaped (ask.Work a) = work-shaped a
+node-ask-shaped (ask.Work a) = work-shaped 123 (omega arith) a
 node-ask-shaped ask.Crash = kind-shaped 123 (omega arith) _
 node-ask-shaped ask.Return = kind-shaped 123 (omega arith) _
--- DRAFT: the work stands one deeper, so `work-shaped` wants a variable height (as `write-shaped` has) and this is by the height 122
 node-ask-shaped (ask.CrashIn a after) = (omega arith, (tt, (work-shaped 122 (omega arith) a, (tt, tt))), refl)
 
 node-refusal-shaped : (r : NodeRefusal) → IsShaped (nodes.node_refusal_value r) 123

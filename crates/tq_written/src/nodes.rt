@@ -229,7 +229,12 @@ impl Formed for NodeAsk {
 }
 
 /// A stop in the midst of work.
-fn put_stop(alloc: Global, out: &mut Writer<Global>, ask: &WorkAsk, after: u32) -> Result<(), Memory>
+fn put_stop(
+    alloc: Global,
+    out: &mut Writer<Global>,
+    ask: &WorkAsk,
+    after: u32,
+) -> Result<(), Memory>
     requires { IsWork ask.now }
     ensures adds { Adds result out.old out.new (spelled (node_ask_value (NodeAsk.CrashIn ask.now after))) }
     ensures fits { OnOk result (IsFitting (node_ask_value (NodeAsk.CrashIn ask.now after))) }

@@ -8,4 +8,4 @@ use Rattle.tq_operators.proofs.operators.board_of.Goals as goal
 pub returns : goal.returns
 returns c =
     subst (λ (v : Live). IfOk c.render.result (λ text. string_bytes text ≡ board_text (tables_of c.args.service.now) v)) c.view.ensures
-    (subst (λ (t : TablesView). IfOk c.render.result (λ text. string_bytes text ≡ board_text t c.view.result.now)) c.in_ok-tables.ensures.value c.render.ensures)
+    (subst (λ (t : TablesView). IfOk c.render.result (λ text. string_bytes text ≡ board_text t c.view.result.now)) c.tables-tables.ensures.value c.render.ensures)

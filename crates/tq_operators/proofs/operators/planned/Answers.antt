@@ -10,8 +10,8 @@ use Rattle.tq_operators.proofs.operators.planned.Goals as goal
 pub returns-clause-jobs : goal.returns-clause-jobs
 returns-clause-jobs c =
     subst (λ (v : Live). IfOk c.plan.result (λ jobs. jobs.items ≡ plan_of (tables_of c.args.service.now) v)) c.view.ensures
-    (subst (λ (t : TablesView). IfOk c.plan.result (λ jobs. jobs.items ≡ plan_of t c.view.result.now)) c.in_ok-tables.ensures.value c.plan.ensures.value)
+    (subst (λ (t : TablesView). IfOk c.plan.result (λ jobs. jobs.items ≡ plan_of t c.view.result.now)) c.tables-tables.ensures.value c.plan.ensures.value)
 
 pub returns-clause-of_tree : goal.returns-clause-of_tree
 returns-clause-of_tree c =
-    subst (λ (t : TablesView). IfOk c.plan.result (λ jobs. All (IsOfTree t.levels) jobs.items)) c.in_ok-tables.ensures.value c.plan.ensures.of_tree
+    subst (λ (t : TablesView). IfOk c.plan.result (λ jobs. All (IsOfTree t.levels) jobs.items)) c.tables-tables.ensures.value c.plan.ensures.of_tree

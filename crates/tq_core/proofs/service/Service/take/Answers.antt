@@ -21,7 +21,7 @@ loop-step-preserved c =
     )
 
 pub returns-in_err-results-clause-committed_reads : goal.returns-in_err-results-clause-committed_reads
-returns-in_err-results-clause-committed_reads c = reads_of_run _ (seen_run _ _ c.self.view_is c.self.invariant.0.ran)
+returns-in_err-results-clause-committed_reads c = reads_of_run _ (seen_run _ _ c.self.view_is c.self.invariant.ran)
 
 pub returns-clause-committed_reads : goal.returns-clause-committed_reads
-returns-clause-committed_reads c = reads_of_more _ _ (seen_run _ _ c.self.view_is c.self.invariant.0.ran) (taken c.loop-step.yielded c.loop-step.results.items) c.loop-step.invariant.3
+returns-clause-committed_reads c = reads_of_more _ _ (seen_run _ _ c.self.view_is c.self.invariant.ran) (taken c.loop-step.yielded c.loop-step.results.items) c.loop-step.invariant.3
