@@ -7,9 +7,11 @@ The inputs are the same at every run. Three have 16,777,216 bytes of lines at 6 
 the lines `cost`, `down` and `up`, and a few that are refused; in `choices` half of the lines are
 `choose`; `transactions` has clients that begin, read, write and commit or abort, some of them step
 by step, while servers fail and return. `board` and `refresh` time one such line, on a service of 63
-servers and 1,000 files: the time of a run with these lines less that of one without.
-OTHER WORD.. is a program that takes the words `shell --levels 6` after these. Its output is
-compared with that of tq, byte for byte. Each time is the best of seven runs, or of N.
+servers and 1,000 files: the time of a run with these lines less that of one without. `mixed` has
+4,000,000 bytes of lines of all kinds at 1, 3, 5 and 6 levels, as the other program makes them.
+OTHER WORD.. is a program that takes the words `shell --levels 6` after these, and makes lines by
+`OTHER gen mixed`. Its output is compared with that of tq, byte for byte. Each time is the best of
+seven runs, or of N.
 """
 import argparse
 import os
@@ -122,6 +124,12 @@ def transactions():
             yield "choose"
 
 
+def mixed(other, levels):
+    """Lines of all kinds that the other program makes."""
+    words = [other, "gen", "mixed", "--levels", str(levels), "--bytes", "4000000"]
+    return subprocess.run(words, stdout=subprocess.PIPE, check=True).stdout
+
+
 def many_files():
     """A thousand files, one commit each, while now and then another server is down."""
     draw = Draw(3)
@@ -204,11 +212,12 @@ def main():
     asked.add_argument("--only", default="")
     asked.add_argument("other", nargs=argparse.REMAINDER)
     asked = asked.parse_args()
-    words = ["shell", "--levels", str(LEVELS)]
+    shell = lambda levels: ["shell", "--levels", str(levels)]
     # The script builds the program where that is needed, and is left out of what is timed.
     subprocess.run([ROOT / "bin/tq", "--version"], stdout=subprocess.DEVNULL, check=True)
-    tq = [str(ROOT / "crates/tq/out/tq"), *words]
-    other = asked.other and [*asked.other, *words]
+    program = str(ROOT / "crates/tq/out/tq")
+    tq = [program, *shell(LEVELS)]
+    other = asked.other and [*asked.other, *shell(LEVELS)]
     with tempfile.TemporaryDirectory() as folder:
         for name, made in [("marks", marks), ("choices", choices), ("transactions", transactions)]:
             if asked.only in name:
@@ -216,6 +225,9 @@ def main():
         for name, times in [("board", 10), ("refresh", 1)]:
             if asked.only in name:
                 single(name, name, times, tq, other, asked.turns, folder)
+        for levels in (1, 3, 5, 6) if asked.other and asked.only in "mixed" else ():
+            given = mixed(asked.other[0], levels)
+            whole(f"mixed, {levels} levels", given, [program, *shell(levels)], [*asked.other, *shell(levels)], asked.turns, folder)
 
 
 if __name__ == "__main__":

@@ -1,8 +1,9 @@
 -- What a caller has seen of servers.
-use Rattle.std.proofs.Common.{◌≡◌, ◌<◌, ◌+◌, ◌-◌, ℕ, List, [], ◌∷◌, ◌++◌, length, map, set, get_or, replicate, sym, ap, subst, ◌∙◌, arith}
-use Rattle.std.proofs.lemmas.List.{length-map, map-set, map-append, get_or-map, get_or-set_same, replicate_more}
+use Rattle.std.proofs.Common.{◌≡◌, ◌≤◌, ◌<◌, ◌+◌, ◌-◌, ◌^◌, ℕ, zero, suc, List, [], ◌∷◌, ◌++◌, length, map, set, get_or, replicate, sym, ap, subst, ◌∙◌, arith}
+use Rattle.std.proofs.lemmas.List.{length-map, map-set, map-append, get_or-map, get_or-set_same, set-get_or, replicate_more}
 use Rattle.std.specs.Prelude.{Result, Ok, Err, IfErr, OnOk}
 use Rattle.tq_cells.specs.Passes.{Seen}
+use Rattle.tq_shape.specs.Tree.{IsServer}
 use Rattle.tq_shape.specs.declared.part.Part.{Part}
 use Rattle.tq_shape.specs.declared.part.Part.TheVariants as parts
 use Rattle.tq_node.specs.declared.ask.NodeAsk.{NodeAsk}
@@ -14,7 +15,7 @@ use Rattle.tq_prefixes.specs.declared.entries.Entries.TheVariants as entries
 use Rattle.tq_prefixes.specs.declared.fault.PullFault.{PullFault}
 use Rattle.tq_prefixes.specs.declared.fault.PullFault.TheVariants as faults
 use Rattle.tq_prefixes.specs.Prefixes.{IsPullFault}
-use Rattle.tq_cluster.specs.Told.{CallerView, having_seen}
+use Rattle.tq_cluster.specs.Told.{CallerView, SeesOn, seen_of, having_seen}
 
 module _ {A R : Type 0} where
   abbrev numbers : List (Seen A R) → List ℕ
@@ -38,7 +39,7 @@ module _ {A R : Type 0} where
       ap (map (λ (p : Seen A R). p.seen)) grown ∙ map-append (λ (p : Seen A R). p.seen) passes (pass ∷ []) ∙ (λ i. unseen i ++ none i ∷ []) ∙ replicate_more place 0
 
 -- a caller with these passes
-abbrev seeing : ℕ → List Exchange → List (Seen NodeAsk NodeReply) → ℕ → ℕ → CallerView
+abbrev pub seeing : ℕ → List Exchange → List (Seen NodeAsk NodeReply) → ℕ → ℕ → CallerView
 seeing levels told passes desk view = record { levels = levels; told = told; seen = record { servers = map (λ (p : Seen NodeAsk NodeReply). p.seen) passes; desk = desk; view = view } }
 
 pub caller_saw : (levels : ℕ) (told : List Exchange) (passes : List (Seen NodeAsk NodeReply)) (desk view number : ℕ) (pass : Seen NodeAsk NodeReply) (old : CallerView)
@@ -46,6 +47,73 @@ pub caller_saw : (levels : ℕ) (told : List Exchange) (passes : List (Seen Node
 caller_saw levels told passes desk view number pass old same =
     (λ i. record { levels = levels; told = told; seen = record { servers = map-set (λ (p : Seen NodeAsk NodeReply). p.seen) passes (number - 1) pass i; desk = desk; view = view } })
     ∙ ap (λ (o : CallerView). having_seen o (parts.Server number) pass.seen) same
+
+-- ---- what was seen after an ask: of the other parts what was seen before
+
+-- a server was asked, by the pass at its place
+pub server_saw : (levels : ℕ) (told : List Exchange) (passes : List (Seen NodeAsk NodeReply)) (desk view number server : ℕ) (before after : Seen NodeAsk NodeReply) (old : CallerView)
+    → seeing levels told passes desk view ≡ old → length passes + 1 ≡ 2 ^ levels → IsServer old.levels number → number ≡ server → before ≡ get_or passes (number - 1) before → before.seen ≤ after.seen
+    → (seen : ℕ) × (seen_of old (parts.Server server) ≤ seen) × ((seeing levels told (set passes (number - 1) after) desk view).seen ≡ (having_seen old (parts.Server server) seen).seen)
+server_saw levels told passes desk view number server before after old same count within named is more =
+    let of_tree : IsServer levels number = subst (λ (o : CallerView). IsServer o.levels number) (sym same) within in
+    let least = of_tree.0 in
+    let most = of_tree.1 in
+    let less : number - 1 < length passes = omega (arith, count, least, most) in
+    let was : get_or old.seen.servers (number - 1) 0 ≡ before.seen = ap (λ (v : CallerView). get_or v.seen.servers (number - 1) 0) (sym same) ∙ seen_before passes (number - 1) before less is in (
+      after.seen,
+      subst (λ (n : ℕ). seen_of old (parts.Server n) ≤ after.seen) named (omega (arith, was, more)),
+      subst (λ (n : ℕ). (seeing levels told (set passes (number - 1) after) desk view).seen ≡ (having_seen old (parts.Server n) after.seen).seen) named
+          (ap (λ (v : CallerView). v.seen) (caller_saw levels told passes desk view number after old same)),
+    )
+
+-- it was not asked
+pub server_not_asked : (old new : CallerView) (server : ℕ) → new.seen ≡ old.seen → (seen : ℕ) × (seen_of old (parts.Server server) ≤ seen) × (new.seen ≡ (having_seen old (parts.Server server) seen).seen)
+server_not_asked old new server same = (
+  seen_of old (parts.Server server),
+  omega arith,
+  same ∙ (λ i. record { servers = sym (set-get_or old.seen.servers (server - 1) 0) i; desk = old.seen.desk; view = old.seen.view }),
+)
+
+-- the desk was asked, and the view
+pub desk_saw : (levels : ℕ) (told : List Exchange) (passes : List (Seen NodeAsk NodeReply)) (before after view : ℕ) (old : CallerView) → seeing levels told passes before view ≡ old → before ≤ after
+    → (seen : ℕ) × (seen_of old parts.Desk ≤ seen) × ((seeing levels told passes after view).seen ≡ (having_seen old parts.Desk seen).seen)
+desk_saw levels told passes before after view old same more =
+    (after, subst (λ (o : CallerView). seen_of o parts.Desk ≤ after) same more, ap (λ (o : CallerView). (having_seen o parts.Desk after).seen) same)
+
+pub view_saw : (levels : ℕ) (told : List Exchange) (passes : List (Seen NodeAsk NodeReply)) (desk before after : ℕ) (old : CallerView) → seeing levels told passes desk before ≡ old → before ≤ after
+    → (seen : ℕ) × (seen_of old parts.View ≤ seen) × ((seeing levels told passes desk after).seen ≡ (having_seen old parts.View seen).seen)
+view_saw levels told passes desk before after old same more =
+    (after, subst (λ (o : CallerView). seen_of o parts.View ≤ after) same more, ap (λ (o : CallerView). (having_seen o parts.View after).seen) same)
+
+-- ---- what was seen, and no less after
+
+set-grows : (numbers : List ℕ) (place at seen : ℕ) → get_or numbers place 0 ≤ seen → get_or numbers at 0 ≤ get_or (set numbers place seen) at 0
+set-grows [] place at seen less = omega arith
+set-grows (x ∷ xs) zero zero seen less = less
+set-grows (x ∷ xs) zero (suc at) seen less = omega arith
+set-grows (x ∷ xs) (suc place) zero seen less = omega arith
+set-grows (x ∷ xs) (suc place) (suc at) seen less = set-grows xs place at seen less
+
+having-grows : (caller : CallerView) (there : Part) (seen : ℕ) → seen_of caller there ≤ seen → SeesOn caller (having_seen caller there seen)
+having-grows caller (parts.Server there) seen less (parts.Server number) = set-grows caller.seen.servers (there - 1) (number - 1) seen less
+having-grows caller (parts.Server there) seen less parts.Desk = omega arith
+having-grows caller (parts.Server there) seen less parts.View = omega arith
+having-grows caller parts.Desk seen less (parts.Server number) = omega arith
+having-grows caller parts.Desk seen less parts.Desk = less
+having-grows caller parts.Desk seen less parts.View = omega arith
+having-grows caller parts.View seen less (parts.Server number) = omega arith
+having-grows caller parts.View seen less parts.Desk = omega arith
+having-grows caller parts.View seen less parts.View = less
+
+pub sees-on-same : (caller : CallerView) → SeesOn caller caller
+sees-on-same caller part = omega arith
+
+-- one part more was asked, or pulled
+pub sees-on-after : (first old new : CallerView) (there : Part) → SeesOn first old → (seen : ℕ) × (seen_of old there ≤ seen) × (new ≡ having_seen old there seen) → SeesOn first new
+sees-on-after first old new there before (seen, less, same) part =
+    let more = before part in
+    let grown = having-grows old there seen less part in
+    subst (λ (c : CallerView). seen_of first part ≤ seen_of c part) (sym same) (omega (arith, more, grown))
 
 -- ---- what a call answered, said otherwise
 

@@ -1,5 +1,5 @@
 -- What a caller of a cluster was told.
-use Rattle.std.specs.Prelude.{ℕ, ◌-◌, ◌^◌, List, [], Ok, get_or, set, replicate}
+use Rattle.std.specs.Prelude.{◌≤◌, ℕ, ◌-◌, ◌^◌, List, [], Ok, get_or, set, replicate}
 use Rattle.tq_shape.specs.declared.part.Part.{Part}
 use Rattle.tq_shape.specs.declared.part.Part.TheVariants as parts
 use Rattle.tq_cells.specs.Passes.{IsToldBy}
@@ -49,6 +49,10 @@ abbrev pub having_seen : CallerView → Part → ℕ → CallerView
 having_seen caller (parts.Server number) seen = record caller { seen = record caller.seen { servers = set caller.seen.servers (number - 1) seen } }
 having_seen caller parts.Desk seen = record caller { seen = record caller.seen { desk = seen } }
 having_seen caller parts.View seen = record caller { seen = record caller.seen { view = seen } }
+
+-- of each part the caller has seen then what it had seen of it before, or more
+abbrev pub SeesOn : CallerView → CallerView → Type 0
+SeesOn old new = (part : Part) → seen_of old part ≤ seen_of new part
 
 -- the number of a server by its name, 0 for another part
 abbrev pub server_of : Part → ℕ

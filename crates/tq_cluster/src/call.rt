@@ -26,6 +26,7 @@ pub(crate) fn call<P: Answers, R: Wait, G: Gate>(
     ensures same { IfOk result (λ r. r.kept ≡ r.told) }
     ensures asked { IfOk result (λ r. (r.told.part ≡ cell.now) × (r.told.ask ≡ ask)) }
     ensures seen { IfOk result (λ r. r.told.number ≤ pass.new.seen) }
+    ensures grows { pass.old.seen ≤ pass.new.seen }
     ensures reply { IfOk result (λ r. IsToldBy P.reply P.after P.opening r.told.number r.told.ask r.told.reply) }
 {
     let told = cell.call(rt, alloc, pass, gate, ask)?;

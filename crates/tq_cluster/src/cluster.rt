@@ -1,7 +1,7 @@
-ghost use Rattle.std.specs.Prelude.{◌≡◌, ◌≤◌, ◌+◌, ◌^◌, ◌++◌, ◌⊎◌, [], IfOk, IfErr, vec_capacity};
+ghost use Rattle.std.specs.Prelude.{◌≡◌, ◌≤◌, ◌+◌, ◌^◌, ◌++◌, ◌⊎◌, ℕ, [], IfOk, IfErr, vec_capacity};
 ghost use Rattle.tq_txn.specs.Dialogue.{node_exchange, desk_exchange, view_exchange};
 ghost use Rattle.tq_tables.specs.Parts.{AreLegal};
-ghost use Rattle.tq_cluster.specs.Told.{IsToldByServer, IsToldByDesk, IsToldByView, nothing_seen, seen_of};
+ghost use Rattle.tq_cluster.specs.Told.{IsToldByServer, IsToldByDesk, IsToldByView, having_seen, nothing_seen, seen_of};
 
 use crate::call::call;
 use crate::caller::Caller;
@@ -147,6 +147,7 @@ impl<G: Gate + Drop> Cluster<G> {
         ensures reply { IfOk result (λ t. IsToldByServer t.number t.ask t.reply) }
         ensures seen { IfOk result (λ t. t.number ≤ seen_of caller.new (Part.Server server.number)) }
         ensures fault { IfErr result (λ f. (f ≡ AskFault.Memory) ⊎ (f ≡ AskFault.JournalFull (Part.Server server.number))) }
+        ensures saw { (seen : ℕ) × (seen_of caller.old (Part.Server server.number) ≤ seen) × (caller.new.seen ≡ (having_seen caller.old (Part.Server server.number) seen).seen) }
         ensures tree { caller.new.levels ≡ caller.old.levels }
     {
         let number = server.number();
@@ -193,6 +194,7 @@ impl<G: Gate + Drop> Cluster<G> {
         ensures reply { IfOk result (λ t. IsToldByDesk t.number t.ask t.reply) }
         ensures seen { IfOk result (λ t. t.number ≤ seen_of caller.new Part.Desk) }
         ensures fault { IfErr result (λ f. (f ≡ AskFault.Memory) ⊎ (f ≡ AskFault.JournalFull Part.Desk)) }
+        ensures saw { (seen : ℕ) × (seen_of caller.old Part.Desk ≤ seen) × (caller.new.seen ≡ (having_seen caller.old Part.Desk seen).seen) }
         ensures tree { caller.new.levels ≡ caller.old.levels }
     {
         let copy = ask.clone()?;
@@ -232,6 +234,7 @@ impl<G: Gate + Drop> Cluster<G> {
         ensures reply { IfOk result (λ t. IsToldByView t.number t.ask t.reply) }
         ensures seen { IfOk result (λ t. t.number ≤ seen_of caller.new Part.View) }
         ensures fault { IfErr result (λ f. (f ≡ AskFault.Memory) ⊎ (f ≡ AskFault.JournalFull Part.View)) }
+        ensures saw { (seen : ℕ) × (seen_of caller.old Part.View ≤ seen) × (caller.new.seen ≡ (having_seen caller.old Part.View seen).seen) }
         ensures tree { caller.new.levels ≡ caller.old.levels }
     {
         caller.heard.reserve(1)?;

@@ -13,7 +13,7 @@ ghost use Rattle.tq_cluster.specs.Closes.{AreTablesOfPrefixes};
 use crate::live_board::LiveBoard;
 use std::alloc::Global;
 use tq_closing::{CloseFault, Comparison, compare, found};
-use tq_merge::{Fault, Order, explain};
+use tq_merge::{Fault, Order, explain_legal};
 use tq_shape::{Part, Seq};
 use tq_tables::Journals;
 use tq_txn::Exchange;
@@ -82,7 +82,7 @@ fn ordered(alloc: Global, journals: Journals, unclaimed: u64) -> Result<Explaine
     ensures committed_reads { IfOk result (λ e. HasCommittedReads journals) }
     ensures fault { IfErr result (IsNoOrder journals) }
 {
-    match explain(alloc, &journals) {
+    match explain_legal(alloc, &journals) {
         Ok(order) => Ok(Explained {
             journals,
             order,

@@ -3,7 +3,7 @@ ghost use Rattle.tq_shape.specs.Tree.{IsServer};
 ghost use Rattle.tq_tables.specs.Parts.{AreLegal};
 ghost use Rattle.tq_tables.specs.Tables.{tables_of};
 ghost use Rattle.tq_prefixes.specs.Prefixes.{IsPartOf, IsPullFault, grown, nothing_pulled, prefix_length, server_prefix};
-ghost use Rattle.tq_cluster.specs.Told.{having_seen, seen_of};
+ghost use Rattle.tq_cluster.specs.Told.{SeesOn, having_seen, seen_of};
 ghost use Rattle.tq_cluster.specs.Pulls.{Continues, HasSeenAll, HasSeenServers};
 
 use crate::caller::Caller;
@@ -130,6 +130,7 @@ impl LiveBoard {
         ensures seen { OnOk result (HasSeenAll self.new caller.new) }
         ensures fault { IfErr result (λ fault. (part : Part) × (more : Entries) × IsPullFault self.new part more (seen_of caller.new part) fault) }
         ensures told { caller.new.told ≡ caller.old.told }
+        ensures grows { SeesOn caller.old caller.new }
         ensures tree { caller.new.levels ≡ caller.old.levels }
     {
         match self.pull_servers(rt, alloc, cluster, caller) {
@@ -158,6 +159,7 @@ impl LiveBoard {
         ensures seen { OnOk result (HasSeenServers self.new caller.new (2 ^ cluster.now.levels - 1)) }
         ensures fault { IfErr result (λ fault. (part : Part) × (more : Entries) × IsPullFault self.new part more (seen_of caller.new part) fault) }
         ensures told { caller.new.told ≡ caller.old.told }
+        ensures grows { SeesOn caller.old caller.new }
         ensures tree { caller.new.levels ≡ caller.old.levels }
     {
         for place in 0..cluster.levels().servers() {

@@ -28,11 +28,24 @@ pub fn explain(alloc: Global, journals: &Journals) -> Result<Order, Fault>
     ensures run { IfOk result (λ order. run journals.now.levels journals.now.limits (asks_of journals.now order) ≡ journals.now) }
     ensures committed_reads { IfOk result (λ order. HasCommittedReads journals.now) }
 {
-    see_lists(journals);
     if let Some(entry) = first_wrong(alloc, journals)? {
         let WrongEntry { part, number } = entry;
         return Err(Fault::Wrong { part, number });
     }
+    explain_legal(alloc, journals)
+}
+
+/// An order of the entries of journals that are legal, as `explain` finds it, which asks each part anew to see that they are:
+/// here no part is asked. The fault is never an entry that is wrong.
+pub fn explain_legal(alloc: Global, journals: &Journals) -> Result<Order, Fault>
+    requires legal { AreLegal journals.now }
+    ensures order { IfOk result (λ order. Explains journals.now order) }
+    ensures fault { IfErr result (IsFault journals.now) }
+    ensures blames_none { IfErr result BlamesNone }
+    ensures run { IfOk result (λ order. run journals.now.levels journals.now.limits (asks_of journals.now order) ≡ journals.now) }
+    ensures committed_reads { IfOk result (λ order. HasCommittedReads journals.now) }
+{
+    see_lists(journals);
     let mut placing = Placing::new(alloc, journals)?;
     placing.place_all(alloc)?;
     if placing.is_whole() {

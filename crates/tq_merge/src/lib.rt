@@ -11,5 +11,5 @@ mod stands;
 mod wrong;
 
 pub use counts::Counts;
-pub use explaining::{Order, explain};
+pub use explaining::{Order, explain, explain_legal};
 pub use fault::Fault;

@@ -1,4 +1,5 @@
-ghost use Rattle.std.specs.Prelude.{◌≡◌, ◌++◌, OnOk, map, string_bytes};
+ghost use Rattle.std.specs.Prelude.{◌≡◌, ◌+◌, ◌<◌, ◌++◌, ◌∷◌, OnOk, map, string_bytes};
+ghost use Rattle.std.specs.Fmt.{decimal};
 ghost use Rattle.tq_coterie.specs.Coterie.{numbers_of};
 ghost use Rattle.tq_rendered.specs.Board.{listed, mark_text, servers_text, state_text, write_text};
 
@@ -33,7 +34,7 @@ pub(crate) fn push_set(text: &mut String, servers: &ServerSet) -> Result<(), Mem
         return text.push_str(" -");
     }
     for server in servers.iter() {
-        write!(text, " {}", server.number())?;
+        push_spaced(text, server.number())?;
     }
     Ok(())
 }
@@ -46,7 +47,7 @@ pub(crate) fn push_quorum(text: &mut String, quorum: &[ServerId]) -> Result<(), 
         return text.push_str(" -");
     }
     for server in quorum {
-        write!(text, " {}", server.number())?;
+        push_spaced(text, server.number())?;
     }
     Ok(())
 }
@@ -62,4 +63,27 @@ pub(crate) fn push_writes(text: &mut String, writes: &[FileVersion]) -> Result<(
         write!(text, " {}:{}", write.file, write.version)?;
     }
     Ok(())
+}
+
+/// Puts a space and a number behind the text, digit by digit where it has at most two, as that of a server mostly has.
+fn push_spaced(text: &mut String, number: u64) -> Result<(), Memory>
+    ensures { OnOk result (string_bytes text.new ≡ string_bytes text.old ++ 32 ∷ decimal number) }
+{
+    text.push(' ')?;
+    if number < 10 {
+        return text.push(digit(number));
+    }
+    if number < 100 {
+        text.push(digit(number / 10))?;
+        return text.push(digit(number % 10));
+    }
+    write!(text, "{number}")
+}
+
+/// The character of a digit.
+fn digit(number: u64) -> char
+    requires { number < 10 }
+    ensures { result ≡ 48 + number }
+{
+    char::from(b'0' + number as u8)
 }

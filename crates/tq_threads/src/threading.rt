@@ -6,6 +6,7 @@ ghost use Rattle.tq_threads.specs.Threads.{IsThreadsText};
 use crate::input::read_input;
 use crate::running::run_text;
 use std::alloc::Global;
+use std::mem;
 use std::sync::Wait;
 use std::thread::Threads;
 use tq_devices::{RunFault, Sink, Source, write_out};
@@ -14,7 +15,8 @@ use tq_shape::Levels;
 /// Reads client scripts, runs them in threads over a new cluster, closes it, and writes the journals of all parts as one
 /// line. Answers the status 0; 1 where the cluster could not be closed, and 2 where a line makes a bad script: then the
 /// line that tells of it is written. The fault is never that the input is too long: such an input is a bad script.
-/// Nothing is written where memory is refused or the source fails; a prefix of the line where the sink fails.
+/// Nothing is written where memory is refused or the source fails; a prefix of the line where the sink fails. The journals
+/// are left to the end of the process, which takes them back at once.
 pub fn threads<H: Threads + Wait + Sync, R: Source, W: Sink>(
     rt: &H,
     alloc: Global,
@@ -36,6 +38,8 @@ pub fn threads<H: Threads + Wait + Sync, R: Source, W: Sink>(
     let bytes = read_input(alloc, reader)?;
     let outcome = run_text(rt, alloc, levels, workers, rounds, bytes.as_slice())?;
     let line = outcome.line(alloc)?;
+    let status = outcome.status();
+    mem::forget(outcome);
     write_out(writer, line.as_slice())?;
-    Ok(outcome.status())
+    Ok(status)
 }

@@ -2,6 +2,7 @@ use Rattle.std.proofs.Common.{◌∙◌, sym, subst}
 use Rattle.tq_shape.specs.declared.part.Part.TheVariants as parts
 use Rattle.tq_tables.specs.Journals.{JournalsView}
 use Rattle.tq_cluster.specs.Pulls.{Continues}
+use Rattle.tq_cluster.proofs.Seen.{sees-on-after}
 use Rattle.tq_cluster.proofs.Pulled.{continues-grown, continues-after, fault-after, seen-after}
 use Rattle.tq_cluster.proofs.live_board.LiveBoard.pull.Goals as goal
 
@@ -10,6 +11,14 @@ returns-clause-continues g c =
     let grew = c.in-Ok-pull_part.ensures.grown in
     let middle = subst (λ (o : JournalsView). Continues c.args.self.now o) (sym grew.1) (continues-grown c.args.self.now c.pull_servers.new.self parts.Desk grew.0 c.pull_servers.ensures.continues) in
     continues-after c.args.self.now c.pull_part.new.self c.pull_part-2.new.self parts.View c.pull_part-2.result c.pull_part-2.ensures.grown c.pull_part-2.ensures.err middle
+
+pub returns-in-Err-pull_part-clause-grows : goal.returns-in-Err-pull_part-clause-grows
+returns-in-Err-pull_part-clause-grows g c = sees-on-after c.args.caller.now c.pull_servers.new.caller c.pull_part.new.caller parts.Desk c.pull_servers.ensures.grows c.pull_part.ensures.caller
+
+pub returns-clause-grows : goal.returns-clause-grows
+returns-clause-grows g c =
+    let desk = sees-on-after c.args.caller.now c.pull_servers.new.caller c.pull_part.new.caller parts.Desk c.pull_servers.ensures.grows c.pull_part.ensures.caller in
+    sees-on-after c.args.caller.now c.pull_part.new.caller c.pull_part-2.new.caller parts.View desk c.pull_part-2.ensures.caller
 
 pub returns-clause-seen : goal.returns-clause-seen
 returns-clause-seen g c =

@@ -1,4 +1,5 @@
 use Rattle.std.proofs.Common.{◌≡◌}
+use Rattle.tq_cluster.specs.Told.{SeesOn}
 use Rattle.tq_cluster.specs.Pulls.{Continues, HasSeenServers}
 use Rattle.tq_cluster.proofs.live_board.LiveBoard.pull_servers.Given as goal
 
@@ -8,5 +9,6 @@ invariant-loop-place g l = record {
   continues : Continues l.initial.self l.self;
   seen : HasSeenServers l.self l.caller l.place;
   told : l.caller.told ≡ l.initial.caller.told;
+  grows : SeesOn l.initial.caller l.caller;
   tree : l.caller.levels ≡ l.initial.caller.levels;
 }
