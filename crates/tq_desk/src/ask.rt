@@ -3,7 +3,7 @@ use tq_node::Verdict;
 use tq_shape::Seq;
 
 /// What a desk is asked.
-#[derive(Debug, Drop, Clone, PartialEq)]
+#[derive(Drop, Clone, PartialEq)]
 pub enum DeskAsk {
     /// A transaction more.
     Begin,
@@ -35,7 +35,7 @@ pub enum DeskRefusal {
 }
 
 /// What a desk answers.
-#[derive(Debug, Drop, Clone, PartialEq)]
+#[derive(Drop, Clone, PartialEq)]
 pub enum DeskReply {
     /// The number of the transaction begun, from 1.
     Txn(u64),

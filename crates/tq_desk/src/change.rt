@@ -3,7 +3,7 @@ use tq_shape::Seq;
 use tq_store::FileName;
 
 /// What an ask changes in a desk.
-#[derive(Debug, Drop)]
+#[derive(Drop)]
 pub enum DeskChange {
     /// The ask is refused, or only looks.
     Nothing,

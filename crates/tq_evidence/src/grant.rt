@@ -3,7 +3,7 @@ use tq_shape::ExactClone;
 use tq_store::Content;
 
 /// A lock as a server granted it, with the copy that it answered.
-#[derive(Debug, Drop, Clone, PartialEq)]
+#[derive(Drop, Clone, PartialEq)]
 pub struct Grant {
     pub server: u64,
     /// The number of the server's entry that granted the lock.

@@ -13,7 +13,7 @@ pub enum OpKind {
 }
 
 /// A read or a write, with the grants that it rests on. Its servers are those of its grants.
-#[derive(Debug, Drop, Clone, PartialEq)]
+#[derive(Drop, Clone, PartialEq)]
 pub struct Op {
     pub file: FileName,
     pub kind: OpKind,

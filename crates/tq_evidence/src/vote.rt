@@ -7,7 +7,7 @@ use tq_shape::{ExactClone, SharedSeq};
 use tq_store::{FileName, Write};
 
 /// A server's vote, as it was answered.
-#[derive(Debug, Drop, Clone, PartialEq)]
+#[derive(Drop, Clone, PartialEq)]
 pub struct Vote {
     pub server: u64,
     /// The number of the server's entry that gave the vote.

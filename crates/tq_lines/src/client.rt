@@ -11,7 +11,7 @@ use tq_shape::Memory;
 use tq_store::{Content, FileName};
 
 /// What a line of a text of client scripts asks for. The lines of a transaction name none: each client has one.
-#[derive(Debug, Drop)]
+#[derive(Drop)]
 pub enum ClientLine {
     /// Nothing stands in the line.
     Empty,

@@ -10,7 +10,7 @@ use tq_shape::Memory;
 use tq_store::{Content, FileName};
 
 /// What a line asks for.
-#[derive(Debug, Drop)]
+#[derive(Drop)]
 pub enum Line {
     /// Nothing stands in the line.
     Empty,
@@ -29,7 +29,7 @@ pub enum Line {
 }
 
 /// What a line asks of a transaction.
-#[derive(Debug, Drop)]
+#[derive(Drop)]
 pub enum TxnLine {
     Read { file: FileName },
     Write { file: FileName, content: Content },

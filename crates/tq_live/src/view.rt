@@ -23,7 +23,7 @@ pub enum ViewAsk {
 }
 
 /// What a view answers.
-#[derive(Clone, Debug, Drop, PartialEq)]
+#[derive(Clone, Drop, PartialEq)]
 pub enum ViewReply {
     /// The server has this cost from now on.
     CostSet,

@@ -2,7 +2,7 @@ use std::alloc::AllocError;
 use tq_shape::Seq;
 
 /// Why entries were not followed. Then the mirror is as it was.
-#[derive(Debug, Drop)]
+#[derive(Drop)]
 pub enum Strayed<E> {
     /// Memory was refused.
     Memory,

@@ -34,7 +34,7 @@ pub struct HeldLock {
 }
 
 /// What clients and workers ask of a server.
-#[derive(Debug, Drop, Clone, PartialEq)]
+#[derive(Drop, Clone, PartialEq)]
 pub enum WorkAsk {
     /// To lock a file and be told its copy.
     Lock {
@@ -71,7 +71,7 @@ pub enum WorkAsk {
 }
 
 /// What a server is asked: work, to go down, or to come back.
-#[derive(Debug, Drop, Clone, PartialEq)]
+#[derive(Drop, Clone, PartialEq)]
 pub enum NodeAsk {
     Work(WorkAsk),
     /// What isn't stable is lost.
@@ -103,7 +103,7 @@ pub enum NodeRefusal {
 }
 
 /// What a server replies.
-#[derive(Debug, Drop, Clone, PartialEq)]
+#[derive(Drop, Clone, PartialEq)]
 pub enum NodeReply {
     /// The lock is held; the copy of its file.
     Granted {

@@ -5,7 +5,7 @@ use std::marker::Model;
 use tq_shape::{ExactClone, Memory};
 
 /// A value on the heap, so that what holds it stays small. Contracts see the value alone.
-#[derive(Debug, Drop)]
+#[derive(Drop)]
 pub struct Boxed<T> {
     value: Box<T>,
 }

@@ -9,7 +9,7 @@ use tq_shape::{Memory, Seq};
 use tq_store::{FileName, Write};
 
 /// What an ask changes in a server.
-#[derive(Debug, Drop)]
+#[derive(Drop)]
 pub struct NodeChange {
     /// The number of the ask, which is that of the last one from then on, also where the ask is refused.
     pub number: u64,
@@ -20,7 +20,7 @@ pub struct NodeChange {
 }
 
 /// The step of an ask, with all that it keeps.
-#[derive(Debug, Drop)]
+#[derive(Drop)]
 pub enum NodeStep {
     /// It is refused, or it only looks.
     Nothing,

@@ -2,7 +2,7 @@ use tq_shape::Seq;
 use tq_tables::{DeskEntry, NodeEntry, ViewEntry};
 
 /// Entries of one part, the oldest first.
-#[derive(Debug, Drop)]
+#[derive(Drop)]
 pub enum Entries {
     Server(Seq<NodeEntry>),
     Desk(Seq<DeskEntry>),

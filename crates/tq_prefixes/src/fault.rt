@@ -8,7 +8,7 @@ use tq_shape::Part;
 use tq_tables::{DeskEntry, NodeEntry, ViewEntry};
 
 /// Why nothing was pulled of a part. Then all is as it was.
-#[derive(Debug, Drop)]
+#[derive(Drop)]
 pub enum PullFault {
     /// Memory was refused.
     Memory,

@@ -4,7 +4,7 @@ use std::marker::Model;
 use tq_store::{Content, FileName};
 
 /// A line of a client's script. Those of a transaction concern the one that the client has open.
-#[derive(Debug, Drop)]
+#[derive(Drop)]
 pub enum Line {
     /// The view notes what a server costs.
     Cost { server: u64, cost: u64 },
@@ -23,7 +23,7 @@ pub enum Line {
 }
 
 /// What a client does: its lines, in their order.
-#[derive(Debug, Drop)]
+#[derive(Drop)]
 pub struct Script {
     lines: Vec<Line>,
 }

@@ -1,5 +1,5 @@
 /// An ask of a part with the part's reply.
-#[derive(Debug, Drop)]
+#[derive(Drop)]
 pub struct Entry<A, R> {
     pub ask: A,
     pub reply: R,

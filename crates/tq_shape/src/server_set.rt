@@ -104,7 +104,7 @@ impl ServerSet {
 }
 
 /// The servers of a set that are left to walk, upwards.
-#[derive(Debug, Drop)]
+#[derive(Drop)]
 pub struct ServerSetIter<'a> {
     levels: Levels,
     /// The marks of the last servers of the tree.

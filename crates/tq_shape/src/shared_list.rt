@@ -7,7 +7,7 @@ use std::sync::ArcSlice;
 
 /// A list of values that its clones share: a clone is a count, not a copy. Contracts see it as the list alone, as they
 /// see a `Seq`.
-#[derive(Debug, Drop)]
+#[derive(Drop)]
 pub struct SharedSeq<T> {
     /// None where there is no value.
     items: Option<ArcSlice<T>>,

@@ -10,7 +10,7 @@ use tq_shape::ExactClone;
 pub const MAX_CONTENT: usize = 1000;
 
 /// What a file holds: up to `MAX_CONTENT` bytes, of any kind. Clones share the bytes: a clone is a count, not a copy.
-#[derive(Debug, Drop)]
+#[derive(Drop)]
 pub struct Content {
     /// None where there is no byte.
     bytes: Option<ArcSlice<u8>>,

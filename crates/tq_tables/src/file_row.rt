@@ -6,7 +6,7 @@ use tq_shape::{Memory, ServerSet};
 use tq_store::FileName;
 
 /// A file that a commit wrote.
-#[derive(Debug, Drop)]
+#[derive(Drop)]
 pub struct FileRow {
     pub file: FileName,
     /// How many commits wrote it.

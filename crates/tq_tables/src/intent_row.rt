@@ -24,7 +24,7 @@ pub enum IntentState {
 }
 
 /// A vote that is open at a server.
-#[derive(Debug, Drop, PartialEq)]
+#[derive(Drop, PartialEq)]
 pub struct IntentRow {
     pub server: ServerId,
     pub txn: u64,

@@ -1,7 +1,7 @@
 use tq_store::{Content, FileCopy};
 
 /// What a read of a file answers.
-#[derive(Debug, Drop)]
+#[derive(Drop)]
 pub enum Reading {
     /// What the transaction itself has written, which nobody else sees yet.
     Pending(Content),

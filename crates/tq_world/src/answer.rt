@@ -5,7 +5,7 @@ use tq_shape::Part;
 use tq_tables::{DeskEntry, NodeEntry, ViewEntry};
 
 /// An ask with the part that is asked.
-#[derive(Clone, Debug, Drop)]
+#[derive(Clone, Drop)]
 pub enum Step {
     Node { server: u64, ask: NodeAsk },
     Desk(DeskAsk),
@@ -13,7 +13,7 @@ pub enum Step {
 }
 
 /// The reply of a part.
-#[derive(Debug, Drop, PartialEq)]
+#[derive(Drop, PartialEq)]
 pub enum Reply {
     Node(NodeReply),
     Desk(DeskReply),
@@ -21,7 +21,7 @@ pub enum Reply {
 }
 
 /// A part's reply, and the number of its entry in the part's journal.
-#[derive(Debug, Drop, PartialEq)]
+#[derive(Drop, PartialEq)]
 pub struct Answer {
     pub number: u64,
     pub reply: Reply,
