@@ -9,3 +9,4 @@ pub mod NamesApart
 pub mod Files
 pub mod NextOfServer
 pub mod Asked
+pub mod NextEntry

@@ -14,13 +14,15 @@ use crate::intent_rows::intent_rows;
 use crate::lock_rows::lock_rows;
 use crate::quorum_rows::quorum_rows;
 use crate::replies::{Replies, twice};
-use crate::{DeskEntry, FileRow, IntentRow, Journals, LockRow, NodeEntry, Parts, ViewEntry};
+use crate::{
+    DeskEntry, FileRow, IntentRow, Journals, LockRow, NodeEntry, PartEntry, Parts, ViewEntry,
+};
 use std::alloc::Global;
 use std::marker::Model;
 use tq_desk::{Desk, DeskAsk, DeskReply, Op};
 use tq_live::{Least, View, ViewAsk, ViewReply};
 use tq_node::{Node, NodeAsk, NodeReply};
-use tq_shape::{Levels, Memory};
+use tq_shape::{Levels, Memory, Part};
 
 /// The servers, the desk and the view that the tables follow, and rows that say how these stand: the least quorum of
 /// each subtree, the files that commits wrote, the locks that are held, and the votes that are open.
@@ -55,6 +57,7 @@ impl Model for Tables {
 
 impl Tables {
     ghost use Rattle.tq_tables.specs.Journals.{JournalsView, with_desk, with_view};
+    ghost use Rattle.tq_tables.specs.NextEntry.{IsNextEntry, with_entry};
     ghost use Rattle.tq_tables.specs.NextOfServer.{IsNextOfServer, with_node};
     ghost use Rattle.tq_tables.specs.Parts.{AreLegal, bounds_of};
     ghost use Rattle.tq_tables.specs.Tables.{IsNextOfDesk, tables_of, tables_over};
@@ -144,8 +147,38 @@ impl Tables {
         Ok(replies)
     }
 
+    /// Follows the entry, of that number, that the part's journal got next. Only the rows of the files change that the
+    /// entry is about. Out of memory leaves the tables as they were.
+    pub fn note(
+        &mut self,
+        alloc: Global,
+        part: Part,
+        number: u64,
+        entry: &PartEntry<'_>,
+    ) -> Result<(), Memory>
+        requires { IsNextEntry self.old part number entry.now }
+        ensures noted { OnOk result ((journals : JournalsView) → AreLegal (with_entry journals part entry.now)
+            → self.old ≡ tables_of journals → self.new ≡ tables_of (with_entry journals part entry.now)) }
+        ensures unchanged { OnErr result (self.new ≡ self.old) }
+    {
+        match part {
+            Part::Server(server) => match entry {
+                PartEntry::Server(entry) => self.note_node(alloc, server, number, entry),
+                PartEntry::Desk(_) | PartEntry::View(_) => unreachable!(),
+            },
+            Part::Desk => match entry {
+                PartEntry::Desk(entry) => self.note_desk(alloc, entry),
+                PartEntry::Server(_) | PartEntry::View(_) => unreachable!(),
+            },
+            Part::View => match entry {
+                PartEntry::View(entry) => self.note_view(alloc, entry),
+                PartEntry::Server(_) | PartEntry::Desk(_) => unreachable!(),
+            },
+        }
+    }
+
     /// Follows the entry, of that number, that the server's journal got next, as `ask_node`.
-    pub fn note_node(
+    fn note_node(
         &mut self,
         alloc: Global,
         server: u64,
@@ -162,7 +195,7 @@ impl Tables {
     }
 
     /// Follows the entry that the view's journal got next, as `ask_view`.
-    pub fn note_view(&mut self, alloc: Global, entry: &ViewEntry) -> Result<(), Memory>
+    fn note_view(&mut self, alloc: Global, entry: &ViewEntry) -> Result<(), Memory>
         ensures noted { OnOk result ((journals : JournalsView) → AreLegal (with_view journals entry.now)
             → self.old ≡ tables_of journals → self.new ≡ tables_of (with_view journals entry.now)) }
         ensures unchanged { OnErr result (self.new ≡ self.old) }
@@ -175,7 +208,7 @@ impl Tables {
     }
 
     /// Follows the entry that the desk's journal got next, as `ask_desk`.
-    pub fn note_desk(&mut self, alloc: Global, entry: &DeskEntry) -> Result<(), Memory>
+    fn note_desk(&mut self, alloc: Global, entry: &DeskEntry) -> Result<(), Memory>
         requires { IsNextOfDesk self.old entry.now }
         ensures noted { OnOk result ((journals : JournalsView) → AreLegal (with_desk journals entry.now)
             → self.old ≡ tables_of journals → self.new ≡ tables_of (with_desk journals entry.now)) }
