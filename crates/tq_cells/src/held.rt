@@ -7,7 +7,7 @@ use crate::pass::Pass;
 use crate::receipt::Receipt;
 use std::alloc::Global;
 use std::marker::Model;
-use tq_part::{Answers, Fault, Journaled, foresee};
+use tq_part::{Answers, Fault, Journaled};
 use tq_shape::{Entry, Memory, Part};
 
 /// What lies under the lock of a cell: a part beside its journal. Contracts see it as that.
@@ -42,8 +42,9 @@ impl<P: Answers> Held<P> {
     }
 
     /// Asks the part under the next number, and enters what it replies into the journal and, as a receipt under the
-    /// part's name, into the caller's pass. Answers `JournalFull` where the journal has as many entries as its limit,
-    /// before any memory is asked for, and `Memory` where memory is refused. At a fault all is as it was.
+    /// part's name, into the caller's pass. The part judges the ask once, and both receipts are made before it changes.
+    /// Answers `JournalFull` where the journal has as many entries as its limit, before any memory is asked for, and
+    /// `Memory` where memory is refused. At a fault all is as it was.
     pub(crate) fn answer(
         &mut self,
         alloc: Global,
@@ -66,11 +67,13 @@ impl<P: Answers> Held<P> {
         }
         let number = entries as u64 + 1;
         pass.receipts.reserve(1)?;
-        let foreseen = foreseen(alloc, self.journaled.part(), part, number, &ask)?;
-        let answered = self.journaled.ask(alloc, ask)?;
-        pass.receipts.push_reserved(foreseen.receipt);
+        let plan = self.journaled.part().plan(alloc, number, &ask)?;
+        let kept = Receipt::new(alloc, part, number, &ask, &plan.reply)?;
+        let told = Receipt::new(alloc, part, number, &ask, &plan.reply)?;
+        self.journaled.enter(alloc, ask, plan)?;
+        pass.receipts.push_reserved(kept);
         pass.seen = number.max(pass.seen);
-        Ok(Receipt::new(part, number, foreseen.ask, answered.reply))
+        Ok(told)
     }
 
     /// The entries after a number, none where there are fewer; the caller has then seen the last of them.
@@ -107,36 +110,6 @@ impl<P: Answers> Held<P> {
         } = self;
         journaled
     }
-}
-
-/// What a caller is to be given, made before its ask is put: once it is answered nothing can fail.
-#[derive(Drop)]
-struct Copies<P: Answers> {
-    /// The receipt that its pass is to have.
-    receipt: Receipt<P>,
-    /// The ask once more, for the receipt that it is told.
-    ask: P::Ask,
-}
-
-/// What is to be told of an ask under that number. Nothing changes. Answers an error only where memory is refused.
-fn foreseen<P: Answers>(
-    alloc: Global,
-    asked: &P,
-    part: Part,
-    number: u64,
-    ask: &P::Ask,
-) -> Result<Copies<P>, Memory>
-    requires { P.is_ready asked.now number }
-    ensures receipt { IfOk result (λ f. f.receipt ≡ told part number ask.now (P.reply asked.now number ask.now)) }
-    ensures ask { IfOk result (λ f. f.ask ≡ ask.now) }
-{
-    let reply = foresee(alloc, asked, number, ask)?;
-    let same = P::same_ask(alloc, ask)?;
-    let told = P::same_ask(alloc, ask)?;
-    Ok(Copies {
-        receipt: Receipt::new(part, number, same, reply),
-        ask: told,
-    })
 }
 
 /// Equal entries. Answers an error only where memory is refused.
