@@ -9,16 +9,7 @@ use Rattle.tq_evidence.specs.declared.grant.Grant.{Grant}
 use Rattle.tq_evidence.specs.declared.op.Op.{Op}
 use Rattle.tq_evidence.specs.declared.vote.Vote.{Vote}
 use Rattle.tq_evidence.specs.Evidence.{are_grants_covered, covers, holds_since, has_quorum, are_quorums, is_grant_covered, rises, servers_of, votes_rise}
-use Rattle.tq_evidence.specs.InOrder.{are_in_order, are_walked, is_listed_for, listed, walk}
-use Rattle.tq_evidence.proofs.HeldTable.{is_since-least_since}
-
--- the walk over the votes as they are
-abbrev covered_in_order : List ℕ → List Vote → List Grant → Bool
-covered_in_order file [] [] = true
-covered_in_order file [] (grant ∷ grants) = false
-covered_in_order file (vote ∷ votes) [] = true
-covered_in_order file (vote ∷ votes) (grant ∷ grants) =
-    cond (nat_lt vote.server grant.server) (covered_in_order file votes (grant ∷ grants)) (covers file grant vote && covered_in_order file votes grants)
+use Rattle.tq_evidence.specs.InOrder.{are_in_order, are_walked, walk}
 
 -- the servers are all above a number
 abbrev pub GrantsAbove : ℕ → List Grant → Type 0
@@ -92,19 +83,19 @@ meets_vote false rest skipped same = refl
 same_server : (a b : ℕ) (c d : Bool) → (nat_eq a b && c && d) ≡ true → a ≡ b
 same_server a b c d h = let parts = and_parts (nat_eq a b && c) d h in let first = and_parts (nat_eq a b) c parts.0 in same_number a b first.0
 
-in-order : (file : List ℕ) (votes : List Vote) (grants : List Grant) → votes_rise votes ≡ true → rises (map (λ g. g.server) grants) ≡ true → covered_in_order file votes grants ≡ list_all (is_grant_covered votes file) grants
+in-order : (file : List ℕ) (votes : List Vote) (grants : List Grant) → votes_rise votes ≡ true → rises (map (λ g. g.server) grants) ≡ true → walk file votes grants ≡ list_all (is_grant_covered votes file) grants
 in-order file [] [] up rise = refl
 in-order file [] (grant ∷ grants) up rise = refl
 in-order file (vote ∷ votes) [] up rise = refl
 in-order file (vote ∷ votes) (grant ∷ grants) up rise =
-    elim (nat_lt vote.server grant.server) as (λ b. nat_lt vote.server grant.server ≡ b → cond b (covered_in_order file votes (grant ∷ grants)) (covers file grant vote && covered_in_order file votes grants) ≡ list_all (is_grant_covered (vote ∷ votes) file) (grant ∷ grants)) [
+    elim (nat_lt vote.server grant.server) as (λ b. nat_lt vote.server grant.server ≡ b → cond b (walk file votes (grant ∷ grants)) (covers file grant vote && walk file votes grants) ≡ list_all (is_grant_covered (vote ∷ votes) file) (grant ∷ grants)) [
       | true ↦ λ below.
           let low : vote.server < grant.server = less vote.server grant.server below in
           in-order file votes (grant ∷ grants) (later_votes vote votes up) rise
           ∙ sym (skip_vote file vote votes (grant ∷ grants) (low, grants_above vote.server grant grants rise (omega arith)))
       | false ↦ λ not_below.
           let high : grant.server ≤ vote.server = not_less vote.server grant.server not_below in
-          meets_vote (covers file grant vote) (covered_in_order file votes grants) (list_all (is_grant_covered (vote ∷ votes) file) grants)
+          meets_vote (covers file grant vote) (walk file votes grants) (list_all (is_grant_covered (vote ∷ votes) file) grants)
           (λ at.
           let same : vote.server ≡ grant.server = same_server vote.server grant.server (nat_lt grant.number vote.number) (holds_since vote file grant.number) at in
           in-order file votes grants (later_votes vote votes up) (later_grants grant grants rise)
@@ -121,22 +112,10 @@ quorums-in_order levels (op ∷ ops) good =
     let first = and_parts (rises (servers_of op)) (is_quorum levels (servers_of op)) parts.0 in
     both_true first.0 (quorums-in_order levels ops parts.1)
 
--- ---- the walk over the votes with their tables
-
-listed-covers : (file : List ℕ) (grant : Grant) (vote : Vote) → is_listed_for file grant (listed vote) ≡ covers file grant vote
-listed-covers file grant vote = λ i. nat_eq vote.server grant.server && nat_lt grant.number vote.number && is_since-least_since vote.held file grant.number i
-
-walk-listed : (file : List ℕ) (votes : List Vote) (grants : List Grant) → walk file (map listed votes) grants ≡ covered_in_order file votes grants
-walk-listed file [] [] = refl
-walk-listed file [] (grant ∷ grants) = refl
-walk-listed file (vote ∷ votes) [] = refl
-walk-listed file (vote ∷ votes) (grant ∷ grants) = λ i.
-    cond (nat_lt vote.server grant.server) (walk-listed file votes (grant ∷ grants) i) (listed-covers file grant vote i && walk-listed file votes grants i)
-
 -- where both ascend, the walk finds for each grant whether it is covered
-pub are_walked-listed : (votes : List Vote) (ops : List Op) → votes_rise votes ≡ true → are_in_order ops ≡ true → are_walked (map listed votes) ops ≡ are_grants_covered ops votes
-are_walked-listed votes [] up rise = refl
-are_walked-listed votes (op ∷ ops) up rise =
+pub are_walked-covered : (votes : List Vote) (ops : List Op) → votes_rise votes ≡ true → are_in_order ops ≡ true → are_walked votes ops ≡ are_grants_covered ops votes
+are_walked-covered votes [] up rise = refl
+are_walked-covered votes (op ∷ ops) up rise =
     let parts = and_parts (rises (servers_of op)) (are_in_order ops) rise in
-    let first = walk-listed op.file votes op.grants ∙ in-order op.file votes op.grants up parts.0 in
-    λ i. first i && are_walked-listed votes ops up parts.1 i
+    let first = in-order op.file votes op.grants up parts.0 in
+    λ i. first i && are_walked-covered votes ops up parts.1 i

@@ -1,14 +1,13 @@
 -- The write ops in order by file are those ops.
-use Rattle.std.proofs.Common.{◌≡◌, ℕ, Bool, true, false, cond, List, [], ◌∷◌, take, drop, fold, filter, refl, sym, ap, subst, ◌∙◌, ◌⊎◌, inl, inr}
+use Rattle.std.proofs.Common.{◌≡◌, ℕ, Bool, true, List, [], ◌∷◌, take, drop, fold, filter, refl, sym, subst, ◌⊎◌, inl, inr}
 use Rattle.std.specs.Cmp.Derive.{both_true}
 use Rattle.std.specs.List.{insert, list_all}
-use Rattle.std.proofs.lemmas.Bool.{true≢false}
 use Rattle.std.proofs.lemmas.List.{take-append-drop}
 use Rattle.tq_shape.specs.Journal.{Has}
 use Rattle.tq_evidence.specs.declared.op.Op.{Op}
 use Rattle.tq_evidence.specs.Evidence.{is_write, place_of, put_op, rises, servers_of, writes_by_file}
 use Rattle.tq_evidence.specs.InOrder.{are_in_order}
-use Rattle.tq_shape.proofs.Places.{Has-append, append-Has, all-Has, Has-filter, filter-Has}
+use Rattle.tq_shape.proofs.Places.{Has-append, append-Has, all-Has, Has-filter}
 
 Has-take_drop : {A : Type 0} (n : ℕ) (xs : List A) (x : A) → Has (take n xs) x ⊎ Has (drop n xs) x → Has xs x
 Has-take_drop {A} n xs x h = subst (λ (ys : List A). Has ys x) (take-append-drop n xs) (append-Has (take n xs) (drop n xs) x h)

@@ -1,5 +1,5 @@
 -- The locks that a vote lists, put in a table by file: for each file the least number that it is held since.
-use Rattle.std.specs.Prelude.{ℕ, Bool, false, nat_le, min, List, fold, Option, Some, None, refl}
+use Rattle.std.specs.Prelude.{◌≡◌, ℕ, Bool, false, nat_le, min, List, fold, Option, Some, None, refl}
 use Rattle.std.specs.Coded.{Coded, code_by, coded×, coded_list, coded_ℕ}
 use Rattle.std.specs.FinMap as fin
 use Rattle.tq_store.specs.Copies.{name_cmp}
@@ -37,3 +37,8 @@ least_since held = noted_all fin.empty held
 abbrev pub is_since : Option ℕ → ℕ → Bool
 is_since None number = false
 is_since (Some since) number = nat_le since number
+
+-- the table, where there is one, is that of the locks
+abbrev pub IsTableOf : Option LeastSince → List HeldLock → Type 0
+IsTableOf None held = Unit {0}
+IsTableOf (Some table) held = table ≡ least_since held

@@ -1,5 +1,6 @@
 //! The evidence of a commit, rule by rule. The work is near linear in the evidence: each rule goes through the grants
-//! and the votes once, and what it looks up (a server in an op, a file in a vote) it finds by halving or by a table.
+//! and the votes once, and what it looks up (a server in an op, a file in a vote) it finds by halving,
+//! by a table, or among a few.
 
 ghost use Rattle.std.specs.Prelude.{◌≡◌, IfOk};
 ghost use Rattle.tq_evidence.specs.Evidence as spec;
@@ -7,6 +8,7 @@ ghost use Rattle.tq_evidence.specs.Evidence as spec;
 mod coverage;
 mod exclusive;
 mod held;
+mod listed;
 mod members;
 mod servers;
 mod versions;

@@ -1,36 +1,15 @@
 //! Rule 3: the votes strictly ascend by server, are of the servers of the ops, and cover the grants.
 
-ghost use Rattle.std.specs.Prelude.{◌≡◌, IfOk, map, true};
+ghost use Rattle.std.specs.Prelude.{◌≡◌, IfOk, true};
 ghost use Rattle.tq_evidence.specs.Evidence as spec;
 ghost use Rattle.tq_evidence.specs.InOrder as order;
 
-use crate::evidence::held::HeldSince;
+use crate::evidence::listed::Listed;
 use crate::evidence::servers::is_server_of;
 use crate::{Grant, Op, Vote};
 use std::alloc::Global;
 use tq_shape::Memory;
 use tq_store::FileName;
-
-/// A vote with the locks that it lists in a table by file.
-#[derive(Drop)]
-pub(crate) struct Listed {
-    server: u64,
-    number: u64,
-    held: HeldSince,
-}
-
-impl Listed {
-    fn of(alloc: Global, vote: &Vote) -> Result<Listed, Memory>
-        ensures { IfOk result (λ list. list ≡ order.listed vote.now) }
-    {
-        let held = HeldSince::of(alloc, vote.held.as_slice())?;
-        Ok(Listed {
-            server: vote.server,
-            number: vote.number,
-            held,
-        })
-    }
-}
 
 pub(crate) fn are_covered(alloc: Global, ops: &[Op], votes: &[Vote]) -> Result<bool, Memory>
     requires { order.are_in_order ops.now ≡ true }
@@ -66,10 +45,10 @@ fn are_of_servers(ops: &[Op], votes: &[Vote]) -> bool
     }
 }
 
-fn listed_votes(alloc: Global, votes: &[Vote]) -> Result<Vec<Listed>, Memory>
-    ensures { IfOk result (λ lists. lists.items ≡ map order.listed votes.now) }
+fn listed_votes<'a>(alloc: Global, votes: &'a [Vote]) -> Result<Vec<Listed<'a>>, Memory>
+    ensures { IfOk result (λ lists. lists.items ≡ votes.now) }
 {
-    let mut lists = Vec::new(alloc);
+    let mut lists = Vec::with_capacity(alloc, votes.len())?;
     for vote in votes {
         let list = Listed::of(alloc, vote)?;
         lists.push(list)?;
@@ -77,7 +56,7 @@ fn listed_votes(alloc: Global, votes: &[Vote]) -> Result<Vec<Listed>, Memory>
     Ok(lists)
 }
 
-fn are_grants_covered(ops: &[Op], lists: &[Listed]) -> bool
+fn are_grants_covered(ops: &[Op], lists: &[Listed<'_>]) -> bool
     ensures { result ≡ order.are_walked lists.now ops.now }
 {
     match ops {
@@ -86,7 +65,7 @@ fn are_grants_covered(ops: &[Op], lists: &[Listed]) -> bool
     }
 }
 
-fn is_covered(op: &Op, lists: &[Listed]) -> bool
+fn is_covered(op: &Op, lists: &[Listed<'_>]) -> bool
     ensures { result ≡ order.is_walked lists.now op.now }
 {
     let grants = op.grants.as_slice();
@@ -94,7 +73,7 @@ fn is_covered(op: &Op, lists: &[Listed]) -> bool
 }
 
 /// Whether the votes cover the grants, in one walk through both, which ascend by server.
-fn are_covered_in_order(file: FileName, lists: &[Listed], grants: &[Grant]) -> bool
+fn are_covered_in_order(file: FileName, lists: &[Listed<'_>], grants: &[Grant]) -> bool
     ensures { result ≡ order.walk file lists.now grants.now }
 {
     match lists {
@@ -102,17 +81,11 @@ fn are_covered_in_order(file: FileName, lists: &[Listed], grants: &[Grant]) -> b
         [list, ..] => match grants {
             [] => true,
             [grant, ..] => {
-                if list.server < grant.server {
+                if list.server() < grant.server {
                     return are_covered_in_order(file, &lists[1..], grants);
                 }
-                covers(file, grant, list) && are_covered_in_order(file, &lists[1..], &grants[1..])
+                list.covers(file, grant) && are_covered_in_order(file, &lists[1..], &grants[1..])
             }
         },
     }
-}
-
-fn covers(file: FileName, grant: &Grant, list: &Listed) -> bool
-    ensures { result ≡ order.is_listed_for file grant.now list.now }
-{
-    list.server == grant.server && grant.number < list.number && list.held.holds(file, grant.number)
 }

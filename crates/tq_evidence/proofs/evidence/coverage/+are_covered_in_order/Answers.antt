@@ -2,9 +2,6 @@ use Rattle.std.proofs.Common.{arith}
 use Rattle.std.proofs.lemmas.Grind.{common_steps}
 use Rattle.tq_evidence.proofs.evidence.coverage.+are_covered_in_order.Goals as goal
 
-pub returns-then-list-grant : goal.returns-then-list-grant
-returns-then-list-grant t c = grind (arith, common_steps)
-
 pub returns-in-empty : goal.returns-in-empty
 returns-in-empty t c = grind (arith, common_steps)
 

@@ -1,7 +1,7 @@
 use Rattle.std.proofs.Common.{◌≡◌, ◌∙◌, ap, sym, true, ◌&&◌}
 use Rattle.tq_evidence.specs.Evidence.{are_grants_covered, are_of_servers, votes_rise}
 use Rattle.tq_evidence.specs.InOrder.{are_walked}
-use Rattle.tq_evidence.proofs.Merging.{are_walked-listed}
+use Rattle.tq_evidence.proofs.Merging.{are_walked-covered}
 use Rattle.tq_evidence.proofs.evidence.coverage.are_covered.Goals as goal
 
 pub returns : goal.returns
@@ -12,5 +12,5 @@ returns c =
     let of : are_of_servers ops votes ≡ true = sym c.are_of_servers.ensures ∙ c.if-not-are_of_servers.false in
     c.are_grants_covered.ensures
     ∙ ap (λ lists. are_walked lists ops) (c.as_slice.ensures.value ∙ c.in_ok-lists.ensures)
-    ∙ are_walked-listed votes ops rise c.requires
+    ∙ are_walked-covered votes ops rise c.requires
     ∙ (λ i. sym rise i && sym of i && are_grants_covered ops votes)
