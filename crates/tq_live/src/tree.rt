@@ -1,6 +1,6 @@
 ghost use Rattle.std.specs.Prelude.{◌≡◌, ℕ, ◌+◌, ◌-◌, ◌*◌, ◌^◌, ◌<◌, ◌≤◌, ◌↔◌, IsOk, IfOk, IfSome, IsSome, OnOk, OnErr, slice_set, true, replicate, Some, List, All};
 ghost use Rattle.tq_shape.specs.Depth.{depth_of};
-ghost use Rattle.tq_coterie.specs.Coterie.{servers_of, numbers_of};
+ghost use Rattle.tq_coterie.specs.Coterie.{IsMemberList, is_same, servers_of, numbers_of};
 
 use crate::bits::servers_at;
 use crate::choice::Choice;
@@ -37,7 +37,7 @@ impl Model for LiveTree {
 impl LiveTree {
     ghost use Rattle.std.specs.Prelude.{◌≡◌, ℕ, ◌+◌, ◌-◌, ◌*◌, ◌^◌, ◌<◌, ◌≤◌, ◌↔◌, IsOk, IfOk, IfSome, IsSome, OnOk, OnErr, slice_set, true, replicate, Some, List, All};
     ghost use Rattle.tq_shape.specs.Depth.{depth_of};
-    ghost use Rattle.tq_coterie.specs.Coterie.{servers_of, numbers_of};
+    ghost use Rattle.tq_coterie.specs.Coterie.{IsMemberList, is_same, servers_of, numbers_of};
     ghost use Rattle.tq_live.specs.Live.{best, best_cost, blocker, cost_of, is_up, HasQuorumOrBlocker, HasQuorumOrBlockerUnder};
     ghost use Rattle.tq_live.specs.LiveOf.{IsAt, changed_live};
     ghost use Rattle.tq_live.specs.Kept.{cost_after};
@@ -204,12 +204,25 @@ impl LiveTree {
         ensures first { IfOk result (λ choice. IsFirstChoice self.now choice) }
         ensures either { HasQuorumOrBlocker self.now }
     {
+        self.choose_or_share(alloc, None)
+    }
+
+    /// As `choose`. Where the quorum is the one that is kept, it shares that one's list.
+    pub(crate) fn choose_or_share(
+        &self,
+        alloc: Global,
+        kept: Option<&Quorum>,
+    ) -> Result<Choice, Memory>
+        ensures choice { IfOk result (λ choice. IsChoice self.now choice) }
+        ensures first { IfOk result (λ choice. IsFirstChoice self.now choice) }
+        ensures either { HasQuorumOrBlocker self.now }
+    {
         let levels = self.levels;
         let root = levels.root();
         match self.best_cost(root) {
             Some(cost) => {
                 let servers = self.gathered(alloc, Sought::Quorum, root)?;
-                let quorum = Quorum::new(alloc, levels, servers)?;
+                let quorum = quorum_of(alloc, levels, servers, kept)?;
                 Ok(Choice::Quorum { quorum, cost })
             }
             None => {
@@ -219,4 +232,34 @@ impl LiveTree {
             }
         }
     }
+}
+
+/// The quorum of these servers, which are known to be one. It shares the list of the one that is kept, where that is of
+/// the same servers.
+fn quorum_of(
+    alloc: Global,
+    levels: Levels,
+    servers: ServerIds,
+    kept: Option<&Quorum>,
+) -> Result<Quorum, Memory>
+    requires { IsMemberList levels servers.items }
+    ensures { IfOk result (λ quorum. quorum ≡ record { servers = numbers_of servers.items; levels = levels }) }
+{
+    if let Some(quorum) = kept {
+        if is_of(quorum, levels, servers.as_slice()) {
+            return Ok(quorum.clone()?);
+        }
+    }
+    Quorum::new(alloc, levels, servers)
+}
+
+/// Whether the quorum is the one of these servers in a tree of those levels.
+fn is_of(quorum: &Quorum, levels: Levels, servers: &[ServerId]) -> bool
+    requires { IsMemberList levels servers.now }
+    ensures { result ≡ is_same quorum.now (record { servers = numbers_of servers.now; levels = levels }) }
+{
+    if quorum.levels() != levels {
+        return false;
+    }
+    quorum.servers() == servers
 }

@@ -69,6 +69,8 @@ impl ExactClone for ViewReply {
 pub struct View {
     levels: Levels,
     tree: LiveTree,
+    /// The quorum that was chosen last: the next choice of the same one shares its list. Contracts do not see it.
+    kept: Option<Quorum>,
 }
 
 impl Model for View {
@@ -95,7 +97,11 @@ impl View {
         ensures replays { ReplaysJournals levels }
     {
         let tree = LiveTree::new(alloc, levels)?;
-        Ok(View { levels, tree })
+        Ok(View {
+            levels,
+            tree,
+            kept: None,
+        })
     }
 
     /// The costs and marks as they stand.
@@ -139,13 +145,7 @@ impl View {
         match *ask {
             ViewAsk::SetCost { server, cost } => Ok(self.plan_cost(server, cost)),
             ViewAsk::Mark { server, up } => Ok(self.plan_mark(server, up)),
-            ViewAsk::Choose => {
-                let reply = self.choose(alloc)?;
-                Ok(Plan {
-                    reply,
-                    change: ViewChange::Nothing,
-                })
-            }
+            ViewAsk::Choose => self.plan_choice(alloc),
         }
     }
 
@@ -162,6 +162,7 @@ impl View {
             ViewChange::Mark { server, up } => {
                 self.tree.set_mark(server, up, &mut Turns::new());
             }
+            ViewChange::Keep { quorum } => self.kept = Some(quorum),
         }
     }
 
@@ -171,7 +172,11 @@ impl View {
     {
         let levels = self.levels;
         let tree = self.tree.copy(alloc)?;
-        Ok(View { levels, tree })
+        Ok(View {
+            levels,
+            tree,
+            kept: None,
+        })
     }
 
     /// The plan of a new cost.
@@ -203,13 +208,20 @@ impl View {
         }
     }
 
-    /// The reply to Choose.
-    fn choose(&self, alloc: Global) -> Result<ViewReply, Memory>
-        ensures { IfOk result (λ reply. reply ≡ view_reply self.now ViewAsk.Choose) }
+    /// The plan of a choice: a quorum is kept.
+    fn plan_choice(&self, alloc: Global) -> Result<Plan<ViewReply, ViewChange>, Memory>
+        ensures reply { IfOk result (λ plan. plan.reply ≡ view_reply self.now ViewAsk.Choose) }
+        ensures change { IfOk result (λ plan. plan.change ≡ view_change self.now ViewAsk.Choose) }
     {
-        match self.tree.choose(alloc)? {
-            Choice::Quorum { quorum, cost } => Ok(ViewReply::Chosen { quorum, cost }),
-            Choice::Blocked(blocker) => Ok(ViewReply::Refused(ViewRefusal::Blocked(blocker))),
+        match self.tree.choose_or_share(alloc, self.kept.as_ref())? {
+            Choice::Quorum { quorum, cost } => {
+                let kept = quorum.clone()?;
+                Ok(Plan {
+                    reply: ViewReply::Chosen { quorum, cost },
+                    change: ViewChange::Keep { quorum: kept },
+                })
+            }
+            Choice::Blocked(blocker) => Ok(refused(ViewRefusal::Blocked(blocker))),
         }
     }
 }
