@@ -7,6 +7,9 @@ returns-clause-receipt g c = search rules
 pub returns-clause-journal : goal.returns-clause-journal
 returns-clause-journal g c = search rules
 
+pub returns-clause-pass : goal.returns-clause-pass
+returns-clause-pass g c = search rules
+
 pub returns-then-entries-self-clause-full : goal.returns-then-entries-self-clause-full
 returns-then-entries-self-clause-full g c = search rules
 
