@@ -1,5 +1,5 @@
 ghost use Rattle.std.specs.Prelude.{◌≡◌, IfOk, false, codes};
-ghost use Rattle.clap.specs.Words.{app_of, found_of, rows_of, rule_of};
+ghost use Rattle.clap.specs.Words.{app_of, found_of, new_app, rows_of, rule_of, with_rule, with_subcommand};
 ghost use Rattle.clap.specs.declared.builder.command.Command.TheViews.{out-Command};
 ghost use Rattle.tq_words.specs.Command.{HasNumber, IsGiven, IsGivenOrZero, MayHaveNumber, audit_app, levels_rule, rounds_rule, shell_app, threads_app, top_app, tq_app, workers_rule};
 
@@ -140,13 +140,25 @@ fn rounds_of(matches: &ArgMatches) -> u32
 fn tq_command<'a>(alloc: Global) -> Result<Command<'a>, AllocError>
     ensures { IfOk result (λ command. app_of command ≡ tq_app) }
 {
-    let shell = shell_command(alloc)?;
+    let command = command_with_threads(alloc)?;
+    command.subcommand(audit_command(alloc))
+}
+
+/// The program with the subcommands `shell` and `threads`.
+fn command_with_threads<'a>(alloc: Global) -> Result<Command<'a>, AllocError>
+    ensures { IfOk result (λ command. app_of command ≡ with_subcommand (with_subcommand top_app shell_app.top) threads_app.top) }
+{
+    let command = command_with_shell(alloc)?;
     let threads = threads_command(alloc)?;
-    let audit = audit_command(alloc);
-    top_command(alloc)
-        .subcommand(shell)?
-        .subcommand(threads)?
-        .subcommand(audit)
+    command.subcommand(threads)
+}
+
+/// The program with the subcommand `shell` alone.
+fn command_with_shell<'a>(alloc: Global) -> Result<Command<'a>, AllocError>
+    ensures { IfOk result (λ command. app_of command ≡ with_subcommand top_app shell_app.top) }
+{
+    let shell = shell_command(alloc)?;
+    top_command(alloc).subcommand(shell)
 }
 
 /// The program without its subcommands.
@@ -177,12 +189,28 @@ fn threads_command<'a>(alloc: Global) -> Result<Command<'a>, AllocError>
     ensures app { IfOk result (λ command. app_of command ≡ threads_app) }
     ensures local { IfOk result (λ command. (out-Command command).has_globals ≡ false) }
 {
+    let command = threads_with_workers(alloc)?;
+    command.arg(rounds_argument(alloc))
+}
+
+/// `threads --levels N [--workers W]`.
+fn threads_with_workers<'a>(alloc: Global) -> Result<Command<'a>, AllocError>
+    ensures app { IfOk result (λ command. app_of command ≡ with_rule (with_rule (new_app (codes "threads")) levels_rule) workers_rule) }
+    ensures local { IfOk result (λ command. (out-Command command).has_globals ≡ false) }
+{
+    let command = threads_with_levels(alloc)?;
+    command.arg(workers_argument(alloc))
+}
+
+/// `threads --levels N`.
+fn threads_with_levels<'a>(alloc: Global) -> Result<Command<'a>, AllocError>
+    ensures app { IfOk result (λ command. app_of command ≡ with_rule (new_app (codes "threads")) levels_rule) }
+    ensures local { IfOk result (λ command. (out-Command command).has_globals ≡ false) }
+{
     Command::new(alloc, "threads")
         .about("Reads scripts of clients from standard input and runs them in threads")
         .after_help(SCRIPTS)
-        .arg(levels_argument(alloc))?
-        .arg(workers_argument(alloc))?
-        .arg(rounds_argument(alloc))
+        .arg(levels_argument(alloc))
 }
 
 /// `audit`.
