@@ -1,4 +1,5 @@
-//! Tests of the view, of a server and of the desk.
+//! Tests of public calls that the program never makes, and of what it shows nowhere: servers of a tree and sets of them,
+//! the coterie, names as text, locks, stable records, the view's tree, parts with their journals, copies of parts.
 #![tactic(auto)]
 
 #[cfg(test)]
@@ -7,3 +8,5 @@ mod desk;
 mod live;
 #[cfg(test)]
 mod node;
+#[cfg(test)]
+mod values;

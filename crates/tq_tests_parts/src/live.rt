@@ -1,235 +1,31 @@
 use std::alloc::Global;
 use tq_check::{Wrong, check};
-use tq_coterie::{Blocker, Quorum};
-use tq_live::{Choice, LiveTree, Turns, View, ViewAsk, ViewRefusal, ViewReply};
-use tq_shape::{Levels, Memory, ServerId};
+use tq_live::{Choice, LiveTree, Turns, View, ViewAsk, ViewReply};
+use tq_part::{Fault, Journaled, foresee};
+use tq_shape::{Entry, Levels, Memory, ServerId};
 
-/// What a choice comes to: the servers as bits, and the cost, or `None` for a blocker.
-fn summary(reply: &ViewReply) -> (u64, Option<u64>) {
-    match reply {
-        ViewReply::Chosen { quorum, cost } => (bits_of(quorum.servers()), Some(*cost)),
-        ViewReply::Refused(ViewRefusal::Blocked(blocker)) => (bits_of(blocker.servers()), None),
-        _ => (0, None),
-    }
-}
-
-/// What a choice comes to: the servers as bits, and the cost, or `None` for a blocker.
-fn offer_of(choice: &Choice) -> (u64, Option<u64>) {
-    match choice {
-        Choice::Quorum { quorum, cost } => (bits_of(quorum.servers()), Some(*cost)),
-        Choice::Blocked(blocker) => (bits_of(blocker.servers()), None),
-    }
-}
-
-fn bits_of(servers: &[ServerId]) -> u64 {
-    servers
-        .iter()
-        .fold(0, |bits, server| bits | bit(server.number()))
-}
-
-/// Servers 1 to 63 have the bits 1 to 63.
 fn bit(number: u64) -> u64 {
     1u64.wrapping_shl((number % 64) as u32)
 }
 
-fn bits(numbers: &[u64]) -> u64 {
-    numbers.iter().fold(0, |bits, number| bits | bit(*number))
-}
-
-/// Whether it is an offer of these servers, at that cost.
-fn is_offer(offer: (u64, Option<u64>), servers: u64, cost: Option<u64>) -> bool {
-    offer.0 == servers && offer.1 == cost
-}
-
-/// Asks. Answers whether the reply is the one wanted.
-fn replies(alloc: Global, view: &mut View, ask: &ViewAsk, wanted: &ViewReply) -> bool {
-    match view.answer(alloc, ask) {
-        Ok(reply) => reply == *wanted,
-        Err(_) => false,
+/// The servers as the bits of a number: servers 1 to 63 have the bits 1 to 63.
+fn bits_of(servers: &[ServerId]) -> u64 {
+    let mut bits = 0u64;
+    for server in servers {
+        bits |= bit(server.number());
     }
+    bits
 }
 
-fn refuses(alloc: Global, view: &mut View, ask: &ViewAsk, wanted: ViewRefusal) -> bool {
-    replies(alloc, view, ask, &ViewReply::Refused(wanted))
-}
-
-fn is_cloned(reply: &ViewReply) -> bool {
-    match reply.clone() {
-        Ok(copy) => copy == *reply,
-        Err(_) => false,
-    }
-}
-
-fn chooses(alloc: Global, view: &View, servers: u64, cost: u64) -> bool {
-    match view.foresee(alloc, &ViewAsk::Choose) {
-        Ok(chosen) => { is_offer(summary(&chosen), servers, Some(cost)) && is_cloned(&chosen) }
-        Err(_) => false,
-    }
-}
-
-fn refuses_costs(alloc: Global, view: &mut View) -> bool {
-    let free = ViewAsk::SetCost { server: 1, cost: 0 };
-    let absent = ViewAsk::SetCost { server: 2, cost: 0 };
-    refuses(alloc, view, &free, ViewRefusal::BadCost)
-        && refuses(alloc, view, &absent, ViewRefusal::NoSuchServer)
-        && chooses(alloc, view, 2, 1)
-}
-
-#[test]
-fn refusals_change_nothing(rt: HostRuntime) -> Result<(), Wrong> {
-    let mut view = View::new(rt.alloc(), Levels::new(1).unwrap())?;
-    check(refuses_costs(rt.alloc(), &mut view), "another answer")
-}
-
-/// Makes server 2 cost 5, and marks server 5 down.
-fn is_made_uneven(tree: &mut LiveTree) -> bool {
-    sets_cost(tree, 2, 5, 2) && sets_mark(tree, 5, false, 3)
-}
-
-fn keeps(tree: &LiveTree, number: u64, cost: u64, up: bool) -> bool {
-    match tree.levels().server(number) {
-        Some(server) => tree.cost(server) == cost && tree.is_up(server) == up,
-        None => false,
-    }
-}
-
-fn keeps_each(tree: &mut LiveTree) -> bool {
-    is_made_uneven(tree)
-        && keeps(tree, 2, 5, true)
-        && keeps(tree, 5, 1, false)
-        && keeps(tree, 4, 1, true)
-}
-
-#[test]
-fn each_server_has_its_cost_and_mark(rt: HostRuntime) -> Result<(), Wrong> {
-    let mut tree = LiveTree::new(rt.alloc(), Levels::new(3).unwrap())?;
-    check(keeps_each(&mut tree), "not kept")
-}
-
-/// Whether the subtree of the server offers these servers at that cost.
-fn is_best(alloc: Global, tree: &LiveTree, number: u64, servers: &[u64], cost: u64) -> bool {
-    let Some(server) = tree.levels().server(number) else {
-        return false;
-    };
-    match tree.best(alloc, server) {
-        Ok(Some(best)) => bits_of(best.servers.as_slice()) == bits(servers) && best.cost == cost,
-        _ => false,
-    }
-}
-
-/// Whether the subtree of the server has no quorum that is up.
-fn has_no_best(alloc: Global, tree: &LiveTree, number: u64) -> bool {
-    let Some(server) = tree.levels().server(number) else {
-        return false;
-    };
-    matches!(tree.best(alloc, server), Ok(None))
-}
-
-fn has_least_costs(alloc: Global, tree: &mut LiveTree) -> bool {
-    is_made_uneven(tree) && is_best(alloc, tree, 2, &[2, 4], 6) && has_no_best(alloc, tree, 5)
-}
-
-#[test]
-fn each_subtree_has_its_least_cost(rt: HostRuntime) -> Result<(), Wrong> {
-    let mut tree = LiveTree::new(rt.alloc(), Levels::new(3).unwrap())?;
-    check(has_least_costs(rt.alloc(), &mut tree), "another offer")
-}
-
-fn foresees(alloc: Global, view: &mut View, ask: &ViewAsk) -> bool {
-    match view.foresee(alloc, ask) {
-        Ok(foreseen) => replies(alloc, view, ask, &foreseen),
-        Err(_) => false,
-    }
-}
-
-fn copies_itself(alloc: Global, view: &View) -> bool {
-    match view.copy(alloc) {
-        Ok(copy) => chooses(alloc, &copy, bits(&[2, 3]), 2),
-        Err(_) => false,
-    }
-}
-
-fn foresees_a_mark(alloc: Global, view: &mut View) -> bool {
-    let down = ViewAsk::Mark {
-        server: 1,
-        up: false,
-    };
-    foresees(alloc, view, &down) && copies_itself(alloc, view)
-}
-
-#[test]
-fn a_reply_is_foreseen(rt: HostRuntime) -> Result<(), Wrong> {
-    let mut view = View::new(rt.alloc(), Levels::new(2).unwrap())?;
-    check(foresees_a_mark(rt.alloc(), &mut view), "another answer")
-}
-
-/// Whether it is a tree of two levels with server 3 at this cost.
-fn has_third_at(tree: &LiveTree, cost: u64) -> bool {
-    match tree.levels().server(3) {
-        Some(third) => tree.levels().count() == 2 && tree.cost(third) == cost,
-        None => false,
-    }
-}
-
-fn shows_a_cost(alloc: Global, view: &mut View) -> bool {
-    view.answer(alloc, &ViewAsk::SetCost { server: 3, cost: 9 })
-        .is_ok()
-        && has_third_at(view.tree(), 9)
-}
-
-#[test]
-fn a_view_shows_its_tree(rt: HostRuntime) -> Result<(), Wrong> {
-    let mut view = View::new(rt.alloc(), Levels::new(2).unwrap())?;
-    check(shows_a_cost(rt.alloc(), &mut view), "another answer")
-}
-
-fn is_first_quorum(alloc: Global, levels: Levels, choice: &Choice) -> bool {
-    match Quorum::of(alloc, levels, &[1]) {
-        Ok(Some(quorum)) => *choice == Choice::Quorum { quorum, cost: 1 },
-        _ => false,
-    }
-}
-
-fn is_first_blocker(alloc: Global, levels: Levels, choice: &Choice) -> bool {
-    match Blocker::of(alloc, levels, &[1]) {
-        Ok(Some(blocker)) => *choice == Choice::Blocked(blocker),
-        _ => false,
-    }
-}
-
-fn chooses_the_root(alloc: Global, tree: &LiveTree) -> bool {
+/// Whether the tree chooses the servers of these bits at that cost, where a cost of 0 stands for a blocker.
+fn takes(alloc: Global, tree: &LiveTree, servers: u64, wanted: u64) -> bool {
     match tree.choose(alloc) {
-        Ok(choice) => is_first_quorum(alloc, tree.levels(), &choice),
+        Ok(Choice::Quorum { quorum, cost }) => {
+            bits_of(quorum.servers()) == servers && cost == wanted
+        }
+        Ok(Choice::Blocked(blocker)) => bits_of(blocker.servers()) == servers && wanted == 0,
         Err(_) => false,
     }
-}
-
-fn is_blocked_by_the_root(alloc: Global, tree: &LiveTree) -> bool {
-    match tree.choose(alloc) {
-        Ok(choice) => is_first_blocker(alloc, tree.levels(), &choice),
-        Err(_) => false,
-    }
-}
-
-fn chooses_and_is_blocked(alloc: Global, tree: &mut LiveTree) -> bool {
-    let is_chosen = chooses_the_root(alloc, tree);
-    let root = tree.levels().root();
-    tree.set_mark(root, false, &mut Turns::new());
-    is_chosen && is_blocked_by_the_root(alloc, tree)
-}
-
-#[test]
-fn a_tree_offers_a_quorum_or_a_blocker(rt: HostRuntime) -> Result<(), Wrong> {
-    let mut tree = LiveTree::new(rt.alloc(), Levels::new(1).unwrap())?;
-    check(
-        chooses_and_is_blocked(rt.alloc(), &mut tree),
-        "another answer",
-    )
-}
-
-/// How many caches a change at the server writes: its own, and one for each server above it.
-fn caches_of(number: u64) -> u64 {
-    u64::from(64u32.wrapping_sub(number.leading_zeros()))
 }
 
 /// Sets a cost. Answers whether it wrote so many caches, and none where it is refused.
@@ -259,87 +55,179 @@ fn has_best_cost(tree: &LiveTree, number: u64, cost: u64) -> bool {
     }
 }
 
-fn takes(alloc: Global, tree: &LiveTree, servers: &[u64], cost: u64) -> bool {
-    match tree.choose(alloc) {
-        Ok(choice) => is_offer(offer_of(&choice), bits(servers), Some(cost)),
-        Err(_) => false,
-    }
-}
-
-/// Makes server 4 cost 9.
-fn is_made_costly(tree: &mut LiveTree) -> bool {
-    sets_cost(tree, 4, 9, 3)
-}
-
+/// A cost is told to the servers above; one that is refused writes no cache.
 fn tells_a_cost(alloc: Global, tree: &mut LiveTree) -> bool {
-    is_made_costly(tree)
-        && has_best_cost(tree, 4, 9)
-        && has_best_cost(tree, 2, 2)
-        && takes(alloc, tree, &[1, 2, 5], 3)
-}
-
-#[test]
-fn a_cost_is_told_to_the_servers_above(rt: HostRuntime) -> Result<(), Wrong> {
-    let mut tree = LiveTree::new(rt.alloc(), Levels::new(3).unwrap())?;
-    check(tells_a_cost(rt.alloc(), &mut tree), "another offer")
-}
-
-fn tells_a_mark(alloc: Global, tree: &mut LiveTree) -> bool {
-    is_made_costly(tree)
-        && sets_mark(tree, 2, false, 2)
-        && has_best_cost(tree, 2, 10)
-        && takes(alloc, tree, &[1, 3, 6], 3)
-}
-
-#[test]
-fn a_mark_is_told_to_the_servers_above(rt: HostRuntime) -> Result<(), Wrong> {
-    let mut tree = LiveTree::new(rt.alloc(), Levels::new(3).unwrap())?;
-    check(tells_a_mark(rt.alloc(), &mut tree), "another offer")
-}
-
-fn refuses_two_costs(alloc: Global, tree: &mut LiveTree) -> bool {
-    is_made_costly(tree)
+    sets_cost(tree, 4, 9, 3)
         && sets_cost(tree, 4, 0, 0)
         && sets_cost(tree, 4, 1_000_001, 0)
-        && takes(alloc, tree, &[1, 2, 5], 3)
+        && has_best_cost(tree, 4, 9)
+        && has_best_cost(tree, 2, 2)
+        && takes(alloc, tree, bit(1) | bit(2) | bit(5), 3)
+}
+
+/// A mark is told to the servers above.
+fn tells_a_mark(alloc: Global, tree: &mut LiveTree) -> bool {
+    sets_mark(tree, 2, false, 2)
+        && has_best_cost(tree, 2, 10)
+        && takes(alloc, tree, bit(1) | bit(3) | bit(6), 3)
+}
+
+fn is_blocked(alloc: Global, tree: &mut LiveTree) -> bool {
+    sets_mark(tree, 1, false, 1)
+        && sets_mark(tree, 4, false, 3)
+        && takes(alloc, tree, bit(1) | bit(2) | bit(4), 0)
 }
 
 #[test]
-fn a_refused_cost_writes_no_cache(rt: HostRuntime) -> Result<(), Wrong> {
+fn changes_are_told_to_the_servers_above(rt: HostRuntime) -> Result<(), Wrong> {
     let mut tree = LiveTree::new(rt.alloc(), Levels::new(3).unwrap())?;
-    check(refuses_two_costs(rt.alloc(), &mut tree), "another offer")
+    let holds = tells_a_cost(rt.alloc(), &mut tree)
+        && tells_a_mark(rt.alloc(), &mut tree)
+        && is_blocked(rt.alloc(), &mut tree);
+    check(holds, "another offer")
 }
 
-/// Marks a server down, twice. Answers whether each time it wrote a cache for each depth.
-fn goes_down_twice(tree: &mut LiveTree, server: u64) -> bool {
-    sets_mark(tree, server, false, caches_of(server))
-        && sets_mark(tree, server, false, caches_of(server))
+/// How many caches a change at the server writes: its own, and one for each server above it.
+fn caches_of(number: u64) -> u64 {
+    u64::from(64u32.wrapping_sub(number.leading_zeros()))
 }
 
-fn each_goes_down(tree: &mut LiveTree) -> bool {
-    for server in [1, 2, 4, 8, 16, 32, 63] {
-        if !goes_down_twice(tree, server) {
+/// Gives each server the greatest cost. Answers whether each wrote a cache for each depth.
+fn costs_the_most(tree: &mut LiveTree) -> bool {
+    for number in 1..64u64 {
+        if !sets_cost(tree, number, 1_000_000, caches_of(number)) {
             return false;
         }
     }
     true
 }
 
-fn writes_a_cache_for_each_depth(tree: &mut LiveTree) -> bool {
-    each_goes_down(tree) && sets_mark(tree, 63, true, 6) && sets_cost(tree, 1, 5, 1)
+/// Marks the servers above the leaves down. Answers whether each wrote a cache for each depth.
+fn all_but_leaves_go_down(tree: &mut LiveTree) -> bool {
+    for number in 1..32u64 {
+        if !sets_mark(tree, number, false, caches_of(number)) {
+            return false;
+        }
+    }
+    true
 }
 
+fn changes_each(alloc: Global, tree: &mut LiveTree) -> bool {
+    Turns::new().room(tree.levels())
+        && costs_the_most(tree)
+        && takes(alloc, tree, 0x0000_0001_0001_0116, 6_000_000)
+        && all_but_leaves_go_down(tree)
+        && takes(alloc, tree, 0xffff_ffff_0000_0000, 32_000_000)
+        && sets_mark(tree, 63, false, 6)
+        && sets_mark(tree, 63, true, 6)
+        && sets_cost(tree, 1, 5, 1)
+}
+
+/// In the tree of six levels a change writes a cache for each depth, and the greatest costs are added.
 #[test]
 fn each_depth_writes_one_cache_more(rt: HostRuntime) -> Result<(), Wrong> {
     let mut tree = LiveTree::new(rt.alloc(), Levels::new(6).unwrap())?;
-    check(writes_a_cache_for_each_depth(&mut tree), "another count")
+    check(changes_each(rt.alloc(), &mut tree), "another offer")
+}
+
+// ---- a view with its journal
+
+/// What the choice costs, 0 where the reply is no choice.
+fn cost_of(reply: &ViewReply) -> u64 {
+    match reply {
+        ViewReply::Chosen { quorum: _, cost } => *cost,
+        _ => 0,
+    }
+}
+
+fn dear() -> ViewAsk {
+    ViewAsk::SetCost { server: 1, cost: 5 }
+}
+
+/// Whether a cost is set under the number 1, and a choice with it is told under the number 2.
+fn fills(alloc: Global, view: &mut Journaled<View>) -> bool {
+    match (view.ask(alloc, dear()), view.ask(alloc, ViewAsk::Choose)) {
+        (Ok(first), Ok(second)) => {
+            first.number == 1
+                && matches!(first.reply, ViewReply::CostSet)
+                && second.number == 2
+                && cost_of(&second.reply) == 5
+        }
+        _ => false,
+    }
+}
+
+fn is_full(alloc: Global, view: &mut Journaled<View>) -> bool {
+    match view.ask(alloc, ViewAsk::Choose) {
+        Err(fault) => matches!(fault, Fault::JournalFull),
+        Ok(_) => false,
+    }
+}
+
+/// Whether the entries are a cost that was set and a choice with it.
+fn are_the_two(entries: &[Entry<ViewAsk, ViewReply>]) -> bool {
+    match entries {
+        [first, second] => {
+            first.ask == dear()
+                && matches!(first.reply, ViewReply::CostSet)
+                && second.ask == ViewAsk::Choose
+                && cost_of(&second.reply) == 5
+        }
+        _ => false,
+    }
+}
+
+/// Whether the journal of a view is entered until it is full, and handed out.
+fn hands_out(alloc: Global) -> bool {
+    let Ok(view) = View::new(alloc, Levels::new(1).unwrap()) else {
+        return false;
+    };
+    let mut view = Journaled::new(alloc, view, 2);
+    fills(alloc, &mut view)
+        && is_full(alloc, &mut view)
+        && are_the_two(view.entries())
+        && are_the_two(view.into_entries().as_slice())
 }
 
 #[test]
-fn turns_have_room_for_a_tree(rt: HostRuntime) -> Result<(), Wrong> {
-    let turns = Turns::new();
-    check(
-        turns.room(Levels::new(6).unwrap()) && turns.count() == 0,
-        "another answer",
-    )
+fn asks_are_entered_until_the_journal_is_full(rt: HostRuntime) -> Result<(), Wrong> {
+    check(hands_out(rt.alloc()), "another answer")
+}
+
+fn is_set(reply: Result<ViewReply, Memory>) -> bool {
+    matches!(reply, Ok(ViewReply::CostSet))
+}
+
+fn costs(view: &View) -> u64 {
+    view.tree().cost(view.tree().levels().root())
+}
+
+/// Whether a cost is foreseen to be set, as of any part and as of a view, and is not set.
+fn foresees(alloc: Global, view: &View) -> bool {
+    is_set(foresee(alloc, view, 1, &dear()))
+        && is_set(view.foresee(alloc, &dear()))
+        && costs(view) == 1
+}
+
+/// Whether a cost that is set in a copy is not set in the view.
+fn leaves_its_copy(alloc: Global, view: &View) -> bool {
+    match view.copy(alloc) {
+        Ok(copy) => {
+            let mut copy = copy;
+            is_set(copy.answer(alloc, &dear())) && costs(&copy) == 5 && costs(view) == 1
+        }
+        Err(_) => false,
+    }
+}
+
+fn changes_nothing(alloc: Global) -> bool {
+    match View::new(alloc, Levels::new(1).unwrap()) {
+        Ok(view) => foresees(alloc, &view) && leaves_its_copy(alloc, &view),
+        Err(_) => false,
+    }
+}
+
+#[test]
+fn what_is_foreseen_or_asked_of_a_copy_changes_nothing(rt: HostRuntime) -> Result<(), Wrong> {
+    check(changes_nothing(rt.alloc()), "another answer")
 }

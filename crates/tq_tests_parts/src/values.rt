@@ -1,0 +1,342 @@
+use std::alloc::Global;
+use tq_check::{Wrong, check};
+use tq_coterie::{Quorum, holds_quorum, is_quorum, meet};
+use tq_intents::{Intents, Record};
+use tq_locks::{LockOutcome, LockTable, Mode};
+use tq_shape::{Levels, ServerId, ServerSet};
+use tq_store::{Content, FileName, Write};
+
+// ---- servers of a tree of three levels
+
+fn number_of(server: Option<ServerId>) -> u64 {
+    match server {
+        Some(server) => server.number(),
+        None => 0,
+    }
+}
+
+/// The parent of a server, 0 where there is none.
+fn parent_of(number: u64) -> u64 {
+    match Levels::new(3).unwrap().server(number) {
+        Some(server) => number_of(server.parent()),
+        None => 0,
+    }
+}
+
+/// The side of one server towards another, 0 where there is none.
+fn side(top: u64, below: u64) -> u64 {
+    let levels = Levels::new(3).unwrap();
+    match (levels.server(top), levels.server(below)) {
+        (Some(top), Some(below)) => number_of(top.side_towards(below)),
+        _ => 0,
+    }
+}
+
+#[test]
+fn a_server_has_a_parent() -> Result<(), Wrong> {
+    let holds = parent_of(1) == 0 && parent_of(3) == 1 && parent_of(6) == 3;
+    check(holds, "another parent")
+}
+
+#[test]
+fn the_side_towards_a_server_is_it_or_stands_above_it() -> Result<(), Wrong> {
+    let above = side(1, 7) == 3 && side(1, 5) == 2 && side(3, 7) == 7;
+    let none = side(2, 7) == 0 && side(3, 3) == 0 && side(7, 3) == 0;
+    check(above && none, "another side")
+}
+
+// ---- a set of servers
+
+/// Takes server 1 out of a set of servers 1 and 3. Answers whether it is gone there, and not in a copy made before.
+fn takes_out(set: &mut ServerSet) -> bool {
+    let root = set.levels().root();
+    match set.clone() {
+        Ok(copy) => {
+            set.remove(root)
+                && !set.remove(root)
+                && !set.contains(root)
+                && number_of(set.first()) == 3
+                && number_of(copy.first()) == 1
+        }
+        Err(_) => false,
+    }
+}
+
+/// Puts server 1 into a set of server 3. Answers whether it was new there the first time alone.
+fn puts_in(set: &mut ServerSet) -> bool {
+    let root = set.levels().root();
+    number_of(set.first()) == 3 && set.insert(root) && !set.insert(root) && takes_out(set)
+}
+
+fn is_gone(alloc: Global) -> bool {
+    let levels = Levels::new(2).unwrap();
+    match ServerSet::new(alloc, levels) {
+        Ok(set) => {
+            let mut set = set;
+            set.insert(ServerId::new(levels, 3));
+            puts_in(&mut set)
+        }
+        Err(_) => false,
+    }
+}
+
+#[test]
+fn what_is_taken_out_of_a_set_is_gone(rt: HostRuntime) -> Result<(), Wrong> {
+    check(is_gone(rt.alloc()), "another set")
+}
+
+// ---- the coterie
+
+/// The server, where the number of a set has its bit, else 0.
+fn member(set: u64, server: u32) -> u64 {
+    if set.wrapping_shr(server.wrapping_sub(1)) % 2 == 1 {
+        u64::from(server)
+    } else {
+        0
+    }
+}
+
+fn is_held(levels: Levels, set: u64) -> bool {
+    let numbers = [
+        member(set, 1),
+        member(set, 2),
+        member(set, 3),
+        member(set, 4),
+        member(set, 5),
+        member(set, 6),
+        member(set, 7),
+    ];
+    holds_quorum(levels, &numbers)
+}
+
+/// Which of 64 sets of servers hold a quorum, a bit for each. A set has a bit for each server from 1 to 7, and these sets are
+/// those with the same answer for server 7.
+fn held(levels: Levels, has_seventh: bool) -> u64 {
+    let mut held = 0u64;
+    for set in 0..64u32 {
+        let more = if has_seventh { 64 } else { 0 };
+        if is_held(levels, u64::from(set) + more) {
+            held |= 1u64.wrapping_shl(set);
+        }
+    }
+    held
+}
+
+/// The sets of servers of three, two and one levels that hold a quorum are those that a plain listing of all members finds.
+#[test]
+fn quorums_are_held_as_in_a_plain_listing() -> Result<(), Wrong> {
+    let (one, two, three) = (
+        Levels::new(1).unwrap(),
+        Levels::new(2).unwrap(),
+        Levels::new(3).unwrap(),
+    );
+    let holds = held(three, false) == 0xfae8_e8a0_aa88_8800
+        && held(three, true) == 0xffee_eeaa_fae8_e8a0
+        && held(two, false) == 0xe8e8_e8e8_e8e8_e8e8
+        && held(one, false) == 0xaaaa_aaaa_aaaa_aaaa;
+    check(holds, "another set")
+}
+
+#[test]
+fn lists_out_of_order_are_no_members() -> Result<(), Wrong> {
+    let levels = Levels::new(3).unwrap();
+    let holds = is_quorum(levels, &[1, 2, 4])
+        && !is_quorum(levels, &[1, 4, 2])
+        && !is_quorum(levels, &[1, 2, 2])
+        && !is_quorum(levels, &[0, 1, 2]);
+    check(holds, "another answer")
+}
+
+fn do_meet(alloc: Global) -> bool {
+    let levels = Levels::new(3).unwrap();
+    let some = Quorum::of(alloc, levels, &[1, 4, 5]);
+    let others = Quorum::of(alloc, levels, &[3, 4, 5, 6]);
+    match (some, others) {
+        (Ok(Some(some)), Ok(Some(others))) => meet(&some, &others).number() == 4,
+        _ => false,
+    }
+}
+
+#[test]
+fn quorums_meet_in_their_least_common_server(rt: HostRuntime) -> Result<(), Wrong> {
+    check(do_meet(rt.alloc()), "another answer")
+}
+
+// ---- names as text
+
+fn a() -> FileName {
+    FileName::new(b"a").unwrap()
+}
+
+fn b() -> FileName {
+    FileName::new(b"b").unwrap()
+}
+
+fn is_shown(alloc: Global, name: FileName) -> bool {
+    match format!(in alloc; "{name} {name:?}") {
+        Ok(shown) => shown.as_str() == "a \"a\"",
+        Err(_) => false,
+    }
+}
+
+#[test]
+fn text_of_a_name(rt: HostRuntime) -> Result<(), Wrong> {
+    check(is_shown(rt.alloc(), a()), "another text")
+}
+
+// ---- the lock table
+
+/// Asks for a lock under that number. Answers whether the outcome is the one wanted.
+fn comes_to(
+    locks: &mut LockTable,
+    alloc: Global,
+    txn: u64,
+    file: FileName,
+    mode: Mode,
+    number: u64,
+    wanted: LockOutcome,
+) -> bool {
+    match locks.ask(alloc, txn, &file, mode, number, 0) {
+        Ok(outcome) => outcome == wanted,
+        Err(_) => false,
+    }
+}
+
+fn shares(locks: &mut LockTable, alloc: Global, txn: u64, file: FileName, number: u64) -> bool {
+    comes_to(
+        locks,
+        alloc,
+        txn,
+        file,
+        Mode::Shared,
+        number,
+        LockOutcome::Granted,
+    )
+}
+
+/// Transactions 1 and 2 share `a`, where 4 is refused because of 1; 2 has `b` too. Then 2 ends, and 3 has `b`.
+fn locks_and_releases(locks: &mut LockTable, alloc: Global) -> bool {
+    let held = LockOutcome::Held { by: 1 };
+    let comes = shares(locks, alloc, 2, a(), 1)
+        && shares(locks, alloc, 1, a(), 2)
+        && shares(locks, alloc, 2, b(), 3)
+        && comes_to(locks, alloc, 4, a(), Mode::Exclusive, 4, held);
+    locks.release(2);
+    comes && shares(locks, alloc, 3, b(), 5)
+}
+
+/// Whether both indexes have the lock of 3 on `b` under the key of one that ended, and 1 has `a` alone under its own.
+fn uses_a_place_again(locks: &LockTable) -> bool {
+    match (
+        locks.keys_of_file(&a()),
+        locks.keys_of_file(&b()),
+        locks.keys_of_txn(3),
+    ) {
+        ([1], [of_file], [of_txn]) => {
+            of_file == of_txn
+                && *of_txn != 1
+                && locks.entry(*of_txn).is_some()
+                && locks.entry(3).is_none()
+                && locks.keys_of_txn(2).is_empty()
+        }
+        _ => false,
+    }
+}
+
+/// The same of a copy.
+fn copies_its_places(locks: &LockTable, alloc: Global) -> bool {
+    match locks.copy(alloc) {
+        Ok(copy) => uses_a_place_again(&copy),
+        Err(_) => false,
+    }
+}
+
+fn goes_with_each_call(alloc: Global) -> bool {
+    let mut locks = LockTable::new(alloc);
+    locks_and_releases(&mut locks, alloc)
+        && uses_a_place_again(&locks)
+        && copies_its_places(&locks, alloc)
+}
+
+/// A place in the slab is used again, and both indexes go with each call and with a copy.
+#[test]
+fn place_used_again(rt: HostRuntime) -> Result<(), Wrong> {
+    check(goes_with_each_call(rt.alloc()), "another place")
+}
+
+// ---- stable records
+
+/// A write of `a` without a content.
+fn empty(version: u64) -> Write {
+    Write {
+        file: a(),
+        version,
+        content: Content::empty(),
+    }
+}
+
+/// A write of `a` with a content of one byte, or of none where memory is refused.
+fn filled(alloc: Global, version: u64) -> Write {
+    let content = match vec![in alloc; b'x'] {
+        Ok(bytes) => Content::new(bytes),
+        Err(_) => Ok(None),
+    };
+    match content {
+        Ok(Some(content)) => Write {
+            file: a(),
+            version,
+            content,
+        },
+        _ => empty(version),
+    }
+}
+
+/// Whether the copy of `a` is the first of those with the greatest version, and there is no open vote.
+fn is_kept(alloc: Global, intents: &Intents) -> bool {
+    match intents.copies(alloc) {
+        Ok(copies) => {
+            let copy = copies.get(&a());
+            copy.version == 2
+                && copy.content.len() == 1
+                && intents.of(7).is_none()
+                && intents.of(8).is_none()
+        }
+        Err(_) => false,
+    }
+}
+
+/// The same of a copy, which has as many records.
+fn is_kept_in_a_copy(alloc: Global, intents: &Intents) -> bool {
+    match intents.copy(alloc) {
+        Ok(copy) => copy.stable().len() == 7 && is_kept(alloc, &copy),
+        Err(_) => false,
+    }
+}
+
+/// Copies of one file, two of them of its greatest version, an intent of 7 without its vote, and a vote of 8 with its end.
+fn recovers(alloc: Global) -> bool {
+    let records = [
+        Record::Copy(empty(1)),
+        Record::Copy(filled(alloc, 2)),
+        Record::Copy(empty(2)),
+        Record::Copy(empty(1)),
+        Record::Intent {
+            txn: 7,
+            number: 6,
+            write: empty(3),
+        },
+        Record::Prepared { txn: 8, number: 9 },
+        Record::Gone { txn: 8, number: 9 },
+    ];
+    match Intents::recover(alloc, &records) {
+        Ok(intents) => is_kept(alloc, &intents) && is_kept_in_a_copy(alloc, &intents),
+        Err(_) => false,
+    }
+}
+
+/// Of stable records the copy of a file is the first with its greatest version; an intent alone stands for nothing, and a
+/// vote with its end is not open.
+#[test]
+fn what_stable_records_stand_for(rt: HostRuntime) -> Result<(), Wrong> {
+    check(recovers(rt.alloc()), "other records")
+}
