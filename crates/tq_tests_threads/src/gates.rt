@@ -1,6 +1,6 @@
-//! Gates by which threads wait for one another.
+//! Gates by which threads wait for one another, and one that counts.
 
-use std::sync::atomic::{AtomicBool, Ordering};
+use std::sync::atomic::{AtomicBool, AtomicU64, Ordering};
 use tq_cells::Gate;
 use tq_shape::Part;
 
@@ -142,5 +142,34 @@ impl<'a> Gate for By<'a> {
         if beside.shut.load(Ordering::SeqCst) && part == Part::View {
             beside.look(&beside.server);
         }
+    }
+}
+
+/// Counts what a gate is told: each call that holds a lock, and by thousands each that gave it back.
+#[derive(Drop)]
+pub(crate) struct Tally(AtomicU64);
+
+impl Tally {
+    pub(crate) fn new() -> Tally {
+        Tally(AtomicU64::new(0))
+    }
+
+    /// So many calls held a lock, and as many gave it back.
+    pub(crate) fn is(&self, calls: u64) -> bool {
+        self.0.load(Ordering::SeqCst) == calls.wrapping_mul(1001)
+    }
+}
+
+/// A tally, as several may have it.
+#[derive(Clone, Copy)]
+pub(crate) struct Counted<'a>(pub(crate) &'a Tally);
+
+impl<'a> Gate for Counted<'a> {
+    fn holding(&self, _part: Part) {
+        self.0.0.fetch_add(1, Ordering::SeqCst);
+    }
+
+    fn answered(&self, _part: Part) {
+        self.0.0.fetch_add(1000, Ordering::SeqCst);
     }
 }
