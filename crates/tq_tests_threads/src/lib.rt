@@ -1,15 +1,14 @@
-//! Tests of the scripts of clients: what their lines ask, and many of them at once in threads.
+//! Tests of what no output of the program shows: threads that wait for one another inside the locks of parts, what a cell
+//! tells, boards of a running cluster, small limits, and a second run over a device that failed.
 #![tactic(auto)]
 
 #[cfg(test)]
+mod boards;
+#[cfg(test)]
+mod cells;
+#[cfg(test)]
 mod clients;
 #[cfg(test)]
+mod devices;
+#[cfg(test)]
 mod gates;
-#[cfg(test)]
-mod lines;
-#[cfg(test)]
-mod script;
-#[cfg(test)]
-mod sixteen;
-#[cfg(test)]
-mod workers;
