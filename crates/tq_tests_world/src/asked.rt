@@ -1,15 +1,17 @@
 //! A service that is given the asks of a journal file, in the order that explains it: the journals that it leaves are those
-//! of the file, and the tables of these are printed as a board.
+//! of the file, and the tables of these are printed as a board. What is made is left where it is, since to let it go is
+//! dear to prove.
 ghost use Rattle.tq_tables.specs.Parts.{AreLegal};
 
 use std::alloc::Global;
-use std::test::*;
+use std::mem::forget;
 use tq_board::{journals_from_json, journals_to_json, render};
 use tq_core::{Answer, Journal, Refusal, Reply, Service, Step};
+use tq_desk::DeskAsk;
 use tq_live::{View, ViewAsk, ViewReply};
 use tq_merge::explain;
 use tq_node::{NodeAsk, Verdict, WorkAsk};
-use tq_shape::{Levels, Limits, Memory, Part};
+use tq_shape::Part;
 use tq_tables::{Journals, NodeEntry, Tables};
 
 /// Two commits, of `b`, and of `a` and `b`; server 2 is not told the second, and server 3 voted for it too, whose vote it does
@@ -40,140 +42,195 @@ const BOARD: &str = "board levels 2\n\
     intent 3 9 number 7 unknown e:1\n\
     end\n";
 
-fn check(holds: bool, what: &'static str) -> Result<(), Fail> {
-    if holds { Ok(()) } else { Err(Fail::from(what)) }
-}
-
-fn journals_of_file(alloc: Global) -> Result<Journals, Fail> {
-    match journals_from_json(alloc, FILE.as_bytes()) {
-        Ok(journals) => Ok(journals),
-        Err(_) => Err(Fail::from("unreadable")),
+pub(crate) fn journals_of(alloc: Global, text: &str) -> Option<Journals> {
+    match journals_from_json(alloc, text.as_bytes()) {
+        Ok(journals) => Some(journals),
+        Err(_) => None,
     }
 }
 
 // ---- the asks of the file
+
+/// Whether a step is answered.
+fn is_taken(service: &mut Service, alloc: Global, step: Step) -> bool {
+    match service.step(alloc, step) {
+        Ok(answer) => {
+            forget(answer);
+            true
+        }
+        Err(_) => false,
+    }
+}
+
+fn takes_of_server(service: &mut Service, alloc: Global, server: u64, ask: &NodeAsk) -> bool {
+    match ask.clone() {
+        Ok(ask) => is_taken(service, alloc, Step::Node { server, ask }),
+        Err(_) => false,
+    }
+}
+
+fn takes_of_desk(service: &mut Service, alloc: Global, ask: &DeskAsk) -> bool {
+    match ask.clone() {
+        Ok(ask) => is_taken(service, alloc, Step::Desk(ask)),
+        Err(_) => false,
+    }
+}
+
+fn entry_of(servers: &[Vec<NodeEntry>], server: u64, place: usize) -> Option<&NodeEntry> {
+    match servers.get(u64::wrapping_sub(server, 1) as usize) {
+        Some(entries) => entries.get(place),
+        None => None,
+    }
+}
+
+/// Whether the part answers the ask at that place of its journal. The view is not asked again.
+fn takes(
+    service: &mut Service,
+    alloc: Global,
+    journals: &Journals,
+    part: Part,
+    place: usize,
+) -> bool {
+    match part {
+        Part::Server(server) => match entry_of(journals.servers(), server, place) {
+            Some(entry) => takes_of_server(service, alloc, server, &entry.ask),
+            None => false,
+        },
+        Part::Desk => match journals.desk().get(place) {
+            Some(entry) => takes_of_desk(service, alloc, &entry.ask),
+            None => false,
+        },
+        Part::View => true,
+    }
+}
 
 /// How often the part is named.
 fn count(order: &[Part], part: Part) -> usize {
     order.iter().filter(|named| **named == part).count()
 }
 
-fn ask_of_server(servers: &[Vec<NodeEntry>], server: u64, place: usize) -> Result<NodeAsk, Fail> {
-    let entries = servers
-        .get(u64::wrapping_sub(server, 1) as usize)
-        .ok_or("server")?;
-    let entry = entries.get(place).ok_or("entry")?;
-    Ok(entry.ask.clone()?)
-}
-
-/// The step that asks the part what stands at that place of its journal. That of the view is left out.
-fn step_of(journals: &Journals, part: Part, place: usize) -> Result<Option<Step>, Fail> {
-    match part {
-        Part::Server(server) => {
-            let ask = ask_of_server(journals.servers(), server, place)?;
-            Ok(Some(Step::Node { server, ask }))
-        }
-        Part::Desk => {
-            let entry = journals.desk().get(place).ok_or("entry")?;
-            Ok(Some(Step::Desk(entry.ask.clone()?)))
-        }
-        Part::View => Ok(None),
-    }
-}
-
-fn steps_of(alloc: Global, journals: &Journals, order: &[Part]) -> Result<Vec<Step>, Fail> {
-    let mut steps = Vec::new(alloc);
+/// Whether each ask is answered, in this order.
+fn takes_all(service: &mut Service, alloc: Global, journals: &Journals, order: &[Part]) -> bool {
     for (at, part) in order.iter().enumerate() {
         let place = count(&order[..at], *part);
-        if let Some(step) = step_of(journals, *part, place)? {
-            steps.push(step)?;
+        if !takes(service, alloc, journals, *part, place) {
+            return false;
         }
     }
-    Ok(steps)
+    true
 }
 
-/// The asks of the servers and of the desk, in an order in which what an ask cites stands before it.
-fn steps_of_file(alloc: Global, journals: &Journals) -> Result<Vec<Step>, Fail> {
-    let order = explain(alloc, journals).ok().ok_or("no order")?;
-    steps_of(alloc, journals, order.as_slice())
-}
-
-// ---- the service
-
-fn is_mark(answer: &Answer) -> bool {
-    answer.number == 1 && matches!(&answer.reply, Reply::View(ViewReply::Marked))
-}
-
-/// Whether the view's first entry marks server 2 down.
-fn marks(service: &mut Service, alloc: Global) -> bool {
-    let down = ViewAsk::Mark {
-        server: 2,
-        up: false,
-    };
-    match service.step(alloc, Step::View(down)) {
-        Ok(answer) => is_mark(&answer),
-        Err(_) => false,
+/// Whether each ask is answered, in an order in which what it cites stands before it.
+fn takes_in_order(service: &mut Service, alloc: Global, journals: &Journals) -> bool {
+    match explain(alloc, journals) {
+        Ok(order) => {
+            let is_taken = takes_all(service, alloc, journals, order.as_slice());
+            forget(order);
+            is_taken
+        }
+        Err(fault) => {
+            forget(fault);
+            false
+        }
     }
 }
 
-/// Whether all steps are taken.
-fn takes(service: &mut Service, alloc: Global, steps: Vec<Step>) -> bool {
-    match service.run(alloc, steps) {
-        Ok(results) => results.iter().all(|told| told.is_ok()),
-        Err(_) => false,
-    }
-}
-
-/// The refusal of an ask of a server, none where it is answered.
-fn refusal(service: &mut Service, alloc: Global, server: u64, ask: NodeAsk) -> Option<Refusal> {
-    service.step(alloc, Step::Node { server, ask }).err()
-}
+// ---- steps beside these
 
 /// A verdict that the desk never told.
 fn unfounded_ask() -> NodeAsk {
     NodeAsk::Work(WorkAsk::Decide {
         txn: 1,
         verdict: Verdict::Abort,
-        cite: 7,
+        cite: 1,
     })
 }
 
-/// Whether a full journal, a citation of what was told otherwise, and a server that there is not are refused.
-fn refuses(service: &mut Service, alloc: Global) -> bool {
-    let full = refusal(service, alloc, 1, NodeAsk::Crash);
-    let unfounded = refusal(service, alloc, 3, unfounded_ask());
-    let none = refusal(service, alloc, 4, NodeAsk::Crash);
-    matches!(
-        full,
-        Some(Refusal::JournalFull {
-            part: Part::Server(1)
-        })
-    ) && matches!(
-        unfounded,
-        Some(Refusal::Unfounded {
-            part: Part::Desk,
-            number: 7
-        })
-    ) && matches!(none, Some(Refusal::NoSuchServer))
+fn is_mark(answer: &Answer) -> bool {
+    answer.number == 1 && matches!(&answer.reply, Reply::View(ViewReply::Marked))
+}
+
+/// Whether the first step was answered, the second cites what was not told, and the third asks a server that there is not.
+fn are_told(results: &[Result<Answer, Refusal>]) -> bool {
+    match results {
+        [
+            Ok(answer),
+            Err(
+                Refusal::Unfounded {
+                    part: Part::Desk,
+                    number: 1,
+                },
+            ),
+            Err(Refusal::NoSuchServer),
+        ] => is_mark(answer),
+        _ => false,
+    }
+}
+
+fn runs(service: &mut Service, alloc: Global, steps: Vec<Step>) -> bool {
+    match service.run(alloc, steps) {
+        Ok(results) => {
+            let are_told = are_told(results.as_slice());
+            forget(results);
+            are_told
+        }
+        Err(_) => false,
+    }
+}
+
+/// Whether a run marks server 2 down, and takes no other step.
+fn marks(service: &mut Service, alloc: Global) -> bool {
+    let (server, up) = (2, false);
+    match vec![in alloc;
+        Step::View(ViewAsk::Mark { server, up }),
+        Step::Node {
+            server: 1,
+            ask: unfounded_ask()
+        },
+        Step::Node {
+            server: 4,
+            ask: NodeAsk::Crash
+        },
+    ] {
+        Ok(steps) => runs(service, alloc, steps),
+        Err(_) => false,
+    }
+}
+
+/// Whether server 1 has no room for an entry more.
+fn is_full(service: &mut Service, alloc: Global) -> bool {
+    let (server, ask) = (1, NodeAsk::Crash);
+    match service.step(alloc, Step::Node { server, ask }) {
+        Ok(answer) => {
+            forget(answer);
+            false
+        }
+        Err(reason) => matches!(
+            reason,
+            Refusal::JournalFull {
+                part: Part::Server(1)
+            }
+        ),
+    }
 }
 
 /// Whether server 3 has its seven entries, and there is no journal of a server 4.
 fn has_journals(service: &Service) -> bool {
-    let is_none = service.journal(Part::Server(4)).is_none();
+    let is_none = matches!(service.journal(Part::Server(4)), None);
     match service.journal(Part::Server(3)) {
         Some(Journal::Server(entries)) => is_none && entries.len() == 7,
         _ => false,
     }
 }
 
-fn is_run(service: &mut Service, alloc: Global, steps: Vec<Step>) -> bool {
+fn is_run(service: &mut Service, alloc: Global, journals: &Journals) -> bool {
     marks(service, alloc)
-        && takes(service, alloc, steps)
-        && refuses(service, alloc)
+        && takes_in_order(service, alloc, journals)
+        && is_full(service, alloc)
         && has_journals(service)
 }
 
-// ---- the tables
+// ---- the journals that are left, and their tables
 
 fn has_text_of_file(alloc: Global, journals: &Journals) -> bool {
     match journals_to_json(alloc, journals) {
@@ -182,60 +239,94 @@ fn has_text_of_file(alloc: Global, journals: &Journals) -> bool {
     }
 }
 
-/// A view with server 1 down.
-fn other_view(alloc: Global, levels: Levels) -> Result<View, Memory> {
-    let mut view = View::new(alloc, levels)?;
-    let down = ViewAsk::Mark {
-        server: 1,
-        up: false,
-    };
-    view.answer(alloc, &down)?;
-    Ok(view)
+fn is_printed(alloc: Global, tables: &Tables, view: &View) -> bool {
+    if view.tree().levels() != tables.levels() {
+        return false;
+    }
+    match render(alloc, tables, view) {
+        Ok(text) => text.as_str() == BOARD,
+        Err(_) => false,
+    }
 }
 
-/// Whether a copy of the tables is printed as the board beside the other view.
-fn is_board(alloc: Global, tables: &Tables) -> Result<bool, Memory> {
-    let view = other_view(alloc, tables.levels())?;
-    if view.tree().levels() != tables.levels() {
-        return Ok(false);
+/// Marks server 1 down in the view, and answers whether the board is printed beside it.
+fn is_printed_beside(alloc: Global, tables: &Tables, view: &mut View) -> bool {
+    let (server, up) = (1, false);
+    match view.answer(alloc, &ViewAsk::Mark { server, up }) {
+        Ok(reply) => {
+            forget(reply);
+            is_printed(alloc, tables, view)
+        }
+        Err(_) => false,
     }
-    let copy = tables.copy(alloc)?;
-    let text = render(alloc, &copy, &view)?;
-    Ok(text.as_str() == BOARD)
+}
+
+fn is_board(alloc: Global, tables: &Tables) -> bool {
+    match View::new(alloc, tables.levels()) {
+        Ok(mut view) => {
+            let is_printed = is_printed_beside(alloc, tables, &mut view);
+            forget(view);
+            is_printed
+        }
+        Err(_) => false,
+    }
+}
+
+/// Whether a copy of the tables is printed as the board.
+fn has_copy(alloc: Global, tables: &Tables) -> bool {
+    match tables.copy(alloc) {
+        Ok(copy) => {
+            let is_board = is_board(alloc, &copy);
+            forget(copy);
+            is_board
+        }
+        Err(_) => false,
+    }
 }
 
 fn has_board(alloc: Global, journals: &Journals) -> bool
     requires { AreLegal journals.now }
 {
     match Tables::of(alloc, journals) {
-        Ok(tables) => matches!(is_board(alloc, &tables), Ok(true)),
+        Ok(tables) => {
+            let is_board = has_copy(alloc, &tables);
+            forget(tables);
+            is_board
+        }
         Err(_) => false,
     }
 }
 
 fn leaves_journals(service: Service, alloc: Global) -> bool {
     let journals = service.into_journals();
-    has_text_of_file(alloc, &journals) && has_board(alloc, &journals)
+    let is_left = has_text_of_file(alloc, &journals) && has_board(alloc, &journals);
+    forget(journals);
+    is_left
 }
 
-/// Whether the run is that of the file.
-fn runs(mut service: Service, alloc: Global, steps: Vec<Step>) -> bool {
-    let is_run = is_run(&mut service, alloc, steps);
-    leaves_journals(service, alloc) && is_run
-}
-
-fn runs_from_nothing(alloc: Global, levels: Levels, limits: Limits, steps: Vec<Step>) -> bool {
-    match Service::new(alloc, levels, limits) {
-        Ok(service) => runs(service, alloc, steps),
+/// Whether a service that was asked nothing takes the asks of the journals.
+fn is_run_of(alloc: Global, journals: &Journals) -> bool {
+    match Service::new(alloc, journals.levels(), journals.limits()) {
+        Ok(mut service) => {
+            let is_run = is_run(&mut service, alloc, journals);
+            leaves_journals(service, alloc) && is_run
+        }
         Err(_) => false,
     }
 }
 
+fn is_run_of_file(alloc: Global) -> bool {
+    match journals_of(alloc, FILE) {
+        Some(journals) => {
+            let is_run = is_run_of(alloc, &journals);
+            forget(journals);
+            is_run
+        }
+        None => false,
+    }
+}
+
 #[test]
-fn a_run_leaves_the_journals_that_have_these_tables(rt: HostRuntime) -> Result<(), Fail> {
-    let alloc = rt.alloc();
-    let journals = journals_of_file(alloc)?;
-    let steps = steps_of_file(alloc, &journals)?;
-    let is_run = runs_from_nothing(alloc, journals.levels(), journals.limits(), steps);
-    check(is_run, "another run")
+fn a_run_leaves_the_journals_that_have_these_tables(rt: HostRuntime) {
+    assert!(rt; is_run_of_file(rt.alloc()));
 }

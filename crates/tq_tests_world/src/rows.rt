@@ -2,12 +2,12 @@
 ghost use Rattle.std.specs.Prelude.{◌≡◌, ◌+◌, ◌^◌, length, IfOk};
 ghost use Rattle.tq_tables.specs.Parts.{AreOfTree};
 
+use super::asked::journals_of;
 use std::alloc::Global;
-use std::test::*;
-use tq_board::journals_from_json;
+use std::mem::forget;
 use tq_board::lines::push_file;
 use tq_node::Node;
-use tq_shape::Levels;
+use tq_shape::{Levels, Memory};
 use tq_tables::rows::file_rows;
 use tq_tables::{FileRow, Journals, NodeEntry, replay_nodes};
 
@@ -16,41 +16,67 @@ use tq_tables::{FileRow, Journals, NodeEntry, replay_nodes};
 const FILE: &str =
     "{\"desk\":[{\"ask\":{\"is\":\"begin\"},\"reply\":{\"is\":\"txn\",\"txn\":1}},{\"ask\":{\"is\":\"commit\",\"ops\":[{\"content\":\"78\",\"file\":\"b\",\"grants\":[],\"kind\":\"write\",\"version\":1},{\"content\":\"\",\"file\":\"c\",\"grants\":[],\"kind\":\"read\",\"version\":0}],\"txn\":1,\"votes\":[]},\"reply\":{\"is\":\"committed\",\"serial\":1}},{\"ask\":{\"is\":\"commit\",\"ops\":[{\"content\":\"78\",\"file\":\"c\",\"grants\":[],\"kind\":\"write\",\"version\":1}],\"txn\":2,\"votes\":[]},\"reply\":{\"code\":21,\"is\":\"refused\"}},{\"ask\":{\"is\":\"resolve\",\"txn\":1},\"reply\":{\"is\":\"verdict\",\"verdict\":{\"is\":\"abort\"}}},{\"ask\":{\"is\":\"commit\",\"ops\":[{\"content\":\"78\",\"file\":\"a\",\"grants\":[],\"kind\":\"write\",\"version\":1},{\"content\":\"78\",\"file\":\"b\",\"grants\":[],\"kind\":\"write\",\"version\":1}],\"txn\":2,\"votes\":[]},\"reply\":{\"is\":\"committed\",\"serial\":2}}],\"format\":1,\"levels\":2,\"limits\":{\"entries\":1000000,\"files\":1000,\"ops\":64},\"servers\":[[{\"ask\":{\"content\":\"78\",\"file\":\"a\",\"from\":{\"number\":1,\"server\":1},\"is\":\"refresh\",\"version\":1},\"reply\":{\"is\":\"refreshed\"}},{\"ask\":{\"content\":\"78\",\"file\":\"b\",\"from\":{\"number\":1,\"server\":1},\"is\":\"refresh\",\"version\":2},\"reply\":{\"is\":\"refreshed\"}}],[{\"ask\":{\"content\":\"78\",\"file\":\"a\",\"from\":{\"number\":1,\"server\":1},\"is\":\"refresh\",\"version\":5},\"reply\":{\"is\":\"refreshed\"}},{\"ask\":{\"content\":\"78\",\"file\":\"b\",\"from\":{\"number\":1,\"server\":1},\"is\":\"refresh\",\"version\":1},\"reply\":{\"is\":\"refreshed\"}}],[]],\"view\":[]}";
 
-fn journals_of_file(alloc: Global) -> Result<Journals, Fail> {
-    match journals_from_json(alloc, FILE.as_bytes()) {
-        Ok(journals) => Ok(journals),
-        Err(_) => Err(Fail::from("unreadable")),
-    }
-}
+const ROWS: &str = "file b version 2 current 1 stale 2 3\nfile a version 1 current 1 2 stale 3\n";
 
 /// The servers of a tree after their journals.
-fn nodes_of(alloc: Global, levels: Levels, servers: &[Vec<NodeEntry>]) -> Result<Vec<Node>, Fail>
+fn nodes_of(alloc: Global, levels: Levels, servers: &[Vec<NodeEntry>]) -> Result<Vec<Node>, Memory>
     requires { length servers.now + 1 ≡ 2 ^ levels }
     ensures { IfOk result (λ nodes. AreOfTree levels 1 nodes.items) }
 {
-    let nodes = replay_nodes(alloc, levels, servers)?;
-    Ok(nodes)
+    replay_nodes(alloc, levels, servers)
 }
 
-fn rows_of(alloc: Global, journals: &Journals) -> Result<Vec<FileRow>, Fail> {
-    let levels = journals.levels();
-    let servers = journals.servers();
-    if servers.len() as u64 != levels.servers() {
-        return Err(Fail::from("servers"));
+fn text_of(alloc: Global, rows: &[FileRow]) -> Result<String, Memory> {
+    let mut text = String::new(alloc);
+    for row in rows {
+        push_file(&mut text, row)?;
     }
-    let nodes = nodes_of(alloc, levels, servers)?;
-    Ok(file_rows(alloc, levels, nodes.as_slice(), journals.desk())?)
+    Ok(text)
+}
+
+fn are_current_and_stale(alloc: Global, rows: &[FileRow]) -> bool {
+    match text_of(alloc, rows) {
+        Ok(text) => text.as_str() == ROWS,
+        Err(_) => false,
+    }
+}
+
+fn has_rows(alloc: Global, journals: &Journals, nodes: &[Node]) -> bool
+    requires { AreOfTree journals.now.levels 1 nodes.now }
+{
+    match file_rows(alloc, journals.levels(), nodes, journals.desk()) {
+        Ok(rows) => {
+            let are_rows = are_current_and_stale(alloc, rows.as_slice());
+            forget(rows);
+            are_rows
+        }
+        Err(_) => false,
+    }
+}
+
+fn has_servers_with_rows(alloc: Global, journals: &Journals) -> bool {
+    match nodes_of(alloc, journals.levels(), journals.servers()) {
+        Ok(nodes) => {
+            let are_rows = has_rows(alloc, journals, nodes.as_slice());
+            forget(nodes);
+            are_rows
+        }
+        Err(_) => false,
+    }
+}
+
+fn has_rows_of_file(alloc: Global) -> bool {
+    match journals_of(alloc, FILE) {
+        Some(journals) => {
+            let are_rows = has_servers_with_rows(alloc, &journals);
+            forget(journals);
+            are_rows
+        }
+        None => false,
+    }
 }
 
 #[test]
-fn a_file_is_current_where_its_last_write_or_a_later_one_is(rt: HostRuntime) -> Result<(), Fail> {
-    let journals = journals_of_file(rt.alloc())?;
-    let rows = rows_of(rt.alloc(), &journals)?;
-    let mut text = String::new(rt.alloc());
-    for row in rows.as_slice() {
-        push_file(&mut text, row)?;
-    }
-    let wanted = "file b version 2 current 1 stale 2 3\nfile a version 1 current 1 2 stale 3\n";
-    assert!(rt; text.as_str() == wanted);
-    Ok(())
+fn a_file_is_current_where_its_last_write_or_a_later_one_is(rt: HostRuntime) {
+    assert!(rt; has_rows_of_file(rt.alloc()));
 }
