@@ -1,22 +1,21 @@
-//! A service that is given the asks of a journal file, in the order that explains it: the journals that it leaves are those
-//! of the file, and the tables of these are printed as a board. What is made is left where it is, since to let it go is
-//! dear to prove.
+//! The order, the tables and the board of journals that are read, and a service that is given steps. What is made is left
+//! where it is, since to let it go is dear to prove.
 ghost use Rattle.tq_tables.specs.Parts.{AreLegal};
 
 use std::alloc::Global;
 use std::mem::forget;
 use tq_board::{journals_from_json, journals_to_json, render};
 use tq_core::{Answer, Journal, Refusal, Reply, Service, Step};
-use tq_desk::DeskAsk;
+use tq_desk::{DeskAsk, DeskReply};
 use tq_live::{View, ViewAsk, ViewReply};
 use tq_merge::explain;
 use tq_node::{NodeAsk, Verdict, WorkAsk};
-use tq_shape::Part;
-use tq_tables::{Journals, NodeEntry, Tables};
+use tq_shape::{Levels, Limits, Part};
+use tq_tables::{Journals, Tables};
 
 /// Two commits, of `b`, and of `a` and `b`; server 2 is not told the second, and server 3 voted for it too, whose vote it does
 /// not cite. Of the other votes one is of a transaction that aborted, one of one that has not ended, and one of one that
-/// was never begun. Server 1 has as many entries as the limit says.
+/// was never begun.
 const FILE: &str =
     "{\"desk\":[{\"ask\":{\"is\":\"begin\"},\"reply\":{\"is\":\"txn\",\"txn\":1}},{\"ask\":{\"is\":\"begin\"},\"reply\":{\"is\":\"txn\",\"txn\":2}},{\"ask\":{\"is\":\"begin\"},\"reply\":{\"is\":\"txn\",\"txn\":3}},{\"ask\":{\"is\":\"begin\"},\"reply\":{\"is\":\"txn\",\"txn\":4}},{\"ask\":{\"is\":\"commit\",\"ops\":[{\"content\":\"78\",\"file\":\"b\",\"grants\":[{\"content\":\"\",\"mode\":\"exclusive\",\"number\":1,\"server\":1,\"version\":0},{\"content\":\"\",\"mode\":\"exclusive\",\"number\":1,\"server\":2,\"version\":0}],\"kind\":\"write\",\"version\":1},{\"content\":\"\",\"file\":\"c\",\"grants\":[{\"content\":\"\",\"mode\":\"shared\",\"number\":2,\"server\":1,\"version\":0},{\"content\":\"\",\"mode\":\"shared\",\"number\":2,\"server\":2,\"version\":0}],\"kind\":\"read\",\"version\":0}],\"txn\":1,\"votes\":[{\"held\":[{\"file\":\"b\",\"mode\":\"exclusive\",\"since\":1},{\"file\":\"c\",\"mode\":\"shared\",\"since\":2}],\"number\":3,\"server\":1,\"writes\":[{\"content\":\"78\",\"file\":\"b\",\"version\":1}]},{\"held\":[{\"file\":\"b\",\"mode\":\"exclusive\",\"since\":1},{\"file\":\"c\",\"mode\":\"shared\",\"since\":2}],\"number\":3,\"server\":2,\"writes\":[{\"content\":\"78\",\"file\":\"b\",\"version\":1}]}]},\"reply\":{\"is\":\"committed\",\"serial\":1}},{\"ask\":{\"is\":\"commit\",\"ops\":[{\"content\":\"79\",\"file\":\"a\",\"grants\":[{\"content\":\"\",\"mode\":\"exclusive\",\"number\":5,\"server\":1,\"version\":0},{\"content\":\"\",\"mode\":\"exclusive\",\"number\":5,\"server\":2,\"version\":0}],\"kind\":\"write\",\"version\":1},{\"content\":\"7a\",\"file\":\"b\",\"grants\":[{\"content\":\"78\",\"mode\":\"exclusive\",\"number\":6,\"server\":1,\"version\":1},{\"content\":\"78\",\"mode\":\"exclusive\",\"number\":6,\"server\":2,\"version\":1}],\"kind\":\"write\",\"version\":2}],\"txn\":2,\"votes\":[{\"held\":[{\"file\":\"a\",\"mode\":\"exclusive\",\"since\":5},{\"file\":\"b\",\"mode\":\"exclusive\",\"since\":6}],\"number\":7,\"server\":1,\"writes\":[{\"content\":\"79\",\"file\":\"a\",\"version\":1},{\"content\":\"7a\",\"file\":\"b\",\"version\":2}]},{\"held\":[{\"file\":\"a\",\"mode\":\"exclusive\",\"since\":5},{\"file\":\"b\",\"mode\":\"exclusive\",\"since\":6}],\"number\":7,\"server\":2,\"writes\":[{\"content\":\"79\",\"file\":\"a\",\"version\":1},{\"content\":\"7a\",\"file\":\"b\",\"version\":2}]}]},\"reply\":{\"is\":\"committed\",\"serial\":2}},{\"ask\":{\"is\":\"resolve\",\"txn\":3},\"reply\":{\"is\":\"verdict\",\"verdict\":{\"is\":\"abort\"}}},{\"ask\":{\"is\":\"begin\"},\"reply\":{\"is\":\"txn\",\"txn\":5}}],\"format\":1,\"levels\":2,\"limits\":{\"entries\":11,\"files\":2,\"ops\":2},\"servers\":[[{\"ask\":{\"file\":\"b\",\"is\":\"lock\",\"mode\":\"exclusive\",\"txn\":1},\"reply\":{\"content\":\"\",\"is\":\"granted\",\"version\":0}},{\"ask\":{\"file\":\"c\",\"is\":\"lock\",\"mode\":\"shared\",\"txn\":1},\"reply\":{\"content\":\"\",\"is\":\"granted\",\"version\":0}},{\"ask\":{\"is\":\"prepare\",\"txn\":1,\"writes\":[{\"content\":\"78\",\"file\":\"b\",\"version\":1}]},\"reply\":{\"held\":[{\"file\":\"b\",\"mode\":\"exclusive\",\"since\":1},{\"file\":\"c\",\"mode\":\"shared\",\"since\":2}],\"is\":\"yes\",\"writes\":[{\"content\":\"78\",\"file\":\"b\",\"version\":1}]}},{\"ask\":{\"cite\":5,\"is\":\"decide\",\"txn\":1,\"verdict\":{\"is\":\"commit\",\"votes\":[{\"number\":3,\"server\":1},{\"number\":3,\"server\":2}]}},\"reply\":{\"is\":\"installed\"}},{\"ask\":{\"file\":\"a\",\"is\":\"lock\",\"mode\":\"exclusive\",\"txn\":2},\"reply\":{\"content\":\"\",\"is\":\"granted\",\"version\":0}},{\"ask\":{\"file\":\"b\",\"is\":\"lock\",\"mode\":\"exclusive\",\"txn\":2},\"reply\":{\"content\":\"78\",\"is\":\"granted\",\"version\":1}},{\"ask\":{\"is\":\"prepare\",\"txn\":2,\"writes\":[{\"content\":\"79\",\"file\":\"a\",\"version\":1},{\"content\":\"7a\",\"file\":\"b\",\"version\":2}]},\"reply\":{\"held\":[{\"file\":\"a\",\"mode\":\"exclusive\",\"since\":5},{\"file\":\"b\",\"mode\":\"exclusive\",\"since\":6}],\"is\":\"yes\",\"writes\":[{\"content\":\"79\",\"file\":\"a\",\"version\":1},{\"content\":\"7a\",\"file\":\"b\",\"version\":2}]}},{\"ask\":{\"cite\":6,\"is\":\"decide\",\"txn\":2,\"verdict\":{\"is\":\"commit\",\"votes\":[{\"number\":7,\"server\":1},{\"number\":7,\"server\":2}]}},\"reply\":{\"is\":\"installed\"}},{\"ask\":{\"file\":\"b\",\"is\":\"lock\",\"mode\":\"shared\",\"txn\":4},\"reply\":{\"content\":\"7a\",\"is\":\"granted\",\"version\":2}},{\"ask\":{\"file\":\"b\",\"is\":\"lock\",\"mode\":\"shared\",\"txn\":3},\"reply\":{\"content\":\"7a\",\"is\":\"granted\",\"version\":2}},{\"ask\":{\"is\":\"prepare\",\"txn\":3,\"writes\":[]},\"reply\":{\"held\":[{\"file\":\"b\",\"mode\":\"shared\",\"since\":10}],\"is\":\"yes\",\"writes\":[]}}],[{\"ask\":{\"file\":\"b\",\"is\":\"lock\",\"mode\":\"exclusive\",\"txn\":1},\"reply\":{\"content\":\"\",\"is\":\"granted\",\"version\":0}},{\"ask\":{\"file\":\"c\",\"is\":\"lock\",\"mode\":\"shared\",\"txn\":1},\"reply\":{\"content\":\"\",\"is\":\"granted\",\"version\":0}},{\"ask\":{\"is\":\"prepare\",\"txn\":1,\"writes\":[{\"content\":\"78\",\"file\":\"b\",\"version\":1}]},\"reply\":{\"held\":[{\"file\":\"b\",\"mode\":\"exclusive\",\"since\":1},{\"file\":\"c\",\"mode\":\"shared\",\"since\":2}],\"is\":\"yes\",\"writes\":[{\"content\":\"78\",\"file\":\"b\",\"version\":1}]}},{\"ask\":{\"cite\":5,\"is\":\"decide\",\"txn\":1,\"verdict\":{\"is\":\"commit\",\"votes\":[{\"number\":3,\"server\":1},{\"number\":3,\"server\":2}]}},\"reply\":{\"is\":\"installed\"}},{\"ask\":{\"file\":\"a\",\"is\":\"lock\",\"mode\":\"exclusive\",\"txn\":2},\"reply\":{\"content\":\"\",\"is\":\"granted\",\"version\":0}},{\"ask\":{\"file\":\"b\",\"is\":\"lock\",\"mode\":\"exclusive\",\"txn\":2},\"reply\":{\"content\":\"78\",\"is\":\"granted\",\"version\":1}},{\"ask\":{\"is\":\"prepare\",\"txn\":2,\"writes\":[{\"content\":\"79\",\"file\":\"a\",\"version\":1},{\"content\":\"7a\",\"file\":\"b\",\"version\":2}]},\"reply\":{\"held\":[{\"file\":\"a\",\"mode\":\"exclusive\",\"since\":5},{\"file\":\"b\",\"mode\":\"exclusive\",\"since\":6}],\"is\":\"yes\",\"writes\":[{\"content\":\"79\",\"file\":\"a\",\"version\":1},{\"content\":\"7a\",\"file\":\"b\",\"version\":2}]}}],[{\"ask\":{\"file\":\"a\",\"is\":\"lock\",\"mode\":\"exclusive\",\"txn\":2},\"reply\":{\"content\":\"\",\"is\":\"granted\",\"version\":0}},{\"ask\":{\"file\":\"b\",\"is\":\"lock\",\"mode\":\"exclusive\",\"txn\":2},\"reply\":{\"content\":\"\",\"is\":\"granted\",\"version\":0}},{\"ask\":{\"is\":\"prepare\",\"txn\":2,\"writes\":[{\"content\":\"79\",\"file\":\"a\",\"version\":1},{\"content\":\"7a\",\"file\":\"b\",\"version\":2}]},\"reply\":{\"held\":[{\"file\":\"a\",\"mode\":\"exclusive\",\"since\":1},{\"file\":\"b\",\"mode\":\"exclusive\",\"since\":2}],\"is\":\"yes\",\"writes\":[{\"content\":\"79\",\"file\":\"a\",\"version\":1},{\"content\":\"7a\",\"file\":\"b\",\"version\":2}]}},{\"ask\":{\"file\":\"d\",\"is\":\"lock\",\"mode\":\"exclusive\",\"txn\":4},\"reply\":{\"content\":\"\",\"is\":\"granted\",\"version\":0}},{\"ask\":{\"is\":\"prepare\",\"txn\":4,\"writes\":[{\"content\":\"76\",\"file\":\"d\",\"version\":1}]},\"reply\":{\"held\":[{\"file\":\"d\",\"mode\":\"exclusive\",\"since\":4}],\"is\":\"yes\",\"writes\":[{\"content\":\"76\",\"file\":\"d\",\"version\":1}]}},{\"ask\":{\"file\":\"e\",\"is\":\"lock\",\"mode\":\"exclusive\",\"txn\":9},\"reply\":{\"content\":\"\",\"is\":\"granted\",\"version\":0}},{\"ask\":{\"is\":\"prepare\",\"txn\":9,\"writes\":[{\"content\":\"\",\"file\":\"e\",\"version\":1}]},\"reply\":{\"held\":[{\"file\":\"e\",\"mode\":\"exclusive\",\"since\":6}],\"is\":\"yes\",\"writes\":[{\"content\":\"\",\"file\":\"e\",\"version\":1}]}}]],\"view\":[{\"ask\":{\"is\":\"mark\",\"server\":2,\"up\":false},\"reply\":{\"is\":\"marked\"}}]}\n";
 
@@ -42,6 +41,48 @@ const BOARD: &str = "board levels 2\n\
     intent 3 9 number 7 unknown e:1\n\
     end\n";
 
+/// All that can be placed of the view, and then of each server upwards, and one entry of the desk, in turn.
+const ORDER: [Part; 34] = [
+    Part::View,
+    Part::Server(1),
+    Part::Server(1),
+    Part::Server(1),
+    Part::Server(2),
+    Part::Server(2),
+    Part::Server(2),
+    Part::Server(3),
+    Part::Server(3),
+    Part::Server(3),
+    Part::Server(3),
+    Part::Server(3),
+    Part::Server(3),
+    Part::Server(3),
+    Part::Desk,
+    Part::Desk,
+    Part::Desk,
+    Part::Desk,
+    Part::Desk,
+    Part::Server(1),
+    Part::Server(1),
+    Part::Server(1),
+    Part::Server(1),
+    Part::Server(2),
+    Part::Server(2),
+    Part::Server(2),
+    Part::Server(2),
+    Part::Desk,
+    Part::Server(1),
+    Part::Server(1),
+    Part::Server(1),
+    Part::Server(1),
+    Part::Desk,
+    Part::Desk,
+];
+
+/// The journals of the service.
+const LEFT: &str =
+    "{\"desk\":[{\"ask\":{\"is\":\"begin\"},\"reply\":{\"is\":\"txn\",\"txn\":1}}],\"format\":1,\"levels\":2,\"limits\":{\"entries\":1,\"files\":1000,\"ops\":64},\"servers\":[[],[],[]],\"view\":[{\"ask\":{\"is\":\"mark\",\"server\":1,\"up\":false},\"reply\":{\"is\":\"marked\"}}]}\n";
+
 pub(crate) fn journals_of(alloc: Global, text: &str) -> Option<Journals> {
     match journals_from_json(alloc, text.as_bytes()) {
         Ok(journals) => Some(journals),
@@ -49,84 +90,50 @@ pub(crate) fn journals_of(alloc: Global, text: &str) -> Option<Journals> {
     }
 }
 
-// ---- the asks of the file
+// ---- the tables of the file
 
-/// Whether a step is answered.
-fn is_taken(service: &mut Service, alloc: Global, step: Step) -> bool {
-    match service.step(alloc, step) {
-        Ok(answer) => {
-            forget(answer);
-            true
+fn is_printed(alloc: Global, tables: &Tables, view: &View) -> bool {
+    if view.tree().levels() != tables.levels() {
+        return false;
+    }
+    match render(alloc, tables, view) {
+        Ok(text) => text.as_str() == BOARD,
+        Err(_) => false,
+    }
+}
+
+/// Whether a copy of the tables is printed as the board.
+fn has_copy(alloc: Global, tables: &Tables, view: &View) -> bool {
+    match tables.copy(alloc) {
+        Ok(copy) => {
+            let is_printed = is_printed(alloc, &copy, view);
+            forget(copy);
+            is_printed
         }
         Err(_) => false,
     }
 }
 
-fn takes_of_server(service: &mut Service, alloc: Global, server: u64, ask: &NodeAsk) -> bool {
-    match ask.clone() {
-        Ok(ask) => is_taken(service, alloc, Step::Node { server, ask }),
-        Err(_) => false,
-    }
-}
-
-fn takes_of_desk(service: &mut Service, alloc: Global, ask: &DeskAsk) -> bool {
-    match ask.clone() {
-        Ok(ask) => is_taken(service, alloc, Step::Desk(ask)),
-        Err(_) => false,
-    }
-}
-
-fn entry_of(servers: &[Vec<NodeEntry>], server: u64, place: usize) -> Option<&NodeEntry> {
-    match servers.get(u64::wrapping_sub(server, 1) as usize) {
-        Some(entries) => entries.get(place),
-        None => None,
-    }
-}
-
-/// Whether the part answers the ask at that place of its journal. The view is not asked again.
-fn takes(
-    service: &mut Service,
-    alloc: Global,
-    journals: &Journals,
-    part: Part,
-    place: usize,
-) -> bool {
-    match part {
-        Part::Server(server) => match entry_of(journals.servers(), server, place) {
-            Some(entry) => takes_of_server(service, alloc, server, &entry.ask),
-            None => false,
-        },
-        Part::Desk => match journals.desk().get(place) {
-            Some(entry) => takes_of_desk(service, alloc, &entry.ask),
-            None => false,
-        },
-        Part::View => true,
-    }
-}
-
-/// How often the part is named.
-fn count(order: &[Part], part: Part) -> usize {
-    order.iter().filter(|named| **named == part).count()
-}
-
-/// Whether each ask is answered, in this order.
-fn takes_all(service: &mut Service, alloc: Global, journals: &Journals, order: &[Part]) -> bool {
-    for (at, part) in order.iter().enumerate() {
-        let place = count(&order[..at], *part);
-        if !takes(service, alloc, journals, *part, place) {
-            return false;
+fn has_board(alloc: Global, journals: &Journals, view: &View) -> bool
+    requires { AreLegal journals.now }
+{
+    match Tables::of(alloc, journals) {
+        Ok(tables) => {
+            let has_copy = has_copy(alloc, &tables, view);
+            forget(tables);
+            has_copy
         }
+        Err(_) => false,
     }
-    true
 }
 
-/// Whether each ask is answered, in an order in which what it cites stands before it.
-fn takes_in_order(service: &mut Service, alloc: Global, journals: &Journals) -> bool {
+/// Whether the journals have this order, and the board beside the view.
+fn are_explained(alloc: Global, journals: &Journals, view: &View) -> bool {
     match explain(alloc, journals) {
         Ok(order) => {
-            let is_taken = takes_all(service, alloc, journals, order.as_slice());
+            let is_order = order.as_slice() == ORDER.as_slice();
             forget(order);
-            is_taken
+            is_order && has_board(alloc, journals, view)
         }
         Err(fault) => {
             forget(fault);
@@ -135,7 +142,18 @@ fn takes_in_order(service: &mut Service, alloc: Global, journals: &Journals) -> 
     }
 }
 
-// ---- steps beside these
+fn is_file_explained(alloc: Global, view: &View) -> bool {
+    match journals_of(alloc, FILE) {
+        Some(journals) => {
+            let are_explained = are_explained(alloc, &journals, view);
+            forget(journals);
+            are_explained
+        }
+        None => false,
+    }
+}
+
+// ---- steps of a service
 
 /// A verdict that the desk never told.
 fn unfounded_ask() -> NodeAsk {
@@ -150,19 +168,20 @@ fn is_mark(answer: &Answer) -> bool {
     answer.number == 1 && matches!(&answer.reply, Reply::View(ViewReply::Marked))
 }
 
-/// Whether the first step was answered, the second cites what was not told, and the third asks a server that there is not.
+/// Whether the first step was answered; the second finds the journal full, the third cites what was not told, and the
+/// fourth asks a server that there is not.
 fn are_told(results: &[Result<Answer, Refusal>]) -> bool {
     match results {
-        [
-            Ok(answer),
-            Err(
-                Refusal::Unfounded {
-                    part: Part::Desk,
-                    number: 1,
-                },
-            ),
-            Err(Refusal::NoSuchServer),
-        ] => is_mark(answer),
+        [Ok(answer), Err(full), Err(unfounded), Err(none)] => {
+            is_mark(answer)
+                && *full == Refusal::JournalFull { part: Part::View }
+                && *unfounded
+                    == Refusal::Unfounded {
+                        part: Part::Desk,
+                        number: 1,
+                    }
+                && *none == Refusal::NoSuchServer
+        }
         _ => false,
     }
 }
@@ -178,11 +197,12 @@ fn runs(service: &mut Service, alloc: Global, steps: Vec<Step>) -> bool {
     }
 }
 
-/// Whether a run marks server 2 down, and takes no other step.
+/// Whether a run marks server 1 down, and takes no other step.
 fn marks(service: &mut Service, alloc: Global) -> bool {
-    let (server, up) = (2, false);
+    let (server, up) = (1, false);
     match vec![in alloc;
         Step::View(ViewAsk::Mark { server, up }),
+        Step::View(ViewAsk::Choose),
         Step::Node {
             server: 1,
             ask: unfounded_ask()
@@ -197,136 +217,57 @@ fn marks(service: &mut Service, alloc: Global) -> bool {
     }
 }
 
-/// Whether server 1 has no room for an entry more.
-fn is_full(service: &mut Service, alloc: Global) -> bool {
-    let (server, ask) = (1, NodeAsk::Crash);
-    match service.step(alloc, Step::Node { server, ask }) {
+/// Whether the desk has room, though the view has none.
+fn begins(service: &mut Service, alloc: Global) -> bool {
+    match service.step(alloc, Step::Desk(DeskAsk::Begin)) {
         Ok(answer) => {
+            let is_begun = answer.number == 1
+                && matches!(&answer.reply, Reply::Desk(DeskReply::Txn(1)));
             forget(answer);
-            false
+            is_begun
         }
-        Err(reason) => matches!(
-            reason,
-            Refusal::JournalFull {
-                part: Part::Server(1)
-            }
-        ),
+        Err(_) => false,
     }
 }
 
-/// Whether server 3 has its seven entries, and there is no journal of a server 4.
+/// Whether server 3 has no entry, and there is no journal of a server 4.
 fn has_journals(service: &Service) -> bool {
     let is_none = matches!(service.journal(Part::Server(4)), None);
     match service.journal(Part::Server(3)) {
-        Some(Journal::Server(entries)) => is_none && entries.len() == 7,
+        Some(Journal::Server(entries)) => is_none && entries.is_empty(),
         _ => false,
-    }
-}
-
-fn is_run(service: &mut Service, alloc: Global, journals: &Journals) -> bool {
-    marks(service, alloc)
-        && takes_in_order(service, alloc, journals)
-        && is_full(service, alloc)
-        && has_journals(service)
-}
-
-// ---- the journals that are left, and their tables
-
-fn has_text_of_file(alloc: Global, journals: &Journals) -> bool {
-    match journals_to_json(alloc, journals) {
-        Ok(text) => text.as_str() == FILE,
-        Err(_) => false,
-    }
-}
-
-fn is_printed(alloc: Global, tables: &Tables, view: &View) -> bool {
-    if view.tree().levels() != tables.levels() {
-        return false;
-    }
-    match render(alloc, tables, view) {
-        Ok(text) => text.as_str() == BOARD,
-        Err(_) => false,
-    }
-}
-
-/// Marks server 1 down in the view, and answers whether the board is printed beside it.
-fn is_printed_beside(alloc: Global, tables: &Tables, view: &mut View) -> bool {
-    let (server, up) = (1, false);
-    match view.answer(alloc, &ViewAsk::Mark { server, up }) {
-        Ok(reply) => {
-            forget(reply);
-            is_printed(alloc, tables, view)
-        }
-        Err(_) => false,
-    }
-}
-
-fn is_board(alloc: Global, tables: &Tables) -> bool {
-    match View::new(alloc, tables.levels()) {
-        Ok(mut view) => {
-            let is_printed = is_printed_beside(alloc, tables, &mut view);
-            forget(view);
-            is_printed
-        }
-        Err(_) => false,
-    }
-}
-
-/// Whether a copy of the tables is printed as the board.
-fn has_copy(alloc: Global, tables: &Tables) -> bool {
-    match tables.copy(alloc) {
-        Ok(copy) => {
-            let is_board = is_board(alloc, &copy);
-            forget(copy);
-            is_board
-        }
-        Err(_) => false,
-    }
-}
-
-fn has_board(alloc: Global, journals: &Journals) -> bool
-    requires { AreLegal journals.now }
-{
-    match Tables::of(alloc, journals) {
-        Ok(tables) => {
-            let is_board = has_copy(alloc, &tables);
-            forget(tables);
-            is_board
-        }
-        Err(_) => false,
     }
 }
 
 fn leaves_journals(service: Service, alloc: Global) -> bool {
     let journals = service.into_journals();
-    let is_left = has_text_of_file(alloc, &journals) && has_board(alloc, &journals);
+    let is_left = match journals_to_json(alloc, &journals) {
+        Ok(text) => text.as_str() == LEFT,
+        Err(_) => false,
+    };
     forget(journals);
     is_left
 }
 
-/// Whether a service that was asked nothing takes the asks of the journals.
-fn is_run_of(alloc: Global, journals: &Journals) -> bool {
-    match Service::new(alloc, journals.levels(), journals.limits()) {
+/// Whether a service of journals of one entry takes the steps, and the file is explained beside its view.
+fn is_run(alloc: Global) -> bool {
+    match Service::new(
+        alloc,
+        Levels::new(2).unwrap(),
+        Limits::new(1000, 64, 1).unwrap(),
+    ) {
         Ok(mut service) => {
-            let is_run = is_run(&mut service, alloc, journals);
+            let is_run = marks(&mut service, alloc)
+                && begins(&mut service, alloc)
+                && has_journals(&service)
+                && is_file_explained(alloc, service.view());
             leaves_journals(service, alloc) && is_run
         }
         Err(_) => false,
     }
 }
 
-fn is_run_of_file(alloc: Global) -> bool {
-    match journals_of(alloc, FILE) {
-        Some(journals) => {
-            let is_run = is_run_of(alloc, &journals);
-            forget(journals);
-            is_run
-        }
-        None => false,
-    }
-}
-
 #[test]
-fn a_run_leaves_the_journals_that_have_these_tables(rt: HostRuntime) {
-    assert!(rt; is_run_of_file(rt.alloc()));
+fn a_service_is_run_and_journals_are_explained(rt: HostRuntime) {
+    assert!(rt; is_run(rt.alloc()));
 }

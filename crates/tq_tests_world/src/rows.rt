@@ -23,7 +23,8 @@ fn nodes_of(alloc: Global, levels: Levels, servers: &[Vec<NodeEntry>]) -> Result
     requires { length servers.now + 1 ≡ 2 ^ levels }
     ensures { IfOk result (λ nodes. AreOfTree levels 1 nodes.items) }
 {
-    replay_nodes(alloc, levels, servers)
+    let nodes = replay_nodes(alloc, levels, servers)?;
+    Ok(nodes)
 }
 
 fn text_of(alloc: Global, rows: &[FileRow]) -> Result<String, Memory> {
