@@ -1,11 +1,14 @@
-//! Tests of the tables, of the service that keeps all journals, of what a refresh mends, and of the printed board.
+//! What no program calls or prints: a service that is given steps, the tables of whole journals, a board beside another
+//! view, and answers that no part of a client's world gives.
 #![tactic(auto)]
 
 #[cfg(test)]
+mod asked;
+#[cfg(test)]
 mod board;
 #[cfg(test)]
-mod refresh;
+mod foreign;
 #[cfg(test)]
-mod service;
+mod rows;
 #[cfg(test)]
-mod tables;
+mod unfounded;

@@ -1,5 +1,0 @@
-//! Tests of the states of a client's transaction.
-#![tactic(auto)]
-
-#[cfg(test)]
-mod states;
