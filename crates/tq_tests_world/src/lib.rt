@@ -1,5 +1,5 @@
 //! What no program calls or prints: a service that is given steps, the tables of whole journals, a board beside another
-//! view, and answers that no part of a client's world gives.
+//! view, each kind of entry written as it was read, and answers that no part of a client's world gives.
 #![tactic(auto)]
 
 #[cfg(test)]
@@ -12,3 +12,5 @@ mod foreign;
 mod rows;
 #[cfg(test)]
 mod unfounded;
+#[cfg(test)]
+mod written;
