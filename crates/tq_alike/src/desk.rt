@@ -6,7 +6,7 @@ use crate::kinds::Alike;
 use crate::node::is_same_verdict;
 use tq_desk::{DeskAsk, DeskRefusal, DeskReply};
 use tq_evidence::{Op, Vote};
-use tq_shape::Seq;
+use tq_shape::SharedSeq;
 
 /// The desk's asks and replies.
 #[derive(Clone, Copy, Debug)]
@@ -26,13 +26,13 @@ impl Alike for OfDesk {
     }
 }
 
-fn are_same_ops(one: &Seq<Op>, other: &Seq<Op>) -> bool
+fn are_same_ops(one: &SharedSeq<Op>, other: &SharedSeq<Op>) -> bool
     ensures { result ≡ pointwise spec.same_op one.now other.now }
 {
     *one == *other
 }
 
-fn are_same_votes(one: &Seq<Vote>, other: &Seq<Vote>) -> bool
+fn are_same_votes(one: &SharedSeq<Vote>, other: &SharedSeq<Vote>) -> bool
     ensures { result ≡ pointwise spec.same_vote one.now other.now }
 {
     *one == *other

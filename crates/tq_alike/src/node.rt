@@ -94,7 +94,7 @@ fn test_of_ask(one: &NodeAsk, other: &NodeAsk) -> bool
 {
     match one {
         NodeAsk::Work(ask) => match other {
-            NodeAsk::Work(work) => test_of_work(ask, work),
+            NodeAsk::Work(work) => test_of_work(ask.get(), work.get()),
             _ => false,
         },
         NodeAsk::Crash => matches!(other, NodeAsk::Crash),

@@ -13,14 +13,15 @@ use tq_tables::{DeskEntry, NodeEntry};
 pub fn is_granted(entry: &NodeEntry, txn: u64, file: FileName, grant: &Grant) -> bool
     ensures { result ≡ spec.is_granted txn file grant.now entry.now.ask entry.now.reply }
 {
-    match &entry.ask {
-        NodeAsk::Work(
-            WorkAsk::Lock {
-                txn: asked,
-                file: locked,
-                mode,
-            },
-        ) => match &entry.reply {
+    let NodeAsk::Work(work) = &entry.ask else {
+        return false;
+    };
+    match work.get() {
+        WorkAsk::Lock {
+            txn: asked,
+            file: locked,
+            mode,
+        } => match &entry.reply {
             NodeReply::Granted { version, content } => {
                 *asked == txn
                     && *locked == file
@@ -47,8 +48,11 @@ fn is_same_mode(one: Mode, other: Mode) -> bool
 pub fn is_voted(entry: &NodeEntry, txn: u64, vote: &Vote) -> bool
     ensures { result ≡ spec.is_voted txn vote.now entry.now.ask entry.now.reply }
 {
-    match &entry.ask {
-        NodeAsk::Work(WorkAsk::Prepare { txn: asked, .. }) => match &entry.reply {
+    let NodeAsk::Work(work) = &entry.ask else {
+        return false;
+    };
+    match work.get() {
+        WorkAsk::Prepare { txn: asked, .. } => match &entry.reply {
             NodeReply::Yes { held, writes } => *asked == txn
                 && *held == vote.held
                 && *writes == vote.writes,
@@ -62,8 +66,11 @@ pub fn is_voted(entry: &NodeEntry, txn: u64, vote: &Vote) -> bool
 pub fn is_peeked(entry: &NodeEntry, file: FileName, version: u64, content: &Content) -> bool
     ensures { result ≡ spec.is_peeked file version content.now entry.now.ask entry.now.reply }
 {
-    match &entry.ask {
-        NodeAsk::Work(WorkAsk::Peek { file: peeked }) => match &entry.reply {
+    let NodeAsk::Work(work) = &entry.ask else {
+        return false;
+    };
+    match work.get() {
+        WorkAsk::Peek { file: peeked } => match &entry.reply {
             NodeReply::Copy {
                 version: told,
                 content: copy,

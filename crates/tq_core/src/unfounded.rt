@@ -127,7 +127,7 @@ impl Service {
         ensures { result ≡ spec.unfounded_in_node_ask self.now ask.now }
     {
         match ask {
-            NodeAsk::Work(work) => self.unfounded_in_work(work),
+            NodeAsk::Work(work) => self.unfounded_in_work(work.get()),
             NodeAsk::Crash => None,
             NodeAsk::Return => None,
             NodeAsk::CrashIn { ask, .. } => self.unfounded_in_work(ask.get()),

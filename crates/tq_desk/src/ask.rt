@@ -1,6 +1,6 @@
 use tq_evidence::{Op, Rule, Vote};
 use tq_node::Verdict;
-use tq_shape::Seq;
+use tq_shape::SharedSeq;
 
 /// What a desk is asked.
 #[derive(Drop, Clone, PartialEq)]
@@ -10,8 +10,8 @@ pub enum DeskAsk {
     /// To record that the transaction commits, on this evidence.
     Commit {
         txn: u64,
-        ops: Seq<Op>,
-        votes: Seq<Vote>,
+        ops: SharedSeq<Op>,
+        votes: SharedSeq<Vote>,
     },
     /// How the transaction ended; one that has not yet aborts.
     Resolve {

@@ -2,7 +2,7 @@ ghost use Rattle.std.specs.Prelude.{◌≡◌};
 ghost use Rattle.tq_evidence.specs.Evidence as spec;
 
 use crate::Grant;
-use tq_shape::{ExactClone, Seq};
+use tq_shape::{ExactClone, SharedSeq};
 use tq_store::{Content, FileName, Write};
 
 /// What an operation does with its file.
@@ -21,7 +21,7 @@ pub struct Op {
     pub version: u64,
     /// The content read, or that which is written.
     pub content: Content,
-    pub grants: Seq<Grant>,
+    pub grants: SharedSeq<Grant>,
 }
 
 impl Op {

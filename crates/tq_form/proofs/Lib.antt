@@ -1,6 +1,4 @@
-pub mod Listed
 pub mod Memberships
 pub mod Counted
 pub mod Held
 pub mod Texts
-pub mod Contents

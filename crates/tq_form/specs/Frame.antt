@@ -6,8 +6,8 @@ use Rattle.tq_shape.specs.Limits.{LimitsView}
 use Rattle.tq_node.specs.NodeJournal.{NodeEntry}
 use Rattle.tq_desk.specs.DeskJournal.{DeskEntry}
 use Rattle.tq_tables.specs.Journals.{JournalsView, ViewEntry}
-use Rattle.tq_form.specs.Format.{Format, format_of}
-use Rattle.tq_form.specs.Member.{◌>>=◌, number_at, items_at, each}
+use Rattle.tq_members.specs.Format.{Format, format_of}
+use Rattle.tq_members.specs.Member.{◌>>=◌, number_at, items_at, each}
 use Rattle.tq_form.specs.Entries.{journal, count, node_entry, desk_entry, view_entry}
 
 -- a number from 1 up to the most

@@ -1,6 +1,3 @@
-pub mod Format
-pub mod Member
-pub mod Content
 pub mod Locking
 pub mod NodeAsks
 pub mod NodeReplies

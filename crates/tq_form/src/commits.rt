@@ -1,15 +1,14 @@
 ghost use Rattle.std.specs.Prelude.{◌≡◌, IfOk};
 ghost use Rattle.tq_value.specs.View.{view, items_view};
-ghost use Rattle.tq_form.specs.Format.{one};
-ghost use Rattle.tq_form.specs.Member.{each};
+ghost use Rattle.tq_members.specs.Format.{one};
+ghost use Rattle.tq_members.specs.Member.{each};
 ghost use Rattle.tq_form.specs.Commits as spec;
 
-use crate::content::{content_at, file_at};
 use crate::locking::{held_at, mode_at, writes_at};
-use crate::member::is_text;
 use std::alloc::Global;
 use tq_evidence::{Grant, Op, OpKind, Vote};
-use tq_shape::{Memory, Seq};
+use tq_members::{content_at, file_at, is_text};
+use tq_shape::{Memory, SharedSeq};
 use tq_value::{Value, items_at, number_at, text_at};
 
 fn grant(alloc: Global, value: &Value<'_>) -> Result<Option<Grant>, Memory>
@@ -39,7 +38,7 @@ fn grant(alloc: Global, value: &Value<'_>) -> Result<Option<Grant>, Memory>
     }))
 }
 
-fn grants_at(alloc: Global, value: &Value<'_>) -> Result<Option<Seq<Grant>>, Memory>
+fn grants_at(alloc: Global, value: &Value<'_>) -> Result<Option<SharedSeq<Grant>>, Memory>
     ensures { IfOk result (λ grants. grants ≡ spec.grants_at one (view value.now)) }
 {
     let Some(values) = items_at(value, "grants") else {
@@ -48,7 +47,7 @@ fn grants_at(alloc: Global, value: &Value<'_>) -> Result<Option<Seq<Grant>>, Mem
     Ok(grants(alloc, values)?)
 }
 
-fn grants(alloc: Global, values: &[Value<'_>]) -> Result<Option<Seq<Grant>>, Memory>
+fn grants(alloc: Global, values: &[Value<'_>]) -> Result<Option<SharedSeq<Grant>>, Memory>
     ensures { IfOk result (λ grants. grants ≡ each (spec.grant one) (items_view values.now)) }
 {
     let mut grants = Vec::new(alloc);
@@ -58,7 +57,7 @@ fn grants(alloc: Global, values: &[Value<'_>]) -> Result<Option<Seq<Grant>>, Mem
         };
         grants.push(grant)?;
     }
-    Ok(Some(Seq::from_vec(grants)))
+    Ok(Some(SharedSeq::from_vec(grants)?))
 }
 
 fn kind_at(value: &Value<'_>) -> Option<OpKind>
@@ -108,7 +107,7 @@ fn op(alloc: Global, value: &Value<'_>) -> Result<Option<Op>, Memory>
 }
 
 /// The operations that the object lists.
-pub(crate) fn ops_at(alloc: Global, value: &Value<'_>) -> Result<Option<Seq<Op>>, Memory>
+pub(crate) fn ops_at(alloc: Global, value: &Value<'_>) -> Result<Option<SharedSeq<Op>>, Memory>
     ensures { IfOk result (λ ops. ops ≡ spec.ops_at one (view value.now)) }
 {
     let Some(values) = items_at(value, "ops") else {
@@ -117,7 +116,7 @@ pub(crate) fn ops_at(alloc: Global, value: &Value<'_>) -> Result<Option<Seq<Op>>
     Ok(ops(alloc, values)?)
 }
 
-fn ops(alloc: Global, values: &[Value<'_>]) -> Result<Option<Seq<Op>>, Memory>
+fn ops(alloc: Global, values: &[Value<'_>]) -> Result<Option<SharedSeq<Op>>, Memory>
     ensures { IfOk result (λ ops. ops ≡ each (spec.op one) (items_view values.now)) }
 {
     let mut ops = Vec::new(alloc);
@@ -127,7 +126,7 @@ fn ops(alloc: Global, values: &[Value<'_>]) -> Result<Option<Seq<Op>>, Memory>
         };
         ops.push(op)?;
     }
-    Ok(Some(Seq::from_vec(ops)))
+    Ok(Some(SharedSeq::from_vec(ops)?))
 }
 
 fn vote(alloc: Global, value: &Value<'_>) -> Result<Option<Vote>, Memory>
@@ -154,7 +153,7 @@ fn vote(alloc: Global, value: &Value<'_>) -> Result<Option<Vote>, Memory>
 }
 
 /// The votes that the object lists.
-pub(crate) fn votes_at(alloc: Global, value: &Value<'_>) -> Result<Option<Seq<Vote>>, Memory>
+pub(crate) fn votes_at(alloc: Global, value: &Value<'_>) -> Result<Option<SharedSeq<Vote>>, Memory>
     ensures { IfOk result (λ votes. votes ≡ spec.votes_at one (view value.now)) }
 {
     let Some(values) = items_at(value, "votes") else {
@@ -163,7 +162,7 @@ pub(crate) fn votes_at(alloc: Global, value: &Value<'_>) -> Result<Option<Seq<Vo
     Ok(votes(alloc, values)?)
 }
 
-fn votes(alloc: Global, values: &[Value<'_>]) -> Result<Option<Seq<Vote>>, Memory>
+fn votes(alloc: Global, values: &[Value<'_>]) -> Result<Option<SharedSeq<Vote>>, Memory>
     ensures { IfOk result (λ votes. votes ≡ each (spec.vote one) (items_view values.now)) }
 {
     let mut votes = Vec::new(alloc);
@@ -173,5 +172,5 @@ fn votes(alloc: Global, values: &[Value<'_>]) -> Result<Option<Seq<Vote>>, Memor
         };
         votes.push(vote)?;
     }
-    Ok(Some(Seq::from_vec(votes)))
+    Ok(Some(SharedSeq::from_vec(votes)?))
 }

@@ -1,12 +1,12 @@
 ghost use Rattle.std.specs.Prelude.{◌≡◌, IfOk};
 ghost use Rattle.tq_value.specs.View.{view};
-ghost use Rattle.tq_form.specs.Format.{one};
+ghost use Rattle.tq_members.specs.Format.{one};
 ghost use Rattle.tq_form.specs.Desks as spec;
 
 use crate::commits::{ops_at, votes_at};
-use crate::member::is_text;
 use std::alloc::Global;
 use tq_desk::DeskAsk;
+use tq_members::is_text;
 use tq_shape::Memory;
 use tq_value::{Value, number_at, text_at};
 

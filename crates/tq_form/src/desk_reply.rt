@@ -3,10 +3,10 @@ ghost use Rattle.tq_value.specs.View.{view};
 ghost use Rattle.tq_form.specs.Desks as spec;
 
 use crate::locking::verdict_at;
-use crate::member::is_text;
 use std::alloc::Global;
 use tq_desk::{DeskRefusal, DeskReply};
 use tq_evidence::Rule;
+use tq_members::is_text;
 use tq_shape::Memory;
 use tq_value::{Value, number_at, text_at};
 

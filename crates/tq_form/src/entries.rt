@@ -1,8 +1,8 @@
 ghost use Rattle.std.specs.Prelude.{◌≡◌, IfOk, map};
 ghost use Rattle.std.specs.Option.{option_map};
 ghost use Rattle.tq_value.specs.View.{view, items_view};
-ghost use Rattle.tq_form.specs.Format.{one};
-ghost use Rattle.tq_form.specs.Member.{each};
+ghost use Rattle.tq_members.specs.Format.{one};
+ghost use Rattle.tq_members.specs.Member.{each};
 ghost use Rattle.tq_form.specs.Entries as spec;
 
 use crate::desk_ask::desk_ask;

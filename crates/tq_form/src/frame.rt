@@ -1,7 +1,7 @@
 ghost use Rattle.std.specs.Prelude.{◌≡◌, ◌≤◌, IfOk, IfSome, map};
 ghost use Rattle.std.specs.Option.{option_map};
 ghost use Rattle.tq_value.specs.View.{view, items_view};
-ghost use Rattle.tq_form.specs.Format.{one};
+ghost use Rattle.tq_members.specs.Format.{one};
 ghost use Rattle.tq_form.specs.Frame as spec;
 
 use crate::journals::{desk_journal, node_journals, view_journal};

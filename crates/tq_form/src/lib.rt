@@ -2,7 +2,6 @@
 #![tactic(auto)]
 
 mod commits;
-mod content;
 mod desk_ask;
 mod desk_reply;
 mod entries;
@@ -10,7 +9,6 @@ mod fault;
 mod frame;
 mod journals;
 mod locking;
-mod member;
 mod node_ask;
 mod node_reply;
 mod read;

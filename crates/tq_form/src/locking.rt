@@ -1,13 +1,12 @@
 ghost use Rattle.std.specs.Prelude.{◌≡◌, IfOk};
 ghost use Rattle.tq_value.specs.View.{view, items_view};
-ghost use Rattle.tq_form.specs.Format.{one};
-ghost use Rattle.tq_form.specs.Member.{each};
+ghost use Rattle.tq_members.specs.Format.{one};
+ghost use Rattle.tq_members.specs.Member.{each};
 ghost use Rattle.tq_form.specs.Locking as spec;
 
-use crate::content::{content_at, file_at};
-use crate::member::is_text;
 use std::alloc::Global;
 use tq_locks::Mode;
+use tq_members::{content_at, file_at, is_text};
 use tq_node::{CitedVote, HeldLock, Verdict};
 use tq_shape::{Memory, Seq, SharedSeq};
 use tq_store::Write;

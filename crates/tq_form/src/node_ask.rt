@@ -1,14 +1,13 @@
 ghost use Rattle.std.specs.Prelude.{◌≡◌, IfOk};
 ghost use Rattle.tq_value.specs.View.{view};
-ghost use Rattle.tq_form.specs.Format.{one};
+ghost use Rattle.tq_members.specs.Format.{one};
 ghost use Rattle.tq_form.specs.NodeAsks as spec;
 
-use crate::content::{content_at, file_at};
 use crate::locking::{citation, mode_at, verdict_at, writes_at};
-use crate::member::is_text;
 use std::alloc::Global;
-use tq_node::{Boxed, CitedVote, NodeAsk, WorkAsk};
-use tq_shape::Memory;
+use tq_members::{content_at, file_at, is_text};
+use tq_node::{CitedVote, NodeAsk, WorkAsk};
+use tq_shape::{Memory, Shared};
 use tq_value::{Value, get, number_at, text_at};
 
 /// The ask of a server that the value is: `None` where it is none.
@@ -49,7 +48,7 @@ fn stop(alloc: Global, value: &Value<'_>) -> Result<Option<NodeAsk>, Memory>
     let Some(work) = work_at(alloc, inside)? else {
         return Ok(None);
     };
-    let ask = Boxed::new(alloc, work)?;
+    let ask = Shared::new(alloc, work)?;
     Ok(Some(NodeAsk::CrashIn { ask, after }))
 }
 
@@ -81,6 +80,7 @@ fn work(alloc: Global, kind: &str, value: &Value<'_>) -> Result<Option<NodeAsk>,
     let Some(ask) = work_by(alloc, kind, value)? else {
         return Ok(None);
     };
+    let ask = Shared::new(alloc, ask)?;
     Ok(Some(NodeAsk::Work(ask)))
 }
 

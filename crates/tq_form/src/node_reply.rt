@@ -1,12 +1,11 @@
 ghost use Rattle.std.specs.Prelude.{◌≡◌, IfOk};
 ghost use Rattle.tq_value.specs.View.{view};
-ghost use Rattle.tq_form.specs.Format.{one};
+ghost use Rattle.tq_members.specs.Format.{one};
 ghost use Rattle.tq_form.specs.NodeReplies as spec;
 
-use crate::content::{content_at, file_at};
 use crate::locking::{held_at, writes_at};
-use crate::member::is_text;
 use std::alloc::Global;
+use tq_members::{content_at, file_at, is_text};
 use tq_node::{NodeRefusal, NodeReply};
 use tq_shape::Memory;
 use tq_value::{Value, number_at, text_at};

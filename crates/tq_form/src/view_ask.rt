@@ -2,8 +2,8 @@ ghost use Rattle.std.specs.Prelude.{◌≡◌};
 ghost use Rattle.tq_value.specs.View.{view};
 ghost use Rattle.tq_form.specs.Views as spec;
 
-use crate::member::is_text;
 use tq_live::ViewAsk;
+use tq_members::is_text;
 use tq_value::{Value, flag_at, number_at, text_at};
 
 /// The ask of the view that the value is: `None` where it is none.

@@ -3,10 +3,10 @@ ghost use Rattle.std.specs.Option.{option_map};
 ghost use Rattle.tq_value.specs.View.{view};
 ghost use Rattle.tq_form.specs.Views as spec;
 
-use crate::member::{is_text, numbers};
 use std::alloc::Global;
 use tq_coterie::{Blocker, Quorum};
 use tq_live::{ViewRefusal, ViewReply};
+use tq_members::{is_text, numbers};
 use tq_shape::{Levels, Memory};
 use tq_value::{Value, items_at, number_at, text_at};
 

@@ -13,7 +13,7 @@ pub struct KeptLock {
 }
 
 /// A vote that is open: it was given and has not ended.
-#[derive(Drop, Clone, PartialEq)]
+#[derive(Drop, Clone)]
 pub struct OpenVote {
     /// The number of the entry that gave it.
     pub number: u64,
@@ -22,7 +22,7 @@ pub struct OpenVote {
 }
 
 /// A stable record. `number` is that of the entry that gave the vote.
-#[derive(Drop, Clone, PartialEq)]
+#[derive(Drop, Clone)]
 pub enum Record {
     Copy(Write),
     Intent {

@@ -59,6 +59,7 @@ pub(crate) fn is_ready(journals: &Journals, counts: &[u64], desk: u64, ask: &Nod
 {
     match ask {
         NodeAsk::Work(ask) => {
+            let ask = ask.get();
             if !is_placed_in_work(counts, desk, ask) {
                 return false;
             }

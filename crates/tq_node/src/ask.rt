@@ -1,9 +1,8 @@
 ghost use Rattle.std.specs.Prelude.{◌≡◌};
 ghost use Rattle.tq_node.specs.Records as spec;
 
-use crate::Boxed;
 use tq_locks::Mode;
-use tq_shape::{ExactClone, Seq, SharedSeq};
+use tq_shape::{ExactClone, Seq, Shared, SharedSeq};
 use tq_store::{Content, FileName, Write};
 
 /// The most writes that a vote may have.
@@ -34,7 +33,7 @@ pub struct HeldLock {
 }
 
 /// What clients and workers ask of a server.
-#[derive(Drop, Clone, PartialEq)]
+#[derive(Drop, Clone)]
 pub enum WorkAsk {
     /// To lock a file and be told its copy.
     Lock {
@@ -71,15 +70,15 @@ pub enum WorkAsk {
 }
 
 /// What a server is asked: work, to go down, or to come back.
-#[derive(Drop, Clone, PartialEq)]
+#[derive(Drop, Clone)]
 pub enum NodeAsk {
-    Work(WorkAsk),
+    Work(Shared<WorkAsk>),
     /// What isn't stable is lost.
     Crash,
     Return,
     /// To stop in the midst of the work, behind so many of the stable records that it would write, and go down: these
     /// records are kept, and what isn't stable is lost.
-    CrashIn { ask: Boxed<WorkAsk>, after: u32 },
+    CrashIn { ask: Shared<WorkAsk>, after: u32 },
 }
 
 /// Why a server refuses an ask. A refusal changes nothing.
@@ -103,7 +102,7 @@ pub enum NodeRefusal {
 }
 
 /// What a server replies.
-#[derive(Drop, Clone, PartialEq)]
+#[derive(Drop, Clone)]
 pub enum NodeReply {
     /// The lock is held; the copy of its file.
     Granted {

@@ -3,13 +3,11 @@
 
 mod answers;
 mod ask;
-mod boxed;
 mod change;
 mod node;
 
 pub use ask::{
     CitedVote, HeldLock, MOST_WRITES, NodeAsk, NodeRefusal, NodeReply, Verdict, WorkAsk,
 };
-pub use boxed::Boxed;
 pub use change::{NodeChange, NodeStep};
 pub use node::Node;

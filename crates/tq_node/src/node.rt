@@ -167,7 +167,7 @@ impl Node {
         }
         match ask {
             NodeAsk::Work(work) => {
-                let plan = self.plan_work(alloc, number, work)?;
+                let plan = self.plan_work(alloc, number, work.get())?;
                 Ok(planned(number, plan.reply, plan.change))
             }
             NodeAsk::Crash => Ok(planned(number, NodeReply::Crashed, NodeStep::Crash)),
@@ -333,7 +333,7 @@ impl Node {
         ensures { result ≡ spec.refusal self.now.state.records ask.now }
     {
         match ask {
-            NodeAsk::Work(work) => self.work_refusal(work),
+            NodeAsk::Work(work) => self.work_refusal(work.get()),
             NodeAsk::Crash | NodeAsk::CrashIn { .. } if self.down => Some(NodeRefusal::AlreadyDown),
             NodeAsk::Return if !self.down => Some(NodeRefusal::AlreadyUp),
             _ => None,

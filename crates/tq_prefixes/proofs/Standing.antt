@@ -1,74 +1,41 @@
--- Parts stand where their entries leave them, also after more entries.
-use Rattle.std.proofs.Common.{◌≡◌, ◌<◌, ◌+◌, ◌-◌, ◌^◌, ◌⊎◌, ℕ, zero, suc, List, [], ◌∷◌, ◌++◌, length, map, set, get_or, take, replicate, refl, sym, ap, subst, ◌∙◌, arith, append_assoc, append-nil, inl, inr}
-use Rattle.std.specs.Prelude.{reverse}
-use Rattle.std.proofs.lemmas.List.{length-map, length-set, length-replicate, length_push, map-set, replicate_more, set-set, set-get_or, get_or-set_same, get_or_default}
+-- Prefixes that grow by entries of a part, beside the tables over them.
+use Rattle.std.proofs.Common.{◌≡◌, ◌<◌, ◌≤◌, ◌+◌, ◌-◌, ◌^◌, ◌↔◌, ℕ, zero, suc, Option, Some, Bool, false, IsTrue, List, [], ◌∷◌, ◌++◌, length, map, set, get_or, take, replicate, refl, sym, ap, subst, ◌∙◌, arith, append_assoc, append-nil}
+use Rattle.std.specs.Prelude.{reverse, MatchOption, OnErr, OnOk, Result, Ok, Err}
+use Rattle.std.specs.Result.{IsErrAnd}
+use Rattle.std.proofs.lemmas.List.{get_or-map, length-map, length-set, length-take-le, length-replicate, length_push, map-set, set-set, set-get_or, get_or-set_same, length-append}
+use Rattle.std.proofs.lemmas.Bool.{iff_false}
 use Rattle.std.proofs.lemmas.Nat.{pow_pos}
 use Rattle.tq_shape.specs.Limits.{LimitsView}
-use Rattle.tq_shape.specs.declared.entry.Entry.{Entry}
 use Rattle.tq_shape.specs.Tree.{IsServer}
 use Rattle.tq_shape.specs.Journal.{IsLegalFrom, state_from}
 use Rattle.tq_shape.proofs.Joined.{legal-reverse, reverse-legal}
+use Rattle.tq_shape.specs.declared.part.Part.{Part}
 use Rattle.tq_shape.specs.declared.part.Part.TheVariants as parts
-use Rattle.tq_mirror.specs.Mirrors.{Mirrored, mirrored, Gives, IsStray, led}
-use Rattle.tq_mirror.proofs.Followed.{state-joined, legal-joined}
-use Rattle.tq_mirror.specs.declared.strayed.Strayed.{Strayed}
-use Rattle.tq_mirror.specs.declared.strayed.Strayed.TheVariants as strayed
 use Rattle.tq_node.specs.declared.ask.NodeAsk.{NodeAsk}
 use Rattle.tq_node.specs.declared.ask.NodeReply.{NodeReply}
 use Rattle.tq_node.specs.Records.{NodeState, node_reply, node_after}
 use Rattle.tq_node.specs.Node.{NodeView, answered}
-use Rattle.tq_node.specs.Node as node
 use Rattle.tq_node.specs.NodeJournal.{NodeEntry, IsLegalNode, nothing_stored}
-use Rattle.tq_desk.specs.DeskStep.{DeskView, desk_reply, desk_after}
+use Rattle.tq_desk.specs.DeskStep.{desk_reply}
 use Rattle.tq_desk.specs.DeskStep as desk
 use Rattle.tq_desk.specs.DeskJournal.{DeskEntry, IsLegalDesk, step_reply, step_after, opened}
 use Rattle.tq_live.specs.Live.{Live}
-use Rattle.tq_live.specs.View.{IsLegalView, view_state, view_reply_at, view_after_at}
+use Rattle.tq_live.specs.View.{IsLegalView, view_state, view_reply, view_reply_at, view_after_at}
 use Rattle.tq_live.proofs.Journal.{replays}
 use Rattle.tq_tables.proofs.Replayed.{answered-push}
-use Rattle.tq_tables.specs.Journals.{JournalsView, ViewEntry}
-use Rattle.tq_tables.specs.Parts.{AreLegalServers, bounds_of, node_after_all, nodes_at, desk_at, view_at}
+use Rattle.tq_tables.proofs.Restood.{is_there, node_in-at, node_is}
+use Rattle.tq_tables.specs.Asked.{MayAskDesk, MayAskNode, node_in}
+use Rattle.tq_tables.specs.Journals.{JournalsView, ViewEntry, with_desk, with_view}
+use Rattle.tq_tables.specs.NextOfServer.{entries_of, with_node}
+use Rattle.tq_tables.specs.Parts.{AreLegal, AreLegalServers, bounds_of, node_after_all, desk_at, view_at}
+use Rattle.tq_tables.specs.Tables.{TablesView, tables_of}
+use Rattle.tq_prefixes.specs.declared.entries.Entries.{Entries}
 use Rattle.tq_prefixes.specs.declared.entries.Entries.TheVariants as entries
-use Rattle.tq_prefixes.specs.Prefixes.{nothing_pulled, server_prefix, grown, IsForeign, IsPullFault, fault_of}
-use Rattle.tq_prefixes.specs.Mirrors.{ServerMirror, DeskMirror, ViewMirror, server_at, servers_at, prefixes_in, AreMirrors}
+use Rattle.tq_prefixes.specs.Prefixes.{IsForeign, IsPartOf, nothing_pulled, prefix_length, server_prefix, grown}
+use Rattle.tq_prefixes.specs.Kept.{AreAhead, AreKept, prefixes_in}
+use Rattle.tq_prefixes.proofs.Led.{Grows, Led, legal-joined, state-joined}
 
--- ---- the servers of a tree
-
-servers_at-set : (levels first : ℕ) (servers : List (List NodeEntry)) (place : ℕ) (es : List NodeEntry)
-    → set (servers_at levels first servers) place (server_at levels (first + place) es) ≡ servers_at levels first (set servers place es)
-servers_at-set levels first [] place es = refl
-servers_at-set levels first (x ∷ servers) zero es = ap (λ (n : ℕ). server_at levels n es ∷ servers_at levels (first + 1) servers) (omega arith)
-servers_at-set levels first (x ∷ servers) (suc place) es =
-    ap (λ (n : ℕ). server_at levels first x ∷ set (servers_at levels (first + 1) servers) place (server_at levels n es)) (omega arith)
-    ∙ ap (λ rest. server_at levels first x ∷ rest) (servers_at-set levels (first + 1) servers place es)
-
-servers_at-push : (levels first : ℕ) (servers : List (List NodeEntry)) (es : List NodeEntry)
-    → servers_at levels first (servers ++ es ∷ []) ≡ servers_at levels first servers ++ server_at levels (first + length servers) es ∷ []
-servers_at-push levels first [] es = ap (λ (n : ℕ). server_at levels n es ∷ []) (omega arith)
-servers_at-push levels first (x ∷ servers) es =
-    ap (λ rest. server_at levels first x ∷ rest) (servers_at-push levels (first + 1) servers es)
-    ∙ ap (λ (n : ℕ). server_at levels first x ∷ servers_at levels (first + 1) servers ++ server_at levels n es ∷ []) (omega arith)
-
-get_or-servers_at : (levels first : ℕ) (servers : List (List NodeEntry)) (place : ℕ) (d : ServerMirror) → place < length servers
-    → get_or (servers_at levels first servers) place d ≡ server_at levels (first + place) (get_or servers place [])
-get_or-servers_at levels first [] place d less = absurd (omega arith)
-get_or-servers_at levels first (x ∷ servers) zero d less = ap (λ (n : ℕ). server_at levels n x) (omega arith)
-get_or-servers_at levels first (x ∷ servers) (suc place) d less =
-    get_or-servers_at levels (first + 1) servers place d (omega arith) ∙ ap (λ (n : ℕ). server_at levels n (get_or servers place [])) (omega arith)
-
--- the servers without their entries, and the entries alone
-parts-servers_at : (levels first : ℕ) (servers : List (List NodeEntry)) → map (λ (s : ServerMirror). s.part) (servers_at levels first servers) ≡ nodes_at levels first servers
-parts-servers_at levels first [] = refl
-parts-servers_at levels first (x ∷ servers) = ap (λ rest. node_after_all levels first x ∷ rest) (parts-servers_at levels (first + 1) servers)
-
-prefixes-servers_at : (levels first : ℕ) (servers : List (List NodeEntry)) → map (λ (s : ServerMirror). s.prefix) (servers_at levels first servers) ≡ servers
-prefixes-servers_at levels first [] = refl
-prefixes-servers_at levels first (x ∷ servers) = ap (λ rest. x ∷ rest) (prefixes-servers_at levels (first + 1) servers)
-
-pub nodes_stand : (servers : List ServerMirror) (now : DeskMirror) (view : ViewMirror) (prefixes : JournalsView) → AreMirrors servers now view prefixes
-    → map (λ (s : ServerMirror). s.part) servers ≡ nodes_at prefixes.levels 1 prefixes.servers
-nodes_stand servers now view prefixes mirrors =
-    ap (map (λ (s : ServerMirror). s.part)) mirrors.servers_stand ∙ parts-servers_at prefixes.levels 1 prefixes.servers
+-- ---- legal journals of servers
 
 legal-at : (first : ℕ) (servers : List (List NodeEntry)) (place : ℕ) → AreLegalServers first servers → place < length servers → IsLegalNode (first + place) (reverse (get_or servers place []))
 legal-at first [] place legal less = absurd (omega arith)
@@ -133,267 +100,298 @@ view-led levels es more legal all =
     ∙ sym (state-joined view_reply_at view_after_at (view_state levels []) 1 es more)
     ∙ replays levels (es ++ more) all
 
+-- ---- prefixes that grow
+
+pub desk_grows : (w : JournalsView) → AreLegal w
+    → Grows desk_reply step_after (desk_at w.levels w.limits w.desk) (length w.desk + 1) (λ (more : List DeskEntry). grown w parts.Desk (entries.Desk more)) with_desk (λ (t : TablesView). t.desk)
+desk_grows w legal =
+    record {
+      legal = λ more gives. record { servers = legal.servers; desk = desk-legal w.levels w.limits w.desk more legal.desk gives; view = legal.view };
+      shows = λ more gives. sym (desk-led w.levels w.limits w.desk more);
+      one_more = λ more e. ap (λ (all : List DeskEntry). let o : JournalsView = record w { desk = all } in o) (append_assoc w.desk more (e ∷ []));
+    }
+
+pub view_grows : (w : JournalsView) → AreLegal w
+    → Grows view_reply view_after_at (view_at w.levels w.view) (length w.view + 1) (λ (more : List ViewEntry). grown w parts.View (entries.View more)) with_view (λ (t : TablesView). t.view)
+view_grows w legal =
+    record {
+      legal = λ more gives. record { servers = legal.servers; desk = legal.desk; view = view-legal w.levels w.view more legal.view gives };
+      shows = λ more gives. sym (view-led w.levels w.view more legal.view (view-legal w.levels w.view more legal.view gives));
+      one_more = λ more e. ap (λ (all : List ViewEntry). let o : JournalsView = record w { view = all } in o) (append_assoc w.view more (e ∷ []));
+    }
+
+-- what a server replies, and the server after an ask
+abbrev pub said_by : NodeView → NodeAsk → NodeReply
+said_by s a = node_reply s.server s.state a
+
+abbrev pub after_of : NodeView → ℕ → NodeAsk → NodeView
+after_of s n a = answered s n a
+
+module _ (w : JournalsView) (one_each : length w.servers + 1 ≡ 2 ^ w.levels) (number : ℕ) (of_tree : IsServer w.levels number) where
+  numbered : 1 + (number - 1) ≡ number
+  numbered = let least = of_tree.0 in omega arith
+
+  within : number - 1 < length w.servers
+  within = let least = of_tree.0 in let most = of_tree.1 in omega (arith, one_each)
+
+  abbrev with_more : List NodeEntry → JournalsView
+  with_more more = grown w (parts.Server number) (entries.Server more)
+
+  pub entries_with : (more : List NodeEntry) → entries_of (with_more more) number ≡ server_prefix w number ++ more
+  entries_with more = get_or-set_same w.servers (number - 1) (server_prefix w number ++ more) [] within
+
+  -- of the tables of these journals the number of the next entry may be asked
+  pub may_ask : (more : List NodeEntry) (tables : TablesView) (next : ℕ) → tables ≡ tables_of (with_more more) → next ≡ length (server_prefix w number) + length more + 1 → MayAskNode tables number next
+  may_ask more tables next stand is =
+      let long = length-set w.servers (number - 1) (server_prefix w number ++ more) in
+      let less = within in
+      let least = of_tree.0 in
+      let count = ap (λ (es : List NodeEntry). length es) (entries_with more) in
+      let sum = length-append (server_prefix w number) more in
+      record {
+        journals = with_more more;
+        stand = stand;
+        there = (least, omega (arith, long, less, least));
+        next = omega (arith, is, count, sum);
+      }
+
+  server_shown : (more : List NodeEntry) → node_in (tables_of (with_more more)).nodes number ≡ node_after_all w.levels number (server_prefix w number ++ more)
+  server_shown more =
+      let tables = tables_of (with_more more) in
+      let next = length (server_prefix w number) + length more + 1 in
+      let there = is_there tables number next (may_ask more tables next refl refl) in
+      node_is (with_more more) number tables (node_in tables.nodes number) refl there.0 (node_in-at tables.nodes number (omega (arith, there.0, there.1))) there.1
+      ∙ ap (node_after_all w.levels number) (entries_with more)
+
+  server_legal : AreLegal w → (more : List NodeEntry) → IsLegalFrom (λ (s : NodeView) (n : ℕ) (a : NodeAsk). said_by s a) after_of (node_after_all w.levels number (server_prefix w number)) (length (server_prefix w number) + 1) more
+      → AreLegal (with_more more)
+  server_legal legal more gives =
+      let place = number - 1 in
+      let all = server_prefix w number ++ more in
+      let was = subst (λ (n : ℕ). IsLegalNode n (reverse (server_prefix w number))) numbered (legal-at 1 w.servers place legal.servers within) in
+      let one = server-legal w.levels number (server_prefix w number) more was gives in
+      record {
+        servers = legal-set 1 w.servers place all legal.servers (subst (λ (n : ℕ). IsLegalNode n (reverse all)) (sym numbered) one);
+        desk = legal.desk;
+        view = legal.view;
+      }
+
+  server_one_more : (more : List NodeEntry) (e : NodeEntry) → with_node (with_more more) number e ≡ with_more (more ++ e ∷ [])
+  server_one_more more e =
+      let place = number - 1 in
+      let all = server_prefix w number ++ more in
+      ap (λ (servers : List (List NodeEntry)). let o : JournalsView = record w { servers = servers } in o)
+      (set-set w.servers place all (entries_of (with_more more) number ++ e ∷ [])
+      ∙ ap (set w.servers place) (ap (λ (es : List NodeEntry). es ++ e ∷ []) (entries_with more) ∙ append_assoc (server_prefix w number) more (e ∷ [])))
+
+  pub server_grows : AreLegal w
+      → Grows said_by after_of (node_after_all w.levels number (server_prefix w number)) (length (server_prefix w number) + 1) (λ (more : List NodeEntry). grown w (parts.Server number) (entries.Server more))
+      (λ (o : JournalsView) (e : NodeEntry). with_node o number e) (λ (t : TablesView). node_in t.nodes number)
+  server_grows legal =
+      record {
+        legal = server_legal legal;
+        shows = λ more gives. server_shown more ∙ sym (server-led w.levels number (server_prefix w number) more);
+        one_more = server_one_more;
+      }
+
+-- nothing more
+pub desk_none : (w : JournalsView) → grown w parts.Desk (entries.Desk []) ≡ w
+desk_none w = ap (λ (all : List DeskEntry). let o : JournalsView = record w { desk = all } in o) (append-nil w.desk)
+
+pub view_none : (w : JournalsView) → grown w parts.View (entries.View []) ≡ w
+view_none w = ap (λ (all : List ViewEntry). let o : JournalsView = record w { view = all } in o) (append-nil w.view)
+
+pub server_none : (w : JournalsView) (number : ℕ) → grown w (parts.Server number) (entries.Server []) ≡ w
+server_none w number =
+    ap (λ (all : List (List NodeEntry)). let o : JournalsView = record w { servers = all } in o)
+    (ap (set w.servers (number - 1)) (append-nil (server_prefix w number)) ∙ set-get_or w.servers (number - 1) [])
+
+-- ---- tables that are led on
+
+abbrev pub DeskLed : JournalsView → TablesView → List DeskEntry → Type 0
+DeskLed w tables more = Led desk_reply step_after (desk_at w.levels w.limits w.desk) (length w.desk + 1) (λ (all : List DeskEntry). grown w parts.Desk (entries.Desk all)) tables more
+
+abbrev pub ViewLed : JournalsView → TablesView → List ViewEntry → Type 0
+ViewLed w tables more = Led view_reply view_after_at (view_at w.levels w.view) (length w.view + 1) (λ (all : List ViewEntry). grown w parts.View (entries.View all)) tables more
+
+abbrev pub ServerLed : JournalsView → ℕ → TablesView → List NodeEntry → Type 0
+ServerLed w number tables more =
+    Led said_by after_of (node_after_all w.levels number (server_prefix w number)) (length (server_prefix w number) + 1)
+    (λ (all : List NodeEntry). grown w (parts.Server number) (entries.Server all)) tables more
+
+-- of the tables of these journals the desk may be asked
+pub may_ask_desk : (w : JournalsView) (xs : List DeskEntry) (i : ℕ) → i < length xs → length w.desk + length xs < 2 ^ 64 → (tables : TablesView) → DeskLed w tables (take i xs) → MayAskDesk tables
+may_ask_desk w xs i less few tables led =
+    let sum = length-append w.desk (take i xs) in
+    let count = length-take-le i xs (omega (arith, less)) in
+    record { journals = grown w parts.Desk (entries.Desk (take i xs)); stand = led.stand; few = omega (arith, sum, count, few, less) }
+
+-- those that are not fewer are as many
+pub enough : {E : Type 0} (few : Bool) (read kept : List E) (more least : ℕ) → read ≡ kept → IsTrue few ↔ (length read + more < least) → few ≡ false → least ≤ length kept + more
+enough few read kept more least same is plenty =
+    let never = iff_false is plenty in
+    let count = ap length same in
+    grind (arith, never, count)
+
+-- ---- what is kept once a part followed more entries
+
+kept_grown : (tables ahead : TablesView) (w : JournalsView) → AreKept tables w → (part : Part) (more : Entries) (least : ℕ) → IsPartOf w.levels part → AreAhead ahead w part more least → AreKept ahead (grown w part more)
+kept_grown tables ahead w kept (parts.Server number) (entries.Server more) least of_tree led =
+    let long = length-set w.servers (number - 1) (server_prefix w number ++ more) in
+    let was = kept.one_each in
+    record { one_each = omega (arith, long, was); legal = (server_grows w kept.one_each number of_tree kept.legal).legal more led.gives; stand = led.stand }
+kept_grown tables ahead w kept parts.Desk (entries.Desk more) least of_tree led = record { one_each = kept.one_each; legal = (desk_grows w kept.legal).legal more led.gives; stand = led.stand }
+kept_grown tables ahead w kept parts.View (entries.View more) least of_tree led = record { one_each = kept.one_each; legal = (view_grows w kept.legal).legal more led.gives; stand = led.stand }
+kept_grown tables ahead w kept (parts.Server number) (entries.Desk more) least of_tree led = absurd led.gives
+kept_grown tables ahead w kept (parts.Server number) (entries.View more) least of_tree led = absurd led.gives
+kept_grown tables ahead w kept parts.Desk (entries.Server more) least of_tree led = absurd led.gives
+kept_grown tables ahead w kept parts.Desk (entries.View more) least of_tree led = absurd led.gives
+kept_grown tables ahead w kept parts.View (entries.Server more) least of_tree led = absurd led.gives
+kept_grown tables ahead w kept parts.View (entries.Desk more) least of_tree led = absurd led.gives
+
+-- there are as many of the part
+enough_grown : (tables ahead : TablesView) (w : JournalsView) → AreKept tables w → (part : Part) (more : Entries) (least : ℕ) → IsPartOf w.levels part → AreAhead ahead w part more least → least ≤ prefix_length (grown w part more) part
+enough_grown tables ahead w kept (parts.Server number) (entries.Server more) least of_tree led =
+    let many = led.enough in
+    let sum = length-append (server_prefix w number) more in
+    let count = ap (λ (es : List NodeEntry). length es) (entries_with w kept.one_each number of_tree more) in
+    omega (arith, many, sum, count)
+enough_grown tables ahead w kept parts.Desk (entries.Desk more) least of_tree led = let many = led.enough in let sum = length-append w.desk more in omega (arith, many, sum)
+enough_grown tables ahead w kept parts.View (entries.View more) least of_tree led = let many = led.enough in let sum = length-append w.view more in omega (arith, many, sum)
+enough_grown tables ahead w kept (parts.Server number) (entries.Desk more) least of_tree led = absurd led.gives
+enough_grown tables ahead w kept (parts.Server number) (entries.View more) least of_tree led = absurd led.gives
+enough_grown tables ahead w kept parts.Desk (entries.Server more) least of_tree led = absurd led.gives
+enough_grown tables ahead w kept parts.Desk (entries.View more) least of_tree led = absurd led.gives
+enough_grown tables ahead w kept parts.View (entries.Server more) least of_tree led = absurd led.gives
+enough_grown tables ahead w kept parts.View (entries.Desk more) least of_tree led = absurd led.gives
+
+-- these are kept, and are those prefixes
+pub record Stands (tables : TablesView) (kept prefixes : JournalsView) : Type 0 where
+  pub keeps : AreKept tables kept
+  pub leads : kept ≡ prefixes
+
+stands_at : (tables : TablesView) (kept prefixes : JournalsView) → kept ≡ prefixes → AreKept tables prefixes → Stands tables kept prefixes
+stands_at tables kept prefixes leads keeps = record { keeps = subst (λ (w : JournalsView). AreKept tables w) (sym leads) keeps; leads = leads }
+
+-- and are those with more of the part, and as many as were to be there
+pub record Taken (tables : TablesView) (kept old : JournalsView) (part : Part) (more : Entries) (least : ℕ) : Type 0 where
+  pub keeps : AreKept tables kept
+  pub leads : kept ≡ grown old part more
+  pub enough : least ≤ prefix_length kept part
+
+taken_at : (tables ahead : TablesView) (kept old : JournalsView) → AreKept tables old → (part : Part) (more : Entries) (least : ℕ) → IsPartOf old.levels part → AreAhead ahead old part more least
+    → kept ≡ grown old part more → Taken ahead kept old part more least
+taken_at tables ahead kept old was part more least of_tree led leads =
+    record {
+      keeps = subst (λ (w : JournalsView). AreKept ahead w) (sym leads) (kept_grown tables ahead old was part more least of_tree led);
+      leads = leads;
+      enough = subst (λ (w : JournalsView). least ≤ prefix_length w part) (sym leads) (enough_grown tables ahead old was part more least of_tree led);
+    }
+
+module _ (tables ahead : TablesView) (limits : LimitsView) (servers : List (List NodeEntry)) (now : List DeskEntry) (view : List ViewEntry) (old : JournalsView)
+    (same : prefixes_in tables limits servers now view ≡ old) (kept : AreKept tables (prefixes_in tables limits servers now view)) where
+  kept_old : AreKept tables old
+  kept_old = subst (λ (w : JournalsView). AreKept tables w) same kept
+
+  pub desk_taken : (after more : List DeskEntry) (least : ℕ) → AreAhead ahead old parts.Desk (entries.Desk more) least → after ≡ now ++ more
+      → Taken ahead (prefixes_in ahead limits servers after view) old parts.Desk (entries.Desk more) least
+  desk_taken after more least led is =
+      taken_at tables ahead (prefixes_in ahead limits servers after view) old kept_old parts.Desk (entries.Desk more) least tt led
+      ((λ i. prefixes_in (led.stand i) limits servers (is i) view)
+      ∙ (λ i. record { levels = old.levels; limits = (same i).limits; servers = (same i).servers; desk = (same i).desk ++ more; view = (same i).view }))
+
+  pub view_taken : (after more : List ViewEntry) (least : ℕ) → AreAhead ahead old parts.View (entries.View more) least → after ≡ view ++ more
+      → Taken ahead (prefixes_in ahead limits servers now after) old parts.View (entries.View more) least
+  view_taken after more least led is =
+      taken_at tables ahead (prefixes_in ahead limits servers now after) old kept_old parts.View (entries.View more) least tt led
+      ((λ i. prefixes_in (led.stand i) limits servers now (is i))
+      ∙ (λ i. record { levels = old.levels; limits = (same i).limits; servers = (same i).servers; desk = (same i).desk; view = (same i).view ++ more }))
+
+  server_taken : (number : ℕ) (of_tree : IsServer old.levels number) (after : List (List NodeEntry)) (more : List NodeEntry) (least : ℕ) → AreAhead ahead old (parts.Server number) (entries.Server more) least
+      → after ≡ set servers (number - 1) (get_or servers (number - 1) [] ++ more)
+      → Taken ahead (prefixes_in ahead limits after now view) old (parts.Server number) (entries.Server more) least
+  server_taken number of_tree after more least led is =
+      taken_at tables ahead (prefixes_in ahead limits after now view) old kept_old (parts.Server number) (entries.Server more) least of_tree led
+      ((λ i. prefixes_in (led.stand i) limits (is i) now view)
+      ∙ (λ i. record { levels = old.levels; limits = (same i).limits; servers = set (same i).servers (number - 1) (server_prefix (same i) number ++ more); desk = (same i).desk; view = (same i).view }))
+
+  -- where memory is refused the entries of a part stay
+  pub desk_stays : (after : List DeskEntry) → after ≡ now → Stands tables (prefixes_in tables limits servers after view) old
+  desk_stays after is = stands_at tables (prefixes_in tables limits servers after view) old (ap (λ (es : List DeskEntry). prefixes_in tables limits servers es view) is ∙ same) kept_old
+
+  pub view_stays : (after : List ViewEntry) → after ≡ view → Stands tables (prefixes_in tables limits servers now after) old
+  view_stays after is = stands_at tables (prefixes_in tables limits servers now after) old (ap (λ (es : List ViewEntry). prefixes_in tables limits servers now es) is ∙ same) kept_old
+
+  servers_stay : (after : List (List NodeEntry)) → after ≡ servers → Stands tables (prefixes_in tables limits after now view) old
+  servers_stay after is = stands_at tables (prefixes_in tables limits after now view) old (ap (λ (all : List (List NodeEntry)). prefixes_in tables limits all now view) is ∙ same) kept_old
+
+-- what was found to be ahead
+pub found_ahead : {E : Type 0} (found : Option TablesView) (ahead : TablesView) (w : JournalsView) (part : Part) (of : List E → Entries) (lent more : List E) (least : ℕ) → lent ≡ more → found ≡ Some ahead
+    → MatchOption found (IsForeign w part (of lent) least) (λ (t : TablesView). AreAhead t w part (of lent) least) → AreAhead ahead w part (of more) least
+found_ahead {E} found ahead w part of lent more least same is matched =
+    subst (λ (es : List E). AreAhead ahead w part (of es) least) same
+    (subst (λ (f : Option TablesView). MatchOption f (IsForeign w part (of lent) least) (λ (t : TablesView). AreAhead t w part (of lent) least)) is matched)
+
+-- nothing is said of Ok where the result is an error
+pub never_on_ok : {T E : Type 0} (Q : E → Type 0) (P : Type 0) (result : Result T E) → IsErrAnd result Q → OnOk result P
+never_on_ok Q P (Ok value) is = absurd is
+never_on_ok Q P (Err fault) is = tt
+
+-- and what holds anyway is said of an error
+pub on_error : {T E : Type 0} (P : Type 0) (result : Result T E) → P → OnErr result P
+on_error P (Ok value) holds = tt
+on_error P (Err fault) holds = holds
+
+-- a server, of which the entries are read at its place, and put there once more
+module _ {V : Type 0} (items : V → List NodeEntry) (tables : TablesView) (limits : LimitsView) (journals : List V) (now : List DeskEntry) (view : List ViewEntry) (old : JournalsView)
+    (same : prefixes_in tables limits (map items journals) now view ≡ old) (kept : AreKept tables (prefixes_in tables limits (map items journals) now view))
+    (number : ℕ) (of_tree : IsServer old.levels number) where
+  pub less : number - 1 < length journals
+  less =
+      let inside = subst (λ (w : JournalsView). IsServer w.levels number) (sym same) of_tree in
+      let there = within (prefixes_in tables limits (map items journals) now view) kept.one_each number inside in
+      let count = length-map journals items in
+      omega (arith, there, count)
+
+  -- its entries are few where those of each journal are
+  pub server_few : (d : V) → ((v : V) → length (items v) < 2 ^ 63) → length (server_prefix old number) < 2 ^ 63
+  server_few d few =
+      let is = get_or-map items journals (number - 1) d [] less in
+      subst (λ (w : JournalsView). length (server_prefix w number) < 2 ^ 63) same
+      (subst (λ (es : List NodeEntry). length es < 2 ^ 63) (sym is) (few (get_or journals (number - 1) d)))
+
+  module _ (here after : V) (at : here ≡ get_or journals (number - 1) here) where
+    read : get_or (map items journals) (number - 1) [] ≡ items here
+    read = get_or-map items journals (number - 1) here [] less ∙ ap items (sym at)
+
+    pub server_followed : (ahead : TablesView) (more : List NodeEntry) (least : ℕ) → AreAhead ahead old (parts.Server number) (entries.Server more) least → items after ≡ items here ++ more
+        → Taken ahead (prefixes_in ahead limits (map items (set journals (number - 1) after)) now view) old (parts.Server number) (entries.Server more) least
+    server_followed ahead more least led is =
+        server_taken tables ahead limits (map items journals) now view old same kept number of_tree (map items (set journals (number - 1) after)) more least led
+        (map-set items journals (number - 1) after
+        ∙ ap (set (map items journals) (number - 1)) (is ∙ ap (λ (es : List NodeEntry). es ++ more) (sym read)))
+
+    pub server_stays : items after ≡ items here → Stands tables (prefixes_in tables limits (map items (set journals (number - 1) after)) now view) old
+    server_stays is =
+        servers_stay tables tables limits (map items journals) now view old same kept (map items (set journals (number - 1) after))
+        (map-set items journals (number - 1) after ∙ ap (set (map items journals) (number - 1)) (is ∙ sym read) ∙ set-get_or (map items journals) (number - 1) [])
+
 -- ---- nothing pulled
-
-pub record Opens (servers : List ServerMirror) (now : DeskMirror) (view : ViewMirror) (levels : ℕ) (limits : LimitsView) (prefixes : JournalsView) : Type 0 where
-  pub stands : AreMirrors servers now view (prefixes_in levels limits servers now view)
-  pub leads : prefixes_in levels limits servers now view ≡ prefixes
-
-pub one_more : (levels place : ℕ) (servers more : List ServerMirror) (here : ServerMirror)
-    → servers ≡ servers_at levels 1 (replicate place []) → more ≡ servers ++ here ∷ [] → here ≡ mirrored (node.opening levels (place + 1)) []
-    → more ≡ servers_at levels 1 (replicate (place + 1) [])
-one_more levels place servers more here old is here_is =
-    let count : length (replicate {A = List NodeEntry} place []) ≡ place = length-replicate place [] in
-    let next : place + 1 ≡ 1 + length (replicate {A = List NodeEntry} place []) = omega arith in
-    is
-    ∙ ap (λ (all : List ServerMirror). all ++ here ∷ []) old
-    ∙ ap (λ (s : ServerMirror). servers_at levels 1 (replicate place []) ++ s ∷ []) (here_is ∙ ap (λ (n : ℕ). server_at levels n []) next)
-    ∙ sym (servers_at-push levels 1 (replicate place []) [])
-    ∙ ap (servers_at levels 1) (replicate_more place [])
 
 legal-none : (first count : ℕ) → AreLegalServers first (replicate count [])
 legal-none first zero = tt
 legal-none first (suc count) = (tt, legal-none (first + 1) count)
 
-none_stand : (levels : ℕ) (limits : LimitsView)
-    → AreMirrors (servers_at levels 1 (replicate (2 ^ levels - 1) [])) (mirrored (desk.opening levels limits) []) (mirrored (view_state levels []) []) (nothing_pulled levels limits)
-none_stand levels limits =
+pub opened_is : (tables : TablesView) (levels : ℕ) (limits : LimitsView) (servers : List (List NodeEntry)) (now : List DeskEntry) (view : List ViewEntry)
+    → servers ≡ replicate (2 ^ levels - 1) [] → now ≡ [] → view ≡ [] → tables ≡ tables_of (nothing_pulled levels limits)
+    → Stands tables (prefixes_in tables limits servers now view) (nothing_pulled levels limits)
+opened_is tables levels limits servers now view s d v stand =
     let positive : 0 < 2 ^ levels = pow_pos levels in
     let count : length (replicate {A = List NodeEntry} (2 ^ levels - 1) []) ≡ 2 ^ levels - 1 = length-replicate (2 ^ levels - 1) [] in
-    record {
+    stands_at tables (prefixes_in tables limits servers now view) (nothing_pulled levels limits)
+    (λ i. record { levels = (stand i).levels; limits = limits; servers = s i; desk = d i; view = v i })
+    (record {
       one_each = omega arith;
-      servers_stand = refl;
-      desk_stands = refl;
-      view_stands = refl;
       legal = record { servers = legal-none 1 (2 ^ levels - 1); desk = tt; view = tt };
-    }
-
-pub opened_is : (levels place : ℕ) (limits : LimitsView) (servers : List ServerMirror) (now : DeskMirror) (view : ViewMirror)
-    → place ≡ 2 ^ levels - 1 → servers ≡ servers_at levels 1 (replicate place [])
-    → now ≡ mirrored (desk.opening levels limits) [] → view ≡ mirrored (view_state levels []) []
-    → Opens servers now view levels limits (nothing_pulled levels limits)
-opened_is levels place limits servers now view count stand opening start =
-    let none = replicate {A = List NodeEntry} (2 ^ levels - 1) [] in
-    let at_last : servers ≡ servers_at levels 1 none = stand ∙ ap (λ (n : ℕ). servers_at levels 1 (replicate n [])) count in
-    let all : prefixes_in levels limits servers now view ≡ nothing_pulled levels limits =
-    (λ i. prefixes_in levels limits (at_last i) (opening i) (start i))
-    ∙ ap (λ (es : List (List NodeEntry)). let w : JournalsView = record { levels = levels; limits = limits; servers = es; desk = []; view = [] } in w) (prefixes-servers_at levels 1 none) in
-    record {
-      stands = subst (λ (w : JournalsView). AreMirrors servers now view w) (sym all)
-          (subst (λ (s : List ServerMirror). AreMirrors s now view (nothing_pulled levels limits)) (sym at_last)
-          (subst (λ (d : DeskMirror). AreMirrors (servers_at levels 1 none) d view (nothing_pulled levels limits)) (sym opening)
-          (subst (λ (v : ViewMirror). AreMirrors (servers_at levels 1 none) (mirrored (desk.opening levels limits) []) v (nothing_pulled levels limits)) (sym start) (none_stand levels limits))));
-      leads = all;
-    }
-
--- ---- one part has followed more entries
-
--- a server's reply, and the server after it
-abbrev pub step_of : NodeView → ℕ → NodeAsk → NodeReply
-step_of s n a = node_reply s.server s.state a
-
-abbrev pub after_of : NodeView → ℕ → NodeAsk → NodeView
-after_of s n a = answered s n a
-
--- the parts stand so, and these entries stand behind those of the part
-pub record Followed (servers : List ServerMirror) (now : DeskMirror) (view : ViewMirror) (levels : ℕ) (limits : LimitsView) (grows : JournalsView) : Type 0 where
-  pub stands : AreMirrors servers now view (prefixes_in levels limits servers now view)
-  pub leads : prefixes_in levels limits servers now view ≡ grows
-
-module _ (servers : List ServerMirror) (now : DeskMirror) (view : ViewMirror) (levels : ℕ) (limits : LimitsView) (old : JournalsView)
-    (mirrors : AreMirrors servers now view (prefixes_in levels limits servers now view)) (same : prefixes_in levels limits servers now view ≡ old) where
-  abbrev w : JournalsView
-  w = prefixes_in levels limits servers now view
-
-  -- the desk
-  desk_is : now ≡ mirrored (desk_at levels limits now.prefix) now.prefix
-  desk_is = mirrors.desk_stands
-
-  desk_gives : (more : List DeskEntry) → Gives step_reply step_after now more → IsLegalFrom step_reply step_after (desk_at levels limits now.prefix) (length now.prefix + 1) more
-  desk_gives more gives = subst (λ (d : DeskView). IsLegalFrom step_reply step_after d (length now.prefix + 1) more) (ap (λ (m : DeskMirror). m.part) desk_is) gives
-
-  desk_given : (more : List DeskEntry) → IsLegalFrom step_reply step_after (desk_at levels limits now.prefix) (length now.prefix + 1) more → Gives step_reply step_after now more
-  desk_given more gives = subst (λ (d : DeskView). IsLegalFrom step_reply step_after d (length now.prefix + 1) more) (sym (ap (λ (m : DeskMirror). m.part) desk_is)) gives
-
-  pub desk_followed : (after : DeskMirror) (more : List DeskEntry) → after ≡ led step_after now more → Gives step_reply step_after now more
-      → Followed servers after view levels limits (grown old parts.Desk (entries.Desk more))
-  desk_followed after more is gives =
-      let all = now.prefix ++ more in
-      let there : after ≡ mirrored (desk_at levels limits all) all =
-      is ∙ ap (λ (d : DeskView). mirrored (state_from step_after d (length now.prefix + 1) more) all) (ap (λ (m : DeskMirror). m.part) desk_is) ∙ ap (λ (d : DeskView). mirrored d all) (desk-led levels limits now.prefix more) in
-      let legal = desk-legal levels limits now.prefix more mirrors.legal.desk (desk_gives more gives) in
-      let stands : AreMirrors servers (mirrored (desk_at levels limits all) all) view (prefixes_in levels limits servers (mirrored (desk_at levels limits all) all) view) =
-      record {
-        one_each = mirrors.one_each;
-        servers_stand = mirrors.servers_stand;
-        desk_stands = refl;
-        view_stands = mirrors.view_stands;
-        legal = record { servers = mirrors.legal.servers; desk = legal; view = mirrors.legal.view };
-      } in
-      record {
-        stands = subst (λ (d : DeskMirror). AreMirrors servers d view (prefixes_in levels limits servers d view)) (sym there) stands;
-        leads = ap (λ (d : DeskMirror). prefixes_in levels limits servers d view) there ∙ ap (λ (o : JournalsView). grown o parts.Desk (entries.Desk more)) same;
-      }
-
-  pub desk_strayed : (more : List DeskEntry) (least : ℕ) (fault : Strayed DeskEntry)
-      → IsStray more ((Gives step_reply step_after now more → ⊥) ⊎ (length now.prefix + length more < least)) fault
-      → IsPullFault old parts.Desk (entries.Desk more) least (fault_of parts.Desk entries.Desk fault)
-  desk_strayed more least strayed.Memory is = tt
-  desk_strayed more least (strayed.Foreign given) is =
-      (refl, (ap entries.Desk is.0, subst (λ (o : JournalsView). IsForeign o parts.Desk (entries.Desk more) least) same (by is.1)))
-    where
-      by : (Gives step_reply step_after now more → ⊥) ⊎ (length now.prefix + length more < least) → IsForeign w parts.Desk (entries.Desk more) least
-      by (inl never) = inl (λ next. never (desk_given more next))
-      by (inr short) = inr short
-
-  -- the view
-  view_is : view ≡ mirrored (view_at levels view.prefix) view.prefix
-  view_is = mirrors.view_stands
-
-  view_gives : (more : List ViewEntry) → Gives view_reply_at view_after_at view more → IsLegalFrom view_reply_at view_after_at (view_at levels view.prefix) (length view.prefix + 1) more
-  view_gives more gives = subst (λ (v : Live). IsLegalFrom view_reply_at view_after_at v (length view.prefix + 1) more) (ap (λ (m : ViewMirror). m.part) view_is) gives
-
-  view_given : (more : List ViewEntry) → IsLegalFrom view_reply_at view_after_at (view_at levels view.prefix) (length view.prefix + 1) more → Gives view_reply_at view_after_at view more
-  view_given more gives = subst (λ (v : Live). IsLegalFrom view_reply_at view_after_at v (length view.prefix + 1) more) (sym (ap (λ (m : ViewMirror). m.part) view_is)) gives
-
-  pub view_followed : (after : ViewMirror) (more : List ViewEntry) → after ≡ led view_after_at view more → Gives view_reply_at view_after_at view more
-      → Followed servers now after levels limits (grown old parts.View (entries.View more))
-  view_followed after more is gives =
-      let all = view.prefix ++ more in
-      let legal = view-legal levels view.prefix more mirrors.legal.view (view_gives more gives) in
-      let there : after ≡ mirrored (view_at levels all) all =
-      is ∙ ap (λ (v : Live). mirrored (state_from view_after_at v (length view.prefix + 1) more) all) (ap (λ (m : ViewMirror). m.part) view_is)
-      ∙ ap (λ (v : Live). mirrored v all) (view-led levels view.prefix more mirrors.legal.view legal) in
-      let stands : AreMirrors servers now (mirrored (view_at levels all) all) (prefixes_in levels limits servers now (mirrored (view_at levels all) all)) =
-      record {
-        one_each = mirrors.one_each;
-        servers_stand = mirrors.servers_stand;
-        desk_stands = mirrors.desk_stands;
-        view_stands = refl;
-        legal = record { servers = mirrors.legal.servers; desk = mirrors.legal.desk; view = legal };
-      } in
-      record {
-        stands = subst (λ (v : ViewMirror). AreMirrors servers now v (prefixes_in levels limits servers now v)) (sym there) stands;
-        leads = ap (λ (v : ViewMirror). prefixes_in levels limits servers now v) there ∙ ap (λ (o : JournalsView). grown o parts.View (entries.View more)) same;
-      }
-
-  pub view_strayed : (more : List ViewEntry) (least : ℕ) (fault : Strayed ViewEntry)
-      → IsStray more ((Gives view_reply_at view_after_at view more → ⊥) ⊎ (length view.prefix + length more < least)) fault
-      → IsPullFault old parts.View (entries.View more) least (fault_of parts.View entries.View fault)
-  view_strayed more least strayed.Memory is = tt
-  view_strayed more least (strayed.Foreign given) is =
-      (refl, (ap entries.View is.0, subst (λ (o : JournalsView). IsForeign o parts.View (entries.View more) least) same (by is.1)))
-    where
-      by : (Gives view_reply_at view_after_at view more → ⊥) ⊎ (length view.prefix + length more < least) → IsForeign w parts.View (entries.View more) least
-      by (inl never) = inl (λ next. never (view_given more next))
-      by (inr short) = inr short
-
-  -- a server
-  pub server_within : (number : ℕ) → IsServer old.levels number → number - 1 < length servers
-  server_within number of_tree =
-      let within : IsServer levels number = subst (λ (o : JournalsView). IsServer o.levels number) (sym same) of_tree in
-      let least = within.0 in
-      let most = within.1 in
-      let one_each = mirrors.one_each in
-      let count = length-map servers (λ (s : ServerMirror). s.prefix) in
-      omega arith
-
-  module _ (number : ℕ) (of_tree : IsServer old.levels number) (here : ServerMirror) (read : here ≡ get_or servers (number - 1) here) where
-    abbrev all_servers : List (List NodeEntry)
-    all_servers = map (λ (s : ServerMirror). s.prefix) servers
-
-    abbrev entries_here : List NodeEntry
-    entries_here = server_prefix w number
-
-    numbered : 1 + (number - 1) ≡ number
-    numbered = let least = of_tree.0 in omega arith
-
-    server_is : here ≡ server_at levels number entries_here
-    server_is =
-        let less = server_within number of_tree in
-        let count : length all_servers ≡ length servers = length-map servers (λ (s : ServerMirror). s.prefix) in
-        read
-        ∙ ap (λ (l : List ServerMirror). get_or l (number - 1) here) mirrors.servers_stand
-        ∙ get_or-servers_at levels 1 all_servers (number - 1) here (omega (arith, less, count))
-        ∙ ap (λ (n : ℕ). server_at levels n entries_here) numbered
-
-    server_gives : (more : List NodeEntry) → Gives step_of after_of here more → IsLegalFrom step_of after_of (node_after_all levels number entries_here) (length entries_here + 1) more
-    server_gives more gives = subst (λ (m : ServerMirror). Gives step_of after_of m more) server_is gives
-
-    pub server_followed : (after : ServerMirror) (more : List NodeEntry) → after ≡ led after_of here more → Gives step_of after_of here more
-        → Followed (set servers (number - 1) after) now view levels limits (grown old (parts.Server number) (entries.Server more))
-    server_followed after more is gives =
-        let place = number - 1 in
-        let all = entries_here ++ more in
-        let there : after ≡ server_at levels (1 + place) all =
-        is ∙ ap (λ (m : ServerMirror). led after_of m more) server_is ∙ ap (λ (n : NodeView). mirrored n all) (server-led levels number entries_here more)
-        ∙ ap (λ (n : ℕ). server_at levels n all) (sym numbered) in
-        let less = server_within number of_tree in
-        let count : length all_servers ≡ length servers = length-map servers (λ (s : ServerMirror). s.prefix) in
-        let within : place < length all_servers = omega (arith, less, count) in
-        let was = subst (λ (n : ℕ). IsLegalNode n (reverse entries_here)) numbered (legal-at 1 all_servers place mirrors.legal.servers within) in
-        let one = server-legal levels number entries_here more was (server_gives more gives) in
-        let legal = legal-set 1 all_servers place all mirrors.legal.servers (subst (λ (n : ℕ). IsLegalNode n (reverse all)) (sym numbered) one) in
-        let new : set servers place after ≡ servers_at levels 1 (set all_servers place all) =
-        (λ i. set (mirrors.servers_stand i) place (there i)) ∙ servers_at-set levels 1 all_servers place all in
-        let alone : map (λ (s : ServerMirror). s.prefix) (servers_at levels 1 (set all_servers place all)) ≡ set all_servers place all = prefixes-servers_at levels 1 (set all_servers place all) in
-        let stand : List ServerMirror = servers_at levels 1 (set all_servers place all) in
-        let grows : prefixes_in levels limits stand now view ≡ grown w (parts.Server number) (entries.Server more) =
-        ap (λ (l : List (List NodeEntry)). let o : JournalsView = record w { servers = l } in o) alone in
-        let long = length-set all_servers place all in
-        let one_each = mirrors.one_each in
-        let stands : AreMirrors stand now view (grown w (parts.Server number) (entries.Server more)) =
-        record {
-          one_each = omega (arith, long, one_each);
-          servers_stand = refl;
-          desk_stands = mirrors.desk_stands;
-          view_stands = mirrors.view_stands;
-          legal = record { servers = legal; desk = mirrors.legal.desk; view = mirrors.legal.view };
-        } in
-        record {
-          stands = subst (λ (l : List ServerMirror). AreMirrors l now view (prefixes_in levels limits l now view)) (sym new)
-              (subst (λ (o : JournalsView). AreMirrors stand now view o) (sym grows) stands);
-          leads = ap (λ (l : List ServerMirror). prefixes_in levels limits l now view) new ∙ grows ∙ ap (λ (o : JournalsView). grown o (parts.Server number) (entries.Server more)) same;
-        }
-
-    pub server_strayed : (more : List NodeEntry) (least : ℕ) (fault : Strayed NodeEntry)
-        → IsStray more ((Gives step_of after_of here more → ⊥) ⊎ (length here.prefix + length more < least)) fault
-        → IsPullFault old (parts.Server number) (entries.Server more) least (fault_of (parts.Server number) entries.Server fault)
-    server_strayed more least strayed.Memory is = tt
-    server_strayed more least (strayed.Foreign given) is =
-        (refl, (ap entries.Server is.0, subst (λ (o : JournalsView). IsForeign o (parts.Server number) (entries.Server more) least) same (by is.1)))
-      where
-        by : (Gives step_of after_of here more → ⊥) ⊎ (length here.prefix + length more < least) → IsForeign w (parts.Server number) (entries.Server more) least
-        by (inl never) = inl (λ next. never (subst (λ (m : ServerMirror). Gives step_of after_of m more) (sym server_is) next))
-        by (inr short) = inr (subst (λ (m : ServerMirror). length m.prefix + length more < least) server_is short)
-
--- ---- going back
-
-take-first : {E : Type 0} (xs ys : List E) → take (length xs) (xs ++ ys) ≡ xs
-take-first [] ys = refl
-take-first (x ∷ xs) ys = ap (λ rest. x ∷ rest) (take-first xs ys)
-
--- a mirror that followed entries and went back is as it was
-pub back_is : {S A R : Type 0} (after : S → ℕ → A → S) (here again back : Mirrored S A R) (before : S) (count : ℕ) (more : List (Entry A R))
-    → again ≡ led after here more → before ≡ here.part → count ≡ length here.prefix → back ≡ mirrored before (take count again.prefix) → back ≡ here
-back_is after here again back before count more grew was many is =
-    is ∙ (λ i. mirrored (was i) (take (many i) (grew i).prefix)) ∙ ap (mirrored here.part) (take-first here.prefix more)
-
-module _ (servers : List ServerMirror) (place : ℕ) (less : place < length servers) where
-  -- so are the servers where it stands again as it was read
-  pub servers_back : (here m back : ServerMirror) → here ≡ get_or servers place here → back ≡ here → set (set servers place m) place back ≡ servers
-  servers_back here m back read is = set-set servers place m back ∙ ap (set servers place) (is ∙ read) ∙ set-get_or servers place here
-
-  -- what is read there twice is one
-  pub read_again : (here again : ServerMirror) → here ≡ get_or servers place here → again ≡ get_or servers place again → again ≡ here
-  read_again here again read once_more = once_more ∙ get_or_default servers place again here less ∙ sym read
-
-  -- what is read where it was put
-  pub put_there : (m again : ServerMirror) → again ≡ get_or (set servers place m) place again → again ≡ m
-  put_there m again read = read ∙ get_or-set_same servers place m again less
-
-  pub prefix_there : (m : ServerMirror) → get_or (map (λ (s : ServerMirror). s.prefix) (set servers place m)) place [] ≡ m.prefix
-  prefix_there m =
-      let count : length (map (λ (s : ServerMirror). s.prefix) servers) ≡ length servers = length-map servers (λ (s : ServerMirror). s.prefix) in
-      ap (λ (l : List (List NodeEntry)). get_or l place []) (map-set (λ (s : ServerMirror). s.prefix) servers place m)
-      ∙ get_or-set_same (map (λ (s : ServerMirror). s.prefix) servers) place m.prefix [] (omega (arith, less, count))
+      stand = stand;
+    })

@@ -1,3 +1,3 @@
 pub mod Prefixes
-pub mod Mirrors
+pub mod Kept
 pub mod Astray

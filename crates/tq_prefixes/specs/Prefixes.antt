@@ -13,8 +13,6 @@ use Rattle.tq_desk.specs.DeskJournal.{step_reply, step_after}
 use Rattle.tq_live.specs.View.{view_reply_at, view_after_at}
 use Rattle.tq_tables.specs.Journals.{JournalsView}
 use Rattle.tq_tables.specs.Parts.{node_after_all, desk_at, view_at}
-use Rattle.tq_mirror.specs.declared.strayed.Strayed.{Strayed}
-use Rattle.tq_mirror.specs.declared.strayed.Strayed.TheVariants as strayed
 use Rattle.tq_prefixes.specs.declared.entries.Entries.{Entries}
 use Rattle.tq_prefixes.specs.declared.entries.Entries.TheVariants as entries
 use Rattle.tq_prefixes.specs.declared.fault.PullFault.{PullFault}
@@ -70,8 +68,3 @@ IsForeign prefixes part more least = (GivesNext prefixes part more → ⊥) ⊎ 
 abbrev pub IsPullFault : JournalsView → Part → Entries → ℕ → PullFault → Type 0
 IsPullFault prefixes part more least faults.Memory = ⊤
 IsPullFault prefixes part more least (faults.Foreign there given) = (there ≡ part) × ((given ≡ more) × IsForeign prefixes part more least)
-
--- the fault where a part's entries were not followed
-abbrev pub fault_of : {E : Type 0} → Part → (List E → Entries) → Strayed E → PullFault
-fault_of part of strayed.Memory = faults.Memory
-fault_of part of (strayed.Foreign given) = faults.Foreign part (of given)

@@ -1,100 +1,103 @@
-//! Parts that follow more entries of their journals.
-ghost use Rattle.std.specs.Prelude.{◌≡◌, ◌≤◌, IfOk, IfErr, OnOk, OnErr};
+//! The tables as they stand once a part was asked what further entries of its journal ask.
+ghost use Rattle.std.specs.Prelude.{◌+◌, ◌<◌, ◌^◌, ◌↔◌, length, IsTrue, IfOk, MatchOption};
 ghost use Rattle.tq_shape.specs.Tree.{IsServer};
-ghost use Rattle.tq_tables.specs.Tables.{tables_of};
-ghost use Rattle.tq_prefixes.specs.Prefixes.{IsPullFault, grown, prefix_length};
+ghost use Rattle.tq_prefixes.specs.Kept.{AreAhead};
+ghost use Rattle.tq_prefixes.specs.Prefixes.{IsForeign, server_prefix};
 
 use crate::entries::Entries;
-use crate::fault::{PullFault, desk_fault, server_fault, view_fault};
-use crate::mirrors::Mirrors;
+use crate::prefixes::Prefixes;
 use std::alloc::Global;
-use tq_shape::Part;
+use tq_alike::Same;
+use tq_shape::{Memory, Part};
 use tq_tables::{DeskEntry, NodeEntry, Tables, ViewEntry};
 
-impl Mirrors {
-    /// Follows entries of the server of that number, as `follow_desk` does those of the desk.
-    pub(crate) fn follow_server(
-        &mut self,
+impl Prefixes {
+    /// The tables once the server of that number was asked what these entries ask, as `ahead_of_desk` those of the desk.
+    pub(crate) fn ahead_of_server(
+        &self,
         alloc: Global,
         number: u64,
-        entries: Vec<NodeEntry>,
+        entries: &[NodeEntry],
         least: u64,
-    ) -> Result<Tables, PullFault>
-        requires { IsServer self.old.levels number }
-        ensures grown { OnOk result (self.new ≡ grown self.old (Part.Server number) (Entries.Server entries.items)) }
-        ensures tables { IfOk result (λ tables. tables ≡ tables_of self.new) }
-        ensures least { OnOk result (least ≤ prefix_length self.new (Part.Server number)) }
-        ensures err { OnErr result (self.new ≡ self.old) }
-        ensures fault { IfErr result (IsPullFault self.old (Part.Server number) (Entries.Server entries.items) least) }
+    ) -> Result<Option<Tables>, Memory>
+        requires there { IsServer self.now.levels number }
+        requires few { length (server_prefix self.now number) + length entries.now < 2 ^ 64 }
+        ensures { IfOk result (λ found. MatchOption found
+            (IsForeign self.now (Part.Server number) (Entries.Server entries.now) least)
+            (λ ahead. AreAhead ahead self.now (Part.Server number) (Entries.Server entries.now) least)) }
     {
-        let place = (number - 1) as usize;
-        let count = self.servers[place].prefix().len();
-        let before = match self.servers[place].follow(alloc, entries, least) {
-            Ok(before) => before,
-            Err(strayed) => return Err(server_fault(number, strayed)),
-        };
-        match self.tables(alloc) {
-            Ok(tables) => Ok(tables),
-            Err(_refused) => {
-                self.servers[place].back(before, count);
-                Err(PullFault::Memory)
+        let known = self.server(number).len();
+        if are_few(known, entries.len(), least) {
+            return Ok(None);
+        }
+        let mut ahead = self.kept().copy(alloc)?;
+        let mut next = known as u64;
+        for entry in entries {
+            next += 1;
+            let replies = ahead.ask_node(alloc, number, next, &entry.ask)?;
+            if !replies.told.is_same(&entry.reply) {
+                return Ok(None);
             }
         }
+        Ok(Some(ahead))
     }
 
-    /// Follows the entries of the desk that come next, and hands out the tables over all entries from then on. Answers
-    /// `Foreign` with the entries where the desk would not give them where it stands, or where with them there are fewer
-    /// than `least`, and `Memory` where memory is refused. At a fault all is as it was.
-    pub(crate) fn follow_desk(
-        &mut self,
+    /// The tables once the desk was asked what these entries ask; none where it would not give one of them, or where with
+    /// them there are fewer than `least`. Answers an error only where memory is refused.
+    pub(crate) fn ahead_of_desk(
+        &self,
         alloc: Global,
-        entries: Vec<DeskEntry>,
+        entries: &[DeskEntry],
         least: u64,
-    ) -> Result<Tables, PullFault>
-        ensures grown { OnOk result (self.new ≡ grown self.old Part.Desk (Entries.Desk entries.items)) }
-        ensures tables { IfOk result (λ tables. tables ≡ tables_of self.new) }
-        ensures least { OnOk result (least ≤ prefix_length self.new Part.Desk) }
-        ensures err { OnErr result (self.new ≡ self.old) }
-        ensures fault { IfErr result (IsPullFault self.old Part.Desk (Entries.Desk entries.items) least) }
+    ) -> Result<Option<Tables>, Memory>
+        requires { length self.now.desk + length entries.now < 2 ^ 64 }
+        ensures { IfOk result (λ found. MatchOption found
+            (IsForeign self.now Part.Desk (Entries.Desk entries.now) least)
+            (λ ahead. AreAhead ahead self.now Part.Desk (Entries.Desk entries.now) least)) }
     {
-        let count = self.desk.prefix().len();
-        let before = match self.desk.follow(alloc, entries, least) {
-            Ok(before) => before,
-            Err(strayed) => return Err(desk_fault(strayed)),
-        };
-        match self.tables(alloc) {
-            Ok(tables) => Ok(tables),
-            Err(_refused) => {
-                self.desk.back(before, count);
-                Err(PullFault::Memory)
+        if are_few(self.desk().len(), entries.len(), least) {
+            return Ok(None);
+        }
+        let mut ahead = self.kept().copy(alloc)?;
+        for entry in entries {
+            let replies = ahead.ask_desk(alloc, &entry.ask)?;
+            if !replies.told.is_same(&entry.reply) {
+                return Ok(None);
             }
         }
+        Ok(Some(ahead))
     }
 
-    /// Follows entries of the view, as `follow_desk` does those of the desk.
-    pub(crate) fn follow_view(
-        &mut self,
+    /// The tables once the view was asked what these entries ask, as `ahead_of_desk` those of the desk.
+    pub(crate) fn ahead_of_view(
+        &self,
         alloc: Global,
-        entries: Vec<ViewEntry>,
+        entries: &[ViewEntry],
         least: u64,
-    ) -> Result<Tables, PullFault>
-        ensures grown { OnOk result (self.new ≡ grown self.old Part.View (Entries.View entries.items)) }
-        ensures tables { IfOk result (λ tables. tables ≡ tables_of self.new) }
-        ensures least { OnOk result (least ≤ prefix_length self.new Part.View) }
-        ensures err { OnErr result (self.new ≡ self.old) }
-        ensures fault { IfErr result (IsPullFault self.old Part.View (Entries.View entries.items) least) }
+    ) -> Result<Option<Tables>, Memory>
+        ensures { IfOk result (λ found. MatchOption found
+            (IsForeign self.now Part.View (Entries.View entries.now) least)
+            (λ ahead. AreAhead ahead self.now Part.View (Entries.View entries.now) least)) }
     {
-        let count = self.view.prefix().len();
-        let before = match self.view.follow(alloc, entries, least) {
-            Ok(before) => before,
-            Err(strayed) => return Err(view_fault(strayed)),
-        };
-        match self.tables(alloc) {
-            Ok(tables) => Ok(tables),
-            Err(_refused) => {
-                self.view.back(before, count);
-                Err(PullFault::Memory)
+        if are_few(self.view().len(), entries.len(), least) {
+            return Ok(None);
+        }
+        let mut ahead = self.kept().copy(alloc)?;
+        for entry in entries {
+            let replies = ahead.ask_view(alloc, &entry.ask)?;
+            if !replies.told.is_same(&entry.reply) {
+                return Ok(None);
             }
         }
+        Ok(Some(ahead))
     }
+}
+
+/// Whether so many entries and so many more are fewer than `least`.
+fn are_few(known: usize, more: usize, least: u64) -> bool
+    ensures { IsTrue result ↔ (known + more < least) }
+{
+    let known = known as u64;
+    let more = more as u64;
+    known < least && more < least - known
 }

@@ -6,7 +6,6 @@ mod astray;
 mod entries;
 mod fault;
 mod following;
-mod mirrors;
 mod prefixes;
 
 pub use entries::Entries;

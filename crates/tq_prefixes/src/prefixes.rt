@@ -1,35 +1,40 @@
-ghost use Rattle.std.specs.Prelude.{◌≡◌, ◌≤◌, IfOk, IfErr, OnOk, OnErr};
+ghost use Rattle.std.specs.Prelude.{◌≡◌, ◌≤◌, ◌-◌, ◌^◌, [], map, replicate, IfOk, IfErr, OnOk, OnErr};
 ghost use Rattle.tq_shape.specs.Tree.{IsServer};
 ghost use Rattle.tq_tables.specs.Parts.{AreLegal};
 ghost use Rattle.tq_tables.specs.Tables.{tables_of};
+ghost use Rattle.tq_prefixes.specs.Kept.{AreKept};
 ghost use Rattle.tq_prefixes.specs.Prefixes.{IsPullFault, grown, nothing_pulled, prefix_length, server_prefix};
 
 use crate::entries::Entries;
 use crate::fault::PullFault;
-use crate::mirrors::Mirrors;
 use std::alloc::Global;
 use std::marker::Model;
-use tq_shape::{Levels, Limits, Memory, Part};
-use tq_tables::{DeskEntry, NodeEntry, Tables, ViewEntry};
+use tq_desk::Desk;
+use tq_live::View;
+use tq_shape::{Levels, Limits, Memory, Part, Seq};
+use tq_tables::{DeskEntry, NodeEntry, Parts, Tables, ViewEntry, replay_nodes};
 
-/// What was pulled of the journals of a system: of each part the first entries, and the tables over them. Contracts see
-/// it as these entries; the journals that have them alone are legal.
+/// What was pulled of the journals of a system: of each part the first entries, and the tables over them, which alone
+/// keep how the parts stand. Contracts see it as these entries; the journals that have them alone are legal.
 #[derive(Drop)]
 pub struct Prefixes {
-    mirrors: Mirrors,
+    limits: Limits,
     tables: Tables,
+    servers: Vec<Vec<NodeEntry>>,
+    desk: Vec<DeskEntry>,
+    view: Vec<ViewEntry>,
 }
 
 impl Model for Prefixes {
-    ghost use Rattle.std.specs.Prelude.{◌≡◌};
+    ghost use Rattle.std.specs.Prelude.{map};
     ghost use Rattle.tq_tables.specs.Journals.{JournalsView};
-    ghost use Rattle.tq_tables.specs.Tables.{tables_of};
+    ghost use Rattle.tq_prefixes.specs.Kept.{AreKept, prefixes_in};
 
     ghost Value = { JournalsView };
 
-    ghost view = { λ a. a.mirrors };
+    ghost view = { λ a. prefixes_in a.tables a.limits (map (λ entries. entries.items) a.servers.items) a.desk.items a.view.items };
 
-    ghost invariant = { λ a. a.tables ≡ tables_of a.mirrors };
+    ghost invariant = { λ a. AreKept a.tables (prefixes_in a.tables a.limits (map (λ entries. entries.items) a.servers.items) a.desk.items a.view.items) };
 }
 
 impl Prefixes {
@@ -37,23 +42,32 @@ impl Prefixes {
     pub fn new(alloc: Global, levels: Levels, limits: Limits) -> Result<Prefixes, Memory>
         ensures { IfOk result (λ prefixes. prefixes ≡ nothing_pulled levels limits) }
     {
-        let mirrors = Mirrors::new(alloc, levels, limits)?;
-        let tables = mirrors.tables(alloc)?;
-        Ok(Prefixes { mirrors, tables })
+        let servers = empty_journals(alloc, levels)?;
+        let nodes = replay_nodes(alloc, levels, servers.as_slice())?;
+        let desk = Desk::new(alloc, levels, limits);
+        let view = View::new(alloc, levels)?;
+        let tables = Tables::over(alloc, Parts::new(nodes, desk, view), &[])?;
+        Ok(Prefixes {
+            limits,
+            tables,
+            servers,
+            desk: Vec::new(alloc),
+            view: Vec::new(alloc),
+        })
     }
 
     /// How many levels the tree of servers has.
     pub fn levels(&self) -> Levels
         ensures { result ≡ self.now.levels }
     {
-        self.mirrors.levels()
+        self.tables.levels()
     }
 
     /// The limits of the system.
     pub fn limits(&self) -> Limits
         ensures { result ≡ self.now.limits }
     {
-        self.mirrors.limits()
+        self.limits
     }
 
     /// The tables over what was pulled: those of journals that have these entries alone, which are legal.
@@ -61,7 +75,14 @@ impl Prefixes {
         ensures value { result.now ≡ tables_of self.now }
         ensures legal { AreLegal self.now }
     {
-        self.mirrors.are_legal();
+        self.kept()
+    }
+
+    /// The tables, and what holds of them and of the entries.
+    pub(crate) fn kept(&self) -> &Tables
+        ensures { AreKept result.now self.now }
+    {
+        let _ = &self.limits;
         &self.tables
     }
 
@@ -70,21 +91,22 @@ impl Prefixes {
         requires { IsServer self.now.levels number }
         ensures { result.now ≡ server_prefix self.now number }
     {
-        self.mirrors.server(number)
+        let place = (number - 1) as usize;
+        self.servers[place].as_slice()
     }
 
     /// What was pulled of the desk.
     pub fn desk(&self) -> &[DeskEntry]
         ensures { result.now ≡ self.now.desk }
     {
-        self.mirrors.desk()
+        self.desk.as_slice()
     }
 
     /// What was pulled of the view.
     pub fn view(&self) -> &[ViewEntry]
         ensures { result.now ≡ self.now.view }
     {
-        self.mirrors.view()
+        self.view.as_slice()
     }
 
     /// Takes entries of the server of that number, as `take_desk` takes those of the desk.
@@ -101,7 +123,16 @@ impl Prefixes {
         ensures err { OnErr result (self.new ≡ self.old) }
         ensures fault { IfErr result (IsPullFault self.old (Part.Server number) (Entries.Server entries.items) least) }
     {
-        self.tables = self.mirrors.follow_server(alloc, number, entries, least)?;
+        let Some(ahead) = self.ahead_of_server(alloc, number, entries.as_slice(), least)? else {
+            return Err(PullFault::Foreign {
+                part: Part::Server(number),
+                entries: Entries::Server(Seq::from_vec(entries)),
+            });
+        };
+        let place = (number - 1) as usize;
+        let mut next = entries;
+        self.servers[place].append(&mut next)?;
+        self.tables = ahead;
         Ok(())
     }
 
@@ -119,7 +150,15 @@ impl Prefixes {
         ensures err { OnErr result (self.new ≡ self.old) }
         ensures fault { IfErr result (IsPullFault self.old Part.Desk (Entries.Desk entries.items) least) }
     {
-        self.tables = self.mirrors.follow_desk(alloc, entries, least)?;
+        let Some(ahead) = self.ahead_of_desk(alloc, entries.as_slice(), least)? else {
+            return Err(PullFault::Foreign {
+                part: Part::Desk,
+                entries: Entries::Desk(Seq::from_vec(entries)),
+            });
+        };
+        let mut next = entries;
+        self.desk.append(&mut next)?;
+        self.tables = ahead;
         Ok(())
     }
 
@@ -135,7 +174,26 @@ impl Prefixes {
         ensures err { OnErr result (self.new ≡ self.old) }
         ensures fault { IfErr result (IsPullFault self.old Part.View (Entries.View entries.items) least) }
     {
-        self.tables = self.mirrors.follow_view(alloc, entries, least)?;
+        let Some(ahead) = self.ahead_of_view(alloc, entries.as_slice(), least)? else {
+            return Err(PullFault::Foreign {
+                part: Part::View,
+                entries: Entries::View(Seq::from_vec(entries)),
+            });
+        };
+        let mut next = entries;
+        self.view.append(&mut next)?;
+        self.tables = ahead;
         Ok(())
     }
+}
+
+/// A journal with no entry for each server of the tree.
+fn empty_journals(alloc: Global, levels: Levels) -> Result<Vec<Vec<NodeEntry>>, Memory>
+    ensures { IfOk result (λ servers. map (λ entries. entries.items) servers.items ≡ replicate (2 ^ levels - 1) []) }
+{
+    let mut servers = Vec::new(alloc);
+    for _ in 0..levels.servers() {
+        servers.push(Vec::new(alloc))?;
+    }
+    Ok(servers)
 }

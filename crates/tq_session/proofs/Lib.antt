@@ -1,5 +1,3 @@
 mod StreamLaws
 mod Pieces
 mod RunLaws
-mod Answering
-mod Sayings

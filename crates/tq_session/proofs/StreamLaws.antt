@@ -7,7 +7,7 @@ use Rattle.std.proofs.lemmas.List.Splits.{length-slice_split}
 use Rattle.tq_lines.specs.declared.line.Line.{Line}
 use Rattle.tq_lines.specs.declared.line.Line.TheVariants.{Bad}
 use Rattle.tq_lines.specs.Line.{line_of}
-use Rattle.tq_session.specs.Answer.{World, opening, answer}
+use Rattle.tq_answering.specs.Answer.{World, opening, answer}
 use Rattle.tq_lines.specs.Word.{without_return}
 use Rattle.tq_lines.specs.Text.{last_line, whole_parts, last_part, parts_of}
 use Rattle.tq_session.specs.Text.{lines_text, text_of, whole_text}

@@ -1,6 +1,3 @@
-pub mod Asked
-pub mod Answer
-pub mod Possible
 pub mod Text
 pub mod Stream
 pub use Rattle.tq_live.specs.Live

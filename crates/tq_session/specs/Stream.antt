@@ -2,7 +2,7 @@
 use Rattle.std.specs.Prelude.{ℕ, ◌==◌, cond, List, [], ◌∷◌, ◌++◌, take}
 use Rattle.tq_session.specs.declared.receiver.TheConstants.{KEPT}
 use Rattle.tq_lines.specs.Line.{line_of}
-use Rattle.tq_session.specs.Answer.{World, Answer, opening, answer}
+use Rattle.tq_answering.specs.Answer.{World, Answer, opening, answer}
 use Rattle.tq_lines.specs.Word.{without_return}
 
 -- what was received: the world after the whole lines, and what is kept of the line that goes on

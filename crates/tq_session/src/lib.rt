@@ -3,7 +3,6 @@
 
 mod receiver;
 mod runner;
-mod shell;
 
 pub use runner::{INPUT_LIMIT, run};
-pub use shell::Shell;
+pub use tq_answering::Shell;

@@ -1,6 +1,6 @@
-use crate::shell::Shell;
 use std::alloc::Global;
 use std::marker::Model;
+use tq_answering::Shell;
 use tq_lines::{LINE_LIMIT, Line, without_return};
 use tq_shape::{Levels, Memory};
 

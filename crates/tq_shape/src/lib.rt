@@ -9,6 +9,7 @@ mod list;
 mod part;
 mod server;
 mod server_set;
+mod shared;
 mod shared_list;
 
 pub use entry::Entry;
@@ -18,6 +19,7 @@ pub use list::{ExactClone, Seq};
 pub use part::Part;
 pub use server::{ServerId, Sides};
 pub use server_set::{ServerSet, ServerSetIter};
+pub use shared::Shared;
 pub use shared_list::SharedSeq;
 
 /// What a call answers where memory is refused.

@@ -4,9 +4,8 @@ use std::alloc::{AllocError, Global};
 use std::marker::Model;
 
 /// A type whose clones are equal to their source, as contracts see them.
-pub trait ExactClone: Clone + PartialEq {
+pub trait ExactClone: Clone {
     ghost use Rattle.std.specs.Prelude.{◌≡◌};
-    ghost use Rattle.std.specs.Bool.{Decides};
 
     ghost clones: { (x y : Self) → Self.is_clone x y → y ≡ x };
 }

@@ -100,6 +100,6 @@ impl<T: PartialEq> PartialEq for SharedSeq<T> {
     }
 }
 
-impl<T: Drop + PartialEq> ExactClone for SharedSeq<T> {
+impl<T: Drop> ExactClone for SharedSeq<T> {
     ghost clones = { λ x y h. h };
 }

@@ -11,7 +11,7 @@ use std::alloc::Global;
 use std::marker::Model;
 use tq_desk::{DeskAsk, DeskRefusal, DeskReply, Vote};
 use tq_node::{CitedVote, NodeAsk, Verdict, WorkAsk};
-use tq_shape::{Levels, Memory, Seq, ServerId};
+use tq_shape::{Levels, Memory, Seq, ServerId, Shared};
 
 /// A transaction that has ended.
 #[derive(Drop)]
@@ -81,15 +81,16 @@ impl Ended {
     }
 
     /// The ask that tells a server how it ended.
-    pub fn decide(&self, _alloc: Global) -> Result<NodeAsk, Memory>
+    pub fn decide(&self, alloc: Global) -> Result<NodeAsk, Memory>
         ensures { IfOk result (λ ask. ask ≡ spec.decide_ask self.now) }
     {
         let verdict = self.verdict.clone()?;
-        Ok(NodeAsk::Work(WorkAsk::Decide {
+        let decide = WorkAsk::Decide {
             txn: self.txn,
             verdict,
             cite: self.cite,
-        }))
+        };
+        Ok(NodeAsk::Work(Shared::new(alloc, decide)?))
     }
 
     /// The servers that granted it a lock, as far as it was handed them, ascending.

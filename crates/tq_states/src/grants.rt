@@ -44,13 +44,14 @@ fn grant_of(
 ) -> Result<Option<Grant>, Memory>
     ensures { IfOk result (λ grant. grant ≡ spec.grant_of kind txn file.now told.now) }
 {
-    let NodeAsk::Work(
-        WorkAsk::Lock {
-            txn: locker,
-            file: locked,
-            mode,
-        },
-    ) = &told.ask
+    let NodeAsk::Work(work) = &told.ask else {
+        return Ok(None);
+    };
+    let WorkAsk::Lock {
+        txn: locker,
+        file: locked,
+        mode,
+    } = work.get()
     else {
         return Ok(None);
     };

@@ -20,7 +20,7 @@ use std::marker::Model;
 use tq_coterie::Quorum;
 use tq_desk::{Grant, Op, OpKind};
 use tq_evidence::{granters, greatest_version, rises};
-use tq_shape::{ExactClone, Levels, Limits, Memory, Seq, ServerId};
+use tq_shape::{ExactClone, Levels, Limits, Memory, ServerId, SharedSeq};
 use tq_store::{Content, FileCopy, FileName};
 
 /// A transaction that may read and write.
@@ -62,7 +62,7 @@ impl Model for Open {
 /// The grants of an operation, and the quorum of their servers.
 #[derive(Drop)]
 struct Granted {
-    grants: Seq<Grant>,
+    grants: SharedSeq<Grant>,
     quorum: Quorum,
 }
 
@@ -294,7 +294,7 @@ impl Open {
         self.touched.copy()
     }
 
-    pub(crate) fn copy_ops(&self) -> Result<Seq<Op>, Memory>
+    pub(crate) fn copy_ops(&self) -> Result<SharedSeq<Op>, Memory>
         ensures { IfOk result (λ ops. ops ≡ self.now.ops) }
     {
         copy_of(&self.ops)
@@ -333,7 +333,7 @@ impl Open {
         let grants = grants_of(alloc, kind, self.txn, file, answers)?;
         match quorum_of(alloc, self.levels, grants.as_slice())? {
             Some(quorum) => Ok(Granted {
-                grants: Seq::from_vec(grants),
+                grants: SharedSeq::from_vec(grants)?,
                 quorum,
             }),
             None => Err(TxnFault::NotAMember),
@@ -444,8 +444,8 @@ fn is_later(file: &FileName, op: &Op) -> bool
 }
 
 /// The list that a vector holds, once more.
-pub(crate) fn copy_of<T: ExactClone>(items: &Vec<T>) -> Result<Seq<T>, Memory>
+pub(crate) fn copy_of<T: ExactClone>(items: &Vec<T>) -> Result<SharedSeq<T>, Memory>
     ensures { IfOk result (λ list. list ≡ items.now.items) }
 {
-    Ok(Seq::from_vec(items.clone()?))
+    Ok(SharedSeq::from_vec(items.clone()?)?)
 }

@@ -2,7 +2,7 @@ use tq_desk::{DeskAsk, DeskReply};
 use tq_node::{NodeAsk, NodeReply};
 
 /// A server's answer, as it was received: the ask, the reply, and the number of their entry in the server's journal.
-#[derive(Drop, Clone, PartialEq)]
+#[derive(Drop, Clone)]
 pub struct NodeTold {
     pub server: u64,
     pub number: u64,
@@ -11,7 +11,7 @@ pub struct NodeTold {
 }
 
 /// The desk's answer, as it was received: the ask, the reply, and the number of their entry in the desk's journal.
-#[derive(Drop, Clone, PartialEq)]
+#[derive(Drop, Clone)]
 pub struct DeskTold {
     pub number: u64,
     pub ask: DeskAsk,

@@ -18,7 +18,10 @@ pub(crate) fn vote_of(txn: u64, told: &NodeTold) -> Result<Option<Vote>, Memory>
     ensures value { IfOk result (λ vote. vote ≡ spec.vote_of txn told.now) }
     ensures server { IfOk result (λ vote. IfSome vote (λ v. v.server ≡ told.now.server)) }
 {
-    let NodeAsk::Work(WorkAsk::Prepare { txn: voter, .. }) = &told.ask else {
+    let NodeAsk::Work(work) = &told.ask else {
+        return Ok(None);
+    };
+    let WorkAsk::Prepare { txn: voter, .. } = work.get() else {
         return Ok(None);
     };
     let NodeReply::Yes { held, writes } = &told.reply else {

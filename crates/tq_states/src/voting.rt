@@ -16,7 +16,7 @@ use std::alloc::Global;
 use std::marker::Model;
 use tq_desk::{Op, Vote};
 use tq_node::{NodeAsk, WorkAsk};
-use tq_shape::{Memory, Seq, ServerId};
+use tq_shape::{Memory, ServerId, Shared, SharedSeq};
 
 /// A transaction that gathers votes.
 #[derive(Drop)]
@@ -83,7 +83,7 @@ impl Voting {
         ensures fault { IfErr result (λ fault. open_spec.ComesOf (spec.ask_fault self.now.txn server.number) fault) }
     {
         match self.work(alloc, server) {
-            Ok(work) => Ok(NodeAsk::Work(work)),
+            Ok(work) => Ok(NodeAsk::Work(Shared::new(alloc, work)?)),
             Err(fault) => Err(fault),
         }
     }
@@ -132,7 +132,7 @@ impl Voting {
         Ok(())
     }
 
-    pub(crate) fn copy_votes(&self) -> Result<Seq<Vote>, Memory>
+    pub(crate) fn copy_votes(&self) -> Result<SharedSeq<Vote>, Memory>
         ensures { IfOk result (λ votes. votes ≡ self.now.votes) }
     {
         copy_of(&self.votes)

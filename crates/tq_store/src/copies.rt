@@ -8,7 +8,7 @@ use std::marker::Model;
 use tq_shape::{ExactClone, Seq};
 
 /// A copy of a file: the version that was installed last, and its content.
-#[derive(Drop, Clone, PartialEq)]
+#[derive(Drop, Clone)]
 pub struct FileCopy {
     pub version: u64,
     pub content: Content,

@@ -24,7 +24,7 @@ pub enum IntentState {
 }
 
 /// A vote that is open at a server.
-#[derive(Drop, PartialEq)]
+#[derive(Drop)]
 pub struct IntentRow {
     pub server: ServerId,
     pub txn: u64,

@@ -1,21 +1,22 @@
 use std::alloc::Global;
 use tq_check::{Wrong, check};
 use tq_node::{CitedVote, Node, NodeAsk, NodeReply, WorkAsk};
-use tq_shape::{Levels, Memory};
+use tq_shape::{Levels, Memory, Shared};
 use tq_store::{Content, FileName};
 
 /// A refresh of a file, without a content.
-fn refresh() -> NodeAsk {
+fn refresh(alloc: Global) -> Result<NodeAsk, Memory> {
     let from = CitedVote {
         server: 1,
         number: 1,
     };
-    NodeAsk::Work(WorkAsk::Refresh {
+    let refresh = WorkAsk::Refresh {
         file: FileName::new(b"a").unwrap(),
         version: 1,
         content: Content::empty(),
         from,
-    })
+    };
+    Ok(NodeAsk::Work(Shared::new(alloc, refresh)?))
 }
 
 fn is_refreshed(reply: Result<NodeReply, Memory>) -> bool {
@@ -50,8 +51,11 @@ fn leaves_its_copy(alloc: Global, node: &Node) -> bool {
 fn refreshes(alloc: Global) -> bool {
     let levels = Levels::new(1).unwrap();
     let mut node = Node::new(alloc, levels, levels.root());
-    is_refreshed(node.foresee(alloc, 1, &refresh()))
-        && is_refreshed(node.answer(alloc, 1, &refresh()))
+    let Ok(ask) = refresh(alloc) else {
+        return false;
+    };
+    is_refreshed(node.foresee(alloc, 1, &ask))
+        && is_refreshed(node.answer(alloc, 1, &ask))
         && leaves_its_copy(alloc, &node)
 }
 

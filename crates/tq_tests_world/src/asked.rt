@@ -10,7 +10,7 @@ use tq_desk::{DeskAsk, DeskReply};
 use tq_live::{View, ViewAsk, ViewReply};
 use tq_merge::explain;
 use tq_node::{NodeAsk, Verdict, WorkAsk};
-use tq_shape::{Levels, Limits, Part};
+use tq_shape::{Levels, Limits, Memory, Part, Shared};
 use tq_tables::{Journals, Tables};
 
 /// Two commits, of `b`, and of `a` and `b`; server 2 is not told the second, and server 3 voted for it too, whose vote it does
@@ -156,12 +156,13 @@ fn is_file_explained(alloc: Global, view: &View) -> bool {
 // ---- steps of a service
 
 /// A verdict that the desk never told.
-fn unfounded_ask() -> NodeAsk {
-    NodeAsk::Work(WorkAsk::Decide {
+fn unfounded_ask(alloc: Global) -> Result<NodeAsk, Memory> {
+    let decide = WorkAsk::Decide {
         txn: 1,
         verdict: Verdict::Abort,
         cite: 1,
-    })
+    };
+    Ok(NodeAsk::Work(Shared::new(alloc, decide)?))
 }
 
 fn is_mark(answer: &Answer) -> bool {
@@ -200,12 +201,15 @@ fn runs(service: &mut Service, alloc: Global, steps: Vec<Step>) -> bool {
 /// Whether a run marks server 1 down, and takes no other step.
 fn marks(service: &mut Service, alloc: Global) -> bool {
     let (server, up) = (1, false);
+    let Ok(unfounded) = unfounded_ask(alloc) else {
+        return false;
+    };
     match vec![in alloc;
         Step::View(ViewAsk::Mark { server, up }),
         Step::View(ViewAsk::Choose),
         Step::Node {
             server: 1,
-            ask: unfounded_ask()
+            ask: unfounded
         },
         Step::Node {
             server: 4,

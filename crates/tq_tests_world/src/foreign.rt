@@ -6,7 +6,7 @@ use tq_desk::{DeskAsk, DeskReply};
 use tq_locks::Mode;
 use tq_node::{NodeAsk, NodeReply, Verdict, WorkAsk};
 use tq_refresh::{Job, copy_ask};
-use tq_shape::{Levels, Limits, ServerId, SharedSeq};
+use tq_shape::{Levels, Limits, Memory, ServerId, Shared, SharedSeq};
 use tq_store::{Content, FileName};
 use tq_txn::{DeskTold, NodeTold, Open, TxnFault, Voting};
 
@@ -22,15 +22,17 @@ fn begun(alloc: Global) -> Open {
 // ---- reads and writes
 
 /// What server 1 tells of an exclusive lock of a transaction on `a`, which has that version there.
-fn granted(txn: u64, version: u64) -> NodeTold {
+fn granted(alloc: Global, txn: u64, version: u64) -> Result<NodeTold, Memory> {
     let (file, mode) = (a(), Mode::Exclusive);
+    let lock = WorkAsk::Lock { txn, file, mode };
+    let ask = NodeAsk::Work(Shared::new(alloc, lock)?);
     let content = Content::empty();
-    NodeTold {
+    Ok(NodeTold {
         server: 1,
         number: 1,
-        ask: NodeAsk::Work(WorkAsk::Lock { txn, file, mode }),
+        ask,
         reply: NodeReply::Granted { version, content },
-    }
+    })
 }
 
 fn read(open: &mut Open, alloc: Global, told: &[NodeTold]) -> Option<TxnFault> {
@@ -49,7 +51,10 @@ fn write(open: &mut Open, alloc: Global, told: &[NodeTold]) -> Option<TxnFault> 
 
 /// Why a read by a grant of that transaction is not taken.
 fn read_granted(open: &mut Open, alloc: Global, txn: u64) -> Option<TxnFault> {
-    let told = [granted(txn, 7)];
+    let Ok(told) = granted(alloc, txn, 7) else {
+        return Some(TxnFault::Memory);
+    };
+    let told = [told];
     let fault = read(open, alloc, told.as_slice());
     forget(told);
     fault
@@ -57,7 +62,10 @@ fn read_granted(open: &mut Open, alloc: Global, txn: u64) -> Option<TxnFault> {
 
 /// Why a write above the greatest version is not taken.
 fn write_full(open: &mut Open, alloc: Global) -> Option<TxnFault> {
-    let told = [granted(1, 18_446_744_073_709_551_615)];
+    let Ok(told) = granted(alloc, 1, 18_446_744_073_709_551_615) else {
+        return Some(TxnFault::Memory);
+    };
+    let told = [told];
     let fault = write(open, alloc, told.as_slice());
     forget(told);
     fault
@@ -86,17 +94,18 @@ fn grants_are_refused(alloc: Global) -> bool {
 // ---- votes
 
 /// A vote of a server, as its second entry, for a transaction that holds and writes nothing there.
-fn voted(server: u64, txn: u64) -> NodeTold {
+fn voted(alloc: Global, server: u64, txn: u64) -> Result<NodeTold, Memory> {
     let writes = SharedSeq::empty();
-    NodeTold {
+    let ask = NodeAsk::Work(Shared::new(alloc, WorkAsk::Prepare { txn, writes })?);
+    Ok(NodeTold {
         server,
         number: 2,
-        ask: NodeAsk::Work(WorkAsk::Prepare { txn, writes }),
+        ask,
         reply: NodeReply::Yes {
             held: SharedSeq::empty(),
             writes: SharedSeq::empty(),
         },
-    }
+    })
 }
 
 /// Transaction 1 after a read of `a`, as it gathers votes.
@@ -114,7 +123,9 @@ fn voting(alloc: Global) -> Option<Voting> {
 
 /// Why the vote of a server for a transaction is not taken.
 fn vote(voting: &mut Voting, alloc: Global, server: u64, txn: u64) -> Option<TxnFault> {
-    let told = voted(server, txn);
+    let Ok(told) = voted(alloc, server, txn) else {
+        return Some(TxnFault::Memory);
+    };
     let fault = voting.vote(alloc, &told).err();
     forget(told);
     fault
@@ -190,7 +201,9 @@ fn takes_no_grant(alloc: Global) -> bool {
         server: ServerId::new(levels, 3),
         source: ServerId::new(levels, 2),
     };
-    let told = granted(1, 4);
+    let Ok(told) = granted(alloc, 1, 4) else {
+        return false;
+    };
     let asks_nothing = asks_nothing(alloc, &job, &told);
     forget(told);
     asks_nothing

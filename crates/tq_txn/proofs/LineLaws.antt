@@ -1,5 +1,5 @@
 -- What was told along a line, one ask or one part of it after another.
-use Rattle.std.proofs.Common.{◌≡◌, ℕ, false, List, [], ◌∷◌, ◌++◌, Option, Some, None, Result, Ok, Err, refl, sym, ap, ◌∙◌, subst, inl, inr, append_assoc, append-nil, ◌+◌, ◌-◌, ◌≤◌, suc, length, take, drop, get_or, arith}
+use Rattle.std.proofs.Common.{◌≡◌, ℕ, Bool, false, List, [], ◌∷◌, ◌++◌, Option, Some, None, Result, Ok, Err, refl, sym, ap, ◌∙◌, subst, inl, inr, append_assoc, append-nil, ◌+◌, ◌-◌, ◌≤◌, suc, length, take, drop, get_or, arith}
 use Rattle.tq_node.specs.declared.ask.NodeAsk.{NodeAsk}
 use Rattle.tq_node.specs.declared.ask.NodeReply.{NodeReply}
 use Rattle.tq_desk.specs.declared.ask.DeskAsk.{DeskAsk}
@@ -21,8 +21,8 @@ use Rattle.tq_states.specs.declared.told.NodeTold.{NodeTold}
 use Rattle.tq_locks.specs.declared.mode.Mode.{Mode}
 use Rattle.tq_shape.specs.Tree.{Server}
 use Rattle.tq_coterie.specs.Coterie.{numbers_of}
-use Rattle.tq_states.specs.Ended.{EndedView}
-use Rattle.tq_txn.specs.Lines.{LocksView, choose_line, next_lock, locks_line, quorum_line, read_end, quorum_read, read_line, write_end, quorum_write, write_line, refusal_in, voted, prepare_line, end_line, ending_line}
+use Rattle.tq_states.specs.Ended.{EndedView, decide_ask}
+use Rattle.tq_txn.specs.Lines.{LocksView, choose_line, next_lock, locks_line, quorum_line, read_end, quorum_read, read_line, write_end, quorum_write, write_line, refusal_in, voted, prepare_line, any_line, is_nothing_here, release_line, end_line, ending_line}
 use Rattle.tq_store.specs.declared.copies.FileCopy.{FileCopy}
 use Rattle.tq_evidence.specs.declared.op.OpKind.TheVariants as kinds
 use Rattle.tq_evidence.specs.Evidence.{greatest}
@@ -235,6 +235,15 @@ module _ (file : List ℕ) (mode : Mode) (levels : ℕ) (old : OpenView) (same :
         follows_on (choose_line old.levels) (λ none. old) (λ servers none. and_then (locks_line file mode servers (record { answers = []; txn = old })) (λ s. s.txn) (λ all s. done s.answers s.txn)) servers tt told mid after (Some (record { answer = Ok new.answers; after = new.txn }))
         (chosen_line told mid (Some record { answer = Ok servers; after = tt }) first)
         (follows_on (locks_line file mode servers (record { answers = []; txn = old })) (λ s. s.txn) (λ all s. done s.answers s.txn) tt new mid after after (Some (record { answer = Ok new.answers; after = new.txn })) (locked after (Some record { answer = Ok tt; after = new }) more) (follows_end _ after))
+
+-- a server is told the verdict by an ask that says it, and is then asked to release the locks where nothing was prepared
+pub end_told : (ended : EndedView) (server : ℕ) (ask : NodeAsk) (reply : Option NodeReply) (txn : ℕ) (wanted : Bool) (result : Result (Unit {0}) LineFault) (told mid new : List Exchange) → ask ≡ decide_ask ended → txn ≡ ended.txn → wanted ≡ is_nothing_here reply
+    → Follows (any_line server ask) told mid (Some (record { answer = Ok reply; after = tt })) → Follows (release_line txn server wanted) mid new (ended_by result tt) → Follows (end_line ended server) told new (ended_by result tt)
+end_told ended server ask reply txn wanted result told mid new is same nothing first rest =
+    let P : NodeAsk → Type 0 = λ a. Follows (any_line server a) told mid (Some (record { answer = Ok reply; after = tt })) in
+    let Q : ℕ → Type 0 = λ t. Follows (release_line t server wanted) mid new (ended_by result tt) in
+    let R : Bool → Type 0 = λ w. Follows (release_line ended.txn server w) mid new (ended_by result tt) in
+    follows_on (any_line server (decide_ask ended)) (λ none. none) (λ reply none. release_line ended.txn server (is_nothing_here reply)) reply tt told mid new (ended_by result tt) (subst P is first) (subst R nothing (subst Q same rest))
 
 module _ (ended : EndedView) (servers rest : List Server) (server : Server) (is : servers ≡ server ∷ rest) where
   pub ending_off : (fault : LineFault) (told new : List Exchange) → Follows (end_line ended server.number) told new (ended_by (Err fault) tt) → Follows (ending_line ended (numbers_of servers)) told new (ended_by (Err fault) tt)

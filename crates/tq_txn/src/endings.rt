@@ -2,6 +2,7 @@ ghost use Rattle.std.specs.Prelude.{◌≡◌, ◌==◌, ◌++◌, [], ◌∷◌
 ghost use Rattle.std.specs.List.{list_all};
 ghost use Rattle.tq_coterie.specs.Coterie.{numbers_of};
 ghost use Rattle.tq_states.specs.Cited.{VotesOnly};
+ghost use Rattle.tq_states.specs.Ended.{decide_ask};
 ghost use Rattle.tq_states.specs.Voting.{IsVotedOn, has_vote};
 ghost use Rattle.tq_txn.specs.Dialogue as line;
 ghost use Rattle.tq_txn.specs.Lines as spec;
@@ -12,7 +13,7 @@ ghost use Rattle.tq_txn.specs.declared.txn.Txn.TheVariants as states;
 use crate::{Applied, AskFault, Asker, Ended, LineFault, NodeTold, Voting};
 use std::alloc::{AllocError, Global};
 use tq_node::{NodeAsk, NodeRefusal, NodeReply, Verdict, WorkAsk};
-use tq_shape::{Memory, Part, ServerId};
+use tq_shape::{Memory, Part, ServerId, Shared};
 
 /// The refusal, where the reply is one.
 fn refusal_in(reply: &NodeReply) -> Option<NodeRefusal>
@@ -117,32 +118,61 @@ fn release_at<A: Asker>(
     if !wanted {
         return Ok(());
     }
-    match ask_any(
-        asker,
-        alloc,
-        server,
-        NodeAsk::Work(WorkAsk::Release { txn }),
-    ) {
+    let ask = NodeAsk::Work(Shared::new(alloc, WorkAsk::Release { txn })?);
+    match ask_any(asker, alloc, server, ask) {
         Ok(_) => Ok(()),
         Err(_) => Err(LineFault::Memory),
     }
 }
 
-/// Tells a server the verdict; where nothing is prepared there, the locks are released.
+/// The ask that tells the verdict, once more.
+fn decide_again(ended: &Ended, decide: &NodeAsk) -> Result<NodeAsk, Memory>
+    requires { decide.now ≡ decide_ask ended.now }
+    ensures { IfOk result (λ ask. ask ≡ decide_ask ended.now) }
+{
+    let _txn = ended.txn();
+    Ok(decide.clone()?)
+}
+
+/// Tells a server the verdict by this ask; where nothing is prepared there, the locks are released.
 fn end_at<A: Asker>(
     asker: &mut A,
     alloc: Global,
     ended: &Ended,
+    decide: &NodeAsk,
     server: ServerId,
 ) -> Result<(), LineFault>
-    requires { server.levels ≡ A.levels asker.old }
+    requires of_tree { server.levels ≡ A.levels asker.old }
+    requires decide { decide.now ≡ decide_ask ended.now }
     ensures asks { line.Follows (spec.end_line ended.now server.number) (A.told asker.old) (A.told asker.new) (line.ended_by result tt) }
     ensures tree { A.levels asker.new ≡ A.levels asker.old }
 {
-    let ask = ended.decide(alloc)?;
+    let ask = decide_again(ended, decide)?;
     match ask_any(asker, alloc, server, ask) {
         Ok(reply) => release_at(asker, alloc, ended.txn(), server, is_nothing_here(&reply)),
         Err(_) => Err(LineFault::Memory),
+    }
+}
+
+/// Tells each of the servers the verdict, in their order, by the same ask.
+fn end_by<A: Asker>(
+    asker: &mut A,
+    alloc: Global,
+    ended: &Ended,
+    decide: &NodeAsk,
+    servers: &[ServerId],
+) -> Result<(), LineFault>
+    requires of_tree { list_all (λ id. id.levels == A.levels asker.old) servers.now ≡ true }
+    requires decide { decide.now ≡ decide_ask ended.now }
+    ensures asks { line.Follows (spec.ending_line ended.now (numbers_of servers.now)) (A.told asker.old) (A.told asker.new) (line.ended_by result tt) }
+    ensures tree { A.levels asker.new ≡ A.levels asker.old }
+{
+    match servers {
+        [] => Ok(()),
+        [server, ..] => match end_at(asker, alloc, ended, decide, *server) {
+            Ok(()) => end_by(asker, alloc, ended, decide, &servers[1..]),
+            Err(fault) => Err(fault),
+        },
     }
 }
 
@@ -157,13 +187,11 @@ pub(crate) fn end_at_each<A: Asker>(
     ensures asks { line.Follows (spec.ending_line ended.now (numbers_of servers.now)) (A.told asker.old) (A.told asker.new) (line.ended_by result tt) }
     ensures tree { A.levels asker.new ≡ A.levels asker.old }
 {
-    match servers {
-        [] => Ok(()),
-        [server, ..] => match end_at(asker, alloc, ended, *server) {
-            Ok(()) => end_at_each(asker, alloc, ended, &servers[1..]),
-            Err(fault) => Err(fault),
-        },
-    }
+    let decide = match ended.decide(alloc) {
+        Ok(decide) => decide,
+        Err(_) => return Err(LineFault::Memory),
+    };
+    end_by(asker, alloc, ended, &decide, servers)
 }
 
 /// What a server did with the verdict.
@@ -196,7 +224,8 @@ pub fn apply_at<A: Asker>(
     ensures asks { line.Follows (spec.apply_line txn verdict cite server.number) (A.told asker.old) (A.told asker.new) (line.ended_by result tt) }
     ensures tree { A.levels asker.new ≡ A.levels asker.old }
 {
-    let ask = NodeAsk::Work(WorkAsk::Decide { txn, verdict, cite });
+    let decide = WorkAsk::Decide { txn, verdict, cite };
+    let ask = NodeAsk::Work(Shared::new(alloc, decide)?);
     match asker.node(alloc, server, ask) {
         Ok(told) => applied(told.server, &told.reply),
         Err(fault) => Err(LineFault::from(fault)),

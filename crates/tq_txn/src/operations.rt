@@ -13,7 +13,7 @@ use tq_coterie::Quorum;
 use tq_live::{ViewAsk, ViewReply};
 use tq_locks::Mode;
 use tq_node::{NodeAsk, NodeReply, WorkAsk};
-use tq_shape::{Levels, Part, Seq, ServerId};
+use tq_shape::{Levels, Memory, Part, Seq, ServerId, Shared};
 use tq_store::{Content, FileCopy, FileName};
 
 /// Whether the servers are of a tree of these levels.
@@ -70,27 +70,30 @@ fn granted(told: NodeTold) -> Result<NodeTold, LineFault>
     }
 }
 
+/// A lock that a transaction wants at each server of a quorum, with the ask for it, which all of them are sent.
+#[derive(Drop)]
+struct WantedLock {
+    file: FileName,
+    mode: Mode,
+    ask: NodeAsk,
+}
+
 /// A lock at a server.
 fn lock_at<A: Asker>(
     asker: &mut A,
     alloc: Global,
-    open: &Open,
-    file: &FileName,
-    mode: Mode,
+    txn: u64,
+    lock: &WantedLock,
     server: ServerId,
 ) -> Result<NodeTold, LineFault>
-    requires { server.levels ≡ A.levels asker.old }
-    ensures asks { line.Follows (spec.lock_line open.now.txn file.now mode server.number) (A.told asker.old) (A.told asker.new) (line.ended_by result tt) }
+    requires of_tree { server.levels ≡ A.levels asker.old }
+    requires ask { lock.now.ask ≡ spec.lock_ask txn lock.now.file lock.now.mode }
+    ensures asks { line.Follows (spec.lock_line txn lock.now.file lock.now.mode server.number) (A.told asker.old) (A.told asker.new) (line.ended_by result tt) }
     ensures unasked { line.IsUnasked result (A.told asker.old) (A.told asker.new) }
     ensures heard { IfOk result (λ answer. Contains (answers_in (A.told asker.new)) answer) }
     ensures tree { A.levels asker.new ≡ A.levels asker.old }
 {
-    let ask = NodeAsk::Work(WorkAsk::Lock {
-        txn: open.txn(),
-        file: *file,
-        mode,
-    });
-    match asker.node(alloc, server, ask) {
+    match asker.node(alloc, server, lock.ask.clone()?) {
         Ok(told) => granted(told),
         Err(fault) => Err(LineFault::from(fault)),
     }
@@ -102,14 +105,14 @@ fn lock_next<A: Asker>(
     asker: &mut A,
     alloc: Global,
     open: &mut Open,
-    file: &FileName,
-    mode: Mode,
+    lock: &WantedLock,
     server: ServerId,
     answers: &mut Vec<NodeTold>,
 ) -> Result<(), LineFault>
     requires same { open.old.levels ≡ A.levels asker.old }
     requires of_tree { server.levels ≡ A.levels asker.old }
-    ensures asks { line.Follows (spec.next_lock file.now mode server.number (record { answers = answers.old.items; txn = open.old })) (A.told asker.old) (A.told asker.new)
+    requires ask { lock.now.ask ≡ spec.lock_ask open.old.txn lock.now.file lock.now.mode }
+    ensures asks { line.Follows (spec.next_lock lock.now.file lock.now.mode server.number (record { answers = answers.old.items; txn = open.old })) (A.told asker.old) (A.told asker.new)
         (line.ended_by result (record { answers = answers.new.items; txn = open.new })) }
     ensures unasked { line.IsUnasked result (A.told asker.old) (A.told asker.new) }
     ensures levels { open.new.levels ≡ open.old.levels }
@@ -125,7 +128,7 @@ fn lock_next<A: Asker>(
         Ok(noting) => noting,
         Err(_) => return Err(LineFault::Memory),
     };
-    let told = match lock_at(asker, alloc, open, file, mode, server) {
+    let told = match lock_at(asker, alloc, open.txn(), lock, server) {
         Ok(told) => told,
         Err(fault) => return Err(fault),
     };
@@ -139,14 +142,14 @@ fn lock_each<A: Asker>(
     asker: &mut A,
     alloc: Global,
     open: &mut Open,
-    file: &FileName,
-    mode: Mode,
+    lock: &WantedLock,
     servers: &[ServerId],
     answers: &mut Vec<NodeTold>,
 ) -> Result<(), LineFault>
     requires same { open.old.levels ≡ A.levels asker.old }
     requires of_tree { list_all (λ id. id.levels == A.levels asker.old) servers.now ≡ true }
-    ensures asks { line.Follows (spec.locks_line file.now mode (numbers_of servers.now) (record { answers = answers.old.items; txn = open.old })) (A.told asker.old) (A.told asker.new)
+    requires ask { lock.now.ask ≡ spec.lock_ask open.old.txn lock.now.file lock.now.mode }
+    ensures asks { line.Follows (spec.locks_line lock.now.file lock.now.mode (numbers_of servers.now) (record { answers = answers.old.items; txn = open.old })) (A.told asker.old) (A.told asker.new)
         (line.ended_by result (record { answers = answers.new.items; txn = open.new })) }
     ensures levels { open.new.levels ≡ open.old.levels }
     ensures kept { open_spec.IsTouched open.old open.new }
@@ -155,11 +158,23 @@ fn lock_each<A: Asker>(
 {
     match servers {
         [] => Ok(()),
-        [server, ..] => match lock_next(asker, alloc, open, file, mode, *server, answers) {
-            Ok(()) => lock_each(asker, alloc, open, file, mode, &servers[1..], answers),
+        [server, ..] => match lock_next(asker, alloc, open, lock, *server, answers) {
+            Ok(()) => lock_each(asker, alloc, open, lock, &servers[1..], answers),
             Err(fault) => Err(fault),
         },
     }
+}
+
+/// The ask for a lock of the transaction on the file.
+fn lock_ask(alloc: Global, open: &Open, file: &FileName, mode: Mode) -> Result<NodeAsk, Memory>
+    ensures { IfOk result (λ ask. ask ≡ spec.lock_ask open.now.txn file.now mode) }
+{
+    let lock = WorkAsk::Lock {
+        txn: open.txn(),
+        file: *file,
+        mode,
+    };
+    Ok(NodeAsk::Work(Shared::new(alloc, lock)?))
 }
 
 /// A quorum from the view, and a lock at each of its servers: their answers.
@@ -177,20 +192,18 @@ fn lock_quorum<A: Asker>(
     ensures heard { IfOk result (λ answers. AreTold (A.told asker.new) answers) }
     ensures tree { A.levels asker.new ≡ A.levels asker.old }
 {
+    let ask = lock_ask(alloc, open, file, mode)?;
     let quorum = match choose(asker, alloc, open.levels()) {
         Ok(quorum) => quorum,
         Err(fault) => return Err(fault),
     };
-    let mut answers = Vec::new(alloc);
-    match lock_each(
-        asker,
-        alloc,
-        open,
-        file,
+    let lock = WantedLock {
+        file: *file,
         mode,
-        quorum.servers(),
-        &mut answers,
-    ) {
+        ask,
+    };
+    let mut answers = Vec::new(alloc);
+    match lock_each(asker, alloc, open, &lock, quorum.servers(), &mut answers) {
         Ok(()) => Ok(Seq::from_vec(answers)),
         Err(fault) => Err(fault),
     }

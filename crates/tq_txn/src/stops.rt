@@ -8,8 +8,8 @@ use crate::endings::ask_any;
 use crate::{Asker, LineFault, Voting};
 use std::alloc::Global;
 use tq_live::ViewAsk;
-use tq_node::{Boxed, NodeAsk, WorkAsk};
-use tq_shape::ServerId;
+use tq_node::{NodeAsk, WorkAsk};
+use tq_shape::{ServerId, Shared};
 
 /// Marks a server down.
 fn mark_down<A: Asker>(asker: &mut A, alloc: Global, server: u64) -> Result<(), LineFault>
@@ -35,7 +35,7 @@ pub fn stop_at<A: Asker>(
     ensures asks { line.Follows (spec.stop_line server.number ask after) (A.told asker.old) (A.told asker.new) (line.ended_by result tt) }
     ensures tree { A.levels asker.new ≡ A.levels asker.old }
 {
-    let ask = Boxed::new(alloc, ask)?;
+    let ask = Shared::new(alloc, ask)?;
     match ask_any(asker, alloc, server, NodeAsk::CrashIn { ask, after }) {
         Ok(_) => mark_down(asker, alloc, server.number()),
         Err(_) => Err(LineFault::Memory),

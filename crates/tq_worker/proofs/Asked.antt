@@ -49,14 +49,6 @@ pub not_refused : {A E : Type 0} (P : Type 0) (result : Result A E) → OnOk res
 not_refused P (Ok a) held none = held
 not_refused P (Err e) held none = cc
 
-ok_or : {A E : Type 0} → A → Result A E → A
-ok_or other (Ok a) = a
-ok_or other (Err e) = other
-
-pub ok_is : {A E : Type 0} (a b : A) → Path (Result A E) (Ok a) (Ok b) → a ≡ b
-unfolding ok_or
-ok_is a b same = ap (ok_or a) same
-
 both_hold : (a b : Bool) → false ≡ not a → false ≡ not b → a && b ≡ true
 both_hold true true one two = refl
 both_hold true false one two = cc

@@ -13,7 +13,7 @@ pub enum Step {
 }
 
 /// The reply of a part.
-#[derive(Drop, PartialEq)]
+#[derive(Drop)]
 pub enum Reply {
     Node(NodeReply),
     Desk(DeskReply),
@@ -21,7 +21,7 @@ pub enum Reply {
 }
 
 /// A part's reply, and the number of its entry in the part's journal.
-#[derive(Drop, PartialEq)]
+#[derive(Drop)]
 pub struct Answer {
     pub number: u64,
     pub reply: Reply,

@@ -40,7 +40,7 @@ use Rattle.tq_live.specs.declared.view.ViewReply.{ViewReply}
 use Rattle.tq_live.specs.declared.view.ViewReply.TheVariants as view_reply
 use Rattle.tq_live.specs.declared.view.ViewRefusal.TheVariants as view_refusal
 use Rattle.tq_tables.specs.Journals.{ViewEntry, IsOfTree}
-use Rattle.tq_form.specs.Format.{one}
+use Rattle.tq_members.specs.Format.{one}
 use Rattle.tq_form.specs.Locking as locking
 use Rattle.tq_form.specs.NodeAsks as asks
 use Rattle.tq_form.specs.NodeReplies as replies
@@ -48,7 +48,7 @@ use Rattle.tq_form.specs.Commits as commits
 use Rattle.tq_form.specs.Desks as desk_form
 use Rattle.tq_form.specs.Views as view_form
 use Rattle.tq_form.specs.Entries.{node_entry, desk_entry, view_entry}
-use Rattle.tq_form.specs.Member.{each}
+use Rattle.tq_members.specs.Member.{each}
 use Rattle.tq_written.specs.Values.{listed}
 use Rattle.tq_written.specs.Nodes as nodes
 use Rattle.tq_written.specs.Desks as desks

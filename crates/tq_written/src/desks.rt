@@ -17,7 +17,7 @@ use std::alloc::Global;
 use tq_desk::{DeskAsk, DeskRefusal, DeskReply};
 use tq_evidence::{Grant, Op, OpKind, Rule, Vote};
 use tq_node::Verdict;
-use tq_shape::{Memory, Seq};
+use tq_shape::{Memory, SharedSeq};
 
 impl Formed for OpKind {
     ghost use Rattle.tq_written.specs.Desks.{op_kind_value};
@@ -93,8 +93,8 @@ fn put_commit(
     alloc: Global,
     out: &mut Writer<Global>,
     txn: u64,
-    ops: &Seq<Op>,
-    votes: &Seq<Vote>,
+    ops: &SharedSeq<Op>,
+    votes: &SharedSeq<Vote>,
 ) -> Result<(), Memory>
     ensures adds { Adds result out.old out.new (spelled (desk_ask_value (DeskAsk.Commit txn ops.now votes.now))) }
     ensures fits { OnOk result (IsFitting (desk_ask_value (DeskAsk.Commit txn ops.now votes.now))) }

@@ -221,7 +221,7 @@ impl Formed for NodeAsk {
 
     fn put(&self, alloc: Global, out: &mut Writer<Global>) -> Result<(), Memory> {
         match self {
-            NodeAsk::Work(work) => work.put(alloc, out),
+            NodeAsk::Work(work) => work.get().put(alloc, out),
             NodeAsk::Crash => put_only_kind(out, "crash"),
             NodeAsk::Return => put_only_kind(out, "return"),
             NodeAsk::CrashIn { ask, after } => put_stop(alloc, out, ask.get(), *after),

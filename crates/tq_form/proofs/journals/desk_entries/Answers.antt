@@ -1,7 +1,7 @@
 use Rattle.std.proofs.Common.{◌∙◌, sym}
-use Rattle.tq_form.specs.Format.{one}
+use Rattle.tq_members.specs.Format.{one}
 use Rattle.tq_form.specs.Entries.{desk_entry}
-use Rattle.tq_form.proofs.Listed.{each_goes}
+use Rattle.tq_members.proofs.Listed.{each_goes}
 use Rattle.tq_form.proofs.journals.desk_entries.Goals as goal
 
 pub loop-value-preserved : goal.loop-value-preserved

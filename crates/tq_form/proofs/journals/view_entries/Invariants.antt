@@ -1,8 +1,8 @@
 use Rattle.std.proofs.Common.{◌≡◌, drop}
 use Rattle.tq_value.specs.View.{items_view}
-use Rattle.tq_form.specs.Member.{each}
+use Rattle.tq_members.specs.Member.{each}
 use Rattle.tq_form.specs.Entries.{view_entry}
-use Rattle.tq_form.proofs.Listed.{with_front}
+use Rattle.tq_members.proofs.Listed.{with_front}
 use Rattle.tq_form.proofs.journals.view_entries.Given as goal
 
 -- what was read so far, before what is read of the values that are left, is what is read of all values

@@ -19,3 +19,6 @@ returns-in-Err-Memory-clause-saw g c = desk_saw c.caller.inside.levels (map exch
 
 pub returns-in-Err-JournalFull-clause-saw : goal.returns-in-Err-JournalFull-clause-saw
 returns-in-Err-JournalFull-clause-saw g c = desk_saw c.caller.inside.levels (map exchange_of c.caller.inside.heard.items) c.caller.inside.servers.items c.caller.inside.desk.seen c.call.new.pass.seen c.caller.inside.view.seen c.args.caller.now c.caller.view_is c.call.ensures.grows
+
+pub returns-in_err-reserve-clause-saw : goal.returns-in_err-reserve-clause-saw
+returns-in_err-reserve-clause-saw g c = desk_saw c.caller.inside.levels (map exchange_of c.caller.inside.heard.items) c.caller.inside.servers.items c.caller.inside.desk.seen c.caller.inside.desk.seen c.caller.inside.view.seen c.args.caller.now c.caller.view_is (omega arith)

@@ -1,7 +1,7 @@
 use Rattle.std.proofs.Common.{◌≡◌, ◌∙◌, ◌++◌, length, ap, arith}
 use Rattle.tq_lines.specs.Line.{line_of}
 use Rattle.tq_lines.specs.Word.{without_return}
-use Rattle.tq_session.specs.Answer.{answer}
+use Rattle.tq_answering.specs.Answer.{answer}
 use Rattle.tq_session.proofs.Pieces.{kept-whole, no-bytes}
 use Rattle.tq_session.proofs.receiver.Receiver.end_line.Goals as goal
 

@@ -1,0 +1,32 @@
+-- What the shell stands on, and what it answers to a line.
+use Rattle.std.specs.Prelude.{ℕ, List}
+use Rattle.tq_tables.specs.Journals.{JournalsView}
+use Rattle.tq_world.specs.World.{empty_world}
+use Rattle.tq_txn.specs.declared.asker.Exchange.{Exchange}
+use Rattle.tq_asking.specs.Asking.{Ran, run_line}
+use Rattle.tq_answering.specs.Asked.{LineAnswer, asked}
+use Rattle.tq_asking.specs.Recorded.{full_limits}
+use Rattle.tq_client.specs.Known.{Known, nothing_known}
+use Rattle.tq_lines.specs.declared.line.Line.{Line}
+
+-- the journals of the service that is asked, and what is known of its transactions
+pub record World : Type 0 where
+  pub journals : JournalsView
+  pub known : Known
+
+-- nothing was asked yet
+abbrev pub opening : ℕ → World
+opening levels = record { journals = empty_world levels full_limits; known = nothing_known levels full_limits }
+
+-- what a line gives: the text that is written, the asks with what they were told, and the world after it
+pub record Answer : Type 0 where
+  pub text : List ℕ
+  pub exchanges : List Exchange
+  pub after : World
+
+abbrev pub answered : Ran LineAnswer → Answer
+answered ran = record { text = ran.end.text; exchanges = ran.exchanges; after = record { journals = ran.after; known = ran.end.known } }
+
+-- the asks of the line, by the journals before it and by what is known, answered by the service
+abbrev pub answer : World → Line → Answer
+answer world line = answered (run_line world.journals (asked world.journals world.known line))

@@ -1,0 +1,5 @@
+pub mod Asked
+pub mod Answer
+pub mod Possible
+pub use Rattle.tq_live.specs.Live
+pub use Rattle.tq_live.specs.View

@@ -1,0 +1,357 @@
+ghost use Rattle.std.specs.Prelude.{◌≡◌, ◌++◌, ◌<◌, ◌+◌, [], false, length, None, IfOk, OnOk, IfSome, IsNone};
+ghost use Rattle.tq_txn.specs.Dialogue.{line_result};
+ghost use Rattle.tq_txn.specs.States.{levels_of};
+ghost use Rattle.std.specs.Fmt.{decimal};
+ghost use Rattle.tq_answering.specs.Asked as asked;
+ghost use Rattle.tq_client.specs.Known as known;
+ghost use Rattle.tq_client.specs.TxnAsked as said;
+ghost use Rattle.tq_print.specs.Print.{printed, mark_word};
+
+use std::alloc::Global;
+use std::marker::Model;
+use std::mem;
+use tq_asking::Recorder;
+use tq_client::{Kept, answer_txn};
+use tq_core::Service;
+use tq_desk::{DeskAsk, DeskReply};
+use tq_lines::{Line, TxnLine};
+use tq_live::{ViewAsk, is_cost};
+use tq_node::NodeAsk;
+use tq_operators::{refresh_all, say_board};
+use tq_print::{push_desk_refusal, say_choice, say_fault, say_line, say_number};
+use tq_shape::{Levels, Limits, Memory, ServerId};
+use tq_txn::{AskFault, Asker, DeskTold, LineFault, Open, Txn, ViewTold, ask_any};
+
+/// A service that lines are asked of, and what is known of the transactions.
+#[derive(Drop)]
+pub struct Shell {
+    levels: Levels,
+    limits: Limits,
+    recorder: Recorder,
+    txns: Vec<Kept>,
+}
+
+impl Model for Shell {
+    ghost use Rattle.std.specs.Prelude.{◌≡◌};
+    ghost use Rattle.std.specs.List.{All};
+    ghost use Rattle.tq_txn.specs.States.{levels_of};
+    ghost use Rattle.tq_answering.specs.Answer.{World};
+
+    ghost Value = { World };
+
+    ghost view = { λ shell. record {
+      journals = shell.recorder.journals;
+      known = record { levels = shell.levels; limits = shell.limits; txns = shell.txns.items };
+    } };
+
+    ghost invariant = { λ shell. (shell.recorder.journals.levels ≡ shell.levels) × All (λ kept. levels_of kept.txn ≡ shell.levels) shell.txns.items };
+}
+
+impl Shell {
+    ghost use Rattle.std.specs.Prelude.{◌≡◌, ◌++◌, IfOk, OnOk};
+    ghost use Rattle.tq_world.specs.World.{item_at};
+    ghost use Rattle.tq_answering.specs.Answer.{opening, answer, answered};
+    ghost use Rattle.tq_answering.specs.Possible.{IsSaidOf};
+    ghost use Rattle.tq_asking.specs.Asking.{run_line};
+
+    /// Every server at cost 1 and up, nothing stored, and no transaction.
+    pub fn new(alloc: Global, levels: Levels) -> Result<Shell, Memory>
+        ensures { IfOk result (λ shell. shell ≡ opening levels) }
+    {
+        let limits = Limits::full();
+        let recorder = Recorder::new(alloc, levels)?;
+        Ok(Shell {
+            levels,
+            limits,
+            recorder,
+            txns: Vec::new(alloc),
+        })
+    }
+
+    /// The service that lines are asked of.
+    pub fn service(&self) -> &Service
+        ensures { result.now ≡ self.now.journals }
+    {
+        self.recorder.service()
+    }
+
+    /// Answers one line, and puts the answer behind the text: of all that the definitions have texts for, no more than what
+    /// can come.
+    pub fn answer(&mut self, alloc: Global, line: Line, text: &mut Vec<u8>) -> Result<(), Memory>
+        ensures text { OnOk result (text.new.items ≡ text.old.items ++ (answer self.old line).text) }
+        ensures after { OnOk result (self.new ≡ (answer self.old line).after) }
+        ensures possible { OnOk result (IsSaidOf line text.old.items text.new.items) }
+    {
+        let _ = &self.recorder;
+        self.answer_line(alloc, line, text)?;
+        Ok(())
+    }
+
+    fn answer_line(&mut self, alloc: Global, line: Line, text: &mut Vec<u8>) -> Result<(), Memory>
+        ensures text { OnOk result (text.new.items ≡ text.old.items ++ (answer self.old line).text) }
+        ensures after { OnOk result (self.new ≡ (answer self.old line).after) }
+    {
+        match line {
+            Line::Empty => Ok(()),
+            Line::Bad => say_line(text, b"bad line"),
+            Line::Cost { server, cost } => self.cost(alloc, server, cost, text),
+            Line::Mark { server, up } => self.mark(alloc, server, up, text),
+            Line::Choose => self.choose(alloc, text),
+            Line::Begin => self.begin(alloc, text),
+            Line::Refresh => self.refresh(alloc, text),
+            Line::Board => self.board(alloc, text),
+            Line::Txn { number, line } => self.txn(alloc, number, line, text),
+        }
+    }
+
+    fn cost(
+        &mut self,
+        alloc: Global,
+        server: u64,
+        cost: u64,
+        text: &mut Vec<u8>,
+    ) -> Result<(), Memory>
+        ensures text { OnOk result (text.new.items ≡ text.old.items ++ (answer self.old (Line.Cost server cost)).text) }
+        ensures after { OnOk result (self.new ≡ (answer self.old (Line.Cost server cost)).after) }
+    {
+        if self.levels.server(server).is_none() {
+            return say_number(text, b"no such server ", server);
+        }
+        if !is_cost(cost) {
+            return say_number(text, b"bad cost ", cost);
+        }
+        self.set_cost(alloc, server, cost, text)
+    }
+
+    fn set_cost(
+        &mut self,
+        alloc: Global,
+        server: u64,
+        cost: u64,
+        text: &mut Vec<u8>,
+    ) -> Result<(), Memory>
+        ensures text { OnOk result (text.new.items ≡ text.old.items ++ (answered (run_line self.old.journals (asked.cost_asked self.old.known server cost))).text) }
+        ensures after { OnOk result (self.new ≡ (answered (run_line self.old.journals (asked.cost_asked self.old.known server cost))).after) }
+    {
+        self.recorder.replayed();
+        let answer = self.recorder.view(alloc, ViewAsk::SetCost { server, cost });
+        self.recorder.replayed();
+        say_ok(text, &answer)?;
+        Ok(())
+    }
+
+    fn mark(
+        &mut self,
+        alloc: Global,
+        server: u64,
+        up: bool,
+        text: &mut Vec<u8>,
+    ) -> Result<(), Memory>
+        ensures text { OnOk result (text.new.items ≡ text.old.items ++ (answer self.old (Line.Mark server up)).text) }
+        ensures after { OnOk result (self.new ≡ (answer self.old (Line.Mark server up)).after) }
+    {
+        let Some(id) = self.levels.server(server) else {
+            return say_number(text, b"no such server ", server);
+        };
+        self.set_mark(alloc, id, up, text)
+    }
+
+    fn set_mark(
+        &mut self,
+        alloc: Global,
+        id: ServerId,
+        up: bool,
+        text: &mut Vec<u8>,
+    ) -> Result<(), Memory>
+        requires { id.levels ≡ self.old.journals.levels }
+        ensures text { OnOk result (text.new.items ≡ text.old.items ++ (answered (run_line self.old.journals (asked.mark_asked self.old.known id.number up))).text) }
+        ensures after { OnOk result (self.new ≡ (answered (run_line self.old.journals (asked.mark_asked self.old.known id.number up))).after) }
+    {
+        let server = id.number();
+        let ask = mark_ask(up);
+        self.recorder.replayed();
+        let reply = ask_any(&mut self.recorder, alloc, id, ask)?;
+        let _ = &reply;
+        let answer = self.recorder.view(alloc, ViewAsk::Mark { server, up });
+        self.recorder.replayed();
+        say_marked(text, server, up, &answer)?;
+        Ok(())
+    }
+
+    fn choose(&mut self, alloc: Global, text: &mut Vec<u8>) -> Result<(), Memory>
+        ensures text { OnOk result (text.new.items ≡ text.old.items ++ (answer self.old Line.Choose).text) }
+        ensures after { OnOk result (self.new ≡ (answer self.old Line.Choose).after) }
+    {
+        self.recorder.replayed();
+        let answer = self.recorder.view(alloc, ViewAsk::Choose);
+        self.recorder.replayed();
+        say_chosen(text, &answer)?;
+        Ok(())
+    }
+
+    fn begin(&mut self, alloc: Global, text: &mut Vec<u8>) -> Result<(), Memory>
+        ensures text { OnOk result (text.new.items ≡ text.old.items ++ (answer self.old Line.Begin).text) }
+        ensures after { OnOk result (self.new ≡ (answer self.old Line.Begin).after) }
+    {
+        self.recorder.replayed();
+        let answer = self.recorder.desk(alloc, DeskAsk::Begin);
+        self.recorder.replayed();
+        self.begin_end(alloc, answer, text)?;
+        Ok(())
+    }
+
+    fn begin_end(
+        &mut self,
+        alloc: Global,
+        answer: Result<DeskTold, AskFault>,
+        text: &mut Vec<u8>,
+    ) -> Result<(), Memory>
+        ensures text { OnOk result (text.new.items ≡ text.old.items ++ (asked.begin_end self.old.known (line_result answer)).text) }
+        ensures known { OnOk result (self.new.known ≡ (asked.begin_end self.old.known (line_result answer)).known) }
+        ensures journals { self.new.journals ≡ self.old.journals }
+        ensures memory { OnOk result (said.is_refused_memory (line_result answer) ≡ false) }
+    {
+        match answer {
+            Ok(told) => self.begun(alloc, told.reply, text)?,
+            Err(fault) => say_fault(text, &[], LineFault::from(fault))?,
+        }
+        Ok(())
+    }
+
+    /// Keeps the transaction that the desk began.
+    fn begun(&mut self, alloc: Global, reply: DeskReply, text: &mut Vec<u8>) -> Result<(), Memory>
+        ensures text { OnOk result (text.new.items ≡ text.old.items ++ (asked.begun self.old.known reply).text) }
+        ensures known { OnOk result (self.new.known ≡ (asked.begun self.old.known reply).known) }
+        ensures journals { self.new.journals ≡ self.old.journals }
+    {
+        match reply {
+            DeskReply::Txn(number) => {
+                self.txns
+                    .push(fresh(alloc, self.levels, self.limits, number))?;
+                say_number(text, b"begun ", number)
+            }
+            DeskReply::Refused(refusal) => {
+                push_desk_refusal(text, &refusal)?;
+                say_line(text, b"")
+            }
+            _ => say_line(text, b"bad answer"),
+        }
+    }
+
+    fn refresh(&mut self, alloc: Global, text: &mut Vec<u8>) -> Result<(), Memory>
+        ensures text { OnOk result (text.new.items ≡ text.old.items ++ (answer self.old Line.Refresh).text) }
+        ensures after { OnOk result (self.new ≡ (answer self.old Line.Refresh).after) }
+    {
+        refresh_all(&mut self.recorder, alloc, text)?;
+        Ok(())
+    }
+
+    fn board(&self, alloc: Global, text: &mut Vec<u8>) -> Result<(), Memory>
+        ensures { OnOk result (text.new.items ≡ text.old.items ++ (answer self.now Line.Board).text) }
+    {
+        say_board(self.service(), alloc, text)?;
+        Ok(())
+    }
+
+    /// Where the transaction of that number is kept.
+    fn place_of(&self, number: u64) -> Option<usize>
+        ensures some { IfSome result (λ place. (number ≡ place + 1) × (place < length self.now.known.txns)) }
+        ensures none { IsNone result → item_at self.now.known.txns number ≡ None }
+    {
+        if number == 0 || number > self.txns.len() as u64 {
+            return None;
+        }
+        Some((number - 1) as usize)
+    }
+
+    fn txn(
+        &mut self,
+        alloc: Global,
+        number: u64,
+        line: TxnLine,
+        text: &mut Vec<u8>,
+    ) -> Result<(), Memory>
+        ensures text { OnOk result (text.new.items ≡ text.old.items ++ (answer self.old (Line.Txn number line)).text) }
+        ensures after { OnOk result (self.new ≡ (answer self.old (Line.Txn number line)).after) }
+    {
+        let place = match self.place_of(number) {
+            None => return say_number(text, b"no such transaction ", number),
+            Some(place) => place,
+        };
+        let levels = self.levels;
+        let vacant = fresh(alloc, levels, self.limits, number);
+        let kept = mem::replace(&mut self.txns[place], vacant);
+        let kept = answer_txn(&mut self.recorder, alloc, levels, number, kept, line, text)?;
+        self.txns[place] = kept;
+        Ok(())
+    }
+}
+
+/// A transaction that did nothing yet.
+fn fresh(alloc: Global, levels: Levels, limits: Limits, number: u64) -> Kept
+    ensures { result ≡ known.fresh levels limits number }
+{
+    Kept {
+        txn: Txn::Open(Open::new(alloc, levels, limits, number)),
+        told: None,
+    }
+}
+
+/// What a server is asked that is to be marked.
+fn mark_ask(up: bool) -> NodeAsk
+    ensures { result ≡ asked.mark_ask up }
+{
+    if up { NodeAsk::Return } else { NodeAsk::Crash }
+}
+
+/// Puts that a cost was set behind the text, as a line, or why it was not.
+fn say_ok(text: &mut Vec<u8>, answer: &Result<ViewTold, AskFault>) -> Result<(), Memory>
+    ensures text { OnOk result (text.new.items ≡ text.old.items ++ printed (said.result_text [] asked.ok_text (line_result answer.now))) }
+    ensures memory { OnOk result (said.is_refused_memory (line_result answer.now) ≡ false) }
+{
+    match answer {
+        Ok(_told) => say_line(text, b"ok")?,
+        Err(fault) => say_fault(text, &[], LineFault::from(*fault))?,
+    }
+    Ok(())
+}
+
+/// Puts what the view chose behind the text, as a line, or why it did not.
+fn say_chosen(text: &mut Vec<u8>, answer: &Result<ViewTold, AskFault>) -> Result<(), Memory>
+    ensures text { OnOk result (text.new.items ≡ text.old.items ++ printed (said.result_text [] asked.chosen_text (line_result answer.now))) }
+    ensures memory { OnOk result (said.is_refused_memory (line_result answer.now) ≡ false) }
+{
+    match answer {
+        Ok(told) => say_choice(text, &told.reply)?,
+        Err(fault) => say_fault(text, &[], LineFault::from(*fault))?,
+    }
+    Ok(())
+}
+
+/// Puts a server's new mark behind the text, as a line, or why it has none.
+fn say_marked(
+    text: &mut Vec<u8>,
+    server: u64,
+    up: bool,
+    answer: &Result<ViewTold, AskFault>,
+) -> Result<(), Memory>
+    ensures text { OnOk result (text.new.items ≡ text.old.items ++ printed (said.result_text [] (asked.marked_text server up) (line_result answer.now))) }
+    ensures memory { OnOk result (said.is_refused_memory (line_result answer.now) ≡ false) }
+{
+    match answer {
+        Ok(_told) => say_mark(text, server, up)?,
+        Err(fault) => say_fault(text, &[], LineFault::from(*fault))?,
+    }
+    Ok(())
+}
+
+/// Puts a server's new mark behind the text, as a line.
+fn say_mark(text: &mut Vec<u8>, server: u64, up: bool) -> Result<(), Memory>
+    ensures { OnOk result (text.new.items ≡ text.old.items ++ printed (mark_word up ++ decimal server)) }
+{
+    if up {
+        say_number(text, b"up ", server)
+    } else {
+        say_number(text, b"down ", server)
+    }
+}

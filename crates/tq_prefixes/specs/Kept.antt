@@ -1,0 +1,28 @@
+-- What is kept of the parts: their entries, and beside them the tables.
+use Rattle.std.specs.Prelude.{◌≡◌, ◌≤◌, ℕ, ◌+◌, ◌^◌, List, length}
+use Rattle.tq_shape.specs.Limits.{LimitsView}
+use Rattle.tq_shape.specs.declared.part.Part.{Part}
+use Rattle.tq_node.specs.NodeJournal.{NodeEntry}
+use Rattle.tq_desk.specs.DeskJournal.{DeskEntry}
+use Rattle.tq_tables.specs.Journals.{JournalsView, ViewEntry}
+use Rattle.tq_tables.specs.Parts.{AreLegal}
+use Rattle.tq_tables.specs.Tables.{TablesView, tables_of}
+use Rattle.tq_prefixes.specs.declared.entries.Entries.{Entries}
+use Rattle.tq_prefixes.specs.Prefixes.{GivesNext, count_of, grown, prefix_length}
+
+-- the entries beside tables of that tree
+abbrev pub prefixes_in : TablesView → LimitsView → List (List NodeEntry) → List DeskEntry → List ViewEntry → JournalsView
+prefixes_in tables limits servers desk view =
+    record { levels = tables.levels; limits = limits; servers = servers; desk = desk; view = view }
+
+-- there are entries for each server of the tree, the journals that have them alone are legal, and the tables are theirs
+pub record AreKept (tables : TablesView) (prefixes : JournalsView) : Type 0 where
+  pub one_each : length prefixes.servers + 1 ≡ 2 ^ prefixes.levels
+  pub legal : AreLegal prefixes
+  pub stand : tables ≡ tables_of prefixes
+
+-- the part gives these entries next, with them there are that many at least, and the tables are those with them
+pub record AreAhead (tables : TablesView) (prefixes : JournalsView) (part : Part) (more : Entries) (least : ℕ) : Type 0 where
+  pub gives : GivesNext prefixes part more
+  pub enough : least ≤ prefix_length prefixes part + count_of more
+  pub stand : tables ≡ tables_of (grown prefixes part more)
