@@ -75,6 +75,7 @@ impl Parts {
     }
 
     /// Makes a change of the desk that was planned. Out of memory leaves the parts as they were.
+    #[inline(always)]
     pub(crate) fn change_desk(&mut self, change: DeskChange) -> Result<(), Memory>
         requires { DeskFits self.old.desk change }
         ensures after { OnOk result (self.new ≡ record self.old { desk = desk_changed self.old.desk change }) }
@@ -86,6 +87,7 @@ impl Parts {
     }
 
     /// The view answers one ask more. Out of memory leaves the parts as they were.
+    #[inline(always)]
     pub(crate) fn ask_view(
         &mut self,
         alloc: Global,
@@ -105,6 +107,7 @@ impl Parts {
 
     /// The server answers one ask more, of that number, and the files are told whose copies there may have changed. Out
     /// of memory leaves the parts as they were.
+    #[inline(always)]
     pub(crate) fn ask_node(
         &mut self,
         alloc: Global,

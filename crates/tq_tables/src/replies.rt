@@ -13,6 +13,7 @@ pub struct Replies<R> {
 }
 
 /// The reply, and an equal one.
+#[inline(always)]
 pub(crate) fn twice<P: Answers>(alloc: Global, reply: P::Reply) -> Result<Replies<P::Reply>, Memory>
     ensures { IfOk result (λ replies. replies ≡ both reply) }
 {

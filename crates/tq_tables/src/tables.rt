@@ -96,6 +96,7 @@ impl Tables {
 
     /// Asks the server, under the number of the next entry of its journal. Only the rows of the files change whose copies
     /// the ask changed there, and in each that server alone. Out of memory leaves the tables as they were.
+    #[inline(always)]
     pub fn ask_node(
         &mut self,
         alloc: Global,
@@ -117,6 +118,7 @@ impl Tables {
     }
 
     /// Asks the view. No row of files changes. Out of memory leaves the tables as they were.
+    #[inline(always)]
     pub fn ask_view(&mut self, alloc: Global, ask: &ViewAsk) -> Result<Replies<ViewReply>, Memory>
         ensures replies { IfOk result (λ replies. replies ≡ both (view_reply self.old.view ask.now)) }
         ensures asked { OnOk result ((journals : JournalsView) (reply : ViewReply) → AreLegal (with_view journals (entry ask.now reply))
@@ -129,6 +131,7 @@ impl Tables {
 
     /// Asks the desk. Only the rows of the files change that a commit writes. All memory is taken before the first
     /// change, so that out of memory leaves the tables as they were.
+    #[inline(always)]
     pub fn ask_desk(&mut self, alloc: Global, ask: &DeskAsk) -> Result<Replies<DeskReply>, Memory>
         requires { MayAskDesk self.old }
         ensures replies { IfOk result (λ replies. replies ≡ both (desk_reply self.old.desk ask.now)) }

@@ -22,6 +22,7 @@ pub(crate) struct Telling {
 
 /// The server answers the ask, of a number above that of the last one answered, and the files are told whose copies
 /// there this may change: no other copy does. Out of memory leaves the server as it was.
+#[inline(always)]
 pub(crate) fn answer_telling(
     alloc: Global,
     node: &mut Node,
