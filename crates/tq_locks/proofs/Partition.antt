@@ -3,6 +3,9 @@ use Rattle.std.proofs.Common.{◌≡◌, ℕ, zero, suc, ◌≤◌, ◌<◌, ◌
 use lib.Dec.{T}
 use mathlib.Core.Bool.{true≢false}
 use Rattle.std.specs.Cmp.{IsTotalOrder}
+use Rattle.std.specs.FinMap.{IsAntisymmetric}
+use Rattle.std.proofs.lemmas.Cmp.{tied_itself}
+use Rattle.tq_shape.specs.Journal.{Has}
 use Rattle.std.specs.FinMap.Entries.{is_sorted, below_all}
 use Rattle.std.specs.List.Sorted.{IsPartitionPoint, IsPartitionedBy}
 use Rattle.std.specs.Ordering.{is_lt}
@@ -15,9 +18,9 @@ use Rattle.tq_locks.specs.declared.mode.Lock.{Lock}
 use Rattle.tq_locks.specs.Keys.{place}
 use Rattle.tq_locks.specs.Kept.{RisesTo}
 use Rattle.tq_locks.specs.Locks.{LockKey, lock_cmp}
-use Rattle.tq_locks.proofs.Found.{first, second, less}
-use Rattle.tq_locks.proofs.Agreed.{head_of, tail_of, nil_cons}
-use Rattle.tq_locks.proofs.Applied.{within}
+use Rattle.tq_locks.proofs.Found.{some_same, none_some, first, second, less, below_each}
+use Rattle.tq_locks.proofs.Agreed.{head_of, tail_of, nil_cons, item_of}
+use Rattle.tq_locks.proofs.Applied.{within, Has-at}
 
 less_test : (r : Ordering) → is_lt r ≡ true → r ≡ Less
 less_test r h = less r (subst T (sym h) tt)
@@ -72,6 +75,21 @@ module _ {K X : Type 0} {R : K → K → Ordering} (o : IsTotalOrder R) (f : ℕ
       by_last (Some k) at u =
           let last = within keys (length keys - 1) k at in
           point-place keys xs (length keys) (omega arith) e (λ i d a b. parted keys xs e t i (length keys - 1) d (omega (arith, b)) last.0 (ap under (last.1 d) ∙ u), λ i d a b. absurd (omega (arith, a, b)))
+
+  -- the key of the entry at q stands in q's place
+  pub stands-in_place : IsAntisymmetric R → (l : X) (keys : List ℕ) (xs : List (K × X)) (n k : ℕ) → slice_get keys n ≡ Some k → f k ≡ Some (q, l) → map f keys ≡ map Some xs → T (is_sorted R xs) → n ≡ place R q xs
+  stands-in_place same l [] xs n k at found e t = absurd (none_some k at)
+  stands-in_place same l (j ∷ keys) [] n k at found e t = absurd (nil_cons (f j) (map f keys) (sym e))
+  stands-in_place same l (j ∷ keys) (y ∷ xs) zero k at found e t =
+      let here : y ≡ (q, l) = some_same y (q, l) (sym (head_of (f j) (Some y) (map f keys) (map Some xs) e) ∙ ap f (some_same j k at) ∙ found) in
+      sym (ap (λ (z : K × X). cond (is_lt (R z.0 q)) (suc (place R q xs)) 0) here ∙ ap (λ r. cond (is_lt r) (suc (place R q xs)) 0) (tied_itself o q))
+  stands-in_place same l (j ∷ keys) (y ∷ xs) (suc n) k at found e t =
+      let listed = tail_of (f j) (Some y) (map f keys) (map Some xs) e in
+      let item = item_of f keys xs k listed (Has-at keys n k at) in
+      let later = subst (λ z. Has xs z) (some_same item.0 (q, l) (sym item.2 ∙ found)) item.1 in
+      let before : R y.0 q ≡ Less = below_each o same y.0 xs (q, l) (first (below_all R y.0 xs) (is_sorted R xs) t) later in
+      ap suc (stands-in_place same l keys xs n k at found listed (second (below_all R y.0 xs) (is_sorted R xs) t))
+      ∙ sym (ap (λ r. cond (is_lt r) (suc (place R q xs)) 0) before)
 
 -- no key is below a place
 pub none_rises : (slab : Slab (LockKey × Lock)) (keys : List ℕ) (key : LockKey) → keys ≡ [] → RisesTo slab keys key 0

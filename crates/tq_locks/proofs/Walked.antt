@@ -13,7 +13,7 @@ use Rattle.std.specs.Map.{lookup, keys_of, values_of}
 use Rattle.std.specs.Option.{option_map_or}
 use Rattle.std.specs.Ordering.{is_lt, nat_cmp, ordering_then, ordering_reverse}
 use Rattle.std.specs.declared.cmp.Ordering.TheVariants.{Less, Greater}
-use Rattle.std.specs.declared.vec.Vec.{Vec}
+use Rattle.smallvec.specs.SmallVec.{SmallVec}
 use Rattle.slab.specs.Slab.{Slab, get}
 use Rattle.tq_store.specs.Copies.{name_cmp}
 use Rattle.tq_store.specs.Names.{same_name}
@@ -94,7 +94,7 @@ module _ {X : Type 0} where
       one_more fs e es t w.0 w.1 (λ x h. below_each locks_total locks_same e.0 es x (first (below_all lock_cmp e.0 es) (is_sorted lock_cmp es) s) h)
       ∙ ap (λ ys. e ∷ ys) (all_blocks fs es t (second (below_all lock_cmp e.0 es) (is_sorted lock_cmp es) s) (λ x h. covers x (inr h)))
 
-told_blocks : {Z : Type 0} (s : Slab Entry) (es : List Entry) (fs : List (List ℕ × Vec ℕ Z)) → ((f : List ℕ × Vec ℕ Z) → Has fs f → told s f.1.items ≡ filter (λ e. same_name f.0 e.0.0) es) → told_of s (values_of fs) ≡ blocks_of fs es
+told_blocks : (s : Slab Entry) (es : List Entry) (fs : List (List ℕ × SmallVec ℕ)) → ((f : List ℕ × SmallVec ℕ) → Has fs f → told s f.1.items ≡ filter (λ e. same_name f.0 e.0.0) es) → told_of s (values_of fs) ≡ blocks_of fs es
 told_blocks s es [] each = refl
 told_blocks s es (f ∷ fs) each = λ i. each f (inl refl) i ++ told_blocks s es fs (λ g h. each g (inr h)) i
 
@@ -109,7 +109,7 @@ told_of-agreed kept locks a ordered =
     told-listed (get kept.entries) f.1.items (on_file locks f.0) (ap (map (get kept.entries)) (sym keys) ∙ a.of_file f.0))
     ∙ all_blocks files (fin.entries locks) sorted (fin.entries_sorted locks) (λ e h. covers e h (lookup (is_at (name_cmp e.0.0)) files) refl)
   where
-    covers : (e : Entry) → Has (fin.entries locks) e → (o : Option (Vec ℕ _)) → lookup (is_at (name_cmp e.0.0)) kept.by_file.entries ≡ o → (w : Vec ℕ _) × Has kept.by_file.entries (e.0.0, w)
+    covers : (e : Entry) → Has (fin.entries locks) e → (o : Option (SmallVec ℕ)) → lookup (is_at (name_cmp e.0.0)) kept.by_file.entries ≡ o → (w : SmallVec ℕ) × Has kept.by_file.entries (e.0.0, w)
     covers e h (Some w) f = (w, Has-looked_up nat_list_cmp_total (slice_cmp-IsAntisymmetric nat_cmp-IsAntisymmetric) kept.by_file.entries e.0.0 w (find_entry name_cmp kept.by_file.entries e.0.0 ∙ f))
     covers e h None f =
         let k = key_of (get kept.entries) (keys_at name_cmp kept.by_file e.0.0) (on_file locks e.0.0) e (a.of_file e.0.0) (filter-Has (λ (x : Entry). same_name e.0.0 x.0.0) (fin.entries locks) e h (nat_list_eq_equiv.refl e.0.0)) in

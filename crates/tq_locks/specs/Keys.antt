@@ -1,25 +1,25 @@
 -- Lists of keys, each under a name.
-use Rattle.std.specs.Prelude.{◌<◌, ℕ, suc, List, [], ◌∷◌, vec_len, vec_capacity, nat_eq, IsSomeAnd, if◌then◌else◌, ◌++◌, filter_map}
+use Rattle.std.specs.Prelude.{ℕ, suc, List, [], ◌∷◌, nat_eq, IsSomeAnd, if◌then◌else◌, ◌++◌, filter_map}
 use Rattle.slab.specs.Slab.{Slab, get as in_slab}
 use Rattle.std.specs.Option.{option_map_or}
-use Rattle.std.specs.declared.vec.Vec.{Vec}
+use Rattle.smallvec.specs.SmallVec.{SmallVec, HasRoomFor}
 use Rattle.std.specs.BTreeMap.{BTreeMap, get}
 use Rattle.indexmap.specs.IndexMap.{IndexMap, get as get_hashed}
 use Rattle.std.specs.Ordering.{is_lt}
 use Rattle.std.specs.declared.cmp.Ordering.{Ordering}
 
-module _ {K Z : Type 0} (cmp : K → K → Ordering) where
+module _ {K : Type 0} (cmp : K → K → Ordering) where
   -- the keys under a name, in their order
-  abbrev pub keys_at : BTreeMap K (Vec ℕ Z) → K → List ℕ
+  abbrev pub keys_at : BTreeMap K (SmallVec ℕ) → K → List ℕ
   keys_at lists name = option_map_or (λ keys. keys.items) (get cmp lists name) []
 
 -- the keys under a number, in their order
-abbrev pub keys_under : {Z S : Type 0} → IndexMap ℕ (Vec ℕ Z) S → ℕ → List ℕ
+abbrev pub keys_under : {S : Type 0} → IndexMap ℕ (SmallVec ℕ) S → ℕ → List ℕ
 keys_under lists number = option_map_or (λ keys. keys.items) (get_hashed nat_eq lists number) []
 
 -- a number's list has room for one more key
-abbrev pub HasRoomUnder : {Z S : Type 0} → IndexMap ℕ (Vec ℕ Z) S → ℕ → Type 0
-HasRoomUnder lists number = IsSomeAnd (get_hashed nat_eq lists number) (λ keys. vec_len keys < vec_capacity keys)
+abbrev pub HasRoomUnder : {S : Type 0} → IndexMap ℕ (SmallVec ℕ) S → ℕ → Type 0
+HasRoomUnder lists number = IsSomeAnd (get_hashed nat_eq lists number) (λ keys. HasRoomFor keys 1)
 
 -- how many of the first entries are below a key: where it goes in their order
 abbrev pub place : {K X : Type 0} → (K → K → Ordering) → K → List (K × X) → ℕ
@@ -31,6 +31,6 @@ abbrev pub told : {X : Type 0} → Slab X → List ℕ → List X
 told slab keys = filter_map (in_slab slab) keys
 
 -- the entries under the keys of these lists
-abbrev pub told_of : {X Z : Type 0} → Slab X → List (Vec ℕ Z) → List X
+abbrev pub told_of : {X : Type 0} → Slab X → List (SmallVec ℕ) → List X
 told_of slab [] = []
 told_of slab (keys ∷ rest) = told slab keys.items ++ told_of slab rest

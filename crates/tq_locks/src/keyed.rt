@@ -9,7 +9,7 @@ ghost use Rattle.slab.specs.Slab.{get, slab_len, Updates};
 ghost use Rattle.tq_locks.specs.Locks.{LockKey, Locks, lock_cmp, kept, released, only_stable};
 ghost use Rattle.tq_locks.specs.Keys.{keys_at, keys_under, place, told};
 
-use crate::lists::{add, listed, place, take};
+use crate::lists::{Keys, add, listed, place, take};
 use crate::numbered::{end_empty_under, listed_under, make_room_under, put_under, take_under};
 use crate::{Lock, LockEntry};
 use indexmap::IndexMap;
@@ -23,8 +23,8 @@ use tq_store::FileName;
 #[derive(Drop)]
 pub(crate) struct KeyedLocks {
     pub(crate) entries: Slab<LockEntry>,
-    pub(crate) by_file: BTreeMap<FileName, Vec<usize>>,
-    pub(crate) by_txn: IndexMap<u64, Vec<usize>>,
+    pub(crate) by_file: BTreeMap<FileName, Keys>,
+    pub(crate) by_txn: IndexMap<u64, Keys>,
     alloc: Global,
 }
 
@@ -140,8 +140,8 @@ impl KeyedLocks {
         let Some(entry) = self.entries.get(key).copied() else {
             return;
         };
-        take(&mut self.by_file, &self.entries, &entry.file, &entry);
-        take_under(&mut self.by_txn, &self.entries, entry.txn, &entry);
+        take(&mut self.by_file, &self.entries, &entry.file, &entry, key);
+        take_under(&mut self.by_txn, &self.entries, entry.txn, &entry, key);
         let _ = self.entries.try_remove(key);
     }
 

@@ -1,19 +1,26 @@
 //! Lists of keys, each under a name: an index of a slab.
-ghost use Rattle.std.specs.Prelude.{◌≡◌, ◌-◌, ◌<◌, ◌≤◌, false, length, vec_len, vec_capacity, IfOk, OnErr, [], ◌∷◌, if◌then◌else◌};
+ghost use Rattle.std.specs.Prelude.{◌≡◌, ◌-◌, ◌≤◌, false, length, IfOk, OnErr, Some, [], ◌∷◌, if◌then◌else◌};
+ghost use Rattle.std.specs.Bool.{OnTrue};
 ghost use Rattle.std.specs.List.{insert, remove, slice_get};
 ghost use Rattle.std.specs.Option.{option_map_or};
 ghost use Rattle.std.specs.BTreeMap.{IsOrdered, is_at};
+ghost use Rattle.slab.specs.Slab.{get};
+ghost use Rattle.smallvec.specs.SmallVec.{HasRoomFor};
 ghost use Rattle.tq_locks.specs.Keys.{keys_at};
 ghost use Rattle.tq_locks.specs.Kept.{is_under, RisesTo};
 
 use crate::LockEntry;
 use slab::Slab;
+use smallvec::SmallVec;
 use std::alloc::{AllocError, Global};
 use std::collections::BTreeMap;
 use tq_store::FileName;
 
+/// The keys under one name. Up to two of them need no allocation.
+pub(crate) type Keys = SmallVec<usize, 2>;
+
 /// The keys under a name.
-pub(crate) fn listed<'a, K: Ord + Copy>(lists: &'a BTreeMap<K, Vec<usize>>, name: &K) -> &'a [usize]
+pub(crate) fn listed<'a, K: Ord + Copy>(lists: &'a BTreeMap<K, Keys>, name: &K) -> &'a [usize]
     ensures { result.now ≡ keys_at K.cmp lists.now name.now }
 {
     match lists.get(name) {
@@ -57,7 +64,7 @@ pub(crate) fn place(entries: &Slab<LockEntry>, keys: &[usize], file: &FileName, 
 /// Puts the key of an entry into its place in a name's list, and tells the place. Without memory all lists stay as they were.
 pub(crate) fn add<K: Ord + Copy + Drop>(
     alloc: Global,
-    lists: &mut BTreeMap<K, Vec<usize>>,
+    lists: &mut BTreeMap<K, Keys>,
     entries: &Slab<LockEntry>,
     name: K,
     entry: &LockEntry,
@@ -71,33 +78,35 @@ pub(crate) fn add<K: Ord + Copy + Drop>(
         keys.reserve(1)?;
         return Ok(enter(keys, entries, entry, key));
     }
-    lists.insert(name, only(alloc, key)?)?;
+    lists.insert(name, only(alloc, key))?;
     Ok(0)
 }
 
 /// A list of one key.
-fn only(alloc: Global, key: usize) -> Result<Vec<usize>, AllocError>
-    ensures { IfOk result (λ keys. keys.items ≡ key ∷ []) }
+fn only(alloc: Global, key: usize) -> Keys
+    ensures { result.items ≡ key ∷ [] }
 {
-    let mut keys = Vec::with_capacity(alloc, 1)?;
+    let mut keys = Keys::new(alloc);
     keys.push_reserved(key);
-    Ok(keys)
+    keys
 }
 
-/// Takes the key in the place of an entry out of a name's list, and tells the place. A list ends with its last key.
+/// Takes the key of an entry out of a name's list, and tells its place. A list ends with its last key.
 pub(crate) fn take<K: Ord + Copy + Drop>(
-    lists: &mut BTreeMap<K, Vec<usize>>,
+    lists: &mut BTreeMap<K, Keys>,
     entries: &Slab<LockEntry>,
     name: &K,
     entry: &LockEntry,
+    key: usize,
 ) -> usize
+    requires { get entries.now key ≡ Some entry.now }
     ensures place { RisesTo entries.now (keys_at K.cmp lists.old name.now) entry.now.0 result }
     ensures after { (other : K) → keys_at K.cmp lists.new other ≡ (if is_at (K.cmp name.now) other then remove (keys_at K.cmp lists.old name.now) result else keys_at K.cmp lists.old other) }
 {
     let Some(keys) = lists.get_mut(name) else {
         return 0;
     };
-    let place = leave(keys, entries, entry);
+    let place = leave(keys, entries, entry, key);
     if keys.is_empty() {
         lists.remove(name);
     }
@@ -106,32 +115,53 @@ pub(crate) fn take<K: Ord + Copy + Drop>(
 
 /// Puts the key of an entry into its place in a list that has room, and tells the place.
 pub(crate) fn enter(
-    keys: &mut Vec<usize>,
+    keys: &mut Keys,
     entries: &Slab<LockEntry>,
     entry: &LockEntry,
     key: usize,
 ) -> usize
-    requires { vec_len keys.old < vec_capacity keys.old }
+    requires { HasRoomFor keys.old 1 }
     ensures place { RisesTo entries.now keys.old.items entry.now.0 result }
     ensures after { keys.new.items ≡ insert keys.old.items result key }
 {
     let place = place(entries, keys.as_slice(), &entry.file, entry.txn);
-    let _ = keys.insert(place, key);
+    let _room_was_made = keys.insert(place, key);
     place
 }
 
-/// Takes the key in the place of an entry out of a list, and tells the place.
-pub(crate) fn leave(keys: &mut Vec<usize>, entries: &Slab<LockEntry>, entry: &LockEntry) -> usize
+/// Takes the key of an entry out of a list, and tells its place.
+pub(crate) fn leave(
+    keys: &mut Keys,
+    entries: &Slab<LockEntry>,
+    entry: &LockEntry,
+    key: usize,
+) -> usize
+    requires { get entries.now key ≡ Some entry.now }
     ensures place { RisesTo entries.now keys.old.items entry.now.0 result }
     ensures after { keys.new.items ≡ remove keys.old.items result }
 {
+    // Most often it is the last.
+    if is_last(keys.as_slice(), key) {
+        keys.pop();
+        return keys.len();
+    }
     let place = place(entries, keys.as_slice(), &entry.file, entry.txn);
     take_out(keys, place);
     place
 }
 
+/// Whether a key is the last of a list.
+fn is_last(keys: &[usize], key: usize) -> bool
+    ensures { OnTrue result (slice_get keys.now (length keys.now - 1) ≡ Some key) }
+{
+    match keys.last() {
+        Some(last) => *last == key,
+        None => false,
+    }
+}
+
 /// Takes the key at a place out, where the list goes so far.
-fn take_out(keys: &mut Vec<usize>, place: usize)
+fn take_out(keys: &mut Keys, place: usize)
     ensures { keys.new.items ≡ remove keys.old.items place }
 {
     if place < keys.len() {

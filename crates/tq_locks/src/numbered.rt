@@ -1,17 +1,18 @@
 //! Lists of keys, each under a number: an index of a slab whose lists have no order.
-ghost use Rattle.std.specs.Prelude.{◌≡◌, ◌==◌, ℕ, OnOk, if◌then◌else◌};
+ghost use Rattle.std.specs.Prelude.{◌≡◌, ◌==◌, ℕ, OnOk, Some, if◌then◌else◌};
 ghost use Rattle.std.specs.List.{insert, remove};
+ghost use Rattle.slab.specs.Slab.{get};
 ghost use Rattle.tq_locks.specs.Keys.{keys_under, HasRoomUnder};
 ghost use Rattle.tq_locks.specs.Kept.{RisesTo};
 
 use crate::LockEntry;
-use crate::lists::{enter, leave};
+use crate::lists::{Keys, enter, leave};
 use indexmap::IndexMap;
 use slab::Slab;
 use std::alloc::{AllocError, Global};
 
 /// The keys under a number.
-pub(crate) fn listed_under(lists: &IndexMap<u64, Vec<usize>>, number: u64) -> &[usize]
+pub(crate) fn listed_under(lists: &IndexMap<u64, Keys>, number: u64) -> &[usize]
     ensures { result.now ≡ keys_under lists.now number }
 {
     match lists.get(&number) {
@@ -23,7 +24,7 @@ pub(crate) fn listed_under(lists: &IndexMap<u64, Vec<usize>>, number: u64) -> &[
 /// Makes room for one more key under a number.
 pub(crate) fn make_room_under(
     alloc: Global,
-    lists: &mut IndexMap<u64, Vec<usize>>,
+    lists: &mut IndexMap<u64, Keys>,
     number: u64,
 ) -> Result<(), AllocError>
     ensures same { (other : ℕ) → keys_under lists.new other ≡ keys_under lists.old other }
@@ -32,14 +33,13 @@ pub(crate) fn make_room_under(
     if let Some(keys) = lists.get_mut(&number) {
         return keys.reserve(1);
     }
-    let keys = Vec::with_capacity(alloc, 1)?;
-    lists.insert(number, keys)?;
+    lists.insert(number, Keys::new(alloc))?;
     Ok(())
 }
 
 /// Puts the key of an entry into its place in a number's list, for which there is room, and tells the place.
 pub(crate) fn put_under(
-    lists: &mut IndexMap<u64, Vec<usize>>,
+    lists: &mut IndexMap<u64, Keys>,
     entries: &Slab<LockEntry>,
     number: u64,
     entry: &LockEntry,
@@ -55,24 +55,26 @@ pub(crate) fn put_under(
     }
 }
 
-/// Takes the key in the place of an entry out of a number's list, and tells the place. The list stays, even with no key.
+/// Takes the key of an entry out of a number's list, and tells its place. The list stays, even with no key.
 pub(crate) fn take_under(
-    lists: &mut IndexMap<u64, Vec<usize>>,
+    lists: &mut IndexMap<u64, Keys>,
     entries: &Slab<LockEntry>,
     number: u64,
     entry: &LockEntry,
+    key: usize,
 ) -> usize
+    requires { get entries.now key ≡ Some entry.now }
     ensures place { RisesTo entries.now (keys_under lists.old number) entry.now.0 result }
     ensures after { (other : ℕ) → keys_under lists.new other ≡ (if number == other then remove (keys_under lists.old number) result else keys_under lists.old other) }
 {
     match lists.get_mut(&number) {
-        Some(keys) => leave(keys, entries, entry),
+        Some(keys) => leave(keys, entries, entry, key),
         None => 0,
     }
 }
 
 /// Ends a number's list if it has no key.
-pub(crate) fn end_empty_under(lists: &mut IndexMap<u64, Vec<usize>>, number: u64)
+pub(crate) fn end_empty_under(lists: &mut IndexMap<u64, Keys>, number: u64)
     ensures { (other : ℕ) → keys_under lists.new other ≡ keys_under lists.old other }
 {
     if listed_under(lists, number).is_empty() {

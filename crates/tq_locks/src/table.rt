@@ -2,6 +2,7 @@ ghost use Rattle.std.specs.Prelude.{◌≡◌, OnOk, OnErr, IfOk, IfSome, IfNone
 ghost use Rattle.std.specs.FinMap as fin;
 
 use crate::keyed::{KeyedLocks, Listed};
+use crate::lists::Keys;
 use crate::{Lock, Mode};
 use std::alloc::{AllocError, Global};
 use std::collections::btree_map::Values;
@@ -232,7 +233,7 @@ pub struct LockEntries<'a> {
     kept: &'a KeyedLocks,
     // Those of the file that is walked, and the keys of the files that are to come.
     here: Listed<'a>,
-    files: Values<'a, FileName, Vec<usize>>,
+    files: Values<'a, FileName, Keys>,
 }
 
 impl<'a> Model for LockEntries<'a> {
