@@ -9,3 +9,4 @@ pub mod Applied
 pub mod Walked
 pub mod Copied
 pub mod Locked
+pub mod TakenOut

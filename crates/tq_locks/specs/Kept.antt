@@ -1,6 +1,7 @@
 -- The locks of a table as it keeps them: entries under keys, and the keys of each file and of each transaction.
-use Rattle.std.specs.Prelude.{◌≡◌, ℕ, T, Bool, List, Option, length, map, filter, Some, true, false, nat_eq}
-use Rattle.std.specs.List.{IsDistinct}
+use Rattle.std.specs.Prelude.{◌≡◌, ℕ, T, Bool, List, Option, length, map, filter, Some, true, false, nat_eq, if◌then◌else◌}
+use Rattle.std.specs.List.{IsDistinct, remove}
+use Rattle.std.specs.BTreeMap.{is_at}
 use Rattle.std.specs.Option.{option_map, option_map_or, option_and_then}
 use Rattle.std.specs.FinMap as fin
 use Rattle.std.specs.Ordering.{is_lt}
@@ -48,6 +49,12 @@ RisesTo slab keys key count = (entries : List (LockKey × Lock)) → AreKeysOf s
 -- the entry under a key is the lock of this file and transaction
 abbrev pub IsOf : Slab (LockKey × Lock) → ℕ → LockKey → Type 0
 IsOf slab key name = (lock : Lock) × (get slab key ≡ Some (name, lock))
+
+-- the key of this file and transaction has left the keys of the file, where it stood in its place
+pub record LeftFile (old new : KeyedLocks) (name : LockKey) : Type 0 where
+  pub place : ℕ
+  pub stood : RisesTo old.entries (keys_at name_cmp old.by_file name.0) name place
+  pub files : (file : List ℕ) → keys_at name_cmp new.by_file file ≡ (if is_at (name_cmp name.0) file then remove (keys_at name_cmp old.by_file name.0) place else keys_at name_cmp old.by_file file)
 
 -- no key stands twice, and there are as many as entries
 abbrev pub HasOneKeyEach : List ℕ → List (LockKey × Lock) → Type 0

@@ -10,7 +10,9 @@ ghost use Rattle.tq_locks.specs.Locks.{LockKey, Locks, lock_cmp, kept, released,
 ghost use Rattle.tq_locks.specs.Keys.{keys_at, keys_under, place, told};
 
 use crate::lists::{Keys, add, listed, place, take};
-use crate::numbered::{end_empty_under, listed_under, make_room_under, put_under, take_under};
+use crate::numbered::{
+    end_empty_under, listed_under, make_room_under, put_under, take_all_under, take_under,
+};
 use crate::{Lock, LockEntry};
 use indexmap::IndexMap;
 use slab::Slab;
@@ -29,7 +31,7 @@ pub(crate) struct KeyedLocks {
 }
 
 impl KeyedLocks {
-    ghost use Rattle.tq_locks.specs.Kept.{is_under, locks_in, lock_found, on_file, Agrees, AreKeysOf, IsOf, IsStableAt, RisesTo, steady};
+    ghost use Rattle.tq_locks.specs.Kept.{is_under, locks_in, lock_found, on_file, Agrees, AreKeysOf, IsOf, IsStableAt, LeftFile, RisesTo, steady};
     ghost use Rattle.tq_locks.specs.declared.mode.Lock.{Lock};
 
     pub(crate) fn new(alloc: Global) -> KeyedLocks
@@ -140,8 +142,21 @@ impl KeyedLocks {
         let Some(entry) = self.entries.get(key).copied() else {
             return;
         };
-        take(&mut self.by_file, &self.entries, &entry.file, &entry, key);
         take_under(&mut self.by_txn, &self.entries, entry.txn, &entry, key);
+        self.leave_file(key);
+    }
+
+    // Takes the entry under a key out of the slab and of the keys of its file.
+    fn leave_file(&mut self, key: usize)
+        ensures left { (name : LockKey) → IsOf self.old.entries key name → LeftFile self.old self.new name }
+        ensures by_txn { self.new.by_txn ≡ self.old.by_txn }
+        ensures entries { Updates self.old.entries self.new.entries key None }
+        ensures fewer { IsSome (get self.old.entries key) → slab_len self.new.entries + 1 ≡ slab_len self.old.entries }
+    {
+        let Some(entry) = self.entries.get(key).copied() else {
+            return;
+        };
+        take(&mut self.by_file, &self.entries, &entry.file, &entry, key);
         let _ = self.entries.try_remove(key);
     }
 
@@ -209,10 +224,10 @@ impl KeyedLocks {
         requires { Agrees self.old (locks_in self.old) }
         ensures { Agrees self.new (released (locks_in self.old) txn) }
     {
-        while let Some(key) = self.keys_of_txn(txn).last().copied() {
-            self.remove(key);
+        let mut keys = take_all_under(self.alloc, &mut self.by_txn, txn);
+        while let Some(key) = keys.pop() {
+            self.leave_file(key);
         }
-        end_empty_under(&mut self.by_txn, txn);
     }
 
     // Ends the lock under a key unless it is stable.

@@ -1,5 +1,5 @@
 //! Lists of keys, each under a number: an index of a slab whose lists have no order.
-ghost use Rattle.std.specs.Prelude.{◌≡◌, ◌==◌, ℕ, OnOk, Some, if◌then◌else◌};
+ghost use Rattle.std.specs.Prelude.{◌≡◌, ◌==◌, ℕ, OnOk, Some, [], if◌then◌else◌};
 ghost use Rattle.std.specs.List.{insert, remove};
 ghost use Rattle.slab.specs.Slab.{get};
 ghost use Rattle.tq_locks.specs.Keys.{keys_under, HasRoomUnder};
@@ -70,6 +70,17 @@ pub(crate) fn take_under(
     match lists.get_mut(&number) {
         Some(keys) => leave(keys, entries, entry, key),
         None => 0,
+    }
+}
+
+/// Takes a whole list out, and gives the keys that were under the number.
+pub(crate) fn take_all_under(alloc: Global, lists: &mut IndexMap<u64, Keys>, number: u64) -> Keys
+    ensures keys { result.items ≡ keys_under lists.old number }
+    ensures after { (other : ℕ) → keys_under lists.new other ≡ (if number == other then [] else keys_under lists.old other) }
+{
+    match lists.swap_remove(&number) {
+        Some(keys) => keys,
+        None => Keys::new(alloc),
     }
 }
 

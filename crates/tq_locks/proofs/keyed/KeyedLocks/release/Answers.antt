@@ -1,36 +1,48 @@
-use Rattle.std.proofs.Common.{◌≡◌, [], is_some, refl, ap, sym, subst, ◌∙◌, arith}
+use Rattle.std.proofs.Common.{◌≡◌, ◌-◌, [], length, Some, refl, ap, sym, subst, ◌∙◌, arith}
 use Rattle.std.specs.FinMap as fin
+use Rattle.std.specs.List.{slice_get}
 use Rattle.tq_locks.specs.declared.keyed.KeyedLocks.{KeyedLocks}
 use Rattle.tq_locks.specs.Locks.{released}
+use Rattle.tq_locks.specs.Keys.{keys_under}
 use Rattle.tq_locks.specs.Kept.{locks_in, Agrees}
-use Rattle.tq_locks.proofs.Applied.{Agrees-same, entry_of_key, empty_keys, no_last}
+use Rattle.tq_locks.proofs.Applied.{cond_same, entry_of_key, empty_keys, no_last, within}
 use Rattle.tq_locks.proofs.Changed.{agreed_self, locks_in-agreed, released-remove, released-none}
+use Rattle.tq_locks.proofs.TakenOut.{with_list, own-with_list, Agrees-out, Agrees-back, Agrees-popped}
 use Rattle.tq_locks.proofs.keyed.KeyedLocks.release.Goals as goal
 
-pub loop-key-smaller : goal.loop-key-smaller
-loop-key-smaller c =
-    let old = c.loop-key.self in
-    let at = sym c.last.ensures.value ∙ sym c.in-Some.ensures in
-    let e = entry_of_key old (locks_in old) c.loop-key.invariant.0 c.args.txn c.keys_of_txn.result.now _ c.in-Some.key c.keys_of_txn.ensures at in
-    let fewer = c.remove.ensures.fewer (ap is_some e.2) in
-    omega (arith, fewer)
+pub loop-key-init : goal.loop-key-init
+loop-key-init c =
+    let old = c.args.self.now in
+    let out = c.take_all_under-keys in
+    let new : KeyedLocks = record { entries = old.entries; by_file = old.by_file; by_txn = out.new.lists; alloc = old.alloc } in
+    (Agrees-out old new (locks_in old) c.args.txn out.result.items c.requires refl refl out.ensures.keys out.ensures.after, refl, out.ensures.after c.args.txn ∙ cond_same c.args.txn [] (keys_under old.by_txn c.args.txn))
 
 pub loop-key-preserved : goal.loop-key-preserved
 loop-key-preserved c =
     let old = c.loop-key.self in
-    let at = sym c.last.ensures.value ∙ sym c.in-Some.ensures in
-    let e = entry_of_key old (locks_in old) c.loop-key.invariant.0 c.args.txn c.keys_of_txn.result.now _ c.in-Some.key c.keys_of_txn.ensures at in
-    let agreed = c.remove.ensures.agreed e.0.0 (e.0.1, e.2) in (
-      agreed_self c.remove.new.self (fin.remove (locks_in old) e.0.0) agreed,
-      ap (λ m. released m c.args.txn) (locks_in-agreed c.remove.new.self (fin.remove (locks_in old) e.0.0) agreed)
+    let new = c.leave_file.new.self in
+    let txn = c.args.txn in
+    let keys = c.loop-key.keys.items in
+    let n = length keys - 1 in
+    let at : slice_get keys n ≡ Some c.in-Some.key = sym c.pop.ensures.value ∙ c.in-Some.is in
+    let inside = (within keys n c.in-Some.key at).0 in
+    let e = entry_of_key (with_list old txn keys) (locks_in old) c.loop-key.invariant.0 txn keys n c.in-Some.key (sym (own-with_list old txn keys)) at in
+    let left = with_list new txn c.pop.new.self.items in
+    let agreed : Agrees left (fin.remove (locks_in old) e.0.0) =
+    Agrees-popped old new (locks_in old) txn keys c.pop.new.self.items n c.in-Some.key e.0 c.loop-key.invariant.0 at (omega (arith, inside)) c.pop.ensures.rest e.1 e.2
+    (c.leave_file.ensures.left e.0.0 (e.0.1, e.2)) c.leave_file.ensures.entries c.leave_file.ensures.by_txn in (
+      agreed_self left (fin.remove (locks_in old) e.0.0) agreed,
+      ap (λ m. released m txn) (locks_in-agreed left (fin.remove (locks_in old) e.0.0) agreed)
           ∙ subst (λ t. released (fin.remove (locks_in old) e.0.0) t ≡ released (locks_in old) t) e.1 (released-remove (locks_in old) e.0.0)
           ∙ c.loop-key.invariant.1,
+      ap (λ lists. keys_under lists txn) c.leave_file.ensures.by_txn ∙ c.loop-key.invariant.2,
     )
 
 pub returns : goal.returns
 returns c =
-    let old = c.loop-key.self in
-    let none : c.keys_of_txn.result.now ≡ [] = no_last c.keys_of_txn.result.now (sym c.last.ensures.value ∙ sym c.in_default.ensures) in
-    let held = empty_keys old (locks_in old) c.loop-key.invariant.0 c.args.txn (sym c.keys_of_txn.ensures ∙ none) in
-    let new : KeyedLocks = record { entries = old.entries; by_file = old.by_file; by_txn = c.end_empty_under.new.lists; alloc = old.alloc } in
-    Agrees-same old new (released (locks_in c.args.self.now) c.args.txn) (subst (Agrees old) (sym (released-none (locks_in old) c.args.txn held) ∙ c.loop-key.invariant.1) c.loop-key.invariant.0) refl (λ f. refl) c.end_empty_under.ensures
+    let left = c.loop-key.self in
+    let keys = c.loop-key.keys.items in
+    let none : keys ≡ [] = no_last keys (sym c.pop.ensures.value ∙ c.in_default.is) in
+    let agreed = Agrees-back left (locks_in left) c.args.txn (subst (λ ks. Agrees (with_list left c.args.txn ks) (locks_in left)) none c.loop-key.invariant.0) c.loop-key.invariant.2 in
+    let held = empty_keys left (locks_in left) agreed c.args.txn c.loop-key.invariant.2 in
+    subst (Agrees left) (sym (released-none (locks_in left) c.args.txn held) ∙ c.loop-key.invariant.1) agreed

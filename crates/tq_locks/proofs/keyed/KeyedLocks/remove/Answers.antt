@@ -1,9 +1,8 @@
-use Rattle.std.proofs.Common.{◌≡◌, Some, ap, sym, subst, ◌∙◌}
-use Rattle.std.specs.FinMap as fin
-use Rattle.tq_locks.specs.declared.keyed.KeyedLocks.{KeyedLocks}
+use Rattle.std.proofs.Common.{◌≡◌, ap, subst, refl, ◌∙◌}
 use Rattle.tq_locks.specs.declared.mode.Lock.{Lock}
 use Rattle.tq_locks.specs.Locks.{LockKey}
-use Rattle.tq_locks.specs.Kept.{locks_in, Agrees}
+use Rattle.tq_locks.specs.Keys.{keys_under}
+use Rattle.tq_locks.specs.Kept.{locks_in, RisesTo}
 use Rattle.tq_locks.proofs.Found.{some_same}
 use Rattle.tq_locks.proofs.Applied.{Agrees-left}
 use Rattle.tq_locks.proofs.keyed.KeyedLocks.remove.Goals as goal
@@ -11,9 +10,8 @@ use Rattle.tq_locks.proofs.keyed.KeyedLocks.remove.Goals as goal
 pub returns-clause-agreed : goal.returns-clause-agreed
 returns-clause-agreed c name is =
     let old = c.args.self.now in
-    let new : KeyedLocks = record { entries = c.try_remove.new.self; by_file = c.take.new.lists; by_txn = c.take_under.new.lists; alloc = old.alloc } in
     let same : c.in-Some.entry ≡ (name, is.0) = some_same c.in-Some.entry (name, is.0) (c.in-Some.ensures ∙ c.get.ensures ∙ is.1) in
-    let e = c.in-Some.entry in
-    subst (λ (q : LockKey). Agrees new (fin.remove (locks_in old) q)) (ap (λ (x : LockKey × Lock). x.0) same)
-    (Agrees-left old new (locks_in old) c.requires e c.entry.inside.file c.entry.inside.txn (ap (λ (x : LockKey × Lock). x.0.0) c.entry.view_is) (ap (λ (x : LockKey × Lock). x.0.1) c.entry.view_is)
-    c.take.result c.take_under.result c.args.key c.take.ensures.place c.take_under.ensures.place (is.1 ∙ ap Some (sym same)) c.try_remove.ensures.updates c.take.ensures.after c.take_under.ensures.after)
+    let left = c.leave_file.ensures.left name is in
+    Agrees-left old c.leave_file.new.self (locks_in old) c.requires (name, is.0) name.0 c.entry.inside.txn refl (ap (λ (x : LockKey × Lock). x.0.1) (c.entry.view_is ∙ same)) left.place c.take_under.result c.args.key left.stood
+    (subst (λ (q : LockKey). RisesTo old.entries (keys_under old.by_txn c.entry.inside.txn) q c.take_under.result) (ap (λ (x : LockKey × Lock). x.0) same) c.take_under.ensures.place)
+    is.1 c.leave_file.ensures.entries left.files (λ t. ap (λ lists. keys_under lists t) c.leave_file.ensures.by_txn ∙ c.take_under.ensures.after t)
