@@ -31,7 +31,7 @@ use Rattle.tq_client.specs.declared.kept.Kept.{Kept}
 use Rattle.tq_client.specs.declared.kept.Ending.{Ending}
 use Rattle.tq_client.specs.Known.{in_state, ending_in}
 use Rattle.tq_client.specs.Possible.{IsOfOwn, Saying, Reads, Writes, Votes, Commits, Aborts, Resolves, Applies, Closed, Undecided, Stops, OffTree, Fails, saying_text, CanCome, IsSaid}
-use Rattle.tq_client.specs.TxnAsked.{TxnAnswer, IsAnswered, txn_said, result_text, answer_end, answered, no_servers, open_in, closing, voting_in, missing_in, read_text, read_open, written_text, write_open, voted_text, prepare_asked, prepare_voting, stopped_text, prepare_crash_asked, prepare_crash_voting, serial_text, decide_asked, decide_voting, commit_asked, commit_voting, aborted_text, abort_asked, resolved_text, resolve_end, resolve_asked, told_text, apply_by, apply_asked, apply_stopped_text, apply_crash_by, apply_crash_asked, server_asked, line_asked}
+use Rattle.tq_client.specs.TxnAsked.{TxnAnswer, IsAnswered, txn_said, result_text, answer_end, answered, no_servers, open_in, closing, voting_in, missing_in, read_text, read_open, written_text, write_open, voted_text, stopped_text, prepare_voting, prepare_asked, serial_text, decision_voting, decision_asked, aborted_text, abort_asked, resolved_text, resolve_end, resolve_asked, told_text, apply_stopped_text, apply_ending, apply_by, apply_asked, server_asked, line_asked}
 use Rattle.tq_client.proofs.Replies.{IsDeskReply, refuse_all}
 use Rattle.tq_client.proofs.EndsIn.{EndsIn, Answers, IsWell, Any, ends_so, ends_then, desk_ends}
 use Rattle.tq_client.proofs.EndsWell.{read_well, write_well, prepare_well, decide_well, commit_well, abort_well, apply_well, stop_well, prepare_stop_well}
@@ -83,20 +83,25 @@ write_says levels file content kept old same =
     answered_says levels Any (write_line old file content) (λ new. in_state kept (states.Open new)) no_servers (written_text file)
     (subst (λ (l : ℕ). EndsIn l (IsWell Any) (write_line old file content)) same (write_well old file content)) (λ version new any. (Writes file (written new file) version, tt, refl))
 
-prepare_says : (levels server number : ℕ) (kept : Kept) → EndsIn levels Says (prepare_asked server number kept)
-prepare_says levels server number kept =
-    voting_says levels kept kept.txn (prepare_voting kept server)
-    (λ old. answered_says levels Any (prepare_line old server) (λ new. in_state kept (states.Voting new)) (λ new. server ∷ []) (voted_text server) (prepare_well levels old server) (λ all new any. (Votes server, tt, refl)))
+stopped_says : (server : ℕ) (new : VotingView) (there : Bool) → IsSayable (stopped_text server new there)
+stopped_says server new true = (Votes server, tt, refl)
+stopped_says server new false = (Stops server, tt, refl)
 
-decide_says : (levels number : ℕ) (kept : Kept) → EndsIn levels Says (decide_asked number kept)
-decide_says levels number kept =
-    voting_says levels kept kept.txn (decide_voting kept)
-    (λ old. answered_says levels Any (decide_line old) (in_state kept) missing_in serial_text (decide_well levels old) (λ serial new any. (Commits serial, tt, refl)))
+vote_says : (levels : ℕ) (stop : Option ℕ) (server : ℕ) (kept : Kept) (old : VotingView) → EndsIn levels Says (prepare_voting stop server kept old)
+vote_says levels None server kept old =
+    answered_says levels Any (prepare_line old server) (λ new. in_state kept (states.Voting new)) (λ new. server ∷ []) (voted_text server) (prepare_well levels old server)
+    (λ all new any. (Votes server, tt, refl))
+vote_says levels (Some after) server kept old =
+    answered_says levels Any (prepare_stop_line old server after) (λ new. in_state kept (states.Voting new)) (λ new. server ∷ []) (stopped_text server) (prepare_stop_well levels old server after)
+    (λ there new any. stopped_says server new there)
 
-commit_says : (levels number : ℕ) (kept : Kept) → EndsIn levels Says (commit_asked number kept)
-commit_says levels number kept =
-    voting_says levels kept kept.txn (commit_voting kept)
-    (λ old. answered_says levels Any (commit_line old) (in_state kept) missing_in serial_text (commit_well levels old) (λ serial new any. (Commits serial, tt, refl)))
+prepare_says : (levels : ℕ) (stop : Option ℕ) (server number : ℕ) (kept : Kept) → EndsIn levels Says (prepare_asked stop server number kept)
+prepare_says levels stop server number kept = voting_says levels kept kept.txn (prepare_voting stop server kept) (vote_says levels stop server kept)
+
+decision_says : (levels : ℕ) (line : VotingView → Dialogue (LineEnd ℕ Txn)) (number : ℕ) (kept : Kept) → ((old : VotingView) → EndsIn levels (IsWell Any) (line old)) → EndsIn levels Says (decision_asked line number kept)
+decision_says levels line number kept is =
+    voting_says levels kept kept.txn (decision_voting line kept)
+    (λ old. answered_says levels Any (line old) (in_state kept) missing_in serial_text (is old) (λ serial new any. (Commits serial, tt, refl)))
 
 abort_says : (levels number : ℕ) (kept : Kept) → EndsIn levels Says (abort_asked number kept)
 abort_says levels number kept =
@@ -117,46 +122,36 @@ resolve_says levels number kept =
     by (Ok told) after so = resolved_says number told.reply so
     by (Err fault) after possible = (Fails [] fault, possible, refl)
 
-ended_says : (levels server number : ℕ) (kept : Kept) (ending : Option Ending) → EndsIn levels Says (apply_by server number kept ending)
-ended_says levels server number kept None = (Undecided number, tt, refl)
-ended_says levels server number kept (Some ending) =
+ending_says : (levels : ℕ) (stop : Option ℕ) (server number : ℕ) (kept : Kept) (ending : Ending) → EndsIn levels Says (apply_ending stop server number kept ending)
+ending_says levels None server number kept ending =
     answered_says levels Any (apply_line number ending.verdict ending.cite server) (λ none. kept) no_servers (told_text server) (apply_well levels number ending.verdict ending.cite server)
     (λ applied none any. (Applies server applied, tt, refl))
-
-stopped_says : (server : ℕ) (new : VotingView) (there : Bool) → IsSayable (stopped_text server new there)
-stopped_says server new true = (Votes server, tt, refl)
-stopped_says server new false = (Stops server, tt, refl)
-
-prepare_crash_says : (levels server after number : ℕ) (kept : Kept) → EndsIn levels Says (prepare_crash_asked server after number kept)
-prepare_crash_says levels server after number kept =
-    voting_says levels kept kept.txn (prepare_crash_voting kept server after)
-    (λ old. answered_says levels Any (prepare_stop_line old server after) (λ new. in_state kept (states.Voting new)) (λ new. server ∷ []) (stopped_text server) (prepare_stop_well levels old server after)
-    (λ there new any. stopped_says server new there))
-
-apply_crash_says : (levels server after number : ℕ) (kept : Kept) (ending : Option Ending) → EndsIn levels Says (apply_crash_by server after number kept ending)
-apply_crash_says levels server after number kept None = (Undecided number, tt, refl)
-apply_crash_says levels server after number kept (Some ending) =
+ending_says levels (Some after) server number kept ending =
     let ask : WorkAsk = Decide number ending.verdict ending.cite in
     answered_says levels Any (stop_line server ask after) (λ none. kept) no_servers (apply_stopped_text server) (stop_well levels server ask after) (λ all none any. (Stops server, tt, refl))
 
-server_says : (levels tree server number : ℕ) (kept : Kept) (next : ℕ → Kept → Dialogue TxnAnswer) → EndsIn levels Says (next number kept) → EndsIn levels Says (server_asked tree server next number kept)
+apply_says : (levels : ℕ) (stop : Option ℕ) (server number : ℕ) (kept : Kept) (ending : Option Ending) → EndsIn levels Says (apply_by stop server number kept ending)
+apply_says levels stop server number kept None = (Undecided number, tt, refl)
+apply_says levels stop server number kept (Some ending) = ending_says levels stop server number kept ending
+
+server_says : (levels tree server number : ℕ) (kept : Kept) (next : ℕ → ℕ → Kept → Dialogue TxnAnswer) → EndsIn levels Says (next server number kept) → EndsIn levels Says (server_asked tree server next number kept)
 server_says levels tree server number kept next is = by (is_server tree server)
   where
-    by : (there : Bool) → EndsIn levels Says (cond there (next number kept) (txn_said kept (saying_text (OffTree server))))
+    by : (there : Bool) → EndsIn levels Says (cond there (next server number kept) (txn_said kept (saying_text (OffTree server))))
     by true = is
     by false = (OffTree server, tt, refl)
 
 pub line_says : (levels tree : ℕ) (line : TxnLine) (number : ℕ) (kept : Kept) → levels_of kept.txn ≡ levels → EndsIn levels Says (line_asked tree line number kept)
 line_says levels tree (of.Read file) number kept same = open_says levels number kept kept.txn (read_open kept file) same (read_says levels file kept)
 line_says levels tree (of.Write file content) number kept same = open_says levels number kept kept.txn (write_open kept file content) same (write_says levels file content kept)
-line_says levels tree (of.Prepare server) number kept same = server_says levels tree server number kept (prepare_asked server) (prepare_says levels server number kept)
-line_says levels tree of.Decide number kept same = decide_says levels number kept
-line_says levels tree (of.Apply server) number kept same = server_says levels tree server number kept (apply_asked server) (ended_says levels server number kept (ending_in kept))
-line_says levels tree of.Commit number kept same = commit_says levels number kept
+line_says levels tree (of.Prepare server) number kept same = server_says levels tree server number kept (prepare_asked None) (prepare_says levels None server number kept)
+line_says levels tree of.Decide number kept same = decision_says levels decide_line number kept (decide_well levels)
+line_says levels tree (of.Apply server) number kept same = server_says levels tree server number kept (apply_asked None) (apply_says levels None server number kept (ending_in kept))
+line_says levels tree of.Commit number kept same = decision_says levels commit_line number kept (commit_well levels)
 line_says levels tree of.Abort number kept same = abort_says levels number kept
 line_says levels tree of.Resolve number kept same = resolve_says levels number kept
-line_says levels tree (of.PrepareCrash server after) number kept same = server_says levels tree server number kept (prepare_crash_asked server after) (prepare_crash_says levels server after number kept)
-line_says levels tree (of.ApplyCrash server after) number kept same = server_says levels tree server number kept (apply_crash_asked server after) (apply_crash_says levels server after number kept (ending_in kept))
+line_says levels tree (of.PrepareCrash server after) number kept same = server_says levels tree server number kept (prepare_asked (Some after)) (prepare_says levels (Some after) server number kept)
+line_says levels tree (of.ApplyCrash server after) number kept same = server_says levels tree server number kept (apply_asked (Some after)) (apply_says levels (Some after) server number kept (ending_in kept))
 
 -- what was printed of a line of a transaction of the world's tree
 pub said_by_line : (levels : ℕ) (line : TxnLine) (number : ℕ) (kept : Kept) (old new : JournalsView) (before after : List ℕ) (left : Kept)

@@ -26,6 +26,13 @@ use Rattle.tq_states.specs.Open.{close_fault}
 use Rattle.tq_states.specs.declared.fault.TxnFault.{TxnFault}
 use Rattle.tq_client.specs.declared.kept.Kept.{Kept}
 use Rattle.tq_client.specs.declared.kept.Ending.{Ending}
+use Rattle.tq_client.specs.declared.operations.Operation.{Operation}
+use Rattle.tq_client.specs.declared.operations.Operation.TheVariants as operations
+use Rattle.tq_client.specs.declared.decisions.Course.{Course}
+use Rattle.tq_client.specs.declared.decisions.Course.TheVariants as courses
+use Rattle.tq_client.specs.declared.errands.Errand.{Errand}
+use Rattle.tq_client.specs.declared.errands.Duty.{Duty}
+use Rattle.tq_client.specs.declared.errands.Duty.TheVariants as duties
 use Rattle.tq_lines.specs.declared.line.TxnLine.{TxnLine}
 use Rattle.tq_lines.specs.declared.line.TxnLine.TheVariants as of
 use Rattle.tq_asking.specs.Asking.{run_line}
@@ -83,11 +90,8 @@ abbrev pub missing_of : VotingView → List ℕ → List ℕ
 missing_of old servers = filter (λ server. not (has_vote old.votes server)) servers
 
 -- the voters whose votes are not there
-abbrev pub missing : VotingView → List ℕ
-missing old = missing_of old old.txn.voters
-
 abbrev pub missing_in : Txn → List ℕ
-missing_in (states.Voting old) = missing old
+missing_in (states.Voting old) = missing_of old old.txn.voters
 missing_in txn = []
 
 -- ---- the lines of a transaction
@@ -111,15 +115,12 @@ write_open kept file content old =
 abbrev pub write_asked : List ℕ → List ℕ → ℕ → Kept → asks.Dialogue TxnAnswer
 write_asked file content number kept = open_in number kept kept.txn (write_open kept file content)
 
+abbrev pub operation_asked : Operation → List ℕ → ℕ → Kept → asks.Dialogue TxnAnswer
+operation_asked operations.Read file = read_asked file
+operation_asked (operations.Write content) file = write_asked file content
+
 abbrev pub voted_text : ℕ → VotingView → Unit {0} → List ℕ
 voted_text server new all = codes "yes " ++ decimal server
-
-abbrev pub prepare_voting : Kept → ℕ → VotingView → asks.Dialogue TxnAnswer
-prepare_voting kept server old =
-    answered (lines.prepare_line old server) (λ new. in_state kept (states.Voting new)) (λ new. server ∷ []) (voted_text server)
-
-abbrev pub prepare_asked : ℕ → ℕ → Kept → asks.Dialogue TxnAnswer
-prepare_asked server number kept = voting_in kept kept.txn (prepare_voting kept server)
 
 abbrev pub down_text : ℕ → List ℕ
 down_text server = codes "down " ++ decimal server
@@ -128,13 +129,15 @@ down_text server = codes "down " ++ decimal server
 abbrev pub stopped_text : ℕ → VotingView → Bool → List ℕ
 stopped_text server new there = cond there (codes "yes " ++ decimal server) (down_text server)
 
-abbrev pub prepare_crash_voting : Kept → ℕ → ℕ → VotingView → asks.Dialogue TxnAnswer
-prepare_crash_voting kept server after old =
+-- the server votes; or it stops in its vote, behind so many of its records
+abbrev pub prepare_voting : Option ℕ → ℕ → Kept → VotingView → asks.Dialogue TxnAnswer
+prepare_voting None server kept old =
+    answered (lines.prepare_line old server) (λ new. in_state kept (states.Voting new)) (λ new. server ∷ []) (voted_text server)
+prepare_voting (Some after) server kept old =
     answered (lines.prepare_stop_line old server after) (λ new. in_state kept (states.Voting new)) (λ new. server ∷ []) (stopped_text server)
 
--- the voter stops in its vote
-abbrev pub prepare_crash_asked : ℕ → ℕ → ℕ → Kept → asks.Dialogue TxnAnswer
-prepare_crash_asked server after number kept = voting_in kept kept.txn (prepare_crash_voting kept server after)
+abbrev pub prepare_asked : Option ℕ → ℕ → ℕ → Kept → asks.Dialogue TxnAnswer
+prepare_asked stop server number kept = voting_in kept kept.txn (prepare_voting stop server kept)
 
 abbrev pub serial_text : Txn → ℕ → List ℕ
 serial_text new serial = codes "committed " ++ decimal serial
@@ -143,17 +146,17 @@ serial_text new serial = codes "committed " ++ decimal serial
 abbrev pub committed_text : Txn → Result ℕ LineFault → List ℕ
 committed_text new answer = result_text (missing_in new) (serial_text new) answer
 
-abbrev pub decide_voting : Kept → VotingView → asks.Dialogue TxnAnswer
-decide_voting kept old = answered (decide_line old) (in_state kept) missing_in serial_text
+-- a line to the desk's decision, printed
+abbrev pub decision_voting : (VotingView → asks.Dialogue (LineEnd ℕ Txn)) → Kept → VotingView → asks.Dialogue TxnAnswer
+decision_voting line kept old = answered (line old) (in_state kept) missing_in serial_text
 
-abbrev pub decide_asked : ℕ → Kept → asks.Dialogue TxnAnswer
-decide_asked number kept = voting_in kept kept.txn (decide_voting kept)
+abbrev pub decision_asked : (VotingView → asks.Dialogue (LineEnd ℕ Txn)) → ℕ → Kept → asks.Dialogue TxnAnswer
+decision_asked line number kept = voting_in kept kept.txn (decision_voting line kept)
 
-abbrev pub commit_voting : Kept → VotingView → asks.Dialogue TxnAnswer
-commit_voting kept old = answered (commit_line old) (in_state kept) missing_in serial_text
-
-abbrev pub commit_asked : ℕ → Kept → asks.Dialogue TxnAnswer
-commit_asked number kept = voting_in kept kept.txn (commit_voting kept)
+-- the decision alone, or the votes before it and the ending behind it as well
+abbrev pub course_line : Course → VotingView → asks.Dialogue (LineEnd ℕ Txn)
+course_line courses.Decide = decide_line
+course_line courses.Commit = commit_line
 
 abbrev pub aborted_text : Txn → Unit {0} → List ℕ
 aborted_text new all = codes "aborted"
@@ -180,42 +183,47 @@ resolve_asked number kept = then_line (desk_line (desk_asks.Resolve number)) (λ
 abbrev pub told_text : ℕ → Unit {0} → Applied → List ℕ
 told_text server none applied = applied_text server applied
 
-abbrev pub apply_by : ℕ → ℕ → Kept → Option Ending → asks.Dialogue TxnAnswer
-apply_by server number kept None = txn_said kept (codes "not decided " ++ decimal number)
-apply_by server number kept (Some ending) =
-    answered (lines.apply_line number ending.verdict ending.cite server) (λ none. kept) no_servers (told_text server)
-
-abbrev pub apply_asked : ℕ → ℕ → Kept → asks.Dialogue TxnAnswer
-apply_asked server number kept = apply_by server number kept (ending_in kept)
-
 abbrev pub apply_stopped_text : ℕ → Unit {0} → Unit {0} → List ℕ
 apply_stopped_text server none all = down_text server
 
-abbrev pub apply_crash_by : ℕ → ℕ → ℕ → Kept → Option Ending → asks.Dialogue TxnAnswer
-apply_crash_by server after number kept None = txn_said kept (codes "not decided " ++ decimal number)
-apply_crash_by server after number kept (Some ending) =
+-- the server is told the verdict; or it stops there, behind so many of its records
+abbrev pub apply_ending : Option ℕ → ℕ → ℕ → Kept → Ending → asks.Dialogue TxnAnswer
+apply_ending None server number kept ending =
+    answered (lines.apply_line number ending.verdict ending.cite server) (λ none. kept) no_servers (told_text server)
+apply_ending (Some after) server number kept ending =
     answered (lines.stop_line server (Decide number ending.verdict ending.cite) after) (λ none. kept) no_servers (apply_stopped_text server)
 
--- the server stops where it is told the verdict
-abbrev pub apply_crash_asked : ℕ → ℕ → ℕ → Kept → asks.Dialogue TxnAnswer
-apply_crash_asked server after number kept = apply_crash_by server after number kept (ending_in kept)
+abbrev pub apply_by : Option ℕ → ℕ → ℕ → Kept → Option Ending → asks.Dialogue TxnAnswer
+apply_by stop server number kept None = txn_said kept (codes "not decided " ++ decimal number)
+apply_by stop server number kept (Some ending) = apply_ending stop server number kept ending
+
+abbrev pub apply_asked : Option ℕ → ℕ → ℕ → Kept → asks.Dialogue TxnAnswer
+apply_asked stop server number kept = apply_by stop server number kept (ending_in kept)
 
 -- ---- the server is one of the tree
-abbrev pub server_asked : ℕ → ℕ → (ℕ → Kept → asks.Dialogue TxnAnswer) → ℕ → Kept → asks.Dialogue TxnAnswer
-server_asked levels server next number kept = cond (is_server levels server) (next number kept) (txn_said kept (codes "no such server " ++ decimal server))
+
+abbrev pub server_asked : ℕ → ℕ → (ℕ → ℕ → Kept → asks.Dialogue TxnAnswer) → ℕ → Kept → asks.Dialogue TxnAnswer
+server_asked levels server next number kept = cond (is_server levels server) (next server number kept) (txn_said kept (codes "no such server " ++ decimal server))
+
+abbrev pub duty_asked : Duty → Option ℕ → ℕ → ℕ → Kept → asks.Dialogue TxnAnswer
+duty_asked duties.Prepare = prepare_asked
+duty_asked duties.Apply = apply_asked
+
+abbrev pub errand_asked : ℕ → Errand → ℕ → Kept → asks.Dialogue TxnAnswer
+errand_asked levels errand = server_asked levels errand.server (duty_asked errand.duty errand.stop)
 
 -- ---- all lines of a transaction, by what is kept of it
 abbrev pub line_asked : ℕ → TxnLine → ℕ → Kept → asks.Dialogue TxnAnswer
 line_asked levels (of.Read file) = read_asked file
 line_asked levels (of.Write file content) = write_asked file content
-line_asked levels (of.Prepare server) = server_asked levels server (prepare_asked server)
-line_asked levels of.Decide = decide_asked
-line_asked levels (of.Apply server) = server_asked levels server (apply_asked server)
-line_asked levels of.Commit = commit_asked
+line_asked levels (of.Prepare server) = server_asked levels server (prepare_asked None)
+line_asked levels of.Decide = decision_asked decide_line
+line_asked levels (of.Apply server) = server_asked levels server (apply_asked None)
+line_asked levels of.Commit = decision_asked commit_line
 line_asked levels of.Abort = abort_asked
 line_asked levels of.Resolve = resolve_asked
-line_asked levels (of.PrepareCrash server after) = server_asked levels server (prepare_crash_asked server after)
-line_asked levels (of.ApplyCrash server after) = server_asked levels server (apply_crash_asked server after)
+line_asked levels (of.PrepareCrash server after) = server_asked levels server (prepare_asked (Some after))
+line_asked levels (of.ApplyCrash server after) = server_asked levels server (apply_asked (Some after))
 
 -- a line of a transaction that was printed so: the text that it adds, the journals and what is kept of the transaction
 pub record IsAnswered (line : asks.Dialogue TxnAnswer) (old new : JournalsView) (before after : List ℕ) (left : Kept) : Type 0 where

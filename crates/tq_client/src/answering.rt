@@ -4,14 +4,14 @@ ghost use Rattle.tq_txn.specs.States.{levels_of};
 ghost use Rattle.tq_client.specs.Possible.{IsSaid};
 ghost use Rattle.tq_client.specs.TxnAsked as spec;
 
-use crate::endings::{abort_txn, apply, commit_txn, decide_txn, prepare, resolve};
+use crate::decisions::{Course, decide_txn};
+use crate::endings::{abort_txn, resolve};
+use crate::errands::{Duty, Errand, run_errand};
 use crate::kept::Kept;
-use crate::operations::{read, write};
-use crate::stops::{apply_crash_at_server, prepare_crash_at_server};
+use crate::operations::{Operation, operate};
 use std::alloc::Global;
 use tq_asking::Recorder;
 use tq_lines::TxnLine;
-use tq_print::say_number;
 use tq_shape::{Levels, Memory};
 
 /// Answers a line of a transaction: puts its text behind the text, as a line. No text stands for an answer that no part
@@ -52,72 +52,32 @@ fn answer_line(
     ensures tree { recorder.new.journals.levels ≡ recorder.old.journals.levels }
 {
     match line {
-        TxnLine::Read { file } => Ok(read(recorder, alloc, number, kept, &file, text)?),
+        TxnLine::Read { file } => {
+            operate(recorder, alloc, number, kept, &file, Operation::Read, text)
+        }
         TxnLine::Write { file, content } => {
-            Ok(write(recorder, alloc, number, kept, &file, content, text)?)
+            let operation = Operation::Write { content };
+            operate(recorder, alloc, number, kept, &file, operation, text)
         }
         TxnLine::Prepare { server } => {
-            Ok(prepare_at_server(recorder, alloc, levels, kept, server, text)?)
+            let errand = Errand::whole(Duty::Prepare, server);
+            run_errand(recorder, alloc, levels, number, kept, errand, text)
         }
-        TxnLine::Decide => Ok(decide_txn(recorder, alloc, kept, text)?),
-        TxnLine::Apply { server } => Ok(apply_at_server(
-            recorder, alloc, levels, number, kept, server, text,
-        )?),
-        TxnLine::Commit => Ok(commit_txn(recorder, alloc, kept, text)?),
-        TxnLine::Abort => Ok(abort_txn(recorder, alloc, kept, text)?),
-        TxnLine::Resolve => Ok(resolve(recorder, alloc, number, kept, text)?),
-        TxnLine::PrepareCrash { server, after } => Ok(prepare_crash_at_server(
-            recorder, alloc, levels, kept, server, after, text,
-        )?),
-        TxnLine::ApplyCrash { server, after } => Ok(apply_crash_at_server(
-            recorder, alloc, levels, number, kept, server, after, text,
-        )?),
-    }
-}
-
-fn prepare_at_server(
-    recorder: &mut Recorder,
-    alloc: Global,
-    levels: Levels,
-    kept: Kept,
-    server: u64,
-    text: &mut Vec<u8>,
-) -> Result<Kept, Memory>
-    requires txn { levels_of kept.txn ≡ recorder.old.journals.levels }
-    requires levels { levels ≡ recorder.old.journals.levels }
-    ensures answered { IfOk result (λ new. spec.IsAnswered (spec.server_asked levels server (spec.prepare_asked server) 0 kept) recorder.old.journals recorder.new.journals text.old.items text.new.items new) }
-    ensures levels { IfOk result (λ new. levels_of new.txn ≡ levels_of kept.txn) }
-    ensures tree { recorder.new.journals.levels ≡ recorder.old.journals.levels }
-{
-    match levels.server(server) {
-        None => {
-            say_number(text, b"no such server ", server)?;
-            Ok(kept)
+        TxnLine::Decide => decide_txn(recorder, alloc, kept, Course::Decide, text),
+        TxnLine::Apply { server } => {
+            let errand = Errand::whole(Duty::Apply, server);
+            run_errand(recorder, alloc, levels, number, kept, errand, text)
         }
-        Some(id) => Ok(prepare(recorder, alloc, kept, id, text)?),
-    }
-}
-
-fn apply_at_server(
-    recorder: &mut Recorder,
-    alloc: Global,
-    levels: Levels,
-    number: u64,
-    kept: Kept,
-    server: u64,
-    text: &mut Vec<u8>,
-) -> Result<Kept, Memory>
-    requires txn { levels_of kept.txn ≡ recorder.old.journals.levels }
-    requires levels { levels ≡ recorder.old.journals.levels }
-    ensures answered { IfOk result (λ new. spec.IsAnswered (spec.server_asked levels server (spec.apply_asked server) number kept) recorder.old.journals recorder.new.journals text.old.items text.new.items new) }
-    ensures levels { IfOk result (λ new. levels_of new.txn ≡ levels_of kept.txn) }
-    ensures tree { recorder.new.journals.levels ≡ recorder.old.journals.levels }
-{
-    match levels.server(server) {
-        None => {
-            say_number(text, b"no such server ", server)?;
-            Ok(kept)
+        TxnLine::Commit => decide_txn(recorder, alloc, kept, Course::Commit, text),
+        TxnLine::Abort => abort_txn(recorder, alloc, kept, text),
+        TxnLine::Resolve => resolve(recorder, alloc, number, kept, text),
+        TxnLine::PrepareCrash { server, after } => {
+            let errand = Errand::stopping(Duty::Prepare, server, after);
+            run_errand(recorder, alloc, levels, number, kept, errand, text)
         }
-        Some(id) => Ok(apply(recorder, alloc, number, kept, id, text)?),
+        TxnLine::ApplyCrash { server, after } => {
+            let errand = Errand::stopping(Duty::Apply, server, after);
+            run_errand(recorder, alloc, levels, number, kept, errand, text)
+        }
     }
 }

@@ -2,11 +2,12 @@
 #![tactic(auto)]
 
 mod answering;
+mod decisions;
 mod endings;
+mod errands;
 mod kept;
 mod operations;
 mod states;
-mod stops;
 
 pub use answering::answer_txn;
 pub use kept::{Ending, Kept};

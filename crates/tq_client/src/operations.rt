@@ -13,17 +13,25 @@ use tq_shape::Memory;
 use tq_store::{Content, FileName};
 use tq_txn::{LineFault, Open, Reading, Txn, read_file, write_file};
 
-/// Reads a file in a transaction.
-pub(crate) fn read(
+/// What a line does with a file.
+#[derive(Drop)]
+pub(crate) enum Operation {
+    Read,
+    Write { content: Content },
+}
+
+/// Reads or writes a file in a transaction.
+pub(crate) fn operate(
     recorder: &mut Recorder,
     alloc: Global,
     number: u64,
     kept: Kept,
     file: &FileName,
+    operation: Operation,
     text: &mut Vec<u8>,
 ) -> Result<Kept, Memory>
     requires { levels_of kept.txn ≡ recorder.old.journals.levels }
-    ensures answered { IfOk result (λ new. spec.IsAnswered (spec.read_asked file.now number kept) recorder.old.journals recorder.new.journals text.old.items text.new.items new) }
+    ensures answered { IfOk result (λ new. spec.IsAnswered (spec.operation_asked operation file.now number kept) recorder.old.journals recorder.new.journals text.old.items text.new.items new) }
     ensures levels { IfOk result (λ new. levels_of new.txn ≡ levels_of kept.txn) }
     ensures tree { recorder.new.journals.levels ≡ recorder.old.journals.levels }
 {
@@ -33,13 +41,22 @@ pub(crate) fn read(
         Opened::Open(open) => open,
     };
     recorder.replayed();
-    let answer = read_file(recorder, alloc, &mut open, file);
-    recorder.replayed();
-    say_read(text, file, &open, answer)?;
-    Ok(Kept {
-        txn: Txn::Open(open),
-        told,
-    })
+    match operation {
+        Operation::Read => {
+            let answer = read_file(recorder, alloc, &mut open, file);
+            recorder.replayed();
+            say_read(text, file, &open, answer)?;
+            let txn = Txn::Open(open);
+            Ok(Kept { txn, told })
+        }
+        Operation::Write { content } => {
+            let answer = write_file(recorder, alloc, &mut open, file, content);
+            recorder.replayed();
+            say_written(text, file, &open, answer)?;
+            let txn = Txn::Open(open);
+            Ok(Kept { txn, told })
+        }
+    }
 }
 
 /// Puts what was read behind the text, as a line, or why it was not.
@@ -74,34 +91,4 @@ fn say_written(
         Err(fault) => say_fault(text, &[], fault)?,
     }
     Ok(())
-}
-
-/// Writes a file in a transaction.
-pub(crate) fn write(
-    recorder: &mut Recorder,
-    alloc: Global,
-    number: u64,
-    kept: Kept,
-    file: &FileName,
-    content: Content,
-    text: &mut Vec<u8>,
-) -> Result<Kept, Memory>
-    requires { levels_of kept.txn ≡ recorder.old.journals.levels }
-    ensures answered { IfOk result (λ new. spec.IsAnswered (spec.write_asked file.now content number kept) recorder.old.journals recorder.new.journals text.old.items text.new.items new) }
-    ensures levels { IfOk result (λ new. levels_of new.txn ≡ levels_of kept.txn) }
-    ensures tree { recorder.new.journals.levels ≡ recorder.old.journals.levels }
-{
-    let told = kept.told;
-    let mut open = match open_of(number, kept.txn, text)? {
-        Opened::Said(txn) => return Ok(Kept { txn, told }),
-        Opened::Open(open) => open,
-    };
-    recorder.replayed();
-    let answer = write_file(recorder, alloc, &mut open, file, content);
-    recorder.replayed();
-    say_written(text, file, &open, answer)?;
-    Ok(Kept {
-        txn: Txn::Open(open),
-        told,
-    })
 }
