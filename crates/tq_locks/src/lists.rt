@@ -54,6 +54,9 @@ pub(crate) fn place(entries: &Slab<LockEntry>, keys: &[usize], file: &FileName, 
     ensures within { result ≤ length keys.now }
     ensures place { RisesTo entries.now keys.now (file.now, txn) result }
 {
+    if keys.is_empty() {
+        return 0;
+    }
     // Most often a lock goes behind those that are there.
     if ends_below(entries, keys, file, txn) {
         return keys.len();
@@ -125,7 +128,11 @@ pub(crate) fn enter(
     ensures after { keys.new.items ≡ insert keys.old.items result key }
 {
     let place = place(entries, keys.as_slice(), &entry.file, entry.txn);
-    let _room_was_made = keys.insert(place, key);
+    if place == keys.len() {
+        keys.push_reserved(key);
+    } else {
+        let _room_was_made = keys.insert(place, key);
+    }
     place
 }
 

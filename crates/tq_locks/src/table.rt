@@ -191,8 +191,9 @@ impl LockTable {
     pub fn held(&self, alloc: Global, txn: u64) -> Result<Vec<LockEntry>, AllocError>
         ensures { IfOk result (λ held. held.items ≡ held_of self.now txn) }
     {
-        let mut held = Vec::new(alloc);
-        for entry in self.kept.listed(self.kept.keys_of_txn(txn)) {
+        let keys = self.kept.keys_of_txn(txn);
+        let mut held = Vec::with_capacity(alloc, keys.len())?;
+        for entry in self.kept.listed(keys) {
             held.push(entry)?;
         }
         Ok(held)

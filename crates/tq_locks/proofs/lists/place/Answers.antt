@@ -1,9 +1,11 @@
-use Rattle.std.proofs.Common.{rules, sym, ◌∙◌}
+use Rattle.std.proofs.Common.{◌≡◌, ℕ, ◌==◌, true, List, [], length, rules, sym, ◌∙◌, arith}
+use Rattle.std.proofs.lemmas.List.{nil_from_length}
+use Rattle.std.proofs.lemmas.Bool.Decides.{nat_tests}
 use Rattle.std.proofs.lemmas.List.Sorted.{IsPartitionPoint-from_clause}
 use Rattle.slab.specs.Slab.{get}
 use Rattle.tq_locks.specs.Locks.{LockKey}
 use Rattle.tq_locks.proofs.LockMaps.{locks_total}
-use Rattle.tq_locks.proofs.Partition.{under, parted, point-place, behind-place}
+use Rattle.tq_locks.proofs.Partition.{under, parted, point-place, behind-place, none_rises}
 use Rattle.tq_locks.proofs.lists.place.Goals as goal
 
 pub returns-clause-place : goal.returns-clause-place
@@ -16,3 +18,9 @@ returns-clause-place c entries listed sorted =
 pub returns-then-ends_below-clause-place : goal.returns-then-ends_below-clause-place
 returns-then-ends_below-clause-place c entries listed sorted =
     behind-place locks_total (get c.args.entries.now) (c.args.file.now, c.args.txn) c.args.keys.now entries (sym c.ends_below.ensures ∙ c.if-ends_below.true) listed sorted
+
+pub returns-then-is_empty-clause-place : goal.returns-then-is_empty-clause-place
+returns-then-is_empty-clause-place c = none_rises c.args.entries.now c.args.keys.now (c.args.file.now, c.args.txn) (no_keys c.args.keys.now (sym c.is_empty.ensures ∙ c.if-is_empty.true))
+  where
+    no_keys : (keys : List ℕ) → (length keys == 0) ≡ true → keys ≡ []
+    no_keys keys e = nil_from_length keys (grind (arith, nat_tests))
