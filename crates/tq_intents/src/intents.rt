@@ -17,7 +17,7 @@ use std::alloc::{AllocError, Global};
 use std::collections::BTreeMap;
 use std::collections::btree_map::Iter;
 use std::marker::Model;
-use tq_shape::Seq;
+use tq_shape::{Seq, SharedSeq};
 use tq_store::{Copies, Write};
 
 /// The stable records of a server, and an index of the open votes that they stand for.
@@ -147,7 +147,7 @@ impl Intents {
         alloc: Global,
         txn: u64,
         number: u64,
-        writes: Seq<Write>,
+        writes: SharedSeq<Write>,
         locks: Seq<KeptLock>,
     ) -> Result<(), AllocError>
         requires closed { fin.get (kept_votes self.old.records) txn ≡ None }
@@ -245,7 +245,8 @@ pub fn vote_records(
 ) -> Result<Vec<Record>, AllocError>
     ensures { IfOk result (λ records. records.items ≡ vote_records txn number writes.now locks.now) }
 {
-    let mut records = Vec::new(alloc);
+    let count = writes.len().saturating_add(locks.len()).saturating_add(1);
+    let mut records = Vec::with_capacity(alloc, count)?;
     for write in writes {
         let write = write.clone()?;
         records.push(Record::Intent { txn, number, write })?;
@@ -357,7 +358,7 @@ fn writes_of(
     records: &[Record],
     txn: u64,
     number: u64,
-) -> Result<Seq<Write>, AllocError>
+) -> Result<SharedSeq<Write>, AllocError>
     ensures { IfOk result (λ writes. writes ≡ filter_map (spec.write_of txn number) records.now) }
 {
     let mut writes = Vec::new(alloc);
@@ -366,7 +367,7 @@ fn writes_of(
             writes.push(write.clone()?)?;
         }
     }
-    Ok(Seq::from_vec(writes))
+    SharedSeq::from_vec(writes)
 }
 
 fn locks_of(

@@ -1,5 +1,5 @@
 use tq_locks::Mode;
-use tq_shape::{ExactClone, Seq};
+use tq_shape::{ExactClone, Seq, SharedSeq};
 use tq_store::{FileName, Write};
 
 /// A lock that a vote made stable.
@@ -17,7 +17,7 @@ pub struct KeptLock {
 pub struct OpenVote {
     /// The number of the entry that gave it.
     pub number: u64,
-    pub writes: Seq<Write>,
+    pub writes: SharedSeq<Write>,
     pub locks: Seq<KeptLock>,
 }
 

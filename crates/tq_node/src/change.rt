@@ -5,7 +5,7 @@ ghost use Rattle.tq_node.specs.NodeChanges.{cut, records_of};
 use std::alloc::Global;
 use tq_intents::{OpenVote, Record, vote_records};
 use tq_locks::Mode;
-use tq_shape::{Memory, Seq};
+use tq_shape::{Memory, Seq, SharedSeq};
 use tq_store::{FileName, Write};
 
 /// What an ask changes in a server.
@@ -46,7 +46,7 @@ pub enum NodeStep {
     Install {
         txn: u64,
         number: u64,
-        writes: Seq<Write>,
+        writes: SharedSeq<Write>,
         newer: Seq<Write>,
     },
     /// The transaction holds nothing any more.
@@ -164,7 +164,7 @@ fn cut_install(
     after: usize,
     txn: u64,
     number: u64,
-    writes: Seq<Write>,
+    writes: SharedSeq<Write>,
     newer: Seq<Write>,
 ) -> NodeStep
     ensures { result ≡ cut after (NodeStep.Install txn number writes newer) }

@@ -152,6 +152,7 @@ impl Node {
 
     /// The reply to an ask, of a number above that of the last one answered, and what `apply` is to change. Nothing
     /// changes.
+    #[inline(always)]
     pub fn plan(
         &self,
         alloc: Global,
@@ -219,10 +220,11 @@ impl Node {
     {
         match ask {
             WorkAsk::Lock { txn, file, mode } => {
-                let reply = self.grant_of(*file)?;
-                let version = self.copies.get(file).version;
+                let copy = self.copies.get(file);
+                let version = copy.version;
+                let content = copy.content.clone()?;
                 Ok(Plan {
-                    reply,
+                    reply: NodeReply::Granted { version, content },
                     change: NodeStep::Lock {
                         txn: *txn,
                         file: *file,
@@ -268,7 +270,7 @@ impl Node {
         let held = held_locks(alloc, entries.as_slice())?;
         let locks = kept_locks(alloc, entries.as_slice())?;
         let answered = writes.clone()?;
-        let writes = copied(alloc, writes.as_slice())?;
+        let writes = writes.clone()?;
         Ok(Plan {
             reply: NodeReply::Yes {
                 held,
@@ -315,17 +317,6 @@ impl Node {
                 change: NodeStep::Discard { txn, number },
             })
         }
-    }
-
-    /// The answer to a lock that is free.
-    fn grant_of(&self, file: FileName) -> Result<NodeReply, Memory>
-        ensures { IfOk result (λ reply. reply ≡ NodeReply.Granted (copy_of self.now.state.records.copies file).version (copy_of self.now.state.records.copies file).content) }
-    {
-        let copy = self.copies.get(&file);
-        Ok(NodeReply::Granted {
-            version: copy.version,
-            content: copy.content.clone()?,
-        })
     }
 
     /// What the server refuses the ask for.
@@ -479,7 +470,7 @@ impl Node {
         alloc: Global,
         number: u64,
         txn: u64,
-        writes: Seq<Write>,
+        writes: SharedSeq<Write>,
         locks: Seq<KeptLock>,
     ) -> Result<(), Memory>
         requires rises { self.old.last < number }
@@ -569,7 +560,7 @@ impl Node {
         number: u64,
         txn: u64,
         vote: u64,
-        writes: Seq<Write>,
+        writes: SharedSeq<Write>,
         newer: Seq<Write>,
     ) -> Result<(), Memory>
         requires open { IsSome (fin.get self.old.state.records.votes txn) }
@@ -578,9 +569,10 @@ impl Node {
         ensures after { OnOk result (self.new ≡ unnoted self.old number (NodeStep.Install txn vote writes newer)) }
         ensures err { OnErr result (self.new ≡ self.old) }
     {
-        self.copies.reserve(alloc, writes.len())?;
+        let installed = newer.clone()?;
+        self.copies.reserve(alloc, newer.len())?;
         self.intents.reserve(newer.len() + 1)?;
-        self.copies.install_all(writes);
+        self.copies.install_all(installed);
         self.intents.push_copies(newer);
         self.intents.finish(txn);
         self.locks.release(txn);
@@ -590,6 +582,7 @@ impl Node {
     /// Makes a change that was planned, of this server as it stands. All memory is asked for before the first step of
     /// it, so that out of memory leaves the server as it was. The copies are those that the step leaves, also where the
     /// server stops behind it.
+    #[inline(always)]
     pub fn apply(&mut self, alloc: Global, change: NodeChange) -> Result<(), Memory>
         requires { NodeFits self.old change }
         ensures ok { OnOk result (self.new ≡ node_changed self.old change) }
@@ -765,7 +758,7 @@ fn plan_refresh(
 fn held_locks(alloc: Global, entries: &[LockEntry]) -> Result<SharedSeq<HeldLock>, Memory>
     ensures { IfOk result (λ held. held ≡ map spec.held_lock entries.now) }
 {
-    let mut held = Vec::new(alloc);
+    let mut held = Vec::with_capacity(alloc, entries.len())?;
     for entry in entries {
         held.push(HeldLock {
             file: entry.file,
@@ -776,22 +769,11 @@ fn held_locks(alloc: Global, entries: &[LockEntry]) -> Result<SharedSeq<HeldLock
     Ok(SharedSeq::from_vec(held)?)
 }
 
-/// Writes once more, in memory of their own.
-fn copied(alloc: Global, writes: &[Write]) -> Result<Seq<Write>, Memory>
-    ensures { IfOk result (λ copied. copied ≡ writes.now) }
-{
-    let mut copied = Vec::new(alloc);
-    for write in writes {
-        copied.push(write.clone()?)?;
-    }
-    Ok(Seq::from_vec(copied))
-}
-
 /// Locks, as a vote keeps them.
 fn kept_locks(alloc: Global, entries: &[LockEntry]) -> Result<Seq<KeptLock>, Memory>
     ensures { IfOk result (λ kept. kept ≡ map spec.kept_lock entries.now) }
 {
-    let mut kept = Vec::new(alloc);
+    let mut kept = Vec::with_capacity(alloc, entries.len())?;
     for entry in entries {
         kept.push(KeptLock {
             file: entry.file,

@@ -1,8 +1,16 @@
-use Rattle.std.proofs.Common.{◌≡◌, [], ◌∷◌, ◌++◌, IsSome, map, filter, ap, sym, subst, ◌∙◌}
+use Rattle.std.proofs.Common.{◌≡◌, ℕ, List, [], ◌∷◌, ◌++◌, IsSome, map, filter, ap, sym, subst, ◌∙◌, rules, arith}
+use Rattle.std.proofs.lemmas.Grind.{common_steps}
 use Rattle.std.specs.FinMap as fin
 use Rattle.tq_store.specs.Copies.{installed_all, is_newer}
 use Rattle.tq_intents.specs.Kept.{kept_votes, vote_at}
+use Rattle.tq_intents.proofs.CopiesPush.{installed_all-newer}
 use Rattle.tq_intents.specs.declared.record.Record.TheVariants.{Copy, Gone}
+use Rattle.tq_locks.specs.Locks.{released}
+use Rattle.tq_store.specs.declared.write.Write.{Write}
+use Rattle.tq_node.specs.Node.{NodeView}
+use Rattle.tq_node.specs.contracts.node.Node.{the_view}
+use Rattle.tq_node.specs.NodeChanges.{records_of, unnoted}
+use Rattle.tq_node.specs.declared.change.NodeStep.TheVariants.{Install}
 use Rattle.tq_node.proofs.Sound.{sound-as, sound-installed}
 use Rattle.tq_node.proofs.node.Node.install.Goals as goal
 
@@ -12,8 +20,32 @@ invariant_of-self-2 c =
     let is_open : IsSome (fin.get (kept_votes inside.intents.records) c.args.txn) = subst (λ v. IsSome (fin.get v.state.records.votes c.args.txn)) (sym c.self.view_is) c.requires.open in
     let newer : c.args.newer ≡ filter (is_newer inside.copies.files) c.args.writes =
     c.requires.newer ∙ ap (λ v. filter (is_newer v.state.records.copies) c.args.writes) (sym c.self.view_is) in
+    let same : c.in_ok-installed.installed ≡ c.args.newer = search rules in
     sound-as (sound-installed inside.intents.records inside.last inside.copies.files inside.locks c.self.invariant c.args.txn c.args.writes is_open)
     (c.finish.ensures.records ∙ ap (λ list. list ++ Gone c.args.txn (vote_at (kept_votes list) c.args.txn).number ∷ [])
     (c.push_copies.ensures.records ∙ (λ i. c.in_ok-reserve-2.ensures.records i ++ map Copy (newer i))))
-    (c.install_all.ensures.files ∙ ap (λ files. installed_all files c.args.writes) c.in_ok-reserve.ensures.files)
+    (c.install_all.ensures.files ∙ (λ i. installed_all (c.in_ok-reserve.ensures.files i) ((same ∙ newer) i)) ∙ installed_all-newer inside.copies.files c.args.writes)
     c.release.ensures
+
+-- the newer writes leave the server that all of them would
+installs_newer : (old : NodeView) (number txn vote : ℕ) (writes newer : List Write) → newer ≡ filter (is_newer old.state.records.copies) writes
+    → unnoted old number (Install txn vote newer newer) ≡ unnoted old number (Install txn vote writes newer)
+installs_newer old number txn vote writes newer is =
+    let files = old.state.records.copies in
+    let same : installed_all files newer ≡ installed_all files writes = ap (λ list. installed_all files list) is ∙ installed_all-newer files writes in
+    λ i. record {
+      levels = old.levels;
+      server = old.server;
+      state = record {
+        records = record old.state.records { copies = same i; locks = released old.state.records.locks txn; votes = fin.remove old.state.records.votes txn };
+        stable = old.state.stable ++ records_of (Install txn vote writes newer);
+      };
+      last = old.last;
+    }
+
+pub returns-clause-after : goal.returns-clause-after
+returns-clause-after c =
+    let inside = c.self.inside in
+    let first : the_view (record { server = inside.server; copies = c.install_all.new.self; locks = c.release.new.self; intents = c.finish.new.self; down = inside.down; last = inside.last })
+          ≡ unnoted c.args.self.now c.args.number (Install c.args.txn c.args.vote c.args.newer c.args.newer) = grind (arith, common_steps) in
+    first ∙ installs_newer c.args.self.now c.args.number c.args.txn c.args.vote c.args.writes c.args.newer c.requires.newer
