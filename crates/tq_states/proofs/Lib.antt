@@ -7,3 +7,4 @@ pub mod GoodVotes
 pub mod GoodEvidence
 pub mod KeptVotes
 pub mod CitedLaws
+pub mod SameWrites

@@ -6,13 +6,14 @@ ghost use Rattle.tq_states.specs.Places.{place_before};
 
 use std::alloc::Global;
 use std::marker::Model;
+use tq_coterie::ServerIds;
 use tq_shape::{Levels, Memory, ServerId};
 
 /// A set of servers of one tree, ascending.
 #[derive(Drop)]
 pub(crate) struct Servers {
     levels: Levels,
-    ids: Vec<ServerId>,
+    ids: ServerIds,
 }
 
 impl Model for Servers {
@@ -32,7 +33,7 @@ impl Servers {
     {
         Servers {
             levels,
-            ids: Vec::new(alloc),
+            ids: ServerIds::new(alloc),
         }
     }
 
@@ -68,7 +69,7 @@ impl Servers {
         ensures { IfOk result (λ servers. servers ≡ self.now) }
     {
         let room = self.ids.len().saturating_add(more);
-        let mut ids = Vec::with_capacity(*self.ids.allocator(), room)?;
+        let mut ids = ServerIds::with_capacity(*self.ids.allocator(), room)?;
         ids.extend_from_slice(self.ids.as_slice())?;
         Ok(Servers {
             levels: self.levels,
@@ -96,7 +97,7 @@ fn has_number(ids: &[ServerId], number: u64) -> bool
 }
 
 /// Puts the server before the first above it.
-fn put_in_order(ids: &mut Vec<ServerId>, server: ServerId) -> Result<(), Memory>
+fn put_in_order(ids: &mut ServerIds, server: ServerId) -> Result<(), Memory>
     ensures ok { OnOk result (ids.new.items ≡ put (λ id. nat_lt server.number id.number) server ids.old.items) }
     ensures err { OnErr result (ids.new.items ≡ ids.old.items) }
 {

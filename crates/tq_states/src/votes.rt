@@ -1,4 +1,4 @@
-ghost use Rattle.std.specs.Prelude.{◌≡◌, ◌<◌, ◌≤◌, length, nat_lt, position, IfOk, IfSome, OnOk, OnErr};
+ghost use Rattle.std.specs.Prelude.{◌≡◌, ◌<◌, ◌≤◌, length, nat_lt, position, true, IfOk, IfSome, IsTrue, OnOk, OnErr};
 ghost use Rattle.std.specs.List.{list_all};
 ghost use Rattle.std.specs.Option.{option_copied};
 ghost use Rattle.tq_evidence.specs.Evidence as evidence;
@@ -50,7 +50,7 @@ pub(crate) fn is_server_of(ops: &[Op], server: u64) -> bool
 pub(crate) fn writes_at(alloc: Global, ops: &[Op], server: u64) -> Result<SharedSeq<Write>, Memory>
     ensures { IfOk result (λ writes. writes ≡ spec.writes_at ops.now server) }
 {
-    let mut writes = Vec::new(alloc);
+    let mut writes = Vec::with_capacity(alloc, ops.len())?;
     for op in ops {
         if op.is_write() && op.has_server(server) {
             writes.push(write_in(op)?)?;
@@ -67,6 +67,23 @@ fn write_in(op: &Op) -> Result<Write, Memory>
         version: op.version,
         content: op.content.clone()?,
     })
+}
+
+/// Whether the ask is the one for the server's vote.
+pub(crate) fn is_ask_at(ask: &NodeAsk, txn: u64, ops: &[Op], server: u64) -> bool
+    ensures voter { IsTrue result → evidence.is_server_of ops.now server ≡ true }
+    ensures ask { IsTrue result → ask.now ≡ NodeAsk.Work (WorkAsk.Prepare txn (spec.writes_at ops.now server)) }
+{
+    let NodeAsk::Work(work) = ask else {
+        return false;
+    };
+    let WorkAsk::Prepare { txn: voter, writes } = work.get() else {
+        return false;
+    };
+    if *voter != txn || !is_server_of(ops, server) {
+        return false;
+    }
+    are_writes_at(server, writes.as_slice(), ops)
 }
 
 /// Whether the writes voted are those of the operations at the server.

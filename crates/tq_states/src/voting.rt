@@ -1,4 +1,4 @@
-ghost use Rattle.std.specs.Prelude.{◌≡◌, ◌<◌, ◌++◌, List, [], ◌∷◌, true, None, Some, IfOk, IfErr, OnOk, OnErr};
+ghost use Rattle.std.specs.Prelude.{◌≡◌, ◌<◌, ◌++◌, List, [], ◌∷◌, true, None, Some, IfOk, IfErr, IfSome, OnOk, OnErr};
 ghost use Rattle.tq_coterie.specs.Coterie.{numbers_of};
 ghost use Rattle.tq_evidence.specs.Evidence as evidence;
 ghost use Rattle.tq_states.specs.Cited.{VotesOnly};
@@ -9,7 +9,7 @@ ghost use Rattle.tq_states.specs.Voting as spec;
 
 use crate::open::copy_of;
 use crate::votes::{
-    are_writes_at, has_vote, has_votes, is_server_of, lost, put_vote, vote_of, writes_at,
+    are_writes_at, has_vote, has_votes, is_ask_at, is_server_of, lost, put_vote, vote_of, writes_at,
 };
 use crate::{DeskTold, Ended, NodeTold, Open, Ready, TxnFault};
 use std::alloc::Global;
@@ -23,6 +23,9 @@ use tq_shape::{Memory, ServerId, Shared, SharedSeq};
 pub struct Voting {
     txn: Open,
     votes: Vec<Vote>,
+    /// The ask of the vote that was taken last: the next server's, where it is the same, shares it. Contracts do not see
+    /// it.
+    asked: Option<NodeAsk>,
 }
 
 impl Model for Voting {
@@ -42,7 +45,11 @@ impl Voting {
         ensures { result ≡ spec.closed txn }
     {
         let votes = Vec::new(txn.allocator());
-        Voting { txn, votes }
+        Voting {
+            txn,
+            votes,
+            asked: None,
+        }
     }
 
     /// The transaction as it was closed.
@@ -82,9 +89,25 @@ impl Voting {
         ensures value { IfOk result (λ ask. ask ≡ spec.prepare_ask self.now.txn server.number) }
         ensures fault { IfErr result (λ fault. open_spec.ComesOf (spec.ask_fault self.now.txn server.number) fault) }
     {
+        if let Some(ask) = self.asked_before(server.number())? {
+            return Ok(ask);
+        }
         match self.work(alloc, server) {
             Ok(work) => Ok(NodeAsk::Work(Shared::new(alloc, work)?)),
             Err(fault) => Err(fault),
+        }
+    }
+
+    /// The ask for the server's vote, where it is that of the vote that was taken last.
+    fn asked_before(&self, server: u64) -> Result<Option<NodeAsk>, Memory>
+        ensures voter { IfOk result (λ found. IfSome found (λ ask. spec.ask_fault self.now.txn server ≡ None)) }
+        ensures ask { IfOk result (λ found. IfSome found (λ ask. ask ≡ spec.prepare_ask self.now.txn server)) }
+    {
+        match &self.asked {
+            Some(ask) if is_ask_at(ask, self.txn.txn(), self.txn.ops(), server) => {
+                Ok(Some(ask.clone()?))
+            }
+            _ => Ok(None),
         }
     }
 
@@ -128,7 +151,8 @@ impl Voting {
         if let Some(file) = lost(ops, &vote) {
             return Err(TxnFault::LostLock { file });
         }
-        self.put(vote)?;
+        let asked = told.ask.clone()?;
+        self.put(vote, asked)?;
         Ok(())
     }
 
@@ -138,8 +162,8 @@ impl Voting {
         copy_of(&self.votes)
     }
 
-    /// Puts a good vote at its place.
-    fn put(&mut self, vote: Vote) -> Result<(), Memory>
+    /// Puts a good vote at its place, and keeps the ask that it answers.
+    fn put(&mut self, vote: Vote, asked: NodeAsk) -> Result<(), Memory>
         requires { spec.IsGoodVote self.old.txn.ops vote }
         ensures after { OnOk result (self.new ≡ record self.old { votes = spec.with_vote vote self.old.votes }) }
         ensures txn { self.new.txn ≡ self.old.txn }
@@ -147,6 +171,7 @@ impl Voting {
         ensures err { OnErr result (self.new ≡ self.old) }
     {
         put_vote(&mut self.votes, vote)?;
+        self.asked = Some(asked);
         Ok(())
     }
 

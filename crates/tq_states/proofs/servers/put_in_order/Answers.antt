@@ -8,6 +8,6 @@ use Rattle.tq_states.proofs.servers.put_in_order.Goals as goal
 pub returns-clause-ok : goal.returns-clause-ok
 returns-clause-ok c =
     let later = λ (id : Server). nat_lt c.args.server.number id.number in
-    c.in_ok-insert.ensures.items
-    ∙ ap (λ place. insert c.args.ids.now.items place c.args.server) (c.place_of-place.ensures.value ∙ ap (place_before later) c.as_slice.ensures.value)
+    c.in_ok-insert.ensures.ok
+    ∙ ap (λ place. insert c.args.ids.now.items place c.args.server) (c.place_of-place.ensures.value ∙ ap (place_before later) c.as_slice.ensures)
     ∙ insert_before later c.args.server c.args.ids.now.items
