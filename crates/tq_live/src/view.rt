@@ -138,6 +138,7 @@ impl View {
     }
 
     /// The reply to an ask, and what `apply` is to change. Nothing changes.
+    #[inline(always)]
     pub fn plan(&self, alloc: Global, ask: &ViewAsk) -> Result<Plan<ViewReply, ViewChange>, Memory>
         ensures reply { IfOk result (λ plan. plan.reply ≡ view_reply self.now ask.now) }
         ensures change { IfOk result (λ plan. plan.change ≡ view_change self.now ask.now) }
@@ -150,6 +151,7 @@ impl View {
     }
 
     /// Makes a change that was planned, and can then neither fail nor be refused. It takes no memory.
+    #[inline(always)]
     pub fn apply(&mut self, change: ViewChange)
         requires { ViewFits self.old change }
         ensures { self.new ≡ view_changed self.old change }
@@ -180,6 +182,7 @@ impl View {
     }
 
     /// The plan of a new cost.
+    #[inline(always)]
     fn plan_cost(&self, server: u64, cost: u64) -> Plan<ViewReply, ViewChange>
         ensures reply { result.reply ≡ view_reply self.now (ViewAsk.SetCost server cost) }
         ensures change { result.change ≡ view_change self.now (ViewAsk.SetCost server cost) }
@@ -195,6 +198,7 @@ impl View {
     }
 
     /// The plan of a new mark.
+    #[inline(always)]
     fn plan_mark(&self, server: u64, up: bool) -> Plan<ViewReply, ViewChange>
         ensures reply { result.reply ≡ view_reply self.now (ViewAsk.Mark server up) }
         ensures change { result.change ≡ view_change self.now (ViewAsk.Mark server up) }
