@@ -553,7 +553,8 @@ impl Node {
         Ok(())
     }
 
-    /// Installs a vote's writes and ends it. All memory is asked for before the first change.
+    /// Installs a vote's writes and ends it. Those that are not newer than the copies change nothing, so only the contract
+    /// speaks of all the writes. All memory is asked for before the first change.
     fn install(
         &mut self,
         alloc: Global,
