@@ -47,5 +47,5 @@ pub returns-clause-after : goal.returns-clause-after
 returns-clause-after c =
     let inside = c.self.inside in
     let first : the_view (record { server = inside.server; copies = c.install_all.new.self; locks = c.release.new.self; intents = c.finish.new.self; down = inside.down; last = inside.last })
-          ≡ unnoted c.args.self.now c.args.number (Install c.args.txn c.args.vote c.args.newer c.args.newer) = grind (arith, common_steps) in
+    ≡ unnoted c.args.self.now c.args.number (Install c.args.txn c.args.vote c.args.newer c.args.newer) = grind (arith, common_steps) in
     first ∙ installs_newer c.args.self.now c.args.number c.args.txn c.args.vote c.args.writes c.args.newer c.requires.newer
