@@ -1,6 +1,4 @@
-use Rattle.std.proofs.Common.{◌≡◌, ◌∙◌, true, sym, rules}
-use Rattle.tq_node.specs.declared.ask.NodeAsk.TheVariants.{Work}
-use Rattle.tq_node.specs.declared.ask.WorkAsk.TheVariants.{Prepare}
+use Rattle.std.proofs.Common.{◌∙◌, sym, rules}
 use Rattle.tq_evidence.specs.Evidence.{are_writes_at}
 use Rattle.tq_states.specs.Voting.{writes_in}
 use Rattle.tq_states.proofs.SameWrites.{writes_at-are}

@@ -1,6 +1,3 @@
-use Rattle.std.proofs.Common.{◌≡◌, ◌∙◌, sym, ap, subst, List, rules}
-use Rattle.tq_evidence.specs.declared.vote.Vote.{Vote}
-use Rattle.tq_states.specs.Voting.{KeepsVotes, with_vote}
 use Rattle.tq_states.proofs.KeptVotes.{kept_with_vote}
 use Rattle.tq_states.proofs.GoodVotes.{IsVoting-with_vote}
 use Rattle.tq_states.proofs.voting.Voting.put.Goals as goal
