@@ -79,27 +79,22 @@ fn close(still_open: Open, text: &mut Vec<u8>) -> Result<Closed, Memory>
     }
 }
 
-/// The verdict that was told, and the entry to cite.
+/// The verdict that ended the transaction or, before that, was told, and the entry to cite.
 pub(crate) fn ending_of(kept: &Kept) -> Result<Option<Ending>, Memory>
     ensures { IfOk result (λ ending. ending ≡ ending_in kept.now) }
 {
     match &kept.txn {
-        Txn::Ended(ended) => Ok(Some(Ending {
-            verdict: ended.verdict().clone()?,
-            cite: ended.cite(),
-        })),
-        _ => Ok(copy_of(&kept.told)?),
+        Txn::Ended(ended) => Ok(Some(cited(ended.verdict(), ended.cite())?)),
+        _ => match &kept.told {
+            Some(ending) => Ok(Some(cited(&ending.verdict, ending.cite)?)),
+            None => Ok(None),
+        },
     }
 }
 
-fn copy_of(told: &Option<Ending>) -> Result<Option<Ending>, Memory>
-    ensures { IfOk result (λ ending. ending ≡ told.now) }
+fn cited(verdict: &Verdict, cite: u64) -> Result<Ending, Memory>
+    ensures { IfOk result (λ ending. ending ≡ record { verdict = verdict.now; cite = cite }) }
 {
-    match told {
-        Some(ending) => Ok(Some(Ending {
-            verdict: ending.verdict.clone()?,
-            cite: ending.cite,
-        })),
-        None => Ok(None),
-    }
+    let verdict = verdict.clone()?;
+    Ok(Ending { verdict, cite })
 }
