@@ -8,9 +8,9 @@ ghost use Rattle.tq_client.specs.States as spec;
 
 use crate::kept::{Ending, Kept};
 use tq_node::Verdict;
-use tq_print::{push_decided, push_txn_fault, say_number};
+use tq_print::{push_decided, say_fault, say_number};
 use tq_shape::Memory;
-use tq_txn::{Open, Txn, Voting};
+use tq_txn::{LineFault, Open, Txn, Voting};
 
 /// An open transaction, or one that is not open, which was said.
 #[derive(Drop)]
@@ -72,8 +72,7 @@ fn close(still_open: Open, text: &mut Vec<u8>) -> Result<Closed, Memory>
     match still_open.close() {
         Ok(voting) => Ok(Closed::Voting(voting)),
         Err(back) => {
-            push_txn_fault(text, &[], back.1)?;
-            text.push(b'\n')?;
+            say_fault(text, &[], LineFault::Txn(back.1))?;
             Ok(Closed::Said(Txn::Open(back.0)))
         }
     }
