@@ -8,7 +8,7 @@ use crate::kept::{Ending, Kept};
 use std::alloc::Global;
 use tq_asking::Recorder;
 use tq_desk::{DeskAsk, DeskReply};
-use tq_print::{say_fault, say_line, say_verdict};
+use tq_print::{push_desk_refusal, say_fault, say_line, say_verdict};
 use tq_shape::Memory;
 use tq_txn::{Abortion, Asker, LineFault, abort};
 
@@ -60,7 +60,10 @@ pub(crate) fn resolve(
     let answer = recorder.desk(alloc, DeskAsk::Resolve { txn: number });
     recorder.replayed();
     match answer {
-        Ok(told) => Ok(resolved(kept, told.number, told.reply, text)?),
+        Ok(told) => {
+            say_resolved(text, &told.reply)?;
+            Ok(with_reply(kept, told.number, told.reply))
+        }
         Err(fault) => {
             say_fault(text, &[], LineFault::from(fault))?;
             Ok(kept)
@@ -68,28 +71,31 @@ pub(crate) fn resolve(
     }
 }
 
-/// Puts how the desk says that a transaction ended behind the text, as a line. A verdict is kept, with the entry that
-/// told it.
-fn resolved(kept: Kept, cite: u64, reply: DeskReply, text: &mut Vec<u8>) -> Result<Kept, Memory>
-    ensures kept { IfOk result (λ new. new ≡ spec.resolved_kept kept cite reply) }
-    ensures txn { IfOk result (λ new. new.txn ≡ kept.txn) }
-    ensures text { OnOk result (text.new.items ≡ text.old.items ++ printed (spec.resolved_text reply)) }
+/// Puts how the desk says that a transaction ended behind the text, as a line.
+fn say_resolved(text: &mut Vec<u8>, reply: &DeskReply) -> Result<(), Memory>
+    ensures { OnOk result (text.new.items ≡ text.old.items ++ printed (spec.resolved_text reply.now)) }
 {
     match reply {
-        DeskReply::Verdict(verdict) => {
-            say_verdict(text, &verdict)?;
-            Ok(Kept {
-                txn: kept.txn,
-                told: Some(Ending { verdict, cite }),
-            })
-        }
+        DeskReply::Verdict(verdict) => say_verdict(text, verdict),
         DeskReply::Refused(refusal) => {
-            say_fault(text, &[], LineFault::Desk(refusal))?;
-            Ok(kept)
+            push_desk_refusal(text, refusal)?;
+            text.push(b'\n')?;
+            Ok(())
         }
-        DeskReply::Txn(_) | DeskReply::Committed { .. } => {
-            say_line(text, b"bad answer")?;
-            Ok(kept)
-        }
+        _ => say_line(text, b"bad answer"),
+    }
+}
+
+/// What is kept after the desk's answer.
+fn with_reply(kept: Kept, cite: u64, reply: DeskReply) -> Kept
+    ensures kept { result ≡ spec.resolved_kept kept cite reply }
+    ensures txn { result.txn ≡ kept.txn }
+{
+    match reply {
+        DeskReply::Verdict(verdict) => Kept {
+            txn: kept.txn,
+            told: Some(Ending { verdict, cite }),
+        },
+        _ => kept,
     }
 }
