@@ -60,7 +60,10 @@ pub(crate) fn resolve(
     let answer = recorder.desk(alloc, DeskAsk::Resolve { txn: number });
     recorder.replayed();
     match answer {
-        Ok(told) => Ok(resolved(kept, told.number, told.reply, text)?),
+        Ok(told) => {
+            say_resolved(text, &told.reply)?;
+            Ok(with_reply(kept, told.number, told.reply))
+        }
         Err(fault) => {
             say_fault(text, &[], LineFault::from(fault))?;
             Ok(kept)
@@ -68,34 +71,18 @@ pub(crate) fn resolve(
     }
 }
 
-/// The transaction after the desk's answer.
-fn resolved(kept: Kept, cite: u64, reply: DeskReply, text: &mut Vec<u8>) -> Result<Kept, Memory>
-    ensures kept { IfOk result (λ new. new ≡ spec.resolved_kept kept cite reply) }
-    ensures txn { IfOk result (λ new. new.txn ≡ kept.txn) }
-    ensures text { OnOk result (text.new.items ≡ text.old.items ++ printed (spec.resolved_text reply)) }
-{
-    say_resolved(text, &reply)?;
-    Ok(with_reply(kept, cite, reply))
-}
-
 /// Puts how the desk says that a transaction ended behind the text, as a line.
 fn say_resolved(text: &mut Vec<u8>, reply: &DeskReply) -> Result<(), Memory>
     ensures { OnOk result (text.new.items ≡ text.old.items ++ printed (spec.resolved_text reply.now)) }
 {
     match reply {
-        DeskReply::Verdict(verdict) => {
-            say_verdict(text, verdict)?;
-            Ok(())
-        }
+        DeskReply::Verdict(verdict) => say_verdict(text, verdict),
         DeskReply::Refused(refusal) => {
             push_desk_refusal(text, refusal)?;
             text.push(b'\n')?;
             Ok(())
         }
-        _ => {
-            say_line(text, b"bad answer")?;
-            Ok(())
-        }
+        _ => say_line(text, b"bad answer"),
     }
 }
 

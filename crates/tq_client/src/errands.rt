@@ -24,8 +24,8 @@ pub(crate) enum Duty {
     Apply,
 }
 
-/// What a line asks of the server of that number. Where it is to stop in the midst of that, it writes so many of its
-/// records before.
+/// A duty at the server of a number. Where a number of records is given, the server stops in the midst of the duty, behind
+/// so many of the records that it would write.
 #[derive(Drop)]
 pub(crate) struct Errand {
     pub(crate) server: u64,

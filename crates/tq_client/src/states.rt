@@ -8,9 +8,9 @@ ghost use Rattle.tq_client.specs.States as spec;
 
 use crate::kept::{Ending, Kept};
 use tq_node::Verdict;
-use tq_print::{push_decided, push_txn_fault, say_number};
+use tq_print::{push_decided, say_fault, say_number};
 use tq_shape::Memory;
-use tq_txn::{Open, Txn, Voting};
+use tq_txn::{LineFault, Open, Txn, Voting};
 
 /// An open transaction, or one that is not open, which was said.
 #[derive(Drop)]
@@ -72,34 +72,28 @@ fn close(still_open: Open, text: &mut Vec<u8>) -> Result<Closed, Memory>
     match still_open.close() {
         Ok(voting) => Ok(Closed::Voting(voting)),
         Err(back) => {
-            push_txn_fault(text, &[], back.1)?;
-            text.push(b'\n')?;
+            say_fault(text, &[], LineFault::Txn(back.1))?;
             Ok(Closed::Said(Txn::Open(back.0)))
         }
     }
 }
 
-/// The verdict that was told, and the entry to cite.
+/// The verdict that ended the transaction or, before that, was told, and the entry to cite.
 pub(crate) fn ending_of(kept: &Kept) -> Result<Option<Ending>, Memory>
     ensures { IfOk result (λ ending. ending ≡ ending_in kept.now) }
 {
     match &kept.txn {
-        Txn::Ended(ended) => Ok(Some(Ending {
-            verdict: ended.verdict().clone()?,
-            cite: ended.cite(),
-        })),
-        _ => Ok(copy_of(&kept.told)?),
+        Txn::Ended(ended) => Ok(Some(cited(ended.verdict(), ended.cite())?)),
+        _ => match &kept.told {
+            Some(ending) => Ok(Some(cited(&ending.verdict, ending.cite)?)),
+            None => Ok(None),
+        },
     }
 }
 
-fn copy_of(told: &Option<Ending>) -> Result<Option<Ending>, Memory>
-    ensures { IfOk result (λ ending. ending ≡ told.now) }
+fn cited(verdict: &Verdict, cite: u64) -> Result<Ending, Memory>
+    ensures { IfOk result (λ ending. ending ≡ record { verdict = verdict.now; cite = cite }) }
 {
-    match told {
-        Some(ending) => Ok(Some(Ending {
-            verdict: ending.verdict.clone()?,
-            cite: ending.cite,
-        })),
-        None => Ok(None),
-    }
+    let verdict = verdict.clone()?;
+    Ok(Ending { verdict, cite })
 }

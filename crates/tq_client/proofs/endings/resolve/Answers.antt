@@ -8,11 +8,11 @@ use Rattle.tq_client.specs.TxnAsked.{resolve_end}
 use Rattle.tq_client.proofs.Answered.{said_by}
 use Rattle.tq_client.proofs.endings.resolve.Goals as goal
 
-pub returns-in_ok-resolved-in-Ok-clause-answered : goal.returns-in_ok-resolved-in-Ok-clause-answered
-returns-in_ok-resolved-in-Ok-clause-answered c =
+pub returns-in_ok-say_resolved-in-Ok-clause-answered : goal.returns-in_ok-say_resolved-in-Ok-clause-answered
+returns-in_ok-say_resolved-in-Ok-clause-answered c =
     let ask : DeskAsk = Resolve c.args.number in
-    said_by (desk_line ask) (λ end. resolve_end c.args.kept end.answer) c.args.recorder.now c.desk-answer.new.self (Ok c.in-Ok.told) tt c.args.text.now.items c.resolved.new.text.items c.in_ok-resolved-in-Ok.field-0
-    c.replayed.ensures c.replayed-2.ensures c.in-Ok.ensures.tree (told_desk ask c.in-Ok.told c.args.recorder.now.told c.desk-answer.new.self.told c.in-Ok.ensures.exchanges c.in-Ok.ensures.same) refl c.in_ok-resolved-in-Ok.ensures.text c.in_ok-resolved-in-Ok.ensures.kept
+    said_by (desk_line ask) (λ end. resolve_end c.args.kept end.answer) c.args.recorder.now c.desk-answer.new.self (Ok c.in-Ok.told) tt c.args.text.now.items c.say_resolved.new.text.items c.with_reply.result
+    c.replayed.ensures c.replayed-2.ensures c.in-Ok.ensures.tree (told_desk ask c.in-Ok.told c.args.recorder.now.told c.desk-answer.new.self.told c.in-Ok.ensures.exchanges c.in-Ok.ensures.same) refl c.in_ok-say_resolved-in-Ok.ensures c.with_reply.ensures.kept
 
 pub returns-in_ok-say_fault-in-Err-clause-answered : goal.returns-in_ok-say_fault-in-Err-clause-answered
 returns-in_ok-say_fault-in-Err-clause-answered c =
