@@ -8,6 +8,9 @@ use Rattle.std.proofs.Crossing.{crosses}
 use Rattle.std.proofs.MapsCrossing as maps
 use Rattle.std.proofs.MapsCrossingOver as others
 use Rattle.tq_live.proofs.Crossing.{tree_send}
+use Rattle.tq_store.specs.contracts.copies.Copies as Copies
+use Rattle.tq_locks.specs.contracts.table.LockTable as LockTable
+use Rattle.tq_intents.specs.contracts.intents.Intents as Intents
 use Rattle.tq_node.specs.contracts.ask.NodeAsk as NodeAsk
 use Rattle.tq_node.specs.contracts.ask.NodeReply as NodeReply
 use Rattle.tq_node.specs.contracts.node.Node as Node
@@ -49,8 +52,17 @@ view_reply_send = search (sendable, crosses, maps.crosses, others.crosses) depth
 
 -- ---- parts
 
+copies_send : IsSend Copies.the_field.row
+copies_send = search (sendable, crosses, maps.crosses, others.crosses) depth 60 fits 30000
+
+locks_send : IsSend LockTable.the_field.row
+locks_send = search (sendable, crosses, maps.crosses, others.crosses) depth 60 fits 30000
+
+intents_send : IsSend Intents.the_field.row
+intents_send = search (sendable, crosses, maps.crosses, others.crosses) depth 60 fits 30000
+
 node_send : IsSend Node.the_field.row
-node_send = search (sendable, crosses, maps.crosses, others.crosses) depth 60 fits 30000
+node_send = search (copies_send, locks_send, intents_send, sendable, crosses, maps.crosses, others.crosses) depth 60 fits 30000
 
 desk_send : IsSend Desk.the_field.row
 desk_send = search (sendable, crosses, maps.crosses, others.crosses) depth 60 fits 30000
