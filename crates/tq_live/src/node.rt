@@ -1,4 +1,4 @@
-ghost use Rattle.std.specs.Prelude.{◌≡◌, ℕ, ◌+◌, ◌*◌, ◌%◌, ◌^◌, ◌<◌, ◌≤◌, IfOk, IfSome, Some, List};
+ghost use Rattle.std.specs.Prelude.{◌≡◌, ℕ, ◌+◌, ◌*◌, ◌%◌, ◌^◌, ◌<◌, ◌≤◌, IfOk, IfSome, Some, None, List, cond};
 ghost use Rattle.tq_shape.specs.declared.level.TheConstants.{MOST_LEVELS};
 ghost use Rattle.tq_live.specs.Subtree.{Subtree, Alone, Over, leaves};
 ghost use Rattle.tq_live.specs.Kept.{weight_of, form_in, weight_here, cache_of, cache_over, other_weight, turns_left, under, cost_after, changed_under, caches_on_way, found_in, StandsAt, even, top_of};
@@ -168,20 +168,26 @@ impl Node {
         ensures leaves { leaves self.new ≡ leaves self.old }
         ensures on_way { caches_on_way self.old steps number ≤ steps + 1 }
     {
-        match &mut self.below {
+        let (cost, up) = match &mut self.below {
             Below::Over(sides) if steps > 0 => {
+                // Read before the way goes on down, so that the way back up need not wait for them.
+                let kept = (self.cost, self.up);
                 if is_left(number, steps - 1) {
                     sides.left.change(steps - 1, number, change, turns);
                 } else {
                     sides.right.change(steps - 1, number, change, turns);
                 }
+                kept
             }
-            _ => match *change {
-                Setting::Cost(cost) => self.cost = cost,
-                Setting::Mark(up) => self.up = up,
-            },
-        }
-        repair(&mut self.cache, self.cost, self.up, &self.below, turns);
+            _ => {
+                match *change {
+                    Setting::Cost(cost) => self.cost = cost,
+                    Setting::Mark(up) => self.up = up,
+                }
+                (self.cost, self.up)
+            }
+        };
+        repair(&mut self.cache, cost, up, &self.below, turns);
     }
 }
 
@@ -230,13 +236,15 @@ fn repair(cache: &mut Cache, cost: u64, up: bool, below: &Below, turns: &mut Tur
             form: Form::WithLeft,
             blocker: Form::WithLeft,
         },
-        Below::Over(sides) => over(here, sides.left.least(), sides.right.least()),
+        Below::Over(sides) => over(here, up, sides.left.least(), sides.right.least()),
     };
     turns.count += 1;
 }
 
-/// What a server of that weight keeps, from the weights of its sides.
-fn over(here: Weight, left: Weight, right: Weight) -> Cache
+/// What a server of that weight and mark keeps, from the weights of its sides. Which of them is less, and which are there, is
+/// as good as random, so values are chosen and no way is taken.
+fn over(here: Weight, up: bool, left: Weight, right: Weight) -> Cache
+    requires up { other_weight here ≡ cond up None (Some 0) }
     requires here { IfSome here (λ w. w < 2 ^ 62) }
     requires left { IfSome left (λ w. w < 2 ^ 62) }
     requires right { IfSome right (λ w. w < 2 ^ 62) }
@@ -245,47 +253,49 @@ fn over(here: Weight, left: Weight, right: Weight) -> Cache
     let with_left = here.with(left);
     let with_right = here.with(right);
     let both = left.with(right);
-    let blocker = blocker_form(here, left, right);
-    if with_right.is_less(with_left) {
-        if both.is_less(with_right) {
-            return Cache {
-                least: both,
-                form: Form::BothSides,
-                blocker,
-            };
-        }
-        return Cache {
-            least: with_right,
-            form: Form::WithRight,
-            blocker,
-        };
-    }
-    if both.is_less(with_left) {
-        return Cache {
-            least: both,
-            form: Form::BothSides,
-            blocker,
-        };
-    }
+    let goes_right = with_right.is_less(with_left);
+    let one_side = if goes_right { with_right } else { with_left };
+    let takes_both = both.is_less(one_side);
+    let least = if takes_both { both } else { one_side };
+    let form = form_taken(goes_right, takes_both);
+    let blocker = blocker_form(up, left.is_there(), right.is_there());
     Cache {
-        least: with_left,
-        form: Form::WithLeft,
+        least,
+        form,
         blocker,
     }
 }
 
-/// The form of the first member that is all down, from whether a quorum is up at the top and in its sides.
-fn blocker_form(here: Weight, left: Weight, right: Weight) -> Form
-    ensures { result ≡ form_of (other_weight here) (other_weight left) (other_weight right) }
+/// The form that is taken where the side that is better is the right one or not, and both sides are better than that or not.
+fn form_taken(goes_right: bool, takes_both: bool) -> Form
+    ensures { result ≡ cond takes_both Form.BothSides (cond goes_right Form.WithRight Form.WithLeft) }
 {
-    if right.is_there() {
-        return Form::WithLeft;
+    let one_side = if goes_right {
+        Form::WithRight
+    } else {
+        Form::WithLeft
+    };
+    if takes_both {
+        Form::BothSides
+    } else {
+        one_side
     }
-    match (here.is_there(), left.is_there()) {
-        (false, true) => Form::WithRight,
-        (true, false) => Form::BothSides,
-        _ => Form::WithLeft,
-    }
+}
+
+/// The form of the first member that is all down, from whether a quorum is up at the top and in its sides.
+fn blocker_form(here: bool, left: bool, right: bool) -> Form
+    ensures { result ≡ form_of (cond here None (Some 0)) (cond left None (Some 0)) (cond right None (Some 0)) }
+{
+    let top_alone = here && !left;
+    let left_alone = left && !here;
+    let without_right = if top_alone {
+        Form::BothSides
+    } else if left_alone {
+        Form::WithRight
+    } else {
+        Form::WithLeft
+    };
+    if right { Form::WithLeft } else { without_right }
 }
 
 /// The weight of a server, if it may be taken.
