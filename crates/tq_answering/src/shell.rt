@@ -9,7 +9,6 @@ ghost use Rattle.tq_print.specs.Print.{printed, mark_word};
 
 use std::alloc::Global;
 use std::marker::Model;
-use std::mem;
 use tq_asking::Recorder;
 use tq_client::{Kept, answer_txn};
 use tq_core::Service;
@@ -279,10 +278,8 @@ impl Shell {
             Some(place) => place,
         };
         let levels = self.levels;
-        let vacant = fresh(alloc, levels, self.limits, number);
-        let kept = mem::replace(&mut self.txns[place], vacant);
-        let kept = answer_txn(&mut self.recorder, alloc, levels, number, kept, line, text)?;
-        self.txns[place] = kept;
+        let kept = &mut self.txns[place];
+        answer_txn(&mut self.recorder, alloc, levels, number, kept, line, text)?;
         Ok(())
     }
 }

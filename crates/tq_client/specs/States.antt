@@ -3,24 +3,12 @@ use Rattle.std.specs.Prelude.{◌≡◌, ℕ, List, ◌++◌}
 use Rattle.tq_txn.specs.declared.txn.Txn.{Txn}
 use Rattle.tq_txn.specs.States.{levels_of}
 use Rattle.tq_txn.specs.Dialogue as asks
-use Rattle.tq_states.specs.Open.{OpenView}
 use Rattle.tq_states.specs.Voting.{VotingView}
 use Rattle.tq_client.specs.declared.kept.Kept.{Kept}
-use Rattle.tq_client.specs.declared.states.Opened.{Opened}
-use Rattle.tq_client.specs.declared.states.Opened.TheVariants as opened
 use Rattle.tq_client.specs.declared.states.Closed.{Closed}
 use Rattle.tq_client.specs.declared.states.Closed.TheVariants as closed
-use Rattle.tq_client.specs.TxnAsked.{TxnAnswer, txn_said, open_in, voting_in}
+use Rattle.tq_client.specs.TxnAsked.{TxnAnswer, txn_said, voting_in}
 use Rattle.tq_print.specs.Print.{printed}
-
--- a line that wants an open transaction says this in its place
-abbrev pub SaysNotOpen : ℕ → Txn → List ℕ → Type 0
-SaysNotOpen number txn said = (kept : Kept) (next : OpenView → asks.Dialogue TxnAnswer) → open_in number kept txn next ≡ txn_said kept said
-
--- the transaction is open, and nothing was printed; or the text that says what it is
-abbrev pub IsOpened : ℕ → Txn → Opened → List ℕ → List ℕ → Type 0
-IsOpened number txn (opened.Open old) before after = (after ≡ before) × (levels_of txn ≡ old.levels) × ((kept : Kept) (next : OpenView → asks.Dialogue TxnAnswer) → open_in number kept txn next ≡ next old)
-IsOpened number txn (opened.Said back) before after = (said : List ℕ) × (after ≡ before ++ printed said) × (back ≡ txn) × SaysNotOpen number txn said
 
 -- a line that wants a transaction which gathers votes says this in its place
 abbrev pub SaysNotVoting : Txn → List ℕ → Type 0

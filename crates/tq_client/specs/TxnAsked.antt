@@ -115,9 +115,13 @@ write_open kept file content old =
 abbrev pub write_asked : List ℕ → List ℕ → ℕ → Kept → asks.Dialogue TxnAnswer
 write_asked file content number kept = open_in number kept kept.txn (write_open kept file content)
 
+-- what a line does with a file of an open transaction
+abbrev pub operation_open : Operation → List ℕ → Kept → OpenView → asks.Dialogue TxnAnswer
+operation_open operations.Read file kept = read_open kept file
+operation_open (operations.Write content) file kept = write_open kept file content
+
 abbrev pub operation_asked : Operation → List ℕ → ℕ → Kept → asks.Dialogue TxnAnswer
-operation_asked operations.Read file = read_asked file
-operation_asked (operations.Write content) file = write_asked file content
+operation_asked operation file number kept = open_in number kept kept.txn (operation_open operation file kept)
 
 abbrev pub voted_text : ℕ → VotingView → Unit {0} → List ℕ
 voted_text server new all = codes "yes " ++ decimal server

@@ -21,19 +21,19 @@ pub fn answer_txn(
     alloc: Global,
     levels: Levels,
     number: u64,
-    kept: Kept,
+    kept: &mut Kept,
     line: TxnLine,
     text: &mut Vec<u8>,
-) -> Result<Kept, Memory>
-    requires txn { levels_of kept.txn ≡ recorder.old.journals.levels }
+) -> Result<(), Memory>
+    requires txn { levels_of kept.old.txn ≡ recorder.old.journals.levels }
     requires levels { levels ≡ recorder.old.journals.levels }
-    ensures answered { IfOk result (λ new. spec.IsAnswered (spec.line_asked levels line number kept) recorder.old.journals recorder.new.journals text.old.items text.new.items new) }
-    ensures levels { IfOk result (λ new. levels_of new.txn ≡ levels_of kept.txn) }
+    ensures answered { OnOk result (spec.IsAnswered (spec.line_asked levels line number kept.old) recorder.old.journals recorder.new.journals text.old.items text.new.items kept.new) }
+    ensures levels { levels_of kept.new.txn ≡ levels_of kept.old.txn }
     ensures tree { recorder.new.journals.levels ≡ recorder.old.journals.levels }
     ensures possible { OnOk result (IsSaid text.old.items text.new.items) }
 {
-    let left = answer_line(recorder, alloc, levels, number, kept, line, text)?;
-    Ok(left)
+    answer_line(recorder, alloc, levels, number, kept, line, text)?;
+    Ok(())
 }
 
 fn answer_line(
@@ -41,14 +41,14 @@ fn answer_line(
     alloc: Global,
     levels: Levels,
     number: u64,
-    kept: Kept,
+    kept: &mut Kept,
     line: TxnLine,
     text: &mut Vec<u8>,
-) -> Result<Kept, Memory>
-    requires txn { levels_of kept.txn ≡ recorder.old.journals.levels }
+) -> Result<(), Memory>
+    requires txn { levels_of kept.old.txn ≡ recorder.old.journals.levels }
     requires levels { levels ≡ recorder.old.journals.levels }
-    ensures answered { IfOk result (λ new. spec.IsAnswered (spec.line_asked levels line number kept) recorder.old.journals recorder.new.journals text.old.items text.new.items new) }
-    ensures levels { IfOk result (λ new. levels_of new.txn ≡ levels_of kept.txn) }
+    ensures answered { OnOk result (spec.IsAnswered (spec.line_asked levels line number kept.old) recorder.old.journals recorder.new.journals text.old.items text.new.items kept.new) }
+    ensures levels { levels_of kept.new.txn ≡ levels_of kept.old.txn }
     ensures tree { recorder.new.journals.levels ≡ recorder.old.journals.levels }
 {
     match line {

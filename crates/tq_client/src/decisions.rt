@@ -7,8 +7,9 @@ ghost use Rattle.tq_client.specs.TxnAsked as spec;
 ghost use Rattle.tq_print.specs.Print.{printed};
 
 use crate::kept::Kept;
-use crate::states::{Closed, voting_of};
+use crate::states::{Closed, stand_in, voting_of};
 use std::alloc::Global;
+use std::mem;
 use tq_asking::Recorder;
 use tq_print::{say_fault, say_number};
 use tq_shape::{Memory, ServerId};
@@ -27,25 +28,30 @@ pub(crate) enum Course {
 pub(crate) fn decide_txn(
     recorder: &mut Recorder,
     alloc: Global,
-    kept: Kept,
+    kept: &mut Kept,
     course: Course,
     text: &mut Vec<u8>,
-) -> Result<Kept, Memory>
-    requires { levels_of kept.txn ≡ recorder.old.journals.levels }
-    ensures answered { IfOk result (λ new. spec.IsAnswered (spec.decision_asked (spec.course_line course) 0 kept) recorder.old.journals recorder.new.journals text.old.items text.new.items new) }
-    ensures levels { IfOk result (λ new. levels_of new.txn ≡ levels_of kept.txn) }
+) -> Result<(), Memory>
+    requires { levels_of kept.old.txn ≡ recorder.old.journals.levels }
+    ensures answered { OnOk result (spec.IsAnswered (spec.decision_asked (spec.course_line course) 0 kept.old) recorder.old.journals recorder.new.journals text.old.items text.new.items kept.new) }
+    ensures levels { levels_of kept.new.txn ≡ levels_of kept.old.txn }
     ensures tree { recorder.new.journals.levels ≡ recorder.old.journals.levels }
 {
-    let told = kept.told;
-    let voting = match voting_of(kept.txn, text)? {
-        Closed::Said(txn) => return Ok(Kept { txn, told }),
+    let vacant = stand_in(alloc, &kept.txn);
+    let txn = mem::replace(&mut kept.txn, vacant);
+    let voting = match voting_of(txn, text)? {
+        Closed::Said(txn) => {
+            kept.txn = txn;
+            return Ok(());
+        }
         Closed::Voting(voting) => voting,
     };
     recorder.replayed();
     let Decision { answer, txn } = decision(recorder, alloc, voting, course);
     recorder.replayed();
-    say_committed(alloc, text, answer, &txn)?;
-    Ok(Kept { txn, told })
+    kept.txn = txn;
+    say_committed(alloc, text, answer, &kept.txn)?;
+    Ok(())
 }
 
 fn decision(recorder: &mut Recorder, alloc: Global, voting: Voting, course: Course) -> Decision

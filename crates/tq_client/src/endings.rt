@@ -5,7 +5,9 @@ ghost use Rattle.tq_client.specs.TxnAsked as spec;
 ghost use Rattle.tq_print.specs.Print.{printed};
 
 use crate::kept::{Ending, Kept};
+use crate::states::stand_in;
 use std::alloc::Global;
+use std::mem;
 use tq_asking::Recorder;
 use tq_desk::{DeskAsk, DeskReply};
 use tq_print::{push_desk_refusal, say_fault, say_line, say_verdict};
@@ -16,20 +18,22 @@ use tq_txn::{Abortion, Asker, LineFault, abort};
 pub(crate) fn abort_txn(
     recorder: &mut Recorder,
     alloc: Global,
-    kept: Kept,
+    kept: &mut Kept,
     text: &mut Vec<u8>,
-) -> Result<Kept, Memory>
-    requires { levels_of kept.txn ≡ recorder.old.journals.levels }
-    ensures answered { IfOk result (λ new. spec.IsAnswered (spec.abort_asked 0 kept) recorder.old.journals recorder.new.journals text.old.items text.new.items new) }
-    ensures levels { IfOk result (λ new. levels_of new.txn ≡ levels_of kept.txn) }
+) -> Result<(), Memory>
+    requires { levels_of kept.old.txn ≡ recorder.old.journals.levels }
+    ensures answered { OnOk result (spec.IsAnswered (spec.abort_asked 0 kept.old) recorder.old.journals recorder.new.journals text.old.items text.new.items kept.new) }
+    ensures levels { levels_of kept.new.txn ≡ levels_of kept.old.txn }
     ensures tree { recorder.new.journals.levels ≡ recorder.old.journals.levels }
 {
-    let told = kept.told;
+    let vacant = stand_in(alloc, &kept.txn);
+    let txn = mem::replace(&mut kept.txn, vacant);
     recorder.replayed();
-    let Abortion { answer, txn } = abort(recorder, alloc, kept.txn);
+    let Abortion { answer, txn } = abort(recorder, alloc, txn);
     recorder.replayed();
+    kept.txn = txn;
     say_aborted(text, answer)?;
-    Ok(Kept { txn, told })
+    Ok(())
 }
 
 /// Puts that a transaction aborted behind the text, as a line, or why it did not.
@@ -49,11 +53,11 @@ pub(crate) fn resolve(
     recorder: &mut Recorder,
     alloc: Global,
     number: u64,
-    kept: Kept,
+    kept: &mut Kept,
     text: &mut Vec<u8>,
-) -> Result<Kept, Memory>
-    ensures answered { IfOk result (λ new. spec.IsAnswered (spec.resolve_asked number kept) recorder.old.journals recorder.new.journals text.old.items text.new.items new) }
-    ensures levels { IfOk result (λ new. levels_of new.txn ≡ levels_of kept.txn) }
+) -> Result<(), Memory>
+    ensures answered { OnOk result (spec.IsAnswered (spec.resolve_asked number kept.old) recorder.old.journals recorder.new.journals text.old.items text.new.items kept.new) }
+    ensures levels { levels_of kept.new.txn ≡ levels_of kept.old.txn }
     ensures tree { recorder.new.journals.levels ≡ recorder.old.journals.levels }
 {
     recorder.replayed();
@@ -62,11 +66,12 @@ pub(crate) fn resolve(
     match answer {
         Ok(told) => {
             say_resolved(text, &told.reply)?;
-            Ok(with_reply(kept, told.number, told.reply))
+            keep_reply(kept, told.number, told.reply);
+            Ok(())
         }
         Err(fault) => {
             say_fault(text, &[], LineFault::from(fault))?;
-            Ok(kept)
+            Ok(())
         }
     }
 }
@@ -86,16 +91,12 @@ fn say_resolved(text: &mut Vec<u8>, reply: &DeskReply) -> Result<(), Memory>
     }
 }
 
-/// What is kept after the desk's answer.
-fn with_reply(kept: Kept, cite: u64, reply: DeskReply) -> Kept
-    ensures kept { result ≡ spec.resolved_kept kept cite reply }
-    ensures txn { result.txn ≡ kept.txn }
+/// Keeps the verdict that the desk's answer tells.
+fn keep_reply(kept: &mut Kept, cite: u64, reply: DeskReply)
+    ensures kept { kept.new ≡ spec.resolved_kept kept.old cite reply }
+    ensures txn { kept.new.txn ≡ kept.old.txn }
 {
-    match reply {
-        DeskReply::Verdict(verdict) => Kept {
-            txn: kept.txn,
-            told: Some(Ending { verdict, cite }),
-        },
-        _ => kept,
+    if let DeskReply::Verdict(verdict) = reply {
+        kept.told = Some(Ending { verdict, cite });
     }
 }

@@ -7,8 +7,9 @@ ghost use Rattle.tq_client.specs.Known.{in_state};
 ghost use Rattle.tq_print.specs.Print.{printed, applied_text};
 
 use crate::kept::{Ending, Kept};
-use crate::states::{Closed, ending_of, voting_of};
+use crate::states::{Closed, ending_of, stand_in, voting_of};
 use std::alloc::Global;
+use std::mem;
 use tq_asking::Recorder;
 use tq_node::WorkAsk;
 use tq_print::{say_applied, say_fault, say_number};
@@ -65,22 +66,19 @@ pub(crate) fn run_errand(
     alloc: Global,
     levels: Levels,
     number: u64,
-    kept: Kept,
+    kept: &mut Kept,
     errand: Errand,
     text: &mut Vec<u8>,
-) -> Result<Kept, Memory>
-    requires txn { levels_of kept.txn ≡ recorder.old.journals.levels }
+) -> Result<(), Memory>
+    requires txn { levels_of kept.old.txn ≡ recorder.old.journals.levels }
     requires levels { levels ≡ recorder.old.journals.levels }
-    ensures answered { IfOk result (λ new. spec.IsAnswered (spec.errand_asked levels errand number kept) recorder.old.journals recorder.new.journals text.old.items text.new.items new) }
-    ensures levels { IfOk result (λ new. levels_of new.txn ≡ levels_of kept.txn) }
+    ensures answered { OnOk result (spec.IsAnswered (spec.errand_asked levels errand number kept.old) recorder.old.journals recorder.new.journals text.old.items text.new.items kept.new) }
+    ensures levels { levels_of kept.new.txn ≡ levels_of kept.old.txn }
     ensures tree { recorder.new.journals.levels ≡ recorder.old.journals.levels }
 {
     let Errand { server, duty, stop } = errand;
     match levels.server(server) {
-        None => {
-            say_number(text, b"no such server ", server)?;
-            Ok(kept)
-        }
+        None => say_number(text, b"no such server ", server),
         Some(id) => match duty {
             Duty::Prepare => prepare(recorder, alloc, kept, id, stop, text),
             Duty::Apply => apply(recorder, alloc, number, kept, id, stop, text),
@@ -92,24 +90,24 @@ pub(crate) fn run_errand(
 fn prepare(
     recorder: &mut Recorder,
     alloc: Global,
-    kept: Kept,
+    kept: &mut Kept,
     server: ServerId,
     stop: Option<u32>,
     text: &mut Vec<u8>,
-) -> Result<Kept, Memory>
-    requires txn { levels_of kept.txn ≡ recorder.old.journals.levels }
+) -> Result<(), Memory>
+    requires txn { levels_of kept.old.txn ≡ recorder.old.journals.levels }
     requires server { server.levels ≡ recorder.old.journals.levels }
-    ensures answered { IfOk result (λ new. spec.IsAnswered (spec.prepare_asked stop server.number 0 kept) recorder.old.journals recorder.new.journals text.old.items text.new.items new) }
-    ensures levels { IfOk result (λ new. levels_of new.txn ≡ levels_of kept.txn) }
+    ensures answered { OnOk result (spec.IsAnswered (spec.prepare_asked stop server.number 0 kept.old) recorder.old.journals recorder.new.journals text.old.items text.new.items kept.new) }
+    ensures levels { levels_of kept.new.txn ≡ levels_of kept.old.txn }
     ensures tree { recorder.new.journals.levels ≡ recorder.old.journals.levels }
 {
-    let told = kept.told;
-    let voting = match voting_of(kept.txn, text)? {
-        Closed::Said(txn) => return Ok(Kept { txn, told }),
-        Closed::Voting(voting) => voting,
+    let vacant = stand_in(alloc, &kept.txn);
+    let txn = mem::replace(&mut kept.txn, vacant);
+    kept.txn = match voting_of(txn, text)? {
+        Closed::Said(txn) => txn,
+        Closed::Voting(voting) => vote(recorder, alloc, voting, server, stop, text)?,
     };
-    let voted = vote(recorder, alloc, voting, server, stop, text)?;
-    Ok(Kept { txn: voted, told })
+    Ok(())
 }
 
 /// The transaction after the vote of a server, or after a stop in its vote, which is not taken.
@@ -167,22 +165,19 @@ fn apply(
     recorder: &mut Recorder,
     alloc: Global,
     number: u64,
-    kept: Kept,
+    kept: &Kept,
     server: ServerId,
     stop: Option<u32>,
     text: &mut Vec<u8>,
-) -> Result<Kept, Memory>
+) -> Result<(), Memory>
     requires { server.levels ≡ recorder.old.journals.levels }
-    ensures answered { IfOk result (λ new. spec.IsAnswered (spec.apply_asked stop server.number number kept) recorder.old.journals recorder.new.journals text.old.items text.new.items new) }
-    ensures levels { IfOk result (λ new. levels_of new.txn ≡ levels_of kept.txn) }
+    ensures answered { OnOk result (spec.IsAnswered (spec.apply_asked stop server.number number kept.now) recorder.old.journals recorder.new.journals text.old.items text.new.items kept.now) }
     ensures tree { recorder.new.journals.levels ≡ recorder.old.journals.levels }
 {
-    let Some(ending) = ending_of(&kept)? else {
-        say_number(text, b"not decided ", number)?;
-        return Ok(kept);
-    };
-    tell(recorder, alloc, number, ending, server, stop, text)?;
-    Ok(kept)
+    match ending_of(kept)? {
+        None => say_number(text, b"not decided ", number),
+        Some(ending) => tell(recorder, alloc, number, ending, server, stop, text),
+    }
 }
 
 /// Tells a server the verdict, or stops it there.

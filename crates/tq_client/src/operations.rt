@@ -1,14 +1,16 @@
 //! The lines of a transaction that read and write.
 ghost use Rattle.std.specs.Prelude.{◌≡◌, ◌++◌, [], false, IfOk, OnOk};
 ghost use Rattle.tq_txn.specs.States.{levels_of};
+ghost use Rattle.tq_txn.specs.declared.txn.Txn.TheVariants as states;
+ghost use Rattle.tq_client.specs.Known.{in_state};
 ghost use Rattle.tq_client.specs.TxnAsked as spec;
 ghost use Rattle.tq_print.specs.Print.{printed};
 
 use crate::kept::Kept;
-use crate::states::{Opened, open_of};
+use crate::states::say_decided;
 use std::alloc::Global;
 use tq_asking::Recorder;
-use tq_print::{say_fault, say_reading, say_writing};
+use tq_print::{say_fault, say_number, say_reading, say_writing};
 use tq_shape::Memory;
 use tq_store::{Content, FileName};
 use tq_txn::{LineFault, Open, Reading, Txn, read_file, write_file};
@@ -20,41 +22,55 @@ pub(crate) enum Operation {
     Write { content: Content },
 }
 
-/// Reads or writes a file in a transaction.
+/// Reads or writes a file in a transaction, or says that it is not open.
 pub(crate) fn operate(
     recorder: &mut Recorder,
     alloc: Global,
     number: u64,
-    kept: Kept,
+    kept: &mut Kept,
     file: &FileName,
     operation: Operation,
     text: &mut Vec<u8>,
-) -> Result<Kept, Memory>
-    requires { levels_of kept.txn ≡ recorder.old.journals.levels }
-    ensures answered { IfOk result (λ new. spec.IsAnswered (spec.operation_asked operation file.now number kept) recorder.old.journals recorder.new.journals text.old.items text.new.items new) }
-    ensures levels { IfOk result (λ new. levels_of new.txn ≡ levels_of kept.txn) }
+) -> Result<(), Memory>
+    requires { levels_of kept.old.txn ≡ recorder.old.journals.levels }
+    ensures answered { OnOk result (spec.IsAnswered (spec.operation_asked operation file.now number kept.old) recorder.old.journals recorder.new.journals text.old.items text.new.items kept.new) }
+    ensures levels { levels_of kept.new.txn ≡ levels_of kept.old.txn }
     ensures tree { recorder.new.journals.levels ≡ recorder.old.journals.levels }
 {
-    let told = kept.told;
-    let mut open = match open_of(number, kept.txn, text)? {
-        Opened::Said(txn) => return Ok(Kept { txn, told }),
-        Opened::Open(open) => open,
-    };
+    match &mut kept.txn {
+        Txn::Open(open) => operate_open(recorder, alloc, open, file, operation, text),
+        Txn::Voting(_) => say_number(text, b"voting ", number),
+        Txn::Ended(ended) => say_decided(text, ended.verdict()),
+    }
+}
+
+/// Reads or writes a file in an open transaction.
+fn operate_open(
+    recorder: &mut Recorder,
+    alloc: Global,
+    open: &mut Open,
+    file: &FileName,
+    operation: Operation,
+    text: &mut Vec<u8>,
+) -> Result<(), Memory>
+    requires { «open».old.levels ≡ recorder.old.journals.levels }
+    ensures answered { OnOk result ((kept : Kept) → spec.IsAnswered (spec.operation_open operation file.now kept «open».old) recorder.old.journals recorder.new.journals text.old.items text.new.items (in_state kept (states.Open «open».new))) }
+    ensures levels { «open».new.levels ≡ «open».old.levels }
+    ensures tree { recorder.new.journals.levels ≡ recorder.old.journals.levels }
+{
     recorder.replayed();
     match operation {
         Operation::Read => {
-            let answer = read_file(recorder, alloc, &mut open, file);
+            let answer = read_file(recorder, alloc, open, file);
             recorder.replayed();
-            say_read(text, file, &open, answer)?;
-            let txn = Txn::Open(open);
-            Ok(Kept { txn, told })
+            say_read(text, file, open, answer)?;
+            Ok(())
         }
         Operation::Write { content } => {
-            let answer = write_file(recorder, alloc, &mut open, file, content);
+            let answer = write_file(recorder, alloc, open, file, content);
             recorder.replayed();
-            say_written(text, file, &open, answer)?;
-            let txn = Txn::Open(open);
-            Ok(Kept { txn, told })
+            say_written(text, file, open, answer)?;
+            Ok(())
         }
     }
 }

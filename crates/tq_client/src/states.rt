@@ -4,20 +4,15 @@ ghost use Rattle.std.specs.Option.{option_map};
 ghost use Rattle.tq_print.specs.Print.{printed};
 ghost use Rattle.tq_client.specs.Known.{ending_in};
 ghost use Rattle.tq_print.specs.Refusals.{decided_text};
+ghost use Rattle.tq_txn.specs.States.{levels_of};
 ghost use Rattle.tq_client.specs.States as spec;
 
 use crate::kept::{Ending, Kept};
+use std::alloc::Global;
 use tq_node::Verdict;
-use tq_print::{push_decided, say_fault, say_number};
-use tq_shape::Memory;
+use tq_print::{push_decided, say_fault};
+use tq_shape::{Limits, Memory};
 use tq_txn::{LineFault, Open, Txn, Voting};
-
-/// An open transaction, or one that is not open, which was said.
-#[derive(Drop)]
-pub(crate) enum Opened {
-    Open(Open),
-    Said(Txn),
-}
 
 /// A transaction that gathers votes, or one that does not, which was said.
 #[derive(Drop)]
@@ -27,7 +22,7 @@ pub(crate) enum Closed {
 }
 
 /// Puts how a transaction ended behind the text, as a line.
-fn say_decided(text: &mut Vec<u8>, verdict: &Verdict) -> Result<(), Memory>
+pub(crate) fn say_decided(text: &mut Vec<u8>, verdict: &Verdict) -> Result<(), Memory>
     ensures { OnOk result (text.new.items ≡ text.old.items ++ printed (decided_text verdict.now)) }
 {
     push_decided(text, verdict)?;
@@ -35,21 +30,11 @@ fn say_decided(text: &mut Vec<u8>, verdict: &Verdict) -> Result<(), Memory>
     Ok(())
 }
 
-/// The transaction, if it is open.
-pub(crate) fn open_of(number: u64, txn: Txn, text: &mut Vec<u8>) -> Result<Opened, Memory>
-    ensures { IfOk result (λ state. spec.IsOpened number txn state text.old.items text.new.items) }
+/// A transaction that stands in for one that is taken out, until that is put back.
+pub(crate) fn stand_in(alloc: Global, txn: &Txn) -> Txn
+    ensures { levels_of result ≡ levels_of txn.now }
 {
-    match txn {
-        Txn::Open(open) => Ok(Opened::Open(open)),
-        Txn::Voting(voting) => {
-            say_number(text, b"voting ", number)?;
-            Ok(Opened::Said(Txn::Voting(voting)))
-        }
-        Txn::Ended(ended) => {
-            say_decided(text, ended.verdict())?;
-            Ok(Opened::Said(Txn::Ended(ended)))
-        }
-    }
+    Txn::Open(Open::new(alloc, txn.levels(), Limits::full(), 0))
 }
 
 /// The transaction as it gathers votes, if it has an operation and did not end.

@@ -1,10 +1,10 @@
--- A piece whose bytes from `start` on belong to the line that goes on, and one byte more of it.
-use Rattle.std.proofs.Common.{◌≡◌, ℕ, suc, ◌+◌, ◌-◌, ◌<◌, ◌≤◌, List, [], ◌∷◌, ◌++◌, length, take, drop, get_or, refl, sym, ap, ◌∙◌, arith, append_assoc, length-append, drop-cons, inl, inr}
-use Rattle.std.proofs.lemmas.List.{append-nil, take_all, get_or-drop, length-drop}
+-- A piece of bytes: up to its first line feed they go onto the line that goes on, and behind it the next line begins.
+use Rattle.std.proofs.Common.{◌≡◌, ℕ, zero, suc, ◌+◌, ◌<◌, ◌≤◌, ◌==◌, List, [], ◌∷◌, ◌++◌, length, take, drop, slice_index, refl, sym, ap, subst, ◌∙◌, arith, append_assoc, length-append, drop-cons, inl, inr}
+use Rattle.std.proofs.lemmas.List.{append-nil, take_all, take-append-drop}
 use Rattle.std.proofs.lemmas.Bool.{cases_lt}
-use Rattle.std.proofs.Math.Seq.{take-suc, take-append-add}
-use Rattle.std.specs.List.{slice_range}
-use Rattle.tq_session.specs.Stream.{Received, kept, grown, line_answer, received_byte, answer_to_byte, received_all, answers_to}
+use Rattle.std.proofs.Math.Seq.{take-append-add}
+use Rattle.memchr.specs.Find.{Nowhere, Passes, is_byte}
+use Rattle.tq_session.specs.Stream.{Received, kept, grown, line_answer, received_byte, received_all, answers_to}
 use Rattle.tq_session.proofs.StreamLaws.{kept_more, received_other, answered_other}
 
 pub grown-none : (received : Received) → length received.line ≤ 1202 → received ≡ grown received []
@@ -44,60 +44,68 @@ grown-more received bytes byte other =
     let more = kept_more (received.line ++ bytes) byte ∙ ap (take 1202) (append_assoc received.line bytes (byte ∷ [])) in
     received_other (grown received bytes) byte other ∙ λ i. record { world = received.world; line = more i }
 
-range-more : (piece : List ℕ) (start place : ℕ) → start ≤ place → place < length piece → slice_range piece start (place + 1) ≡ slice_range piece start place ++ get_or piece place 0 ∷ []
-range-more piece start place within less =
-    let count : (place + 1) - start ≡ suc (place - start) = omega (arith, within) in
-    let place_is : start + (place - start) ≡ place = omega (arith, within) in
-    let size = length-drop start piece in
-    let inside : place - start < length (drop start piece) = omega (arith, within, less, size) in
-    ap (λ n. take n (drop start piece)) count
-    ∙ take-suc (drop start piece) (place - start) 0 inside
-    ∙ ap (λ byte. take (place - start) (drop start piece) ++ byte ∷ []) (get_or-drop start piece (place - start) 0 ∙ ap (λ n. get_or piece n 0) place_is)
+-- bytes with no line feed among them
+abbrev pub HasNoFeed : List ℕ → Type 0
+HasNoFeed [] = Unit {0}
+HasNoFeed (byte ∷ bytes) = (byte ≡ 10 → ⊥) × HasNoFeed bytes
 
-range-none : (piece : List ℕ) (place : ℕ) → slice_range piece place place ≡ []
-range-none piece place =
-    let none : place - place ≡ 0 = omega arith in
-    ap (λ n. take n (drop place piece)) none
+no-feed : (bytes : List ℕ) (place : ℕ) → Nowhere (Passes (is_byte 10) bytes) 0 place → HasNoFeed (take place bytes)
+no-feed bytes zero none = tt
+no-feed [] (suc place) none = tt
+no-feed (byte ∷ bytes) (suc place) none =
+    (λ is. none 0 (omega arith) (omega arith) (ap (λ found. found == 10) is), no-feed bytes place (λ k low less. none (suc k) (omega arith) (omega (arith, less))))
 
-rest-cons : (piece : List ℕ) (place : ℕ) → place < length piece → drop place piece ≡ get_or piece place 0 ∷ drop (place + 1) piece
-rest-cons piece place less =
-    let one : place + 1 ≡ suc place = omega arith in
-    rw one (drop-cons piece place 0 less)
+-- they go onto the line
+received-on : (received : Received) (line bytes rest : List ℕ) → HasNoFeed bytes → received_all (grown received line) (bytes ++ rest) ≡ received_all (grown received (line ++ bytes)) rest
+received-on received line [] rest none = ap (λ all. received_all (grown received all) rest) (sym (append-nil line))
+received-on received line (byte ∷ bytes) rest none =
+    ap (λ now. received_all now (bytes ++ rest)) (grown-more received line byte none.0)
+    ∙ received-on received (line ++ byte ∷ []) bytes rest none.1
+    ∙ ap (λ all. received_all (grown received all) rest) (append_assoc line (byte ∷ []) bytes)
+
+answers-on : (received : Received) (line bytes rest : List ℕ) → HasNoFeed bytes → answers_to (grown received line) (bytes ++ rest) ≡ answers_to (grown received (line ++ bytes)) rest
+answers-on received line [] rest none = ap (λ all. answers_to (grown received all) rest) (sym (append-nil line))
+answers-on received line (byte ∷ bytes) rest none =
+    ap (λ text. text ++ answers_to (received_byte (grown received line) byte) (bytes ++ rest)) (answered_other (grown received line) byte none.0)
+    ∙ ap (λ now. answers_to now (bytes ++ rest)) (grown-more received line byte none.0)
+    ∙ answers-on received (line ++ byte ∷ []) bytes rest none.1
+    ∙ ap (λ all. answers_to (grown received all) rest) (append_assoc line (byte ∷ []) bytes)
 
 -- a line feed ends the line, and the next begins behind it
 abbrev pub ended : Received → List ℕ → Received
 ended received bytes = record { world = (line_answer received.world (kept received.line bytes)).after; line = [] }
 
-module _ (received : Received) (piece : List ℕ) (start place : ℕ) (within : start ≤ place) (less : place < length piece) where
-  grows : (get_or piece place 0 ≡ 10 → ⊥) → received_byte (grown received (slice_range piece start place)) (get_or piece place 0) ≡ grown received (slice_range piece start (place + 1))
-  grows other =
-      grown-more received (slice_range piece start place) (get_or piece place 0) other ∙ ap (grown received) (sym (range-more piece start place within less))
+module _ (received : Received) (left : List ℕ) (few : length received.line ≤ 1202) where
+  nowhere : Nowhere (Passes (is_byte 10) left) 0 (length left) → HasNoFeed left
+  nowhere none = subst HasNoFeed (take_all (length left) left (omega arith)) (no-feed left (length left) none)
 
-  pub received-goes_on : (get_or piece place 0 ≡ 10 → ⊥) → received_all (grown received (slice_range piece start place)) (drop place piece) ≡ received_all (grown received (slice_range piece start (place + 1))) (drop (place + 1) piece)
-  received-goes_on other =
-      ap (received_all (grown received (slice_range piece start place))) (rest-cons piece place less)
-      ∙ ap (λ now. received_all now (drop (place + 1) piece)) (grows other)
+  -- where there is no line feed, all of it goes onto the line
+  pub received-rest : Nowhere (Passes (is_byte 10) left) 0 (length left) → received_all received left ≡ grown received left
+  received-rest none =
+      ap (λ now. received_all now left) (grown-none received few)
+      ∙ ap (received_all (grown received [])) (sym (append-nil left))
+      ∙ received-on received [] left [] (nowhere none)
 
-  pub answers-go_on : (get_or piece place 0 ≡ 10 → ⊥) → answers_to (grown received (slice_range piece start place)) (drop place piece) ≡ answers_to (grown received (slice_range piece start (place + 1))) (drop (place + 1) piece)
-  answers-go_on other =
-      let now = grown received (slice_range piece start place) in
-      ap (answers_to now) (rest-cons piece place less)
-      ∙ ap (λ text. text ++ answers_to (received_byte now (get_or piece place 0)) (drop (place + 1) piece)) (answered_other now (get_or piece place 0) other)
-      ∙ ap (λ then. answers_to then (drop (place + 1) piece)) (grows other)
+  pub answers-rest : Nowhere (Passes (is_byte 10) left) 0 (length left) → answers_to received left ≡ []
+  answers-rest none =
+      ap (λ now. answers_to now left) (grown-none received few)
+      ∙ ap (answers_to (grown received [])) (sym (append-nil left))
+      ∙ answers-on received [] left [] (nowhere none)
 
-  begins : ended received (slice_range piece start place) ≡ grown (ended received (slice_range piece start place)) (slice_range piece (place + 1) (place + 1))
-  begins = ap (grown (ended received (slice_range piece start place))) (sym (range-none piece (place + 1)))
+  module _ (place : ℕ) (less : place < length left) (none : Nowhere (Passes (is_byte 10) left) 0 place) (is : slice_index left place ≡ 10) where
+    parts : left ≡ take place left ++ 10 ∷ drop (place + 1) left
+    parts =
+        let one : place + 1 ≡ suc place = omega arith in
+        sym (take-append-drop place left) ∙ ap (λ rest. take place left ++ rest) (rw one (drop-cons left place 0 less ∙ ap (λ byte. byte ∷ drop (suc place) left) is))
 
-  pub received-ends : get_or piece place 0 ≡ 10 → received_all (grown received (slice_range piece start place)) (drop place piece) ≡ received_all (grown (ended received (slice_range piece start place)) (slice_range piece (place + 1) (place + 1))) (drop (place + 1) piece)
-  received-ends is =
-      let now = grown received (slice_range piece start place) in
-      ap (received_all now) (rest-cons piece place less)
-      ∙ ap (λ byte. received_all (received_byte now byte) (drop (place + 1) piece)) is
-      ∙ ap (λ then. received_all then (drop (place + 1) piece)) begins
+    pub received-ends : received_all received left ≡ received_all (ended received (take place left)) (drop (place + 1) left)
+    received-ends =
+        ap (received_all received) parts
+        ∙ ap (λ now. received_all now (take place left ++ 10 ∷ drop (place + 1) left)) (grown-none received few)
+        ∙ received-on received [] (take place left) (10 ∷ drop (place + 1) left) (no-feed left place none)
 
-  pub answers-end : get_or piece place 0 ≡ 10 → answers_to (grown received (slice_range piece start place)) (drop place piece) ≡ (line_answer received.world (kept received.line (slice_range piece start place))).text ++ answers_to (grown (ended received (slice_range piece start place)) (slice_range piece (place + 1) (place + 1))) (drop (place + 1) piece)
-  answers-end is =
-      let now = grown received (slice_range piece start place) in
-      ap (answers_to now) (rest-cons piece place less)
-      ∙ ap (λ byte. answer_to_byte now byte ++ answers_to (received_byte now byte) (drop (place + 1) piece)) is
-      ∙ ap (λ then. (line_answer received.world (kept received.line (slice_range piece start place))).text ++ answers_to then (drop (place + 1) piece)) begins
+    pub answers-end : answers_to received left ≡ (line_answer received.world (kept received.line (take place left))).text ++ answers_to (ended received (take place left)) (drop (place + 1) left)
+    answers-end =
+        ap (answers_to received) parts
+        ∙ ap (λ now. answers_to now (take place left ++ 10 ∷ drop (place + 1) left)) (grown-none received few)
+        ∙ answers-on received [] (take place left) (10 ∷ drop (place + 1) left) (no-feed left place none)

@@ -1,3 +1,4 @@
+use memchr::memchr;
 use std::alloc::Global;
 use std::marker::Model;
 use tq_answering::Shell;
@@ -49,14 +50,12 @@ impl Receiver {
         ensures after { OnOk result (self.new ≡ received_all self.old piece.now) }
     {
         let _ = &self.line;
-        let mut start = 0;
-        for (place, byte) in piece.iter().enumerate() {
-            if *byte == b'\n' {
-                self.end_line(alloc, &piece[start..place], text)?;
-                start = place + 1;
-            }
+        let mut left = piece;
+        while let Some(place) = memchr(b'\n', left) {
+            self.end_line(alloc, &left[..place], text)?;
+            left = &left[place + 1..];
         }
-        self.keep(&piece[start..])?;
+        self.keep(left)?;
         Ok(())
     }
 
