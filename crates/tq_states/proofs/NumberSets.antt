@@ -3,7 +3,8 @@ use Rattle.std.proofs.Common.{◌≡◌, ℕ, ◌<◌, Bool, true, false, ◌&&�
 use Rattle.std.specs.List.{list_all, list_any}
 use Rattle.std.proofs.lemmas.Bool.{and_parts, and_from, eqb-true, lt-ltb, or_parts, false≢true}
 use Rattle.std.proofs.lemmas.Bool.Decides.{nat_tests}
-use Rattle.tq_coterie.specs.Coterie.{has, with_server}
+use Rattle.tq_shape.specs.Tree.{Server}
+use Rattle.tq_coterie.specs.Coterie.{has, numbers_of, with_server}
 use Rattle.tq_coterie.proofs.Sets.{has-with_server}
 use Rattle.tq_evidence.specs.Evidence.{rises}
 use Rattle.tq_states.specs.Sets.{IsWithin, put, with_number, with_numbers}
@@ -94,3 +95,11 @@ has-all p (first ∷ rest) n all here =
       | true ↦ λ is _. subst (λ m. p m ≡ true) (eqb-true first n is) parts.0
       | false ↦ λ is more. has-all p rest n parts.1 more
     ] refl here
+
+-- a set that has each of the servers does not grow by them
+pub with_numbers-held : (ids others : List Server) → list_all (λ other. list_any (λ id. id.number == other.number) ids) others ≡ true → with_numbers (numbers_of ids) (numbers_of others) ≡ numbers_of ids
+with_numbers-held ids [] all = refl
+with_numbers-held ids (other ∷ others) all =
+    let parts = and_parts _ _ all in
+    let here : has (numbers_of ids) other.number ≡ true = has-map (λ id. id.number) ids other.number ∙ parts.0 in
+    ap (λ b. with_numbers (cond b (numbers_of ids) (with_server other.number (numbers_of ids))) (numbers_of others)) here ∙ with_numbers-held ids others parts.1

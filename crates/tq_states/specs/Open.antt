@@ -1,5 +1,5 @@
 -- An open transaction: what it has read and written, and what an answer that it is told makes of it.
-use Rattle.std.specs.Prelude.{◌≡◌, ◌==◌, ◌+◌, ◌^◌, ℕ, Bool, true, false, not, ◌&&◌, nat_lt, nat_le, List, [], ◌∷◌, map, length, Option, Some, None, is_none, if◌then◌else◌}
+use Rattle.std.specs.Prelude.{◌≡◌, ◌==◌, ◌+◌, ◌^◌, ℕ, Bool, true, false, not, ◌&&◌, nat_lt, nat_le, List, [], length, Option, Some, None, is_none, if◌then◌else◌}
 use Rattle.std.specs.List.{list_any, find, filter_map}
 use Rattle.std.specs.Option.{option_map}
 use Rattle.std.specs.Ordering.{is_lt}
@@ -8,7 +8,7 @@ use Rattle.tq_store.specs.Copies.{name_cmp}
 use Rattle.tq_store.specs.declared.copies.FileCopy.{FileCopy}
 use Rattle.tq_locks.specs.Locks.{is_exclusive}
 use Rattle.tq_locks.specs.declared.mode.Mode.{Mode}
-use Rattle.tq_coterie.specs.Coterie.{has, is_quorum}
+use Rattle.tq_coterie.specs.Coterie.{ServerList, has, is_quorum}
 use Rattle.tq_node.specs.declared.ask.NodeAsk.{NodeAsk}
 use Rattle.tq_node.specs.declared.ask.NodeAsk.TheVariants.{Work}
 use Rattle.tq_node.specs.declared.ask.NodeReply.{NodeReply}
@@ -177,6 +177,11 @@ write_after old file content answers = taken old (write_op file content (grants_
 
 abbrev pub touched_by : OpenView → ℕ → OpenView
 touched_by old server = record old { touched = with_number old.touched server }
+
+-- with the servers of which room was made to note one, where it was not noted
+abbrev pub noted : OpenView → Option ServerList → OpenView
+noted old None = old
+noted old (Some ready) = record old { touched = ready.servers }
 
 -- the transaction afterwards: each server that granted it a lock is still noted, there may be more, and all else is as it was
 pub record IsTouched (old after : OpenView) : Type 0 where

@@ -1,8 +1,8 @@
 -- Lists in order: sets of servers as the ascending lists of their numbers, and a value put at its place.
-use Rattle.std.specs.Prelude.{◌≡◌, ◌==◌, ℕ, Bool, true, List, [], ◌∷◌, fold, if◌then◌else◌}
+use Rattle.std.specs.Prelude.{◌≡◌, ◌==◌, ℕ, Bool, true, List, [], ◌∷◌, Option, None, Some, fold, if◌then◌else◌}
 use Rattle.std.specs.List.{list_all}
 use Rattle.tq_shape.specs.Tree.{Server}
-use Rattle.tq_coterie.specs.Coterie.{has, with_server, numbers_of}
+use Rattle.tq_coterie.specs.Coterie.{ServerList, has, with_server, numbers_of}
 use Rattle.tq_evidence.specs.Evidence.{rises}
 
 -- the set with a server, which it may have already
@@ -11,6 +11,11 @@ with_number numbers number = if has numbers number then numbers else with_server
 
 abbrev pub with_numbers : List ℕ → List ℕ → List ℕ
 with_numbers numbers others = fold with_number numbers others
+
+-- the set that one grew to, where it grew
+abbrev pub grown_to : ServerList → Option ServerList → ServerList
+grown_to old None = old
+grown_to old (Some grown) = grown
 
 -- each server of the first set is in the second
 abbrev pub IsWithin : List ℕ → List ℕ → Type 0

@@ -163,26 +163,30 @@ impl Open {
         self.touched.insert(server)
     }
 
-    /// Makes room to note a server, before it is asked for a lock.
-    pub fn room_for(&self, _alloc: Global, server: ServerId) -> Result<Noting, Memory>
+    /// Makes room to note a server, before it is asked for a lock; none where it is noted already.
+    pub fn room_for(&self, _alloc: Global, server: ServerId) -> Result<Option<Noting>, Memory>
         requires { server.levels ≡ self.now.levels }
-        ensures value { IfOk result (λ noting. noting ≡ record { servers = sets.with_number self.now.touched server.number; levels = self.now.levels }) }
-        ensures kept { IfOk result (λ noting. sets.IsWithin self.now.touched noting.servers) }
+        ensures value { IfOk result (λ noting. spec.noted self.now noting ≡ spec.touched_by self.now server.number) }
+        ensures levels { IfOk result (λ noting. IfSome noting (λ ready. ready.levels ≡ self.now.levels)) }
+        ensures kept { IfOk result (λ noting. IfSome noting (λ ready. sets.IsWithin self.now.touched ready.servers)) }
     {
-        let mut servers = self.touched.copy_for(1)?;
-        servers.insert(server)?;
-        Ok(Noting::new(servers))
+        match self.touched.with(&[server])? {
+            Some(servers) => Ok(Some(Noting::new(servers))),
+            None => Ok(None),
+        }
     }
 
     /// Notes that the server for which room was made granted it a lock. It takes no memory.
-    pub fn note(&mut self, noting: Noting)
-        requires levels { noting.levels ≡ self.old.levels }
-        requires kept { sets.IsWithin self.old.touched noting.servers }
-        ensures after { self.new ≡ record self.old { touched = noting.servers } }
+    pub fn note(&mut self, noting: Option<Noting>)
+        requires levels { IfSome noting (λ ready. ready.levels ≡ self.old.levels) }
+        requires kept { IfSome noting (λ ready. sets.IsWithin self.old.touched ready.servers) }
+        ensures after { self.new ≡ spec.noted self.old noting }
         ensures cited { (told : List NodeTold) → KeepsOnly told self.old → KeepsOnly told self.new }
         ensures still { spec.IsTouched self.old self.new }
     {
-        self.touched = noting.into_servers();
+        if let Some(noting) = noting {
+            self.touched.replace(noting.into_servers());
+        }
     }
 
     /// Reads a file by the answers of a quorum: the first copy of the greatest version granted. A fault leaves the
@@ -350,8 +354,8 @@ impl Open {
         let voters = self.voters.with(quorum.servers())?;
         let touched = self.touched.with(quorum.servers())?;
         put_in_order(&mut self.ops, op)?;
-        self.voters = voters;
-        self.touched = touched;
+        self.voters.grow(voters);
+        self.touched.grow(touched);
         Ok(())
     }
 }

@@ -1,7 +1,7 @@
 ghost use Rattle.std.specs.Prelude.{◌≡◌, ◌==◌, ◌<◌, ◌≤◌, [], true, length, nat_lt, position, IfOk, IfSome, OnOk, OnErr};
 ghost use Rattle.std.specs.List.{list_all, list_any};
 ghost use Rattle.tq_coterie.specs.Coterie.{has, numbers_of};
-ghost use Rattle.tq_states.specs.Sets.{IsServerSet, put, with_number, with_numbers};
+ghost use Rattle.tq_states.specs.Sets.{IsServerSet, grown_to, put, with_number, with_numbers};
 ghost use Rattle.tq_states.specs.Places.{place_before};
 
 use std::alloc::Global;
@@ -77,16 +77,35 @@ impl Servers {
         })
     }
 
-    /// The set with other servers of its tree.
-    pub(crate) fn with(&self, others: &[ServerId]) -> Result<Servers, Memory>
+    /// The set with other servers of its tree; none where it has them all.
+    pub(crate) fn with(&self, others: &[ServerId]) -> Result<Option<Servers>, Memory>
         requires { list_all (λ id. id.levels == self.now.levels) others.now ≡ true }
-        ensures { IfOk result (λ all. all ≡ record { servers = with_numbers self.now.servers (numbers_of others.now); levels = self.now.levels }) }
+        ensures { IfOk result (λ grown. grown_to self.now grown ≡ record { servers = with_numbers self.now.servers (numbers_of others.now); levels = self.now.levels }) }
     {
+        if have_all(self.ids.as_slice(), others) {
+            return Ok(None);
+        }
         let mut all = self.copy_for(others.len())?;
         for id in others {
             all.insert(*id)?;
         }
-        Ok(all)
+        Ok(Some(all))
+    }
+
+    /// Grows to a set, if there is one.
+    pub(crate) fn grow(&mut self, grown: Option<Servers>)
+        ensures { self.new ≡ grown_to self.old grown }
+    {
+        if let Some(servers) = grown {
+            self.replace(servers);
+        }
+    }
+
+    /// Ends the set, and puts this one in its place.
+    pub(crate) fn replace(&mut self, servers: Servers)
+        ensures { self.new ≡ servers }
+    {
+        *self = servers;
     }
 }
 
@@ -94,6 +113,13 @@ fn has_number(ids: &[ServerId], number: u64) -> bool
     ensures { result ≡ list_any (λ id. id.number == number) ids.now }
 {
     ids.iter().any(|id| id.number() == number)
+}
+
+/// Whether each of the others is among the servers.
+fn have_all(ids: &[ServerId], others: &[ServerId]) -> bool
+    ensures { result ≡ list_all (λ other. list_any (λ id. id.number == other.number) ids.now) others.now }
+{
+    others.iter().all(|other| has_number(ids, other.number()))
 }
 
 /// Puts the server before the first above it.

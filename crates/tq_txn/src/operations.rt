@@ -202,8 +202,12 @@ fn lock_quorum<A: Asker>(
         mode,
         ask,
     };
-    let mut answers = Vec::new(alloc);
-    match lock_each(asker, alloc, open, &lock, quorum.servers(), &mut answers) {
+    let servers = quorum.servers();
+    let mut answers = match Vec::with_capacity(alloc, servers.len()) {
+        Ok(answers) => answers,
+        Err(_) => return Err(LineFault::Memory),
+    };
+    match lock_each(asker, alloc, open, &lock, servers, &mut answers) {
         Ok(()) => Ok(Seq::from_vec(answers)),
         Err(fault) => Err(fault),
     }

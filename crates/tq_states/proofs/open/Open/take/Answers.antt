@@ -23,7 +23,9 @@ pub invariant_of-self-2 : goal.invariant_of-self-2
 invariant_of-self-2 c =
     let f = c.self.inside in
     let good = rw (← c.self.view_is) at c.requires.good in
-    let voters = ap (λ (v : ServerList). v.servers) c.in_ok-voters.ensures ∙ ap (with_numbers f.voters.servers) (c.servers.ensures.numbers ∙ ap (λ (q : ServerList). q.servers) c.requires.quorum) in (
+    let voters_grown = c.grow.ensures ∙ c.in_ok-voters.ensures in
+    let touched_grown = c.grow-2.ensures ∙ c.in_ok-touched.ensures in
+    let voters = ap (λ (v : ServerList). v.servers) voters_grown ∙ ap (with_numbers f.voters.servers) (c.servers.ensures.numbers ∙ ap (λ (q : ServerList). q.servers) c.requires.quorum) in (
       IsOpen-with record { levels = f.levels; limits = f.limits; txn = f.txn; ops = f.ops.items; voters = f.voters.servers; touched = f.touched.servers } c.args.op _ _ _ c.in_ok-put_in_order.ensures.ok voters good c.self.invariant.0,
-      (ap (λ (v : ServerList). v.levels) c.in_ok-voters.ensures ∙ c.self.invariant.1.0, ap (λ (v : ServerList). v.levels) c.in_ok-touched.ensures ∙ c.self.invariant.1.1),
+      (ap (λ (v : ServerList). v.levels) voters_grown ∙ c.self.invariant.1.0, ap (λ (v : ServerList). v.levels) touched_grown ∙ c.self.invariant.1.1),
     )
