@@ -50,6 +50,14 @@ Agrees-same old new locks a same files txns =
       of_txn = λ t. (λ i. map (λ k. at k i) (txns t i)) ∙ a.of_txn t;
     }
 
+-- a place in a transaction's keys, where the slots and the keys stay
+pub RisesTo-same : (old new : KeyedLocks) (name : LockKey) (txn at : ℕ) → txn ≡ name.1 → new.entries.slots ≡ old.entries.slots → ((t : ℕ) → keys_under new.by_txn t ≡ keys_under old.by_txn t)
+    → RisesTo old.entries (keys_under old.by_txn name.1) name at → RisesTo new.entries (keys_under new.by_txn txn) name at
+RisesTo-same old new name txn at is_txn same txns rises entries listed sorted =
+    let value : (k : ℕ) → get old.entries k ≡ get new.entries k = λ k. ap (λ (slots : List (Option Entry)). get (record { slots = slots; vacant_key = 0; capacity = 0 }) k) (sym same) in
+    let keys : keys_under old.by_txn name.1 ≡ keys_under new.by_txn txn = sym (txns name.1) ∙ ap (keys_under new.by_txn) (sym is_txn) in
+    rises entries ((λ i. map (λ k. value k i) (keys i)) ∙ listed) sorted
+
 -- what is under the key that a search found is the lock that the table has
 pub found_lock : (kept : KeyedLocks) (locks : Locks) (name : LockKey) (found : Option ℕ) → Agrees kept locks → IfSome found (λ key. IsOf kept.entries key name) → IfNone found (fin.get locks name ≡ None) → lock_found kept.entries found ≡ fin.get locks name
 found_lock kept locks name None a some none = sym none

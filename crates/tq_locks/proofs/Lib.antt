@@ -10,3 +10,4 @@ pub mod Walked
 pub mod Copied
 pub mod Locked
 pub mod TakenOut
+pub mod Indexed

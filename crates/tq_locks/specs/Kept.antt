@@ -1,5 +1,5 @@
 -- The locks of a table as it keeps them: entries under keys, and the keys of each file and of each transaction.
-use Rattle.std.specs.Prelude.{◌≡◌, ℕ, T, Bool, List, Option, length, map, filter, Some, true, false, nat_eq, if◌then◌else◌}
+use Rattle.std.specs.Prelude.{◌≡◌, ◌≤◌, ℕ, T, Bool, List, Option, length, map, filter, Some, true, false, nat_eq, if◌then◌else◌}
 use Rattle.std.specs.List.{IsDistinct, remove}
 use Rattle.std.specs.BTreeMap.{is_at}
 use Rattle.std.specs.Option.{option_map, option_map_or, option_and_then}
@@ -9,7 +9,9 @@ use Rattle.slab.specs.Slab.{Slab, get, values}
 use Rattle.tq_store.specs.Copies.{name_cmp}
 use Rattle.tq_store.specs.Names.{same_name}
 use Rattle.tq_locks.specs.declared.keyed.KeyedLocks.{KeyedLocks}
+use Rattle.indexmap.specs.IndexMap.{index_of}
 use Rattle.tq_locks.specs.declared.mode.Lock.{Lock}
+use Rattle.tq_locks.specs.declared.numbered.Spot.{Spot}
 use Rattle.tq_locks.specs.Locks.{LockKey, Locks, lock_cmp, held_of}
 use Rattle.tq_locks.specs.Keys.{keys_at, keys_under, place}
 
@@ -45,6 +47,16 @@ is_under slab name key = option_map_or (λ entry. is_lt (lock_cmp entry.0 name))
 -- where the entries of the keys rise, so many of them are below a key of the set
 abbrev pub RisesTo : Slab (LockKey × Lock) → List ℕ → LockKey → ℕ → Type 0
 RisesTo slab keys key count = (entries : List (LockKey × Lock)) → AreKeysOf slab keys entries → T (fin.is_sorted lock_cmp entries) → count ≡ place lock_cmp key entries
+
+-- these are the keys of a transaction, and the key of its lock on a file stands or goes at the place
+pub record IsPlaceUnder (kept : KeyedLocks) (name : LockKey) (keys : List ℕ) (place : ℕ) : Type 0 where
+  pub all : keys ≡ keys_under kept.by_txn name.1
+  pub within : place ≤ length keys
+  pub rises : RisesTo kept.entries keys name place
+
+-- the spot has the index of the transaction's keys, and the place of its lock on a file
+abbrev pub IsSpotOf : KeyedLocks → LockKey → Spot → Type 0
+IsSpotOf kept name spot = (spot.index ≡ index_of nat_eq kept.by_txn name.1) × IsPlaceUnder kept name (keys_under kept.by_txn name.1) spot.place
 
 -- the entry under a key is the lock of this file and transaction
 abbrev pub IsOf : Slab (LockKey × Lock) → ℕ → LockKey → Type 0

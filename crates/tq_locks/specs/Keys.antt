@@ -1,10 +1,10 @@
 -- Lists of keys, each under a name.
-use Rattle.std.specs.Prelude.{ℕ, suc, List, [], ◌∷◌, nat_eq, IsSomeAnd, if◌then◌else◌, ◌++◌, filter_map}
+use Rattle.std.specs.Prelude.{◌≡◌, ◌<◌, ℕ, suc, List, [], ◌∷◌, Option, Some, None, nat_eq, if◌then◌else◌, ◌++◌, filter_map, slice_get}
 use Rattle.slab.specs.Slab.{Slab, get as in_slab}
 use Rattle.std.specs.Option.{option_map_or}
 use Rattle.smallvec.specs.SmallVec.{SmallVec, HasRoomFor}
 use Rattle.std.specs.BTreeMap.{BTreeMap, get}
-use Rattle.indexmap.specs.IndexMap.{IndexMap, get as get_hashed}
+use Rattle.indexmap.specs.IndexMap.{IndexMap, get as get_hashed, spare}
 use Rattle.std.specs.Ordering.{is_lt}
 use Rattle.std.specs.declared.cmp.Ordering.{Ordering}
 
@@ -17,9 +17,10 @@ module _ {K : Type 0} (cmp : K → K → Ordering) where
 abbrev pub keys_under : {S : Type 0} → IndexMap ℕ (SmallVec ℕ) S → ℕ → List ℕ
 keys_under lists number = option_map_or (λ keys. keys.items) (get_hashed nat_eq lists number) []
 
--- a number's list has room for one more key
-abbrev pub HasRoomUnder : {S : Type 0} → IndexMap ℕ (SmallVec ℕ) S → ℕ → Type 0
-HasRoomUnder lists number = IsSomeAnd (get_hashed nat_eq lists number) (λ keys. HasRoomFor keys 1)
+-- a number's list is at this index and has room for one more key, or there is none, and room for one
+abbrev pub HasRoomUnder : {S : Type 0} → IndexMap ℕ (SmallVec ℕ) S → ℕ → Option ℕ → Type 0
+HasRoomUnder lists number None = (get_hashed nat_eq lists number ≡ None) × (0 < spare lists)
+HasRoomUnder lists number (Some index) = (keys : SmallVec ℕ) × (slice_get lists.entries index ≡ Some (number, keys)) × (get_hashed nat_eq lists number ≡ Some keys) × HasRoomFor keys 1
 
 -- how many of the first entries are below a key: where it goes in their order
 abbrev pub place : {K X : Type 0} → (K → K → Ordering) → K → List (K × X) → ℕ

@@ -11,7 +11,8 @@ ghost use Rattle.tq_locks.specs.Keys.{keys_at, keys_under, place, told};
 
 use crate::lists::{Keys, add, listed, place, take};
 use crate::numbered::{
-    end_empty_under, listed_under, make_room_under, put_under, take_all_under, take_under,
+    Spot, end_empty_under, list_under, listed_under, make_room_under, put_under, take_all_under,
+    take_under,
 };
 use crate::{Lock, LockEntry};
 use indexmap::IndexMap;
@@ -30,8 +31,15 @@ pub(crate) struct KeyedLocks {
     alloc: Global,
 }
 
+/// The key of a lock, if there is one, and its spot among the keys of its transaction.
+#[derive(Clone, Copy)]
+pub(crate) struct Found {
+    pub(crate) spot: Spot,
+    pub(crate) key: Option<usize>,
+}
+
 impl KeyedLocks {
-    ghost use Rattle.tq_locks.specs.Kept.{is_under, locks_in, lock_found, on_file, Agrees, AreKeysOf, IsOf, IsStableAt, LeftFile, RisesTo, steady};
+    ghost use Rattle.tq_locks.specs.Kept.{is_under, locks_in, lock_found, on_file, Agrees, AreKeysOf, IsOf, IsPlaceUnder, IsSpotOf, IsStableAt, LeftFile, RisesTo, steady};
     ghost use Rattle.tq_locks.specs.declared.mode.Lock.{Lock};
 
     pub(crate) fn new(alloc: Global) -> KeyedLocks
@@ -76,13 +84,29 @@ impl KeyedLocks {
         }
     }
 
-    /// The key of the entry of a file and a transaction.
-    pub(crate) fn find(&self, file: &FileName, txn: u64) -> Option<usize>
-        ensures some { Agrees self.now (locks_in self.now) → IfSome result (λ key. IsOf self.now.entries key (file.now, txn)) }
-        ensures none { Agrees self.now (locks_in self.now) → IfNone result (fin.get (locks_in self.now) (file.now, txn) ≡ None) }
+    /// Where the key of a file and a transaction is, or would go.
+    pub(crate) fn find(&self, file: &FileName, txn: u64) -> Found
+        ensures some { Agrees self.now (locks_in self.now) → IfSome result.key (λ key. IsOf self.now.entries key (file.now, txn)) }
+        ensures none { Agrees self.now (locks_in self.now) → IfNone result.key (fin.get (locks_in self.now) (file.now, txn) ≡ None) }
+        ensures spot { IsSpotOf self.now (file.now, txn) result.spot }
     {
-        let keys = self.keys_of_txn(txn);
-        let key = *keys.get(place(&self.entries, keys, file, txn))?;
+        let list = list_under(&self.by_txn, txn);
+        let place = place(&self.entries, list.1, file, txn);
+        Found {
+            spot: Spot {
+                index: list.0,
+                place,
+            },
+            key: self.key_at(list.1, place, file),
+        }
+    }
+
+    // The key at the place of a file in the keys of a transaction, if it's that of an entry of the file.
+    fn key_at(&self, keys: &[usize], place: usize, file: &FileName) -> Option<usize>
+        ensures some { (txn : ℕ) → IsPlaceUnder self.now (file.now, txn) keys.now place → Agrees self.now (locks_in self.now) → IfSome result (λ key. IsOf self.now.entries key (file.now, txn)) }
+        ensures none { (txn : ℕ) → IsPlaceUnder self.now (file.now, txn) keys.now place → Agrees self.now (locks_in self.now) → IfNone result (fin.get (locks_in self.now) (file.now, txn) ≡ None) }
+    {
+        let key = *keys.get(place)?;
         let entry = self.entry(key)?;
         if entry.file == *file { Some(key) } else { None }
     }
@@ -95,15 +119,16 @@ impl KeyedLocks {
         Some(entry.lock)
     }
 
-    /// Keeps a new entry. Without memory the locks stay as they were.
-    pub(crate) fn insert(&mut self, entry: LockEntry) -> Result<(), AllocError>
+    /// Keeps a new entry, whose key goes to the spot. Without memory the locks stay as they were.
+    pub(crate) fn insert(&mut self, entry: LockEntry, spot: Spot) -> Result<(), AllocError>
         requires agreed { Agrees self.old (locks_in self.old) }
         requires absent { fin.get (locks_in self.old) entry.0 ≡ None }
+        requires spot { IsSpotOf self.old entry.0 spot }
         ensures ok { OnOk result (Agrees self.new (fin.insert (locks_in self.old) entry.0 entry.1)) }
         ensures err { OnErr result (Agrees self.new (locks_in self.old)) }
     {
         self.entries.reserve(1)?;
-        make_room_under(self.alloc, &mut self.by_txn, entry.txn)?;
+        make_room_under(&mut self.by_txn, entry.txn, spot.index)?;
         let key = self.entries.vacant_key();
         // The last that can fail makes the first change.
         add(
@@ -114,7 +139,7 @@ impl KeyedLocks {
             &entry,
             key,
         )?;
-        put_under(&mut self.by_txn, &self.entries, entry.txn, &entry, key);
+        put_under(self.alloc, &mut self.by_txn, entry.txn, spot, key);
         self.entries.insert_reserved(entry);
         Ok(())
     }
@@ -139,10 +164,10 @@ impl KeyedLocks {
         ensures entries { Updates self.old.entries self.new.entries key None }
         ensures fewer { IsSome (get self.old.entries key) → slab_len self.new.entries + 1 ≡ slab_len self.old.entries }
     {
-        let Some(entry) = self.entries.get(key).copied() else {
+        let Some(entry) = self.entries.get(key) else {
             return;
         };
-        take_under(&mut self.by_txn, &self.entries, entry.txn, &entry, key);
+        take_under(&mut self.by_txn, &self.entries, entry.txn, entry, key);
         self.leave_file(key);
     }
 
@@ -153,11 +178,11 @@ impl KeyedLocks {
         ensures entries { Updates self.old.entries self.new.entries key None }
         ensures fewer { IsSome (get self.old.entries key) → slab_len self.new.entries + 1 ≡ slab_len self.old.entries }
     {
-        let Some(entry) = self.entries.get(key).copied() else {
+        let Some(entry) = self.entries.get(key) else {
             return;
         };
-        take(&mut self.by_file, &self.entries, &entry.file, &entry, key);
-        let _ = self.entries.try_remove(key);
+        take(&mut self.by_file, &self.entries, &entry.file, entry, key);
+        self.entries.remove(key);
     }
 
     /// An equal one, with memory of its own.

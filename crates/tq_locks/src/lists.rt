@@ -86,7 +86,7 @@ pub(crate) fn add<K: Ord + Copy + Drop>(
 }
 
 /// A list of one key.
-fn only(alloc: Global, key: usize) -> Keys
+pub(crate) fn only(alloc: Global, key: usize) -> Keys
     ensures { result.items ≡ key ∷ [] }
 {
     let mut keys = Keys::new(alloc);
@@ -117,23 +117,27 @@ pub(crate) fn take<K: Ord + Copy + Drop>(
 }
 
 /// Puts the key of an entry into its place in a list that has room, and tells the place.
-pub(crate) fn enter(
-    keys: &mut Keys,
-    entries: &Slab<LockEntry>,
-    entry: &LockEntry,
-    key: usize,
-) -> usize
+fn enter(keys: &mut Keys, entries: &Slab<LockEntry>, entry: &LockEntry, key: usize) -> usize
     requires { HasRoomFor keys.old 1 }
     ensures place { RisesTo entries.now keys.old.items entry.now.0 result }
     ensures after { keys.new.items ≡ insert keys.old.items result key }
 {
     let place = place(entries, keys.as_slice(), &entry.file, entry.txn);
+    put_in(keys, place, key);
+    place
+}
+
+/// Puts a key into its place in a list that has room.
+pub(crate) fn put_in(keys: &mut Keys, place: usize, key: usize)
+    requires room { HasRoomFor keys.old 1 }
+    requires within { place ≤ length keys.old.items }
+    ensures { keys.new.items ≡ insert keys.old.items place key }
+{
     if place == keys.len() {
         keys.push_reserved(key);
     } else {
         let _room_was_made = keys.insert(place, key);
     }
-    place
 }
 
 /// Takes the key of an entry out of a list, and tells its place.

@@ -1,12 +1,13 @@
 //! Lists of keys, each under a number: an index of a slab whose lists have no order.
-ghost use Rattle.std.specs.Prelude.{◌≡◌, ◌==◌, ℕ, OnOk, Some, [], if◌then◌else◌};
+ghost use Rattle.std.specs.Prelude.{◌≡◌, ◌==◌, ◌≤◌, ℕ, OnOk, Some, [], if◌then◌else◌, length, nat_eq};
+ghost use Rattle.indexmap.specs.IndexMap.{index_of};
 ghost use Rattle.std.specs.List.{insert, remove};
 ghost use Rattle.slab.specs.Slab.{get};
 ghost use Rattle.tq_locks.specs.Keys.{keys_under, HasRoomUnder};
 ghost use Rattle.tq_locks.specs.Kept.{RisesTo};
 
 use crate::LockEntry;
-use crate::lists::{Keys, enter, leave};
+use crate::lists::{Keys, leave, only, put_in};
 use indexmap::IndexMap;
 use slab::Slab;
 use std::alloc::{AllocError, Global};
@@ -21,37 +22,65 @@ pub(crate) fn listed_under(lists: &IndexMap<u64, Keys>, number: u64) -> &[usize]
     }
 }
 
-/// Makes room for one more key under a number.
+/// The index of a number's list, if there is one, and its keys.
+pub(crate) fn list_under(lists: &IndexMap<u64, Keys>, number: u64) -> (Option<usize>, &[usize])
+    ensures index { result.0 ≡ index_of nat_eq lists.now number }
+    ensures keys { result.1.now ≡ keys_under lists.now number }
+{
+    match lists.get_full(&number) {
+        Some(list) => (Some(list.0), list.2.as_slice()),
+        None => (None, &[]),
+    }
+}
+
+/// The place of a key in the list of its number.
+#[derive(Clone, Copy)]
+pub(crate) struct Spot {
+    /// The index of the list, if there is one.
+    pub(crate) index: Option<usize>,
+    pub(crate) place: usize,
+}
+
+/// Makes room for one more key under a number, whose list is at the index.
 pub(crate) fn make_room_under(
+    lists: &mut IndexMap<u64, Keys>,
+    number: u64,
+    index: Option<usize>,
+) -> Result<(), AllocError>
+    requires { index ≡ index_of nat_eq lists.old number }
+    ensures same { (other : ℕ) → keys_under lists.new other ≡ keys_under lists.old other }
+    ensures room { OnOk result (HasRoomUnder lists.new number index) }
+{
+    match index {
+        Some(index) => match lists.get_index_mut(index) {
+            Some(keys) => keys.reserve(1),
+            None => Ok(()),
+        },
+        None => lists.reserve(1),
+    }
+}
+
+/// Puts a key into its place under a number, for which there is room.
+pub(crate) fn put_under(
     alloc: Global,
     lists: &mut IndexMap<u64, Keys>,
     number: u64,
-) -> Result<(), AllocError>
-    ensures same { (other : ℕ) → keys_under lists.new other ≡ keys_under lists.old other }
-    ensures room { OnOk result (HasRoomUnder lists.new number) }
-{
-    if let Some(keys) = lists.get_mut(&number) {
-        return keys.reserve(1);
-    }
-    lists.insert(number, Keys::new(alloc))?;
-    Ok(())
-}
-
-/// Puts the key of an entry into its place in a number's list, for which there is room, and tells the place.
-pub(crate) fn put_under(
-    lists: &mut IndexMap<u64, Keys>,
-    entries: &Slab<LockEntry>,
-    number: u64,
-    entry: &LockEntry,
+    spot: Spot,
     key: usize,
-) -> usize
-    requires { HasRoomUnder lists.old number }
-    ensures place { RisesTo entries.now (keys_under lists.old number) entry.now.0 result }
-    ensures after { (other : ℕ) → keys_under lists.new other ≡ (if number == other then insert (keys_under lists.old number) result key else keys_under lists.old other) }
+)
+    requires room { HasRoomUnder lists.old number spot.index }
+    requires within { spot.place ≤ length (keys_under lists.old number) }
+    ensures { (other : ℕ) → keys_under lists.new other ≡ (if number == other then insert (keys_under lists.old number) spot.place key else keys_under lists.old other) }
 {
-    match lists.get_mut(&number) {
-        Some(keys) => enter(keys, entries, entry, key),
-        None => 0,
+    match spot.index {
+        Some(index) => {
+            if let Some(keys) = lists.get_index_mut(index) {
+                put_in(keys, spot.place, key);
+            }
+        }
+        None => {
+            let _room_was_made = lists.insert(number, only(alloc, key));
+        }
     }
 }
 

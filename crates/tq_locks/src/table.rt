@@ -135,7 +135,7 @@ impl LockTable {
         ensures value { result ≡ fin.get self.now (file, txn) }
         ensures no_conflict { HasNoConflict self.now }
     {
-        self.kept.lock_at(self.kept.find(&file, txn))
+        self.kept.lock_at(self.kept.find(&file, txn).key)
     }
 
     /// Grants a lock that nothing blocks. Without memory the table stays as it was.
@@ -153,10 +153,10 @@ impl LockTable {
         ensures err { OnErr result (self.new ≡ self.old) }
     {
         let found = self.kept.find(&file, txn);
-        let lock = Lock::after(self.kept.lock_at(found), mode, number, version);
-        match found {
+        let lock = Lock::after(self.kept.lock_at(found.key), mode, number, version);
+        match found.key {
             Some(key) => self.kept.set_lock(key, lock),
-            None => self.kept.insert(LockEntry { file, txn, lock })?,
+            None => self.kept.insert(LockEntry { file, txn, lock }, found.spot)?,
         }
         Ok(())
     }

@@ -12,7 +12,7 @@ use Rattle.tq_locks.proofs.keyed.KeyedLocks.leave_file.Goals as goal
 pub returns-clause-left : goal.returns-clause-left
 returns-clause-left c name is =
     let old = c.args.self.now in
-    let same : c.in-Some.entry ≡ (name, is.0) = some_same c.in-Some.entry (name, is.0) (c.in-Some.ensures ∙ c.get.ensures ∙ is.1) in
+    let same : c.in-Some.entry.now ≡ (name, is.0) = some_same c.in-Some.entry.now (name, is.0) (c.in-Some.ensures ∙ is.1) in
     let file : c.entry.inside.file ≡ name.0 = ap (λ (x : LockKey × Lock). x.0.0) (c.entry.view_is ∙ same) in
     record {
       place = c.take.result;

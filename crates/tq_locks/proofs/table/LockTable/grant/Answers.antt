@@ -32,25 +32,25 @@ module _ (old new : KeyedLocks) (locks : spec.Locks) (file : List ℕ) (txn : �
 
 pub invariant_of-self : goal.invariant_of-self
 invariant_of-self c =
-    whole c.self.inside.kept c.set_lock.new.self c.args.self.now c.args.file c.args.txn c.args.mode c.args.number c.args.version c.find-found.result c.lock_at.result c.after-lock.result
-    c.self.view_is c.self.invariant c.find-found.ensures.some c.find-found.ensures.none c.lock_at.ensures c.after-lock.ensures c.requires (c.set_lock.ensures.agreed (c.args.file, c.args.txn) (c.in-Some.ensures.some c.self.invariant.0))
+    whole c.self.inside.kept c.set_lock.new.self c.args.self.now c.args.file c.args.txn c.args.mode c.args.number c.args.version c.find-found.result.key c.lock_at.result c.after-lock.result
+    c.self.view_is c.self.invariant c.find-found.ensures.some c.find-found.ensures.none c.lock_at.ensures c.after-lock.ensures c.requires (c.set_lock.ensures.agreed (c.args.file, c.args.txn) (subst (λ found. IfSome found (λ key. IsOf c.self.inside.kept.entries key (c.args.file, c.args.txn))) c.in-Some.is (c.find-found.ensures.some c.self.invariant.0)))
 
 pub returns-in-Some-clause-ok : goal.returns-in-Some-clause-ok
 returns-in-Some-clause-ok c =
-    value c.self.inside.kept c.set_lock.new.self c.args.self.now c.args.file c.args.txn c.args.mode c.args.number c.args.version c.find-found.result c.lock_at.result c.after-lock.result
-    c.self.view_is c.self.invariant c.find-found.ensures.some c.find-found.ensures.none c.lock_at.ensures c.after-lock.ensures c.requires (c.set_lock.ensures.agreed (c.args.file, c.args.txn) (c.in-Some.ensures.some c.self.invariant.0))
+    value c.self.inside.kept c.set_lock.new.self c.args.self.now c.args.file c.args.txn c.args.mode c.args.number c.args.version c.find-found.result.key c.lock_at.result c.after-lock.result
+    c.self.view_is c.self.invariant c.find-found.ensures.some c.find-found.ensures.none c.lock_at.ensures c.after-lock.ensures c.requires (c.set_lock.ensures.agreed (c.args.file, c.args.txn) (subst (λ found. IfSome found (λ key. IsOf c.self.inside.kept.entries key (c.args.file, c.args.txn))) c.in-Some.is (c.find-found.ensures.some c.self.invariant.0)))
 
 pub returns-in-Some-clause-no_conflict : goal.returns-in-Some-clause-no_conflict
 returns-in-Some-clause-no_conflict c = (invariant_of-self c).1
 
 pub invariant_of-self-in-Continue-1 : goal.invariant_of-self-in-Continue-1
 invariant_of-self-in-Continue-1 c =
-    whole c.self.inside.kept c.insert.new.self c.args.self.now c.args.file c.args.txn c.args.mode c.args.number c.args.version c.find-found.result c.lock_at.result c.after-lock.result
+    whole c.self.inside.kept c.insert.new.self c.args.self.now c.args.file c.args.txn c.args.mode c.args.number c.args.version c.find-found.result.key c.lock_at.result c.after-lock.result
     c.self.view_is c.self.invariant c.find-found.ensures.some c.find-found.ensures.none c.lock_at.ensures c.after-lock.ensures c.requires c.in_ok-insert-in-None.ensures.ok
 
 pub returns-in_ok-insert-in-None-clause-ok : goal.returns-in_ok-insert-in-None-clause-ok
 returns-in_ok-insert-in-None-clause-ok c =
-    value c.self.inside.kept c.insert.new.self c.args.self.now c.args.file c.args.txn c.args.mode c.args.number c.args.version c.find-found.result c.lock_at.result c.after-lock.result
+    value c.self.inside.kept c.insert.new.self c.args.self.now c.args.file c.args.txn c.args.mode c.args.number c.args.version c.find-found.result.key c.lock_at.result c.after-lock.result
     c.self.view_is c.self.invariant c.find-found.ensures.some c.find-found.ensures.none c.lock_at.ensures c.after-lock.ensures c.requires c.in_ok-insert-in-None.ensures.ok
 
 pub returns-in_ok-insert-in-None-clause-no_conflict : goal.returns-in_ok-insert-in-None-clause-no_conflict
