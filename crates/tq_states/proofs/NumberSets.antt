@@ -1,8 +1,9 @@
 -- Sets of servers by their numbers.
-use Rattle.std.proofs.Common.{◌≡◌, ℕ, ◌<◌, Bool, true, false, ◌&&◌, ◌||◌, ◌==◌, cond, List, [], ◌∷◌, nat_lt, map, refl, sym, ap, ◌∙◌, subst, arith}
+use Rattle.std.proofs.Common.{◌≡◌, ℕ, ◌-◌, ◌<◌, Bool, true, false, ◌&&◌, ◌||◌, ◌==◌, cond, List, [], ◌∷◌, ◌++◌, Some, length, slice_get, nat_lt, map, refl, sym, ap, ◌∙◌, subst, arith}
 use Rattle.std.specs.List.{list_all, list_any}
 use Rattle.std.proofs.lemmas.Bool.{and_parts, and_from, eqb-true, lt-ltb, or_parts, false≢true}
 use Rattle.std.proofs.lemmas.Bool.Decides.{nat_tests}
+use Rattle.tq_shape.specs.ServerSet.{Ascends}
 use Rattle.tq_shape.specs.Tree.{Server}
 use Rattle.tq_coterie.specs.Coterie.{has, numbers_of, with_server}
 use Rattle.tq_coterie.proofs.Sets.{has-with_server}
@@ -97,9 +98,53 @@ has-all p (first ∷ rest) n all here =
     ] refl here
 
 -- a set that has each of the servers does not grow by them
-pub with_numbers-held : (ids others : List Server) → list_all (λ other. list_any (λ id. id.number == other.number) ids) others ≡ true → with_numbers (numbers_of ids) (numbers_of others) ≡ numbers_of ids
-with_numbers-held ids [] all = refl
-with_numbers-held ids (other ∷ others) all =
+pub with_numbers-held : {X : Type 0} (number : X → ℕ) (ids : List Server) (others : List X) → list_all (λ other. list_any (λ id. id.number == number other) ids) others ≡ true → with_numbers (numbers_of ids) (map number others) ≡ numbers_of ids
+with_numbers-held number ids [] all = refl
+with_numbers-held number ids (other ∷ others) all =
     let parts = and_parts _ _ all in
-    let here : has (numbers_of ids) other.number ≡ true = has-map (λ id. id.number) ids other.number ∙ parts.0 in
-    ap (λ b. with_numbers (cond b (numbers_of ids) (with_server other.number (numbers_of ids))) (numbers_of others)) here ∙ with_numbers-held ids others parts.1
+    let here : has (numbers_of ids) (number other) ≡ true = has-map (λ id. id.number) ids (number other) ∙ parts.0 in
+    ap (λ b. with_numbers (cond b (numbers_of ids) (with_server (number other) (numbers_of ids))) (map number others)) here ∙ with_numbers-held number ids others parts.1
+
+lower : (a b c : ℕ) → nat_lt a b ≡ true → nat_lt b c ≡ true → nat_lt a c ≡ true
+lower a b c less more = grind (arith, nat_tests)
+
+below_from : (first : Server) (rest : List Server) (last : Server) (number : ℕ) → rises (numbers_of (first ∷ rest)) ≡ true → slice_get (first ∷ rest) (length rest) ≡ Some last → nat_lt last.number number ≡ true → list_all (λ id. nat_lt id.number number) (first ∷ rest) ≡ true
+below_from first [] last number up is less =
+    let same : first ≡ last = cc in
+    and_from (nat_lt first.number number) true (subst (λ (id : Server). nat_lt id.number number ≡ true) (sym same) less) refl
+below_from first (second ∷ rest) last number up is less =
+    let parts = and_parts (nat_lt first.number second.number) (rises (numbers_of (second ∷ rest))) up in
+    let later = below_from second rest last number parts.1 is less in
+    let here = and_parts (nat_lt second.number number) (list_all (λ id. nat_lt id.number number) rest) later in
+    and_from (nat_lt first.number number) (list_all (λ id. nat_lt id.number number) (second ∷ rest)) (lower first.number second.number number parts.0 here.0) later
+
+-- ascending servers are all below a number that the last of them is below
+pub below_last : (ids : List Server) (last : Server) (number : ℕ) → rises (numbers_of ids) ≡ true → slice_get ids (length ids - 1) ≡ Some last → nat_lt last.number number ≡ true → list_all (λ id. nat_lt id.number number) ids ≡ true
+below_last [] last number up is less = refl
+below_last (first ∷ rest) last number up is less =
+    let place : length (first ∷ rest) - 1 ≡ length rest = omega arith in
+    below_from first rest last number up (ap (slice_get (first ∷ rest)) (sym place) ∙ is) less
+
+other_below : (a b : ℕ) → nat_lt a b ≡ true → (a == b) ≡ false
+other_below a b less = grind (arith, nat_tests)
+
+not_above : (a b : ℕ) → nat_lt a b ≡ true → nat_lt b a ≡ false
+not_above a b less = grind (arith, nat_tests)
+
+-- a server above all the others is not among them, and goes to the end
+pub put_above : (ids : List Server) (server : Server) → list_all (λ id. nat_lt id.number server.number) ids ≡ true → (has (numbers_of ids) server.number ≡ false) × (ids ++ server ∷ [] ≡ put (λ id. nat_lt server.number id.number) server ids)
+put_above [] server all = (refl, refl)
+put_above (first ∷ rest) server all =
+    let parts = and_parts (nat_lt first.number server.number) (list_all (λ id. nat_lt id.number server.number) rest) all in
+    let later = put_above rest server parts.1 in (
+      rw (other_below first.number server.number parts.0) later.0,
+      rw (not_above first.number server.number parts.0) (ap (λ ids. first ∷ ids) later.1),
+    )
+
+from_ascends : (low : ℕ) (ns : List ℕ) → Ascends low ns → rises_from low ns ≡ true
+from_ascends low [] up = refl
+from_ascends low (first ∷ rest) up = and_from (nat_lt low first) (rises_from first rest) (lt-ltb low first up.0) (from_ascends first rest up.1)
+
+pub rises-ascends : (low : ℕ) (ns : List ℕ) → Ascends low ns → rises ns ≡ true
+rises-ascends low [] up = refl
+rises-ascends low (first ∷ rest) up = rises-from first rest ∙ from_ascends first rest up.1

@@ -1,13 +1,19 @@
 -- What a test of the coterie says of a list of servers.
-use Rattle.std.proofs.Common.{◌≡◌, ◌==◌, ℕ, ◌-◌, true, false, ◌&&◌, List, [], ◌∷◌, Option, Some, None, MatchOption, refl, sym, ap, ◌∙◌, subst}
+use Rattle.std.proofs.Common.{◌≡◌, ◌==◌, ℕ, ◌-◌, ◌<◌, ◌≤◌, length, get_or, arith, true, false, ◌&&◌, List, [], ◌∷◌, refl, sym, ap, ◌∙◌, subst}
 use Rattle.std.specs.List.{Contains, list_all}
-use Rattle.std.specs.Option.{SomeIff}
 use Rattle.std.proofs.lemmas.Bool.{false≢true, and_from, and_right, eq-eqb}
-use Rattle.tq_coterie.specs.Coterie.{coterie, is_quorum, ServerList, servers_of, numbers_of, IsMemberList}
+use Rattle.tq_coterie.specs.Coterie.{coterie, is_quorum, servers_of, numbers_of, IsMemberList}
 use Rattle.tq_shape.specs.Tree.{Server}
-use Rattle.tq_evidence.specs.Evidence.{rises}
+use Rattle.tq_shape.specs.Tree.{IsServer}
+use Rattle.tq_evidence.specs.Evidence.{rises, granters}
+use Rattle.tq_evidence.specs.declared.grant.Grant.{Grant}
+use Rattle.std.proofs.lemmas.List.{get_or-map, length-map}
 use Rattle.tq_coterie.proofs.Intersecting.{members-meet}
 use Rattle.tq_coterie.proofs.Tested.{tested}
+use Rattle.tq_coterie.proofs.Parts.{Ascends-member, member-servers}
+use Rattle.std.specs.Cmp.Lexicographic.{same_text}
+use Rattle.std.proofs.lemmas.Map.Views.{Contains-from_any}
+use Rattle.tq_states.proofs.NumberSets.{rises-ascends}
 
 pub no_member : (levels : ℕ) (numbers : List ℕ) → (Contains (coterie levels) numbers → ⊥) → is_quorum levels numbers ≡ false
 no_member levels numbers none = sym (tested levels numbers false (λ e. absurd (false≢true e), λ h. absurd (none h)))
@@ -18,15 +24,27 @@ a_member levels numbers some = sym (tested levels numbers true (λ e. some, λ h
 pub empty_set : (levels : ℕ) → is_quorum levels [] ≡ false
 empty_set levels = no_member levels [] (λ h. let meets = members-meet (levels - 1) 1 [] [] h h in false≢true meets.1)
 
--- what is known of a quorum that was looked for among numbers
-abbrev pub IsQuorumOf : ℕ → List ℕ → Option ServerList → Type 0
-IsQuorumOf levels numbers found =
-    MatchOption found ((rises numbers && is_quorum levels numbers) ≡ false)
-    (λ quorum. ((rises numbers && is_quorum levels numbers) ≡ true) × (quorum ≡ record { servers = numbers; levels = levels }))
+-- a list that the test of the coterie finds is a member
+pub is_member_of : (levels : ℕ) (numbers : List ℕ) → is_quorum levels numbers ≡ true → Contains (coterie levels) numbers
+is_member_of levels numbers is = Contains-from_any (λ x y same. same_text x y (sym same)) numbers (coterie levels) is
 
-pub tested_quorum : (levels : ℕ) (numbers : List ℕ) (found : Option ServerList) → rises numbers ≡ true → SomeIff found (Contains (coterie levels) numbers) (record { servers = numbers; levels = levels }) → IsQuorumOf levels numbers found
-tested_quorum levels numbers None up none = and_right (rises numbers) (is_quorum levels numbers) (no_member levels numbers none)
-tested_quorum levels numbers (Some quorum) up some = (and_from (rises numbers) (is_quorum levels numbers) up (a_member levels numbers some.0), some.1)
+tested_rise : (levels : ℕ) (numbers : List ℕ) → is_quorum levels numbers ≡ true → rises numbers ≡ true
+tested_rise levels numbers is = rises-ascends 0 numbers (Ascends-member (levels - 1) 1 numbers (omega arith) (is_member_of levels numbers is))
+
+-- the servers of a quorum ascend, so the test of the coterie says that too
+pub rise_too : (levels : ℕ) (numbers : List ℕ) → is_quorum levels numbers ≡ (rises numbers && is_quorum levels numbers)
+rise_too levels numbers =
+    elim (is_quorum levels numbers) as (λ b. is_quorum levels numbers ≡ b → b ≡ (rises numbers && b)) [
+      | true ↦ λ is. sym (and_from (rises numbers) true (tested_rise levels numbers is) refl)
+      | false ↦ λ _. sym (and_right (rises numbers) false refl)
+    ] refl
+
+-- where they are a quorum, the server of each grant is one of its tree
+pub granter_of : (levels : ℕ) (grants : List Grant) (grant : Grant) (index : ℕ) → 1 ≤ levels → is_quorum levels (granters grants) ≡ true → index < length grants → grant ≡ get_or grants index grant → IsServer levels grant.server
+granter_of levels grants grant index some is within at =
+    let all = member-servers levels (granters grants) some (is_member_of levels (granters grants) is) in
+    let here : get_or (granters grants) index 0 ≡ grant.server = get_or-map (λ (g : Grant). g.server) grants index grant 0 within ∙ ap (λ (g : Grant). g.server) (sym at) in
+    subst (IsServer levels) here (all index 0 (rw (length-map grants (λ (g : Grant). g.server)) within))
 
 same_levels : (levels : ℕ) (numbers : List ℕ) → list_all (λ id. id.levels == levels) (servers_of levels numbers) ≡ true
 same_levels levels [] = refl

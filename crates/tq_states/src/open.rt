@@ -17,9 +17,9 @@ use crate::servers::Servers;
 use crate::{DeskTold, Ended, NodeTold, Noting, TxnFault, Voting};
 use std::alloc::Global;
 use std::marker::Model;
-use tq_coterie::Quorum;
+use tq_coterie::is_quorum;
 use tq_desk::{Grant, Op, OpKind};
-use tq_evidence::{granters, greatest_version, rises};
+use tq_evidence::{granters, greatest_version};
 use tq_shape::{ExactClone, Levels, Limits, Memory, ServerId, SharedSeq};
 use tq_store::{Content, FileCopy, FileName};
 
@@ -57,13 +57,6 @@ impl Model for Open {
       voters = a.voters.servers;
       touched = a.touched.servers;
     }) × ((a.voters.levels ≡ a.levels) × (a.touched.levels ≡ a.levels)) };
-}
-
-/// The grants of an operation, and the quorum of their servers.
-#[derive(Drop)]
-struct Granted {
-    grants: SharedSeq<Grant>,
-    quorum: Quorum,
 }
 
 impl Open {
@@ -170,10 +163,11 @@ impl Open {
         ensures levels { IfOk result (λ noting. IfSome noting (λ ready. ready.levels ≡ self.now.levels)) }
         ensures kept { IfOk result (λ noting. IfSome noting (λ ready. sets.IsWithin self.now.touched ready.servers)) }
     {
-        match self.touched.with(&[server])? {
-            Some(servers) => Ok(Some(Noting::new(servers))),
-            None => Ok(None),
+        if self.touched.has(server) {
+            return Ok(None);
         }
+        let servers = self.touched.with_one(server)?;
+        Ok(Some(Noting::new(servers)))
     }
 
     /// Notes that the server for which room was made granted it a lock. It takes no memory.
@@ -207,7 +201,7 @@ impl Open {
         if self.is_used(file) {
             return Err(TxnFault::AlreadyThere);
         }
-        let Granted { grants, quorum } = self.admit(alloc, OpKind::Read, file, answers)?;
+        let grants = self.admit(alloc, OpKind::Read, file, answers)?;
         let given = read_copy(grants.as_slice())?;
         let kept = given.content.clone()?;
         let op = Op {
@@ -217,7 +211,7 @@ impl Open {
             content: kept,
             grants,
         };
-        self.take(op, &quorum)?;
+        self.take(op)?;
         Ok(given)
     }
 
@@ -240,7 +234,7 @@ impl Open {
         if self.is_written(file) {
             return Err(TxnFault::AlreadyThere);
         }
-        let Granted { grants, quorum } = self.admit(alloc, OpKind::Write, file, answers)?;
+        let grants = self.admit(alloc, OpKind::Write, file, answers)?;
         let Some(version) = greatest_version(grants.as_slice()).checked_add(1) else {
             return Err(TxnFault::VersionFull);
         };
@@ -251,7 +245,7 @@ impl Open {
             content,
             grants,
         };
-        self.take(op, &quorum)?;
+        self.take(op)?;
         Ok(version)
     }
 
@@ -323,36 +317,31 @@ impl Open {
         kind: OpKind,
         file: &FileName,
         answers: &[NodeTold],
-    ) -> Result<Granted, TxnFault>
-        ensures succeeds { IfOk result (λ granted. spec.grants_fault kind self.now file.now answers.now ≡ None) }
-        ensures grants { IfOk result (λ granted. granted.grants ≡ spec.grants_of kind self.now.txn file.now answers.now) }
-        ensures quorum { IfOk result (λ granted. granted.quorum ≡ record { servers = evidence.granters granted.grants; levels = self.now.levels }) }
-        ensures member { IfOk result (λ granted. spec.is_member self.now.levels granted.grants ≡ true) }
-        ensures few { IfOk result (λ granted. length self.now.ops < self.now.limits.ops) }
+    ) -> Result<SharedSeq<Grant>, TxnFault>
+        ensures succeeds { IfOk result (λ grants. spec.grants_fault kind self.now file.now answers.now ≡ None) }
+        ensures grants { IfOk result (λ grants. grants ≡ spec.grants_of kind self.now.txn file.now answers.now) }
+        ensures member { IfOk result (λ grants. spec.is_member self.now.levels grants ≡ true) }
+        ensures few { IfOk result (λ grants. length self.now.ops < self.now.limits.ops) }
         ensures fault { IfErr result (λ fault. spec.ComesOf (spec.grants_fault kind self.now file.now answers.now) fault) }
     {
         if self.is_full() {
             return Err(TxnFault::TooManyOps);
         }
         let grants = grants_of(alloc, kind, self.txn, file, answers)?;
-        match quorum_of(alloc, self.levels, grants.as_slice())? {
-            Some(quorum) => Ok(Granted {
-                grants: SharedSeq::from_vec(grants)?,
-                quorum,
-            }),
-            None => Err(TxnFault::NotAMember),
+        if !is_member(alloc, self.levels, grants.as_slice())? {
+            return Err(TxnFault::NotAMember);
         }
+        Ok(SharedSeq::from_vec(grants)?)
     }
 
     /// Takes an operation. Out of memory leaves the transaction as it was.
-    fn take(&mut self, op: Op, quorum: &Quorum) -> Result<(), Memory>
-        requires quorum { quorum.now ≡ record { servers = evidence.servers_of op; levels = self.old.levels } }
-        requires good { spec.IsGoodOp self.old op }
+    fn take(&mut self, op: Op) -> Result<(), Memory>
+        requires { spec.IsGoodOp self.old op }
         ensures after { OnOk result (self.new ≡ spec.taken self.old op) }
         ensures err { OnErr result (self.new ≡ self.old) }
     {
-        let voters = self.voters.with(quorum.servers())?;
-        let touched = self.touched.with(quorum.servers())?;
+        let voters = self.voters.with(op.grants.as_slice())?;
+        let touched = self.touched.with(op.grants.as_slice())?;
         put_in_order(&mut self.ops, op)?;
         self.voters.grow(voters);
         self.touched.grow(touched);
@@ -360,17 +349,12 @@ impl Open {
     }
 }
 
-/// The quorum of the servers of the grants, if they are one in their order.
-fn quorum_of(alloc: Global, levels: Levels, grants: &[Grant]) -> Result<Option<Quorum>, Memory>
-    ensures { IfOk result (λ found. MatchOption found (spec.is_member levels grants.now ≡ false)
-        (λ quorum. (spec.is_member levels grants.now ≡ true) × (quorum ≡ record { servers = evidence.granters grants.now; levels = levels }))) }
+/// Whether the servers of the grants, in their order, ascend and are a quorum.
+fn is_member(alloc: Global, levels: Levels, grants: &[Grant]) -> Result<bool, Memory>
+    ensures { IfOk result (λ member. member ≡ spec.is_member levels grants.now) }
 {
     let numbers = granters(alloc, grants)?;
-    if !rises(numbers.as_slice()) {
-        return Ok(None);
-    }
-    let found = Quorum::of(alloc, levels, numbers.as_slice())?;
-    Ok(found)
+    Ok(is_quorum(levels, numbers.as_slice()))
 }
 
 fn is_read_of(file: &FileName, op: &Op) -> bool

@@ -1,12 +1,14 @@
-ghost use Rattle.std.specs.Prelude.{◌≡◌, ◌==◌, ◌<◌, ◌≤◌, [], true, length, nat_lt, position, IfOk, IfSome, OnOk, OnErr};
+ghost use Rattle.std.specs.Prelude.{◌≡◌, ◌==◌, ◌<◌, ◌≤◌, [], true, length, nat_lt, position, IfOk, IfSome, IsTrue, OnOk, OnErr};
 ghost use Rattle.std.specs.List.{list_all, list_any};
-ghost use Rattle.tq_coterie.specs.Coterie.{has, numbers_of};
+ghost use Rattle.tq_coterie.specs.Coterie.{has, is_quorum, numbers_of};
+ghost use Rattle.tq_evidence.specs.Evidence.{granters, rises};
 ghost use Rattle.tq_states.specs.Sets.{IsServerSet, grown_to, put, with_number, with_numbers};
 ghost use Rattle.tq_states.specs.Places.{place_before};
 
 use std::alloc::Global;
 use std::marker::Model;
 use tq_coterie::ServerIds;
+use tq_desk::Grant;
 use tq_shape::{Levels, Memory, ServerId};
 
 /// A set of servers of one tree, ascending.
@@ -50,11 +52,22 @@ impl Servers {
         ensures ok { OnOk result (self.new ≡ record self.old { servers = with_number self.old.servers server.number }) }
         ensures err { OnErr result (self.new ≡ self.old) }
     {
+        if is_above(self.ids.as_slice(), server.number()) {
+            self.ids.push(server)?;
+            return Ok(());
+        }
         if has_number(self.ids.as_slice(), server.number()) {
             return Ok(());
         }
         put_in_order(&mut self.ids, server)?;
         Ok(())
+    }
+
+    /// Whether the server is among them.
+    pub(crate) fn has(&self, server: ServerId) -> bool
+        ensures { result ≡ has self.now.servers server.number }
+    {
+        has_number(self.ids.as_slice(), server.number())
     }
 
     /// An equal set.
@@ -69,7 +82,8 @@ impl Servers {
         ensures { IfOk result (λ servers. servers ≡ self.now) }
     {
         let room = self.ids.len().saturating_add(more);
-        let mut ids = ServerIds::with_capacity(*self.ids.allocator(), room)?;
+        let mut ids = ServerIds::new(*self.ids.allocator());
+        ids.reserve_exact(room)?;
         ids.extend_from_slice(self.ids.as_slice())?;
         Ok(Servers {
             levels: self.levels,
@@ -77,17 +91,29 @@ impl Servers {
         })
     }
 
-    /// The set with other servers of its tree; none where it has them all.
-    pub(crate) fn with(&self, others: &[ServerId]) -> Result<Option<Servers>, Memory>
-        requires { list_all (λ id. id.levels == self.now.levels) others.now ≡ true }
-        ensures { IfOk result (λ grown. grown_to self.now grown ≡ record { servers = with_numbers self.now.servers (numbers_of others.now); levels = self.now.levels }) }
+    /// The set with one server of its tree.
+    pub(crate) fn with_one(&self, server: ServerId) -> Result<Servers, Memory>
+        requires { server.levels ≡ self.now.levels }
+        ensures { IfOk result (λ grown. grown ≡ record { servers = with_number self.now.servers server.number; levels = self.now.levels }) }
     {
-        if have_all(self.ids.as_slice(), others) {
+        let mut all = self.copy_for(1)?;
+        all.insert(server)?;
+        Ok(all)
+    }
+
+    /// The set with the servers of the grants, which are a quorum of its tree; none where it has them all.
+    pub(crate) fn with(&self, grants: &[Grant]) -> Result<Option<Servers>, Memory>
+        requires { is_quorum self.now.levels (granters grants.now) ≡ true }
+        ensures { IfOk result (λ grown. grown_to self.now grown ≡ record { servers = with_numbers self.now.servers (granters grants.now); levels = self.now.levels }) }
+    {
+        // A tree has a level, so the numbers of a quorum are its servers.
+        let _ = self.levels.count();
+        if have_all(self.ids.as_slice(), grants) {
             return Ok(None);
         }
-        let mut all = self.copy_for(others.len())?;
-        for id in others {
-            all.insert(*id)?;
+        let mut all = self.copy_for(grants.len())?;
+        for grant in grants {
+            all.insert(ServerId::new(self.levels, grant.server))?;
         }
         Ok(Some(all))
     }
@@ -109,17 +135,28 @@ impl Servers {
     }
 }
 
+/// Whether the number is above those of all the servers, which ascend.
+fn is_above(ids: &[ServerId], number: u64) -> bool
+    requires { rises (numbers_of ids.now) ≡ true }
+    ensures { IsTrue result → list_all (λ id. nat_lt id.number number) ids.now ≡ true }
+{
+    match ids.last() {
+        Some(last) => last.number() < number,
+        None => true,
+    }
+}
+
 fn has_number(ids: &[ServerId], number: u64) -> bool
     ensures { result ≡ list_any (λ id. id.number == number) ids.now }
 {
     ids.iter().any(|id| id.number() == number)
 }
 
-/// Whether each of the others is among the servers.
-fn have_all(ids: &[ServerId], others: &[ServerId]) -> bool
-    ensures { result ≡ list_all (λ other. list_any (λ id. id.number == other.number) ids.now) others.now }
+/// Whether the servers of all the grants are among the servers.
+fn have_all(ids: &[ServerId], grants: &[Grant]) -> bool
+    ensures { result ≡ list_all (λ grant. list_any (λ id. id.number == grant.server) ids.now) grants.now }
 {
-    others.iter().all(|other| has_number(ids, other.number()))
+    grants.iter().all(|grant| has_number(ids, grant.server))
 }
 
 /// Puts the server before the first above it.
