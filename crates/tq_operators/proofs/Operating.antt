@@ -14,7 +14,7 @@ use Rattle.tq_part.specs.declared.fault.AskFault.{AskFault}
 use Rattle.tq_part.specs.declared.fault.AskFault.TheVariants as faults
 use Rattle.tq_txn.specs.Dialogue.{Told, Dialogue, Ends, AsksNode, AsksDesk, AsksView, then_line, node_exchange, fault_of_ask}
 use Rattle.tq_refresh.specs.declared.job.Job.{Job}
-use Rattle.tq_operators.specs.Operators.{Mended, nothing_mended, answer_in, job_asked, jobs_asked, with_job, job_text, count_text, refresh_asked, refresh_jobs, refreshed_text}
+use Rattle.tq_operators.specs.Operators.{Mended, nothing_mended, behind, answer_in, job_asked, jobs_asked, with_job, job_text, count_text, refresh_asked, refresh_jobs, refreshed_text}
 use Rattle.tq_print.specs.Print.{printed}
 use Rattle.tq_print.specs.Refusals.{is_memory}
 use Rattle.tq_asking.specs.Asking.{Ran, run_line, node_told, desk_told, view_told}
@@ -98,21 +98,50 @@ jobs_next all end old after text_old text_new count number jobs i job refreshed 
     (sym (ap (λ js. (run_line old (jobs_asked before js)).end) left) ∙ ends) (sym (ap (λ js. (run_line old (jobs_asked before js)).after) left) ∙ leads) is there in
     (ap (λ m. (run_line after (jobs_asked m (drop (i + 1) jobs))).end) now ∙ on.0, ap (λ m. (run_line after (jobs_asked m (drop (i + 1) jobs))).after) now ∙ on.1)
 
+-- ---- jobs behind a text
+
+-- one job's line goes behind what stands
+pub line_behind : (text : List ℕ) (mended : Mended) (job : Job) (refreshed : Bool) → with_job (behind text mended) job refreshed ≡ behind text (with_job mended job refreshed)
+line_behind text mended job refreshed = λ k. record { text = append_assoc text mended.text (printed (job_text job refreshed)) k; count = mended.count + cond refreshed 1 0 }
+
+-- and so do the lines of all jobs
+pub end_behind : (text : List ℕ) (jobs : List Job) (mended : Mended) (old : JournalsView) → (run_line old (jobs_asked (behind text mended) jobs)).end ≡ behind text (run_line old (jobs_asked mended jobs)).end
+end_behind text [] mended old = refl
+end_behind text (job ∷ jobs) mended old =
+    let done = run_line old (job_asked job) in
+    then_end (job_asked job) (λ r. jobs_asked (with_job (behind text mended) job r) jobs) old
+    ∙ ap (λ m. (run_line done.after (jobs_asked m jobs)).end) (line_behind text mended job done.end)
+    ∙ end_behind text jobs (with_job mended job done.end) done.after
+    ∙ ap (behind text) (sym (then_end (job_asked job) (λ r. jobs_asked (with_job mended job r) jobs) old))
+
+pub after_behind : (text : List ℕ) (jobs : List Job) (mended : Mended) (old : JournalsView) → (run_line old (jobs_asked (behind text mended) jobs)).after ≡ (run_line old (jobs_asked mended jobs)).after
+after_behind text [] mended old = refl
+after_behind text (job ∷ jobs) mended old =
+    let done = run_line old (job_asked job) in
+    then_after (job_asked job) (λ r. jobs_asked (with_job (behind text mended) job r) jobs) old
+    ∙ ap (λ m. (run_line done.after (jobs_asked m jobs)).after) (line_behind text mended job done.end)
+    ∙ after_behind text jobs (with_job mended job done.end) done.after
+    ∙ sym (then_after (job_asked job) (λ r. jobs_asked (with_job mended job r) jobs) old)
+
 -- ---- the whole line
 
 -- what all jobs of the plan came to, and how many they were, is what the line says
-pub refreshed_end : (old : JournalsView) (jobs : List Job) (before text middle after : List ℕ) (count : ℕ) → jobs ≡ refresh_jobs old → text ≡ (run_line old (jobs_asked nothing_mended jobs)).end.text → count ≡ (run_line old (jobs_asked nothing_mended jobs)).end.count
-    → middle ≡ before ++ text → after ≡ middle ++ printed (count_text count (length jobs)) → after ≡ before ++ (run_line old (refresh_asked old)).end
-refreshed_end old jobs before text middle after count planned texts counts first second =
-    let said : List Job → List ℕ = λ all. refreshed_text (length all) (run_line old (jobs_asked nothing_mended all)).end in
+pub refreshed_end : (old : JournalsView) (jobs : List Job) (before middle after : List ℕ) (count : ℕ) → jobs ≡ refresh_jobs old
+    → middle ≡ (run_line old (jobs_asked (behind before nothing_mended) jobs)).end.text → count ≡ (run_line old (jobs_asked (behind before nothing_mended) jobs)).end.count
+    → after ≡ middle ++ printed (count_text count (length jobs)) → after ≡ before ++ (run_line old (refresh_asked old)).end
+refreshed_end old jobs before middle after count planned texts counts said =
+    let came : Mended → List ℕ = λ m. m.text ++ printed (count_text m.count (length jobs)) in
+    let mended = (run_line old (jobs_asked nothing_mended jobs)).end in
     let ran = then_ran (jobs_asked nothing_mended (refresh_jobs old)) (refreshed_text (length (refresh_jobs old))) old in
-    second ∙ ap (λ m. m ++ printed (count_text count (length jobs))) first ∙ append_assoc before text (printed (count_text count (length jobs)))
-    ∙ ap (λ t. before ++ (t ++ printed (count_text count (length jobs)))) texts
-    ∙ ap (λ n. before ++ ((run_line old (jobs_asked nothing_mended jobs)).end.text ++ printed (count_text n (length jobs)))) counts
-    ∙ ap (λ all. before ++ said all) planned
+    said ∙ (λ k. texts k ++ printed (count_text (counts k) (length jobs)))
+    ∙ ap came (end_behind before jobs nothing_mended old)
+    ∙ append_assoc before mended.text (printed (count_text mended.count (length jobs)))
+    ∙ ap (λ all. before ++ refreshed_text (length all) (run_line old (jobs_asked nothing_mended all)).end) planned
     ∙ ap (λ (r : Ran (List ℕ)). before ++ r.end) (sym ran)
 
-pub refreshed_after : (old : JournalsView) (jobs : List Job) (after : JournalsView) → jobs ≡ refresh_jobs old → after ≡ (run_line old (jobs_asked nothing_mended jobs)).after → after ≡ (run_line old (refresh_asked old)).after
-refreshed_after old jobs after planned leads =
+pub refreshed_after : (old : JournalsView) (jobs : List Job) (before : List ℕ) (after : JournalsView) → jobs ≡ refresh_jobs old → after ≡ (run_line old (jobs_asked (behind before nothing_mended) jobs)).after
+    → after ≡ (run_line old (refresh_asked old)).after
+refreshed_after old jobs before after planned leads =
     let ran = then_ran (jobs_asked nothing_mended (refresh_jobs old)) (refreshed_text (length (refresh_jobs old))) old in
-    leads ∙ ap (λ all. (run_line old (jobs_asked nothing_mended all)).after) planned ∙ ap (λ (r : Ran (List ℕ)). r.after) (sym ran)
+    leads ∙ after_behind before jobs nothing_mended old
+    ∙ ap (λ all. (run_line old (jobs_asked nothing_mended all)).after) planned ∙ ap (λ (r : Ran (List ℕ)). r.after) (sym ran)

@@ -40,9 +40,13 @@ abbrev pub mend_asked : Job → Option NodeAsk → asks.Dialogue Bool
 mend_asked job None = Ends false
 mend_asked job (Some ask) = AsksNode job.server.number ask (λ told. Ends (took (answer_in told)))
 
+-- what the source is asked: its copy of the file
+abbrev pub peek_of : Job → NodeAsk
+peek_of job = Work (Peek job.file)
+
 -- the source is asked for its copy, and where it tells one the server is asked to take it
 abbrev pub job_asked : Job → asks.Dialogue Bool
-job_asked job = AsksNode job.source.number (Work (Peek job.file)) (λ told. mend_asked job (mend_ask job (answer_in told)))
+job_asked job = AsksNode job.source.number (peek_of job) (λ told. mend_asked job (mend_ask job (answer_in told)))
 
 -- the servers of the job are of a tree of those levels
 abbrev pub IsOfTree : ℕ → Job → Type 0
@@ -57,6 +61,10 @@ pub record Mended : Type 0 where
 
 abbrev pub nothing_mended : Mended
 nothing_mended = record { text = []; count = 0 }
+
+-- the same behind a text
+abbrev pub behind : List ℕ → Mended → Mended
+behind text mended = record { text = text ++ mended.text; count = mended.count }
 
 abbrev pub job_text : Job → Bool → List ℕ
 job_text job true = codes "refreshed " ++ job.file ++ codes " at " ++ decimal job.server.number ++ codes " from " ++ decimal job.source.number

@@ -1,5 +1,5 @@
 //! The lines of operators: the refresh and the board.
-ghost use Rattle.std.specs.Prelude.{◌≡◌, ◌++◌, true, false, IfOk, OnOk, string_bytes};
+ghost use Rattle.std.specs.Prelude.{◌≡◌, ◌++◌, true, false, IfOk, IfSome, OnOk, string_bytes};
 ghost use Rattle.std.specs.List.{All};
 ghost use Rattle.std.specs.Option.{option_map};
 ghost use Rattle.tq_world.specs.Steps.{world_after};
@@ -20,11 +20,11 @@ use tq_rendered::render;
 use tq_shape::{Memory, ServerId};
 use tq_txn::{AskFault, Asker, NodeTold};
 
-/// What jobs came to: a line for each, and how many copies were mended.
+/// An ask for a copy of a file, and the job that it was made for.
 #[derive(Drop)]
-struct Mended {
-    text: Vec<u8>,
-    count: usize,
+struct Peeked {
+    job: Job,
+    ask: NodeAsk,
 }
 
 /// Puts the board of the service behind the text.
@@ -52,9 +52,8 @@ pub fn refresh_all(recorder: &mut Recorder, alloc: Global, text: &mut Vec<u8>) -
     ensures tree { recorder.new.journals.levels ≡ recorder.old.journals.levels }
 {
     let jobs = planned(recorder.service(), alloc)?;
-    let mended = mend_all(recorder, alloc, jobs.as_slice())?;
-    text.extend_from_slice(mended.text.as_slice())?;
-    say_count(text, mended.count as u64, jobs.len() as u64)?;
+    let count = mend_all(recorder, alloc, jobs.as_slice(), text)?;
+    say_count(text, count as u64, jobs.len() as u64)?;
     Ok(())
 }
 
@@ -67,32 +66,58 @@ fn planned(service: &Service, alloc: Global) -> Result<Vec<Job>, Memory>
     plan(alloc, tables, service.view())
 }
 
-/// Does the jobs one after another.
-fn mend_all(recorder: &mut Recorder, alloc: Global, jobs: &[Job]) -> Result<Mended, Memory>
+/// Does the jobs one after another: a line for each goes behind the text, and how many copies were mended is answered.
+fn mend_all(
+    recorder: &mut Recorder,
+    alloc: Global,
+    jobs: &[Job],
+    text: &mut Vec<u8>,
+) -> Result<usize, Memory>
     requires { All (spec.IsOfTree recorder.old.journals.levels) jobs.now }
-    ensures text { IfOk result (λ mended. mended.text.items ≡ (run_line recorder.old.journals (spec.jobs_asked spec.nothing_mended jobs.now)).end.text) }
-    ensures count { IfOk result (λ mended. mended.count ≡ (run_line recorder.old.journals (spec.jobs_asked spec.nothing_mended jobs.now)).end.count) }
-    ensures after { OnOk result (recorder.new.journals ≡ (run_line recorder.old.journals (spec.jobs_asked spec.nothing_mended jobs.now)).after) }
+    ensures text { OnOk result (text.new.items ≡ (run_line recorder.old.journals (spec.jobs_asked (spec.behind text.old.items spec.nothing_mended) jobs.now)).end.text) }
+    ensures count { IfOk result (λ count. count ≡ (run_line recorder.old.journals (spec.jobs_asked (spec.behind text.old.items spec.nothing_mended) jobs.now)).end.count) }
+    ensures after { OnOk result (recorder.new.journals ≡ (run_line recorder.old.journals (spec.jobs_asked (spec.behind text.old.items spec.nothing_mended) jobs.now)).after) }
     ensures tree { recorder.new.journals.levels ≡ recorder.old.journals.levels }
 {
-    let mut text = Vec::new(alloc);
     let mut count = 0;
+    let mut kept = None;
     for job in jobs {
-        let refreshed = mend(recorder, alloc, job)?;
-        say_job(&mut text, job, refreshed)?;
+        let peek = peek_for(&mut kept, alloc, job)?;
+        let refreshed = mend(recorder, alloc, job, peek)?;
+        say_job(text, job, refreshed)?;
         count += usize::from(refreshed);
     }
-    Ok(Mended { text, count })
+    Ok(count)
+}
+
+/// What the job's source is asked: the ask that is kept, where that is for the same file, else one that is then kept.
+fn peek_for(kept: &mut Option<Peeked>, alloc: Global, job: &Job) -> Result<NodeAsk, Memory>
+    requires { IfSome kept.old (λ peeked. peeked.ask ≡ spec.peek_of peeked.job) }
+    ensures ask { IfOk result (λ ask. ask ≡ spec.peek_of job.now) }
+    ensures kept { OnOk result (IfSome kept.new (λ peeked. peeked.ask ≡ spec.peek_of peeked.job)) }
+{
+    if let Some(peeked) = &*kept {
+        if peeked.job.file == job.file {
+            return Ok(peeked.ask.clone()?);
+        }
+    }
+    let ask = peek_ask(alloc, job)?;
+    let copy = ask.clone()?;
+    *kept = Some(Peeked {
+        job: *job,
+        ask: copy,
+    });
+    Ok(ask)
 }
 
 /// Whether the job mended its copy: its source told one, and the server took it.
-fn mend(recorder: &mut Recorder, alloc: Global, job: &Job) -> Result<bool, Memory>
-    requires { spec.IsOfTree recorder.old.journals.levels job.now }
+fn mend(recorder: &mut Recorder, alloc: Global, job: &Job, peek: NodeAsk) -> Result<bool, Memory>
+    requires of_tree { spec.IsOfTree recorder.old.journals.levels job.now }
+    requires peek { peek ≡ spec.peek_of job.now }
     ensures value { IfOk result (λ refreshed. refreshed ≡ (run_line recorder.old.journals (spec.job_asked job.now)).end) }
     ensures after { OnOk result (recorder.new.journals ≡ (run_line recorder.old.journals (spec.job_asked job.now)).after) }
     ensures tree { recorder.new.journals.levels ≡ recorder.old.journals.levels }
 {
-    let peek = peek_ask(alloc, job)?;
     let Some(told) = answer_of(recorder, alloc, job.source, peek)? else {
         return Ok(false);
     };
@@ -184,7 +209,8 @@ fn say_refreshed(text: &mut Vec<u8>, job: &Job) -> Result<(), Memory>
     text.extend_from_slice(b"refreshed ")?;
     text.extend_from_slice(job.file.as_bytes())?;
     push_at(text, b" at ", job.server.number())?;
-    say_number(text, b" from ", job.source.number())?;
+    push_at(text, b" from ", job.source.number())?;
+    text.push(b'\n')?;
     Ok(())
 }
 
