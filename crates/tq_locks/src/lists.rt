@@ -14,6 +14,7 @@ use slab::Slab;
 use smallvec::SmallVec;
 use std::alloc::{AllocError, Global};
 use std::collections::BTreeMap;
+use std::collections::btree_map::Entry;
 use tq_store::FileName;
 
 /// The keys under one name. Up to two of them need no allocation.
@@ -77,12 +78,13 @@ pub(crate) fn add<K: Ord + Copy + Drop>(
     ensures after { IfOk result (λ place. (other : K) → keys_at K.cmp lists.new other ≡ (if is_at (K.cmp name) other then insert (keys_at K.cmp lists.old name) place key else keys_at K.cmp lists.old other)) }
     ensures err { OnErr result ((other : K) → keys_at K.cmp lists.new other ≡ keys_at K.cmp lists.old other) }
 {
-    if let Some(keys) = lists.get_mut(&name) {
-        keys.reserve(1)?;
-        return Ok(enter(keys, entries, entry, key));
+    match lists.entry(name)? {
+        Entry::Occupied(list) => enter(list.into_mut(), entries, entry, key),
+        Entry::Vacant(list) => {
+            list.insert(only(alloc, key));
+            Ok(0)
+        }
     }
-    lists.insert(name, only(alloc, key))?;
-    Ok(0)
 }
 
 /// A list of one key.
@@ -116,15 +118,21 @@ pub(crate) fn take<K: Ord + Copy + Drop>(
     place
 }
 
-/// Puts the key of an entry into its place in a list that has room, and tells the place.
-fn enter(keys: &mut Keys, entries: &Slab<LockEntry>, entry: &LockEntry, key: usize) -> usize
-    requires { HasRoomFor keys.old 1 }
-    ensures place { RisesTo entries.now keys.old.items entry.now.0 result }
-    ensures after { keys.new.items ≡ insert keys.old.items result key }
+/// Puts the key of an entry into its place in a list, and tells the place. Without memory the list stays as it was.
+fn enter(
+    keys: &mut Keys,
+    entries: &Slab<LockEntry>,
+    entry: &LockEntry,
+    key: usize,
+) -> Result<usize, AllocError>
+    ensures place { IfOk result (RisesTo entries.now keys.old.items entry.now.0) }
+    ensures after { IfOk result (λ place. keys.new.items ≡ insert keys.old.items place key) }
+    ensures err { OnErr result (keys.new ≡ keys.old) }
 {
+    keys.reserve(1)?;
     let place = place(entries, keys.as_slice(), &entry.file, entry.txn);
     put_in(keys, place, key);
-    place
+    Ok(place)
 }
 
 /// Puts a key into its place in a list that has room.

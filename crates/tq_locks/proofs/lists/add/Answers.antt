@@ -1,7 +1,10 @@
-use Rattle.std.proofs.Common.{[], ap, sym}
-use Rattle.std.specs.Option.{option_map_or}
+use Rattle.std.proofs.Common.{rules}
 use Rattle.tq_locks.proofs.Partition.{none_rises}
+use Rattle.tq_locks.proofs.Written.{rewritten_at_err}
 use Rattle.tq_locks.proofs.lists.add.Goals as goal
 
-pub returns-clause-place : goal.returns-clause-place
-returns-clause-place g c = none_rises c.args.entries.now _ c.args.entry.now.0 (sym (ap (λ o. option_map_or (λ keys. keys.items) o []) c.in_default.ensures.value))
+pub returns-in-Vacant-clause-place : goal.returns-in-Vacant-clause-place
+returns-in-Vacant-clause-place g c = none_rises c.args.entries.now _ c.args.entry.now.0 (search rules)
+
+pub returns-in-Occupied-clause-err : goal.returns-in-Occupied-clause-err
+returns-in-Occupied-clause-err g c = rewritten_at_err g.met.K.Ord.total c.args.lists.now c.args.name c.into_mut.result.now (search rules) _ c.enter.new.keys c.enter.result c.enter.ensures.err (search rules)
