@@ -1,5 +1,5 @@
 -- What the methods of the kept locks find and leave.
-use Rattle.std.proofs.Common.{◌≡◌, ℕ, zero, suc, ◌==◌, Bool, true, false, cond, List, [], ◌∷◌, map, filter, length, Option, Some, None, is_some, IfNone, IfSome, Bor, Result, Ok, Err, OnErr, refl, ap, sym, subst, ◌∙◌, inl, inr, ◌<◌, ◌≤◌, ◌-◌, nat_eq, ltb, lt-ltb, ltb-true, get_or, arith}
+use Rattle.std.proofs.Common.{◌≡◌, ℕ, zero, suc, ◌==◌, Bool, true, false, cond, List, [], ◌∷◌, map, filter, length, Option, Some, None, is_some, IfNone, IfSome, Bor, Result, Ok, Err, IfOk, OnErr, refl, ap, sym, subst, ◌∙◌, inl, inr, ◌<◌, ◌≤◌, ◌-◌, nat_eq, ltb, lt-ltb, ltb-true, get_or, arith}
 use lib.Dec.{T}
 use mathlib.Core.Bool.{true≢false}
 use Rattle.std.proofs.lemmas.Bool.{cases_lt}
@@ -19,10 +19,11 @@ use Rattle.tq_store.specs.Copies.{name_cmp}
 use Rattle.tq_store.specs.Names.{same_name}
 use Rattle.tq_shape.specs.Journal.{Has}
 use Rattle.tq_locks.specs.declared.keyed.KeyedLocks.{KeyedLocks}
+use Rattle.tq_locks.specs.declared.mode.Mode.{Mode}
 use Rattle.tq_locks.specs.declared.mode.Lock.{Lock}
 use Rattle.tq_locks.specs.Locks.{LockKey, Locks, lock_cmp, held_of}
-use Rattle.tq_locks.specs.Keys.{keys_at, place, keys_under}
-use Rattle.tq_locks.specs.Kept.{on_file, lock_found, AreKeysOf, Agrees, IsOf, RisesTo}
+use Rattle.tq_locks.specs.Keys.{keys_at, place, keys_under, told}
+use Rattle.tq_locks.specs.Kept.{decided, on_file, lock_found, AreKeysOf, Agrees, IsOf, RisesTo}
 use Rattle.tq_locks.proofs.LockMaps.{locks_total, locks_same}
 use Rattle.tq_locks.proofs.Found.{none_some, some_same, first, second, less, below_each, Has-looked_up}
 use Rattle.tq_locks.proofs.Placed.{turned}
@@ -223,6 +224,13 @@ pub OnErr-any : {A E : Type 0} (P : Type 0) (r : Result A E) → P → OnErr r P
 OnErr-any P (Ok x) p = tt
 OnErr-any P (Err x) p = p
 
+-- what is said of a result that is known
+pub at_ok : {A E : Type 0} (P : A → Type 0) (r : Result A E) (x : A) → r ≡ Ok x → IfOk r P → P x
+at_ok P r x is h = subst (λ r. IfOk r P) is h
+
+pub at_err : {A E : Type 0} (P : Type 0) (r : Result A E) (e : E) → r ≡ Err e → OnErr r P → P
+at_err P r e is h = subst (λ r. OnErr r P) is h
+
 -- a key that a look-up in a list copied
 pub copied_at : (o : Option (Bor ℕ)) (keys : List ℕ) (i k : ℕ) → Some k ≡ option_copied o → is_some o ≡ ltb i (length keys) → IfSome o (λ x. x.now ≡ get_or keys i x.now) → slice_get keys i ≡ Some k
 copied_at None keys i k e l at = absurd (none_some k (sym e))
@@ -242,6 +250,10 @@ told-listed f [] [] e = refl
 told-listed f [] (x ∷ xs) e = absurd (nil_cons (Some x) (map Some xs) e)
 told-listed f (k ∷ keys) [] e = absurd (nil_cons (f k) (map f keys) (sym e))
 told-listed f (k ∷ keys) (x ∷ xs) e = λ i. cons_option (head_of (f k) (Some x) (map f keys) (map Some xs) e i) (told-listed f keys xs (tail_of (f k) (Some x) (map f keys) (map Some xs) e) i)
+
+-- the entries under the keys of a file say what the locks on it do
+pub decided_on_file : (kept : KeyedLocks) (locks : Locks) → Agrees kept locks → (file name : List ℕ) → file ≡ name → (txn : ℕ) (mode : Mode) → decided txn mode (told kept.entries (keys_at name_cmp kept.by_file file)) ≡ decided txn mode (on_file locks name)
+decided_on_file kept locks a file name e txn mode = ap (decided txn mode) (told-listed (get kept.entries) (keys_at name_cmp kept.by_file file) (on_file locks file) (a.of_file file) ∙ ap (on_file locks) e)
 
 -- the entry under a key of a transaction's list
 pub entry_of_key : (kept : KeyedLocks) (locks : Locks) → Agrees kept locks → (txn : ℕ) (keys : List ℕ) (i k : ℕ) → keys ≡ keys_under kept.by_txn txn → slice_get keys i ≡ Some k → (e : Entry) × (e.0.1 ≡ txn) × (get kept.entries k ≡ Some e)

@@ -12,3 +12,4 @@ pub mod Locked
 pub mod TakenOut
 pub mod Indexed
 pub mod Written
+pub mod Asked

@@ -12,6 +12,7 @@ use Rattle.std.specs.Option.{option_map, option_map_or}
 use Rattle.std.specs.Ordering.{nat_cmp, is_lt, eq_by_cmp, ordering_then}
 use Rattle.std.specs.declared.cmp.Ordering.{Ordering}
 use Rattle.std.specs.declared.cmp.Ordering.TheVariants.{Less}
+use Rattle.tq_locks.specs.Kept.{decided}
 use Rattle.tq_locks.specs.Locks.{LockKey, Locks, lock_cmp, conflicts, stronger, blocks, Blocks, IsFree, IsLeastBlocker, blocker, lock_after, granted, released, only_stable, stabilised, kept, HasNoConflict}
 use Rattle.tq_locks.specs.declared.mode.Mode.{Mode}
 use Rattle.tq_locks.specs.declared.mode.Mode.TheVariants.{Shared, Exclusive}
@@ -213,11 +214,6 @@ module _ (locks : Locks) (file : List ℕ) (txn : ℕ) (mode : Mode) (number ver
 
 pub HasNoConflict-empty : HasNoConflict fin.empty
 HasNoConflict-empty file s t a b other f g = absurd (none_some a (sym (fin.get-empty lock_cmp (key file s)) ∙ f))
-
--- what the first lock of another transaction says: its transaction blocks, or none does
-abbrev pub decided : ℕ → Mode → List (LockKey × Lock) → Option ℕ
-decided txn mode [] = None
-decided txn mode (e ∷ es) = cond (e.0.1 == txn) (decided txn mode es) (cond (conflicts mode e.1.mode) (Some e.0.1) None)
 
 -- a lock that doesn't conflict with a mode is shared, and so is the mode
 both_shared : (m a b : Mode) → conflicts m a ≡ false → conflicts a b ≡ false → conflicts m b ≡ false

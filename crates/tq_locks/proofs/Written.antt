@@ -1,5 +1,5 @@
 -- A list of keys that is written back as it was.
-use Rattle.std.proofs.Common.{◌≡◌, ℕ, Bool, true, false, cond, List, [], Option, Some, Result, Ok, Err, OnErr, refl, ap, sym, subst, ◌∙◌}
+use Rattle.std.proofs.Common.{◌≡◌, ℕ, Bool, true, false, cond, List, [], Option, Some, Result, Ok, Err, IfOk, OnErr, refl, ap, sym, subst, ◌∙◌}
 use Rattle.std.specs.BTreeMap.{BTreeMap, get, is_at}
 use Rattle.std.specs.Cmp.{IsTotalOrder, eq_by_cmp_equiv}
 use Rattle.std.specs.Map.{lookup}
@@ -27,3 +27,7 @@ module _ {K : Type 0} {R : K → K → Ordering} (o : IsTotalOrder R) (old : BTr
   pub rewritten_at_err : {A E : Type 0} (entries : List (K × SmallVec ℕ)) (now : SmallVec ℕ) (r : Result A E) → OnErr r (now ≡ keys) → IsPut entries now → OnErr r (AreSame entries)
   rewritten_at_err entries now (Ok x) same put = tt
   rewritten_at_err entries now (Err e) same put = rewritten entries (subst (IsPut entries) same put)
+
+  pub rewritten_at_blocked : {A B E : Type 0} (entries : List (K × SmallVec ℕ)) (now : SmallVec ℕ) (r : Result (Result A B) E) → IfOk r (λ put. OnErr put (now ≡ keys)) → IsPut entries now → IfOk r (λ put. OnErr put (AreSame entries))
+  rewritten_at_blocked entries now (Ok put) same is = rewritten_at_err entries now put same is
+  rewritten_at_blocked entries now (Err e) same is = tt

@@ -1,5 +1,5 @@
 -- The locks of a table as it keeps them: entries under keys, and the keys of each file and of each transaction.
-use Rattle.std.specs.Prelude.{◌≡◌, ◌≤◌, ℕ, T, Bool, List, Option, length, map, filter, Some, true, false, nat_eq, if◌then◌else◌}
+use Rattle.std.specs.Prelude.{◌≡◌, ◌≤◌, ◌==◌, ℕ, T, Bool, List, [], ◌∷◌, Option, length, map, filter, Some, None, true, false, nat_eq, if◌then◌else◌}
 use Rattle.std.specs.List.{IsDistinct, remove}
 use Rattle.std.specs.BTreeMap.{is_at}
 use Rattle.std.specs.Option.{option_map, option_map_or, option_and_then}
@@ -10,9 +10,10 @@ use Rattle.tq_store.specs.Copies.{name_cmp}
 use Rattle.tq_store.specs.Names.{same_name}
 use Rattle.tq_locks.specs.declared.keyed.KeyedLocks.{KeyedLocks}
 use Rattle.indexmap.specs.IndexMap.{index_of}
+use Rattle.tq_locks.specs.declared.mode.Mode.{Mode}
 use Rattle.tq_locks.specs.declared.mode.Lock.{Lock}
 use Rattle.tq_locks.specs.declared.numbered.Spot.{Spot}
-use Rattle.tq_locks.specs.Locks.{LockKey, Locks, lock_cmp, held_of}
+use Rattle.tq_locks.specs.Locks.{LockKey, Locks, lock_cmp, conflicts, held_of}
 use Rattle.tq_locks.specs.Keys.{keys_at, keys_under, place}
 
 -- the entries that are kept, as a set of locks
@@ -22,6 +23,11 @@ locks_in kept = fin.from_entries (values kept.entries)
 -- the locks on a file, ascending by transaction
 abbrev pub on_file : Locks → List ℕ → List (LockKey × Lock)
 on_file locks file = filter (λ entry. same_name file entry.0.0) (fin.entries locks)
+
+-- what the first lock of another transaction says: its transaction blocks, or none does
+abbrev pub decided : ℕ → Mode → List (LockKey × Lock) → Option ℕ
+decided txn mode [] = None
+decided txn mode (e ∷ es) = if e.0.1 == txn then decided txn mode es else (if conflicts mode e.1.mode then Some e.0.1 else None)
 
 -- the lock under a key, where one was found
 abbrev pub lock_found : Slab (LockKey × Lock) → Option ℕ → Option Lock

@@ -6,15 +6,17 @@ ghost use Rattle.std.specs.Option.{option_copied, option_map, option_map_or};
 ghost use Rattle.std.specs.Ordering.{is_lt};
 ghost use Rattle.tq_store.specs.Copies.{name_cmp};
 ghost use Rattle.slab.specs.Slab.{get, slab_len, Updates};
+ghost use Rattle.tq_shape.specs.Steps.{state_at};
 ghost use Rattle.tq_locks.specs.Locks.{LockKey, Locks, lock_cmp, kept, released, only_stable};
 ghost use Rattle.tq_locks.specs.Keys.{keys_at, keys_under, place, told};
+ghost use Rattle.tq_locks.specs.Kept.{decided};
 
 use crate::lists::{Keys, add, listed, place, take};
 use crate::numbered::{
     Spot, end_empty_under, list_under, listed_under, make_room_under, put_under, take_all_under,
     take_under,
 };
-use crate::{Lock, LockEntry};
+use crate::{Lock, LockEntry, Mode};
 use indexmap::IndexMap;
 use slab::Slab;
 use std::alloc::{AllocError, Global};
@@ -119,19 +121,21 @@ impl KeyedLocks {
         Some(entry.lock)
     }
 
-    /// Keeps a new entry, whose key goes to the spot. Without memory the locks stay as they were.
-    pub(crate) fn insert(&mut self, entry: LockEntry, spot: Spot) -> Result<(), AllocError>
+    /// Keeps a new entry, whose key goes to the spot, unless a lock on its file blocks it: then tells that lock's transaction.
+    /// Without memory the locks stay as they were.
+    pub(crate) fn insert(&mut self, entry: LockEntry, spot: Spot) -> Result<Option<u64>, AllocError>
         requires agreed { Agrees self.old (locks_in self.old) }
         requires absent { fin.get (locks_in self.old) entry.0 ≡ None }
         requires spot { IsSpotOf self.old entry.0 spot }
-        ensures ok { OnOk result (Agrees self.new (fin.insert (locks_in self.old) entry.0 entry.1)) }
+        ensures told { IfOk result (λ by. by ≡ decided entry.0.1 entry.1.mode (on_file (locks_in self.old) entry.0.0)) }
+        ensures ok { IfOk result (λ by. Agrees self.new (state_at by (locks_in self.old) (fin.insert (locks_in self.old) entry.0 entry.1))) }
         ensures err { OnErr result (Agrees self.new (locks_in self.old)) }
     {
         self.entries.reserve(1)?;
         make_room_under(&mut self.by_txn, entry.txn, spot.index)?;
         let key = self.entries.vacant_key();
         // The last that can fail makes the first change.
-        add(
+        let put = add(
             self.alloc,
             &mut self.by_file,
             &self.entries,
@@ -139,9 +143,14 @@ impl KeyedLocks {
             &entry,
             key,
         )?;
-        put_under(self.alloc, &mut self.by_txn, entry.txn, spot, key);
-        self.entries.insert_reserved(entry);
-        Ok(())
+        match put {
+            Ok(_place) => {
+                put_under(self.alloc, &mut self.by_txn, entry.txn, spot, key);
+                self.entries.insert_reserved(entry);
+                Ok(None)
+            }
+            Err(by) => Ok(Some(by)),
+        }
     }
 
     /// Puts a new lock into the entry under a key.
@@ -284,6 +293,27 @@ impl KeyedLocks {
             self.end_unstable(key);
         }
     }
+}
+
+/// The transaction of the first of these entries that is not this one's, where it conflicts with the mode.
+pub(crate) fn held_by(
+    entries: &Slab<LockEntry>,
+    keys: &[usize],
+    txn: u64,
+    mode: Mode,
+) -> Option<u64>
+    ensures { result ≡ decided txn mode (told entries.now keys.now) }
+{
+    for entry in (Listed { entries, keys }) {
+        if !(entry.txn == txn) {
+            return if mode.conflicts_with(entry.lock.mode) {
+                Some(entry.txn)
+            } else {
+                None
+            };
+        }
+    }
+    None
 }
 
 /// The entries under keys that are left to walk.

@@ -1,7 +1,7 @@
 ghost use Rattle.std.specs.Prelude.{◌≡◌, OnOk, OnErr, IfOk, IfSome, IfNone, None, Some};
 ghost use Rattle.std.specs.FinMap as fin;
 
-use crate::keyed::{KeyedLocks, Listed};
+use crate::keyed::{KeyedLocks, Listed, held_by};
 use crate::lists::Keys;
 use crate::{Lock, Mode};
 use std::alloc::{AllocError, Global};
@@ -15,6 +15,19 @@ pub enum LockOutcome {
     Granted,
     /// A transaction that holds it in a way that conflicts, the least one.
     Held { by: u64 },
+}
+
+impl LockOutcome {
+    ghost use Rattle.tq_locks.specs.Locks.{outcome};
+
+    fn of(blocker: Option<u64>) -> LockOutcome
+        ensures { result ≡ outcome blocker }
+    {
+        match blocker {
+            Some(by) => LockOutcome::Held { by },
+            None => LockOutcome::Granted,
+        }
+    }
 }
 
 /// A lock, with the file that it is on and the transaction that holds it.
@@ -118,16 +131,8 @@ impl LockTable {
         ensures free { IfNone result (IsFree self.now file txn mode) }
     {
         // Locks on a file are in no conflict, so the first of another transaction decides for all.
-        for entry in self.kept.listed(self.kept.keys_of_file(&file)) {
-            if !(entry.txn == txn) {
-                return if mode.conflicts_with(entry.lock.mode) {
-                    Some(entry.txn)
-                } else {
-                    None
-                };
-            }
-        }
-        None
+        let keys = self.kept.keys_of_file(&file);
+        held_by(&self.kept.entries, keys, txn, mode)
     }
 
     /// The lock of a transaction on a file. No two locks of the table are in conflict.
@@ -156,7 +161,9 @@ impl LockTable {
         let lock = Lock::after(self.kept.lock_at(found.key), mode, number, version);
         match found.key {
             Some(key) => self.kept.set_lock(key, lock),
-            None => self.kept.insert(LockEntry { file, txn, lock }, found.spot)?,
+            None => {
+                let _unblocked = self.kept.insert(LockEntry { file, txn, lock }, found.spot)?;
+            }
         }
         Ok(())
     }
@@ -177,12 +184,24 @@ impl LockTable {
         ensures no_conflict { HasNoConflict self.new }
         ensures err { OnErr result (self.new ≡ self.old) }
     {
-        let _ = &self.kept;
-        match self.blocker(txn, *file, mode) {
-            Some(by) => Ok(LockOutcome::Held { by }),
+        let found = self.kept.find(file, txn);
+        let lock = Lock::after(self.kept.lock_at(found.key), mode, number, version);
+        match found.key {
+            Some(key) => match self.blocker(txn, *file, mode) {
+                Some(by) => Ok(LockOutcome::Held { by }),
+                None => {
+                    self.kept.set_lock(key, lock);
+                    Ok(LockOutcome::Granted)
+                }
+            },
             None => {
-                self.grant(txn, *file, mode, number, version)?;
-                Ok(LockOutcome::Granted)
+                let entry = LockEntry {
+                    file: *file,
+                    txn,
+                    lock,
+                };
+                let by = self.kept.insert(entry, found.spot)?;
+                Ok(LockOutcome::of(by))
             }
         }
     }
