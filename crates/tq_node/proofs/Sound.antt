@@ -8,7 +8,8 @@ use Rattle.std.specs.Ordering.{nat_cmp}
 use Rattle.std.specs.Option.{option_map_or}
 use Rattle.tq_store.specs.Copies.{Files, installed_all, is_newer}
 use Rattle.tq_store.specs.declared.write.Write.{Write}
-use Rattle.tq_locks.specs.Locks.{Locks, held_of, granted, released, only_stable, kept}
+use Rattle.tq_locks.specs.Locks.{Locks, asked, blocker, held_of, granted, released, only_stable, kept}
+use Rattle.tq_shape.specs.Steps.{state_at}
 use Rattle.tq_locks.specs.declared.mode.Mode.{Mode}
 use Rattle.tq_intents.specs.Kept.{AreDead, HasOneVoteEach, IsAbove, IsUnfinished, Votes, kept_copies, kept_votes, open_votes, vote_at, vote_records}
 use Rattle.tq_intents.specs.declared.record.OpenVote.{OpenVote}
@@ -65,6 +66,13 @@ module _ (list : List Record) (last : ℕ) (files : Files) (locks : Locks) (soun
 
   pub sound-granted : (f : List ℕ) (t : ℕ) (m : Mode) (n v : ℕ) → fin.get (kept_votes list) t ≡ None → IsSound list last files (granted locks f t m n v)
   sound-granted f t m n v none = sound-table (granted locks f t m n v) (locks-granted locks (kept_votes list) f t m n v none sound.locks)
+
+  sound-unless : (by : Option ℕ) (table : Locks) → IsSound list last files table → IsSound list last files (state_at by locks table)
+  sound-unless None table h = h
+  sound-unless (Some by) table h = sound
+
+  pub sound-asked : (f : List ℕ) (t : ℕ) (m : Mode) (n v : ℕ) → fin.get (kept_votes list) t ≡ None → IsSound list last files (asked locks f t m n v)
+  sound-asked f t m n v none = sound-unless (blocker locks f t m) (granted locks f t m n v) (sound-granted f t m n v none)
 
   pub sound-released : (t : ℕ) → fin.get (kept_votes list) t ≡ None → IsSound list last files (released locks t)
   sound-released t none = sound-table (released locks t) (locks-released locks (kept_votes list) t none sound.locks)

@@ -10,6 +10,8 @@ ghost use Rattle.tq_node.specs.Node.{IsKept};
 ghost use Rattle.tq_node.specs.NodeChanges.{node_change, node_changed, left, stepped, stop_step, unnoted, work_step, end_step, NodeFits};
 ghost use Rattle.tq_node.specs.Cases.{IsOnlyStep, IsStep};
 
+mod locking;
+
 use crate::{
     CitedVote, HeldLock, MOST_WRITES, NodeAsk, NodeChange, NodeRefusal, NodeReply, NodeStep,
     Verdict, WorkAsk,
