@@ -2,7 +2,7 @@ ghost use Rattle.std.specs.Prelude.{◌≡◌, ◌+◌, ◌<◌, ◌≤◌, ◌+
 ghost use Rattle.std.specs.Option.{option_copied};
 ghost use Rattle.std.specs.FinMap as fin;
 ghost use Rattle.std.specs.Option.{IfSome, is_some};
-ghost use Rattle.std.specs.Prelude.{map, length, IsSome};
+ghost use Rattle.std.specs.Prelude.{map, length, take, IsSome, Some, if◌then◌else◌};
 ghost use Rattle.std.specs.Prelude.{ℕ};
 ghost use Rattle.std.specs.BTreeMap.{is_at};
 ghost use Rattle.std.specs.Ordering.{nat_cmp};
@@ -141,7 +141,7 @@ impl Intents {
         }
     }
 
-    /// Gives a vote: writes its records and opens it. All memory is asked for before the first change.
+    /// Gives a vote: writes its records and opens it. Where memory is refused, the records are cut back to those before.
     pub fn prepare(
         &mut self,
         alloc: Global,
@@ -157,16 +157,19 @@ impl Intents {
         ensures copies { OnOk result (kept_copies self.new.records ≡ kept_copies self.old.records) }
         ensures err { OnErr result (self.new.records ≡ self.old.records) }
     {
-        let mut added = vote_records(alloc, txn, number, writes.as_slice(), locks.as_slice())?;
-        self.records.reserve(added.len())?;
+        let before = self.records.len();
         let vote = OpenVote {
             number,
             writes,
             locks,
         };
-        let _replaced = self.open_votes.insert(txn, vote)?;
-        self.records.append(&mut added).unwrap();
-        Ok(())
+        match give(&mut self.records, &mut self.open_votes, txn, vote) {
+            Ok(()) => Ok(()),
+            Err(refused) => {
+                self.records.truncate(before);
+                Err(refused)
+            }
+        }
     }
 
     /// Writes the first records of a vote that was not given to its end: they stand for nothing. All memory is asked for
@@ -245,8 +248,24 @@ pub fn vote_records(
 ) -> Result<Vec<Record>, AllocError>
     ensures { IfOk result (λ records. records.items ≡ vote_records txn number writes.now locks.now) }
 {
+    let mut records = Vec::new(alloc);
+    push_vote(&mut records, txn, number, writes, locks)?;
+    Ok(records)
+}
+
+/// Writes the records of a vote behind the others. Where memory is refused, the first of them may stand there.
+fn push_vote(
+    records: &mut Vec<Record>,
+    txn: u64,
+    number: u64,
+    writes: &[Write],
+    locks: &[KeptLock],
+) -> Result<(), AllocError>
+    ensures ok { OnOk result (records.new.items ≡ records.old.items ++ vote_records txn number writes.now locks.now) }
+    ensures first { take (length records.old.items) records.new.items ≡ records.old.items }
+{
     let count = writes.len().saturating_add(locks.len()).saturating_add(1);
-    let mut records = Vec::with_capacity(alloc, count)?;
+    records.reserve(count)?;
     for write in writes {
         let write = write.clone()?;
         records.push(Record::Intent { txn, number, write })?;
@@ -256,7 +275,27 @@ pub fn vote_records(
         records.push(Record::Keep { txn, number, lock })?;
     }
     records.push(Record::Prepared { txn, number })?;
-    Ok(records)
+    Ok(())
+}
+
+/// Writes the records of a vote and opens it. Where memory is refused it is not opened, but the first of its records may
+/// stand behind the others.
+fn give(
+    records: &mut Vec<Record>,
+    open_votes: &mut BTreeMap<u64, OpenVote>,
+    txn: u64,
+    vote: OpenVote,
+) -> Result<(), AllocError>
+    ensures records { OnOk result (records.new.items ≡ records.old.items ++ vote_records txn vote.number vote.writes vote.locks) }
+    ensures votes { OnOk result ((other : ℕ) → lookup (is_at (nat_cmp other)) open_votes.new.entries ≡ (if is_at (nat_cmp txn) other then Some vote else lookup (is_at (nat_cmp other)) open_votes.old.entries)) }
+    ensures first { take (length records.old.items) records.new.items ≡ records.old.items }
+    ensures err { OnErr result (open_votes.new.entries ≡ open_votes.old.entries) }
+{
+    let writes = vote.writes.as_slice();
+    let locks = vote.locks.as_slice();
+    push_vote(records, txn, vote.number, writes, locks)?;
+    let _replaced = open_votes.insert(txn, vote)?;
+    Ok(())
 }
 
 /// The open votes of a list of records, by transaction.
