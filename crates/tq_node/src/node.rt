@@ -269,8 +269,7 @@ impl Node {
         ensures change { IfOk result (λ plan. plan.change ≡ work_step self.now.server self.now.state.records number (WorkAsk.Prepare txn writes.now)) }
     {
         let entries = self.locks.held(alloc, txn)?;
-        let held = held_locks(alloc, entries.as_slice())?;
-        let locks = kept_locks(alloc, entries.as_slice())?;
+        let (held, locks) = locks_of(alloc, entries.as_slice())?;
         let answered = writes.clone()?;
         let writes = writes.clone()?;
         Ok(Plan {
@@ -757,27 +756,22 @@ fn plan_refresh(
     })
 }
 
-/// Locks, as a vote lists them.
-fn held_locks(alloc: Global, entries: &[LockEntry]) -> Result<SharedSeq<HeldLock>, Memory>
-    ensures { IfOk result (λ held. held ≡ map spec.held_lock entries.now) }
+/// Locks, as a vote lists them and as it keeps them.
+fn locks_of(
+    alloc: Global,
+    entries: &[LockEntry],
+) -> Result<(SharedSeq<HeldLock>, Seq<KeptLock>), Memory>
+    ensures held { IfOk result (λ locks. locks.0 ≡ map spec.held_lock entries.now) }
+    ensures kept { IfOk result (λ locks. locks.1 ≡ map spec.kept_lock entries.now) }
 {
     let mut held = Vec::with_capacity(alloc, entries.len())?;
+    let mut kept = Vec::with_capacity(alloc, entries.len())?;
     for entry in entries {
         held.push(HeldLock {
             file: entry.file,
             mode: entry.lock.mode,
             since: entry.lock.since,
         })?;
-    }
-    Ok(SharedSeq::from_vec(held)?)
-}
-
-/// Locks, as a vote keeps them.
-fn kept_locks(alloc: Global, entries: &[LockEntry]) -> Result<Seq<KeptLock>, Memory>
-    ensures { IfOk result (λ kept. kept ≡ map spec.kept_lock entries.now) }
-{
-    let mut kept = Vec::with_capacity(alloc, entries.len())?;
-    for entry in entries {
         kept.push(KeptLock {
             file: entry.file,
             mode: entry.lock.mode,
@@ -785,7 +779,7 @@ fn kept_locks(alloc: Global, entries: &[LockEntry]) -> Result<Seq<KeptLock>, Mem
             version: entry.lock.version,
         })?;
     }
-    Ok(Seq::from_vec(kept))
+    Ok((SharedSeq::from_vec(held)?, Seq::from_vec(kept)))
 }
 
 fn files_rise(writes: &[Write]) -> bool

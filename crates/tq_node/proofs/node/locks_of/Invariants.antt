@@ -1,0 +1,6 @@
+use Rattle.std.proofs.Common.{◌≡◌, map, take}
+use Rattle.tq_node.specs.Records.{held_lock, kept_lock}
+use Rattle.tq_node.proofs.node.locks_of.Given as goal
+
+abbrev pub invariant-loop-entry : goal.invariant-loop-entry
+invariant-loop-entry l = (l.held.items ≡ map held_lock (take l.entry-index l.entries)) × (l.kept.items ≡ map kept_lock (take l.entry-index l.entries))
