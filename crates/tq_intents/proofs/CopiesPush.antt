@@ -1,7 +1,7 @@
 -- The copies that a list of records stands for, after more records.
-use Rattle.std.proofs.Common.{◌+◌, take, length, get_or, ◌≡◌, ℕ, Bool, true, false, cond, ◌&&◌, ◌<◌, ◌≤◌, List, [], ◌∷◌, ◌++◌, map, filter, Option, Some, None, refl, ap, sym, ◌∙◌, arith, nat_lt, nat_le}
+use Rattle.std.proofs.Common.{◌+◌, take, length, get_or, ◌≡◌, ℕ, Bool, true, false, cond, ◌&&◌, ◌<◌, ◌≤◌, List, [], ◌∷◌, ◌++◌, map, filter, Option, Some, None, refl, ap, sym, ◌∙◌, append_assoc, arith, nat_lt, nat_le}
 use Rattle.std.proofs.lemmas.Bool.Decides.{nat_tests}
-use Rattle.std.proofs.lemmas.List.{take_more}
+use Rattle.std.proofs.lemmas.List.{append-nil, take_more}
 use Rattle.std.specs.Cmp.Lexicographic.{nat_list_cmp_total}
 use Rattle.std.specs.FinMap as fin
 use Rattle.std.specs.FinMap.{nat_cmp-IsAntisymmetric, slice_cmp-IsAntisymmetric, same_map}
@@ -60,6 +60,14 @@ kept_copies-push_copy (Intent t n first ∷ rest) write = kept_copies-push_copy 
 kept_copies-push_copy (Keep t n lock ∷ rest) write = kept_copies-push_copy rest write
 kept_copies-push_copy (Prepared t n ∷ rest) write = kept_copies-push_copy rest write
 kept_copies-push_copy (Gone t n ∷ rest) write = kept_copies-push_copy rest write
+
+-- copies that are written last are installed
+pub kept_copies-push_copies : (writes : List Write) (list : List Record) → kept_copies (list ++ map Copy writes) ≡ installed_all (kept_copies list) writes
+kept_copies-push_copies [] list = ap kept_copies (append-nil list)
+kept_copies-push_copies (write ∷ writes) list =
+    ap kept_copies (sym (append_assoc list (Copy write ∷ []) (map Copy writes)))
+    ∙ kept_copies-push_copies writes (list ++ Copy write ∷ [])
+    ∙ ap (λ (files : Files). installed_all files writes) (kept_copies-push_copy list write)
 
 -- records that have no copy leave the copies
 pub kept_copies-others : (list more : List Record) → kept_copies more ≡ fin.empty → kept_copies (list ++ more) ≡ kept_copies list

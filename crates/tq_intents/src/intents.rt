@@ -2,7 +2,7 @@ ghost use Rattle.std.specs.Prelude.{◌≡◌, ◌+◌, ◌<◌, ◌≤◌, ◌+
 ghost use Rattle.std.specs.Option.{option_copied};
 ghost use Rattle.std.specs.FinMap as fin;
 ghost use Rattle.std.specs.Option.{IfSome, is_some};
-ghost use Rattle.std.specs.Prelude.{map, length, take, IsSome, Some, if◌then◌else◌};
+ghost use Rattle.std.specs.Prelude.{map, length, take, vec_capacity, vec_len, ◌-◌, IsSome, Some, if◌then◌else◌};
 ghost use Rattle.std.specs.Prelude.{ℕ};
 ghost use Rattle.std.specs.BTreeMap.{is_at};
 ghost use Rattle.std.specs.Ordering.{nat_cmp};
@@ -141,6 +141,26 @@ impl Intents {
         }
     }
 
+    /// Writes that copies were installed, with memory of their own, in the room that was made for it. Where memory is
+    /// refused, the records are cut back to those before.
+    pub fn write_copies(&mut self, writes: &[Write]) -> Result<(), AllocError>
+        requires { length writes.now ≤ self.old.room }
+        ensures records { OnOk result (self.new.records ≡ self.old.records ++ map Record.Copy writes.now) }
+        ensures votes { OnOk result (kept_votes self.new.records ≡ kept_votes self.old.records) }
+        ensures copies { OnOk result (kept_copies self.new.records ≡ installed_all (kept_copies self.old.records) writes.now) }
+        ensures room { OnOk result (self.old.room ≤ self.new.room + length writes.now) }
+        ensures err { OnErr result (self.new.records ≡ self.old.records) }
+    {
+        let before = self.records.len();
+        match push_each(&mut self.records, writes) {
+            Ok(()) => Ok(()),
+            Err(refused) => {
+                self.records.truncate(before);
+                Err(refused)
+            }
+        }
+    }
+
     /// Gives a vote: writes its records and opens it. Where memory is refused, the records are cut back to those before.
     pub fn prepare(
         &mut self,
@@ -236,6 +256,21 @@ fn install_record(alloc: Global, copies: &mut Copies, written: &Record) -> Resul
         }
         _ => Ok(()),
     }
+}
+
+/// Writes copies behind the other records, in the room that was made for them. Where memory is refused, the first of them
+/// may stand there.
+fn push_each(records: &mut Vec<Record>, writes: &[Write]) -> Result<(), AllocError>
+    requires { length writes.now ≤ vec_capacity records.old - vec_len records.old }
+    ensures ok { OnOk result (records.new.items ≡ records.old.items ++ map Record.Copy writes.now) }
+    ensures room { OnOk result (vec_capacity records.old - vec_len records.old ≤ vec_capacity records.new - vec_len records.new + length writes.now) }
+    ensures first { take (length records.old.items) records.new.items ≡ records.old.items }
+{
+    for write in writes {
+        let write = write.clone()?;
+        records.push_reserved(Record::Copy(write));
+    }
+    Ok(())
 }
 
 /// The records of a vote, in order.

@@ -1,5 +1,5 @@
 -- What a server's type promises stays true as its copies, locks and records change; and by it the records keep the copies, the votes and their locks.
-use Rattle.std.proofs.Common.{◌≡◌, ℕ, ◌+◌, ◌<◌, ◌≤◌, Bool, true, List, [], ◌∷◌, ◌++◌, map, Option, Some, None, IsSome, refl, sym, ap, subst, ◌∙◌, arith, append_assoc, filter}
+use Rattle.std.proofs.Common.{◌≡◌, ℕ, ◌+◌, ◌<◌, ◌≤◌, Bool, true, List, [], ◌∷◌, ◌++◌, map, Option, Some, None, IsSome, refl, sym, ap, subst, ◌∙◌, arith, filter}
 use Rattle.std.proofs.lemmas.Bool.{false≢true}
 use Rattle.std.proofs.lemmas.List.{append-nil}
 use Rattle.std.specs.FinMap as fin
@@ -11,12 +11,12 @@ use Rattle.tq_store.specs.declared.write.Write.{Write}
 use Rattle.tq_locks.specs.Locks.{Locks, asked, blocker, held_of, granted, released, only_stable, kept}
 use Rattle.tq_shape.specs.Steps.{state_at}
 use Rattle.tq_locks.specs.declared.mode.Mode.{Mode}
-use Rattle.tq_intents.specs.Kept.{AreDead, HasOneVoteEach, IsAbove, IsUnfinished, Votes, kept_copies, kept_votes, open_votes, vote_at, vote_records}
+use Rattle.tq_intents.specs.Kept.{AreDead, HasOneVoteEach, IsAbove, IsUnfinished, Votes, kept_votes, open_votes, vote_at, vote_records}
 use Rattle.tq_intents.specs.declared.record.OpenVote.{OpenVote}
 use Rattle.tq_intents.specs.declared.record.Record.{Record}
 use Rattle.tq_intents.specs.declared.record.Record.TheVariants.{Copy, Gone}
-use Rattle.tq_intents.proofs.CopiesPush.{installed_all-newer, kept_copies-others, kept_copies-push_copy, kept_copies-vote}
-use Rattle.tq_intents.proofs.CopyPush.{open_votes-push_copy}
+use Rattle.tq_intents.proofs.CopiesPush.{installed_all-newer, kept_copies-others, kept_copies-push_copies, kept_copies-vote}
+use Rattle.tq_intents.proofs.CopyPush.{open_votes-push_copies}
 use Rattle.tq_intents.proofs.DeadRecords.{dead_above, dead_copies, open_votes-dead}
 use Rattle.tq_intents.proofs.Votes.{HasOneVoteEach-ended, HasOneVoteEach-given, kept_votes-ended, kept_votes-given}
 use Rattle.tq_node.specs.Node.{IsKept, IsSound, LocksIn, NodeView}
@@ -29,18 +29,7 @@ use Rattle.tq_node.proofs.Numbers.{above_append, above_copies, above_ended, abov
 -- ---- the lists
 
 pub open_votes-copies : (writes : List Write) (list : List Record) → open_votes (list ++ map Copy writes) ≡ open_votes list
-open_votes-copies [] list = ap open_votes (append-nil list)
-open_votes-copies (write ∷ writes) list =
-    ap open_votes (sym (append_assoc list (Copy write ∷ []) (map Copy writes)))
-    ∙ open_votes-copies writes (list ++ Copy write ∷ [])
-    ∙ open_votes-push_copy list write
-
-pub kept_copies-all : (writes : List Write) (list : List Record) → kept_copies (list ++ map Copy writes) ≡ installed_all (kept_copies list) writes
-kept_copies-all [] list = ap kept_copies (append-nil list)
-kept_copies-all (write ∷ writes) list =
-    ap kept_copies (sym (append_assoc list (Copy write ∷ []) (map Copy writes)))
-    ∙ kept_copies-all writes (list ++ Copy write ∷ [])
-    ∙ ap (λ (files : Files). installed_all files writes) (kept_copies-push_copy list write)
+open_votes-copies = open_votes-push_copies
 
 vote_at-is : (votes : Votes) (t : ℕ) (vote : OpenVote) → fin.get votes t ≡ Some vote → vote_at votes t ≡ vote
 vote_at-is votes t vote h = ap (λ (o : Option OpenVote). option_map_or (λ vote. vote) o (record { number = 0; writes = []; locks = [] })) h
@@ -86,7 +75,7 @@ module _ (list : List Record) (last : ℕ) (files : Files) (locks : Locks) (soun
       record {
         numbers = above_append (last + 1) list (map Copy writes) sound.numbers (above_copies (last + 1) writes);
         one_each = subst (λ (es : List (ℕ × OpenVote)). AllByRecursion (λ entry. fin.get {R = nat_cmp} (fin.from_entries es) entry.0 ≡ Some entry.1) es) (sym same) sound.one_each;
-        copies = kept_copies-all writes list ∙ ap (λ (f : Files). installed_all f writes) sound.copies;
+        copies = kept_copies-push_copies writes list ∙ ap (λ (f : Files). installed_all f writes) sound.copies;
         locks = subst (λ (es : List (ℕ × OpenVote)). LocksIn locks (fin.from_entries es)) (sym same) sound.locks;
       }
 

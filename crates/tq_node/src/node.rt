@@ -555,7 +555,7 @@ impl Node {
     }
 
     /// Installs a vote's writes and ends it. Those that are not newer than the copies change nothing, so only the contract
-    /// speaks of all the writes. All memory is asked for before the first change.
+    /// speaks of all the writes. Once the records of the copies are written nothing asks for memory any more.
     fn install(
         &mut self,
         alloc: Global,
@@ -571,11 +571,10 @@ impl Node {
         ensures after { OnOk result (self.new ≡ unnoted self.old number (NodeStep.Install txn vote writes newer)) }
         ensures err { OnErr result (self.new ≡ self.old) }
     {
-        let installed = newer.clone()?;
         self.copies.reserve(alloc, newer.len())?;
         self.intents.reserve(newer.len() + 1)?;
-        self.copies.install_all(installed);
-        self.intents.push_copies(newer);
+        self.intents.write_copies(newer.as_slice())?;
+        self.copies.install_all(newer);
         self.intents.finish(txn);
         self.locks.release(txn);
         Ok(())

@@ -1,4 +1,4 @@
-use Rattle.std.proofs.Common.{◌≡◌, ℕ, List, [], ◌∷◌, ◌++◌, IsSome, map, filter, ap, sym, subst, ◌∙◌, rules, arith}
+use Rattle.std.proofs.Common.{◌≡◌, ℕ, List, [], ◌∷◌, ◌++◌, IsSome, map, filter, ap, sym, subst, ◌∙◌, arith}
 use Rattle.std.proofs.lemmas.Grind.{common_steps}
 use Rattle.std.specs.FinMap as fin
 use Rattle.tq_store.specs.Copies.{installed_all, is_newer}
@@ -20,11 +20,10 @@ invariant_of-self-2 c =
     let is_open : IsSome (fin.get (kept_votes inside.intents.records) c.args.txn) = subst (λ v. IsSome (fin.get v.state.records.votes c.args.txn)) (sym c.self.view_is) c.requires.open in
     let newer : c.args.newer ≡ filter (is_newer inside.copies.files) c.args.writes =
     c.requires.newer ∙ ap (λ v. filter (is_newer v.state.records.copies) c.args.writes) (sym c.self.view_is) in
-    let same : c.in_ok-installed.installed ≡ c.args.newer = search rules in
     sound-as (sound-installed inside.intents.records inside.last inside.copies.files inside.locks c.self.invariant c.args.txn c.args.writes is_open)
     (c.finish.ensures.records ∙ ap (λ list. list ++ Gone c.args.txn (vote_at (kept_votes list) c.args.txn).number ∷ [])
-    (c.push_copies.ensures.records ∙ (λ i. c.in_ok-reserve-2.ensures.records i ++ map Copy (newer i))))
-    (c.install_all.ensures.files ∙ (λ i. installed_all (c.in_ok-reserve.ensures.files i) ((same ∙ newer) i)) ∙ installed_all-newer inside.copies.files c.args.writes)
+    (c.in_ok-write_copies.ensures.records ∙ (λ i. c.in_ok-reserve-2.ensures.records i ++ map Copy ((c.as_slice.ensures ∙ newer) i))))
+    (c.install_all.ensures.files ∙ (λ i. installed_all (c.in_ok-reserve.ensures.files i) (newer i)) ∙ installed_all-newer inside.copies.files c.args.writes)
     c.release.ensures
 
 -- the newer writes leave the server that all of them would
