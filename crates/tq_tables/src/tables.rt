@@ -29,10 +29,11 @@ use tq_shape::{Levels, Memory, Part};
 ///
 /// The rows of files are kept, and an ask changes only those of the files that it is about. The other rows are read
 /// off the parts, which keep them in order: the best of each subtree, the lock tables, and the open votes.
+// Both are boxed, so that what is moved or let go of is two words and not a dozen containers.
 #[derive(Drop)]
 pub struct Tables {
-    parts: Parts,
-    files: FileTable,
+    parts: Box<Parts>,
+    files: Box<FileTable>,
 }
 
 impl Model for Tables {
@@ -50,9 +51,9 @@ impl Model for Tables {
 
     ghost coded = { tables_code record_type.the_row.coded vote_type.the_row.coded verdict_type.the_row.coded least_type.the_row.coded file_type.the_row.coded lock_type.the_row.coded intent_type.the_row.coded };
 
-    ghost view = { λ a. tables_at a.parts a.files.rows };
+    ghost view = { λ a. tables_at a.parts.value a.files.value.rows };
 
-    ghost invariant = { λ a. a.parts.view.levels ≡ a.files.levels };
+    ghost invariant = { λ a. a.parts.value.view.levels ≡ a.files.value.levels };
 }
 
 impl Tables {
@@ -79,9 +80,11 @@ impl Tables {
         requires stands { parts.desk ≡ desk_state (bounds_of parts.desk.levels parts.desk.limits) (reverse entries.now) }
         ensures { IfOk result (λ tables. tables ≡ tables_over parts entries.now) }
     {
+        let parts = Box::new(alloc, parts)?;
         let levels = parts.levels();
         let rows = file_rows(alloc, levels, parts.nodes(), entries)?;
         let files = FileTable::of(alloc, levels, rows)?;
+        let files = Box::new(alloc, files)?;
         Ok(Tables { parts, files })
     }
 
@@ -90,7 +93,9 @@ impl Tables {
         ensures { IfOk result (λ copy. copy ≡ self.now) }
     {
         let parts = self.parts.copy(alloc)?;
+        let parts = Box::new(alloc, parts)?;
         let files = self.files.copy(alloc)?;
+        let files = Box::new(alloc, files)?;
         Ok(Tables { parts, files })
     }
 
@@ -111,9 +116,11 @@ impl Tables {
             → self.old ≡ tables_of journals → self.new ≡ tables_of (with_node journals server (entry ask.now reply))) }
         ensures unchanged { OnErr result (self.new ≡ self.old) }
     {
-        let telling = self.parts.ask_node(alloc, server, number, ask)?;
-        let node = self.parts.node(server);
-        self.files.stand_all(node, telling.files.as_slice());
+        let parts: &mut Parts = &mut self.parts;
+        let files: &mut FileTable = &mut self.files;
+        let telling = parts.ask_node(alloc, server, number, ask)?;
+        let node = parts.node(server);
+        files.stand_all(node, telling.files.as_slice());
         Ok(telling.replies)
     }
 
@@ -125,7 +132,8 @@ impl Tables {
             → self.old ≡ tables_of journals → self.new ≡ tables_of (with_view journals (entry ask.now reply))) }
         ensures unchanged { OnErr result (self.new ≡ self.old) }
     {
-        let replies = self.parts.ask_view(alloc, ask)?;
+        let parts: &mut Parts = &mut self.parts;
+        let replies = parts.ask_view(alloc, ask)?;
         Ok(replies)
     }
 
@@ -139,14 +147,16 @@ impl Tables {
             → self.old ≡ tables_of journals → self.new ≡ tables_of (with_desk journals (entry ask.now reply))) }
         ensures unchanged { OnErr result (self.new ≡ self.old) }
     {
-        let plan = self.parts.desk().plan(alloc, ask)?;
+        let parts: &mut Parts = &mut self.parts;
+        let files: &mut FileTable = &mut self.files;
+        let plan = parts.desk().plan(alloc, ask)?;
         let change = plan.change;
         let replies = twice::<Desk>(alloc, plan.reply)?;
         let ops = committed_ops(ask, &replies.entered);
-        let rows = rows_written(alloc, self.parts.nodes(), &self.files, ops)?;
-        self.files.reserve(rows.len())?;
-        self.parts.change_desk(change)?;
-        self.files.put_all(rows);
+        let rows = rows_written(alloc, parts.nodes(), files, ops)?;
+        files.reserve(rows.len())?;
+        parts.change_desk(change)?;
+        files.put_all(rows);
         Ok(replies)
     }
 

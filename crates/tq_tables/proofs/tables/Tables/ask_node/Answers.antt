@@ -6,9 +6,10 @@ use Rattle.tq_node.specs.Records.{node_reply}
 use Rattle.tq_shape.specs.Journal.{entry}
 use Rattle.tq_tables.specs.Asked.{both, node_in}
 use Rattle.tq_tables.specs.Files as spec
+use Rattle.tq_tables.specs.Files.{FilesView}
 use Rattle.tq_tables.specs.Parts.{PartsView}
 use Rattle.tq_tables.specs.Rows.{file_rows}
-use Rattle.tq_tables.specs.Tables.{TablesView}
+use Rattle.tq_tables.specs.Tables.{TablesView, tables_at}
 use Rattle.tq_tables.proofs.Noted.{rows-at}
 use Rattle.tq_tables.proofs.Replayed.{of_tree-at}
 use Rattle.tq_tables.proofs.Restood.{get_or-put, is_there, next-number, node-noted, node_in-at, rows-stand, with_nodes, with_nodes-at}
@@ -17,20 +18,23 @@ use Rattle.tq_tables.proofs.tables.Tables.ask_node.Goals as goal
 
 pub ask_node-requires-clause-there : goal.ask_node-requires-clause-there
 ask_node-requires-clause-there c =
+    let view_is = (λ i. tables_at (c.deref_mut-parts.ensures.value i) (c.deref_mut-files.ensures.value i).rows) ∙ c.self.view_is in
     let there = is_there c.args.self.now c.args.server c.args.number c.requires in
-    let many = ap (λ (t : TablesView). length t.nodes) c.self.view_is in
+    let many = ap (λ (t : TablesView). length t.nodes) view_is in
     (there.0, omega (arith, there.1, many))
 
 pub ask_node-requires-clause-next : goal.ask_node-requires-clause-next
 ask_node-requires-clause-next c = λ node at.
-    let next = next-number c.args.self.now c.args.server c.args.number node c.requires (at ∙ ap (λ (t : TablesView). get_or t.nodes (c.args.server - 1) node) c.self.view_is) in
+    let view_is = (λ i. tables_at (c.deref_mut-parts.ensures.value i) (c.deref_mut-files.ensures.value i).rows) ∙ c.self.view_is in
+    let next = next-number c.args.self.now c.args.server c.args.number node c.requires (at ∙ ap (λ (t : TablesView). get_or t.nodes (c.args.server - 1) node) view_is) in
     omega (arith, next)
 
 pub node-node-requires : goal.node-node-requires
 node-node-requires c =
-    let parts = c.self.inside.parts in
+    let view_is = (λ i. tables_at (c.deref_mut-parts.ensures.value i) (c.deref_mut-files.ensures.value i).rows) ∙ c.self.view_is in
+    let parts = c.deref_mut-parts.result.now in
     let there = is_there c.args.self.now c.args.server c.args.number c.requires in
-    let many = ap (λ (t : TablesView). length t.nodes) c.self.view_is in
+    let many = ap (λ (t : TablesView). length t.nodes) view_is in
     let less : c.args.server - 1 < length parts.nodes = omega (arith, there.0, there.1, many) in
     let old = node_in parts.nodes c.args.server in
     let after = c.in_ok-telling.ensures.after old (node_in-at parts.nodes c.args.server less) in
@@ -39,42 +43,48 @@ node-node-requires c =
 
 pub stand_all-requires : goal.stand_all-requires
 stand_all-requires c =
-    let parts = c.self.inside.parts in
+    let view_is = (λ i. tables_at (c.deref_mut-parts.ensures.value i) (c.deref_mut-files.ensures.value i).rows) ∙ c.self.view_is in
+    let same = ap (λ (p : PartsView). p.view.levels) c.deref_mut-parts.ensures.value ∙ c.self.invariant ∙ sym (ap (λ (f : FilesView). f.levels) c.deref_mut-files.ensures.value) in
+    let parts = c.deref_mut-parts.result.now in
     let there = is_there c.args.self.now c.args.server c.args.number c.requires in
-    let many = ap (λ (t : TablesView). length t.nodes) c.self.view_is in
+    let many = ap (λ (t : TablesView). length t.nodes) view_is in
     let less : c.args.server - 1 < length parts.nodes = omega (arith, there.0, there.1, many) in
     let after = c.in_ok-telling.ensures.after (node_in parts.nodes c.args.server) (node_in-at parts.nodes c.args.server less) in
-    c.node-node.ensures.of_tree ∙ ap (λ (p : PartsView). p.view.levels) after ∙ c.self.invariant
+    c.node-node.ensures.of_tree ∙ ap (λ (p : PartsView). p.view.levels) after ∙ same
 
 pub invariant_of-self-2 : goal.invariant_of-self-2
 invariant_of-self-2 c =
-    let parts = c.self.inside.parts in
+    let view_is = (λ i. tables_at (c.deref_mut-parts.ensures.value i) (c.deref_mut-files.ensures.value i).rows) ∙ c.self.view_is in
+    let same = ap (λ (p : PartsView). p.view.levels) c.deref_mut-parts.ensures.value ∙ c.self.invariant ∙ sym (ap (λ (f : FilesView). f.levels) c.deref_mut-files.ensures.value) in
+    let parts = c.deref_mut-parts.result.now in
     let there = is_there c.args.self.now c.args.server c.args.number c.requires in
-    let many = ap (λ (t : TablesView). length t.nodes) c.self.view_is in
+    let many = ap (λ (t : TablesView). length t.nodes) view_is in
     let less : c.args.server - 1 < length parts.nodes = omega (arith, there.0, there.1, many) in
     let after = c.in_ok-telling.ensures.after (node_in parts.nodes c.args.server) (node_in-at parts.nodes c.args.server less) in
-    ap (λ (p : PartsView). p.view.levels) after ∙ c.self.invariant ∙ sym c.stand_all.ensures.levels
+    ap (λ (p : PartsView). p.view.levels) after ∙ same ∙ sym c.stand_all.ensures.levels
 
 pub returns-clause-replies : goal.returns-clause-replies
 returns-clause-replies c =
+    let view_is = (λ i. tables_at (c.deref_mut-parts.ensures.value i) (c.deref_mut-files.ensures.value i).rows) ∙ c.self.view_is in
     let server = c.args.server in
-    let nodes = c.self.inside.parts.nodes in
+    let nodes = c.deref_mut-parts.result.now.nodes in
     let there = is_there c.args.self.now server c.args.number c.requires in
-    let many = ap (λ (t : TablesView). length t.nodes) c.self.view_is in
+    let many = ap (λ (t : TablesView). length t.nodes) view_is in
     let less : server - 1 < length nodes = omega (arith, there.0, there.1, many) in
     c.in_ok-telling.ensures.replies (node_in nodes server) (node_in-at nodes server less)
-    ∙ ap (λ (t : TablesView). both (node_reply (node_in t.nodes server).server (node_in t.nodes server).state c.args.ask.now)) c.self.view_is
+    ∙ ap (λ (t : TablesView). both (node_reply (node_in t.nodes server).server (node_in t.nodes server).state c.args.ask.now)) view_is
 
 pub returns-clause-asked : goal.returns-clause-asked
 returns-clause-asked c = λ journals reply legal stand.
+    let view_is = (λ i. tables_at (c.deref_mut-parts.ensures.value i) (c.deref_mut-files.ensures.value i).rows) ∙ c.self.view_is in
     let ask = c.args.ask.now in
     let e = entry ask reply in
     let server = c.args.server in
     let list = commits (reverse journals.desk) in
-    let parts = c.self.inside.parts in
-    let rows = c.self.inside.files.rows in
+    let parts = c.deref_mut-parts.result.now in
+    let rows = c.deref_mut-files.result.now.rows in
     let there = is_there c.args.self.now server c.args.number c.requires in
-    let many = ap (λ (t : TablesView). length t.nodes) c.self.view_is in
+    let many = ap (λ (t : TablesView). length t.nodes) view_is in
     let less : server - 1 < length parts.nodes = omega (arith, there.0, there.1, many) in
     let within : server ≤ length parts.nodes = omega (arith, there.1, many) in
     let old = node_in parts.nodes server in
@@ -85,20 +95,20 @@ returns-clause-asked c = λ journals reply legal stand.
     c.node-node.ensures.value
     ∙ ap (λ (p : PartsView). get_or p.nodes (server - 1) c.node-node.result.now) after
     ∙ get_or-put parts.nodes (server - 1) node c.node-node.result.now less in
-    let whole = c.self.view_is ∙ stand in
+    let whole = view_is ∙ stand in
     let of_tree = of_tree-at journals.levels journals.servers parts.nodes parts.view.levels (ap (λ (t : TablesView). t.nodes) whole) (ap (λ (t : TablesView). t.view.levels) whole) in
     let stands = rows-stand parts of_tree server there.0 within old node at refl refl c.in_ok-telling.telling.files.items (c.in_ok-telling.ensures.told old at) rows journals
-    (rows-at parts rows c.args.self.now c.self.view_is journals stand) in
+    (rows-at parts rows c.args.self.now view_is journals stand) in
     let files : c.stand_all.new.self.rows ≡ file_rows c.args.self.now.view.levels c.ask_node.new.self.nodes list =
     c.stand_all.ensures.rows
     ∙ (λ i. spec.all_stood (node_is i) rows (c.as_slice.ensures.value i))
     ∙ stands
-    ∙ (λ i. file_rows (c.self.view_is i).view.levels (sym after i).nodes list) in
-    let at_now = at ∙ ap (λ (t : TablesView). get_or t.nodes (server - 1) old) c.self.view_is in
+    ∙ (λ i. file_rows (view_is i).view.levels (sym after i).nodes list) in
+    let at_now = at ∙ ap (λ (t : TablesView). get_or t.nodes (server - 1) old) view_is in
     let next = next-number c.args.self.now server c.args.number old c.requires at_now in
     node-noted journals server c.args.self.now old stand there.0 at_now there.1 e legal c.args.number next
     _ c.ask_node.new.self.nodes c.stand_all.new.self.rows
-    (ap (λ (p : PartsView). p.nodes) after ∙ ap (λ (t : TablesView). set t.nodes (server - 1) node) c.self.view_is)
+    (ap (λ (p : PartsView). p.nodes) after ∙ ap (λ (t : TablesView). set t.nodes (server - 1) node) view_is)
     files
     (with_nodes-at parts c.ask_node.new.self (set parts.nodes (server - 1) node) c.stand_all.new.self.rows rows after
-    ∙ ap (λ (t : TablesView). with_nodes t c.ask_node.new.self.nodes c.stand_all.new.self.rows) c.self.view_is)
+    ∙ ap (λ (t : TablesView). with_nodes t c.ask_node.new.self.nodes c.stand_all.new.self.rows) view_is)
