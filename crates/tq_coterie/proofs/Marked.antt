@@ -1,15 +1,19 @@
 -- Marks of members, from the leaves up to the root.
 use Rattle.std.proofs.Common.{◌≡◌, ℕ, ◌+◌, ◌-◌, ◌*◌, ◌/◌, ◌%◌, ◌^◌, ◌<◌, ◌≤◌, zero, suc, List, Bool, true, false, ◌||◌, eqb, refl, sym, inl, inr, arith, ap, ◌∙◌, subst, w64}
-use Rattle.std.specs.Prelude.{bit_or}
+use Rattle.std.specs.Prelude.{bit_and, bit_or, min}
 use Rattle.std.specs.Int.{bit_at}
 use Rattle.std.proofs.lemmas.Bool.{cases_eq, cases_lt, eq-eqb, ne_eqb}
-use Rattle.std.proofs.lemmas.Nat.Bits.{bit_at_set_same, bit_at_set_other}
+use Rattle.std.specs.Int.Bits.{mask_lt}
+use Rattle.std.specs.Int.Count.{count_leading_zeros}
+use Rattle.std.proofs.Math.Pow.{pow_mono}
+use Rattle.std.proofs.lemmas.Nat.{leading_top}
+use Rattle.std.proofs.lemmas.Nat.Bits.{bit_at_above, bit_at_and, bit_at_ones, bit_at-zero, bit_at_set_same, bit_at_set_other}
 use Rattle.tq_shape.specs.Tree.{left_of, right_of}
 use Rattle.tq_shape.specs.Depth.{height_of}
 use Rattle.tq_shape.proofs.Depth.{height_of-side, height_of-leaf, right_within}
 use Rattle.tq_coterie.specs.Coterie.{has}
 use Rattle.tq_coterie.specs.Parts.{part_of, part_from_sides, member_or_empty}
-use Rattle.tq_coterie.specs.Marks.{is_marked, part_at, AreMarksOf, IsRaised}
+use Rattle.tq_coterie.specs.Marks.{is_marked, part_at, AreMarksOf, IsBare, IsRaised}
 use Rattle.tq_coterie.specs.declared.part.Part.{Part}
 use Rattle.tq_coterie.specs.declared.part.Part.TheVariants.{Empty, Member, Neither}
 use Rattle.tq_coterie.proofs.Parts.{part_of-leaf, part_of-fork}
@@ -69,6 +73,56 @@ raised-more levels servers marks server after positive raised step = record {
       ];
   inner = omega (arith, raised.inner);
 }
+
+-- a server with no mark below it is raised as it is
+bare-raised : (marks server : ℕ) → IsBare marks server → IsRaised marks server marks
+bare-raised marks server bare = record {
+  here = rw (bare.own, bare.left, bare.right) refl;
+  others = λ other different. refl;
+}
+
+-- and so are all servers with none, one after the other
+pub raised-over : (bare : ℕ) (levels : ℕ) (servers : List ℕ) (marks server next : ℕ) → next + bare ≡ server → ((other : ℕ) → next < other → other ≤ server → IsBare marks other) → AreRaised levels servers marks server → AreRaised levels servers marks next
+raised-over zero levels servers marks server next is bare raised = subst (λ n. AreRaised levels servers marks n) (omega (arith, is)) raised
+raised-over (suc more) levels servers marks server next is bare raised =
+    raised-over more levels servers marks (server - 1) next (omega (arith, is)) (λ other above within. bare other above (omega arith))
+    (raised-more levels servers marks server marks (omega (arith, is)) raised (bare-raised marks server (bare server (omega (arith, is)) (omega arith))))
+
+-- ---- the last mark below a limit
+
+masked : (marks limit other : ℕ) → other < limit → bit_at (bit_and marks (2 ^ limit - 1)) other ≡ 0 → is_marked marks other ≡ false
+masked marks limit other within none =
+    let both : min (bit_at marks other) 1 ≡ 0 = ap (λ n. min (bit_at marks other) n) (sym (bit_at_ones limit other within)) ∙ sym (bit_at_and marks (2 ^ limit - 1) other) ∙ none in
+    elim (cases_eq (bit_at marks other) 1) [
+      | inl one ↦
+          let P : ℕ → Type 0 = λ n. min n 1 ≡ 0 in
+          absurd (omega (arith, subst P one both))
+      | inr other_bit ↦
+          ne_eqb (bit_at marks other) 1 other_bit
+    ]
+
+pub none-below : (marks limit other : ℕ) → other < limit → bit_and marks (2 ^ limit - 1) ≡ 0 → is_marked marks other ≡ false
+none-below marks limit other within none = masked marks limit other within (ap (λ n. bit_at n other) none ∙ bit_at-zero other)
+
+-- the place of the first bit of what is below the limit
+pub record IsLastMark (marks limit place : ℕ) : Type 0 where
+  pub below : place < limit
+  pub last : (other : ℕ) → place < other → other < limit → is_marked marks other ≡ false
+
+pub last-mark : (marks limit : ℕ) → limit < 64 → 0 < bit_and marks (2 ^ limit - 1) → IsLastMark marks limit (63 - count_leading_zeros 64 (bit_and marks (2 ^ limit - 1)))
+last-mark marks limit within some =
+    let low : ℕ = bit_and marks (2 ^ limit - 1) in
+    let small : low < 2 ^ limit = mask_lt marks limit in
+    let top = leading_top 64 low some (omega (arith, small, pow_mono {i = limit} {j = 64} (omega arith))) in
+    let place : ℕ = top.0 in
+    let is : 63 - count_leading_zeros 64 low ≡ place = omega (arith, top.1) in
+    rw is (record {
+      below = elim (cases_lt place limit) [
+        | inl lower ↦ lower
+        | inr higher ↦ absurd (omega (arith, small, top.2, pow_mono {i = limit} {j = place} (omega (arith, higher))))
+      ];
+      last = λ other above under. masked marks limit other under (bit_at_above low (suc place) other top.3 (omega (arith, above)));
+    })
 
 -- ---- what is neither at one server is neither at the root
 

@@ -1,5 +1,5 @@
 -- Servers as the bits of a word, bit n the mark of server n.
-use Rattle.std.specs.Prelude.{◌≡◌, ℕ, Bool, ◌==◌, List}
+use Rattle.std.specs.Prelude.{◌≡◌, ℕ, Bool, false, ◌==◌, List}
 use Rattle.std.specs.Int.{bit_at}
 use Rattle.tq_shape.specs.Tree.{left_of, right_of}
 use Rattle.tq_coterie.specs.Coterie.{has}
@@ -24,3 +24,9 @@ part_at marks server =
 pub record IsRaised (before server after : ℕ) : Type 0 where
   pub here : part_at before server ≡ member_or_empty (is_marked after server)
   pub others : (other : ℕ) → (server ≡ other → ⊥) → is_marked after other ≡ is_marked before other
+
+-- neither the server nor a side of it is marked
+pub record IsBare (marks server : ℕ) : Type 0 where
+  pub own : is_marked marks server ≡ false
+  pub left : is_marked marks (left_of server) ≡ false
+  pub right : is_marked marks (right_of server) ≡ false

@@ -1,7 +1,7 @@
-ghost use Rattle.std.specs.Prelude.{◌≡◌, ◌+◌, ◌*◌, ◌^◌, ◌<◌, ◌==◌, ◌||◌, ℕ, All, IfSome, IfNone};
+ghost use Rattle.std.specs.Prelude.{◌≡◌, ◌+◌, ◌*◌, ◌^◌, ◌<◌, ◌==◌, ◌||◌, ℕ, All, IfSome, IfNone, false};
 ghost use Rattle.tq_shape.specs.Depth.{height_of};
 ghost use Rattle.tq_coterie.specs.Parts.{part_of};
-ghost use Rattle.tq_coterie.specs.Marks.{is_marked, part_at, AreMarksOf, IsRaised};
+ghost use Rattle.tq_coterie.specs.Marks.{is_marked, part_at, AreMarksOf, IsBare, IsRaised};
 
 use crate::part::{Part, part_of_fork};
 use tq_shape::ServerId;
@@ -26,7 +26,7 @@ pub(crate) fn part_under_root(root: ServerId, servers: &[u64]) -> Part
             Some(after) => members = after,
             None => return Part::Neither,
         }
-        server -= 1;
+        server = members.next_below(server);
     }
     if members.has(root.number()) {
         Part::Member
@@ -63,6 +63,32 @@ impl Marks {
             Part::Member => Some(self.with(server)),
             Part::Neither => None,
         }
+    }
+
+    /// The greatest server below this one that is marked, or has a side that is; 0 where there is none.
+    fn next_below(self, server: u64) -> u64
+        requires positive { 0 < server }
+        requires within { 2 * server < 64 }
+        ensures below { result < server }
+        ensures bare { (other : ℕ) → result < other → other < server → IsBare self.bits other }
+    {
+        let own = self.last_below(server);
+        let above_side = self.last_below(2 * server) / 2;
+        own.max(above_side)
+    }
+
+    /// The greatest marked server below this one; 0 where there is none.
+    fn last_below(self, server: u64) -> u64
+        requires positive { 0 < server }
+        requires within { server < 64 }
+        ensures below { result < server }
+        ensures last { (other : ℕ) → result < other → other < server → is_marked self.bits other ≡ false }
+    {
+        let below = self.bits & ((1u64 << server) - 1);
+        if below == 0 {
+            return 0;
+        }
+        63 - below.leading_zeros() as u64
     }
 
     /// Whether the server is marked.

@@ -1,5 +1,5 @@
-use Rattle.std.proofs.Common.{◌^◌, arith, ap, sym}
-use Rattle.tq_coterie.proofs.Marked.{raised-leaves, raised-more, neither-root}
+use Rattle.std.proofs.Common.{◌-◌, ◌^◌, arith, ap, sym}
+use Rattle.tq_coterie.proofs.Marked.{raised-leaves, raised-more, raised-over, neither-root}
 use Rattle.tq_coterie.proofs.marks.part_under_root.Goals as goal
 
 pub loop-server-init : goal.loop-server-init
@@ -10,8 +10,11 @@ loop-server-init c =
 
 pub loop-server-preserved : goal.loop-server-preserved
 loop-server-preserved c =
-    raised-more c.args.root.levels c.args.servers.now c.loop-server.members.bits c.loop-server.server c.in-Some.after.bits
-    (omega (arith, c.loop-server-test.true)) c.loop-server.invariant c.in-Some.ensures.raised
+    raised-over (c.loop-server.server - 1 - c.next_below-server.result) c.args.root.levels c.args.servers.now c.in-Some.after.bits (c.loop-server.server - 1) c.next_below-server.result
+    (omega (arith, c.next_below-server.ensures.below))
+    (λ other above within. c.next_below-server.ensures.bare other above (omega (arith, c.loop-server-test.true)))
+    (raised-more c.args.root.levels c.args.servers.now c.loop-server.members.bits c.loop-server.server c.in-Some.after.bits
+    (omega (arith, c.loop-server-test.true)) c.loop-server.invariant c.in-Some.ensures.raised)
 
 pub returns-in-None : goal.returns-in-None
 returns-in-None c =
