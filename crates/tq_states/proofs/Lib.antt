@@ -1,4 +1,5 @@
 pub mod Puts
+pub mod NotedLaws
 pub mod NumberSets
 pub mod Tested
 pub mod GoodGrants

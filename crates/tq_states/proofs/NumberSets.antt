@@ -97,13 +97,17 @@ has-all p (first ∷ rest) n all here =
       | false ↦ λ is more. has-all p rest n parts.1 more
     ] refl here
 
+-- the set has the servers of others, found one by one
+pub has_all-map : {X : Type 0} (number : X → ℕ) (ids : List Server) (others : List X) → list_all (λ other. list_any (λ id. id.number == number other) ids) others ≡ list_all (has (numbers_of ids)) (map number others)
+has_all-map number ids [] = refl
+has_all-map number ids (other ∷ others) = λ i. sym (has-map (λ (id : Server). id.number) ids (number other)) i && has_all-map number ids others i
+
 -- a set that has each of the servers does not grow by them
-pub with_numbers-held : {X : Type 0} (number : X → ℕ) (ids : List Server) (others : List X) → list_all (λ other. list_any (λ id. id.number == number other) ids) others ≡ true → with_numbers (numbers_of ids) (map number others) ≡ numbers_of ids
-with_numbers-held number ids [] all = refl
-with_numbers-held number ids (other ∷ others) all =
-    let parts = and_parts _ _ all in
-    let here : has (numbers_of ids) (number other) ≡ true = has-map (λ id. id.number) ids (number other) ∙ parts.0 in
-    ap (λ b. with_numbers (cond b (numbers_of ids) (with_server (number other) (numbers_of ids))) (map number others)) here ∙ with_numbers-held number ids others parts.1
+pub with_numbers-held : (set numbers : List ℕ) → list_all (has set) numbers ≡ true → with_numbers set numbers ≡ set
+with_numbers-held set [] all = refl
+with_numbers-held set (number ∷ numbers) all =
+    let parts = and_parts (has set number) (list_all (has set) numbers) all in
+    ap (λ b. with_numbers (cond b set (with_server number set)) numbers) parts.0 ∙ with_numbers-held set numbers parts.1
 
 lower : (a b c : ℕ) → nat_lt a b ≡ true → nat_lt b c ≡ true → nat_lt a c ≡ true
 lower a b c less more = grind (arith, nat_tests)

@@ -1,6 +1,6 @@
 -- An open transaction: what it has read and written, and what an answer that it is told makes of it.
-use Rattle.std.specs.Prelude.{◌≡◌, ◌==◌, ◌+◌, ◌^◌, ℕ, Bool, true, false, not, ◌&&◌, nat_lt, nat_le, List, [], length, Option, Some, None, is_none, if◌then◌else◌}
-use Rattle.std.specs.List.{list_any, find, filter_map}
+use Rattle.std.specs.Prelude.{◌≡◌, ◌==◌, ◌+◌, ◌^◌, ℕ, Bool, true, false, not, ◌&&◌, ◌≤◌, nat_lt, nat_le, List, [], length, Option, Some, None, is_none, if◌then◌else◌}
+use Rattle.std.specs.List.{list_all, list_any, find, filter_map}
 use Rattle.std.specs.Option.{option_map}
 use Rattle.std.specs.Ordering.{is_lt}
 use Rattle.tq_shape.specs.Limits.{LimitsView}
@@ -8,7 +8,7 @@ use Rattle.tq_store.specs.Copies.{name_cmp}
 use Rattle.tq_store.specs.declared.copies.FileCopy.{FileCopy}
 use Rattle.tq_locks.specs.Locks.{is_exclusive}
 use Rattle.tq_locks.specs.declared.mode.Mode.{Mode}
-use Rattle.tq_coterie.specs.Coterie.{ServerList, has, is_quorum}
+use Rattle.tq_coterie.specs.Coterie.{has, is_quorum}
 use Rattle.tq_node.specs.declared.ask.NodeAsk.{NodeAsk}
 use Rattle.tq_node.specs.declared.ask.NodeAsk.TheVariants.{Work}
 use Rattle.tq_node.specs.declared.ask.NodeReply.{NodeReply}
@@ -23,7 +23,7 @@ use Rattle.tq_store.specs.Names.{same_name}
 use Rattle.tq_states.specs.declared.told.NodeTold.{NodeTold}
 use Rattle.tq_states.specs.declared.fault.TxnFault.{TxnFault}
 use Rattle.tq_states.specs.declared.fault.TxnFault.TheVariants.{Memory, AlreadyThere, TooManyOps, NotAGrant, NotAMember, VersionFull, NoOps}
-use Rattle.tq_states.specs.Sets.{IsWithin, put, changed, with_number, with_numbers}
+use Rattle.tq_states.specs.Sets.{IsWithin, RoomySet, put, changed, with_number, with_numbers}
 use Rattle.tq_shape.specs.Steps.{refuse, refuse_for, or_else}
 use Rattle.tq_shape.specs.Journal.{is_empty}
 
@@ -178,10 +178,19 @@ write_after old file content answers = taken old (write_op file content (grants_
 abbrev pub touched_by : OpenView → ℕ → OpenView
 touched_by old server = record old { touched = with_number old.touched server }
 
--- with the servers of which room was made to note one, where it was not noted
-abbrev pub noted : OpenView → Option ServerList → OpenView
-noted old None = old
-noted old (Some ready) = record old { touched = ready.servers }
+-- the servers noted, where they may have been handed out to note more
+abbrev pub touched_in : List ℕ → Option RoomySet → List ℕ
+touched_in touched None = touched
+touched_in touched (Some ready) = ready.servers
+
+-- the transaction once it has taken them back
+abbrev pub noted : OpenView → Option RoomySet → OpenView
+noted old ready = record old { touched = touched_in old.touched ready }
+
+-- these servers can be noted with no memory: there is room, or all are noted already where none were handed out
+abbrev pub CanNote : OpenView → Option RoomySet → List ℕ → Type 0
+CanNote old None numbers = list_all (has old.touched) numbers ≡ true
+CanNote old (Some ready) numbers = (ready.levels ≡ old.levels) × (length numbers ≤ ready.room)
 
 -- the transaction afterwards: each server that granted it a lock is still noted, there may be more, and all else is as it was
 pub record IsTouched (old after : OpenView) : Type 0 where

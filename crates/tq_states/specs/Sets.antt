@@ -1,8 +1,8 @@
 -- Lists in order: sets of servers as the ascending lists of their numbers, and a value put at its place.
-use Rattle.std.specs.Prelude.{◌≡◌, ◌==◌, ℕ, Bool, true, List, [], ◌∷◌, Option, None, Some, fold, if◌then◌else◌}
+use Rattle.std.specs.Prelude.{◌≡◌, ◌==◌, ◌≤◌, ℕ, Bool, true, false, List, [], ◌∷◌, length, fold, if◌then◌else◌}
 use Rattle.std.specs.List.{list_all}
 use Rattle.tq_shape.specs.Tree.{Server}
-use Rattle.tq_coterie.specs.Coterie.{ServerList, has, with_server, numbers_of}
+use Rattle.tq_coterie.specs.Coterie.{has, with_server, numbers_of}
 use Rattle.tq_evidence.specs.Evidence.{rises}
 
 -- the set with a server, which it may have already
@@ -12,10 +12,16 @@ with_number numbers number = if has numbers number then numbers else with_server
 abbrev pub with_numbers : List ℕ → List ℕ → List ℕ
 with_numbers numbers others = fold with_number numbers others
 
--- the set that one grew to, where it grew
-abbrev pub grown_to : ServerList → Option ServerList → ServerList
-grown_to old None = old
-grown_to old (Some grown) = grown
+-- what is seen of a set that may grow: its servers, the levels of their tree, and how many more take no memory
+pub record RoomySet : Type 0 where
+  pub servers : List ℕ
+  pub levels : ℕ
+  pub room : ℕ
+
+-- a set that is to grow by these servers has room for them, and one that is not has them all
+abbrev pub IsReady : RoomySet → Bool → List ℕ → Type 0
+IsReady set true numbers = length numbers ≤ set.room
+IsReady set false numbers = list_all (has set.servers) numbers ≡ true
 
 -- each server of the first set is in the second
 abbrev pub IsWithin : List ℕ → List ℕ → Type 0

@@ -1,18 +1,20 @@
-ghost use Rattle.std.specs.Prelude.{◌≡◌};
+ghost use Rattle.std.specs.Prelude.{◌≡◌, ◌+◌, ◌≤◌};
+ghost use Rattle.tq_states.specs.Sets.{with_number};
 
 use crate::servers::Servers;
 use std::marker::Model;
+use tq_shape::ServerId;
 
-/// Room to note a server that may grant a transaction a lock, made before it is asked: the servers with that one.
+/// The servers that granted a transaction a lock, handed out with room for those that may grant it one next.
 #[derive(Drop)]
 pub struct Noting {
     servers: Servers,
 }
 
 impl Model for Noting {
-    ghost use Rattle.tq_coterie.specs.Coterie.{ServerList};
+    ghost use Rattle.tq_states.specs.Sets.{RoomySet};
 
-    ghost Value = { ServerList };
+    ghost Value = { RoomySet };
 
     ghost view = { λ a. a.servers };
 }
@@ -28,5 +30,16 @@ impl Noting {
         ensures { result ≡ self }
     {
         self.servers
+    }
+
+    /// Puts a server there that granted a lock. It takes no memory.
+    pub(crate) fn put(&mut self, server: ServerId)
+        requires tree { server.levels ≡ self.old.levels }
+        requires room { 1 ≤ self.old.room }
+        ensures servers { self.new.servers ≡ with_number self.old.servers server.number }
+        ensures levels { self.new.levels ≡ self.old.levels }
+        ensures room { self.old.room ≤ self.new.room + 1 }
+    {
+        self.servers.put(server);
     }
 }

@@ -1,4 +1,4 @@
-ghost use Rattle.std.specs.Prelude.{◌≡◌, ◌+◌, ◌<◌, ◌≤◌, ◌++◌, List, [], None, Some, true, length, position, IfOk, IfErr, IfSome, IsSome, OnOk, OnErr, MatchOption, false};
+ghost use Rattle.std.specs.Prelude.{◌≡◌, ◌+◌, ◌<◌, ◌≤◌, ◌++◌, ℕ, List, [], ◌∷◌, None, Some, true, length, position, IfOk, IfErr, IfSome, IsSome, OnOk, OnErr, MatchOption, false, vec_len, vec_capacity};
 ghost use Rattle.std.specs.List.{find};
 ghost use Rattle.std.specs.Option.{option_copied};
 ghost use Rattle.std.specs.Ordering.{is_lt};
@@ -153,27 +153,42 @@ impl Open {
         ensures levels { self.new.levels ≡ self.old.levels }
         ensures err { OnErr result (self.new ≡ self.old) }
     {
-        self.touched.insert(server)
+        self.touched.reserve(1)?;
+        self.touched.put(server);
+        Ok(())
     }
 
-    /// Makes room to note a server, before it is asked for a lock; none where it is noted already.
-    pub fn room_for(&self, _alloc: Global, server: ServerId) -> Result<Option<Noting>, Memory>
-        requires { server.levels ≡ self.now.levels }
-        ensures value { IfOk result (λ noting. spec.noted self.now noting ≡ spec.touched_by self.now server.number) }
-        ensures levels { IfOk result (λ noting. IfSome noting (λ ready. ready.levels ≡ self.now.levels)) }
-        ensures kept { IfOk result (λ noting. IfSome noting (λ ready. sets.IsWithin self.now.touched ready.servers)) }
+    /// Hands out the set of the servers noted, with room for those that are to be asked for a lock; none where all of
+    /// them are noted already. Out of memory leaves the transaction as it was.
+    pub fn room_for(&mut self, servers: &[ServerId]) -> Result<Option<Noting>, Memory>
+        ensures value { IfOk result (λ noting. spec.noted self.new noting ≡ self.old) }
+        ensures room { IfOk result (λ noting. spec.CanNote self.new noting (numbers_of servers.now)) }
+        ensures left { IfOk result (λ noting. sets.IsWithin self.new.touched (spec.touched_in self.new.touched noting)) }
+        ensures err { OnErr result (self.new ≡ self.old) }
     {
-        if self.touched.has(server) {
+        if !self.touched.make_room(servers)? {
             return Ok(None);
         }
-        let servers = self.touched.with_one(server)?;
-        Ok(Some(Noting::new(servers)))
+        Ok(Some(Noting::new(self.touched.take())))
     }
 
-    /// Notes that the server for which room was made granted it a lock. It takes no memory.
-    pub fn note(&mut self, noting: Option<Noting>)
-        requires levels { IfSome noting (λ ready. ready.levels ≡ self.old.levels) }
-        requires kept { IfSome noting (λ ready. sets.IsWithin self.old.touched ready.servers) }
+    /// Notes in what was handed out, if it was, that one of the servers granted the lock. It takes no memory.
+    pub fn note(&self, noting: &mut Option<Noting>, server: ServerId)
+        requires tree { server.levels ≡ self.now.levels }
+        requires room { spec.CanNote self.now noting.old (server.number ∷ []) }
+        ensures value { spec.noted self.now noting.new ≡ spec.touched_by (spec.noted self.now noting.old) server.number }
+        ensures room { (more : List ℕ) → spec.CanNote self.now noting.old (server.number ∷ more) → spec.CanNote self.now noting.new more }
+        ensures still { spec.IsTouched (spec.noted self.now noting.old) (spec.noted self.now noting.new) }
+    {
+        if let Some(noting) = noting {
+            noting.put(server);
+        }
+    }
+
+    /// Takes back what was handed out, if it was: the servers there are now those noted. It takes no memory.
+    pub fn take_back(&mut self, noting: Option<Noting>)
+        requires ready { spec.CanNote self.old noting [] }
+        requires kept { sets.IsWithin self.old.touched (spec.touched_in self.old.touched noting) }
         ensures after { self.new ≡ spec.noted self.old noting }
         ensures cited { (told : List NodeTold) → KeepsOnly told self.old → KeepsOnly told self.new }
         ensures still { spec.IsTouched self.old self.new }
@@ -287,7 +302,8 @@ impl Open {
 
     /// A copy of the set of the servers that granted it a lock.
     pub(crate) fn touched(&self) -> Result<Servers, Memory>
-        ensures { IfOk result (λ servers. servers ≡ record { servers = self.now.touched; levels = self.now.levels }) }
+        ensures servers { IfOk result (λ all. all.servers ≡ self.now.touched) }
+        ensures levels { IfOk result (λ all. all.levels ≡ self.now.levels) }
     {
         self.touched.copy()
     }
@@ -340,11 +356,12 @@ impl Open {
         ensures after { OnOk result (self.new ≡ spec.taken self.old op) }
         ensures err { OnErr result (self.new ≡ self.old) }
     {
-        let voters = self.voters.with(op.grants.as_slice())?;
-        let touched = self.touched.with(op.grants.as_slice())?;
-        put_in_order(&mut self.ops, op)?;
-        self.voters.grow(voters);
-        self.touched.grow(touched);
+        let voters = self.voters.make_room_for(op.grants.as_slice())?;
+        let touched = self.touched.make_room_for(op.grants.as_slice())?;
+        make_room(&mut self.ops)?;
+        self.voters.grow(voters, op.grants.as_slice());
+        self.touched.grow(touched, op.grants.as_slice());
+        put_in_order(&mut self.ops, op);
         Ok(())
     }
 }
@@ -384,20 +401,19 @@ fn write_place(ops: &[Op], file: &FileName) -> Option<usize>
     ops.iter().position(|op| op.writes(file))
 }
 
-/// Puts the operation before those of later files.
-fn put_in_order(ops: &mut Vec<Op>, op: Op) -> Result<(), Memory>
-    ensures ok { OnOk result (ops.new.items ≡ spec.with_op ops.old.items op) }
-    ensures err { OnErr result (ops.new.items ≡ ops.old.items) }
+/// Puts the operation before those of later files, in a list that has room.
+fn put_in_order(ops: &mut Vec<Op>, op: Op)
+    requires { vec_len ops.old < vec_capacity ops.old }
+    ensures { ops.new.items ≡ spec.with_op ops.old.items op }
 {
-    make_room(ops)?;
     let place = place_of(ops.as_slice(), &op.file);
-    ops.insert(place, op)?;
-    Ok(())
+    let _room_was_made = ops.insert(place, op);
 }
 
 /// Makes room for one operation more. Most transactions have one, so the first takes no more than its own.
 fn make_room(ops: &mut Vec<Op>) -> Result<(), Memory>
-    ensures { ops.new.items ≡ ops.old.items }
+    ensures room { OnOk result (vec_len ops.new < vec_capacity ops.new) }
+    ensures items { ops.new.items ≡ ops.old.items }
 {
     if ops.is_empty() {
         ops.reserve_exact(1)

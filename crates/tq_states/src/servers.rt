@@ -1,12 +1,13 @@
-ghost use Rattle.std.specs.Prelude.{◌≡◌, ◌==◌, ◌<◌, ◌≤◌, [], true, length, nat_lt, position, IfOk, IfSome, IsTrue, OnOk, OnErr};
+ghost use Rattle.std.specs.Prelude.{◌≡◌, ◌==◌, ◌+◌, ◌<◌, ◌≤◌, [], true, length, nat_lt, position, IfOk, IfSome, IsTrue, OnOk};
 ghost use Rattle.std.specs.List.{list_all, list_any};
-ghost use Rattle.tq_coterie.specs.Coterie.{has, is_quorum, numbers_of};
+ghost use Rattle.tq_coterie.specs.Coterie.{is_quorum, numbers_of};
 ghost use Rattle.tq_evidence.specs.Evidence.{granters, rises};
-ghost use Rattle.tq_states.specs.Sets.{IsServerSet, grown_to, put, with_number, with_numbers};
+ghost use Rattle.tq_states.specs.Sets.{IsReady, IsServerSet, put, with_number, with_numbers};
 ghost use Rattle.tq_states.specs.Places.{place_before};
 
 use std::alloc::Global;
 use std::marker::Model;
+use std::mem;
 use tq_coterie::ServerIds;
 use tq_desk::Grant;
 use tq_shape::{Levels, Memory, ServerId};
@@ -19,19 +20,25 @@ pub(crate) struct Servers {
 }
 
 impl Model for Servers {
-    ghost use Rattle.tq_coterie.specs.Coterie.{ServerList, numbers_of};
-    ghost use Rattle.tq_states.specs.Sets.{IsServerSet};
+    ghost use Rattle.std.specs.Prelude.{◌-◌, length};
+    ghost use Rattle.tq_coterie.specs.Coterie.{numbers_of};
+    ghost use Rattle.tq_states.specs.Sets.{IsServerSet, RoomySet};
 
-    ghost Value = { ServerList };
+    ghost Value = { RoomySet };
 
-    ghost view = { λ a. record { servers = numbers_of a.ids.items; levels = a.levels } };
+    ghost view = { λ a. record {
+      servers = numbers_of a.ids.items;
+      levels = a.levels;
+      room = a.ids.capacity - length a.ids.items;
+    } };
 
     ghost invariant = { λ a. IsServerSet a.levels a.ids.items };
 }
 
 impl Servers {
     pub(crate) fn new(alloc: Global, levels: Levels) -> Servers
-        ensures { result ≡ record { servers = []; levels = levels } }
+        ensures servers { result.servers ≡ [] }
+        ensures levels { result.levels ≡ levels }
     {
         Servers {
             levels,
@@ -46,85 +53,97 @@ impl Servers {
         self.ids.as_slice()
     }
 
-    /// Puts a server at its place, if it is not there.
-    pub(crate) fn insert(&mut self, server: ServerId) -> Result<(), Memory>
-        requires { server.levels ≡ self.old.levels }
-        ensures ok { OnOk result (self.new ≡ record self.old { servers = with_number self.old.servers server.number }) }
-        ensures err { OnErr result (self.new ≡ self.old) }
-    {
-        if is_above(self.ids.as_slice(), server.number()) {
-            self.ids.push(server)?;
-            return Ok(());
-        }
-        if has_number(self.ids.as_slice(), server.number()) {
-            return Ok(());
-        }
-        put_in_order(&mut self.ids, server)?;
-        Ok(())
-    }
-
-    /// Whether the server is among them.
-    pub(crate) fn has(&self, server: ServerId) -> bool
-        ensures { result ≡ has self.now.servers server.number }
-    {
-        has_number(self.ids.as_slice(), server.number())
-    }
-
     /// An equal set.
     pub(crate) fn copy(&self) -> Result<Servers, Memory>
-        ensures { IfOk result (λ servers. servers ≡ self.now) }
+        ensures servers { IfOk result (λ all. all.servers ≡ self.now.servers) }
+        ensures levels { IfOk result (λ all. all.levels ≡ self.now.levels) }
     {
-        self.copy_for(0)
-    }
-
-    /// An equal set, with room for as many servers more.
-    pub(crate) fn copy_for(&self, more: usize) -> Result<Servers, Memory>
-        ensures { IfOk result (λ servers. servers ≡ self.now) }
-    {
-        let room = self.ids.len().saturating_add(more);
-        let mut ids = ServerIds::new(*self.ids.allocator());
-        ids.reserve_exact(room)?;
-        ids.extend_from_slice(self.ids.as_slice())?;
+        let ids = ServerIds::from_slice(*self.ids.allocator(), self.ids.as_slice())?;
         Ok(Servers {
             levels: self.levels,
             ids,
         })
     }
 
-    /// The set with one server of its tree.
-    pub(crate) fn with_one(&self, server: ServerId) -> Result<Servers, Memory>
-        requires { server.levels ≡ self.now.levels }
-        ensures { IfOk result (λ grown. grown ≡ record { servers = with_number self.now.servers server.number; levels = self.now.levels }) }
+    /// Makes room for as many servers more.
+    pub(crate) fn reserve(&mut self, more: usize) -> Result<(), Memory>
+        ensures room { OnOk result (more ≤ self.new.room) }
+        ensures servers { self.new.servers ≡ self.old.servers }
+        ensures levels { self.new.levels ≡ self.old.levels }
     {
-        let mut all = self.copy_for(1)?;
-        all.insert(server)?;
-        Ok(all)
+        self.ids.reserve(more)?;
+        Ok(())
     }
 
-    /// The set with the servers of the grants, which are a quorum of its tree; none where it has them all.
-    pub(crate) fn with(&self, grants: &[Grant]) -> Result<Option<Servers>, Memory>
-        requires { is_quorum self.now.levels (granters grants.now) ≡ true }
-        ensures { IfOk result (λ grown. grown_to self.now grown ≡ record { servers = with_numbers self.now.servers (granters grants.now); levels = self.now.levels }) }
+    /// Makes room for the servers, and tells whether it is to grow by them: else it has them all.
+    pub(crate) fn make_room(&mut self, servers: &[ServerId]) -> Result<bool, Memory>
+        ensures ready { IfOk result (λ grows. IsReady self.new grows (numbers_of servers.now)) }
+        ensures servers { self.new.servers ≡ self.old.servers }
+        ensures levels { self.new.levels ≡ self.old.levels }
     {
+        if has_all(self.ids.as_slice(), servers) {
+            return Ok(false);
+        }
+        self.reserve(servers.len())?;
+        Ok(true)
+    }
+
+    /// The same for the servers of the grants.
+    pub(crate) fn make_room_for(&mut self, grants: &[Grant]) -> Result<bool, Memory>
+        ensures ready { IfOk result (λ grows. IsReady self.new grows (granters grants.now)) }
+        ensures servers { self.new.servers ≡ self.old.servers }
+        ensures levels { self.new.levels ≡ self.old.levels }
+    {
+        if have_all(self.ids.as_slice(), grants) {
+            return Ok(false);
+        }
+        self.reserve(grants.len())?;
+        Ok(true)
+    }
+
+    /// Puts a server at its place, if it is not there. It takes no memory.
+    pub(crate) fn put(&mut self, server: ServerId)
+        requires tree { server.levels ≡ self.old.levels }
+        requires room { 1 ≤ self.old.room }
+        ensures servers { self.new.servers ≡ with_number self.old.servers server.number }
+        ensures levels { self.new.levels ≡ self.old.levels }
+        ensures room { self.old.room ≤ self.new.room + 1 }
+    {
+        if is_above(self.ids.as_slice(), server.number()) {
+            self.ids.push_reserved(server);
+            return;
+        }
+        if has_number(self.ids.as_slice(), server.number()) {
+            return;
+        }
+        put_in_order(&mut self.ids, server);
+    }
+
+    /// Grows by the servers of the grants, which are a quorum of its tree, if it is to. It takes no memory.
+    pub(crate) fn grow(&mut self, grows: bool, grants: &[Grant])
+        requires quorum { is_quorum self.old.levels (granters grants.now) ≡ true }
+        requires ready { IsReady self.old grows (granters grants.now) }
+        ensures servers { self.new.servers ≡ with_numbers self.old.servers (granters grants.now) }
+        ensures levels { self.new.levels ≡ self.old.levels }
+    {
+        if !grows {
+            return;
+        }
         // A tree has a level, so the numbers of a quorum are its servers.
         let _ = self.levels.count();
-        if have_all(self.ids.as_slice(), grants) {
-            return Ok(None);
-        }
-        let mut all = self.copy_for(grants.len())?;
         for grant in grants {
-            all.insert(ServerId::new(self.levels, grant.server))?;
+            self.put(ServerId::new(self.levels, grant.server));
         }
-        Ok(Some(all))
     }
 
-    /// Grows to a set, if there is one.
-    pub(crate) fn grow(&mut self, grown: Option<Servers>)
-        ensures { self.new ≡ grown_to self.old grown }
+    /// Hands the set out, and leaves none of its servers.
+    pub(crate) fn take(&mut self) -> Servers
+        ensures taken { result ≡ self.old }
+        ensures left { self.new.servers ≡ [] }
+        ensures levels { self.new.levels ≡ self.old.levels }
     {
-        if let Some(servers) = grown {
-            self.replace(servers);
-        }
+        let none = Servers::new(*self.ids.allocator(), self.levels);
+        mem::replace(self, none)
     }
 
     /// Ends the set, and puts this one in its place.
@@ -152,6 +171,13 @@ fn has_number(ids: &[ServerId], number: u64) -> bool
     ids.iter().any(|id| id.number() == number)
 }
 
+/// Whether all the others are among the servers.
+fn has_all(ids: &[ServerId], others: &[ServerId]) -> bool
+    ensures { result ≡ list_all (λ other. list_any (λ id. id.number == other.number) ids.now) others.now }
+{
+    others.iter().all(|other| has_number(ids, other.number()))
+}
+
 /// Whether the servers of all the grants are among the servers.
 fn have_all(ids: &[ServerId], grants: &[Grant]) -> bool
     ensures { result ≡ list_all (λ grant. list_any (λ id. id.number == grant.server) ids.now) grants.now }
@@ -159,14 +185,15 @@ fn have_all(ids: &[ServerId], grants: &[Grant]) -> bool
     grants.iter().all(|grant| has_number(ids, grant.server))
 }
 
-/// Puts the server before the first above it.
-fn put_in_order(ids: &mut ServerIds, server: ServerId) -> Result<(), Memory>
-    ensures ok { OnOk result (ids.new.items ≡ put (λ id. nat_lt server.number id.number) server ids.old.items) }
-    ensures err { OnErr result (ids.new.items ≡ ids.old.items) }
+/// Puts the server before the first above it, in a list that has room.
+fn put_in_order(ids: &mut ServerIds, server: ServerId)
+    requires { length ids.old.items + 1 ≤ ids.old.capacity }
+    ensures items { ids.new.items ≡ put (λ id. nat_lt server.number id.number) server ids.old.items }
+    ensures len { length ids.new.items ≡ length ids.old.items + 1 }
+    ensures capacity { ids.new.capacity ≡ ids.old.capacity }
 {
     let place = place_of(ids.as_slice(), server);
-    ids.insert(place, server)?;
-    Ok(())
+    let _room_was_made = ids.insert(place, server);
 }
 
 /// The place of the first server above this one, or the end.

@@ -1,5 +1,5 @@
 ghost use Rattle.std.specs.List.{list_all, Contains};
-ghost use Rattle.std.specs.Prelude.{◌≡◌, ◌==◌, ◌++◌, [], true, IfOk, OnErr};
+ghost use Rattle.std.specs.Prelude.{◌≡◌, ◌==◌, ◌+◌, ◌<◌, ◌≤◌, ℕ, List, [], ◌∷◌, true, length, vec_len, vec_capacity, IfOk, OnErr};
 ghost use Rattle.tq_coterie.specs.Coterie.{numbers_of};
 ghost use Rattle.tq_states.specs.Open as open_spec;
 ghost use Rattle.tq_txn.specs.Dialogue as line;
@@ -14,6 +14,7 @@ use tq_live::{ViewAsk, ViewReply};
 use tq_locks::Mode;
 use tq_node::{NodeAsk, NodeReply, WorkAsk};
 use tq_shape::{Levels, Memory, Part, Seq, ServerId, Shared};
+use tq_states::Noting;
 use tq_store::{Content, FileCopy, FileName};
 
 /// Whether the servers are of a tree of these levels.
@@ -99,67 +100,67 @@ fn lock_at<A: Asker>(
     }
 }
 
-/// A lock at one more server. The transaction notes the server if it granted it: where memory runs out, it was not
-/// asked, or did not answer.
+/// A lock at one more server, which is noted if it granted it: where memory runs out, it was not asked, or did not
+/// answer.
 fn lock_next<A: Asker>(
     asker: &mut A,
     alloc: Global,
-    open: &mut Open,
+    open: &Open,
     lock: &WantedLock,
     server: ServerId,
+    noting: &mut Option<Noting>,
     answers: &mut Vec<NodeTold>,
 ) -> Result<(), LineFault>
-    requires same { open.old.levels ≡ A.levels asker.old }
+    requires same { open.now.levels ≡ A.levels asker.old }
     requires of_tree { server.levels ≡ A.levels asker.old }
-    requires ask { lock.now.ask ≡ spec.lock_ask open.old.txn lock.now.file lock.now.mode }
-    ensures asks { line.Follows (spec.next_lock lock.now.file lock.now.mode server.number (record { answers = answers.old.items; txn = open.old })) (A.told asker.old) (A.told asker.new)
-        (line.ended_by result (record { answers = answers.new.items; txn = open.new })) }
+    requires ask { lock.now.ask ≡ spec.lock_ask open.now.txn lock.now.file lock.now.mode }
+    requires noting { open_spec.CanNote open.now noting.old (server.number ∷ []) }
+    requires room { vec_len answers.old < vec_capacity answers.old }
+    ensures asks { line.Follows (spec.next_lock lock.now.file lock.now.mode server.number (record { answers = answers.old.items; txn = open_spec.noted open.now noting.old })) (A.told asker.old) (A.told asker.new)
+        (line.ended_by result (record { answers = answers.new.items; txn = open_spec.noted open.now noting.new })) }
     ensures unasked { line.IsUnasked result (A.told asker.old) (A.told asker.new) }
-    ensures levels { open.new.levels ≡ open.old.levels }
-    ensures kept { open_spec.IsTouched open.old open.new }
+    ensures noting { (more : List ℕ) → open_spec.CanNote open.now noting.old (server.number ∷ more) → open_spec.CanNote open.now noting.new more }
+    ensures kept { open_spec.IsTouched (open_spec.noted open.now noting.old) (open_spec.noted open.now noting.new) }
+    ensures room { vec_len answers.new ≤ vec_len answers.old + 1 }
+    ensures capacity { vec_capacity answers.new ≡ vec_capacity answers.old }
     ensures heard { AreTold (A.told asker.old) answers.old.items → AreTold (A.told asker.new) answers.new.items }
     ensures tree { A.levels asker.new ≡ A.levels asker.old }
 {
-    match answers.reserve(1) {
-        Ok(()) => {}
-        Err(_) => return Err(LineFault::Memory),
-    }
-    let noting = match open.room_for(alloc, server) {
-        Ok(noting) => noting,
-        Err(_) => return Err(LineFault::Memory),
-    };
     let told = match lock_at(asker, alloc, open.txn(), lock, server) {
         Ok(told) => told,
         Err(fault) => return Err(fault),
     };
-    open.note(noting);
+    open.note(noting, server);
     answers.push_reserved(told);
     Ok(())
 }
 
-/// A lock at each of the servers, in their order. The transaction notes each that granted one.
+/// A lock at each of the servers, in their order. Each that granted one is noted.
 fn lock_each<A: Asker>(
     asker: &mut A,
     alloc: Global,
-    open: &mut Open,
+    open: &Open,
     lock: &WantedLock,
     servers: &[ServerId],
+    noting: &mut Option<Noting>,
     answers: &mut Vec<NodeTold>,
 ) -> Result<(), LineFault>
-    requires same { open.old.levels ≡ A.levels asker.old }
+    requires same { open.now.levels ≡ A.levels asker.old }
     requires of_tree { list_all (λ id. id.levels == A.levels asker.old) servers.now ≡ true }
-    requires ask { lock.now.ask ≡ spec.lock_ask open.old.txn lock.now.file lock.now.mode }
-    ensures asks { line.Follows (spec.locks_line lock.now.file lock.now.mode (numbers_of servers.now) (record { answers = answers.old.items; txn = open.old })) (A.told asker.old) (A.told asker.new)
-        (line.ended_by result (record { answers = answers.new.items; txn = open.new })) }
-    ensures levels { open.new.levels ≡ open.old.levels }
-    ensures kept { open_spec.IsTouched open.old open.new }
+    requires ask { lock.now.ask ≡ spec.lock_ask open.now.txn lock.now.file lock.now.mode }
+    requires noting { open_spec.CanNote open.now noting.old (numbers_of servers.now) }
+    requires room { vec_len answers.old + length servers.now ≤ vec_capacity answers.old }
+    ensures asks { line.Follows (spec.locks_line lock.now.file lock.now.mode (numbers_of servers.now) (record { answers = answers.old.items; txn = open_spec.noted open.now noting.old })) (A.told asker.old) (A.told asker.new)
+        (line.ended_by result (record { answers = answers.new.items; txn = open_spec.noted open.now noting.new })) }
+    ensures noting { open_spec.CanNote open.now noting.new [] }
+    ensures kept { open_spec.IsTouched (open_spec.noted open.now noting.old) (open_spec.noted open.now noting.new) }
     ensures heard { AreTold (A.told asker.old) answers.old.items → AreTold (A.told asker.new) answers.new.items }
     ensures tree { A.levels asker.new ≡ A.levels asker.old }
 {
     match servers {
         [] => Ok(()),
-        [server, ..] => match lock_next(asker, alloc, open, lock, *server, answers) {
-            Ok(()) => lock_each(asker, alloc, open, lock, &servers[1..], answers),
+        [server, ..] => match lock_next(asker, alloc, open, lock, *server, noting, answers) {
+            Ok(()) => lock_each(asker, alloc, open, lock, &servers[1..], noting, answers),
             Err(fault) => Err(fault),
         },
     }
@@ -207,7 +208,21 @@ fn lock_quorum<A: Asker>(
         Ok(answers) => answers,
         Err(_) => return Err(LineFault::Memory),
     };
-    match lock_each(asker, alloc, open, &lock, servers, &mut answers) {
+    let mut noting = match open.room_for(servers) {
+        Ok(noting) => noting,
+        Err(_) => return Err(LineFault::Memory),
+    };
+    let locked = lock_each(
+        asker,
+        alloc,
+        open,
+        &lock,
+        servers,
+        &mut noting,
+        &mut answers,
+    );
+    open.take_back(noting);
+    match locked {
         Ok(()) => Ok(Seq::from_vec(answers)),
         Err(fault) => Err(fault),
     }

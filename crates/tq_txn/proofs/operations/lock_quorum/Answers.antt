@@ -1,22 +1,32 @@
 use Rattle.tq_txn.specs.Told.{AreTold, answers_in}
 use Rattle.std.proofs.lemmas.List.Elements.{All-nil}
 use Rattle.std.specs.List.{Contains}
-use Rattle.std.proofs.Common.{◌≡◌, ◌==◌, ◌∙◌, ℕ, List, [], true, refl, sym, subst, Some, Ok}
+use Rattle.std.proofs.Common.{◌≡◌, ◌==◌, ◌∙◌, ℕ, List, [], true, refl, sym, ap, subst, Option, Some, Ok, Err}
 use Rattle.std.specs.List.{list_all}
 use Rattle.tq_states.specs.declared.told.NodeTold.{NodeTold}
 use Rattle.tq_txn.specs.declared.fault.LineFault.TheVariants.{Memory}
-use Rattle.tq_txn.specs.Dialogue.{Follows}
-use Rattle.tq_txn.specs.Lines.{quorum_line}
+use Rattle.tq_coterie.specs.Coterie.{numbers_of}
+use Rattle.tq_locks.specs.declared.mode.Mode.{Mode}
+use Rattle.tq_txn.specs.declared.asker.Exchange.{Exchange}
+use Rattle.tq_txn.specs.Dialogue.{Follows, LineEnd, ended_by}
+use Rattle.tq_txn.specs.Lines.{LocksView, lock_ask, locks_line, quorum_line}
+use Rattle.tq_states.specs.Open.{OpenView, IsTouched, noted}
 use Rattle.tq_txn.proofs.LineLaws.{follows_memory, quorum_off, quorum_stopped, quorum_locked}
 use Rattle.tq_states.proofs.Tested.{of_tree}
 use Rattle.tq_txn.proofs.operations.lock_quorum.Goals as goal
+
+-- the locks begin with the transaction that gave out its set, as it was before
+started : (file : List ℕ) (mode : Mode) (servers : List ℕ) (none : List NodeTold) (start old : OpenView) → start ≡ old → (mid after : List Exchange) (end : Option (LineEnd (Unit {0}) LocksView)) → Follows (locks_line file mode servers (record { answers = none; txn = start })) mid after end → Follows (locks_line file mode servers (record { answers = none; txn = old })) mid after end
+started file mode servers none start old same mid after end first =
+    let P : OpenView → Type 0 = λ txn. Follows (locks_line file mode servers (record { answers = none; txn = txn })) mid after end in
+    subst P same first
 
 pub returns-in-Err-clause-asks : goal.returns-in-Err-clause-asks
 returns-in-Err-clause-asks g c =
     quorum_off c.args.file.now c.args.mode c.levels.result c.args.open.now c.levels.ensures c.in-Err.fault (g.A.Asker.told c.args.asker.now) (g.A.Asker.told c.choose.new.asker) c.in-Err.ensures.asks
 
-pub lock_each-requires-clause-of_tree : goal.lock_each-requires-clause-of_tree
-lock_each-requires-clause-of_tree g c =
+pub lock_each-locked-requires-clause-of_tree : goal.lock_each-locked-requires-clause-of_tree
+lock_each-locked-requires-clause-of_tree g c =
     let levels : c.in-Ok.quorum.levels ≡ g.A.Asker.levels c.choose.new.asker = c.in-Ok.ensures.quorum ∙ c.levels.ensures ∙ c.requires ∙ sym c.in-Ok.ensures.tree in
     let P : ℕ → Type 0 = λ l. list_all (λ id. id.levels == l) c.servers-servers.result.now ≡ true in
     subst P levels (of_tree c.in-Ok.quorum.levels c.servers-servers.result.now c.servers-servers.ensures.member)
@@ -27,20 +37,61 @@ returns-in-Err-with_capacity-clause-asks g c =
     quorum_stopped c.args.file.now c.args.mode c.levels.result c.args.open.now c.levels.ensures c.in-Ok.quorum.servers c.servers-servers.result.now [] c.servers-servers.ensures.numbers refl
     (g.A.Asker.told c.args.asker.now) told c.in-Ok.ensures.asks Memory record { answers = []; txn = c.args.open.now } told (follows_memory _ told)
 
-pub returns-in-Ok-lock_each-clause-asks : goal.returns-in-Ok-lock_each-clause-asks
-returns-in-Ok-lock_each-clause-asks g c =
-    let P : List NodeTold → Type 0 = λ xs. Follows (quorum_line c.args.file.now c.args.mode c.args.open.now) (g.A.Asker.told c.args.asker.now) (g.A.Asker.told c.lock_each.new.asker) (Some (record { answer = Ok xs; after = c.lock_each.new.open })) in
-    subst P (sym c.from_vec.ensures)
-    (quorum_locked c.args.file.now c.args.mode c.levels.result c.args.open.now c.levels.ensures c.in-Ok.quorum.servers c.servers-servers.result.now c.in-Ok-with_capacity.answers.items c.servers-servers.ensures.numbers c.in-Ok-with_capacity.ensures.items
-    (g.A.Asker.told c.args.asker.now) (g.A.Asker.told c.choose.new.asker) c.in-Ok.ensures.asks record { answers = c.lock_each.new.answers.items; txn = c.lock_each.new.open } (g.A.Asker.told c.lock_each.new.asker) c.in-Ok-lock_each.ensures.asks)
+pub returns-in-Err-room_for-clause-asks : goal.returns-in-Err-room_for-clause-asks
+returns-in-Err-room_for-clause-asks g c =
+    let told = g.A.Asker.told c.choose.new.asker in
+    quorum_stopped c.args.file.now c.args.mode c.levels.result c.args.open.now c.levels.ensures c.in-Ok.quorum.servers c.servers-servers.result.now [] c.servers-servers.ensures.numbers refl
+    (g.A.Asker.told c.args.asker.now) told c.in-Ok.ensures.asks Memory record { answers = []; txn = c.args.open.now } told (follows_memory _ told)
+
+pub lock_each-locked-requires-clause-same : goal.lock_each-locked-requires-clause-same
+lock_each-locked-requires-clause-same g c = ap (λ (v : OpenView). v.levels) c.in-Ok-room_for.ensures.value ∙ c.requires ∙ sym c.in-Ok.ensures.tree
+
+pub lock_each-locked-requires-clause-ask : goal.lock_each-locked-requires-clause-ask
+lock_each-locked-requires-clause-ask g c = c.in_ok-ask.ensures ∙ ap (λ (v : OpenView). lock_ask v.txn c.args.file.now c.args.mode) (sym c.in-Ok-room_for.ensures.value)
+
+pub take_back-requires-clause-kept : goal.take_back-requires-clause-kept
+take_back-requires-clause-kept g c = λ server here. c.lock_each-locked.ensures.kept.touched server (c.in-Ok-room_for.ensures.left server here)
+
+pub returns-in-Ok-locked-clause-asks : goal.returns-in-Ok-locked-clause-asks
+returns-in-Ok-locked-clause-asks g c =
+    let told = g.A.Asker.told c.args.asker.now in
+    let mid = g.A.Asker.told c.choose.new.asker in
+    let after = g.A.Asker.told c.lock_each-locked.new.asker in
+    let old = c.args.open.now in
+    let none = c.in-Ok-with_capacity.answers.items in
+    let new : LocksView = record { answers = c.lock_each-locked.new.answers.items; txn = noted c.room_for.new.self c.lock_each-locked.new.noting } in
+    let locked = started c.args.file.now c.args.mode (numbers_of c.servers-servers.result.now) none (noted c.room_for.new.self c.in-Ok-room_for.noting) old c.in-Ok-room_for.ensures.value mid after (Some (record { answer = Ok tt; after = new })) c.in-Ok-locked.ensures.asks in
+    let all = quorum_locked c.args.file.now c.args.mode c.levels.result old c.levels.ensures c.in-Ok.quorum.servers c.servers-servers.result.now none c.servers-servers.ensures.numbers c.in-Ok-with_capacity.ensures.items told mid c.in-Ok.ensures.asks new after locked in
+    let P : List NodeTold → OpenView → Type 0 = λ xs txn. Follows (quorum_line c.args.file.now c.args.mode old) told after (Some (record { answer = Ok xs; after = txn })) in
+    let Q : List NodeTold → Type 0 = λ xs. P xs c.take_back.new.self in
+    subst Q (sym c.from_vec.ensures) (subst (P new.answers) (sym c.take_back.ensures.after) all)
 
 pub returns-clause-asks : goal.returns-clause-asks
 returns-clause-asks g c =
-    quorum_stopped c.args.file.now c.args.mode c.levels.result c.args.open.now c.levels.ensures c.in-Ok.quorum.servers c.servers-servers.result.now c.in-Ok-with_capacity.answers.items c.servers-servers.ensures.numbers c.in-Ok-with_capacity.ensures.items
-    (g.A.Asker.told c.args.asker.now) (g.A.Asker.told c.choose.new.asker) c.in-Ok.ensures.asks c.in-Err-lock_each.fault record { answers = c.lock_each.new.answers.items; txn = c.lock_each.new.open } (g.A.Asker.told c.lock_each.new.asker) c.in-Err-lock_each.ensures.asks
+    let told = g.A.Asker.told c.args.asker.now in
+    let mid = g.A.Asker.told c.choose.new.asker in
+    let after = g.A.Asker.told c.lock_each-locked.new.asker in
+    let old = c.args.open.now in
+    let none = c.in-Ok-with_capacity.answers.items in
+    let new : LocksView = record { answers = c.lock_each-locked.new.answers.items; txn = noted c.room_for.new.self c.lock_each-locked.new.noting } in
+    let locked = started c.args.file.now c.args.mode (numbers_of c.servers-servers.result.now) none (noted c.room_for.new.self c.in-Ok-room_for.noting) old c.in-Ok-room_for.ensures.value mid after (ended_by (Err c.in-Err-locked.fault) new) c.in-Err-locked.ensures.asks in
+    let all = quorum_stopped c.args.file.now c.args.mode c.levels.result old c.levels.ensures c.in-Ok.quorum.servers c.servers-servers.result.now none c.servers-servers.ensures.numbers c.in-Ok-with_capacity.ensures.items told mid c.in-Ok.ensures.asks c.in-Err-locked.fault new after locked in
+    let P : OpenView → Type 0 = λ txn. Follows (quorum_line c.args.file.now c.args.mode old) told after (ended_by (Err c.in-Err-locked.fault) txn) in
+    subst P (sym c.take_back.ensures.after) all
 
-pub returns-in-Ok-lock_each-clause-heard : goal.returns-in-Ok-lock_each-clause-heard
-returns-in-Ok-lock_each-clause-heard g c =
+pub returns-in-Ok-locked-clause-heard : goal.returns-in-Ok-locked-clause-heard
+returns-in-Ok-locked-clause-heard g c =
     let told = g.A.Asker.told c.choose.new.asker in
-    subst (AreTold (g.A.Asker.told c.lock_each.new.asker)) (sym c.from_vec.ensures)
-    (c.lock_each.ensures.heard (subst (AreTold told) (sym c.in-Ok-with_capacity.ensures.items) (All-nil (Contains (answers_in told)))))
+    subst (AreTold (g.A.Asker.told c.lock_each-locked.new.asker)) (sym c.from_vec.ensures)
+    (c.lock_each-locked.ensures.heard (subst (AreTold told) (sym c.in-Ok-with_capacity.ensures.items) (All-nil (Contains (answers_in told)))))
+
+kept : (old start new after : OpenView) → start ≡ old → after ≡ new → IsTouched start new → IsTouched old after
+kept old start new after before same touched = subst (IsTouched old) (sym same) (let P : OpenView → Type 0 = λ txn. IsTouched txn new in subst P before touched)
+
+pub returns-in-Ok-locked-clause-kept : goal.returns-in-Ok-locked-clause-kept
+returns-in-Ok-locked-clause-kept g c =
+    kept c.args.open.now (noted c.room_for.new.self c.in-Ok-room_for.noting) (noted c.room_for.new.self c.lock_each-locked.new.noting) c.take_back.new.self c.in-Ok-room_for.ensures.value c.take_back.ensures.after c.lock_each-locked.ensures.kept
+
+pub returns-clause-kept : goal.returns-clause-kept
+returns-clause-kept g c =
+    kept c.args.open.now (noted c.room_for.new.self c.in-Ok-room_for.noting) (noted c.room_for.new.self c.lock_each-locked.new.noting) c.take_back.new.self c.in-Ok-room_for.ensures.value c.take_back.ensures.after c.lock_each-locked.ensures.kept

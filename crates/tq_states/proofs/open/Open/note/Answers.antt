@@ -1,12 +1,5 @@
-use Rattle.std.proofs.Common.{List}
-use Rattle.tq_states.specs.declared.told.NodeTold.{NodeTold}
-use Rattle.tq_states.specs.Cited.{KeepsOnly}
-use Rattle.tq_states.specs.Open.{OpenView}
+use Rattle.tq_states.proofs.NotedLaws.{touched_put}
 use Rattle.tq_states.proofs.open.Open.note.Goals as goal
 
-pub returns-in-Some-clause-cited : goal.returns-in-Some-clause-cited
-returns-in-Some-clause-cited c =
-    let f = c.self.inside in
-    let old : OpenView = record { levels = f.levels; limits = f.limits; txn = f.txn; ops = f.ops.items; voters = f.voters.servers; touched = f.touched.servers } in
-    let keeps : (told : List NodeTold) → KeepsOnly told c.args.self.now → KeepsOnly told old = rw (← c.self.view_is) λ told is. is in
-    keeps
+pub returns-in-Some-clause-still : goal.returns-in-Some-clause-still
+returns-in-Some-clause-still c = rw c.in-Some.is (touched_put c.args.self.now c.in-Some.noting c.put.new.self c.args.server.number c.put.ensures.servers)
