@@ -1,4 +1,4 @@
-use Rattle.std.proofs.Common.{◌≡◌, ◌==◌, ◌∙◌, ℕ, true, ◌&&◌, List, sym, ap, subst}
+use Rattle.std.proofs.Common.{◌≡◌, ◌∙◌, ℕ, true, ◌&&◌, List, sym, ap}
 use Rattle.std.proofs.lemmas.Bool.{and_parts}
 use Rattle.tq_coterie.specs.Coterie.{is_quorum}
 use Rattle.tq_evidence.specs.declared.grant.Grant.{Grant}

@@ -1,4 +1,4 @@
-use Rattle.std.proofs.Common.{◌≡◌, ◌≤◌, ◌∙◌, true, List, sym, ap, subst}
+use Rattle.std.proofs.Common.{◌≡◌, ◌≤◌, ◌∙◌, true, sym, ap, subst}
 use Rattle.tq_coterie.specs.Coterie.{is_quorum}
 use Rattle.tq_evidence.specs.Evidence.{granters}
 use Rattle.tq_states.specs.Sets.{RoomySet, IsReady}
