@@ -9,7 +9,7 @@ ghost use Rattle.tq_tables.specs.NamesApart.{is_in};
 
 use crate::replies::{Replies, twice};
 use std::alloc::Global;
-use tq_node::{Node, NodeAsk, NodeReply, NodeStep};
+use tq_node::{Node, NodeAsk, NodeReply, NodeStep, WorkAsk};
 use tq_shape::Memory;
 use tq_store::{FileName, Write};
 
@@ -21,7 +21,8 @@ pub(crate) struct Telling {
 }
 
 /// The server answers the ask, of a number above that of the last one answered, and the files are told whose copies
-/// there this may change: no other copy does. Out of memory leaves the server as it was.
+/// there this may change: no other copy does. An ask for a lock, as most are, takes the short way. Out of memory leaves
+/// the server as it was.
 #[inline(always)]
 pub(crate) fn answer_telling(
     alloc: Global,
@@ -36,6 +37,15 @@ pub(crate) fn answer_telling(
         → copy_of node.new.state.records.copies file ≡ copy_of node.old.state.records.copies file) }
     ensures unchanged { OnErr result (node.new ≡ node.old) }
 {
+    if let NodeAsk::Work(work) = ask {
+        if let WorkAsk::Lock { txn, file, mode } = work.get() {
+            let (entered, told) = node.answer_lock(alloc, number, *txn, *file, *mode)?;
+            return Ok(Telling {
+                replies: Replies { entered, told },
+                files: Vec::new(alloc),
+            });
+        }
+    }
     let plan = node.plan(alloc, number, ask)?;
     let change = plan.change;
     let replies = twice::<Node>(alloc, plan.reply)?;
