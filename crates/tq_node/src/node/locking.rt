@@ -13,6 +13,8 @@ use tq_store::FileName;
 impl Node {
     /// Answers an ask for a lock, the reply twice: one to enter into the journal and one to tell. It plans no change
     /// first. Where memory is wanting the server is as it was.
+    // Compiled into its callers it would cost all other asks the places on the stack that it clears.
+    #[inline(never)]
     pub fn answer_lock(
         &mut self,
         alloc: Global,
