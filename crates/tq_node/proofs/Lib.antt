@@ -4,3 +4,4 @@ pub mod Maps
 pub mod KeptLocks
 pub mod Sound
 pub mod OnlyStep
+pub mod Untouched

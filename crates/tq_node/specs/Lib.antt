@@ -4,3 +4,4 @@ pub mod Cases
 pub mod NodeJournal
 pub mod NodeChanges
 pub mod NodePlans
+pub mod Untouched

@@ -10,7 +10,7 @@ ghost use Rattle.tq_node.specs.Node.{IsKept};
 ghost use Rattle.tq_node.specs.NodeChanges.{node_change, node_changed, left, stepped, stop_step, unnoted, work_step, end_step, NodeFits};
 ghost use Rattle.tq_node.specs.Cases.{IsOnlyStep, IsStep};
 
-mod locking;
+mod telling;
 
 use crate::{
     CitedVote, HeldLock, MOST_WRITES, NodeAsk, NodeChange, NodeRefusal, NodeReply, NodeStep,
@@ -562,13 +562,13 @@ impl Node {
         number: u64,
         txn: u64,
         vote: u64,
-        writes: SharedSeq<Write>,
+        writes: &[Write],
         newer: Seq<Write>,
     ) -> Result<(), Memory>
         requires open { IsSome (fin.get self.old.state.records.votes txn) }
         requires vote { vote ≡ (spec.open_vote self.old.state.records txn).number }
-        requires newer { newer ≡ filter (is_newer self.old.state.records.copies) writes }
-        ensures after { OnOk result (self.new ≡ unnoted self.old number (NodeStep.Install txn vote writes newer)) }
+        requires newer { newer ≡ filter (is_newer self.old.state.records.copies) writes.now }
+        ensures after { OnOk result (self.new ≡ unnoted self.old number (NodeStep.Install txn vote writes.now newer)) }
         ensures err { OnErr result (self.new ≡ self.old) }
     {
         self.copies.reserve(alloc, newer.len())?;
@@ -630,7 +630,7 @@ impl Node {
                 number: vote,
                 writes,
                 newer,
-            } => self.install(alloc, number, txn, vote, writes, newer),
+            } => self.install(alloc, number, txn, vote, writes.as_slice(), newer),
             NodeStep::Release { txn } => {
                 self.release(number, txn);
                 Ok(())

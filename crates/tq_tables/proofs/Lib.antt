@@ -8,4 +8,3 @@ pub mod Kept
 pub mod Stood
 pub mod Written
 pub mod Restood
-pub mod Changed

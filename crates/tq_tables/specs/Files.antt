@@ -77,13 +77,6 @@ all_stood node rows files = fold (λ all file. map (stood_at node file) all) row
 
 -- ---- what changes
 
--- the files whose copies a server's step may raise
-abbrev pub files_changed : NodeStep → List (List ℕ)
-files_changed (steps.Install txn number writes newer) = map (λ write. write.file) writes
-files_changed (steps.Refresh write) = write.file ∷ []
-files_changed (steps.Copies newer) = map (λ write. write.file) newer
-files_changed other = []
-
 -- the ops of the commit that an entry of the desk records, none where it records none
 abbrev pub committed_ops : DeskAsk → DeskReply → List Op
 committed_ops (asks.Commit txn ops votes) (replies.Committed serial) = ops

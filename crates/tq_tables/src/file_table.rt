@@ -1,5 +1,6 @@
 //! The rows of files, found by the names of the files.
 ghost use Rattle.std.specs.Prelude.{[], ◌≡◌, ◌≤◌, ◌<◌, ◌+◌, length, map, IfOk, OnOk};
+ghost use Rattle.tq_node.specs.Untouched.{raised_files};
 ghost use Rattle.tq_tables.specs.NamesApart.{Apart};
 ghost use Rattle.tq_tables.specs.Files as spec;
 ghost use Rattle.tq_tables.specs.Files.{AreOfLevels};
@@ -9,9 +10,9 @@ use crate::file_rows::copy_files;
 use indexmap::IndexMap;
 use std::alloc::Global;
 use std::marker::Model;
-use tq_node::Node;
+use tq_node::{Node, Raised};
 use tq_shape::{Levels, Memory};
-use tq_store::FileName;
+use tq_store::{FileName, Write};
 
 /// A row for each file, in the order in which the files came. The row of a file is found at once by its name, and
 /// changes without memory.
@@ -146,13 +147,25 @@ impl FileTable {
     }
 
     /// In the rows of these files the server stands where its copies say. It takes no memory.
-    pub(crate) fn stand_all(&mut self, node: &Node, files: &[FileName])
+    pub(crate) fn stand_all(&mut self, node: &Node, raised: &Raised)
         requires { node.now.levels ≡ self.old.levels }
         ensures levels { self.new.levels ≡ self.old.levels }
-        ensures rows { self.new.rows ≡ spec.all_stood node.now self.old.rows files.now }
+        ensures rows { self.new.rows ≡ spec.all_stood node.now self.old.rows (raised_files raised.now) }
     {
-        for file in files {
-            self.stand(node, file);
+        match raised {
+            Raised::Written(writes) => self.stand_written(node, writes.as_slice()),
+            Raised::One(file) => self.stand(node, file),
+        }
+    }
+
+    /// The same for the files of the writes.
+    fn stand_written(&mut self, node: &Node, writes: &[Write])
+        requires { node.now.levels ≡ self.old.levels }
+        ensures levels { self.new.levels ≡ self.old.levels }
+        ensures rows { self.new.rows ≡ spec.all_stood node.now self.old.rows (map (λ write. write.file) writes.now) }
+    {
+        for write in writes {
+            self.stand(node, &write.file);
         }
     }
 }

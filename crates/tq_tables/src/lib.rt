@@ -18,7 +18,6 @@ mod replay;
 mod replies;
 pub mod rows;
 mod tables;
-mod telling;
 mod write_counts;
 
 pub use file_row::FileRow;

@@ -3,19 +3,17 @@ ghost use Rattle.tq_desk.specs.DeskChanges.{DeskFits, desk_changed};
 ghost use Rattle.tq_live.specs.View.{view_after, view_reply};
 ghost use Rattle.tq_node.specs.Node.{NodeView, answered};
 ghost use Rattle.tq_node.specs.Records.{node_reply};
-ghost use Rattle.tq_store.specs.Copies.{copy_of};
+ghost use Rattle.tq_node.specs.Untouched.{KeepsOthers, raised_files};
 ghost use Rattle.tq_tables.specs.Asked.{both};
-ghost use Rattle.tq_tables.specs.NamesApart.{is_in};
 
 use crate::Journals;
 use crate::replay::{replay_desk, replay_nodes, replay_view};
 use crate::replies::{Replies, twice};
-use crate::telling::{Telling, answer_telling};
 use std::alloc::Global;
 use std::marker::Model;
 use tq_desk::{Desk, DeskChange};
 use tq_live::{View, ViewAsk, ViewReply};
-use tq_node::{Node, NodeAsk};
+use tq_node::{Node, NodeAsk, Telling};
 use tq_shape::{Levels, Memory};
 
 /// All parts of a system: the servers of one tree, upwards from server 1, the desk and the view of that tree.
@@ -105,7 +103,7 @@ impl Parts {
         Ok(replies)
     }
 
-    /// The server answers one ask more, of that number, and the files are told whose copies there may have changed. Out
+    /// The server answers one ask more, of that number, and tells the files whose copies there may have risen. Out
     /// of memory leaves the parts as they were.
     #[inline(always)]
     pub(crate) fn ask_node(
@@ -118,17 +116,16 @@ impl Parts {
         requires there { (0 < server) × (server ≤ length self.old.nodes) }
         requires next { (node : NodeView) → node ≡ slice_index_or self.old.nodes (server - 1) node → node.last < number }
         ensures replies { IfOk result (λ telling. (node : NodeView) → node ≡ slice_index_or self.old.nodes (server - 1) node
-            → telling.replies ≡ both (node_reply node.server node.state ask.now)) }
+            → (telling.entered ≡ node_reply node.server node.state ask.now) × (telling.told ≡ node_reply node.server node.state ask.now)) }
         ensures after { OnOk result ((node : NodeView) → node ≡ slice_index_or self.old.nodes (server - 1) node
             → self.new ≡ record self.old { nodes = slice_set self.old.nodes (server - 1) (answered node number ask.now) }) }
-        ensures told { IfOk result (λ telling. (node : NodeView) → node ≡ slice_index_or self.old.nodes (server - 1) node
-            → (file : List ℕ) → is_in file telling.files.items ≡ false
-            → copy_of (answered node number ask.now).state.records.copies file ≡ copy_of node.state.records.copies file) }
+        ensures raised { IfOk result (λ telling. (node : NodeView) → node ≡ slice_index_or self.old.nodes (server - 1) node
+            → KeepsOthers (raised_files telling.raised) node.state.records.copies (answered node number ask.now).state.records.copies) }
         ensures unchanged { OnErr result (self.new ≡ self.old) }
     {
         let _view = &self.view;
         let place = (server - 1) as usize;
-        let telling = answer_telling(alloc, &mut self.nodes[place], number, ask)?;
+        let telling = self.nodes[place].tell(alloc, number, ask)?;
         Ok(telling)
     }
 

@@ -120,8 +120,11 @@ impl Tables {
         let files: &mut FileTable = &mut self.files;
         let telling = parts.ask_node(alloc, server, number, ask)?;
         let node = parts.node(server);
-        files.stand_all(node, telling.files.as_slice());
-        Ok(telling.replies)
+        files.stand_all(node, &telling.raised);
+        Ok(Replies {
+            entered: telling.entered,
+            told: telling.told,
+        })
     }
 
     /// Asks the view. No row of files changes. Out of memory leaves the tables as they were.

@@ -18,12 +18,12 @@ pub invariant_of-self-2 : goal.invariant_of-self-2
 invariant_of-self-2 c =
     let inside = c.self.inside in
     let is_open : IsSome (fin.get (kept_votes inside.intents.records) c.args.txn) = subst (λ v. IsSome (fin.get v.state.records.votes c.args.txn)) (sym c.self.view_is) c.requires.open in
-    let newer : c.args.newer ≡ filter (is_newer inside.copies.files) c.args.writes =
-    c.requires.newer ∙ ap (λ v. filter (is_newer v.state.records.copies) c.args.writes) (sym c.self.view_is) in
-    sound-as (sound-installed inside.intents.records inside.last inside.copies.files inside.locks c.self.invariant c.args.txn c.args.writes is_open)
+    let newer : c.args.newer ≡ filter (is_newer inside.copies.files) c.args.writes.now =
+    c.requires.newer ∙ ap (λ v. filter (is_newer v.state.records.copies) c.args.writes.now) (sym c.self.view_is) in
+    sound-as (sound-installed inside.intents.records inside.last inside.copies.files inside.locks c.self.invariant c.args.txn c.args.writes.now is_open)
     (c.finish.ensures.records ∙ ap (λ list. list ++ Gone c.args.txn (vote_at (kept_votes list) c.args.txn).number ∷ [])
     (c.in_ok-write_copies.ensures.records ∙ (λ i. c.in_ok-reserve-2.ensures.records i ++ map Copy ((c.as_slice.ensures ∙ newer) i))))
-    (c.install_all.ensures.files ∙ (λ i. installed_all (c.in_ok-reserve.ensures.files i) (newer i)) ∙ installed_all-newer inside.copies.files c.args.writes)
+    (c.install_all.ensures.files ∙ (λ i. installed_all (c.in_ok-reserve.ensures.files i) (newer i)) ∙ installed_all-newer inside.copies.files c.args.writes.now)
     c.release.ensures
 
 -- the newer writes leave the server that all of them would
@@ -47,4 +47,4 @@ returns-clause-after c =
     let inside = c.self.inside in
     let first : the_view (record { server = inside.server; copies = c.install_all.new.self; locks = c.release.new.self; intents = c.finish.new.self; down = inside.down; last = inside.last })
     ≡ unnoted c.args.self.now c.args.number (Install c.args.txn c.args.vote c.args.newer c.args.newer) = grind (arith, common_steps) in
-    first ∙ installs_newer c.args.self.now c.args.number c.args.txn c.args.vote c.args.writes c.args.newer c.requires.newer
+    first ∙ installs_newer c.args.self.now c.args.number c.args.txn c.args.vote c.args.writes.now c.args.newer c.requires.newer

@@ -3,6 +3,7 @@ use Rattle.std.proofs.Common.{◌≡◌, ◌-◌, ◌<◌, ◌≤◌, length, se
 use Rattle.tq_desk.specs.DeskJournal.{commits}
 use Rattle.tq_node.specs.Node.{answered}
 use Rattle.tq_node.specs.Records.{node_reply}
+use Rattle.tq_node.specs.Untouched.{raised_files}
 use Rattle.tq_shape.specs.Journal.{entry}
 use Rattle.tq_tables.specs.Asked.{both, node_in}
 use Rattle.tq_tables.specs.Files as spec
@@ -71,7 +72,8 @@ returns-clause-replies c =
     let there = is_there c.args.self.now server c.args.number c.requires in
     let many = ap (λ (t : TablesView). length t.nodes) view_is in
     let less : server - 1 < length nodes = omega (arith, there.0, there.1, many) in
-    c.in_ok-telling.ensures.replies (node_in nodes server) (node_in-at nodes server less)
+    let told = c.in_ok-telling.ensures.replies (node_in nodes server) (node_in-at nodes server less) in
+    (λ i. record { entered = told.0 i; told = told.1 i })
     ∙ ap (λ (t : TablesView). both (node_reply (node_in t.nodes server).server (node_in t.nodes server).state c.args.ask.now)) view_is
 
 pub returns-clause-asked : goal.returns-clause-asked
@@ -97,11 +99,11 @@ returns-clause-asked c = λ journals reply legal stand.
     ∙ get_or-put parts.nodes (server - 1) node c.node-node.result.now less in
     let whole = view_is ∙ stand in
     let of_tree = of_tree-at journals.levels journals.servers parts.nodes parts.view.levels (ap (λ (t : TablesView). t.nodes) whole) (ap (λ (t : TablesView). t.view.levels) whole) in
-    let stands = rows-stand parts of_tree server there.0 within old node at refl refl c.in_ok-telling.telling.files.items (c.in_ok-telling.ensures.told old at) rows journals
+    let stands = rows-stand parts of_tree server there.0 within old node at refl refl (raised_files c.in_ok-telling.telling.raised) (c.in_ok-telling.ensures.raised old at) rows journals
     (rows-at parts rows c.args.self.now view_is journals stand) in
     let files : c.stand_all.new.self.rows ≡ file_rows c.args.self.now.view.levels c.ask_node.new.self.nodes list =
     c.stand_all.ensures.rows
-    ∙ (λ i. spec.all_stood (node_is i) rows (c.as_slice.ensures.value i))
+    ∙ (λ i. spec.all_stood (node_is i) rows (raised_files c.in_ok-telling.telling.raised))
     ∙ stands
     ∙ (λ i. file_rows (view_is i).view.levels (sym after i).nodes list) in
     let at_now = at ∙ ap (λ (t : TablesView). get_or t.nodes (server - 1) old) view_is in

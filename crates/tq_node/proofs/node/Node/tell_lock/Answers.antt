@@ -2,7 +2,7 @@ use Rattle.std.proofs.Common.{sym, subst, rules}
 use Rattle.tq_locks.specs.Locks.{Locks}
 use Rattle.tq_node.specs.Node.{IsSound}
 use Rattle.tq_node.proofs.Sound.{sound-asked}
-use Rattle.tq_node.proofs.node.Node.answer_lock.Goals as goal
+use Rattle.tq_node.proofs.node.Node.tell_lock.Goals as goal
 
 pub invariant_of-self-2 : goal.invariant_of-self-2
 invariant_of-self-2 c =

@@ -1,6 +1,8 @@
 -- Copies that a server's step leaves.
-use Rattle.std.proofs.Common.{◌≡◌, ℕ, false, List, [], ◌∷◌, map, refl, ap, sym, ◌∙◌}
+use Rattle.std.proofs.Common.{◌≡◌, ℕ, Bool, true, false, ◌||◌, List, [], ◌∷◌, map, refl, ap, sym, ◌∙◌}
+use Rattle.std.specs.List.{list_any}
 use mathlib.Core.Bool.{true≢false}
+use Rattle.std.proofs.lemmas.Bool.{or_parts}
 use Rattle.tq_store.specs.Copies.{Files, copy_in, copy_of, installed, installed_all}
 use Rattle.tq_store.specs.Names.{same_name}
 use Rattle.tq_store.specs.declared.copies.FileCopy.{FileCopy}
@@ -8,26 +10,24 @@ use Rattle.tq_store.specs.declared.write.Write.{Write}
 use Rattle.tq_store.proofs.Installed.{Installs-installed}
 use Rattle.tq_store.proofs.SameName.{same_name-refl}
 use Rattle.tq_node.specs.NodeChanges.{stepped}
+use Rattle.tq_node.specs.Untouched.{KeepsOthers, step_raises}
 use Rattle.tq_node.specs.Records.{Records}
 use Rattle.tq_node.specs.declared.change.NodeStep.{NodeStep}
 use Rattle.tq_node.specs.declared.change.NodeStep.TheVariants as steps
-use Rattle.tq_tables.specs.Files.{files_changed}
-use Rattle.tq_tables.specs.NamesApart.{is_in}
-use Rattle.tq_tables.proofs.Names.{or_false}
 
 other-installed : (files : Files) (name : List ℕ) (copy : FileCopy) (other : List ℕ) → same_name other name ≡ false → copy_of (installed files name copy) other ≡ copy_of files other
 other-installed files name copy other differs =
     (Installs-installed files name copy).others other (λ same. true≢false (sym (same_name-refl other) ∙ ap (same_name other) same ∙ differs))
 
-other-installed_all : (files : Files) (writes : List Write) (other : List ℕ) → is_in other (map (λ write. write.file) writes) ≡ false → copy_of (installed_all files writes) other ≡ copy_of files other
+other-installed_all : (files : Files) (writes : List Write) → KeepsOthers (map (λ write. write.file) writes) files (installed_all files writes)
 other-installed_all files [] other none = refl
 other-installed_all files (write ∷ writes) other none =
-    let both = or_false (same_name other write.file) (is_in other (map (λ w. w.file) writes)) none in
+    let both = or_parts (same_name other write.file) (list_any (same_name other) (map (λ w. w.file) writes)) none in
     other-installed_all (installed files write.file (copy_in write)) writes other both.1
     ∙ other-installed files write.file (copy_in write) other both.0
 
 -- the copies of other files stay under a step
-pub step-keeps : (old : Records) (number : ℕ) (step : NodeStep) (file : List ℕ) → is_in file (files_changed step) ≡ false → copy_of (stepped old number step).copies file ≡ copy_of old.copies file
+pub step-keeps : (old : Records) (number : ℕ) (step : NodeStep) → KeepsOthers (step_raises step) old.copies (stepped old number step).copies
 step-keeps old number steps.Nothing file none = refl
 step-keeps old number (steps.Lock txn name mode version) file none = refl
 step-keeps old number (steps.Vote txn vote) file none = refl
@@ -35,7 +35,7 @@ step-keeps old number (steps.Discard txn vote) file none = refl
 step-keeps old number (steps.Install txn vote writes newer) file none = other-installed_all old.copies writes file none
 step-keeps old number (steps.Release txn) file none = refl
 step-keeps old number (steps.Refresh write) file none =
-    other-installed old.copies write.file (record { version = write.version; content = write.content }) file (or_false (same_name file write.file) false none).0
+    other-installed old.copies write.file (record { version = write.version; content = write.content }) file (or_parts (same_name file write.file) false none).0
 step-keeps old number (steps.Unfinished records) file none = refl
 step-keeps old number (steps.Copies newer) file none = other-installed_all old.copies newer file none
 step-keeps old number steps.Crash file none = refl

@@ -1,0 +1,24 @@
+use Rattle.std.proofs.Common.{List, ℕ, ap, sym, subst, ◌∙◌}
+use Rattle.std.specs.List.{list_any}
+use Rattle.tq_node.specs.NodeChanges.{node_changed, NodeFits}
+use Rattle.tq_node.specs.NodePlans.{change_fits, change_leads}
+use Rattle.tq_node.specs.declared.change.NodeChange.{NodeChange}
+use Rattle.tq_store.specs.Copies.{Files, copy_of}
+use Rattle.tq_store.specs.Names.{same_name}
+use Rattle.tq_node.proofs.Untouched.{step-keeps}
+use Rattle.tq_node.proofs.node.Node.tell_planned.Goals as goal
+
+pub apply-requires : goal.apply-requires
+apply-requires c =
+    let old = c.args.self.now in
+    subst (λ (change : NodeChange). NodeFits old change) (sym c.in_ok-plan.ensures.change) (change_fits old c.args.number c.args.ask.now c.requires)
+
+pub returns-clause-after : goal.returns-clause-after
+returns-clause-after c =
+    let old = c.args.self.now in
+    c.in_ok-apply.ensures.ok ∙ ap (λ (change : NodeChange). node_changed old change) c.in_ok-plan.ensures.change ∙ change_leads old c.args.number c.args.ask.now
+
+pub returns-clause-raised : goal.returns-clause-raised
+returns-clause-raised c = λ file none.
+    ap (λ (files : Files). copy_of files file) c.in_ok-apply.ensures.copies
+    ∙ step-keeps _ _ _ file (sym (ap (λ (names : List (List ℕ)). list_any (same_name file) names) c.in_ok-raised.ensures) ∙ none)

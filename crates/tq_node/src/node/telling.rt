@@ -1,0 +1,304 @@
+//! Asks that are answered at once, with no plan of their change, and their replies told twice.
+ghost use Rattle.std.specs.Prelude.{◌≡◌, ◌<◌, [], false, OnOk, OnErr, IfOk};
+ghost use Rattle.tq_node.specs.Node as node;
+ghost use Rattle.tq_node.specs.Untouched.{KeepsOthers, raised_files};
+ghost use Rattle.tq_node.specs.Records as spec;
+
+use super::{Node, locks_of};
+use crate::{CitedVote, NodeAsk, NodeRefusal, NodeReply, Raised, Telling, Verdict, WorkAsk};
+use std::alloc::Global;
+use tq_locks::{LockOutcome, Mode};
+use tq_part::Plan;
+use tq_shape::{Memory, SharedSeq};
+use tq_store::{Content, FileName, Write};
+
+impl Node {
+    /// Answers an ask, of a number above that of the last one answered, as `answer` does, and tells the reply twice, with
+    /// the files whose copies this may have raised: no other copy changes. Where memory is wanting the server is as it
+    /// was.
+    pub fn tell(&mut self, alloc: Global, number: u64, ask: &NodeAsk) -> Result<Telling, Memory>
+        requires { self.old.last < number }
+        ensures entered { IfOk result (λ telling. telling.entered ≡ spec.node_reply self.old.server self.old.state ask.now) }
+        ensures told { IfOk result (λ telling. telling.told ≡ spec.node_reply self.old.server self.old.state ask.now) }
+        ensures after { OnOk result (self.new ≡ node.answered self.old number ask.now) }
+        ensures raised { IfOk result (λ telling. KeepsOthers (raised_files telling.raised) self.old.state.records.copies self.new.state.records.copies) }
+        ensures err { OnErr result (self.new ≡ self.old) }
+    {
+        match ask {
+            NodeAsk::Work(work) => self.tell_work(alloc, number, work.get()),
+            _ => self.tell_planned(alloc, number, ask),
+        }
+    }
+
+    /// Plans the ask and makes the change.
+    fn tell_planned(
+        &mut self,
+        alloc: Global,
+        number: u64,
+        ask: &NodeAsk,
+    ) -> Result<Telling, Memory>
+        requires { self.old.last < number }
+        ensures entered { IfOk result (λ telling. telling.entered ≡ spec.node_reply self.old.server self.old.state ask.now) }
+        ensures told { IfOk result (λ telling. telling.told ≡ spec.node_reply self.old.server self.old.state ask.now) }
+        ensures after { OnOk result (self.new ≡ node.answered self.old number ask.now) }
+        ensures raised { IfOk result (λ telling. KeepsOthers (raised_files telling.raised) self.old.state.records.copies self.new.state.records.copies) }
+        ensures err { OnErr result (self.new ≡ self.old) }
+    {
+        let plan = self.plan(alloc, number, ask)?;
+        let Plan { reply, change } = plan;
+        let told = reply.clone()?;
+        let raised = Raised::by(&change.step)?;
+        self.apply(alloc, change)?;
+        Ok(Telling {
+            entered: reply,
+            told,
+            raised,
+        })
+    }
+
+    fn tell_work(&mut self, alloc: Global, number: u64, ask: &WorkAsk) -> Result<Telling, Memory>
+        requires { self.old.last < number }
+        ensures entered { IfOk result (λ telling. telling.entered ≡ spec.node_reply self.old.server self.old.state (NodeAsk.Work ask.now)) }
+        ensures told { IfOk result (λ telling. telling.told ≡ spec.node_reply self.old.server self.old.state (NodeAsk.Work ask.now)) }
+        ensures after { OnOk result (self.new ≡ node.answered self.old number (NodeAsk.Work ask.now)) }
+        ensures raised { IfOk result (λ telling. KeepsOthers (raised_files telling.raised) self.old.state.records.copies self.new.state.records.copies) }
+        ensures err { OnErr result (self.new ≡ self.old) }
+    {
+        if self.down {
+            return Ok(self.tell_refusal(number, &NodeRefusal::Down));
+        }
+        match ask {
+            WorkAsk::Lock { txn, file, mode } => self.tell_lock(alloc, number, *txn, *file, *mode),
+            WorkAsk::Prepare { txn, writes } => self.tell_vote(alloc, number, *txn, writes),
+            WorkAsk::Decide { txn, verdict, cite } => {
+                self.tell_end(alloc, number, *txn, verdict, *cite)
+            }
+            WorkAsk::Release { txn } => Ok(self.tell_release(number, *txn)),
+            WorkAsk::Peek { file } => self.tell_copy(number, file),
+            WorkAsk::Refresh {
+                file,
+                version,
+                content,
+                from,
+            } => self.tell_refresh(alloc, number, *file, *version, content, *from),
+        }
+    }
+
+    /// Refuses an ask: nothing changes but the number of the last one.
+    fn tell_refusal(&mut self, number: u64, reason: &NodeRefusal) -> Telling
+        requires { self.old.last < number }
+        ensures entered { result.entered ≡ NodeReply.Refused reason.now }
+        ensures told { result.told ≡ NodeReply.Refused reason.now }
+        ensures after { self.new ≡ node.numbered number self.old }
+        ensures raised { raised_files result.raised ≡ [] }
+    {
+        self.note(number);
+        refused(reason)
+    }
+
+    /// Grants a lock, or tells why not.
+    fn tell_lock(
+        &mut self,
+        alloc: Global,
+        number: u64,
+        txn: u64,
+        file: FileName,
+        mode: Mode,
+    ) -> Result<Telling, Memory>
+        requires rises { self.old.last < number }
+        requires up { self.old.state.records.down ≡ false }
+        ensures entered { IfOk result (λ telling. telling.entered ≡ spec.node_reply self.old.server self.old.state (NodeAsk.Work (WorkAsk.Lock txn file mode))) }
+        ensures told { IfOk result (λ telling. telling.told ≡ spec.node_reply self.old.server self.old.state (NodeAsk.Work (WorkAsk.Lock txn file mode))) }
+        ensures after { OnOk result (self.new ≡ node.answered self.old number (NodeAsk.Work (WorkAsk.Lock txn file mode))) }
+        ensures raised { IfOk result (λ telling. KeepsOthers (raised_files telling.raised) self.old.state.records.copies self.new.state.records.copies) }
+        ensures err { OnErr result (self.new ≡ self.old) }
+    {
+        if self.intents.of(txn).is_some() {
+            return Ok(self.tell_refusal(number, &NodeRefusal::Prepared));
+        }
+        let copy = self.copies.get(&file);
+        let version = copy.version;
+        let content = copy.content.clone()?;
+        let told = copy.content.clone()?;
+        let outcome = self.locks.ask(alloc, txn, &file, mode, number, version)?;
+        self.note(number);
+        match outcome {
+            LockOutcome::Granted => Ok(Telling {
+                entered: NodeReply::Granted { version, content },
+                told: NodeReply::Granted {
+                    version,
+                    content: told,
+                },
+                raised: Raised::nothing(),
+            }),
+            LockOutcome::Held { by } => Ok(refused(&NodeRefusal::Held { by })),
+        }
+    }
+
+    /// Votes for the writes of a transaction, or tells why not.
+    fn tell_vote(
+        &mut self,
+        alloc: Global,
+        number: u64,
+        txn: u64,
+        writes: &SharedSeq<Write>,
+    ) -> Result<Telling, Memory>
+        requires rises { self.old.last < number }
+        requires up { self.old.state.records.down ≡ false }
+        ensures entered { IfOk result (λ telling. telling.entered ≡ spec.node_reply self.old.server self.old.state (NodeAsk.Work (WorkAsk.Prepare txn writes.now))) }
+        ensures told { IfOk result (λ telling. telling.told ≡ spec.node_reply self.old.server self.old.state (NodeAsk.Work (WorkAsk.Prepare txn writes.now))) }
+        ensures after { OnOk result (self.new ≡ node.answered self.old number (NodeAsk.Work (WorkAsk.Prepare txn writes.now))) }
+        ensures raised { IfOk result (λ telling. KeepsOthers (raised_files telling.raised) self.old.state.records.copies self.new.state.records.copies) }
+        ensures err { OnErr result (self.new ≡ self.old) }
+    {
+        if let Some(reason) = self.prepare_refusal(txn, writes.as_slice()) {
+            return Ok(self.tell_refusal(number, &reason));
+        }
+        let entries = self.locks.held(alloc, txn)?;
+        let (held, locks) = locks_of(alloc, entries.as_slice())?;
+        let entered = NodeReply::Yes {
+            held: held.clone()?,
+            writes: writes.clone()?,
+        };
+        let told = NodeReply::Yes {
+            held,
+            writes: writes.clone()?,
+        };
+        self.vote(alloc, number, txn, writes.clone()?, locks)?;
+        Ok(Telling {
+            entered,
+            told,
+            raised: Raised::nothing(),
+        })
+    }
+
+    /// Ends the vote of a transaction by the verdict, if there is one.
+    fn tell_end(
+        &mut self,
+        alloc: Global,
+        number: u64,
+        txn: u64,
+        verdict: &Verdict,
+        _cite: u64,
+    ) -> Result<Telling, Memory>
+        requires rises { self.old.last < number }
+        requires up { self.old.state.records.down ≡ false }
+        ensures entered { IfOk result (λ telling. telling.entered ≡ spec.node_reply self.old.server self.old.state (NodeAsk.Work (WorkAsk.Decide txn verdict.now _cite))) }
+        ensures told { IfOk result (λ telling. telling.told ≡ spec.node_reply self.old.server self.old.state (NodeAsk.Work (WorkAsk.Decide txn verdict.now _cite))) }
+        ensures after { OnOk result (self.new ≡ node.answered self.old number (NodeAsk.Work (WorkAsk.Decide txn verdict.now _cite))) }
+        ensures raised { IfOk result (λ telling. KeepsOthers (raised_files telling.raised) self.old.state.records.copies self.new.state.records.copies) }
+        ensures err { OnErr result (self.new ≡ self.old) }
+    {
+        let Some(vote) = self.intents.of(txn) else {
+            return Ok(self.tell_refusal(number, &NodeRefusal::NothingHere));
+        };
+        let given = vote.number;
+        if !verdict.cites(self.server.number(), given) {
+            self.discard(number, txn, given)?;
+            self.note(number);
+            return Ok(Telling {
+                entered: NodeReply::Discarded,
+                told: NodeReply::Discarded,
+                raised: Raised::nothing(),
+            });
+        }
+        let writes = vote.writes.clone()?;
+        let newer = self.newer(alloc, writes.as_slice())?;
+        self.install(alloc, number, txn, given, writes.as_slice(), newer)?;
+        self.note(number);
+        Ok(Telling {
+            entered: NodeReply::Installed,
+            told: NodeReply::Installed,
+            raised: Raised::Written(writes),
+        })
+    }
+
+    /// Ends the locks of a transaction, or tells why not.
+    fn tell_release(&mut self, number: u64, txn: u64) -> Telling
+        requires rises { self.old.last < number }
+        requires up { self.old.state.records.down ≡ false }
+        ensures entered { result.entered ≡ spec.node_reply self.old.server self.old.state (NodeAsk.Work (WorkAsk.Release txn)) }
+        ensures told { result.told ≡ spec.node_reply self.old.server self.old.state (NodeAsk.Work (WorkAsk.Release txn)) }
+        ensures after { self.new ≡ node.answered self.old number (NodeAsk.Work (WorkAsk.Release txn)) }
+        ensures raised { KeepsOthers (raised_files result.raised) self.old.state.records.copies self.new.state.records.copies }
+    {
+        if let Some(reason) = self.release_refusal(txn) {
+            return self.tell_refusal(number, &reason);
+        }
+        self.release(number, txn);
+        self.note(number);
+        Telling {
+            entered: NodeReply::Released,
+            told: NodeReply::Released,
+            raised: Raised::nothing(),
+        }
+    }
+
+    /// Tells the copy of a file.
+    fn tell_copy(&mut self, number: u64, file: &FileName) -> Result<Telling, Memory>
+        requires rises { self.old.last < number }
+        requires up { self.old.state.records.down ≡ false }
+        ensures entered { IfOk result (λ telling. telling.entered ≡ spec.node_reply self.old.server self.old.state (NodeAsk.Work (WorkAsk.Peek file.now))) }
+        ensures told { IfOk result (λ telling. telling.told ≡ spec.node_reply self.old.server self.old.state (NodeAsk.Work (WorkAsk.Peek file.now))) }
+        ensures after { OnOk result (self.new ≡ node.answered self.old number (NodeAsk.Work (WorkAsk.Peek file.now))) }
+        ensures raised { IfOk result (λ telling. KeepsOthers (raised_files telling.raised) self.old.state.records.copies self.new.state.records.copies) }
+        ensures err { OnErr result (self.new ≡ self.old) }
+    {
+        let entered = self.peek(*file)?;
+        let told = entered.clone()?;
+        self.note(number);
+        Ok(Telling {
+            entered,
+            told,
+            raised: Raised::nothing(),
+        })
+    }
+
+    /// Takes a copy that is newer, or tells that it is not.
+    fn tell_refresh(
+        &mut self,
+        alloc: Global,
+        number: u64,
+        file: FileName,
+        version: u64,
+        content: &Content,
+        _from: CitedVote,
+    ) -> Result<Telling, Memory>
+        requires rises { self.old.last < number }
+        requires up { self.old.state.records.down ≡ false }
+        ensures entered { IfOk result (λ telling. telling.entered ≡ spec.node_reply self.old.server self.old.state (NodeAsk.Work (WorkAsk.Refresh file version content.now _from))) }
+        ensures told { IfOk result (λ telling. telling.told ≡ spec.node_reply self.old.server self.old.state (NodeAsk.Work (WorkAsk.Refresh file version content.now _from))) }
+        ensures after { OnOk result (self.new ≡ node.answered self.old number (NodeAsk.Work (WorkAsk.Refresh file version content.now _from))) }
+        ensures raised { IfOk result (λ telling. KeepsOthers (raised_files telling.raised) self.old.state.records.copies self.new.state.records.copies) }
+        ensures err { OnErr result (self.new ≡ self.old) }
+    {
+        if version <= self.copies.get(&file).version {
+            return Ok(self.tell_refusal(number, &NodeRefusal::NotNewer));
+        }
+        let write = Write {
+            file,
+            version,
+            content: content.clone()?,
+        };
+        self.refresh(alloc, number, write)?;
+        self.note(number);
+        Ok(Telling {
+            entered: NodeReply::Refreshed,
+            told: NodeReply::Refreshed,
+            raised: Raised::One(file),
+        })
+    }
+}
+
+/// A refusal, which raises no copy.
+fn refused(reason: &NodeRefusal) -> Telling
+    ensures entered { result.entered ≡ NodeReply.Refused reason.now }
+    ensures told { result.told ≡ NodeReply.Refused reason.now }
+    ensures raised { raised_files result.raised ≡ [] }
+{
+    Telling {
+        entered: NodeReply::Refused(*reason),
+        told: NodeReply::Refused(*reason),
+        raised: Raised::nothing(),
+    }
+}

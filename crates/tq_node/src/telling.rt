@@ -1,0 +1,47 @@
+ghost use Rattle.std.specs.Prelude.{◌≡◌, [], IfOk};
+ghost use Rattle.tq_node.specs.Untouched.{raised_files, step_raises};
+
+use crate::{NodeReply, NodeStep};
+use tq_shape::{Memory, SharedSeq};
+use tq_store::{FileName, Write};
+
+/// A server's reply, twice: one to enter into the journal and one to tell. And the files whose copies there it may have
+/// raised.
+#[derive(Drop)]
+pub struct Telling {
+    pub entered: NodeReply,
+    pub told: NodeReply,
+    pub raised: Raised,
+}
+
+/// The files whose copies an ask may have raised.
+#[derive(Drop)]
+pub enum Raised {
+    /// Those of the writes.
+    Written(SharedSeq<Write>),
+    One(FileName),
+}
+
+impl Raised {
+    /// No file.
+    pub(crate) fn nothing() -> Raised
+        ensures { raised_files result ≡ [] }
+    {
+        Raised::Written(SharedSeq::empty())
+    }
+
+    /// The files whose copies the step may raise.
+    pub(crate) fn by(step: &NodeStep) -> Result<Raised, Memory>
+        ensures { IfOk result (λ raised. raised_files raised ≡ step_raises step.now) }
+    {
+        match step {
+            NodeStep::Install { writes, .. } => Ok(Raised::Written(writes.clone()?)),
+            NodeStep::Copies { newer } => {
+                let newer = newer.clone()?;
+                Ok(Raised::Written(SharedSeq::from_vec(newer.into_vec())?))
+            }
+            NodeStep::Refresh { write } => Ok(Raised::One(write.file)),
+            _ => Ok(Raised::nothing()),
+        }
+    }
+}
