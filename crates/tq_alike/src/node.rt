@@ -2,7 +2,7 @@ ghost use Rattle.std.specs.Prelude.{◌≡◌};
 ghost use Rattle.tq_alike.specs.Same as spec;
 
 use crate::kinds::Alike;
-use tq_node::{NodeAsk, NodeRefusal, NodeReply, Verdict, WorkAsk};
+use tq_asks::{NodeAsk, NodeRefusal, NodeReply, Verdict, WorkAsk};
 
 /// A server's asks and replies.
 #[derive(Clone, Copy, Debug)]

@@ -1,9 +1,9 @@
 ghost use Rattle.std.specs.Prelude.{◌≡◌, ◌↔◌, IsTrue};
 
 use crate::{Alike, OfDesk, OfServer, OfView};
+use tq_asks::NodeReply;
 use tq_desk::DeskReply;
 use tq_live::ViewReply;
-use tq_node::NodeReply;
 
 /// Values of which it can be told whether two are equal, as contracts see them.
 pub trait Same {

@@ -3,11 +3,11 @@ ghost use Rattle.std.specs.Prelude.{◌≡◌, IfOk};
 use crate::told::{nothing, with_desk, with_node, with_view};
 use std::alloc::Global;
 use std::marker::Model;
+use tq_asks::NodeAsk;
 use tq_core::Service;
 use tq_desk::DeskAsk;
 use tq_history::History;
 use tq_live::ViewAsk;
-use tq_node::NodeAsk;
 use tq_shape::{Levels, Limits, Memory, ServerId};
 use tq_txn::{AskFault, Asker, DeskTold, Exchange, NodeTold, ViewTold};
 

@@ -2,10 +2,10 @@ ghost use Rattle.std.specs.Prelude.{◌≡◌, ◌++◌, []};
 ghost use Rattle.tq_txn.specs.declared.asker.Exchange.TheVariants as exchanges;
 ghost use Rattle.tq_asking.specs.Recorded.{noted};
 
+use tq_asks::{NodeAsk, NodeReply};
 use tq_desk::{DeskAsk, DeskReply};
 use tq_history::History;
 use tq_live::{ViewAsk, ViewReply};
-use tq_node::{NodeAsk, NodeReply};
 use tq_part::{Answered, AskFault};
 use tq_txn::Exchange;
 

@@ -1,7 +1,7 @@
 -- What the shell knows of transactions.
 use Rattle.std.specs.Prelude.{ℕ, ◌-◌, List, [], ◌∷◌, ◌++◌, Option, Some, None, slice_set}
 use Rattle.tq_shape.specs.Limits.{LimitsView}
-use Rattle.tq_node.specs.declared.ask.Verdict.{Verdict}
+use Rattle.tq_asks.specs.declared.ask.Verdict.{Verdict}
 use Rattle.tq_txn.specs.declared.txn.Txn.{Txn}
 use Rattle.tq_txn.specs.declared.txn.Txn.TheVariants as states
 use Rattle.tq_states.specs.Open as first

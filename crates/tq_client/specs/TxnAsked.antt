@@ -6,7 +6,7 @@ use Rattle.tq_desk.specs.declared.ask.DeskAsk.TheVariants as desk_asks
 use Rattle.tq_desk.specs.declared.ask.DeskReply.{DeskReply}
 use Rattle.tq_desk.specs.declared.ask.DeskReply.TheVariants as desk_replies
 use Rattle.tq_live.specs.View.{is_server}
-use Rattle.tq_node.specs.declared.ask.WorkAsk.TheVariants.{Decide}
+use Rattle.tq_asks.specs.declared.ask.WorkAsk.TheVariants.{Decide}
 use Rattle.tq_tables.specs.Journals.{JournalsView}
 use Rattle.tq_txn.specs.declared.fault.LineFault.{LineFault}
 use Rattle.tq_txn.specs.declared.reading.Reading.{Reading}

@@ -11,7 +11,7 @@ use crate::states::{Closed, ending_of, stand_in, voting_of};
 use std::alloc::Global;
 use std::mem;
 use tq_asking::Recorder;
-use tq_node::WorkAsk;
+use tq_asks::WorkAsk;
 use tq_print::{say_applied, say_fault, say_number};
 use tq_shape::{Levels, Memory, ServerId};
 use tq_txn::{Applied, LineFault, Txn, Voting, apply_at, prepare_at, prepare_stopping, stop_at};

@@ -1,4 +1,4 @@
-use tq_node::Verdict;
+use tq_asks::Verdict;
 use tq_txn::Txn;
 
 /// How a transaction ended, and the number of the desk's entry that told it.

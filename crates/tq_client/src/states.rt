@@ -9,7 +9,7 @@ ghost use Rattle.tq_client.specs.States as spec;
 
 use crate::kept::{Ending, Kept};
 use std::alloc::Global;
-use tq_node::Verdict;
+use tq_asks::Verdict;
 use tq_print::{push_decided, say_fault};
 use tq_shape::{Limits, Memory};
 use tq_txn::{LineFault, Open, Txn, Voting};

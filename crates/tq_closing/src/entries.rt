@@ -2,11 +2,10 @@ ghost use Rattle.std.specs.Prelude.{◌≡◌, IfOk};
 ghost use Rattle.tq_closing.specs.Told.{found_at, node_found, desk_found, view_found};
 
 use crate::stands::server_entry;
-use tq_core::item_at;
 use tq_receipts::EntryName;
 use tq_shape::{Entry, Memory, Part};
 use tq_tables::{DeskEntry, Journals, NodeEntry, ViewEntry};
-use tq_world::{Reply, Step};
+use tq_world::{Reply, Step, item_at};
 
 /// An entry of a server, whose part its ask and its reply name.
 fn of_server(server: u64, entry: &NodeEntry) -> Result<Entry<Step, Reply>, Memory>

@@ -5,10 +5,10 @@ ghost use Rattle.tq_world.specs.World as world;
 ghost use Rattle.tq_closing.specs.Told.{Stands};
 
 use tq_alike::{Alike, OfDesk, OfServer, OfView};
-use tq_core::item_at;
 use tq_shape::Entry;
 use tq_tables::{Journals, NodeEntry};
 use tq_txn::Exchange;
+use tq_world::item_at;
 
 /// The entry of a number in a server's journal.
 pub(crate) fn server_entry(journals: &Journals, server: u64, number: u64) -> Option<&NodeEntry>

@@ -11,8 +11,8 @@ use Rattle.tq_live.proofs.Crossing.{tree_send}
 use Rattle.tq_store.specs.contracts.copies.Copies as Copies
 use Rattle.tq_locks.specs.contracts.table.LockTable as LockTable
 use Rattle.tq_intents.specs.contracts.intents.Intents as Intents
-use Rattle.tq_node.specs.contracts.ask.NodeAsk as NodeAsk
-use Rattle.tq_node.specs.contracts.ask.NodeReply as NodeReply
+use Rattle.tq_asks.specs.contracts.ask.NodeAsk as NodeAsk
+use Rattle.tq_asks.specs.contracts.ask.NodeReply as NodeReply
 use Rattle.tq_node.specs.contracts.node.Node as Node
 use Rattle.tq_desk.specs.contracts.ask.DeskAsk as DeskAsk
 use Rattle.tq_desk.specs.contracts.ask.DeskReply as DeskReply

@@ -6,7 +6,7 @@ use Rattle.std.proofs.lemmas.List.Elements.{All-nil, All-cons, All-push}
 use Rattle.std.proofs.lemmas.List.{length-map, map-append}
 use Rattle.tq_shape.specs.Journal.{IsLegalFrom}
 use Rattle.tq_shape.proofs.Joined.{legal-reverse}
-use Rattle.tq_node.specs.declared.ask.NodeAsk.{NodeAsk}
+use Rattle.tq_asks.specs.declared.ask.NodeAsk.{NodeAsk}
 use Rattle.tq_node.specs.Records.{NodeState, node_reply, node_after}
 use Rattle.tq_node.specs.Node as node
 use Rattle.tq_node.specs.Node.{NodeView, answered}

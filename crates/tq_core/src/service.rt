@@ -10,19 +10,18 @@ ghost use Rattle.tq_tables.specs.Tables.{tables_of};
 ghost use Rattle.tq_core.specs.Asked as asks;
 ghost use Rattle.tq_core.specs.Service.{IsEntered, reply_of};
 
-use crate::unfounded::item_at;
 use crate::{Answer, Answered, Journal, Refusal, Reply, Step};
 use std::alloc::Global;
 use std::marker::Model;
+use tq_asks::{NodeAsk, NodeReply};
 use tq_desk::{Desk, DeskAsk, DeskReply};
 use tq_live::{View, ViewAsk, ViewReply};
-use tq_node::{NodeAsk, NodeReply};
 use tq_part::AskFault;
 use tq_shape::{Levels, Limits, Memory, Part, ServerId};
 use tq_tables::{
     DeskEntry, Entry, Journals, NodeEntry, Parts, Replies, Tables, ViewEntry, replay_nodes,
 };
-use tq_world::Citation;
+use tq_world::{Citation, item_at};
 
 /// All parts of a system, which the tables follow, and beside them a journal of each: its servers, its desk and its
 /// view. Each ask that a part answers is entered into the part's journal with the reply, and changes the rows of the

@@ -5,23 +5,12 @@ ghost use Rattle.tq_world.specs.World as world;
 ghost use Rattle.tq_world.specs.Founded as spec;
 
 use crate::Service;
-use crate::founded::{is_ended, is_granted, is_peeked, is_voted};
+use tq_asks::{CitedVote, NodeAsk, Verdict, WorkAsk};
 use tq_desk::{DeskAsk, Grant, Op, Vote};
-use tq_node::{CitedVote, NodeAsk, Verdict, WorkAsk};
 use tq_shape::Part;
 use tq_store::{Content, FileName};
 use tq_tables::NodeEntry;
-use tq_world::Citation;
-
-/// The item of a number, from 1; none where the list has no such item.
-pub fn item_at<T>(items: &[T], number: u64) -> Option<&T>
-    ensures { option_copied result ≡ world.item_at items.now number }
-{
-    if number == 0 {
-        return None;
-    }
-    items.get((number - 1) as usize)
-}
+use tq_world::{Citation, is_ended, is_granted, is_peeked, is_voted, item_at};
 
 impl Service {
     /// The entry of a number in a server's journal.

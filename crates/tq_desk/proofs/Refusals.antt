@@ -2,7 +2,7 @@
 use Rattle.std.specs.Prelude.{not, nat_lt}
 use Rattle.std.proofs.Common.{◌≡◌, ℕ, Bool, true, false, List, length, Option, Some, None, refl}
 use Rattle.std.specs.FinMap as fin
-use Rattle.tq_node.specs.declared.ask.Verdict.{Verdict}
+use Rattle.tq_asks.specs.declared.ask.Verdict.{Verdict}
 use Rattle.tq_desk.specs.declared.ask.DeskAsk.TheVariants as asks
 use Rattle.tq_desk.specs.declared.ask.DeskRefusal.{DeskRefusal}
 use Rattle.tq_desk.specs.declared.ask.DeskRefusal.TheVariants as refusals

@@ -3,7 +3,7 @@ use Rattle.std.specs.Prelude.{◌≡◌, ◌+◌, ◌&&◌, ◌++◌, ℕ, Bool,
 use Rattle.std.specs.FinMap as fin
 use Rattle.std.specs.List.{list_any}
 use Rattle.tq_shape.specs.Journal.{entry}
-use Rattle.tq_node.specs.declared.ask.Verdict.{Verdict as Final}
+use Rattle.tq_asks.specs.declared.ask.Verdict.{Verdict as Final}
 use Rattle.tq_desk.specs.declared.ask.DeskAsk.{DeskAsk}
 use Rattle.tq_desk.specs.declared.ask.DeskAsk.TheVariants.{Begin, Commit, Resolve}
 use Rattle.tq_desk.specs.declared.ask.DeskRefusal.{DeskRefusal}

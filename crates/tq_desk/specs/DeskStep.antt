@@ -4,9 +4,9 @@ use Rattle.std.specs.FinMap as fin
 use Rattle.std.specs.Ordering.{nat_cmp}
 use Rattle.tq_shape.specs.Limits.{LimitsView}
 use Rattle.tq_store.specs.Copies.{name_cmp}
-use Rattle.tq_node.specs.declared.ask.CitedVote.{CitedVote}
-use Rattle.tq_node.specs.declared.ask.Verdict as verdict
-use Rattle.tq_node.specs.declared.ask.Verdict.TheVariants as verdicts
+use Rattle.tq_asks.specs.declared.ask.CitedVote.{CitedVote}
+use Rattle.tq_asks.specs.declared.ask.Verdict as verdict
+use Rattle.tq_asks.specs.declared.ask.Verdict.TheVariants as verdicts
 use Rattle.tq_desk.specs.declared.ask.DeskAsk.{DeskAsk}
 use Rattle.tq_desk.specs.declared.ask.DeskAsk.TheVariants.{Begin, Commit, Resolve}
 use Rattle.tq_desk.specs.declared.ask.DeskRefusal.{DeskRefusal}

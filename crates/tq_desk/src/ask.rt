@@ -1,5 +1,5 @@
+use tq_asks::Verdict;
 use tq_evidence::{Op, Rule, Vote};
-use tq_node::Verdict;
 use tq_shape::SharedSeq;
 
 /// What a desk is asked.

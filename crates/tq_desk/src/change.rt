@@ -1,4 +1,4 @@
-use tq_node::CitedVote;
+use tq_asks::CitedVote;
 use tq_shape::Seq;
 use tq_store::FileName;
 

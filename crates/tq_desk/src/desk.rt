@@ -13,8 +13,8 @@ use crate::finals::Finals;
 use crate::{DeskAsk, DeskChange, DeskRefusal, DeskReply};
 use std::alloc::Global;
 use std::marker::Model;
+use tq_asks::{CitedVote, Verdict};
 use tq_evidence::{Op, Vote, failed_rule};
-use tq_node::{CitedVote, Verdict};
 use tq_part::Plan;
 use tq_shape::{Levels, Limits, Memory, Seq};
 use tq_store::FileName;
@@ -35,7 +35,7 @@ impl Model for Desk {
     ghost use Rattle.std.specs.FinMap as map;
     ghost use Rattle.tq_desk.specs.DeskStep.{DeskView};
     ghost use Rattle.tq_desk.specs.Views.{desk_code};
-    ghost use Rattle.tq_node.specs.contracts.ask.Verdict as verdict_type;
+    ghost use Rattle.tq_asks.specs.contracts.ask.Verdict as verdict_type;
 
     ghost Value = { DeskView };
 

@@ -5,7 +5,7 @@ ghost use Rattle.std.specs.Option.{option_copied};
 use indexmap::IndexMap;
 use std::alloc::Global;
 use std::marker::Model;
-use tq_node::Verdict;
+use tq_asks::Verdict;
 use tq_shape::Memory;
 
 /// How each transaction ended that has.
@@ -18,7 +18,7 @@ impl Model for Finals {
     ghost use Rattle.std.specs.FinMap as map;
     ghost use Rattle.indexmap.specs.IndexMap.{spare};
     ghost use Rattle.tq_desk.specs.Views.{FinalsView, finals_view_code};
-    ghost use Rattle.tq_node.specs.contracts.ask.Verdict as verdict_type;
+    ghost use Rattle.tq_asks.specs.contracts.ask.Verdict as verdict_type;
 
     ghost Value = { FinalsView };
 

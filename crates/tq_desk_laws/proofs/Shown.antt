@@ -12,7 +12,7 @@ use Rattle.tq_shape.specs.Journal.{Has}
 use Rattle.tq_store.specs.Copies.{name_cmp}
 use Rattle.tq_store.specs.declared.write.Write.{Write as FileWrite}
 use Rattle.tq_coterie.specs.Coterie.{is_quorum}
-use Rattle.tq_node.specs.declared.ask.HeldLock.{HeldLock}
+use Rattle.tq_asks.specs.declared.ask.HeldLock.{HeldLock}
 use Rattle.tq_evidence.specs.declared.grant.Grant.{Grant}
 use Rattle.tq_evidence.specs.declared.op.Op.{Op}
 use Rattle.tq_evidence.specs.declared.rule.Rule.{Rule}

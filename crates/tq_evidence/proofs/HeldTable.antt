@@ -7,7 +7,7 @@ use Rattle.std.specs.FinMap as fin
 use Rattle.std.specs.List.{list_any}
 use Rattle.std.proofs.lemmas.Bool.Decides.{nat_tests}
 use Rattle.tq_store.specs.Copies.{name_cmp}
-use Rattle.tq_node.specs.declared.ask.HeldLock.{HeldLock}
+use Rattle.tq_asks.specs.declared.ask.HeldLock.{HeldLock}
 use Rattle.tq_store.specs.Names.{same_name}
 use Rattle.tq_evidence.specs.Held.{LeastSince, is_since, least_since, lesser, noted, noted_all}
 use Rattle.tq_store.proofs.SameName.{same_name-is}

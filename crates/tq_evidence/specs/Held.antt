@@ -3,7 +3,7 @@ use Rattle.std.specs.Prelude.{◌≡◌, ℕ, Bool, false, nat_le, min, List, fo
 use Rattle.std.specs.Coded.{Coded, code_by, coded×, coded_list, coded_ℕ}
 use Rattle.std.specs.FinMap as fin
 use Rattle.tq_store.specs.Copies.{name_cmp}
-use Rattle.tq_node.specs.declared.ask.HeldLock.{HeldLock}
+use Rattle.tq_asks.specs.declared.ask.HeldLock.{HeldLock}
 
 abbrev pub LeastSince : Type 0
 LeastSince = fin.FinMap name_cmp ℕ

@@ -2,7 +2,7 @@ ghost use Rattle.std.specs.Prelude.{◌≡◌};
 ghost use Rattle.tq_evidence.specs.Evidence as spec;
 
 use crate::Grant;
-use tq_node::HeldLock;
+use tq_asks::HeldLock;
 use tq_shape::{ExactClone, SharedSeq};
 use tq_store::{FileName, Write};
 

@@ -6,10 +6,10 @@ use Rattle.serde_json.specs.Find.{get}
 use Rattle.tq_store.specs.declared.write.Write.{Write}
 use Rattle.tq_locks.specs.declared.mode.Mode.{Mode}
 use Rattle.tq_locks.specs.declared.mode.Mode.TheVariants.{Shared, Exclusive}
-use Rattle.tq_node.specs.declared.ask.CitedVote.{CitedVote}
-use Rattle.tq_node.specs.declared.ask.HeldLock.{HeldLock}
-use Rattle.tq_node.specs.declared.ask.Verdict.{Verdict}
-use Rattle.tq_node.specs.declared.ask.Verdict.TheVariants.{Abort, Commit}
+use Rattle.tq_asks.specs.declared.ask.CitedVote.{CitedVote}
+use Rattle.tq_asks.specs.declared.ask.HeldLock.{HeldLock}
+use Rattle.tq_asks.specs.declared.ask.Verdict.{Verdict}
+use Rattle.tq_asks.specs.declared.ask.Verdict.TheVariants.{Abort, Commit}
 use Rattle.tq_members.specs.Format.{Format}
 use Rattle.tq_members.specs.Content.{file_at, content_at}
 use Rattle.tq_members.specs.Member.{◌>>=◌, text_at, number_at, items_at, each}

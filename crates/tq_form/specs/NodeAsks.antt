@@ -3,11 +3,11 @@ use Rattle.std.specs.Prelude.{nat_le, ℕ, List, Option, Some, None, cond, codes
 use Rattle.std.specs.Str.{bytes_eq}
 use Rattle.serde_json.specs.Data.{Data}
 use Rattle.serde_json.specs.Find.{get}
-use Rattle.tq_node.specs.declared.ask.CitedVote.{CitedVote}
-use Rattle.tq_node.specs.declared.ask.NodeAsk.{NodeAsk}
-use Rattle.tq_node.specs.declared.ask.NodeAsk.TheVariants.{Work, Crash, Return, CrashIn}
-use Rattle.tq_node.specs.declared.ask.WorkAsk.{WorkAsk}
-use Rattle.tq_node.specs.declared.ask.WorkAsk.TheVariants.{Lock, Prepare, Decide, Release, Peek, Refresh}
+use Rattle.tq_asks.specs.declared.ask.CitedVote.{CitedVote}
+use Rattle.tq_asks.specs.declared.ask.NodeAsk.{NodeAsk}
+use Rattle.tq_asks.specs.declared.ask.NodeAsk.TheVariants.{Work, Crash, Return, CrashIn}
+use Rattle.tq_asks.specs.declared.ask.WorkAsk.{WorkAsk}
+use Rattle.tq_asks.specs.declared.ask.WorkAsk.TheVariants.{Lock, Prepare, Decide, Release, Peek, Refresh}
 use Rattle.tq_members.specs.Format.{Format}
 use Rattle.tq_members.specs.Content.{file_at, content_at}
 use Rattle.tq_form.specs.Locking.{mode_at, writes_at, verdict_at, citation}

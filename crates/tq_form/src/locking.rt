@@ -5,9 +5,9 @@ ghost use Rattle.tq_members.specs.Member.{each};
 ghost use Rattle.tq_form.specs.Locking as spec;
 
 use std::alloc::Global;
+use tq_asks::{CitedVote, HeldLock, Verdict};
 use tq_locks::Mode;
 use tq_members::{content_at, file_at, is_text};
-use tq_node::{CitedVote, HeldLock, Verdict};
 use tq_shape::{Memory, Seq, SharedSeq};
 use tq_store::Write;
 use tq_value::{Value, get, items_at, number_at, text_at};

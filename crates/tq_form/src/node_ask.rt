@@ -5,8 +5,8 @@ ghost use Rattle.tq_form.specs.NodeAsks as spec;
 
 use crate::locking::{citation, mode_at, verdict_at, writes_at};
 use std::alloc::Global;
+use tq_asks::{CitedVote, NodeAsk, WorkAsk};
 use tq_members::{content_at, file_at, is_text};
-use tq_node::{CitedVote, NodeAsk, WorkAsk};
 use tq_shape::{Memory, Shared};
 use tq_value::{Value, get, number_at, text_at};
 

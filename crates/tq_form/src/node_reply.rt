@@ -5,8 +5,8 @@ ghost use Rattle.tq_form.specs.NodeReplies as spec;
 
 use crate::locking::{held_at, writes_at};
 use std::alloc::Global;
+use tq_asks::{NodeRefusal, NodeReply};
 use tq_members::{content_at, file_at, is_text};
-use tq_node::{NodeRefusal, NodeReply};
 use tq_shape::Memory;
 use tq_value::{Value, number_at, text_at};
 

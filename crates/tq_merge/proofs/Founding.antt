@@ -9,9 +9,9 @@ use Rattle.tq_shape.specs.declared.part.Part.{Part}
 use Rattle.tq_shape.specs.declared.part.Part.TheVariants as parts
 use Rattle.tq_shape.proofs.Options.{map-none, or_else-none}
 use Rattle.tq_shape.proofs.Places.{none-Has, append-Has, map-Has, Has-append, Has-map}
-use Rattle.tq_node.specs.declared.ask.NodeAsk.TheVariants as node_asks
-use Rattle.tq_node.specs.declared.ask.WorkAsk.{WorkAsk}
-use Rattle.tq_node.specs.declared.ask.WorkAsk.TheVariants as work
+use Rattle.tq_asks.specs.declared.ask.NodeAsk.TheVariants as node_asks
+use Rattle.tq_asks.specs.declared.ask.WorkAsk.{WorkAsk}
+use Rattle.tq_asks.specs.declared.ask.WorkAsk.TheVariants as work
 use Rattle.tq_desk.specs.declared.ask.DeskAsk.TheVariants as desk_asks
 use Rattle.tq_evidence.specs.declared.grant.Grant.{Grant}
 use Rattle.tq_evidence.specs.declared.op.Op.{Op}

@@ -9,7 +9,7 @@ use Rattle.tq_shape.proofs.Joined.{legal-push, legal-reverse}
 use Rattle.tq_node.specs.Records.{node_reply, node_after}
 use Rattle.tq_node.specs.Node.{NodeView}
 use Rattle.tq_node.specs.NodeJournal.{nothing_stored, IsLegalNode}
-use Rattle.tq_node.specs.declared.ask.NodeReply.{NodeReply}
+use Rattle.tq_asks.specs.declared.ask.NodeReply.{NodeReply}
 use Rattle.tq_desk.specs.declared.ask.DeskReply.{DeskReply}
 use Rattle.tq_desk.specs.DeskJournal.{DeskBounds, step_reply, step_after, opened}
 use Rattle.tq_desk.specs.DeskStep.{DeskView, desk_reply}

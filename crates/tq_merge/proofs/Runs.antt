@@ -9,8 +9,8 @@ use Rattle.tq_shape.specs.declared.entry.Entry.{Entry}
 use Rattle.tq_shape.specs.declared.part.Part.{Part}
 use Rattle.tq_shape.specs.declared.part.Part.TheVariants as parts
 use Rattle.tq_shape.proofs.Joined.{reverse-legal}
-use Rattle.tq_node.specs.declared.ask.NodeAsk.{NodeAsk}
-use Rattle.tq_node.specs.declared.ask.NodeReply.{NodeReply}
+use Rattle.tq_asks.specs.declared.ask.NodeAsk.{NodeAsk}
+use Rattle.tq_asks.specs.declared.ask.NodeReply.{NodeReply}
 use Rattle.tq_node.specs.Records.{node_reply, node_after}
 use Rattle.tq_node.specs.NodeJournal.{IsLegalNode, nothing_stored}
 use Rattle.tq_desk.specs.declared.ask.DeskReply.{DeskReply}

@@ -6,8 +6,8 @@ ghost use Rattle.tq_world.specs.Founded.{cited_grant, cited_vote};
 
 use crate::stands::stands;
 use std::alloc::Global;
+use tq_asks::CitedVote;
 use tq_desk::{DeskAsk, Grant, Op, Vote};
-use tq_node::CitedVote;
 use tq_shape::Memory;
 use tq_tables::Journals;
 

@@ -2,7 +2,7 @@
 ghost use Rattle.std.specs.Prelude.{◌≡◌, ◌<◌, ◌+◌, ◌++◌, ◌∷◌, ◌↔◌, [], suc, true, false, Ok, Some, IsTrue, IfOk, OnOk, length, map};
 ghost use Rattle.tq_shape.specs.declared.part.Part.{Part};
 ghost use Rattle.tq_shape.specs.declared.part.Part.TheVariants as parts;
-ghost use Rattle.tq_node.specs.declared.ask.CitedVote.{CitedVote};
+ghost use Rattle.tq_asks.specs.declared.ask.CitedVote.{CitedVote};
 ghost use Rattle.tq_merge.specs.Order as spec;
 ghost use Rattle.tq_merge.specs.Placing as kept;
 
@@ -11,7 +11,7 @@ use crate::cited::{Wanted, wanted_at};
 use crate::ready::{first_missing, is_ready};
 use std::alloc::Global;
 use std::marker::Model;
-use tq_node::CitedVote;
+use tq_asks::CitedVote;
 use tq_shape::{Memory, Part, Seq};
 use tq_tables::{Journals, NodeEntry};
 

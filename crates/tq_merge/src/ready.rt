@@ -1,14 +1,14 @@
 //! Whether a server's entry can be placed: what it cites is placed, and stands in the journals.
 ghost use Rattle.std.specs.Prelude.{◌≡◌, ◌≤◌, ◌<◌, ◌⊎◌, false, true, is_none, length, take};
 ghost use Rattle.tq_shape.specs.Journal.{Has};
-ghost use Rattle.tq_node.specs.declared.ask.CitedVote.{CitedVote};
+ghost use Rattle.tq_asks.specs.declared.ask.CitedVote.{CitedVote};
 ghost use Rattle.tq_world.specs.Founded as founded;
 ghost use Rattle.tq_merge.specs.Placing as spec;
 
 use crate::stands::{stands_copy, stands_verdict};
-use tq_core::item_at;
-use tq_node::{CitedVote, NodeAsk, WorkAsk};
+use tq_asks::{CitedVote, NodeAsk, WorkAsk};
 use tq_tables::Journals;
+use tq_world::item_at;
 
 /// Whether an entry of a server is placed, where so many of each server are.
 pub(crate) fn is_placed(counts: &[u64], entry: CitedVote) -> bool

@@ -4,11 +4,11 @@ ghost use Rattle.std.specs.Option.{option_copied};
 ghost use Rattle.tq_world.specs.World as world;
 ghost use Rattle.tq_world.specs.Founded as spec;
 
-use tq_core::{is_ended, is_granted, is_peeked, is_voted, item_at};
+use tq_asks::{CitedVote, Verdict, WorkAsk};
 use tq_desk::{DeskAsk, Grant, Op, Vote};
-use tq_node::{CitedVote, Verdict, WorkAsk};
 use tq_store::{Content, FileName};
 use tq_tables::{Journals, NodeEntry};
+use tq_world::{is_ended, is_granted, is_peeked, is_voted, item_at};
 
 /// The entry of a number in a server's journal.
 fn server_entry(journals: &Journals, server: u64, number: u64) -> Option<&NodeEntry>

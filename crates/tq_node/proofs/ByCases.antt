@@ -23,18 +23,19 @@ use Rattle.tq_locks.specs.declared.mode.Mode.TheVariants.{Shared, Exclusive}
 use Rattle.tq_locks.proofs.LockMaps.{locks_total, locks_same}
 use Rattle.tq_intents.specs.declared.record.OpenVote.{OpenVote}
 use Rattle.tq_intents.specs.declared.record.Record.{Record}
-use Rattle.tq_node.specs.declared.ask.CitedVote.{CitedVote}
-use Rattle.tq_node.specs.declared.ask.NodeAsk.{NodeAsk}
-use Rattle.tq_node.specs.declared.ask.NodeAsk.TheVariants.{Work, Crash, Return, CrashIn}
-use Rattle.tq_node.specs.declared.ask.NodeRefusal.{NodeRefusal}
-use Rattle.tq_node.specs.declared.ask.NodeRefusal.TheVariants as refusals
-use Rattle.tq_node.specs.declared.ask.NodeReply.{NodeReply}
-use Rattle.tq_node.specs.declared.ask.NodeReply.TheVariants as replies
-use Rattle.tq_node.specs.declared.ask.Verdict.{Verdict}
-use Rattle.tq_node.specs.declared.ask.Verdict.TheVariants.{Abort, Commit}
-use Rattle.tq_node.specs.declared.ask.WorkAsk.{WorkAsk}
-use Rattle.tq_node.specs.declared.ask.WorkAsk.TheVariants as work
-use Rattle.tq_node.specs.Records.{Records, NodeState, has_vote, holds_exclusively, not_locked, are_good_writes, lock_refusal, prepare_refusal, release_refusal, work_refusal, refusal, are_citing, cites_vote, open_vote, installs, work_reply, reply_of, work_after, records_after, answer_at, node_reply, node_after, kept_records, stop_writes}
+use Rattle.tq_asks.specs.declared.ask.CitedVote.{CitedVote}
+use Rattle.tq_asks.specs.declared.ask.NodeAsk.{NodeAsk}
+use Rattle.tq_asks.specs.declared.ask.NodeAsk.TheVariants.{Work, Crash, Return, CrashIn}
+use Rattle.tq_asks.specs.declared.ask.NodeRefusal.{NodeRefusal}
+use Rattle.tq_asks.specs.declared.ask.NodeRefusal.TheVariants as refusals
+use Rattle.tq_asks.specs.declared.ask.NodeReply.{NodeReply}
+use Rattle.tq_asks.specs.declared.ask.NodeReply.TheVariants as replies
+use Rattle.tq_asks.specs.declared.ask.Verdict.{Verdict}
+use Rattle.tq_asks.specs.declared.ask.Verdict.TheVariants.{Abort, Commit}
+use Rattle.tq_asks.specs.declared.ask.WorkAsk.{WorkAsk}
+use Rattle.tq_asks.specs.declared.ask.WorkAsk.TheVariants as work
+use Rattle.tq_asks.specs.Citing.{are_citing, cites_vote}
+use Rattle.tq_node.specs.Records.{Records, NodeState, has_vote, holds_exclusively, not_locked, are_good_writes, lock_refusal, prepare_refusal, release_refusal, work_refusal, refusal, open_vote, installs, work_reply, reply_of, work_after, records_after, answer_at, node_reply, node_after, kept_records, stop_writes}
 use Rattle.tq_shape.specs.Steps.{refuse, refuse_for, state_at}
 use Rattle.tq_node.specs.Cases.{IsStep, IsUp, Holds, Blocks, Cites}
 use Rattle.tq_shape.proofs.Places.{Some-same, find-Has, none-Has, any-Has, Has-any}

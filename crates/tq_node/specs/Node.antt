@@ -12,7 +12,7 @@ use Rattle.tq_intents.specs.declared.record.OpenVote.{OpenVote}
 use Rattle.tq_intents.specs.declared.record.Record.{Record}
 use Rattle.tq_intents.specs.declared.record.Record.TheVariants as stable
 use Rattle.tq_node.specs.Records.{Records, NodeState, open_vote, node_after, kept_records}
-use Rattle.tq_node.specs.declared.ask.NodeAsk.{NodeAsk}
+use Rattle.tq_asks.specs.declared.ask.NodeAsk.{NodeAsk}
 
 pub record NodeView : Type 0 where
   -- the levels of its tree, and its number there

@@ -8,15 +8,16 @@ use Rattle.tq_store.specs.declared.write.Write.{Write}
 use Rattle.tq_locks.specs.Locks.{Locks}
 use Rattle.tq_locks.specs.declared.mode.Mode.{Mode}
 use Rattle.tq_intents.specs.Kept.{Votes}
-use Rattle.tq_node.specs.declared.ask.HeldLock.{HeldLock}
-use Rattle.tq_node.specs.declared.ask.NodeAsk.{NodeAsk}
-use Rattle.tq_node.specs.declared.ask.NodeAsk.TheVariants as asks
-use Rattle.tq_node.specs.declared.ask.NodeReply.{NodeReply}
-use Rattle.tq_node.specs.declared.ask.NodeReply.TheVariants as replies
-use Rattle.tq_node.specs.declared.ask.Verdict.{Verdict}
-use Rattle.tq_node.specs.declared.ask.WorkAsk.{WorkAsk}
-use Rattle.tq_node.specs.declared.ask.WorkAsk.TheVariants as work
-use Rattle.tq_node.specs.Records.{NodeState, node_reply, node_after, cites_vote}
+use Rattle.tq_asks.specs.declared.ask.HeldLock.{HeldLock}
+use Rattle.tq_asks.specs.declared.ask.NodeAsk.{NodeAsk}
+use Rattle.tq_asks.specs.declared.ask.NodeAsk.TheVariants as asks
+use Rattle.tq_asks.specs.declared.ask.NodeReply.{NodeReply}
+use Rattle.tq_asks.specs.declared.ask.NodeReply.TheVariants as replies
+use Rattle.tq_asks.specs.declared.ask.Verdict.{Verdict}
+use Rattle.tq_asks.specs.declared.ask.WorkAsk.{WorkAsk}
+use Rattle.tq_asks.specs.declared.ask.WorkAsk.TheVariants as work
+use Rattle.tq_asks.specs.Citing.{cites_vote}
+use Rattle.tq_node.specs.Records.{NodeState, node_reply, node_after}
 
 abbrev pub NodeEntry : Type 0
 NodeEntry = Entry NodeAsk NodeReply

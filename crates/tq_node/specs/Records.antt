@@ -14,18 +14,18 @@ use Rattle.tq_intents.specs.declared.record.KeptLock.{KeptLock}
 use Rattle.tq_intents.specs.declared.record.OpenVote.{OpenVote}
 use Rattle.tq_intents.specs.declared.record.Record.{Record}
 use Rattle.tq_intents.specs.declared.record.Record.TheVariants as stable
-use Rattle.tq_node.specs.declared.ask.CitedVote.{CitedVote}
-use Rattle.tq_node.specs.declared.ask.HeldLock.{HeldLock}
-use Rattle.tq_node.specs.declared.ask.NodeAsk.{NodeAsk}
-use Rattle.tq_node.specs.declared.ask.NodeAsk.TheVariants.{Work, Crash, Return, CrashIn}
-use Rattle.tq_node.specs.declared.ask.NodeRefusal.{NodeRefusal}
-use Rattle.tq_node.specs.declared.ask.NodeRefusal.TheVariants.{Down, AlreadyUp, AlreadyDown, Held, Prepared, NotLocked, BadWrites, NotNewer, NothingHere}
-use Rattle.tq_node.specs.declared.ask.NodeReply.{NodeReply}
-use Rattle.tq_node.specs.declared.ask.NodeReply.TheVariants.{Granted, Yes, Installed, Discarded, Released, Copy, Refreshed, Crashed, Returned, Refused}
-use Rattle.tq_node.specs.declared.ask.Verdict.{Verdict}
-use Rattle.tq_node.specs.declared.ask.Verdict.TheVariants.{Abort, Commit}
-use Rattle.tq_node.specs.declared.ask.WorkAsk.{WorkAsk}
-use Rattle.tq_node.specs.declared.ask.WorkAsk.TheVariants.{Lock as LockAsk, Prepare, Decide, Release, Peek, Refresh}
+use Rattle.tq_asks.specs.Citing.{cites_vote}
+use Rattle.tq_asks.specs.declared.ask.HeldLock.{HeldLock}
+use Rattle.tq_asks.specs.declared.ask.NodeAsk.{NodeAsk}
+use Rattle.tq_asks.specs.declared.ask.NodeAsk.TheVariants.{Work, Crash, Return, CrashIn}
+use Rattle.tq_asks.specs.declared.ask.NodeRefusal.{NodeRefusal}
+use Rattle.tq_asks.specs.declared.ask.NodeRefusal.TheVariants.{Down, AlreadyUp, AlreadyDown, Held, Prepared, NotLocked, BadWrites, NotNewer, NothingHere}
+use Rattle.tq_asks.specs.declared.ask.NodeReply.{NodeReply}
+use Rattle.tq_asks.specs.declared.ask.NodeReply.TheVariants.{Granted, Yes, Installed, Discarded, Released, Copy, Refreshed, Crashed, Returned, Refused}
+use Rattle.tq_asks.specs.declared.ask.Verdict.{Verdict}
+use Rattle.tq_asks.specs.declared.ask.Verdict.TheVariants.{Abort, Commit}
+use Rattle.tq_asks.specs.declared.ask.WorkAsk.{WorkAsk}
+use Rattle.tq_asks.specs.declared.ask.WorkAsk.TheVariants.{Lock as LockAsk, Prepare, Decide, Release, Peek, Refresh}
 use Rattle.tq_shape.specs.Steps.{refuse, refuse_for, state_at}
 
 -- the raw records of a server: copies, at most one of a file; locks; open votes; down or not
@@ -89,15 +89,6 @@ refusal old Return = refuse (not old.down) AlreadyUp None
 refusal old (CrashIn ask after) = refuse old.down AlreadyDown None
 
 -- ---- the answers
-
--- the votes cited have this one
-abbrev pub are_citing : List CitedVote → ℕ → ℕ → Bool
-are_citing votes server number = list_any (λ vote. vote.server == server && vote.number == number) votes
-
--- the verdict is Commit, and cites this vote
-abbrev pub cites_vote : Verdict → ℕ → ℕ → Bool
-cites_vote Abort server number = false
-cites_vote (Commit votes) server number = are_citing votes server number
 
 abbrev pub open_vote : Records → ℕ → OpenVote
 open_vote old txn = vote_at old.votes txn

@@ -2,14 +2,13 @@
 #![tactic(auto)]
 
 mod answers;
-mod ask;
 mod change;
 mod node;
 mod telling;
 
-pub use ask::{
-    CitedVote, HeldLock, MOST_WRITES, NodeAsk, NodeRefusal, NodeReply, Verdict, WorkAsk,
-};
 pub use change::{NodeChange, NodeStep};
 pub use node::Node;
 pub use telling::{Raised, Telling};
+pub use tq_asks::{
+    CitedVote, HeldLock, MOST_WRITES, NodeAsk, NodeRefusal, NodeReply, Verdict, WorkAsk,
+};

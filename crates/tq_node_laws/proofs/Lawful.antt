@@ -2,10 +2,10 @@
 use Rattle.std.proofs.Common.{ℕ, List, ◌∷◌, length, refl, sym, subst}
 use Rattle.tq_shape.specs.Journal.{Has}
 use Rattle.tq_store.specs.declared.write.Write.{Write}
-use Rattle.tq_node.specs.declared.ask.HeldLock.{HeldLock}
-use Rattle.tq_node.specs.declared.ask.NodeAsk.TheVariants.{Work}
-use Rattle.tq_node.specs.declared.ask.NodeReply.TheVariants as replies
-use Rattle.tq_node.specs.declared.ask.WorkAsk.TheVariants as work
+use Rattle.tq_asks.specs.declared.ask.HeldLock.{HeldLock}
+use Rattle.tq_asks.specs.declared.ask.NodeAsk.TheVariants.{Work}
+use Rattle.tq_asks.specs.declared.ask.NodeReply.TheVariants as replies
+use Rattle.tq_asks.specs.declared.ask.WorkAsk.TheVariants as work
 use Rattle.tq_node.specs.Records.{Records}
 use Rattle.tq_node.specs.NodeJournal.{NodeEntry, node_state, locks_after, IsLegalNode}
 use Rattle.tq_node_laws.specs.NodeLaws.{NodeLaws, LockLaws, VoteLaws, StableLaw, IsListOfHolds}

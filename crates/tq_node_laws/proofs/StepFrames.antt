@@ -20,17 +20,17 @@ use Rattle.tq_intents.specs.declared.record.KeptLock.{KeptLock}
 use Rattle.tq_intents.specs.declared.record.OpenVote.{OpenVote}
 use Rattle.tq_node.specs.Records.{Records, has_vote, holds_exclusively, not_locked, are_good_writes, work_refusal, open_vote, installs, held_lock, kept_lock, work_reply, work_after, crashed, answer_at}
 use Rattle.tq_shape.specs.Steps.{refuse, refuse_for}
-use Rattle.tq_node.specs.declared.ask.CitedVote.{CitedVote}
-use Rattle.tq_node.specs.declared.ask.HeldLock.{HeldLock}
-use Rattle.tq_node.specs.declared.ask.NodeAsk.{NodeAsk}
-use Rattle.tq_node.specs.declared.ask.NodeAsk.TheVariants.{Work, Crash, Return}
-use Rattle.tq_node.specs.declared.ask.NodeRefusal.{NodeRefusal}
-use Rattle.tq_node.specs.declared.ask.NodeRefusal.TheVariants as refusals
-use Rattle.tq_node.specs.declared.ask.NodeReply.{NodeReply}
-use Rattle.tq_node.specs.declared.ask.NodeReply.TheVariants as replies
-use Rattle.tq_node.specs.declared.ask.Verdict.{Verdict}
-use Rattle.tq_node.specs.declared.ask.WorkAsk.{WorkAsk}
-use Rattle.tq_node.specs.declared.ask.WorkAsk.TheVariants as work
+use Rattle.tq_asks.specs.declared.ask.CitedVote.{CitedVote}
+use Rattle.tq_asks.specs.declared.ask.HeldLock.{HeldLock}
+use Rattle.tq_asks.specs.declared.ask.NodeAsk.{NodeAsk}
+use Rattle.tq_asks.specs.declared.ask.NodeAsk.TheVariants.{Work, Crash, Return}
+use Rattle.tq_asks.specs.declared.ask.NodeRefusal.{NodeRefusal}
+use Rattle.tq_asks.specs.declared.ask.NodeRefusal.TheVariants as refusals
+use Rattle.tq_asks.specs.declared.ask.NodeReply.{NodeReply}
+use Rattle.tq_asks.specs.declared.ask.NodeReply.TheVariants as replies
+use Rattle.tq_asks.specs.declared.ask.Verdict.{Verdict}
+use Rattle.tq_asks.specs.declared.ask.WorkAsk.{WorkAsk}
+use Rattle.tq_asks.specs.declared.ask.WorkAsk.TheVariants as work
 use Rattle.tq_shape.specs.Journal.{Has}
 use Rattle.tq_node.specs.NodeJournal.{NodeEntry, node_state, IsLegalNode, IsCited, HasWrite}
 use Rattle.tq_node_laws.specs.NodeLaws.{IsOwner, held_kept, is_refusal}

@@ -11,13 +11,13 @@ use Rattle.tq_locks.specs.declared.mode.Mode.TheVariants.{Exclusive}
 use Rattle.tq_intents.specs.Kept.{Votes, stable_lock}
 use Rattle.tq_intents.specs.declared.record.KeptLock.{KeptLock}
 use Rattle.tq_intents.specs.declared.record.OpenVote.{OpenVote}
-use Rattle.tq_node.specs.declared.ask.CitedVote.{CitedVote}
-use Rattle.tq_node.specs.declared.ask.HeldLock.{HeldLock}
-use Rattle.tq_node.specs.declared.ask.NodeAsk.TheVariants as asks
-use Rattle.tq_node.specs.declared.ask.NodeReply.{NodeReply}
-use Rattle.tq_node.specs.declared.ask.NodeReply.TheVariants as replies
-use Rattle.tq_node.specs.declared.ask.Verdict.{Verdict}
-use Rattle.tq_node.specs.declared.ask.WorkAsk.TheVariants as work
+use Rattle.tq_asks.specs.declared.ask.CitedVote.{CitedVote}
+use Rattle.tq_asks.specs.declared.ask.HeldLock.{HeldLock}
+use Rattle.tq_asks.specs.declared.ask.NodeAsk.TheVariants as asks
+use Rattle.tq_asks.specs.declared.ask.NodeReply.{NodeReply}
+use Rattle.tq_asks.specs.declared.ask.NodeReply.TheVariants as replies
+use Rattle.tq_asks.specs.declared.ask.Verdict.{Verdict}
+use Rattle.tq_asks.specs.declared.ask.WorkAsk.TheVariants as work
 use Rattle.tq_node.specs.Node.{IsKept}
 use Rattle.tq_node.specs.NodeJournal.{NodeEntry, IsLegalNode, inner, node_state, copies_after, locks_after, votes_after, IsCited, GrantAt, TellsAt, YesAt, InnerAt, DecisionAt, HasHeld, HasWrite}
 

@@ -12,8 +12,8 @@ ghost use Rattle.tq_print.specs.Refusals.{is_memory};
 
 use std::alloc::{AllocError, Global};
 use tq_asking::Recorder;
+use tq_asks::{NodeAsk, NodeReply};
 use tq_core::Service;
-use tq_node::{NodeAsk, NodeReply};
 use tq_print::{push_at, say_number};
 use tq_refresh::{Job, copy_ask, peek_ask, plan};
 use tq_rendered::render;

@@ -11,8 +11,8 @@ use Rattle.tq_shape.specs.Journal.{IsLegalFrom, state_from}
 use Rattle.tq_shape.proofs.Joined.{legal-reverse, reverse-legal}
 use Rattle.tq_shape.specs.declared.part.Part.{Part}
 use Rattle.tq_shape.specs.declared.part.Part.TheVariants as parts
-use Rattle.tq_node.specs.declared.ask.NodeAsk.{NodeAsk}
-use Rattle.tq_node.specs.declared.ask.NodeReply.{NodeReply}
+use Rattle.tq_asks.specs.declared.ask.NodeAsk.{NodeAsk}
+use Rattle.tq_asks.specs.declared.ask.NodeReply.{NodeReply}
 use Rattle.tq_node.specs.Records.{NodeState, node_reply, node_after}
 use Rattle.tq_node.specs.Node.{NodeView, answered}
 use Rattle.tq_node.specs.NodeJournal.{NodeEntry, IsLegalNode, nothing_stored}

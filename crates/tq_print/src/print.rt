@@ -5,9 +5,9 @@ ghost use Rattle.tq_coterie.specs.Coterie.{numbers_of};
 ghost use Rattle.tq_print.specs.Print as spec;
 ghost use Rattle.tq_print.specs.Print.{printed, numbers_text, choice_text};
 
+use tq_asks::Verdict;
 use tq_desk::{Grant, Op};
 use tq_live::{ViewRefusal, ViewReply};
-use tq_node::Verdict;
 use tq_shape::{Memory, ServerId};
 use tq_store::{Content, FileCopy, FileName};
 use tq_txn::{Applied, Reading};

@@ -5,9 +5,9 @@ ghost use Rattle.tq_print.specs.Refusals as spec;
 
 use crate::print::{push_number, push_numbers, push_servers};
 use std::alloc::AllocError;
+use tq_asks::{NodeRefusal, Verdict};
 use tq_desk::DeskRefusal;
 use tq_live::ViewRefusal;
-use tq_node::{NodeRefusal, Verdict};
 use tq_shape::{Memory, Part};
 use tq_store::FileName;
 use tq_txn::{LineFault, TxnFault};

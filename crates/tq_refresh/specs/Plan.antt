@@ -4,11 +4,11 @@ use Rattle.std.specs.List.{flat_map}
 use Rattle.tq_shape.specs.Tree.{Server}
 use Rattle.tq_shape.specs.ServerSet.{Servers, numbered}
 use Rattle.tq_live.specs.Live.{Live, is_up}
-use Rattle.tq_node.specs.declared.ask.NodeAsk.{NodeAsk}
-use Rattle.tq_node.specs.declared.ask.NodeAsk.TheVariants.{Work}
-use Rattle.tq_node.specs.declared.ask.WorkAsk.TheVariants.{Refresh}
-use Rattle.tq_node.specs.declared.ask.NodeReply.{NodeReply}
-use Rattle.tq_node.specs.declared.ask.NodeReply.TheVariants.{Copy}
+use Rattle.tq_asks.specs.declared.ask.NodeAsk.{NodeAsk}
+use Rattle.tq_asks.specs.declared.ask.NodeAsk.TheVariants.{Work}
+use Rattle.tq_asks.specs.declared.ask.WorkAsk.TheVariants.{Refresh}
+use Rattle.tq_asks.specs.declared.ask.NodeReply.{NodeReply}
+use Rattle.tq_asks.specs.declared.ask.NodeReply.TheVariants.{Copy}
 use Rattle.tq_tables.specs.declared.file_row.FileRow.{FileRow}
 use Rattle.tq_tables.specs.Tables.{TablesView}
 use Rattle.tq_refresh.specs.declared.job.Job.{Job}

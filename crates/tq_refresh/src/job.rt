@@ -2,7 +2,7 @@ ghost use Rattle.std.specs.Prelude.{◌≡◌, IfOk, Ok, None};
 ghost use Rattle.tq_refresh.specs.Plan.{refresh_of};
 
 use std::alloc::Global;
-use tq_node::{CitedVote, NodeAsk, NodeReply, WorkAsk};
+use tq_asks::{CitedVote, NodeAsk, NodeReply, WorkAsk};
 use tq_shape::{Memory, ServerId, Shared};
 use tq_store::FileName;
 

@@ -5,8 +5,8 @@ ghost use Rattle.tq_txn.specs.Dialogue.{Follows};
 ghost use Rattle.tq_script.specs.Script as spec;
 
 use std::alloc::{AllocError, Global};
+use tq_asks::NodeAsk;
 use tq_live::ViewAsk;
-use tq_node::NodeAsk;
 use tq_shape::{Levels, Memory, ServerId};
 use tq_txn::{AskFault, Asker, ask_any};
 

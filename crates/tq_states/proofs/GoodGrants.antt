@@ -5,11 +5,11 @@ use Rattle.std.specs.List.{list_all, list_any, find, cons_option}
 use Rattle.std.proofs.lemmas.Bool.{and_from, or_left, or_right, eq-eqb, false≢true, cases_lt}
 use Rattle.tq_locks.specs.Locks.{is_exclusive}
 use Rattle.tq_locks.specs.declared.mode.Mode.{Mode}
-use Rattle.tq_node.specs.declared.ask.NodeAsk.{NodeAsk}
-use Rattle.tq_node.specs.declared.ask.NodeAsk.TheVariants.{Work}
-use Rattle.tq_node.specs.declared.ask.NodeReply.{NodeReply}
-use Rattle.tq_node.specs.declared.ask.NodeReply.TheVariants.{Granted}
-use Rattle.tq_node.specs.declared.ask.WorkAsk.TheVariants.{Lock}
+use Rattle.tq_asks.specs.declared.ask.NodeAsk.{NodeAsk}
+use Rattle.tq_asks.specs.declared.ask.NodeAsk.TheVariants.{Work}
+use Rattle.tq_asks.specs.declared.ask.NodeReply.{NodeReply}
+use Rattle.tq_asks.specs.declared.ask.NodeReply.TheVariants.{Granted}
+use Rattle.tq_asks.specs.declared.ask.WorkAsk.TheVariants.{Lock}
 use Rattle.tq_evidence.specs.declared.grant.Grant.{Grant}
 use Rattle.tq_evidence.specs.declared.op.OpKind.TheVariants.{Read, Write}
 use Rattle.tq_evidence.specs.Evidence.{greatest, newest, has_version, is_exclusively_granted}

@@ -2,9 +2,9 @@
 use Rattle.std.specs.Prelude.{ℕ, List, []}
 use Rattle.std.specs.List.{All, Contains}
 use Rattle.tq_store.specs.declared.write.Write.{Write}
-use Rattle.tq_node.specs.declared.ask.NodeAsk.TheVariants.{Work}
-use Rattle.tq_node.specs.declared.ask.NodeReply.TheVariants.{Granted, Yes}
-use Rattle.tq_node.specs.declared.ask.WorkAsk.TheVariants.{Lock, Prepare}
+use Rattle.tq_asks.specs.declared.ask.NodeAsk.TheVariants.{Work}
+use Rattle.tq_asks.specs.declared.ask.NodeReply.TheVariants.{Granted, Yes}
+use Rattle.tq_asks.specs.declared.ask.WorkAsk.TheVariants.{Lock, Prepare}
 use Rattle.tq_desk.specs.declared.ask.DeskAsk.{DeskAsk}
 use Rattle.tq_desk.specs.declared.ask.DeskAsk.TheVariants.{Begin, Commit, Resolve}
 use Rattle.tq_evidence.specs.declared.grant.Grant.{Grant}

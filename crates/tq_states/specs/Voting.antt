@@ -3,12 +3,12 @@ use Rattle.std.specs.Prelude.{◌≡◌, ◌==◌, ℕ, Bool, true, not, ◌||�
 use Rattle.std.specs.List.{All, Contains, list_any, list_all, find}
 use Rattle.std.specs.Option.{option_map}
 use Rattle.tq_store.specs.declared.write.Write.{Write}
-use Rattle.tq_node.specs.declared.ask.NodeAsk.{NodeAsk}
-use Rattle.tq_node.specs.declared.ask.NodeAsk.TheVariants.{Work}
-use Rattle.tq_node.specs.declared.ask.NodeReply.{NodeReply}
-use Rattle.tq_node.specs.declared.ask.NodeReply.TheVariants.{Yes}
-use Rattle.tq_node.specs.declared.ask.WorkAsk.{WorkAsk}
-use Rattle.tq_node.specs.declared.ask.WorkAsk.TheVariants.{Prepare}
+use Rattle.tq_asks.specs.declared.ask.NodeAsk.{NodeAsk}
+use Rattle.tq_asks.specs.declared.ask.NodeAsk.TheVariants.{Work}
+use Rattle.tq_asks.specs.declared.ask.NodeReply.{NodeReply}
+use Rattle.tq_asks.specs.declared.ask.NodeReply.TheVariants.{Yes}
+use Rattle.tq_asks.specs.declared.ask.WorkAsk.{WorkAsk}
+use Rattle.tq_asks.specs.declared.ask.WorkAsk.TheVariants.{Prepare}
 use Rattle.tq_desk.specs.declared.ask.DeskAsk.{DeskAsk}
 use Rattle.tq_desk.specs.declared.ask.DeskAsk.TheVariants.{Commit}
 use Rattle.tq_evidence.specs.declared.grant.Grant.{Grant}

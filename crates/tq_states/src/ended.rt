@@ -9,8 +9,8 @@ use crate::servers::Servers;
 use crate::{DeskTold, Open, TxnFault};
 use std::alloc::Global;
 use std::marker::Model;
+use tq_asks::{CitedVote, NodeAsk, Verdict, WorkAsk};
 use tq_desk::{DeskAsk, DeskRefusal, DeskReply, Vote};
-use tq_node::{CitedVote, NodeAsk, Verdict, WorkAsk};
 use tq_shape::{Levels, Memory, Seq, ServerId, Shared};
 
 /// A transaction that has ended.

@@ -4,10 +4,10 @@ ghost use Rattle.tq_states.specs.Open as spec;
 
 use crate::{NodeTold, TxnFault};
 use std::alloc::Global;
+use tq_asks::{NodeAsk, NodeReply, WorkAsk};
 use tq_desk::{Grant, OpKind};
 use tq_evidence::newest;
 use tq_locks::Mode;
-use tq_node::{NodeAsk, NodeReply, WorkAsk};
 use tq_shape::Memory;
 use tq_store::{Content, FileCopy, FileName};
 

@@ -1,5 +1,5 @@
+use tq_asks::{NodeAsk, NodeReply};
 use tq_desk::{DeskAsk, DeskReply};
-use tq_node::{NodeAsk, NodeReply};
 
 /// A server's answer, as it was received: the ask, the reply, and the number of their entry in the server's journal.
 #[derive(Drop, Clone)]

@@ -8,8 +8,8 @@ ghost use Rattle.tq_states.specs.Voting as spec;
 
 use crate::NodeTold;
 use std::alloc::Global;
+use tq_asks::{NodeAsk, NodeReply, WorkAsk};
 use tq_desk::{Grant, Op, Vote};
-use tq_node::{NodeAsk, NodeReply, WorkAsk};
 use tq_shape::{Memory, ServerId, SharedSeq};
 use tq_store::{FileName, Write};
 

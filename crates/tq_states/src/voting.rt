@@ -14,8 +14,8 @@ use crate::votes::{
 use crate::{DeskTold, Ended, NodeTold, Open, Ready, TxnFault};
 use std::alloc::Global;
 use std::marker::Model;
+use tq_asks::{NodeAsk, WorkAsk};
 use tq_desk::{Op, Vote};
-use tq_node::{NodeAsk, WorkAsk};
 use tq_shape::{Memory, ServerId, Shared, SharedSeq};
 
 /// A transaction that gathers votes.

@@ -7,7 +7,7 @@ use Rattle.tq_node.specs.Records.{NodeState, node_after}
 use Rattle.tq_node.specs.Node as node
 use Rattle.tq_intents.specs.declared.record.OpenVote.{OpenVote}
 use Rattle.tq_intents.specs.declared.record.Record.{Record}
-use Rattle.tq_node.specs.declared.ask.Verdict.{Verdict}
+use Rattle.tq_asks.specs.declared.ask.Verdict.{Verdict}
 use Rattle.tq_node.specs.Node.{NodeView, node_code}
 use Rattle.tq_node.specs.NodeJournal.{IsLegalNode, NodeEntry}
 use Rattle.tq_desk.specs.DeskStep.{DeskView, desk_after}

@@ -12,9 +12,9 @@ use Rattle.tq_locks.specs.Locks.{LockKey}
 use Rattle.tq_locks.specs.declared.mode.Lock.{Lock}
 use Rattle.tq_intents.specs.declared.record.OpenVote.{OpenVote}
 use Rattle.tq_node.specs.Node.{NodeView}
-use Rattle.tq_node.specs.Records.{cites_vote}
-use Rattle.tq_node.specs.declared.ask.Verdict.{Verdict}
-use Rattle.tq_node.specs.declared.ask.Verdict.TheVariants as verdicts
+use Rattle.tq_asks.specs.Citing.{cites_vote}
+use Rattle.tq_asks.specs.declared.ask.Verdict.{Verdict}
+use Rattle.tq_asks.specs.declared.ask.Verdict.TheVariants as verdicts
 use Rattle.tq_desk.specs.DeskStep.{with_files}
 use Rattle.tq_desk.specs.DeskJournal.{Commit, DeskEntry, count, final}
 use Rattle.tq_desk.specs.DecisionLog.{is_txn, is_written}

@@ -4,7 +4,7 @@ use Rattle.std.specs.Coded.{Coded, code_by, coded×, coded_list, coded_option, c
 use Rattle.tq_intents.specs.declared.record.OpenVote.{OpenVote}
 use Rattle.tq_intents.specs.declared.record.Record.{Record}
 use Rattle.tq_node.specs.Node.{NodeView, node_code}
-use Rattle.tq_node.specs.declared.ask.Verdict.{Verdict}
+use Rattle.tq_asks.specs.declared.ask.Verdict.{Verdict}
 use Rattle.tq_desk.specs.DeskStep.{DeskView}
 use Rattle.tq_desk.specs.Views.{desk_code}
 use Rattle.tq_desk.specs.DeskJournal.{commits, DeskEntry}

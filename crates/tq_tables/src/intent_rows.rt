@@ -5,8 +5,9 @@ ghost use Rattle.tq_tables.specs.Rows as spec;
 
 use crate::{FileVersion, IntentRow, IntentState};
 use std::alloc::Global;
+use tq_asks::Verdict;
 use tq_desk::Desk;
-use tq_node::{Node, Verdict};
+use tq_node::Node;
 use tq_shape::{Memory, Seq};
 use tq_store::Write;
 

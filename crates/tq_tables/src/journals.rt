@@ -2,9 +2,9 @@ ghost use Rattle.std.specs.Prelude.{◌≡◌, ◌≤◌, ◌+◌, ◌^◌, map,
 ghost use Rattle.tq_tables.specs.Journals.{AreJournals, IsOfTree};
 
 use std::marker::Model;
+use tq_asks::{NodeAsk, NodeReply};
 use tq_desk::{DeskAsk, DeskReply};
 use tq_live::{ViewAsk, ViewReply};
-use tq_node::{NodeAsk, NodeReply};
 use tq_shape::{Entry, Levels, Limits};
 
 /// An ask of a server with its reply.

@@ -11,9 +11,10 @@ use crate::replay::{replay_desk, replay_nodes, replay_view};
 use crate::replies::{Replies, twice};
 use std::alloc::Global;
 use std::marker::Model;
+use tq_asks::NodeAsk;
 use tq_desk::{Desk, DeskChange};
 use tq_live::{View, ViewAsk, ViewReply};
-use tq_node::{Node, NodeAsk, Telling};
+use tq_node::{Node, Telling};
 use tq_shape::{Levels, Memory};
 
 /// All parts of a system: the servers of one tree, upwards from server 1, the desk and the view of that tree.
@@ -27,7 +28,7 @@ pub struct Parts {
 impl Model for Parts {
     ghost use Rattle.tq_intents.specs.contracts.record.Record as record_type;
     ghost use Rattle.tq_intents.specs.contracts.record.OpenVote as vote_type;
-    ghost use Rattle.tq_node.specs.contracts.ask.Verdict as verdict_type;
+    ghost use Rattle.tq_asks.specs.contracts.ask.Verdict as verdict_type;
     ghost use Rattle.tq_tables.specs.Parts.{AreOfTree, PartsView, parts_code};
 
     ghost Value = { PartsView };

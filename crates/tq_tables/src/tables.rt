@@ -19,9 +19,10 @@ use crate::{
 };
 use std::alloc::Global;
 use std::marker::Model;
+use tq_asks::{NodeAsk, NodeReply};
 use tq_desk::{Desk, DeskAsk, DeskReply, Op};
 use tq_live::{Least, View, ViewAsk, ViewReply};
-use tq_node::{Node, NodeAsk, NodeReply};
+use tq_node::Node;
 use tq_shape::{Levels, Memory, Part};
 
 /// The servers, the desk and the view that the tables follow, and rows that say how these stand: the least quorum of
@@ -40,7 +41,7 @@ impl Model for Tables {
     ghost use Rattle.std.specs.Prelude.{◌≡◌};
     ghost use Rattle.tq_intents.specs.contracts.record.Record as record_type;
     ghost use Rattle.tq_intents.specs.contracts.record.OpenVote as vote_type;
-    ghost use Rattle.tq_node.specs.contracts.ask.Verdict as verdict_type;
+    ghost use Rattle.tq_asks.specs.contracts.ask.Verdict as verdict_type;
     ghost use Rattle.tq_live.specs.contracts.least.Least as least_type;
     ghost use Rattle.tq_tables.specs.contracts.file_row.FileRow as file_type;
     ghost use Rattle.tq_tables.specs.contracts.lock_row.LockRow as lock_type;

@@ -1,8 +1,8 @@
 use std::alloc::Global;
+use tq_asks::Verdict;
 use tq_check::{Wrong, check};
 use tq_desk::{Desk, DeskAsk, DeskReply};
 use tq_desk_laws::{decision_log, desk_laws};
-use tq_node::Verdict;
 use tq_shape::{Levels, Limits};
 
 /// What the desk answers, where it has not begun many transactions.

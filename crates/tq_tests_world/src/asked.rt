@@ -4,12 +4,12 @@ ghost use Rattle.tq_tables.specs.Parts.{AreLegal};
 
 use std::alloc::Global;
 use std::mem::forget;
+use tq_asks::{NodeAsk, Verdict, WorkAsk};
 use tq_board::{journals_from_json, journals_to_json, render};
 use tq_core::{Answer, Journal, Refusal, Reply, Service, Step};
 use tq_desk::{DeskAsk, DeskReply};
 use tq_live::{View, ViewAsk, ViewReply};
 use tq_merge::explain;
-use tq_node::{NodeAsk, Verdict, WorkAsk};
 use tq_shape::{Levels, Limits, Memory, Part, Shared};
 use tq_tables::{Journals, Tables};
 

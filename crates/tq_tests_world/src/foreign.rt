@@ -2,9 +2,9 @@
 //! What is made is left where it is, since to let it go is dear to prove.
 use std::alloc::Global;
 use std::mem::forget;
+use tq_asks::{NodeAsk, NodeReply, Verdict, WorkAsk};
 use tq_desk::{DeskAsk, DeskReply};
 use tq_locks::Mode;
-use tq_node::{NodeAsk, NodeReply, Verdict, WorkAsk};
 use tq_refresh::{Job, copy_ask};
 use tq_shape::{Levels, Limits, Memory, ServerId, Shared, SharedSeq};
 use tq_store::{Content, FileName};

@@ -3,9 +3,9 @@ ghost use Rattle.std.specs.Prelude.{◌≡◌};
 
 use std::alloc::Global;
 use std::mem::forget;
+use tq_asks::{NodeAsk, Verdict};
 use tq_desk::DeskAsk;
 use tq_live::ViewAsk;
-use tq_node::{NodeAsk, Verdict};
 use tq_shape::{Levels, Part, ServerId};
 use tq_txn::{
     AskFault, Asker, DeskTold, Exchange, LineFault, NodeTold, ViewTold, apply_at, ask_any,

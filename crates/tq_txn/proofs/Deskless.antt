@@ -1,7 +1,7 @@
 -- The parts of a line that ask servers alone.
 use Rattle.std.proofs.Common.{ℕ, Bool, true, false, cond, List, [], ◌∷◌, ◌++◌, Option, Some, None, Result, Ok, Err, sym, subst, inl, inr}
-use Rattle.tq_node.specs.declared.ask.NodeReply.{NodeReply}
-use Rattle.tq_node.specs.declared.ask.NodeRefusal.{NodeRefusal}
+use Rattle.tq_asks.specs.declared.ask.NodeReply.{NodeReply}
+use Rattle.tq_asks.specs.declared.ask.NodeRefusal.{NodeRefusal}
 use Rattle.tq_live.specs.declared.view.ViewReply.{ViewReply}
 use Rattle.tq_states.specs.declared.fault.TxnFault.{TxnFault}
 use Rattle.tq_states.specs.declared.told.NodeTold.{NodeTold}

@@ -3,11 +3,11 @@ use Rattle.std.proofs.Common.{◌≡◌, ◌==◌, arith, ℕ, suc, Bool, true, 
 use Rattle.std.specs.List.{All, Contains}
 use Rattle.std.proofs.lemmas.List.Elements.{All-nil, All-cons, All-weaker, All-contains, All-contains_itself}
 use Rattle.tq_evidence.specs.declared.vote.Vote.{Vote}
-use Rattle.tq_node.specs.declared.ask.NodeAsk.{NodeAsk}
-use Rattle.tq_node.specs.declared.ask.NodeAsk.TheVariants.{Work}
-use Rattle.tq_node.specs.declared.ask.NodeReply.{NodeReply}
-use Rattle.tq_node.specs.declared.ask.NodeReply.TheVariants.{Yes}
-use Rattle.tq_node.specs.declared.ask.WorkAsk.TheVariants.{Prepare}
+use Rattle.tq_asks.specs.declared.ask.NodeAsk.{NodeAsk}
+use Rattle.tq_asks.specs.declared.ask.NodeAsk.TheVariants.{Work}
+use Rattle.tq_asks.specs.declared.ask.NodeReply.{NodeReply}
+use Rattle.tq_asks.specs.declared.ask.NodeReply.TheVariants.{Yes}
+use Rattle.tq_asks.specs.declared.ask.WorkAsk.TheVariants.{Prepare}
 use Rattle.tq_states.specs.declared.told.NodeTold.{NodeTold}
 use Rattle.tq_states.specs.Sets.{put}
 use Rattle.tq_states.specs.Open.{OpenView}

@@ -1,7 +1,7 @@
 -- What was told along a line, one ask or one part of it after another.
 use Rattle.std.proofs.Common.{◌≡◌, ℕ, Bool, false, List, [], ◌∷◌, ◌++◌, Option, Some, None, Result, Ok, Err, refl, sym, ap, ◌∙◌, subst, inl, inr, append_assoc, append-nil, ◌+◌, ◌-◌, ◌≤◌, suc, length, take, drop, get_or, arith}
-use Rattle.tq_node.specs.declared.ask.NodeAsk.{NodeAsk}
-use Rattle.tq_node.specs.declared.ask.NodeReply.{NodeReply}
+use Rattle.tq_asks.specs.declared.ask.NodeAsk.{NodeAsk}
+use Rattle.tq_asks.specs.declared.ask.NodeReply.{NodeReply}
 use Rattle.tq_desk.specs.declared.ask.DeskAsk.{DeskAsk}
 use Rattle.tq_desk.specs.declared.ask.DeskReply.{DeskReply}
 use Rattle.tq_live.specs.declared.view.ViewAsk.{ViewAsk}

@@ -1,8 +1,8 @@
 -- What was told along a line in which a server stops.
 use Rattle.std.proofs.Common.{◌≡◌, ℕ, false, List, Option, Some, None, Ok, Err, refl, subst}
-use Rattle.tq_node.specs.declared.ask.NodeAsk.TheVariants.{CrashIn}
-use Rattle.tq_node.specs.declared.ask.NodeReply.{NodeReply}
-use Rattle.tq_node.specs.declared.ask.WorkAsk.{WorkAsk}
+use Rattle.tq_asks.specs.declared.ask.NodeAsk.TheVariants.{CrashIn}
+use Rattle.tq_asks.specs.declared.ask.NodeReply.{NodeReply}
+use Rattle.tq_asks.specs.declared.ask.WorkAsk.{WorkAsk}
 use Rattle.tq_states.specs.Voting.{VotingView, has_vote, ask_fault, prepare_work}
 use Rattle.tq_txn.specs.declared.asker.Exchange.{Exchange}
 use Rattle.tq_txn.specs.declared.fault.LineFault.{LineFault}

@@ -4,16 +4,16 @@ use Rattle.tq_shape.specs.declared.part.Part.TheVariants as parts
 use Rattle.tq_store.specs.declared.copies.FileCopy.{FileCopy}
 use Rattle.tq_locks.specs.declared.mode.Mode.{Mode}
 use Rattle.tq_locks.specs.declared.mode.Mode.TheVariants.{Shared, Exclusive}
-use Rattle.tq_node.specs.declared.ask.NodeAsk.{NodeAsk}
-use Rattle.tq_node.specs.declared.ask.NodeAsk.TheVariants.{Work, CrashIn}
-use Rattle.tq_node.specs.declared.ask.NodeRefusal.{NodeRefusal}
-use Rattle.tq_node.specs.declared.ask.NodeRefusal.TheVariants.{NothingHere}
+use Rattle.tq_asks.specs.declared.ask.NodeAsk.{NodeAsk}
+use Rattle.tq_asks.specs.declared.ask.NodeAsk.TheVariants.{Work, CrashIn}
+use Rattle.tq_asks.specs.declared.ask.NodeRefusal.{NodeRefusal}
+use Rattle.tq_asks.specs.declared.ask.NodeRefusal.TheVariants.{NothingHere}
 use Rattle.tq_coterie.specs.Coterie.{ServerList}
-use Rattle.tq_node.specs.declared.ask.NodeReply.{NodeReply}
-use Rattle.tq_node.specs.declared.ask.NodeReply.TheVariants as replies
-use Rattle.tq_node.specs.declared.ask.Verdict.{Verdict}
-use Rattle.tq_node.specs.declared.ask.WorkAsk.{WorkAsk}
-use Rattle.tq_node.specs.declared.ask.WorkAsk.TheVariants.{Lock, Decide, Release}
+use Rattle.tq_asks.specs.declared.ask.NodeReply.{NodeReply}
+use Rattle.tq_asks.specs.declared.ask.NodeReply.TheVariants as replies
+use Rattle.tq_asks.specs.declared.ask.Verdict.{Verdict}
+use Rattle.tq_asks.specs.declared.ask.WorkAsk.{WorkAsk}
+use Rattle.tq_asks.specs.declared.ask.WorkAsk.TheVariants.{Lock, Decide, Release}
 use Rattle.tq_evidence.specs.declared.op.Op.{Op}
 use Rattle.tq_evidence.specs.declared.op.OpKind.TheVariants as kinds
 use Rattle.tq_evidence.specs.Evidence.{greatest}

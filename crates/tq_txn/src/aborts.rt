@@ -7,8 +7,8 @@ ghost use Rattle.tq_txn.specs.Told.{EndsAsTold, IsAnswered, Knows};
 use crate::endings::end_at_each;
 use crate::{Abortion, Asker, DeskTold, Ended, LineFault, Open, Txn, TxnFault, Voting};
 use std::alloc::Global;
+use tq_asks::Verdict;
 use tq_desk::{DeskAsk, DeskRefusal, DeskReply};
-use tq_node::Verdict;
 use tq_shape::Part;
 
 /// The open transaction after the desk's answer. Out of memory hands it back.

@@ -1,8 +1,8 @@
 use crate::{DeskTold, NodeTold};
 use std::alloc::Global;
+use tq_asks::{NodeAsk, NodeReply};
 use tq_desk::{DeskAsk, DeskReply};
 use tq_live::{ViewAsk, ViewReply};
-use tq_node::{NodeAsk, NodeReply};
 use tq_part::{Answered, AskFault};
 use tq_shape::ServerId;
 

@@ -12,7 +12,7 @@ ghost use Rattle.tq_txn.specs.declared.txn.Txn.TheVariants as states;
 
 use crate::{Applied, AskFault, Asker, Ended, LineFault, NodeTold, Voting};
 use std::alloc::{AllocError, Global};
-use tq_node::{NodeAsk, NodeRefusal, NodeReply, Verdict, WorkAsk};
+use tq_asks::{NodeAsk, NodeRefusal, NodeReply, Verdict, WorkAsk};
 use tq_shape::{Memory, Part, ServerId, Shared};
 
 /// The refusal, where the reply is one.

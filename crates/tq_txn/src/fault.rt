@@ -4,9 +4,9 @@ ghost use Rattle.tq_txn.specs.declared.fault.LineFault.TheVariants as line_fault
 use crate::{AskFault, TxnFault};
 use std::alloc::{AllocError, AllocFailed};
 use thiserror::Error;
+use tq_asks::NodeRefusal;
 use tq_desk::DeskRefusal;
 use tq_live::ViewRefusal;
-use tq_node::NodeRefusal;
 use tq_shape::Part;
 
 /// Why a line ended before its end.

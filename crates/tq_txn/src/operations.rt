@@ -9,10 +9,10 @@ ghost use Rattle.tq_txn.specs.declared.txn.Txn.TheVariants as states;
 
 use crate::{Asker, LineFault, NodeTold, Open, Reading, TxnFault};
 use std::alloc::Global;
+use tq_asks::{NodeAsk, NodeReply, WorkAsk};
 use tq_coterie::Quorum;
 use tq_live::{ViewAsk, ViewReply};
 use tq_locks::Mode;
-use tq_node::{NodeAsk, NodeReply, WorkAsk};
 use tq_shape::{Levels, Memory, Part, Seq, ServerId, Shared};
 use tq_states::Noting;
 use tq_store::{Content, FileCopy, FileName};

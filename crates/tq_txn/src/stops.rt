@@ -7,8 +7,8 @@ ghost use Rattle.tq_txn.specs.declared.txn.Txn.TheVariants as states;
 use crate::endings::ask_any;
 use crate::{Asker, LineFault, Voting};
 use std::alloc::Global;
+use tq_asks::{NodeAsk, WorkAsk};
 use tq_live::ViewAsk;
-use tq_node::{NodeAsk, WorkAsk};
 use tq_shape::{ServerId, Shared};
 
 /// Marks a server down.

@@ -1,10 +1,10 @@
 -- The asks of one job.
 use Rattle.std.proofs.Common.{◌≡◌, ℕ, List, [], ◌∷◌, ◌++◌, Bool, true, false, not, ◌==◌, ◌&&◌, cond, Option, Some, None, Ok, Err, refl, sym, ◌∙◌, ap, subst, append_assoc}
 use Rattle.std.specs.Prelude.{OnOk, Result, is_err}
-use Rattle.tq_node.specs.declared.ask.NodeAsk.{NodeAsk}
-use Rattle.tq_node.specs.declared.ask.NodeAsk.TheVariants.{Work}
-use Rattle.tq_node.specs.declared.ask.WorkAsk.TheVariants.{Peek}
-use Rattle.tq_node.specs.declared.ask.NodeReply.{NodeReply}
+use Rattle.tq_asks.specs.declared.ask.NodeAsk.{NodeAsk}
+use Rattle.tq_asks.specs.declared.ask.NodeAsk.TheVariants.{Work}
+use Rattle.tq_asks.specs.declared.ask.WorkAsk.TheVariants.{Peek}
+use Rattle.tq_asks.specs.declared.ask.NodeReply.{NodeReply}
 use Rattle.tq_txn.specs.Dialogue.{Told, Ends, Makes}
 use Rattle.tq_txn.specs.declared.asker.Exchange.{Exchange}
 use Rattle.tq_txn.specs.declared.asker.Exchange.TheVariants as exchanges

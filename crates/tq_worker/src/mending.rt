@@ -2,7 +2,7 @@ ghost use Rattle.std.specs.Prelude.{◌≡◌, true, false, IfOk, OnOk, OnErr};
 ghost use Rattle.tq_worker.specs.Mending.{IsAnswered, IsBegun, Grows, job_asked, refresh_asked};
 
 use std::alloc::{AllocError, Global};
-use tq_node::NodeAsk;
+use tq_asks::NodeAsk;
 use tq_part::AskFault;
 use tq_refresh::{Job, copy_ask, peek_ask};
 use tq_shape::{Levels, Memory, ServerId};

@@ -2,9 +2,9 @@
 use Rattle.std.specs.Prelude.{◌==◌, ◌&&◌}
 use Rattle.std.proofs.Common.{◌≡◌, ◌≢◌, ℕ, suc, ◌≤◌, Bool, true, false, cond, List, [], ◌∷◌, Option, Some, None, refl, sym, ap, subst, ◌∙◌, inl, inr, arith}
 use Rattle.std.proofs.lemmas.Bool.{and_from, eq-eqb, cases_lt}
-use Rattle.tq_node.specs.declared.ask.CitedVote.{CitedVote}
-use Rattle.tq_node.specs.declared.ask.Verdict.{Verdict}
-use Rattle.tq_node.specs.declared.ask.Verdict.TheVariants as verdicts
+use Rattle.tq_asks.specs.declared.ask.CitedVote.{CitedVote}
+use Rattle.tq_asks.specs.declared.ask.Verdict.{Verdict}
+use Rattle.tq_asks.specs.declared.ask.Verdict.TheVariants as verdicts
 use Rattle.tq_desk.specs.declared.ask.DeskAsk.{DeskAsk}
 use Rattle.tq_desk.specs.declared.ask.DeskAsk.TheVariants as asks
 use Rattle.tq_desk.specs.declared.ask.DeskReply.{DeskReply}

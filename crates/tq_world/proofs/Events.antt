@@ -2,9 +2,9 @@
 use Rattle.std.specs.Prelude.{◌≡◌, ℕ, Bool, true, cond, List, [], ◌∷◌, Option, Some}
 use Rattle.std.proofs.Common.{eqb}
 use Rattle.tq_shape.specs.Journal.{Has}
-use Rattle.tq_node.specs.declared.ask.CitedVote.{CitedVote}
-use Rattle.tq_node.specs.declared.ask.WorkAsk.{WorkAsk}
-use Rattle.tq_node.specs.declared.ask.WorkAsk.TheVariants as work
+use Rattle.tq_asks.specs.declared.ask.CitedVote.{CitedVote}
+use Rattle.tq_asks.specs.declared.ask.WorkAsk.{WorkAsk}
+use Rattle.tq_asks.specs.declared.ask.WorkAsk.TheVariants as work
 use Rattle.tq_node.specs.Records.{node_reply}
 use Rattle.tq_node.specs.NodeJournal.{NodeEntry, node_state, inner, GrantAt, PeekAt, YesAt}
 use Rattle.tq_desk.specs.declared.ask.DeskAsk.{DeskAsk}

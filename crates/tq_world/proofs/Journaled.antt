@@ -8,12 +8,12 @@ use Rattle.tq_shape.specs.Limits.{LimitsView}
 use Rattle.tq_shape.specs.Journal.{Has, entry_at, entry}
 use Rattle.tq_shape.proofs.Joined.{reverse-push, at-reverse, state-reverse}
 use Rattle.tq_shape.proofs.Places.{none-Has}
-use Rattle.tq_node.specs.declared.ask.CitedVote.{CitedVote}
-use Rattle.tq_node.specs.declared.ask.NodeAsk.{NodeAsk}
-use Rattle.tq_node.specs.declared.ask.NodeAsk.TheVariants as node_asks
-use Rattle.tq_node.specs.declared.ask.Verdict.{Verdict}
-use Rattle.tq_node.specs.declared.ask.WorkAsk.{WorkAsk}
-use Rattle.tq_node.specs.declared.ask.WorkAsk.TheVariants as work
+use Rattle.tq_asks.specs.declared.ask.CitedVote.{CitedVote}
+use Rattle.tq_asks.specs.declared.ask.NodeAsk.{NodeAsk}
+use Rattle.tq_asks.specs.declared.ask.NodeAsk.TheVariants as node_asks
+use Rattle.tq_asks.specs.declared.ask.Verdict.{Verdict}
+use Rattle.tq_asks.specs.declared.ask.WorkAsk.{WorkAsk}
+use Rattle.tq_asks.specs.declared.ask.WorkAsk.TheVariants as work
 use Rattle.tq_node.specs.Records.{NodeState, node_reply, node_after}
 use Rattle.tq_node.specs.NodeJournal.{nothing_stored, node_state, inner, NodeEntry}
 use Rattle.tq_desk.specs.declared.ask.DeskAsk.{DeskAsk}

@@ -1,6 +1,6 @@
+use tq_asks::{NodeAsk, NodeReply};
 use tq_desk::{DeskAsk, DeskReply};
 use tq_live::{ViewAsk, ViewReply};
-use tq_node::{NodeAsk, NodeReply};
 use tq_shape::Part;
 use tq_tables::{DeskEntry, NodeEntry, ViewEntry};
 

@@ -1,10 +1,15 @@
 //! Steps of a system of parts, what they are told, and the world of journals that they leave: the laws of all runs, the
-//! law of committed reads among them. What carries the steps out stands in a crate above.
+//! law of committed reads among them, and the tests of what an entry says. What carries the steps out stands in a crate
+//! above.
 #![tactic(auto)]
 
 mod answer;
 mod citation;
+mod founded;
+mod item;
 
 pub use answer::{Answer, Journal, Refusal, Reply, Step};
 pub use citation::Citation;
+pub use founded::{is_ended, is_granted, is_peeked, is_same_verdict, is_voted};
+pub use item::item_at;
 pub use tq_shape::Part;

@@ -14,9 +14,9 @@ use crate::formed::{
 };
 use json::Writer;
 use std::alloc::Global;
+use tq_asks::Verdict;
 use tq_desk::{DeskAsk, DeskRefusal, DeskReply};
 use tq_evidence::{Grant, Op, OpKind, Rule, Vote};
-use tq_node::Verdict;
 use tq_shape::{Memory, SharedSeq};
 
 impl Formed for OpKind {

@@ -1,11 +1,11 @@
 //! What servers are asked and what they reply.
 ghost use Rattle.std.specs.Prelude.{◌≡◌, ◌≤◌, codes, OnOk};
 ghost use Rattle.std.specs.List.{AllByRecursion};
-ghost use Rattle.tq_node.specs.declared.ask.NodeAsk.{NodeAsk};
-ghost use Rattle.tq_node.specs.declared.ask.NodeRefusal.{NodeRefusal};
-ghost use Rattle.tq_node.specs.declared.ask.NodeReply.{NodeReply};
-ghost use Rattle.tq_node.specs.declared.ask.Verdict.{Verdict};
-ghost use Rattle.tq_node.specs.declared.ask.WorkAsk.{WorkAsk};
+ghost use Rattle.tq_asks.specs.declared.ask.NodeAsk.{NodeAsk};
+ghost use Rattle.tq_asks.specs.declared.ask.NodeRefusal.{NodeRefusal};
+ghost use Rattle.tq_asks.specs.declared.ask.NodeReply.{NodeReply};
+ghost use Rattle.tq_asks.specs.declared.ask.Verdict.{Verdict};
+ghost use Rattle.tq_asks.specs.declared.ask.WorkAsk.{WorkAsk};
 ghost use Rattle.tq_written.specs.Nodes.{copy_value, node_ask_value, node_refusal_value, node_reply_value, verdict_value, work_value};
 ghost use Rattle.tq_written.specs.Fitting.{IsFitting};
 ghost use Rattle.tq_written.specs.Sound.{IsContent, IsFile, IsHeldLock, IsWork, IsWrite};
@@ -17,8 +17,8 @@ use crate::formed::{
 };
 use json::Writer;
 use std::alloc::Global;
+use tq_asks::{CitedVote, HeldLock, NodeAsk, NodeRefusal, NodeReply, Verdict, WorkAsk};
 use tq_locks::Mode;
-use tq_node::{CitedVote, HeldLock, NodeAsk, NodeRefusal, NodeReply, Verdict, WorkAsk};
 use tq_shape::{Memory, Seq, SharedSeq};
 use tq_store::{Content, FileName, Write};
 

@@ -8,7 +8,7 @@ ghost use Rattle.tq_evidence.specs.Held as spec;
 use indexmap::IndexMap;
 use std::alloc::Global;
 use std::marker::Model;
-use tq_node::HeldLock;
+use tq_asks::HeldLock;
 use tq_shape::Memory;
 use tq_store::FileName;
 

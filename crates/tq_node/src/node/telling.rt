@@ -31,12 +31,7 @@ impl Node {
     }
 
     /// Plans the ask and makes the change.
-    fn tell_planned(
-        &mut self,
-        alloc: Global,
-        number: u64,
-        ask: &NodeAsk,
-    ) -> Result<Telling, Memory>
+    fn tell_planned(&mut self, alloc: Global, number: u64, ask: &NodeAsk) -> Result<Telling, Memory>
         requires { self.old.last < number }
         ensures entered { IfOk result (λ telling. telling.entered ≡ spec.node_reply self.old.server self.old.state ask.now) }
         ensures told { IfOk result (λ telling. telling.told ≡ spec.node_reply self.old.server self.old.state ask.now) }

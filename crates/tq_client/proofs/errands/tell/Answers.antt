@@ -1,5 +1,5 @@
 use Rattle.std.proofs.Common.{Some, None, ◌∙◌, ◌++◌, [], refl, ap}
-use Rattle.tq_node.specs.declared.ask.WorkAsk.TheVariants.{Decide}
+use Rattle.tq_asks.specs.declared.ask.WorkAsk.TheVariants.{Decide}
 use Rattle.tq_txn.specs.Lines.{apply_line, stop_line}
 use Rattle.tq_client.specs.TxnAsked.{apply_ending, no_servers, told_text, apply_stopped_text, down_text, result_text}
 use Rattle.tq_print.specs.Print.{applied_text, printed}

@@ -1,7 +1,7 @@
 use Rattle.std.proofs.Common.{ℕ, Option, Some, Ok, subst}
 use Rattle.std.specs.Result.{result_ok}
-use Rattle.tq_node.specs.declared.ask.NodeAsk.{NodeAsk}
-use Rattle.tq_node.specs.declared.ask.NodeReply.{NodeReply}
+use Rattle.tq_asks.specs.declared.ask.NodeAsk.{NodeAsk}
+use Rattle.tq_asks.specs.declared.ask.NodeReply.{NodeReply}
 use Rattle.tq_live.specs.declared.view.ViewAsk.TheVariants.{Mark}
 use Rattle.tq_txn.specs.Dialogue.{LineEnd, Follows}
 use Rattle.tq_txn.specs.Lines.{any_line}

@@ -7,8 +7,8 @@ use Rattle.tq_cluster.specs.Cluster.{ClusterView}
 use Rattle.tq_cluster.specs.Told.{CallerView, IsToldByServer, exchange_of}
 use Rattle.tq_cluster.proofs.Exchanges.{node_exchanged, one_more_heard}
 use Rattle.tq_cells.specs.Passes.{Seen}
-use Rattle.tq_node.specs.declared.ask.NodeAsk.{NodeAsk}
-use Rattle.tq_node.specs.declared.ask.NodeReply.{NodeReply}
+use Rattle.tq_asks.specs.declared.ask.NodeAsk.{NodeAsk}
+use Rattle.tq_asks.specs.declared.ask.NodeReply.{NodeReply}
 use Rattle.tq_cluster.proofs.Names.{named_by}
 use Rattle.tq_cluster.proofs.Seen.{seeing, seen_here, server_saw, server_not_asked}
 use Rattle.tq_cluster.proofs.cluster.Cluster.ask_node.Goals as goal

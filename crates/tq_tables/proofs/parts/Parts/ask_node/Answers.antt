@@ -11,6 +11,6 @@ invariant_of-self-2 c =
     let there = c.requires.there in
     let less : c.args.server - 1 < length c.self.inside.nodes.items = omega (arith, many, there.0, there.1) in
     let place = at-place c.self.inside.view.levels 1 c.self.inside.nodes.items c.self.invariant (c.args.server - 1) c.index_mut.result.now less c.index_mut.ensures.value in
-    AreOfTree-set c.self.inside.view.levels 1 c.self.inside.nodes.items (c.args.server - 1) c.answer_telling.new.node c.self.invariant
+    AreOfTree-set c.self.inside.view.levels 1 c.self.inside.nodes.items (c.args.server - 1) c.tell.new.self c.self.invariant
     (ap (λ (n : NodeView). n.levels) c.in_ok-telling.ensures.after ∙ place.0)
     (ap (λ (n : NodeView). n.server) c.in_ok-telling.ensures.after ∙ place.1)

@@ -1,5 +1,5 @@
 use Rattle.std.proofs.Common.{rules}
-use Rattle.tq_core.proofs.founded.is_voted.Goals as goal
+use Rattle.tq_world.proofs.founded.is_voted.Goals as goal
 
 pub returns-then-eq : goal.returns-then-eq
 returns-then-eq c = search rules

@@ -1,5 +1,5 @@
 ghost use Rattle.std.specs.Prelude.{◌≡◌};
-ghost use Rattle.tq_node.specs.Records as spec;
+ghost use Rattle.tq_asks.specs.Citing as spec;
 
 use tq_locks::Mode;
 use tq_shape::{ExactClone, Seq, Shared, SharedSeq};

@@ -3,9 +3,9 @@ ghost use Rattle.std.specs.Prelude.{◌≡◌, ◌==◌, ◌&&◌};
 ghost use Rattle.std.specs.Cmp.Lexicographic.{pointwise};
 ghost use Rattle.tq_world.specs.Founded as spec;
 
+use tq_asks::{CitedVote, HeldLock, NodeAsk, NodeReply, Verdict, WorkAsk};
 use tq_desk::{DeskAsk, DeskRefusal, DeskReply, Grant, Vote};
 use tq_locks::Mode;
-use tq_node::{CitedVote, HeldLock, NodeAsk, NodeReply, Verdict, WorkAsk};
 use tq_store::{Content, FileName, Write};
 use tq_tables::{DeskEntry, NodeEntry};
 
