@@ -6,3 +6,4 @@ pub mod Gathered
 pub mod KeptLocks
 pub mod NewestCopies
 pub mod DeadRecords
+pub mod Sharing

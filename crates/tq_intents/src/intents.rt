@@ -10,13 +10,15 @@ ghost use Rattle.std.specs.List.{list_any, filter_map};
 ghost use Rattle.std.specs.Map.{lookup};
 ghost use Rattle.tq_store.specs.Copies.{copy_in, installed, installed_all};
 ghost use Rattle.tq_intents.specs.Kept as spec;
+ghost use Rattle.tq_intents.specs.Sharing.{kept};
 ghost use Rattle.tq_intents.specs.Kept.{HasOneVoteEach, HoldsVotesLocks, IsAbove, IsUnfinished, KeepsNewest, kept_copies, kept_votes, vote_at, vote_records};
 
-use crate::{KeptLock, OpenVote, Record};
+use crate::{KeptLock, NewerWrite, OpenVote, Record, SharedWrite, VoteLocks};
 use std::alloc::{AllocError, Global};
 use std::collections::BTreeMap;
 use std::collections::btree_map::Iter;
 use std::marker::Model;
+use tq_asks::HeldLock;
 use tq_shape::{Seq, SharedSeq};
 use tq_store::{Copies, Write};
 
@@ -118,7 +120,7 @@ impl Intents {
     }
 
     /// Writes that a copy was installed, in the room that was made for it.
-    pub fn push_copy(&mut self, write: Write)
+    pub fn push_copy(&mut self, write: SharedWrite)
         requires { 0 < self.old.room }
         ensures records { self.new.records ≡ self.old.records ++ Record.Copy write ∷ [] }
         ensures votes { kept_votes self.new.records ≡ kept_votes self.old.records }
@@ -128,36 +130,21 @@ impl Intents {
         self.records.push_reserved(Record::Copy(write));
     }
 
-    /// Writes that copies were installed, in the room that was made for it.
-    pub fn push_copies(&mut self, writes: Seq<Write>)
-        requires { length writes ≤ self.old.room }
+    /// Installs copies and writes that they were, in the room that was made for both. It takes no memory.
+    pub fn install_copies(&mut self, copies: &mut Copies, writes: Seq<NewerWrite>)
+        requires log { length writes ≤ self.old.room }
+        requires copies { length writes ≤ copies.old.room }
         ensures records { self.new.records ≡ self.old.records ++ map Record.Copy writes }
         ensures votes { kept_votes self.new.records ≡ kept_votes self.old.records }
         ensures copies { kept_copies self.new.records ≡ installed_all (kept_copies self.old.records) writes }
+        ensures files { copies.new.files ≡ installed_all copies.old.files writes }
         ensures room { self.old.room ≤ self.new.room + length writes }
     {
-        for write in writes.into_vec() {
+        for newer in writes.into_vec() {
+            let (write, content) = newer.parts();
+            let listed = write.get();
+            copies.install(listed.file, listed.version, content);
             self.push_copy(write);
-        }
-    }
-
-    /// Writes that copies were installed, with memory of their own, in the room that was made for it. Where memory is
-    /// refused, the records are cut back to those before.
-    pub fn write_copies(&mut self, writes: &[Write]) -> Result<(), AllocError>
-        requires { length writes.now ≤ self.old.room }
-        ensures records { OnOk result (self.new.records ≡ self.old.records ++ map Record.Copy writes.now) }
-        ensures votes { OnOk result (kept_votes self.new.records ≡ kept_votes self.old.records) }
-        ensures copies { OnOk result (kept_copies self.new.records ≡ installed_all (kept_copies self.old.records) writes.now) }
-        ensures room { OnOk result (self.old.room ≤ self.new.room + length writes.now) }
-        ensures err { OnErr result (self.new.records ≡ self.old.records) }
-    {
-        let before = self.records.len();
-        match push_each(&mut self.records, writes) {
-            Ok(()) => Ok(()),
-            Err(refused) => {
-                self.records.truncate(before);
-                Err(refused)
-            }
         }
     }
 
@@ -168,7 +155,7 @@ impl Intents {
         txn: u64,
         number: u64,
         writes: SharedSeq<Write>,
-        locks: Seq<KeptLock>,
+        locks: VoteLocks,
     ) -> Result<(), AllocError>
         requires closed { fin.get (kept_votes self.old.records) txn ≡ None }
         requires newest { IsAbove number self.old.records }
@@ -249,6 +236,7 @@ fn install_record(alloc: Global, copies: &mut Copies, written: &Record) -> Resul
 {
     match written {
         Record::Copy(write) => {
+            let write = write.get();
             let content = write.content.clone()?;
             copies.reserve(alloc, 1)?;
             copies.install(write.file, write.version, content);
@@ -258,28 +246,13 @@ fn install_record(alloc: Global, copies: &mut Copies, written: &Record) -> Resul
     }
 }
 
-/// Writes copies behind the other records, in the room that was made for them. Where memory is refused, the first of them
-/// may stand there.
-fn push_each(records: &mut Vec<Record>, writes: &[Write]) -> Result<(), AllocError>
-    requires { length writes.now ≤ vec_capacity records.old - vec_len records.old }
-    ensures ok { OnOk result (records.new.items ≡ records.old.items ++ map Record.Copy writes.now) }
-    ensures room { OnOk result (vec_capacity records.old - vec_len records.old ≤ vec_capacity records.new - vec_len records.new + length writes.now) }
-    ensures first { take (length records.old.items) records.new.items ≡ records.old.items }
-{
-    for write in writes {
-        let write = write.clone()?;
-        records.push_reserved(Record::Copy(write));
-    }
-    Ok(())
-}
-
 /// The records of a vote, in order.
 pub fn vote_records(
     alloc: Global,
     txn: u64,
     number: u64,
-    writes: &[Write],
-    locks: &[KeptLock],
+    writes: &SharedSeq<Write>,
+    locks: &VoteLocks,
 ) -> Result<Vec<Record>, AllocError>
     ensures { IfOk result (λ records. records.items ≡ vote_records txn number writes.now locks.now) }
 {
@@ -293,20 +266,20 @@ fn push_vote(
     records: &mut Vec<Record>,
     txn: u64,
     number: u64,
-    writes: &[Write],
-    locks: &[KeptLock],
+    writes: &SharedSeq<Write>,
+    locks: &VoteLocks,
 ) -> Result<(), AllocError>
     ensures ok { OnOk result (records.new.items ≡ records.old.items ++ vote_records txn number writes.now locks.now) }
     ensures first { take (length records.old.items) records.new.items ≡ records.old.items }
 {
     let count = writes.len().saturating_add(locks.len()).saturating_add(1);
     records.reserve(count)?;
-    for write in writes {
-        let write = write.clone()?;
+    for place in 0..writes.len() {
+        let write = SharedWrite::at(writes.clone()?, place);
         records.push(Record::Intent { txn, number, write })?;
     }
-    for lock in locks {
-        let lock = *lock;
+    for place in 0..locks.len() {
+        let lock = locks.get(place)?;
         records.push(Record::Keep { txn, number, lock })?;
     }
     records.push(Record::Prepared { txn, number })?;
@@ -326,9 +299,7 @@ fn give(
     ensures first { take (length records.old.items) records.new.items ≡ records.old.items }
     ensures err { OnErr result (open_votes.new.entries ≡ open_votes.old.entries) }
 {
-    let writes = vote.writes.as_slice();
-    let locks = vote.locks.as_slice();
-    push_vote(records, txn, vote.number, writes, locks)?;
+    push_vote(records, txn, vote.number, &vote.writes, &vote.locks)?;
     let _replaced = open_votes.insert(txn, vote)?;
     Ok(())
 }
@@ -399,7 +370,7 @@ fn write_of(written: &Record, txn: u64, number: u64) -> Option<&Write>
             write,
         } => {
             if txn == *t && number == *n {
-                Some(write)
+                Some(write.get())
             } else {
                 None
             }
@@ -418,7 +389,7 @@ fn lock_of(written: &Record, txn: u64, number: u64) -> Option<KeptLock>
             lock,
         } => {
             if txn == *t && number == *n {
-                Some(*lock)
+                Some(lock.get())
             } else {
                 None
             }
@@ -449,14 +420,28 @@ fn locks_of(
     records: &[Record],
     txn: u64,
     number: u64,
-) -> Result<Seq<KeptLock>, AllocError>
+) -> Result<VoteLocks, AllocError>
     ensures { IfOk result (λ locks. locks ≡ filter_map (spec.lock_of txn number) records.now) }
 {
-    let mut locks = Vec::new(alloc);
+    let mut held = Vec::new(alloc);
+    let mut versions = Vec::new(alloc);
     for record in records {
         if let Some(lock) = lock_of(record, txn, number) {
-            locks.push(lock)?;
+            held.push(held_of(&lock))?;
+            versions.push(lock.version)?;
         }
     }
-    Ok(Seq::from_vec(locks))
+    let held = SharedSeq::from_vec(held)?;
+    Ok(VoteLocks::new(held, Seq::from_vec(versions)))
+}
+
+/// A lock of a vote, as the vote lists it.
+fn held_of(lock: &KeptLock) -> HeldLock
+    ensures { kept result lock.now.version ≡ lock.now }
+{
+    HeldLock {
+        file: lock.file,
+        mode: lock.mode,
+        since: lock.since,
+    }
 }

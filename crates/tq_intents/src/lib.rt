@@ -2,7 +2,15 @@
 #![tactic(auto)]
 
 mod intents;
+mod newer_write;
 mod record;
+mod shared_lock;
+mod shared_write;
+mod vote_locks;
 
 pub use intents::{Intents, vote_records};
+pub use newer_write::NewerWrite;
 pub use record::{KeptLock, OpenVote, Record};
+pub use shared_lock::SharedLock;
+pub use shared_write::SharedWrite;
+pub use vote_locks::VoteLocks;

@@ -1,5 +1,6 @@
+use crate::{SharedLock, SharedWrite, VoteLocks};
 use tq_locks::Mode;
-use tq_shape::{ExactClone, Seq, SharedSeq};
+use tq_shape::{ExactClone, SharedSeq};
 use tq_store::{FileName, Write};
 
 /// A lock that a vote made stable.
@@ -18,22 +19,23 @@ pub struct OpenVote {
     /// The number of the entry that gave it.
     pub number: u64,
     pub writes: SharedSeq<Write>,
-    pub locks: Seq<KeptLock>,
+    pub locks: VoteLocks,
 }
 
-/// A stable record. `number` is that of the entry that gave the vote.
+/// A stable record. `number` is that of the entry that gave the vote. What it holds of a write or of a lock is its place in
+/// a list, which it shares with the vote's other records and with what was asked and replied.
 #[derive(Drop, Clone)]
 pub enum Record {
-    Copy(Write),
+    Copy(SharedWrite),
     Intent {
         txn: u64,
         number: u64,
-        write: Write,
+        write: SharedWrite,
     },
     Keep {
         txn: u64,
         number: u64,
-        lock: KeptLock,
+        lock: SharedLock,
     },
     Prepared {
         txn: u64,

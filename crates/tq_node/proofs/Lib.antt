@@ -5,3 +5,4 @@ pub mod KeptLocks
 pub mod Sound
 pub mod OnlyStep
 pub mod Untouched
+pub mod Versions

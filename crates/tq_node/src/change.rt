@@ -3,7 +3,7 @@ ghost use Rattle.tq_node.specs.declared.change.NodeStep.{NodeStep};
 ghost use Rattle.tq_node.specs.NodeChanges.{cut, records_of};
 
 use std::alloc::Global;
-use tq_intents::{OpenVote, Record, vote_records};
+use tq_intents::{NewerWrite, OpenVote, Record, SharedWrite, vote_records};
 use tq_locks::Mode;
 use tq_shape::{Memory, Seq, SharedSeq};
 use tq_store::{FileName, Write};
@@ -47,7 +47,7 @@ pub enum NodeStep {
         txn: u64,
         number: u64,
         writes: SharedSeq<Write>,
-        newer: Seq<Write>,
+        newer: Seq<NewerWrite>,
     },
     /// The transaction holds nothing any more.
     Release {
@@ -63,7 +63,7 @@ pub enum NodeStep {
     },
     /// The server stops in the midst of a vote's end: these are installed, the first of its newer writes.
     Copies {
-        newer: Seq<Write>,
+        newer: Seq<NewerWrite>,
     },
     /// The server is down, and has lost the locks of those that have no open vote.
     Crash,
@@ -78,9 +78,7 @@ impl NodeStep {
     {
         match self {
             NodeStep::Vote { txn, vote } => {
-                let writes = vote.writes.as_slice();
-                let locks = vote.locks.as_slice();
-                let records = vote_records(alloc, *txn, vote.number, writes, locks)?;
+                let records = vote_records(alloc, *txn, vote.number, &vote.writes, &vote.locks)?;
                 Ok(records)
             }
             NodeStep::Discard { txn, number } => {
@@ -98,7 +96,8 @@ impl NodeStep {
             }
             NodeStep::Refresh { write } => {
                 let mut records = Vec::new(alloc);
-                records.push(Record::Copy(write.clone()?))?;
+                let write = SharedWrite::alone(alloc, write.clone()?)?;
+                records.push(Record::Copy(write))?;
                 Ok(records)
             }
             NodeStep::Unfinished { records } => {
@@ -148,9 +147,7 @@ impl NodeStep {
 fn cut_vote(alloc: Global, after: usize, txn: u64, vote: OpenVote) -> Result<NodeStep, Memory>
     ensures { IfOk result (λ step. step ≡ cut after (NodeStep.Vote txn vote)) }
 {
-    let writes = vote.writes.as_slice();
-    let locks = vote.locks.as_slice();
-    let mut records = vote_records(alloc, txn, vote.number, writes, locks)?;
+    let mut records = vote_records(alloc, txn, vote.number, &vote.writes, &vote.locks)?;
     if after < records.len() {
         records.truncate(after);
         let records = Seq::from_vec(records);
@@ -165,7 +162,7 @@ fn cut_install(
     txn: u64,
     number: u64,
     writes: SharedSeq<Write>,
-    newer: Seq<Write>,
+    newer: Seq<NewerWrite>,
 ) -> NodeStep
     ensures { result ≡ cut after (NodeStep.Install txn number writes newer) }
 {
@@ -185,7 +182,7 @@ fn cut_install(
 }
 
 /// The records of the end of a vote, of which these writes came.
-fn ending(alloc: Global, txn: u64, number: u64, newer: &[Write]) -> Result<Vec<Record>, Memory>
+fn ending(alloc: Global, txn: u64, number: u64, newer: &[NewerWrite]) -> Result<Vec<Record>, Memory>
     ensures { IfOk result (λ records. records.items ≡ map Record.Copy newer.now ++ Record.Gone txn number ∷ []) }
 {
     let mut records = copies(alloc, newer)?;
@@ -194,12 +191,12 @@ fn ending(alloc: Global, txn: u64, number: u64, newer: &[Write]) -> Result<Vec<R
 }
 
 /// The records of copies that came.
-fn copies(alloc: Global, newer: &[Write]) -> Result<Vec<Record>, Memory>
+fn copies(alloc: Global, newer: &[NewerWrite]) -> Result<Vec<Record>, Memory>
     ensures { IfOk result (λ records. records.items ≡ map Record.Copy newer.now) }
 {
     let mut records = Vec::new(alloc);
     for write in newer {
-        let write = write.clone()?;
+        let write = write.get().clone()?;
         records.push(Record::Copy(write))?;
     }
     Ok(records)

@@ -19,7 +19,7 @@ use crate::{
 use std::alloc::Global;
 use std::collections::btree_map::Iter;
 use std::marker::Model;
-use tq_intents::{Intents, KeptLock, OpenVote, Record};
+use tq_intents::{Intents, NewerWrite, OpenVote, Record, SharedWrite, VoteLocks};
 use tq_locks::{LockEntry, LockTable, Mode};
 use tq_part::Plan;
 use tq_shape::{Levels, Memory, Seq, ServerId, SharedSeq};
@@ -302,7 +302,7 @@ impl Node {
         let number = self.vote_number(txn);
         if self.installs(txn, verdict) {
             let writes = self.intents.of(txn).unwrap().writes.clone()?;
-            let newer = self.newer(alloc, writes.as_slice())?;
+            let newer = self.newer(alloc, &writes)?;
             Ok(Plan {
                 reply: NodeReply::Installed,
                 change: NodeStep::Install {
@@ -457,11 +457,14 @@ impl Node {
         ensures after { OnOk result (self.new ≡ unnoted self.old number (NodeStep.Refresh write)) }
         ensures err { OnErr result (self.new ≡ self.old) }
     {
+        let file = write.file;
+        let version = write.version;
         let kept = write.content.clone()?;
+        let written = SharedWrite::alone(alloc, write)?;
         self.copies.reserve(alloc, 1)?;
         self.intents.reserve(1)?;
-        self.copies.install(write.file, write.version, kept);
-        self.intents.push_copy(write);
+        self.copies.install(file, version, kept);
+        self.intents.push_copy(written);
         Ok(())
     }
 
@@ -472,7 +475,7 @@ impl Node {
         number: u64,
         txn: u64,
         writes: SharedSeq<Write>,
-        locks: Seq<KeptLock>,
+        locks: VoteLocks,
     ) -> Result<(), Memory>
         requires rises { self.old.last < number }
         requires closed { fin.get self.old.state.records.votes txn ≡ None }
@@ -499,15 +502,18 @@ impl Node {
     }
 
     /// Installs the first newer writes of a vote, which stays open. All memory is asked for before the first change.
-    fn install_first(&mut self, alloc: Global, number: u64, newer: Seq<Write>) -> Result<(), Memory>
+    fn install_first(
+        &mut self,
+        alloc: Global,
+        number: u64,
+        newer: Seq<NewerWrite>,
+    ) -> Result<(), Memory>
         ensures after { OnOk result (self.new ≡ unnoted self.old number (NodeStep.Copies newer)) }
         ensures err { OnErr result (self.new ≡ self.old) }
     {
-        let installed = newer.clone()?;
         self.copies.reserve(alloc, newer.len())?;
         self.intents.reserve(newer.len())?;
-        self.copies.install_all(installed);
-        self.intents.push_copies(newer);
+        self.intents.install_copies(&mut self.copies, newer);
         Ok(())
     }
 
@@ -529,13 +535,16 @@ impl Node {
     }
 
     /// The writes that are above the copies here.
-    fn newer(&self, alloc: Global, writes: &[Write]) -> Result<Seq<Write>, Memory>
+    fn newer(&self, alloc: Global, writes: &SharedSeq<Write>) -> Result<Seq<NewerWrite>, Memory>
         ensures { IfOk result (λ newer. newer ≡ filter (is_newer self.now.state.records.copies) writes.now) }
     {
+        let list = writes.as_slice();
         let mut newer = Vec::new(alloc);
-        for write in writes {
+        for place in 0..list.len() {
+            let write = &list[place];
             if self.copies.get(&write.file).version < write.version {
-                newer.push(write.clone()?)?;
+                let write = SharedWrite::at(writes.clone()?, place);
+                newer.push(NewerWrite::of(write)?)?;
             }
         }
         Ok(Seq::from_vec(newer))
@@ -555,7 +564,7 @@ impl Node {
     }
 
     /// Installs a vote's writes and ends it. Those that are not newer than the copies change nothing, so only the contract
-    /// speaks of all the writes. Once the records of the copies are written nothing asks for memory any more.
+    /// speaks of all the writes. All memory is asked for before the first change.
     fn install(
         &mut self,
         alloc: Global,
@@ -563,7 +572,7 @@ impl Node {
         txn: u64,
         vote: u64,
         writes: &[Write],
-        newer: Seq<Write>,
+        newer: Seq<NewerWrite>,
     ) -> Result<(), Memory>
         requires open { IsSome (fin.get self.old.state.records.votes txn) }
         requires vote { vote ≡ (spec.open_vote self.old.state.records txn).number }
@@ -573,8 +582,7 @@ impl Node {
     {
         self.copies.reserve(alloc, newer.len())?;
         self.intents.reserve(newer.len() + 1)?;
-        self.intents.write_copies(newer.as_slice())?;
-        self.copies.install_all(newer);
+        self.intents.install_copies(&mut self.copies, newer);
         self.intents.finish(txn);
         self.locks.release(txn);
         Ok(())
@@ -755,30 +763,27 @@ fn plan_refresh(
     })
 }
 
-/// Locks, as a vote lists them and as it keeps them.
+/// Locks, as a vote lists them and as it keeps them: both share one list.
 fn locks_of(
     alloc: Global,
     entries: &[LockEntry],
-) -> Result<(SharedSeq<HeldLock>, Seq<KeptLock>), Memory>
+) -> Result<(SharedSeq<HeldLock>, VoteLocks), Memory>
     ensures held { IfOk result (λ locks. locks.0 ≡ map spec.held_lock entries.now) }
     ensures kept { IfOk result (λ locks. locks.1 ≡ map spec.kept_lock entries.now) }
 {
     let mut held = Vec::with_capacity(alloc, entries.len())?;
-    let mut kept = Vec::with_capacity(alloc, entries.len())?;
+    let mut versions = Vec::with_capacity(alloc, entries.len())?;
     for entry in entries {
         held.push(HeldLock {
             file: entry.file,
             mode: entry.lock.mode,
             since: entry.lock.since,
         })?;
-        kept.push(KeptLock {
-            file: entry.file,
-            mode: entry.lock.mode,
-            since: entry.lock.since,
-            version: entry.lock.version,
-        })?;
+        versions.push(entry.lock.version)?;
     }
-    Ok((SharedSeq::from_vec(held)?, Seq::from_vec(kept)))
+    let held = SharedSeq::from_vec(held)?;
+    let kept = VoteLocks::new(held.clone()?, Seq::from_vec(versions));
+    Ok((held, kept))
 }
 
 fn files_rise(writes: &[Write]) -> bool

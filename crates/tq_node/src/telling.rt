@@ -2,6 +2,8 @@ ghost use Rattle.std.specs.Prelude.{◌≡◌, [], IfOk};
 ghost use Rattle.tq_node.specs.Untouched.{raised_files, step_raises};
 
 use crate::{NodeReply, NodeStep};
+use std::alloc::Global;
+use tq_intents::NewerWrite;
 use tq_shape::{Memory, SharedSeq};
 use tq_store::{FileName, Write};
 
@@ -31,17 +33,29 @@ impl Raised {
     }
 
     /// The files whose copies the step may raise.
-    pub(crate) fn by(step: &NodeStep) -> Result<Raised, Memory>
+    pub(crate) fn by(alloc: Global, step: &NodeStep) -> Result<Raised, Memory>
         ensures { IfOk result (λ raised. raised_files raised ≡ step_raises step.now) }
     {
         match step {
             NodeStep::Install { writes, .. } => Ok(Raised::Written(writes.clone()?)),
             NodeStep::Copies { newer } => {
-                let newer = newer.clone()?;
-                Ok(Raised::Written(SharedSeq::from_vec(newer.into_vec())?))
+                let writes = writes_of(alloc, newer.as_slice())?;
+                Ok(Raised::Written(writes))
             }
             NodeStep::Refresh { write } => Ok(Raised::One(write.file)),
             _ => Ok(Raised::nothing()),
         }
     }
+}
+
+/// The writes, in a list of their own.
+fn writes_of(alloc: Global, newer: &[NewerWrite]) -> Result<SharedSeq<Write>, Memory>
+    ensures { IfOk result (λ writes. writes ≡ newer.now) }
+{
+    let mut writes = Vec::new(alloc);
+    for write in newer {
+        let listed = write.get();
+        writes.push(listed.get().clone()?)?;
+    }
+    SharedSeq::from_vec(writes)
 }

@@ -1,7 +1,7 @@
-use std::alloc::Global;
+use std::alloc::{AllocError, Global};
 use tq_check::{Wrong, check};
 use tq_coterie::{Quorum, holds_quorum, is_quorum, meet};
-use tq_intents::{Intents, Record};
+use tq_intents::{Intents, Record, SharedWrite};
 use tq_locks::{LockOutcome, LockTable, Mode};
 use tq_shape::{Levels, ServerId, ServerSet};
 use tq_store::{Content, FileName, Write};
@@ -314,29 +314,32 @@ fn is_kept_in_a_copy(alloc: Global, intents: &Intents) -> bool {
 }
 
 /// Copies of one file, two of them of its greatest version, an intent of 7 without its vote, and a vote of 8 with its end.
-fn recovers(alloc: Global) -> bool {
+fn recovers(alloc: Global) -> Result<bool, AllocError> {
+    let first = SharedWrite::alone(alloc, empty(1))?;
+    let greatest = SharedWrite::alone(alloc, filled(alloc, 2))?;
+    let as_great = SharedWrite::alone(alloc, empty(2))?;
+    let last = SharedWrite::alone(alloc, empty(1))?;
+    let intended = SharedWrite::alone(alloc, empty(3))?;
     let records = [
-        Record::Copy(empty(1)),
-        Record::Copy(filled(alloc, 2)),
-        Record::Copy(empty(2)),
-        Record::Copy(empty(1)),
+        Record::Copy(first),
+        Record::Copy(greatest),
+        Record::Copy(as_great),
+        Record::Copy(last),
         Record::Intent {
             txn: 7,
             number: 6,
-            write: empty(3),
+            write: intended,
         },
         Record::Prepared { txn: 8, number: 9 },
         Record::Gone { txn: 8, number: 9 },
     ];
-    match Intents::recover(alloc, &records) {
-        Ok(intents) => is_kept(alloc, &intents) && is_kept_in_a_copy(alloc, &intents),
-        Err(_) => false,
-    }
+    let intents = Intents::recover(alloc, &records)?;
+    Ok(is_kept(alloc, &intents) && is_kept_in_a_copy(alloc, &intents))
 }
 
 /// Of stable records the copy of a file is the first with its greatest version; an intent alone stands for nothing, and a
 /// vote with its end is not open.
 #[test]
 fn what_stable_records_stand_for(rt: HostRuntime) -> Result<(), Wrong> {
-    check(recovers(rt.alloc()), "other records")
+    check(matches!(recovers(rt.alloc()), Ok(true)), "other records")
 }

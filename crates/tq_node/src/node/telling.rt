@@ -42,7 +42,7 @@ impl Node {
         let plan = self.plan(alloc, number, ask)?;
         let Plan { reply, change } = plan;
         let told = reply.clone()?;
-        let raised = Raised::by(&change.step)?;
+        let raised = Raised::by(alloc, &change.step)?;
         self.apply(alloc, change)?;
         Ok(Telling {
             entered: reply,
@@ -198,7 +198,7 @@ impl Node {
             });
         }
         let writes = vote.writes.clone()?;
-        let newer = self.newer(alloc, writes.as_slice())?;
+        let newer = self.newer(alloc, &writes)?;
         self.install(alloc, number, txn, given, writes.as_slice(), newer)?;
         self.note(number);
         Ok(Telling {

@@ -1,6 +1,9 @@
-use Rattle.std.proofs.Common.{◌≡◌, ◌<◌, ◌+◌, ℕ, List, ◌++◌, ◌∷◌, [], map, take, length, get_or, sym, ap, ◌∙◌}
+use Rattle.std.proofs.Common.{◌≡◌, ◌<◌, ◌+◌, ℕ, List, ◌++◌, ◌∷◌, [], map, take, length, get_or, sym, ap, ◌∙◌, arith}
 use Rattle.std.proofs.lemmas.List.{take_more, map-append}
-use Rattle.tq_node.specs.Records.{held_lock, kept_lock}
+use Rattle.std.proofs.lemmas.Grind.{common_steps}
+use Rattle.tq_intents.specs.Sharing.{kept_each}
+use Rattle.tq_node.specs.Records.{held_lock}
+use Rattle.tq_node.proofs.Versions.{kept_each-map, version_of}
 use Rattle.tq_node.proofs.node.locks_of.Goals as goal
 
 -- what is made of one item more
@@ -13,5 +16,12 @@ loop-entry-preserved c = (
   c.in_ok-push.ensures.items
       ∙ mapped_more held_lock c.args.entries.now c.loop-entry.held.items c.loop-entry.entry-index c.entry-item.result _ c.loop-entry-test.true c.entry-item.is (ap held_lock c.entry.view_is) c.loop-entry.invariant.0,
   c.in_ok-push-2.ensures.items
-      ∙ mapped_more kept_lock c.args.entries.now c.loop-entry.kept.items c.loop-entry.entry-index c.entry-item.result _ c.loop-entry-test.true c.entry-item.is (ap kept_lock c.entry.view_is) c.loop-entry.invariant.1,
+      ∙ mapped_more version_of c.args.entries.now c.loop-entry.versions.items c.loop-entry.entry-index c.entry-item.result _ c.loop-entry-test.true c.entry-item.is (ap version_of c.entry.view_is) c.loop-entry.invariant.1,
 )
+
+pub returns-clause-kept : goal.returns-clause-kept
+returns-clause-kept c =
+    let entries = c.args.entries.now in
+    let held : c.in_ok-clone.field-0 ≡ map held_lock entries = grind (arith, common_steps) in
+    let versions : c.from_vec-2.result ≡ map version_of entries = grind (arith, common_steps) in
+    c.new-kept.ensures ∙ (λ i. kept_each (held i) (versions i)) ∙ kept_each-map entries

@@ -22,8 +22,8 @@ invariant_of-self-2 c =
     c.requires.newer ∙ ap (λ v. filter (is_newer v.state.records.copies) c.args.writes.now) (sym c.self.view_is) in
     sound-as (sound-installed inside.intents.records inside.last inside.copies.files inside.locks c.self.invariant c.args.txn c.args.writes.now is_open)
     (c.finish.ensures.records ∙ ap (λ list. list ++ Gone c.args.txn (vote_at (kept_votes list) c.args.txn).number ∷ [])
-    (c.in_ok-write_copies.ensures.records ∙ (λ i. c.in_ok-reserve-2.ensures.records i ++ map Copy ((c.as_slice.ensures ∙ newer) i))))
-    (c.install_all.ensures.files ∙ (λ i. installed_all (c.in_ok-reserve.ensures.files i) (newer i)) ∙ installed_all-newer inside.copies.files c.args.writes.now)
+    (c.install_copies.ensures.records ∙ (λ i. c.in_ok-reserve-2.ensures.records i ++ map Copy (newer i))))
+    (c.install_copies.ensures.files ∙ (λ i. installed_all (c.in_ok-reserve.ensures.files i) (newer i)) ∙ installed_all-newer inside.copies.files c.args.writes.now)
     c.release.ensures
 
 -- the newer writes leave the server that all of them would
@@ -45,6 +45,6 @@ installs_newer old number txn vote writes newer is =
 pub returns-clause-after : goal.returns-clause-after
 returns-clause-after c =
     let inside = c.self.inside in
-    let first : the_view (record { server = inside.server; copies = c.install_all.new.self; locks = c.release.new.self; intents = c.finish.new.self; down = inside.down; last = inside.last })
+    let first : the_view (record { server = inside.server; copies = c.install_copies.new.copies; locks = c.release.new.self; intents = c.finish.new.self; down = inside.down; last = inside.last })
     ≡ unnoted c.args.self.now c.args.number (Install c.args.txn c.args.vote c.args.newer c.args.newer) = grind (arith, common_steps) in
     first ∙ installs_newer c.args.self.now c.args.number c.args.txn c.args.vote c.args.writes.now c.args.newer c.requires.newer

@@ -1,4 +1,4 @@
-use Rattle.std.proofs.Common.{◌≡◌, ◌++◌, map, refl, ap, ◌∙◌, rules}
+use Rattle.std.proofs.Common.{◌++◌, map, refl, ap, ◌∙◌}
 use Rattle.tq_store.specs.Copies.{installed_all}
 use Rattle.tq_intents.specs.declared.record.Record.TheVariants.{Copy}
 use Rattle.tq_node.proofs.Sound.{sound-as, sound-copies}
@@ -7,8 +7,7 @@ use Rattle.tq_node.proofs.node.Node.install_first.Goals as goal
 pub invariant_of-self-2 : goal.invariant_of-self-2
 invariant_of-self-2 c =
     let inside = c.self.inside in
-    let same : c.in_ok-installed.installed ≡ c.args.newer = search rules in
     sound-as (sound-copies inside.intents.records inside.last inside.copies.files inside.locks c.self.invariant c.args.newer)
-    (c.push_copies.ensures.records ∙ ap (λ list. list ++ map Copy c.args.newer) c.in_ok-reserve-2.ensures.records)
-    (c.install_all.ensures.files ∙ (λ i. installed_all (c.in_ok-reserve.ensures.files i) (same i)))
+    (c.install_copies.ensures.records ∙ ap (λ list. list ++ map Copy c.args.newer) c.in_ok-reserve-2.ensures.records)
+    (c.install_copies.ensures.files ∙ (λ i. installed_all (c.in_ok-reserve.ensures.files i) c.args.newer))
     refl

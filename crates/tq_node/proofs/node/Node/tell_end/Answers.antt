@@ -11,5 +11,5 @@ use Rattle.tq_node.proofs.node.Node.tell_end.Goals as goal
 pub returns-clause-raised : goal.returns-clause-raised
 returns-clause-raised c = λ file none.
     ap (λ (v : NodeView). copy_of v.state.records.copies file) (c.note-2.ensures ∙ ap (numbered c.args.number) c.in_ok-install.ensures.after)
-    ∙ step-keeps c.args.self.now.state.records c.args.number (Install c.args.txn 0 c.as_slice-2.result.now []) file
-    (ap (λ (writes : List Write). list_any (same_name file) (map (λ write. write.file) writes)) c.as_slice-2.ensures ∙ none)
+    ∙ step-keeps c.args.self.now.state.records c.args.number (Install c.args.txn 0 c.as_slice.result.now []) file
+    (ap (λ (writes : List Write). list_any (same_name file) (map (λ write. write.file) writes)) c.as_slice.ensures ∙ none)

@@ -1,0 +1,32 @@
+-- What contracts see of a write and of locks that stand in a list which others share.
+use Rattle.std.specs.Prelude.{◌≡◌, ◌<◌, ℕ, List, [], ◌∷◌, length, get_or}
+use Rattle.tq_asks.specs.declared.ask.HeldLock.{HeldLock}
+use Rattle.tq_locks.specs.declared.mode.Mode.TheVariants.{Shared}
+use Rattle.tq_store.specs.declared.write.Write.{Write}
+use Rattle.tq_intents.specs.declared.record.KeptLock.{KeptLock}
+
+-- the write of no file
+abbrev pub no_write : Write
+no_write = record { file = []; version = 0; content = [] }
+
+-- the write at a place of a list
+abbrev pub write_at : List Write → ℕ → Write
+write_at writes place = get_or writes place no_write
+
+-- the lock of no file
+abbrev pub no_lock : HeldLock
+no_lock = record { file = []; mode = Shared; since = 0 }
+
+-- a lock as a vote keeps it: with the version of its file's copy
+abbrev pub kept : HeldLock → ℕ → KeptLock
+kept held version = record { file = held.file; mode = held.mode; since = held.since; version = version }
+
+-- the lock at a place of a list, with its version
+abbrev pub lock_at : List HeldLock → ℕ → ℕ → KeptLock
+lock_at held place version = kept (get_or held place no_lock) version
+
+-- locks, each with its version
+abbrev pub kept_each : List HeldLock → List ℕ → List KeptLock
+kept_each [] versions = []
+kept_each (lock ∷ held) [] = []
+kept_each (lock ∷ held) (version ∷ versions) = kept lock version ∷ kept_each held versions
