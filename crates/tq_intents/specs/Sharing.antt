@@ -1,9 +1,11 @@
--- What contracts see of a write and of locks that stand in a list which others share.
+-- What contracts see of writes and of locks that others share.
 use Rattle.std.specs.Prelude.{◌≡◌, ◌<◌, ℕ, List, [], ◌∷◌, length, get_or}
 use Rattle.tq_asks.specs.declared.ask.HeldLock.{HeldLock}
 use Rattle.tq_locks.specs.declared.mode.Mode.TheVariants.{Shared}
 use Rattle.tq_store.specs.declared.write.Write.{Write}
 use Rattle.tq_intents.specs.declared.record.KeptLock.{KeptLock}
+use Rattle.tq_intents.specs.declared.shared_write.Source.{Source}
+use Rattle.tq_intents.specs.declared.shared_write.Source.TheVariants.{Listed, Alone}
 
 -- the write of no file
 abbrev pub no_write : Write
@@ -12,6 +14,15 @@ no_write = record { file = []; version = 0; content = [] }
 -- the write at a place of a list
 abbrev pub write_at : List Write → ℕ → Write
 write_at writes place = get_or writes place no_write
+
+abbrev pub write_of_source : Source → Write
+write_of_source (Listed writes place) = write_at writes place
+write_of_source (Alone write) = write
+
+-- a place is one of the list
+abbrev pub IsSource : Source → Type 0
+IsSource (Listed writes place) = place < length writes
+IsSource (Alone write) = Unit {0}
 
 -- the lock of no file
 abbrev pub no_lock : HeldLock

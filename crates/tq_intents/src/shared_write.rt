@@ -3,30 +3,38 @@ ghost use Rattle.tq_intents.specs.Sharing.{write_at};
 
 use std::alloc::{AllocError, Global};
 use std::marker::Model;
-use tq_shape::{ExactClone, SharedSeq};
+use tq_shape::{ExactClone, Shared, SharedSeq};
 use tq_store::Write;
 
-/// A write that stands in a list: it cites the list, which others share, and its place there. Contracts see the write alone.
+/// A write that others share: it stands in a list, and its place there is cited, or it stands alone. Contracts see the write
+/// alone.
 #[derive(Drop)]
 pub struct SharedWrite {
-    writes: SharedSeq<Write>,
-    place: usize,
+    source: Source,
+}
+
+/// Where a write stands.
+#[derive(Drop)]
+enum Source {
+    Listed {
+        writes: SharedSeq<Write>,
+        place: usize,
+    },
+    Alone(Shared<Write>),
 }
 
 impl Model for SharedWrite {
-    ghost use Rattle.std.specs.Prelude.{◌<◌, length};
     ghost use Rattle.tq_store.specs.declared.write.Write.{Write as write_value};
     ghost use Rattle.tq_store.specs.contracts.write.Write as write_type;
+    ghost use Rattle.tq_intents.specs.Sharing.{IsSource, write_of_source};
 
     ghost Value = { write_value };
 
     ghost coded = { write_type.the_row.coded };
 
-    ghost use Rattle.tq_intents.specs.Sharing.{write_at};
+    ghost view = { λ a. write_of_source a.source };
 
-    ghost view = { λ a. write_at a.writes a.place };
-
-    ghost invariant = { λ a. a.place < length a.writes };
+    ghost invariant = { λ a. IsSource a.source };
 }
 
 impl SharedWrite {
@@ -35,28 +43,33 @@ impl SharedWrite {
         requires { place < length writes }
         ensures { result ≡ write_at writes place }
     {
-        SharedWrite { writes, place }
+        SharedWrite {
+            source: Source::Listed { writes, place },
+        }
     }
 
-    /// A write that stands in no other list.
+    /// A write that stands in no list.
     ///
     /// # Errors
     ///
-    /// Refuses where there is no memory for a list.
+    /// Refuses where there is no memory for it.
     pub fn alone(alloc: Global, write: Write) -> Result<SharedWrite, AllocError>
         ensures { IfOk result (λ shared. shared ≡ write) }
     {
-        let mut writes = Vec::with_capacity(alloc, 1)?;
-        writes.push(write)?;
-        let writes = SharedSeq::from_vec(writes)?;
-        Ok(SharedWrite { writes, place: 0 })
+        let write = Shared::new(alloc, write)?;
+        Ok(SharedWrite {
+            source: Source::Alone(write),
+        })
     }
 
     /// The write.
     pub fn get(&self) -> &Write
         ensures { result.now ≡ self.now }
     {
-        &self.writes.as_slice()[self.place]
+        match &self.source {
+            Source::Listed { writes, place } => &writes.as_slice()[*place],
+            Source::Alone(write) => write.get(),
+        }
     }
 }
 
@@ -66,10 +79,17 @@ impl Clone for SharedWrite {
     ghost is_clone = { λ x y. y ≡ x };
 
     fn clone(&self) -> Result<Self, AllocError> {
-        Ok(SharedWrite {
-            writes: self.writes.clone()?,
-            place: self.place,
-        })
+        match &self.source {
+            Source::Listed { writes, place } => Ok(SharedWrite {
+                source: Source::Listed {
+                    writes: writes.clone()?,
+                    place: *place,
+                },
+            }),
+            Source::Alone(write) => Ok(SharedWrite {
+                source: Source::Alone(write.clone()?),
+            }),
+        }
     }
 }
 
