@@ -2,3 +2,4 @@ pub mod Memberships
 pub mod Counted
 pub mod Held
 pub mod Texts
+pub mod Joined

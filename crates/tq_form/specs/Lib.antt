@@ -1,3 +1,4 @@
+pub mod Listed
 pub mod Locking
 pub mod NodeAsks
 pub mod NodeReplies

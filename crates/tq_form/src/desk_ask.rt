@@ -3,21 +3,22 @@ ghost use Rattle.tq_value.specs.View.{view};
 ghost use Rattle.tq_members.specs.Format.{one};
 ghost use Rattle.tq_form.specs.Desks as spec;
 
-use crate::commits::{ops_at, votes_at};
+use crate::formed::{FromValue, shared_at};
 use std::alloc::Global;
 use tq_desk::DeskAsk;
 use tq_members::is_text;
 use tq_shape::Memory;
 use tq_value::{Value, number_at, text_at};
 
-/// The ask of the desk that the value is: `None` where it is none.
-pub(crate) fn desk_ask(alloc: Global, value: &Value<'_>) -> Result<Option<DeskAsk>, Memory>
-    ensures { IfOk result (λ ask. ask ≡ spec.desk_ask one (view value.now)) }
-{
-    let Some(kind) = text_at(value, "is") else {
-        return Ok(None);
-    };
-    Ok(desk_ask_by(alloc, kind, value)?)
+impl FromValue for DeskAsk {
+    ghost form = { spec.desk_ask one };
+
+    fn from_value(alloc: Global, value: &Value<'_>) -> Result<Option<DeskAsk>, Memory> {
+        let Some(kind) = text_at(value, "is") else {
+            return Ok(None);
+        };
+        desk_ask_by(alloc, kind, value)
+    }
 }
 
 fn desk_ask_by(alloc: Global, kind: &str, value: &Value<'_>) -> Result<Option<DeskAsk>, Memory>
@@ -27,7 +28,7 @@ fn desk_ask_by(alloc: Global, kind: &str, value: &Value<'_>) -> Result<Option<De
         return Ok(Some(DeskAsk::Begin));
     }
     if is_text(kind, "commit") {
-        return Ok(commit_ask(alloc, value)?);
+        return commit_ask(alloc, value);
     }
     if is_text(kind, "resolve") {
         return Ok(resolve(value));
@@ -41,10 +42,10 @@ fn commit_ask(alloc: Global, value: &Value<'_>) -> Result<Option<DeskAsk>, Memor
     let Some(txn) = number_at(value, "txn") else {
         return Ok(None);
     };
-    let Some(ops) = ops_at(alloc, value)? else {
+    let Some(ops) = shared_at(alloc, value, "ops")? else {
         return Ok(None);
     };
-    let Some(votes) = votes_at(alloc, value)? else {
+    let Some(votes) = shared_at(alloc, value, "votes")? else {
         return Ok(None);
     };
     Ok(Some(DeskAsk::Commit { txn, ops, votes }))

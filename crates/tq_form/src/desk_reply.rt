@@ -2,6 +2,7 @@ ghost use Rattle.std.specs.Prelude.{◌≡◌, IfOk};
 ghost use Rattle.tq_value.specs.View.{view};
 ghost use Rattle.tq_form.specs.Desks as spec;
 
+use crate::formed::FromValue;
 use crate::locking::verdict_at;
 use std::alloc::Global;
 use tq_desk::{DeskRefusal, DeskReply};
@@ -10,14 +11,15 @@ use tq_members::is_text;
 use tq_shape::Memory;
 use tq_value::{Value, number_at, text_at};
 
-/// The reply of the desk that the value is: `None` where it is none.
-pub(crate) fn desk_reply(alloc: Global, value: &Value<'_>) -> Result<Option<DeskReply>, Memory>
-    ensures { IfOk result (λ reply. reply ≡ spec.desk_reply (view value.now)) }
-{
-    let Some(kind) = text_at(value, "is") else {
-        return Ok(None);
-    };
-    Ok(desk_reply_by(alloc, kind, value)?)
+impl FromValue for DeskReply {
+    ghost form = { spec.desk_reply };
+
+    fn from_value(alloc: Global, value: &Value<'_>) -> Result<Option<DeskReply>, Memory> {
+        let Some(kind) = text_at(value, "is") else {
+            return Ok(None);
+        };
+        desk_reply_by(alloc, kind, value)
+    }
 }
 
 fn desk_reply_by(alloc: Global, kind: &str, value: &Value<'_>) -> Result<Option<DeskReply>, Memory>
@@ -30,10 +32,10 @@ fn desk_reply_by(alloc: Global, kind: &str, value: &Value<'_>) -> Result<Option<
         return Ok(committed(value));
     }
     if is_text(kind, "verdict") {
-        return Ok(told(alloc, value)?);
+        return told(alloc, value);
     }
     if is_text(kind, "refused") {
-        return Ok(refused(alloc, value)?);
+        return refused(alloc, value);
     }
     Ok(None)
 }
@@ -76,7 +78,7 @@ fn refusal(alloc: Global, value: &Value<'_>) -> Result<Option<DeskRefusal>, Memo
     let Some(code) = number_at(value, "code") else {
         return Ok(None);
     };
-    Ok(refusal_by(alloc, code, value)?)
+    refusal_by(alloc, code, value)
 }
 
 fn refusal_by(alloc: Global, code: u64, value: &Value<'_>) -> Result<Option<DeskRefusal>, Memory>
@@ -86,7 +88,7 @@ fn refusal_by(alloc: Global, code: u64, value: &Value<'_>) -> Result<Option<Desk
         return Ok(Some(DeskRefusal::NoSuchTxn));
     }
     if code == 22 {
-        return Ok(decided(alloc, value)?);
+        return decided(alloc, value);
     }
     if code == 23 {
         return Ok(bad_evidence(value));

@@ -1,57 +1,33 @@
-ghost use Rattle.std.specs.Prelude.{◌≡◌, IfOk, map};
-ghost use Rattle.std.specs.Option.{option_map};
-ghost use Rattle.tq_value.specs.View.{view, items_view};
-ghost use Rattle.tq_members.specs.Format.{one};
-ghost use Rattle.tq_members.specs.Member.{each};
+ghost use Rattle.std.specs.Prelude.{◌≡◌, IfOk};
+ghost use Rattle.tq_value.specs.View.{view};
 ghost use Rattle.tq_form.specs.Entries as spec;
 
-use crate::desk_ask::desk_ask;
-use crate::desk_reply::desk_reply;
-use crate::node_ask::node_ask;
-use crate::node_reply::node_reply;
+use crate::formed::FromValue;
 use crate::view_ask::view_ask;
 use crate::view_reply::view_reply;
 use std::alloc::Global;
 use tq_shape::{Entry, Levels, Memory};
-use tq_tables::{DeskEntry, NodeEntry, ViewEntry};
+use tq_tables::ViewEntry;
 use tq_value::{Value, get};
 
-/// The entry of a server's journal that the value is: `None` where it is none.
-pub(crate) fn node_entry(alloc: Global, value: &Value<'_>) -> Result<Option<NodeEntry>, Memory>
-    ensures { IfOk result (λ entry. entry ≡ spec.node_entry one (view value.now)) }
-{
-    let Some(asked) = get(value, "ask") else {
-        return Ok(None);
-    };
-    let Some(ask) = node_ask(alloc, asked)? else {
-        return Ok(None);
-    };
-    let Some(replied) = get(value, "reply") else {
-        return Ok(None);
-    };
-    let Some(reply) = node_reply(alloc, replied)? else {
-        return Ok(None);
-    };
-    Ok(Some(Entry { ask, reply }))
-}
+impl<A: FromValue, R: FromValue> FromValue for Entry<A, R> {
+    ghost form = { spec.entry A.form R.form };
 
-/// The entry of the desk's journal that the value is: `None` where it is none.
-pub(crate) fn desk_entry(alloc: Global, value: &Value<'_>) -> Result<Option<DeskEntry>, Memory>
-    ensures { IfOk result (λ entry. entry ≡ spec.desk_entry one (view value.now)) }
-{
-    let Some(asked) = get(value, "ask") else {
-        return Ok(None);
-    };
-    let Some(ask) = desk_ask(alloc, asked)? else {
-        return Ok(None);
-    };
-    let Some(replied) = get(value, "reply") else {
-        return Ok(None);
-    };
-    let Some(reply) = desk_reply(alloc, replied)? else {
-        return Ok(None);
-    };
-    Ok(Some(Entry { ask, reply }))
+    fn from_value(alloc: Global, value: &Value<'_>) -> Result<Option<Entry<A, R>>, Memory> {
+        let Some(asked) = get(value, "ask") else {
+            return Ok(None);
+        };
+        let Some(replied) = get(value, "reply") else {
+            return Ok(None);
+        };
+        let Some(ask) = A::from_value(alloc, asked)? else {
+            return Ok(None);
+        };
+        let Some(reply) = R::from_value(alloc, replied)? else {
+            return Ok(None);
+        };
+        Ok(Some(Entry { ask, reply }))
+    }
 }
 
 /// The entry of the view's journal that the value is, in a tree of so many levels: `None` where it is none.

@@ -4,7 +4,7 @@ ghost use Rattle.tq_value.specs.View.{view, items_view};
 ghost use Rattle.tq_members.specs.Format.{one};
 ghost use Rattle.tq_form.specs.Frame as spec;
 
-use crate::journals::{desk_journal, node_journals, view_journal};
+use crate::journals::{journal, journals, view_journal};
 use std::alloc::Global;
 use tq_shape::{Levels, Limits, MOST_ENTRIES, MOST_FILES, MOST_LEVELS, MOST_OPS, Memory};
 use tq_tables::{DeskEntry, Journals, NodeEntry, ViewEntry};
@@ -76,7 +76,7 @@ fn servers_at(
     let Some(values) = server_lists_at(levels, value) else {
         return Ok(None);
     };
-    Ok(node_journals(alloc, limit, values)?)
+    journals(alloc, limit, values)
 }
 
 fn desk_at(alloc: Global, limit: u32, value: &Value<'_>) -> Result<Option<Vec<DeskEntry>>, Memory>
@@ -85,7 +85,7 @@ fn desk_at(alloc: Global, limit: u32, value: &Value<'_>) -> Result<Option<Vec<De
     let Some(inner) = get(value, "desk") else {
         return Ok(None);
     };
-    Ok(desk_journal(alloc, limit, inner)?)
+    journal(alloc, limit, inner)
 }
 
 fn view_at(
@@ -99,7 +99,7 @@ fn view_at(
     let Some(inner) = get(value, "view") else {
         return Ok(None);
     };
-    Ok(view_journal(alloc, levels, limit, inner)?)
+    view_journal(alloc, levels, limit, inner)
 }
 
 /// The journals that the value is in format 1, whatever number it gives for its format.
@@ -132,14 +132,14 @@ pub(crate) fn journals_of(alloc: Global, value: &Value<'_>) -> Result<Option<Jou
     let Some(number) = number_at(value, "format") else {
         return Ok(None);
     };
-    Ok(journals_by(alloc, number, value)?)
+    journals_by(alloc, number, value)
 }
 
 fn journals_by(alloc: Global, number: u64, value: &Value<'_>) -> Result<Option<Journals>, Memory>
     ensures { IfOk result (λ journals. journals ≡ spec.journals_by number (view value.now)) }
 {
     if number == 1 {
-        return Ok(journals_in_one(alloc, value)?);
+        return journals_in_one(alloc, value);
     }
     Ok(None)
 }

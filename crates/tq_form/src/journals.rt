@@ -1,14 +1,14 @@
 ghost use Rattle.std.specs.Prelude.{◌≡◌, IfOk, map};
 ghost use Rattle.std.specs.Option.{option_map};
 ghost use Rattle.tq_value.specs.View.{view, items_view};
-ghost use Rattle.tq_members.specs.Format.{one};
 ghost use Rattle.tq_members.specs.Member.{each};
 ghost use Rattle.tq_form.specs.Entries as spec;
 
-use crate::entries::{desk_entry, node_entry, view_entry};
+use crate::entries::view_entry;
+use crate::formed::{FromValue, each_of};
 use std::alloc::Global;
 use tq_shape::{Levels, Memory};
-use tq_tables::{DeskEntry, NodeEntry, ViewEntry};
+use tq_tables::ViewEntry;
 use tq_value::{Value, items_of};
 
 /// The values of a list: `None` where the value is no list, or has more values than the limit.
@@ -28,17 +28,17 @@ fn few<'t, 'a>(limit: u32, values: &'t [Value<'a>]) -> Option<&'t [Value<'a>]>
     Some(values)
 }
 
-/// The journals of servers that the values are: `None` where one is none, or has more entries than the limit.
-pub(crate) fn node_journals(
+/// The journals that the values are: `None` where one is none, or has more entries than the limit.
+pub(crate) fn journals<T: FromValue>(
     alloc: Global,
     limit: u32,
     values: &[Value<'_>],
-) -> Result<Option<Vec<Vec<NodeEntry>>>, Memory>
-    ensures { IfOk result (λ answer. option_map (λ v. map (λ journal. journal.items) v.items) answer ≡ each (spec.journal (spec.node_entry one) limit) (items_view values.now)) }
+) -> Result<Option<Vec<Vec<T>>>, Memory>
+    ensures { IfOk result (λ answer. option_map (λ v. map (λ journal. journal.items) v.items) answer ≡ each (spec.journal T.form limit) (items_view values.now)) }
 {
     let mut journals = Vec::new(alloc);
     for value in values {
-        let Some(journal) = node_journal(alloc, limit, value)? else {
+        let Some(journal) = journal(alloc, limit, value)? else {
             return Ok(None);
         };
         journals.push(journal)?;
@@ -46,57 +46,18 @@ pub(crate) fn node_journals(
     Ok(Some(journals))
 }
 
-fn node_journal(
+/// The journal that the value is: `None` where it is none, or has more entries than the limit.
+pub(crate) fn journal<T: FromValue>(
     alloc: Global,
     limit: u32,
     value: &Value<'_>,
-) -> Result<Option<Vec<NodeEntry>>, Memory>
-    ensures { IfOk result (λ journal. option_map (λ v. v.items) journal ≡ spec.journal (spec.node_entry one) limit (view value.now)) }
+) -> Result<Option<Vec<T>>, Memory>
+    ensures { IfOk result (λ journal. option_map (λ v. v.items) journal ≡ spec.journal T.form limit (view value.now)) }
 {
     let Some(values) = within(limit, value) else {
         return Ok(None);
     };
-    Ok(node_entries(alloc, values)?)
-}
-
-fn node_entries(alloc: Global, values: &[Value<'_>]) -> Result<Option<Vec<NodeEntry>>, Memory>
-    ensures { IfOk result (λ journal. option_map (λ v. v.items) journal ≡ each (spec.node_entry one) (items_view values.now)) }
-{
-    let mut entries = Vec::new(alloc);
-    for value in values {
-        let Some(entry) = node_entry(alloc, value)? else {
-            return Ok(None);
-        };
-        entries.push(entry)?;
-    }
-    Ok(Some(entries))
-}
-
-/// The journal of the desk that the value is: `None` where it is none, or has more entries than the limit.
-pub(crate) fn desk_journal(
-    alloc: Global,
-    limit: u32,
-    value: &Value<'_>,
-) -> Result<Option<Vec<DeskEntry>>, Memory>
-    ensures { IfOk result (λ journal. option_map (λ v. v.items) journal ≡ spec.journal (spec.desk_entry one) limit (view value.now)) }
-{
-    let Some(values) = within(limit, value) else {
-        return Ok(None);
-    };
-    Ok(desk_entries(alloc, values)?)
-}
-
-fn desk_entries(alloc: Global, values: &[Value<'_>]) -> Result<Option<Vec<DeskEntry>>, Memory>
-    ensures { IfOk result (λ journal. option_map (λ v. v.items) journal ≡ each (spec.desk_entry one) (items_view values.now)) }
-{
-    let mut entries = Vec::new(alloc);
-    for value in values {
-        let Some(entry) = desk_entry(alloc, value)? else {
-            return Ok(None);
-        };
-        entries.push(entry)?;
-    }
-    Ok(Some(entries))
+    each_of(alloc, values)
 }
 
 /// The journal of the view that the value is, in a tree of so many levels: `None` where it is none, or has more
@@ -112,7 +73,7 @@ pub(crate) fn view_journal(
     let Some(values) = within(limit, value) else {
         return Ok(None);
     };
-    Ok(view_entries(alloc, levels, values)?)
+    view_entries(alloc, levels, values)
 }
 
 fn view_entries(

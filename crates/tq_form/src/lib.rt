@@ -6,6 +6,7 @@ mod desk_ask;
 mod desk_reply;
 mod entries;
 mod fault;
+mod formed;
 mod frame;
 mod journals;
 mod locking;

@@ -3,21 +3,23 @@ ghost use Rattle.tq_value.specs.View.{view};
 ghost use Rattle.tq_members.specs.Format.{one};
 ghost use Rattle.tq_form.specs.NodeAsks as spec;
 
-use crate::locking::{citation, mode_at, verdict_at, writes_at};
+use crate::formed::{FromValue, shared_at};
+use crate::locking::{citation, mode_at, verdict_at};
 use std::alloc::Global;
 use tq_asks::{CitedVote, NodeAsk, WorkAsk};
 use tq_members::{content_at, file_at, is_text};
 use tq_shape::{Memory, Shared};
 use tq_value::{Value, get, number_at, text_at};
 
-/// The ask of a server that the value is: `None` where it is none.
-pub(crate) fn node_ask(alloc: Global, value: &Value<'_>) -> Result<Option<NodeAsk>, Memory>
-    ensures { IfOk result (λ ask. ask ≡ spec.node_ask one (view value.now)) }
-{
-    let Some(kind) = text_at(value, "is") else {
-        return Ok(None);
-    };
-    Ok(node_ask_by(alloc, kind, value)?)
+impl FromValue for NodeAsk {
+    ghost form = { spec.node_ask one };
+
+    fn from_value(alloc: Global, value: &Value<'_>) -> Result<Option<NodeAsk>, Memory> {
+        let Some(kind) = text_at(value, "is") else {
+            return Ok(None);
+        };
+        node_ask_by(alloc, kind, value)
+    }
 }
 
 fn node_ask_by(alloc: Global, kind: &str, value: &Value<'_>) -> Result<Option<NodeAsk>, Memory>
@@ -30,9 +32,9 @@ fn node_ask_by(alloc: Global, kind: &str, value: &Value<'_>) -> Result<Option<No
         return Ok(Some(NodeAsk::Return));
     }
     if is_text(kind, "crashin") {
-        return Ok(stop(alloc, value)?);
+        return stop(alloc, value);
     }
-    Ok(work(alloc, kind, value)?)
+    work(alloc, kind, value)
 }
 
 /// A stop: in which work, and behind how many of its records.
@@ -71,7 +73,7 @@ fn work_at(alloc: Global, value: &Value<'_>) -> Result<Option<WorkAsk>, Memory>
     let Some(kind) = text_at(value, "is") else {
         return Ok(None);
     };
-    Ok(work_by(alloc, kind, value)?)
+    work_by(alloc, kind, value)
 }
 
 fn work(alloc: Global, kind: &str, value: &Value<'_>) -> Result<Option<NodeAsk>, Memory>
@@ -91,10 +93,10 @@ fn work_by(alloc: Global, kind: &str, value: &Value<'_>) -> Result<Option<WorkAs
         return Ok(lock(value));
     }
     if is_text(kind, "prepare") {
-        return Ok(prepare(alloc, value)?);
+        return prepare(alloc, value);
     }
     if is_text(kind, "decide") {
-        return Ok(decide(alloc, value)?);
+        return decide(alloc, value);
     }
     if is_text(kind, "release") {
         return Ok(release(value));
@@ -103,7 +105,7 @@ fn work_by(alloc: Global, kind: &str, value: &Value<'_>) -> Result<Option<WorkAs
         return Ok(peek(value));
     }
     if is_text(kind, "refresh") {
-        return Ok(refresh(alloc, value)?);
+        return refresh(alloc, value);
     }
     Ok(None)
 }
@@ -123,7 +125,7 @@ fn prepare(alloc: Global, value: &Value<'_>) -> Result<Option<WorkAsk>, Memory>
     let Some(txn) = number_at(value, "txn") else {
         return Ok(None);
     };
-    let Some(writes) = writes_at(alloc, value)? else {
+    let Some(writes) = shared_at(alloc, value, "writes")? else {
         return Ok(None);
     };
     Ok(Some(WorkAsk::Prepare { txn, writes }))

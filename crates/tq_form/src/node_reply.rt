@@ -3,34 +3,35 @@ ghost use Rattle.tq_value.specs.View.{view};
 ghost use Rattle.tq_members.specs.Format.{one};
 ghost use Rattle.tq_form.specs.NodeReplies as spec;
 
-use crate::locking::{held_at, writes_at};
+use crate::formed::{FromValue, shared_at};
 use std::alloc::Global;
 use tq_asks::{NodeRefusal, NodeReply};
 use tq_members::{content_at, file_at, is_text};
 use tq_shape::Memory;
 use tq_value::{Value, number_at, text_at};
 
-/// The reply of a server that the value is: `None` where it is none.
-pub(crate) fn node_reply(alloc: Global, value: &Value<'_>) -> Result<Option<NodeReply>, Memory>
-    ensures { IfOk result (λ reply. reply ≡ spec.node_reply one (view value.now)) }
-{
-    let Some(kind) = text_at(value, "is") else {
-        return Ok(None);
-    };
-    Ok(node_reply_by(alloc, kind, value)?)
+impl FromValue for NodeReply {
+    ghost form = { spec.node_reply one };
+
+    fn from_value(alloc: Global, value: &Value<'_>) -> Result<Option<NodeReply>, Memory> {
+        let Some(kind) = text_at(value, "is") else {
+            return Ok(None);
+        };
+        node_reply_by(alloc, kind, value)
+    }
 }
 
 fn node_reply_by(alloc: Global, kind: &str, value: &Value<'_>) -> Result<Option<NodeReply>, Memory>
     ensures { IfOk result (λ reply. reply ≡ spec.node_reply_by one kind.now (view value.now)) }
 {
     if is_text(kind, "granted") {
-        return Ok(granted(alloc, value)?);
+        return granted(alloc, value);
     }
     if is_text(kind, "yes") {
-        return Ok(yes_vote(alloc, value)?);
+        return yes_vote(alloc, value);
     }
     if is_text(kind, "copy") {
-        return Ok(copy(alloc, value)?);
+        return copy(alloc, value);
     }
     if is_text(kind, "refused") {
         return Ok(refused(value));
@@ -90,10 +91,10 @@ fn copy(alloc: Global, value: &Value<'_>) -> Result<Option<NodeReply>, Memory>
 fn yes_vote(alloc: Global, value: &Value<'_>) -> Result<Option<NodeReply>, Memory>
     ensures { IfOk result (λ reply. reply ≡ spec.yes_vote one (view value.now)) }
 {
-    let Some(held) = held_at(alloc, value)? else {
+    let Some(held) = shared_at(alloc, value, "held")? else {
         return Ok(None);
     };
-    let Some(writes) = writes_at(alloc, value)? else {
+    let Some(writes) = shared_at(alloc, value, "writes")? else {
         return Ok(None);
     };
     Ok(Some(NodeReply::Yes { held, writes }))

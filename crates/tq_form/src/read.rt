@@ -1,9 +1,11 @@
-ghost use Rattle.tq_form.specs.Faults.{Answers};
+ghost use Rattle.std.specs.Prelude.{◌≡◌};
+ghost use Rattle.tq_form.specs.Faults.{Answers, told_of};
 ghost use Rattle.tq_form.specs.Frame as spec;
 
 use crate::fault::ReadFault;
 use crate::frame::journals_of;
 use std::alloc::Global;
+use tq_shape::Memory;
 use tq_tables::Journals;
 use tq_value::{NotRead, Scratch};
 
@@ -18,7 +20,15 @@ pub fn journals_from_json(alloc: Global, text: &[u8]) -> Result<Journals, ReadFa
         Err(NotRead::Memory) => return Err(ReadFault::Memory),
         Err(NotRead::NotJson) => return Err(ReadFault::NotJson),
     };
-    match journals_of(alloc, &value) {
+    let answer = journals_of(alloc, &value);
+    told(answer)
+}
+
+/// What is answered of a text that is JSON.
+fn told(answer: Result<Option<Journals>, Memory>) -> Result<Journals, ReadFault>
+    ensures { result ≡ told_of answer }
+{
+    match answer {
         Ok(Some(journals)) => Ok(journals),
         Ok(None) => Err(ReadFault::NotJournals),
         Err(_) => Err(ReadFault::Memory),

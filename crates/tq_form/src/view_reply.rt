@@ -21,7 +21,7 @@ pub(crate) fn view_reply(
     let Some(kind) = text_at(value, "is") else {
         return Ok(None);
     };
-    Ok(view_reply_by(alloc, levels, kind, value)?)
+    view_reply_by(alloc, levels, kind, value)
 }
 
 fn view_reply_by(
@@ -39,10 +39,10 @@ fn view_reply_by(
         return Ok(Some(ViewReply::Marked));
     }
     if is_text(kind, "chosen") {
-        return Ok(chosen(alloc, levels, value)?);
+        return chosen(alloc, levels, value);
     }
     if is_text(kind, "refused") {
-        return Ok(refused(alloc, levels, value)?);
+        return refused(alloc, levels, value);
     }
     Ok(None)
 }
@@ -72,7 +72,7 @@ fn refused(alloc: Global, levels: Levels, value: &Value<'_>) -> Result<Option<Vi
         return Ok(Some(ViewReply::Refused(ViewRefusal::BadCost)));
     }
     if code == 33 {
-        return Ok(blocked(alloc, levels, value)?);
+        return blocked(alloc, levels, value);
     }
     Ok(None)
 }
@@ -92,7 +92,7 @@ fn servers_at(alloc: Global, value: &Value<'_>) -> Result<Option<Vec<u64>>, Memo
     let Some(values) = items_at(value, "servers") else {
         return Ok(None);
     };
-    Ok(numbers(alloc, values)?)
+    numbers(alloc, values)
 }
 
 fn quorum_at(alloc: Global, levels: Levels, value: &Value<'_>) -> Result<Option<Quorum>, Memory>
@@ -101,7 +101,7 @@ fn quorum_at(alloc: Global, levels: Levels, value: &Value<'_>) -> Result<Option<
     let Some(numbers) = servers_at(alloc, value)? else {
         return Ok(None);
     };
-    Ok(quorum_of(alloc, levels, numbers.as_slice())?)
+    quorum_of(alloc, levels, numbers.as_slice())
 }
 
 fn quorum_of(alloc: Global, levels: Levels, numbers: &[u64]) -> Result<Option<Quorum>, Memory>
@@ -116,7 +116,7 @@ fn blocker_at(alloc: Global, levels: Levels, value: &Value<'_>) -> Result<Option
     let Some(numbers) = servers_at(alloc, value)? else {
         return Ok(None);
     };
-    Ok(blocker_of(alloc, levels, numbers.as_slice())?)
+    blocker_of(alloc, levels, numbers.as_slice())
 }
 
 fn blocker_of(alloc: Global, levels: Levels, numbers: &[u64]) -> Result<Option<Blocker>, Memory>
