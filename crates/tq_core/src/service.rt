@@ -26,13 +26,25 @@ use tq_world::{Citation, item_at};
 /// All parts of a system, which the tables follow, and beside them a journal of each: its servers, its desk and its
 /// view. Each ask that a part answers is entered into the part's journal with the reply, and changes the rows of the
 /// tables that it is about.
-#[derive(Drop)]
 pub struct Service {
     limits: Limits,
     tables: Tables,
     servers: Vec<Vec<NodeEntry>>,
     desk: Vec<DeskEntry>,
     view: Vec<ViewEntry>,
+}
+
+// Written out, so that a crate above lets go of one by a call.
+impl Drop for Service {
+    fn drop(self) {
+        let Self {
+            limits: _,
+            tables: _,
+            servers: _,
+            desk: _,
+            view: _,
+        } = self;
+    }
 }
 
 impl Model for Service {

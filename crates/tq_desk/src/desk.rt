@@ -20,7 +20,6 @@ use tq_shape::{Levels, Limits, Memory, Seq};
 use tq_store::FileName;
 
 /// The desk: it begins transactions and keeps how each ended.
-#[derive(Drop)]
 pub struct Desk {
     levels: Levels,
     limits: Limits,
@@ -28,6 +27,20 @@ pub struct Desk {
     finals: Finals,
     commits: u64,
     files: WrittenFiles,
+}
+
+// Written out, so that a crate above lets go of one by a call.
+impl Drop for Desk {
+    fn drop(self) {
+        let Self {
+            levels: _,
+            limits: _,
+            begun: _,
+            finals: _,
+            commits: _,
+            files: _,
+        } = self;
+    }
 }
 
 impl Model for Desk {

@@ -3,7 +3,7 @@ use tq_shape::ExactClone;
 use tq_store::Content;
 
 /// A lock as a server granted it, with the copy that it answered.
-#[derive(Drop, Clone, PartialEq)]
+#[derive(Clone, PartialEq)]
 pub struct Grant {
     pub server: u64,
     /// The number of the server's entry that granted the lock.
@@ -11,6 +11,19 @@ pub struct Grant {
     pub mode: Mode,
     pub version: u64,
     pub content: Content,
+}
+
+// Written out, so that a crate above lets go of one by a call.
+impl Drop for Grant {
+    fn drop(self) {
+        let Self {
+            server: _,
+            number: _,
+            mode: _,
+            version: _,
+            content: _,
+        } = self;
+    }
 }
 
 impl ExactClone for Grant {

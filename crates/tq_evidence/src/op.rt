@@ -13,7 +13,7 @@ pub enum OpKind {
 }
 
 /// A read or a write, with the grants that it rests on. Its servers are those of its grants.
-#[derive(Drop, Clone, PartialEq)]
+#[derive(Clone, PartialEq)]
 pub struct Op {
     pub file: FileName,
     pub kind: OpKind,
@@ -22,6 +22,19 @@ pub struct Op {
     /// The content read, or that which is written.
     pub content: Content,
     pub grants: SharedSeq<Grant>,
+}
+
+// Written out, so that a crate above lets go of one by a call.
+impl Drop for Op {
+    fn drop(self) {
+        let Self {
+            file: _,
+            kind: _,
+            version: _,
+            content: _,
+            grants: _,
+        } = self;
+    }
 }
 
 impl Op {

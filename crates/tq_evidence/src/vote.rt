@@ -7,7 +7,7 @@ use tq_shape::{ExactClone, SharedSeq};
 use tq_store::{FileName, Write};
 
 /// A server's vote, as it was answered.
-#[derive(Drop, Clone, PartialEq)]
+#[derive(Clone, PartialEq)]
 pub struct Vote {
     pub server: u64,
     /// The number of the server's entry that gave the vote.
@@ -16,6 +16,18 @@ pub struct Vote {
     pub held: SharedSeq<HeldLock>,
     /// The writes that it asked that server to make.
     pub writes: SharedSeq<Write>,
+}
+
+// Written out, so that a crate above lets go of one by a call.
+impl Drop for Vote {
+    fn drop(self) {
+        let Self {
+            server: _,
+            number: _,
+            held: _,
+            writes: _,
+        } = self;
+    }
 }
 
 impl Vote {

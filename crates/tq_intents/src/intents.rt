@@ -23,10 +23,19 @@ use tq_shape::{Seq, SharedSeq};
 use tq_store::{Copies, Write};
 
 /// The stable records of a server, and an index of the open votes that they stand for.
-#[derive(Drop)]
 pub struct Intents {
     records: Vec<Record>,
     open_votes: BTreeMap<u64, OpenVote>,
+}
+
+// Written out, so that a crate above lets go of one by a call.
+impl Drop for Intents {
+    fn drop(self) {
+        let Self {
+            records: _,
+            open_votes: _,
+        } = self;
+    }
 }
 
 impl Model for Intents {

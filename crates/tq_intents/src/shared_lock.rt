@@ -9,11 +9,21 @@ use tq_shape::{ExactClone, SharedSeq};
 
 /// A lock that stands in a list: it cites the list, which others share, and its place there, and has the version of its
 /// file's copy when it was granted. Contracts see the lock alone, as a vote keeps it.
-#[derive(Drop)]
 pub struct SharedLock {
     held: SharedSeq<HeldLock>,
     place: usize,
     version: u64,
+}
+
+// Written out, so that a crate above lets go of one by a call.
+impl Drop for SharedLock {
+    fn drop(self) {
+        let Self {
+            held: _,
+            place: _,
+            version: _,
+        } = self;
+    }
 }
 
 impl Model for SharedLock {

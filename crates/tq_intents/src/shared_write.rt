@@ -8,9 +8,15 @@ use tq_store::Write;
 
 /// A write that others share: it stands in a list, and its place there is cited, or it stands alone. Contracts see the write
 /// alone.
-#[derive(Drop)]
 pub struct SharedWrite {
     source: Source,
+}
+
+// Written out, so that a crate above lets go of one by a call.
+impl Drop for SharedWrite {
+    fn drop(self) {
+        let Self { source: _ } = self;
+    }
 }
 
 /// Where a write stands.

@@ -9,11 +9,20 @@ use tq_shape::{ExactClone, Seq, SharedSeq};
 
 /// The locks that a vote keeps: the list of them that its reply shares, and the versions of their files' copies. Contracts
 /// see the locks alone.
-#[derive(Drop)]
 pub struct VoteLocks {
     held: SharedSeq<HeldLock>,
     /// One for each lock: the version of its file's copy when it was granted.
     versions: Seq<u64>,
+}
+
+// Written out, so that a crate above lets go of one by a call.
+impl Drop for VoteLocks {
+    fn drop(self) {
+        let Self {
+            held: _,
+            versions: _,
+        } = self;
+    }
 }
 
 impl Model for VoteLocks {

@@ -16,10 +16,16 @@ use tq_coterie::{Blocker, Quorum, ServerIds};
 use tq_shape::{Levels, Memory, Seq, ServerId};
 
 /// The costs and marks of the servers of a tree.
-#[derive(Drop)]
 pub struct LiveTree {
     levels: Levels,
     root: Node,
+}
+
+// Written out, so that a crate above lets go of one by a call.
+impl Drop for LiveTree {
+    fn drop(self) {
+        let Self { levels: _, root: _ } = self;
+    }
 }
 
 impl Model for LiveTree {

@@ -65,12 +65,22 @@ impl ExactClone for ViewReply {
 }
 
 /// The costs and marks of the servers of a tree, by asks and replies.
-#[derive(Drop)]
 pub struct View {
     levels: Levels,
     tree: LiveTree,
     /// The quorum that was chosen last: the next choice of the same one shares its list. Contracts do not see it.
     kept: Option<Quorum>,
+}
+
+// Written out, so that a crate above lets go of one by a call.
+impl Drop for View {
+    fn drop(self) {
+        let Self {
+            levels: _,
+            tree: _,
+            kept: _,
+        } = self;
+    }
 }
 
 impl Model for View {

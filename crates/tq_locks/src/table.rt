@@ -52,9 +52,15 @@ impl Model for LockEntry {
 }
 
 /// The locks at a server. Each is under a key, which stays while the lock does.
-#[derive(Drop)]
 pub struct LockTable {
     kept: KeyedLocks,
+}
+
+// Written out, so that a crate above lets go of one by a call.
+impl Drop for LockTable {
+    fn drop(self) {
+        let Self { kept: _ } = self;
+    }
 }
 
 impl Model for LockTable {

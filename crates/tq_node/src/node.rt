@@ -26,7 +26,6 @@ use tq_shape::{Levels, Memory, Seq, ServerId, SharedSeq};
 use tq_store::{Content, Copies, FileName, Write};
 
 /// A server: its copies, locks and open votes, the stable records that keep them, and whether it is down.
-#[derive(Drop)]
 pub struct Node {
     server: ServerId,
     copies: Copies,
@@ -34,6 +33,20 @@ pub struct Node {
     intents: Intents,
     down: bool,
     last: u64,
+}
+
+// Written out, so that a crate above lets go of one by a call.
+impl Drop for Node {
+    fn drop(self) {
+        let Self {
+            server: _,
+            copies: _,
+            locks: _,
+            intents: _,
+            down: _,
+            last: _,
+        } = self;
+    }
 }
 
 impl Model for Node {

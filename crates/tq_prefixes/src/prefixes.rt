@@ -16,13 +16,25 @@ use tq_tables::{DeskEntry, NodeEntry, Parts, Tables, ViewEntry, replay_nodes};
 
 /// What was pulled of the journals of a system: of each part the first entries, and the tables over them, which alone
 /// keep how the parts stand. Contracts see it as these entries; the journals that have them alone are legal.
-#[derive(Drop)]
 pub struct Prefixes {
     limits: Limits,
     tables: Tables,
     servers: Vec<Vec<NodeEntry>>,
     desk: Vec<DeskEntry>,
     view: Vec<ViewEntry>,
+}
+
+// Written out, so that a crate above lets go of one by a call.
+impl Drop for Prefixes {
+    fn drop(self) {
+        let Self {
+            limits: _,
+            tables: _,
+            servers: _,
+            desk: _,
+            view: _,
+        } = self;
+    }
 }
 
 impl Model for Prefixes {

@@ -11,9 +11,16 @@ pub trait ExactClone: Clone {
 }
 
 /// A list of values. Contracts see it as the list alone, so that equal lists are equal values.
-#[derive(Debug, Drop)]
+#[derive(Debug)]
 pub struct Seq<T> {
     items: Vec<T>,
+}
+
+// Written out, so that a crate above lets go of one by a call.
+impl<T: Drop> Drop for Seq<T> {
+    fn drop(self) {
+        let Self { items: _ } = self;
+    }
 }
 
 impl<T> Model for Seq<T> {
@@ -39,7 +46,8 @@ impl<T> Seq<T> {
     pub fn into_vec(self) -> Vec<T>
         ensures { result.items ≡ self }
     {
-        self.items
+        let Self { items } = self;
+        items
     }
 
     /// The values, in order.

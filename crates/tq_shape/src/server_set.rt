@@ -9,11 +9,21 @@ use std::marker::Model;
 /// A set of servers of one tree, walked upwards.
 ///
 /// Contracts see it as the levels of the tree and the ascending list of its servers' numbers.
-#[derive(Debug, Drop)]
+#[derive(Debug)]
 pub struct ServerSet {
     levels: Levels,
     /// For each server upwards from server 1, whether it is in the set.
     marks: Vec<bool>,
+}
+
+// Written out, so that a crate above lets go of one by a call.
+impl Drop for ServerSet {
+    fn drop(self) {
+        let Self {
+            levels: _,
+            marks: _,
+        } = self;
+    }
 }
 
 impl Model for ServerSet {

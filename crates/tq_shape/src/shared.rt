@@ -7,9 +7,15 @@ use std::sync::Arc;
 
 /// A value on the heap that its clones share: what holds it stays small, and a clone is a count, not a copy. Contracts see
 /// the value alone.
-#[derive(Drop)]
 pub struct Shared<T> {
     value: Arc<T>,
+}
+
+// Written out, so that a crate above lets go of one by a call.
+impl<T: Drop> Drop for Shared<T> {
+    fn drop(self) {
+        let Self { value: _ } = self;
+    }
 }
 
 impl<T> Model for Shared<T> {

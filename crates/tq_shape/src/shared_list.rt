@@ -7,10 +7,16 @@ use std::sync::ArcSlice;
 
 /// A list of values that its clones share: a clone is a count, not a copy. Contracts see it as the list alone, as they
 /// see a `Seq`.
-#[derive(Drop)]
 pub struct SharedSeq<T> {
     /// None where there is no value.
     items: Option<ArcSlice<T>>,
+}
+
+// Written out, so that a crate above lets go of one by a call.
+impl<T: Drop> Drop for SharedSeq<T> {
+    fn drop(self) {
+        let Self { items: _ } = self;
+    }
 }
 
 impl<T> Model for SharedSeq<T> {

@@ -14,13 +14,25 @@ use tq_desk::{DeskAsk, DeskRefusal, DeskReply, Vote};
 use tq_shape::{Levels, Memory, Seq, ServerId, Shared};
 
 /// A transaction that has ended.
-#[derive(Drop)]
 pub struct Ended {
     levels: Levels,
     txn: u64,
     verdict: Verdict,
     cite: u64,
     servers: Servers,
+}
+
+// Written out, so that a crate above lets go of one by a call.
+impl Drop for Ended {
+    fn drop(self) {
+        let Self {
+            levels: _,
+            txn: _,
+            verdict: _,
+            cite: _,
+            servers: _,
+        } = self;
+    }
 }
 
 impl Model for Ended {

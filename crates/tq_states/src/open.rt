@@ -24,7 +24,6 @@ use tq_shape::{ExactClone, Levels, Limits, Memory, ServerId, SharedSeq};
 use tq_store::{Content, FileCopy, FileName};
 
 /// A transaction that may read and write.
-#[derive(Drop)]
 pub struct Open {
     levels: Levels,
     limits: Limits,
@@ -32,6 +31,20 @@ pub struct Open {
     ops: Vec<Op>,
     voters: Servers,
     touched: Servers,
+}
+
+// Written out, so that a crate above lets go of one by a call.
+impl Drop for Open {
+    fn drop(self) {
+        let Self {
+            levels: _,
+            limits: _,
+            txn: _,
+            ops: _,
+            voters: _,
+            touched: _,
+        } = self;
+    }
 }
 
 impl Model for Open {

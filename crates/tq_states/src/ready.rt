@@ -12,9 +12,15 @@ use tq_desk::DeskAsk;
 use tq_shape::Memory;
 
 /// A transaction with the votes of all its voters.
-#[derive(Drop)]
 pub struct Ready {
     voting: Voting,
+}
+
+// Written out, so that a crate above lets go of one by a call.
+impl Drop for Ready {
+    fn drop(self) {
+        let Self { voting: _ } = self;
+    }
 }
 
 impl Model for Ready {
@@ -48,7 +54,8 @@ impl Ready {
     pub fn into_voting(self) -> Voting
         ensures { result ≡ self }
     {
-        self.voting
+        let Self { voting } = self;
+        voting
     }
 
     /// The commit to ask the desk for: its evidence is good, and cites only what the transaction was told.

@@ -19,13 +19,23 @@ use tq_desk::{Op, Vote};
 use tq_shape::{Memory, ServerId, Shared, SharedSeq};
 
 /// A transaction that gathers votes.
-#[derive(Drop)]
 pub struct Voting {
     txn: Open,
     votes: Vec<Vote>,
     /// The ask of the vote that was taken last: the next server's, where it is the same, shares it. Contracts do not see
     /// it.
     asked: Option<NodeAsk>,
+}
+
+// Written out, so that a crate above lets go of one by a call.
+impl Drop for Voting {
+    fn drop(self) {
+        let Self {
+            txn: _,
+            votes: _,
+            asked: _,
+        } = self;
+    }
 }
 
 impl Model for Voting {

@@ -10,10 +10,16 @@ use tq_shape::ExactClone;
 pub const MAX_CONTENT: usize = 1000;
 
 /// What a file holds: up to `MAX_CONTENT` bytes, of any kind. Clones share the bytes: a clone is a count, not a copy.
-#[derive(Drop)]
 pub struct Content {
     /// None where there is no byte.
     bytes: Option<ArcSlice<u8>>,
+}
+
+// Written out, so that a crate above lets go of one by a call.
+impl Drop for Content {
+    fn drop(self) {
+        let Self { bytes: _ } = self;
+    }
 }
 
 impl Model for Content {

@@ -1,24 +1,43 @@
-ghost use Rattle.std.specs.Prelude.{◌≡◌, ◌+◌, ◌<◌, ◌≤◌, OnOk, IfOk, IsOk, length};
+ghost use Rattle.std.specs.Prelude.{◌≡◌, ◌+◌, ◌<◌, ◌≤◌, OnOk, IfOk, IsOk};
 ghost use Rattle.std.specs.FinMap as map;
 
-use crate::{Content, FileName, Write};
+use crate::{Content, FileName};
 use indexmap::IndexMap;
 use std::alloc::{AllocError, Global};
 use std::marker::Model;
-use tq_shape::{ExactClone, Seq};
+use tq_shape::ExactClone;
 
 /// A copy of a file: the version that was installed last, and its content.
-#[derive(Drop, Clone)]
+#[derive(Clone)]
 pub struct FileCopy {
     pub version: u64,
     pub content: Content,
 }
 
+// Written out, so that a crate above lets go of one by a call.
+impl Drop for FileCopy {
+    fn drop(self) {
+        let Self {
+            version: _,
+            content: _,
+        } = self;
+    }
+}
+
 /// A server's copies, a map whose versions only rise.
-#[derive(Drop)]
 pub struct Copies {
     files: IndexMap<FileName, FileCopy>,
     never_written: FileCopy,
+}
+
+// Written out, so that a crate above lets go of one by a call.
+impl Drop for Copies {
+    fn drop(self) {
+        let Self {
+            files: _,
+            never_written: _,
+        } = self;
+    }
 }
 
 impl Model for Copies {
@@ -37,7 +56,7 @@ impl Model for Copies {
 }
 
 impl Copies {
-    ghost use Rattle.tq_store.specs.Copies.{Installs, OnlyRises, copy_of, installed, installed_all};
+    ghost use Rattle.tq_store.specs.Copies.{Installs, OnlyRises, copy_of, installed};
 
     /// No file was written.
     pub fn new(alloc: Global) -> Copies
@@ -96,18 +115,6 @@ impl Copies {
         let copy = FileCopy { version, content };
         if self.get(&name).version < copy.version {
             let _replaced = self.files.insert(name, copy).unwrap();
-        }
-    }
-
-    /// Installs writes, one after another, in the room that was made for them. It takes no memory.
-    pub fn install_all(&mut self, writes: Seq<Write>)
-        requires { length writes ≤ self.old.room }
-        ensures files { self.new.files ≡ installed_all self.old.files writes }
-        ensures rises { OnlyRises self.old.files self.new.files }
-        ensures room { self.old.room ≤ self.new.room + length writes }
-    {
-        for write in writes.into_vec() {
-            self.install(write.file, write.version, write.content);
         }
     }
 }

@@ -6,7 +6,6 @@ use tq_shape::{Memory, ServerSet};
 use tq_store::FileName;
 
 /// A file that a commit wrote.
-#[derive(Drop)]
 pub struct FileRow {
     pub file: FileName,
     /// How many commits wrote it.
@@ -15,6 +14,18 @@ pub struct FileRow {
     pub current: ServerSet,
     /// All other servers, also those that no commit asked.
     pub stale: ServerSet,
+}
+
+// Written out, so that a crate above lets go of one by a call.
+impl Drop for FileRow {
+    fn drop(self) {
+        let Self {
+            file: _,
+            version: _,
+            current: _,
+            stale: _,
+        } = self;
+    }
 }
 
 impl FileRow {

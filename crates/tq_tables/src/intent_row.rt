@@ -24,7 +24,6 @@ pub enum IntentState {
 }
 
 /// A vote that is open at a server.
-#[derive(Drop)]
 pub struct IntentRow {
     pub server: ServerId,
     pub txn: u64,
@@ -33,4 +32,17 @@ pub struct IntentRow {
     /// What it would install, ascending by file.
     pub writes: Seq<FileVersion>,
     pub state: IntentState,
+}
+
+// Written out, so that a crate above lets go of one by a call.
+impl Drop for IntentRow {
+    fn drop(self) {
+        let Self {
+            server: _,
+            txn: _,
+            number: _,
+            writes: _,
+            state: _,
+        } = self;
+    }
 }

@@ -18,11 +18,21 @@ use tq_node::{Node, Telling};
 use tq_shape::{Levels, Memory};
 
 /// All parts of a system: the servers of one tree, upwards from server 1, the desk and the view of that tree.
-#[derive(Drop)]
 pub struct Parts {
     nodes: Vec<Node>,
     desk: Desk,
     view: View,
+}
+
+// Written out, so that a crate above lets go of one by a call.
+impl Drop for Parts {
+    fn drop(self) {
+        let Self {
+            nodes: _,
+            desk: _,
+            view: _,
+        } = self;
+    }
 }
 
 impl Model for Parts {

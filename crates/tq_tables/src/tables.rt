@@ -31,10 +31,16 @@ use tq_shape::{Levels, Memory, Part};
 /// The rows of files are kept, and an ask changes only those of the files that it is about. The other rows are read
 /// off the parts, which keep them in order: the best of each subtree, the lock tables, and the open votes.
 // Both are boxed, so that what is moved or let go of is two words and not a dozen containers.
-#[derive(Drop)]
 pub struct Tables {
     parts: Box<Parts>,
     files: Box<FileTable>,
+}
+
+// Written out, so that a crate above lets go of one by a call.
+impl Drop for Tables {
+    fn drop(self) {
+        let Self { parts: _, files: _ } = self;
+    }
 }
 
 impl Model for Tables {

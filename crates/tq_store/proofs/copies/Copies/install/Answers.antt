@@ -5,7 +5,7 @@ use Rattle.tq_store.specs.declared.copies.FileCopy.{FileCopy}
 use Rattle.tq_store.proofs.Kept.{one_given, installed-greater}
 use Rattle.tq_store.proofs.Installed.{Installs-installed, rises-installed}
 use Rattle.tq_store.proofs.copies.Copies.install.Goals as goal
-use Rattle.tq_store.proofs.copies.Copies.install.Goals.{in-Some+in-Some-replaced-2, in-Some+in-None-1, in-None-1}
+use Rattle.tq_store.proofs.copies.Copies.install.Goals.{in-Some-1, in-None-1}
 
 pub returns-then-get-copy-clause-files : goal.returns-then-get-copy-clause-files
 returns-then-get-copy-clause-files c =
@@ -17,8 +17,7 @@ returns-then-get-copy-clause-files c =
     ∙ ap (λ v. map.insert v.files c.args.name copy) c.self.view_is
     ∙ installed-greater c.args.self.now.files c.args.name copy greater in
     elim c.match-replaced.branch [
-      | in-Some+in-Some-replaced-2 w ↦ ap (λ v. v.files) w.self-is ∙ put
-      | in-Some+in-None-1 w ↦ ap (λ v. v.files) w.self-is ∙ put
+      | in-Some-1 w ↦ ap (λ v. v.files) w.self-is ∙ put
       | in-None-1 w ↦ ap (λ v. v.files) w.self-is ∙ put
     ]
 
