@@ -1,2 +1,12 @@
-mod Answering
+mod Leading
+mod Recording
+mod Servers
+mod Answered
+mod Replies
+mod EndsIn
+mod EndsWell
+mod Fits
+mod Says
+mod Operating
+mod ShellLines
 mod Sayings

@@ -25,16 +25,16 @@ use Rattle.tq_txn.specs.States.{levels_of}
 use Rattle.tq_lines.specs.declared.line.Line.{Line}
 use Rattle.tq_lines.specs.declared.line.Line.TheVariants as of
 use Rattle.tq_lines.specs.declared.line.TxnLine.{TxnLine}
-use Rattle.tq_asking.specs.Asking.{run_line}
+use Rattle.tq_answering.specs.Asking.{run_line}
 use Rattle.tq_print.specs.Print.{printed, choice_text}
-use Rattle.tq_client.specs.declared.kept.Kept.{Kept}
-use Rattle.tq_client.specs.Known.{Known, with_kept}
-use Rattle.tq_client.specs.Possible.{Fails, IsFit}
-use Rattle.tq_client.specs.TxnAsked.{result_text, line_asked}
-use Rattle.tq_client.proofs.Replies.{IsDeskReply, IsViewReply}
-use Rattle.tq_client.proofs.EndsIn.{EndsIn, Answers, IsWell, Any, ends_so, ends_then, desk_ends, view_ends, any_ends}
-use Rattle.tq_client.proofs.Fits.{fit, fits_text}
-use Rattle.tq_client.proofs.Says.{Says, line_says}
+use Rattle.tq_answering.specs.declared.kept.Kept.{Kept}
+use Rattle.tq_answering.specs.Known.{Known, with_kept}
+use Rattle.tq_answering.specs.PossibleTxn.{Fails, IsFit}
+use Rattle.tq_answering.specs.TxnAsked.{result_text, line_asked}
+use Rattle.tq_answering.proofs.Replies.{IsDeskReply, IsViewReply}
+use Rattle.tq_answering.proofs.EndsIn.{EndsIn, Answers, IsWell, Any, ends_so, ends_then, desk_ends, view_ends, any_ends}
+use Rattle.tq_answering.proofs.Fits.{fit, fits_text}
+use Rattle.tq_answering.proofs.Says.{Says, line_says}
 use Rattle.tq_answering.specs.Asked.{LineAnswer, said, of_txn, ok_text, chosen_text, marked_text, cost_asked, mark_ask, mark_asked, choose_asked, begun, begin_end, begin_asked}
 use Rattle.tq_answering.specs.Answer.{World, answer}
 use Rattle.tq_answering.specs.Possible.{Saying, BadLine, BadCost, OffTree, NotBegun, CostSet, Marked, Chosen, Begun, OfTxn, saying_text, CanCome, IsSaid, IsSaidOf}

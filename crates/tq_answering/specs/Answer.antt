@@ -3,10 +3,10 @@ use Rattle.std.specs.Prelude.{ℕ, List}
 use Rattle.tq_tables.specs.Journals.{JournalsView}
 use Rattle.tq_world.specs.World.{empty_world}
 use Rattle.tq_txn.specs.declared.asker.Exchange.{Exchange}
-use Rattle.tq_asking.specs.Asking.{Ran, run_line}
+use Rattle.tq_answering.specs.Asking.{Ran, run_line}
 use Rattle.tq_answering.specs.Asked.{LineAnswer, asked}
-use Rattle.tq_asking.specs.Recorded.{full_limits}
-use Rattle.tq_client.specs.Known.{Known, nothing_known}
+use Rattle.tq_answering.specs.Recorded.{full_limits}
+use Rattle.tq_answering.specs.Known.{Known, nothing_known}
 use Rattle.tq_lines.specs.declared.line.Line.{Line}
 
 -- the journals of the service that is asked, and what is known of its transactions

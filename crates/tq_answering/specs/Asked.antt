@@ -17,14 +17,14 @@ use Rattle.tq_states.specs.declared.told.DeskTold.{DeskTold}
 use Rattle.tq_txn.specs.Dialogue as asks
 use Rattle.tq_txn.specs.Dialogue.{LineEnd, Ends, then_line, desk_line, view_line}
 use Rattle.tq_txn.specs.Lines as lines
-use Rattle.tq_client.specs.declared.kept.Kept.{Kept}
+use Rattle.tq_answering.specs.declared.kept.Kept.{Kept}
 use Rattle.tq_lines.specs.declared.line.Line.{Line}
 use Rattle.tq_lines.specs.declared.line.Line.TheVariants as is
-use Rattle.tq_operators.specs.Operators.{refresh_asked, board_of}
-use Rattle.tq_client.specs.Known.{Known, with_begun, with_kept}
+use Rattle.tq_answering.specs.Operators.{refresh_asked, board_of}
+use Rattle.tq_answering.specs.Known.{Known, with_begun, with_kept}
 use Rattle.tq_print.specs.Print.{printed, choice_text, mark_word}
 use Rattle.tq_print.specs.Refusals.{fault_text, desk_refusal_text}
-use Rattle.tq_client.specs.TxnAsked.{TxnAnswer, line_asked, result_text}
+use Rattle.tq_answering.specs.TxnAsked.{TxnAnswer, line_asked, result_text}
 
 -- what a line says, and what is known then
 pub record LineAnswer : Type 0 where

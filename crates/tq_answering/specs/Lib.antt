@@ -1,3 +1,10 @@
+pub mod Asking
+pub mod Recorded
+pub mod Known
+pub mod TxnAsked
+pub mod States
+pub mod PossibleTxn
+pub mod Operators
 pub mod Asked
 pub mod Answer
 pub mod Possible

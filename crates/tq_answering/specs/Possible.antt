@@ -4,7 +4,7 @@ use Rattle.std.specs.Fmt.{decimal}
 use Rattle.tq_lines.specs.declared.line.Line.{Line}
 use Rattle.tq_lines.specs.declared.line.Line.TheVariants as of
 use Rattle.tq_print.specs.Print.{printed, numbers_text, mark_word}
-use Rattle.tq_client.specs.Possible as client
+use Rattle.tq_answering.specs.PossibleTxn as client
 
 pub data Saying : Type 0 where
   BadLine : Saying

@@ -3,20 +3,21 @@ ghost use Rattle.tq_txn.specs.Dialogue.{line_result};
 ghost use Rattle.tq_txn.specs.States.{levels_of};
 ghost use Rattle.std.specs.Fmt.{decimal};
 ghost use Rattle.tq_answering.specs.Asked as asked;
-ghost use Rattle.tq_client.specs.Known as known;
-ghost use Rattle.tq_client.specs.TxnAsked as said;
+ghost use Rattle.tq_answering.specs.Known as known;
+ghost use Rattle.tq_answering.specs.TxnAsked as said;
 ghost use Rattle.tq_print.specs.Print.{printed, mark_word};
 
+use crate::answering::answer_txn;
+use crate::kept::Kept;
+use crate::operators::{refresh_all, say_board};
+use crate::recorder::Recorder;
 use std::alloc::Global;
 use std::marker::Model;
-use tq_asking::Recorder;
 use tq_asks::NodeAsk;
-use tq_client::{Kept, answer_txn};
 use tq_core::Service;
 use tq_desk::{DeskAsk, DeskReply};
 use tq_lines::{Line, TxnLine};
 use tq_live::{ViewAsk, is_cost};
-use tq_operators::{refresh_all, say_board};
 use tq_print::{push_desk_refusal, say_choice, say_fault, say_line, say_number};
 use tq_shape::{Levels, Limits, Memory, ServerId};
 use tq_txn::{AskFault, Asker, DeskTold, LineFault, Open, Txn, ViewTold, ask_any};
@@ -51,7 +52,7 @@ impl Shell {
     ghost use Rattle.tq_world.specs.World.{item_at};
     ghost use Rattle.tq_answering.specs.Answer.{opening, answer, answered};
     ghost use Rattle.tq_answering.specs.Possible.{IsSaidOf};
-    ghost use Rattle.tq_asking.specs.Asking.{run_line};
+    ghost use Rattle.tq_answering.specs.Asking.{run_line};
 
     /// Every server at cost 1 and up, nothing stored, and no transaction.
     pub fn new(alloc: Global, levels: Levels) -> Result<Shell, Memory>

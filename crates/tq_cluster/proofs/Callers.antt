@@ -8,7 +8,7 @@ use Rattle.tq_script.specs.declared.script.Line.{Line}
 use Rattle.tq_txn.specs.Dialogue.{Makes}
 use Rattle.tq_txn.specs.declared.asker.Exchange.{Exchange}
 use Rattle.tq_refresh.specs.declared.job.Job.{Job}
-use Rattle.tq_worker.specs.Mending.{refresh_asked, Grows}
+use Rattle.tq_refresh.specs.Mending.{refresh_asked, Grows}
 use Rattle.tq_cluster.specs.declared.workers.Message.{Message}
 use Rattle.tq_cluster.specs.declared.workers.Message.TheVariants as messages
 use Rattle.tq_cluster.specs.Told.{CallerView}

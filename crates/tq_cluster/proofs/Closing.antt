@@ -7,14 +7,14 @@ use Rattle.tq_tables.specs.Journals.{JournalsView}
 use Rattle.tq_tables.specs.Parts.{AreLegal}
 use Rattle.tq_tables.specs.Tables.{tables_of}
 use Rattle.tq_prefixes.specs.Astray.{AllBegin}
-use Rattle.tq_closing.specs.declared.fault.CloseFault.{CloseFault}
-use Rattle.tq_closing.specs.declared.fault.CloseFault.TheVariants as faults
-use Rattle.tq_closing.specs.Closed.{IsCloseFault}
+use Rattle.tq_merge.specs.declared.close_fault.CloseFault.{CloseFault}
+use Rattle.tq_merge.specs.declared.close_fault.CloseFault.TheVariants as faults
+use Rattle.tq_merge.specs.Closed.{IsCloseFault}
 use Rattle.tq_cluster.specs.Cluster.{ClusterView}
 use Rattle.tq_cluster.specs.Closes.{AreOfCluster, IsClosedBy, AreTablesOfPrefixes}
 use Rattle.std.proofs.Common.{sym}
 use Rattle.tq_merge.specs.Order.{IsStuck}
-use Rattle.tq_closing.specs.Kept.{AreKept}
+use Rattle.tq_merge.specs.Kept.{AreKept}
 
 pub closed_by : (cluster : ClusterView) (journals : JournalsView) (told : List (List Exchange)) (fault : CloseFault) → AreOfCluster cluster journals → IsCloseFault journals told fault → IsClosedBy cluster told fault
 closed_by cluster journals told faults.Memory of_cluster is = tt

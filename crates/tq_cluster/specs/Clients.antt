@@ -7,7 +7,7 @@ use Rattle.tq_script.specs.declared.script.Line.{Line}
 use Rattle.tq_script.specs.Script.{script_asked}
 use Rattle.tq_shape.specs.Limits.{LimitsView}
 use Rattle.tq_refresh.specs.declared.job.Job.{Job}
-use Rattle.tq_worker.specs.Mending.{refresh_asked}
+use Rattle.tq_refresh.specs.Mending.{refresh_asked}
 use Rattle.tq_cluster.specs.Told.{CallerView}
 
 -- the caller was told what the lines of the script ask, each as the answers before demand

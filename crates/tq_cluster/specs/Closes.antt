@@ -5,10 +5,10 @@ use Rattle.tq_tables.specs.Journals.{JournalsView}
 use Rattle.tq_tables.specs.Parts.{AreLegal}
 use Rattle.tq_tables.specs.Tables.{TablesView, tables_of}
 use Rattle.tq_merge.specs.Order.{IsStuck}
-use Rattle.tq_closing.specs.declared.fault.CloseFault.{CloseFault}
-use Rattle.tq_closing.specs.declared.fault.CloseFault.TheVariants as faults
-use Rattle.tq_closing.specs.Told.{entry_name, found_at}
-use Rattle.tq_closing.specs.Kept.{AreKept, IsBad}
+use Rattle.tq_merge.specs.declared.close_fault.CloseFault.{CloseFault}
+use Rattle.tq_merge.specs.declared.close_fault.CloseFault.TheVariants as faults
+use Rattle.tq_merge.specs.Told.{entry_name, found_at}
+use Rattle.tq_merge.specs.Kept.{AreKept, IsBad}
 use Rattle.tq_prefixes.specs.Astray.{AllBegin}
 use Rattle.tq_cluster.specs.Cluster.{ClusterView}
 

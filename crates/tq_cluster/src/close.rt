@@ -2,8 +2,8 @@ ghost use Rattle.std.specs.Prelude.{◌≡◌, map, IfOk, IfErr};
 ghost use Rattle.tq_world.specs.Steps.{run};
 ghost use Rattle.tq_world.specs.CommittedReads.{HasCommittedReads};
 ghost use Rattle.tq_merge.specs.Order.{Explains, asks_of};
-ghost use Rattle.tq_closing.specs.Kept.{AreKept};
-ghost use Rattle.tq_closing.specs.Kept as kept_words;
+ghost use Rattle.tq_merge.specs.Kept.{AreKept};
+ghost use Rattle.tq_merge.specs.Kept as kept_words;
 ghost use Rattle.tq_cluster.specs.Closes.{IsClosedBy};
 
 use crate::caller::Caller;
@@ -12,7 +12,7 @@ use crate::explained::{Explained, settle};
 use crate::retold::told_to_all;
 use std::alloc::Global;
 use tq_cells::Gate;
-use tq_closing::CloseFault;
+use tq_merge::CloseFault;
 
 impl<G: Gate + Drop> Cluster<G> {
     /// Opens all cells, once no thread asks the parts any more, compares what these callers were told with the journals,

@@ -8,9 +8,9 @@ ghost use Rattle.tq_tables.specs.Parts.{AreLegalServers, bounds_of};
 
 use std::alloc::Global;
 use tq_cells::Cell;
-use tq_closing::is_legal_desk;
 use tq_desk::Desk;
 use tq_live::View;
+use tq_merge::is_legal_desk;
 use tq_node::Node;
 use tq_part::Journaled;
 use tq_shape::{Levels, Limits, Memory};

@@ -21,5 +21,5 @@ pub use clients::Ran;
 pub use cluster::Cluster;
 pub use explained::Explained;
 pub use live_board::LiveBoard;
-pub use tq_closing::CloseFault;
+pub use tq_merge::CloseFault;
 pub use tq_prefixes::{Entries, PullFault};

@@ -15,9 +15,8 @@ use std::sync::Wait;
 use std::thread::{Promise, Scope, Threads};
 use tq_cells::Gate;
 use tq_queue::{Putter, Taker};
-use tq_refresh::Job;
+use tq_refresh::{Job, refresh};
 use tq_shape::Levels;
-use tq_worker::refresh;
 
 /// What lies in the queue of jobs.
 #[derive(Drop)]

@@ -1,15 +1,27 @@
-//! An order for journals: which entry came after which, so that all that an entry cites stood before it.
+//! An order for journals: which entry came after which, so that all that an entry cites stood before it. And whether what
+//! callers were told stands in journals, each entry told once.
 #![tactic(auto)]
 
 mod cited;
+mod close_fault;
+mod compared;
 mod counts;
+mod desk;
+mod entries;
 mod explaining;
 mod fault;
+mod lengths;
+mod names;
 mod placing;
 mod ready;
 mod stands;
+mod told_stands;
 mod wrong;
 
+pub use close_fault::CloseFault;
+pub use compared::{Comparison, compare};
 pub use counts::Counts;
+pub use desk::is_legal_desk;
+pub use entries::found;
 pub use explaining::{Order, explain, explain_legal};
 pub use fault::Fault;

@@ -11,7 +11,7 @@ use tq_tables::{Journals, NodeEntry};
 use tq_world::{is_ended, is_granted, is_peeked, is_voted, item_at};
 
 /// The entry of a number in a server's journal.
-fn server_entry(journals: &Journals, server: u64, number: u64) -> Option<&NodeEntry>
+pub(crate) fn server_entry(journals: &Journals, server: u64, number: u64) -> Option<&NodeEntry>
     ensures { option_copied result ≡ world.server_entry journals.now server number }
 {
     match item_at(journals.servers(), server) {

@@ -1,9 +1,12 @@
-//! Refresh: which stale copies of the tables are mended and from where, and what is asked to mend them.
+//! Refresh: which stale copies of the tables are mended and from where, what is asked to mend them, and how a worker asks it
+//! over any asker.
 #![tactic(auto)]
 
 mod job;
+mod mending;
 mod planning;
 
 pub use job::{Job, copy_ask, peek_ask};
+pub use mending::{mend, refresh};
 pub use planning::{plan, plan_rows};
 pub use tq_shape::Memory;

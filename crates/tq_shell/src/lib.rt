@@ -1,11 +1,25 @@
-//! What the program calls, handed on: the session of a shell; client scripts in threads; and the audit of journal files;
-//! with the words of the command line and the devices that they read and write.
+//! What the program calls: client scripts run in threads, from their text to the journals of all parts; the audit of a journal
+//! file, whether one sequential run explains it; and, handed on, the session of a shell, the words of the command line and the
+//! devices that they read and write.
 #![tactic(auto)]
 
-pub use tq_audit::audit;
-pub use tq_client::{Ending, Kept};
+mod auditing;
+mod input;
+mod judging;
+mod outcome;
+mod reading;
+mod running;
+mod threading;
+mod verdict;
+
+pub use auditing::audit;
+pub use judging::judge;
+pub use outcome::Outcome;
+pub use running::run_text;
+pub use threading::threads;
+pub use tq_answering::{Ending, Kept};
 pub use tq_devices::{Failed, MemorySink, MemorySource, Reading, RunFault, Sink, Source, Writing};
 pub use tq_lines::{LINE_LIMIT, Line, TxnLine, numbers_are_read_again};
 pub use tq_session::{INPUT_LIMIT, Shell, run};
-pub use tq_threads::threads;
 pub use tq_words::{Words, WordsFault};
+pub use verdict::Verdict;

@@ -1,6 +1,6 @@
 use Rattle.std.proofs.Common.{refl, ℕ, ◌∙◌, subst}
 use Rattle.crossbeam_channel.specs.Claims.{view}
-use Rattle.tq_worker.specs.Mending.{Grows, refresh_asked}
+use Rattle.tq_refresh.specs.Mending.{Grows, refresh_asked}
 use Rattle.tq_cluster.specs.Backwards.{jobs_in}
 use Rattle.tq_cluster.proofs.Callers.{jobs_make_more}
 use Rattle.tq_cluster.proofs.workers.work.Goals as goal

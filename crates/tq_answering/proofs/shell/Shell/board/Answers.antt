@@ -1,5 +1,5 @@
 use Rattle.std.proofs.Common.{◌∙◌, ◌++◌, ap}
-use Rattle.tq_operators.specs.Operators.{board_of}
+use Rattle.tq_answering.specs.Operators.{board_of}
 use Rattle.tq_answering.proofs.shell.Shell.board.Goals as goal
 
 pub returns : goal.returns

@@ -5,9 +5,9 @@ use Rattle.tq_txn.specs.Dialogue.{line_result, view_line}
 use Rattle.tq_txn.proofs.LineLaws.{asked_view}
 use Rattle.tq_answering.specs.Answer.{World, answered}
 use Rattle.tq_answering.specs.Asked.{view_end, chosen_text, choose_asked}
-use Rattle.tq_asking.specs.Asking.{run_line}
-use Rattle.tq_client.specs.Known.{Known}
-use Rattle.tq_answering.proofs.Answering.{answered_by}
+use Rattle.tq_answering.specs.Asking.{run_line}
+use Rattle.tq_answering.specs.Known.{Known}
+use Rattle.tq_answering.proofs.ShellLines.{answered_by}
 use Rattle.tq_answering.proofs.shell.Shell.choose.Goals as goal
 
 pub returns-clause-text : goal.returns-clause-text

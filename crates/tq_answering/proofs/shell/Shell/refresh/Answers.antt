@@ -1,9 +1,9 @@
 use Rattle.std.proofs.Common.{◌∙◌, ◌++◌, ap}
 use Rattle.tq_tables.specs.Journals.{JournalsView}
 use Rattle.tq_answering.specs.Answer.{World, answer}
-use Rattle.tq_client.specs.Known.{Known}
+use Rattle.tq_answering.specs.Known.{Known}
 use Rattle.tq_lines.specs.declared.line.Line.TheVariants.{Refresh}
-use Rattle.tq_answering.proofs.Answering.{refresh_answered}
+use Rattle.tq_answering.proofs.ShellLines.{refresh_answered}
 use Rattle.tq_answering.proofs.shell.Shell.refresh.Goals as goal
 
 pub returns-clause-text : goal.returns-clause-text

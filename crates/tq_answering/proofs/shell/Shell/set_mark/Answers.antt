@@ -8,11 +8,11 @@ use Rattle.tq_txn.specs.Lines.{any_line}
 use Rattle.tq_txn.proofs.LineLaws.{follows_on, asked_view}
 use Rattle.tq_answering.specs.Answer.{World, answered}
 use Rattle.tq_answering.specs.Asked.{view_end, marked_text, mark_ask, mark_asked}
-use Rattle.tq_client.specs.TxnAsked.{result_text}
-use Rattle.tq_asking.specs.Asking.{run_line}
-use Rattle.tq_client.specs.Known.{Known}
+use Rattle.tq_answering.specs.TxnAsked.{result_text}
+use Rattle.tq_answering.specs.Asking.{run_line}
+use Rattle.tq_answering.specs.Known.{Known}
 use Rattle.tq_print.specs.Print.{printed}
-use Rattle.tq_answering.proofs.Answering.{answered_by}
+use Rattle.tq_answering.proofs.ShellLines.{answered_by}
 use Rattle.tq_answering.proofs.shell.Shell.set_mark.Goals as goal
 
 pub returns-clause-text : goal.returns-clause-text

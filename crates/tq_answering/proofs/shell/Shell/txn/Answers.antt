@@ -1,10 +1,10 @@
 use Rattle.std.proofs.Common.{◌≡◌, ◌∙◌, ◌<◌, ◌++◌, length, ap, sym, subst}
 use Rattle.std.proofs.lemmas.List.Elements.{All-set}
 use Rattle.tq_txn.specs.States.{levels_of}
-use Rattle.tq_client.specs.declared.kept.Kept.{Kept}
+use Rattle.tq_answering.specs.declared.kept.Kept.{Kept}
 use Rattle.tq_lines.specs.declared.line.Line.TheVariants as lines
 use Rattle.tq_answering.specs.Answer.{World, answer}
-use Rattle.tq_answering.proofs.Answering.{txn_answered}
+use Rattle.tq_answering.proofs.ShellLines.{txn_answered}
 use Rattle.tq_answering.proofs.shell.Shell.txn.Goals as goal
 
 pub invariant_of-self : goal.invariant_of-self

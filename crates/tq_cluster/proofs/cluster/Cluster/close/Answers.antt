@@ -1,6 +1,6 @@
 use Rattle.std.proofs.Common.{◌≡◌, ◌∙◌, List, map, subst}
 use Rattle.tq_txn.specs.declared.asker.Exchange.{Exchange}
-use Rattle.tq_closing.specs.Closed.{IsCloseFault}
+use Rattle.tq_merge.specs.Closed.{IsCloseFault}
 use Rattle.tq_cluster.proofs.Closing.{closed_by}
 use Rattle.tq_cluster.proofs.cluster.Cluster.close.Goals as goal
 

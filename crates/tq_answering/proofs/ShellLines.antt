@@ -1,0 +1,55 @@
+-- A line of the shell whose asks are the dialogue's is answered so.
+use Rattle.std.proofs.Common.{◌≡◌, ◌∙◌, ◌+◌, ◌-◌, ◌<◌, length, get_or, arith, ℕ, false, List, ◌++◌, Result, refl, sym, ap}
+use Rattle.tq_tables.specs.Journals.{JournalsView}
+use Rattle.tq_txn.specs.declared.fault.LineFault.{LineFault}
+use Rattle.tq_txn.specs.Dialogue.{Dialogue, LineEnd, Ends, Follows, then_line, ended_by}
+use Rattle.tq_answering.specs.declared.kept.Kept.{Kept}
+use Rattle.tq_answering.specs.TxnAsked.{TxnAnswer, line_asked, IsAnswered, is_refused_memory}
+use Rattle.tq_answering.specs.Asking.{Ran, run_line}
+use Rattle.tq_answering.specs.Answer.{World, Answer, answer, answered}
+use Rattle.tq_answering.specs.Known.{with_kept}
+use Rattle.tq_lines.specs.declared.line.Line.TheVariants as shell_lines
+use Rattle.tq_lines.specs.declared.line.TxnLine.{TxnLine}
+use Rattle.std.specs.Prelude.{slice_set}
+use Rattle.std.proofs.lemmas.Option.{slice_get_read}
+use Rattle.tq_print.specs.Print.{printed}
+use Rattle.tq_answering.specs.Recorded.{RecorderView, IsReplayed}
+use Rattle.tq_answering.specs.Asked.{LineAnswer, of_txn}
+use Rattle.tq_answering.proofs.Leading.{item_of, ran_as, then_ran}
+use Rattle.tq_answering.proofs.Answered.{line_ran}
+use Rattle.tq_answering.specs.Operators.{refresh_asked}
+use Rattle.tq_answering.specs.Asked.{refresh_line, shown}
+use Rattle.tq_answering.specs.Known.{Known}
+
+-- a line of the shell that was answered so
+pub answered_by : {A S : Type 0} (line : Dialogue (LineEnd A S)) (f : LineEnd A S → LineAnswer) (old new : RecorderView) (result : Result A LineFault) (after : S)
+    → IsReplayed old → IsReplayed new → new.journals.levels ≡ old.journals.levels → Follows line old.told new.told (ended_by result after) → is_refused_memory result ≡ false
+    → ((f (record { answer = result; after = after })).text ≡ (answered (run_line old.journals (then_line line (λ end. Ends (f end))))).text)
+    × (record { journals = new.journals; known = (f (record { answer = result; after = after })).known } ≡ (answered (run_line old.journals (then_line line (λ end. Ends (f end))))).after)
+answered_by line f old new result after replayed_old replayed_new levels follows fine =
+    let ran = line_ran line f old new result after replayed_old replayed_new levels follows fine in
+    (ap (λ (r : Ran LineAnswer). r.end.text) (sym ran.1), ap (λ (r : Ran LineAnswer). (answered r).after) (sym ran.1))
+
+-- a line of a transaction that is kept, answered so
+pub txn_answered : (w : World) (number place : ℕ) (line : TxnLine) (kept new : Kept) (after : JournalsView) (before text : List ℕ) → number ≡ place + 1 → place < length w.known.txns → kept ≡ get_or w.known.txns place kept
+    → IsAnswered (line_asked w.known.levels line number kept) w.journals after before text new
+    → (text ≡ before ++ (answer w (shell_lines.Txn number line)).text)
+    × (record { journals = after; known = record { levels = w.known.levels; limits = w.known.limits; txns = slice_set w.known.txns place new } } ≡ (answer w (shell_lines.Txn number line)).after)
+txn_answered w number place line kept new after before text is less here said =
+    let minus : number - 1 ≡ place = omega (arith, is) in
+    let some : 0 < number = omega (arith, is) in
+    let item = item_of w.known.txns number place kept some minus (slice_get_read w.known.txns (length w.known.txns) place kept refl less here) in
+    let tree = line_asked w.known.levels line number kept in
+    let f : TxnAnswer → LineAnswer = λ end. record { text = printed end.text; known = with_kept w.known number end.kept } in
+    let same : answer w (shell_lines.Txn number line) ≡ answered (ran_as f (run_line w.journals tree)) =
+    ap (λ o. answered (run_line w.journals (of_txn w.known number o (line_asked w.known.levels line)))) item ∙ ap answered (then_ran tree f w.journals) in
+    let end : record { journals = after; known = record { levels = w.known.levels; limits = w.known.limits; txns = slice_set w.known.txns place new } } ≡ (answered (ran_as f (run_line w.journals tree))).after =
+    λ i. record { journals = said.journals i; known = record { levels = w.known.levels; limits = w.known.limits; txns = slice_set w.known.txns (sym minus i) (said.kept i) } } in
+    (said.text ∙ ap (λ (a : Answer). before ++ a.text) (sym same), end ∙ ap (λ (a : Answer). a.after) (sym same))
+
+-- the line of the shell says that, and what is known stays
+pub refresh_answered : (journals : JournalsView) (known : Known) → ((run_line journals (refresh_asked journals)).end ≡ (answered (run_line journals (refresh_line journals known))).text)
+    × (record { journals = (run_line journals (refresh_asked journals)).after; known = known } ≡ (answered (run_line journals (refresh_line journals known))).after)
+refresh_answered journals known =
+    let ran = then_ran (refresh_asked journals) (shown known) journals in
+    (ap (λ r. (answered r).text) (sym ran), ap (λ r. (answered r).after) (sym ran))

@@ -1,0 +1,136 @@
+ghost use Rattle.std.specs.Prelude.{◌≡◌, IfOk};
+
+use crate::told::{nothing, with_desk, with_node, with_view};
+use std::alloc::Global;
+use std::marker::Model;
+use tq_asks::NodeAsk;
+use tq_core::Service;
+use tq_desk::DeskAsk;
+use tq_history::History;
+use tq_live::ViewAsk;
+use tq_shape::{Levels, Limits, Memory, ServerId};
+use tq_txn::{AskFault, Asker, DeskTold, Exchange, NodeTold, ViewTold};
+
+/// A service that is asked. Contracts see beside it what was told of its asks, in their order; no memory is taken for
+/// that.
+#[derive(Drop)]
+pub(crate) struct Recorder {
+    service: Service,
+    told: History<Exchange>,
+}
+
+impl Model for Recorder {
+    ghost use Rattle.tq_answering.specs.Recorded.{RecorderView, IsReplayed};
+
+    ghost Value = { RecorderView };
+
+    ghost view = { λ a. record { journals = a.service; told = a.told.items } };
+
+    ghost invariant = { λ a. IsReplayed (record { journals = a.service; told = a.told.items }) };
+}
+
+impl Recorder {
+    ghost use Rattle.std.specs.Prelude.{◌≡◌, [], IfOk};
+    ghost use Rattle.tq_world.specs.World.{empty_world};
+    ghost use Rattle.tq_answering.specs.Recorded.{full_limits, IsReplayed};
+
+    /// A service with full limits that was asked nothing.
+    pub(crate) fn new(alloc: Global, levels: Levels) -> Result<Recorder, Memory>
+        ensures { IfOk result (λ recorder. recorder ≡ record { journals = empty_world levels full_limits; told = [] }) }
+    {
+        let service = Service::new(alloc, levels, Limits::full())?;
+        let told = nothing();
+        Ok(Recorder { service, told })
+    }
+
+    /// The service that is asked.
+    pub(crate) fn service(&self) -> &Service
+        ensures { result.now ≡ self.now.journals }
+    {
+        &self.service
+    }
+
+    /// What was told, replayed from empty journals, leads to these: this does nothing, and says so.
+    pub(crate) fn replayed(&self)
+        ensures { IsReplayed self.now }
+    {
+        let _ = &self.service;
+    }
+}
+
+fn copy_of_node_ask(ask: &NodeAsk) -> Result<NodeAsk, Memory>
+    ensures { IfOk result (λ copy. copy ≡ ask.now) }
+{
+    Ok(ask.clone()?)
+}
+
+fn copy_of_desk_ask(ask: &DeskAsk) -> Result<DeskAsk, Memory>
+    ensures { IfOk result (λ copy. copy ≡ ask.now) }
+{
+    Ok(ask.clone()?)
+}
+
+impl Asker for Recorder {
+    ghost use Rattle.std.specs.Prelude.{◌≡◌, ◌++◌, IfOk};
+    ghost use Rattle.tq_txn.specs.Dialogue.{node_exchange, desk_exchange, view_exchange};
+
+    ghost told = { λ a. a.told };
+
+    ghost levels = { λ a. a.journals.levels };
+
+    fn node(&mut self, alloc: Global, server: ServerId, ask: NodeAsk) -> Result<NodeTold, AskFault>
+        requires { server.levels ≡ self.old.journals.levels }
+        ensures exchanges { self.new.told ≡ self.old.told ++ node_exchange server.number ask result }
+        ensures same { IfOk result (λ t. (t.server ≡ server.number) × (t.ask ≡ ask)) }
+        ensures tree { self.new.journals.levels ≡ self.old.journals.levels }
+    {
+        let number = server.number();
+        let copy = copy_of_node_ask(&ask)?;
+        let answer = self.service.ask_node(alloc, server, ask);
+        self.told = with_node(&self.told, number, &copy, &answer);
+        match answer {
+            Ok(told) => Ok(NodeTold {
+                server: number,
+                number: told.number,
+                ask: copy,
+                reply: told.reply,
+            }),
+            Err(fault) => Err(fault),
+        }
+    }
+
+    fn desk(&mut self, alloc: Global, ask: DeskAsk) -> Result<DeskTold, AskFault>
+        ensures exchanges { self.new.told ≡ self.old.told ++ desk_exchange ask result }
+        ensures same { IfOk result (λ t. t.ask ≡ ask) }
+        ensures tree { self.new.journals.levels ≡ self.old.journals.levels }
+    {
+        let copy = copy_of_desk_ask(&ask)?;
+        let answer = self.service.ask_desk(alloc, ask);
+        self.told = with_desk(&self.told, &copy, &answer);
+        match answer {
+            Ok(told) => Ok(DeskTold {
+                number: told.number,
+                ask: copy,
+                reply: told.reply,
+            }),
+            Err(fault) => Err(fault),
+        }
+    }
+
+    fn view(&mut self, alloc: Global, ask: ViewAsk) -> Result<ViewTold, AskFault>
+        ensures exchanges { self.new.told ≡ self.old.told ++ view_exchange ask result }
+        ensures same { IfOk result (λ t. t.ask ≡ ask) }
+        ensures tree { self.new.journals.levels ≡ self.old.journals.levels }
+    {
+        let answer = self.service.ask_view(alloc, ask);
+        self.told = with_view(&self.told, &ask, &answer);
+        match answer {
+            Ok(told) => Ok(ViewTold {
+                number: told.number,
+                ask,
+                reply: told.reply,
+            }),
+            Err(fault) => Err(fault),
+        }
+    }
+}

@@ -1,4 +1,0 @@
-pub mod Reading
-pub mod Texts
-pub mod Verdicts
-pub mod Audit

@@ -1,4 +1,0 @@
-pub mod Known
-pub mod TxnAsked
-pub mod States
-pub mod Possible

@@ -1,4 +1,0 @@
-pub mod Told
-pub mod Kept
-pub mod Names
-pub mod Closed

@@ -1,7 +1,0 @@
-use Rattle.std.proofs.Common.{◌∙◌, ◌++◌, ap}
-use Rattle.tq_operators.proofs.operators.say_board.Goals as goal
-
-pub returns : goal.returns
-returns c =
-    c.in_ok-extend_from_slice.ensures.items
-    ∙ ap (λ t. c.args.text.now.items ++ t) (c.as_bytes.ensures.value ∙ c.in_ok-board.ensures)

@@ -1,0 +1,13 @@
+use Rattle.std.proofs.Common.{◌≡◌, ◌-◌, length}
+use Rattle.std.specs.Io.KnownBytes.{Appends}
+use Rattle.tq_shell.proofs.input.read_input.Given as goal
+
+-- what the source has given is kept
+abbrev pub invariant-loop-buffer : goal.invariant-loop-buffer
+invariant-loop-buffer g l = record {
+  read : Appends (g.R.Source.given l.fn.reader) (g.R.Source.given l.reader) l.bytes.items;
+  same : g.R.Source.failed l.reader ≡ g.R.Source.failed l.fn.reader;
+}
+
+abbrev pub decreases-loop-buffer : goal.decreases-loop-buffer
+decreases-loop-buffer g l = 16777217 - length l.bytes.items

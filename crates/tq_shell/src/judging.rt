@@ -1,0 +1,28 @@
+ghost use Rattle.std.specs.Prelude.{IfOk};
+ghost use Rattle.tq_shell.specs.Verdicts.{IsVerdict};
+
+use crate::verdict::Verdict;
+use std::alloc::{AllocError, Global};
+use tq_form::{ReadFault, journals_from_json};
+use tq_merge::{Fault, explain};
+use tq_shape::Memory;
+
+/// What the bytes of a journal file tell: whether one sequential run explains its journals, and else why there is none.
+pub fn judge(alloc: Global, bytes: &[u8]) -> Result<Verdict, Memory>
+    ensures { IfOk result (IsVerdict bytes.now) }
+{
+    let journals = match journals_from_json(alloc, bytes) {
+        Ok(journals) => journals,
+        Err(ReadFault::Memory) => return Err(AllocError),
+        Err(ReadFault::NotJson) => return Ok(Verdict::Unreadable),
+        Err(ReadFault::NotJournals) => return Ok(Verdict::Unreadable),
+    };
+    match explain(alloc, &journals) {
+        Ok(order) => Ok(Verdict::Explained {
+            entries: order.len() as u64,
+        }),
+        Err(Fault::Memory) => Err(AllocError),
+        Err(Fault::Wrong { part, number }) => Ok(Verdict::Wrong { part, number }),
+        Err(Fault::Stuck { placed }) => Ok(Verdict::Stuck { placed }),
+    }
+}

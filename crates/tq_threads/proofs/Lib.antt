@@ -1,4 +1,0 @@
-pub mod InputLaws
-pub mod ThreadsLaws
-pub mod FewScripts
-pub mod BadLine

@@ -1,4 +1,0 @@
-pub mod Input
-pub mod Outcome
-pub mod Running
-pub mod Threads
