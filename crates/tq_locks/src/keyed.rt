@@ -77,10 +77,10 @@ impl KeyedLocks {
     }
 
     /// The entries under these keys.
-    pub(crate) fn listed<'a>(&'a self, keys: &'a [usize]) -> Listed<'a>
+    pub(crate) fn listed<'a>(&'a self, keys: &'a [usize]) -> HeldLocks<'a>
         ensures { result ≡ told self.now.entries keys.now }
     {
-        Listed {
+        HeldLocks {
             entries: &self.entries,
             keys,
         }
@@ -304,7 +304,7 @@ pub(crate) fn held_by(
 ) -> Option<u64>
     ensures { result ≡ decided txn mode (told entries.now keys.now) }
 {
-    for entry in (Listed { entries, keys }) {
+    for entry in (HeldLocks { entries, keys }) {
         if !(entry.txn == txn) {
             return if mode.conflicts_with(entry.lock.mode) {
                 Some(entry.txn)
@@ -316,14 +316,14 @@ pub(crate) fn held_by(
     None
 }
 
-/// The entries under keys that are left to walk.
+/// Locks of a table that are left to walk.
 #[derive(Drop)]
-pub(crate) struct Listed<'a> {
+pub struct HeldLocks<'a> {
     entries: &'a Slab<LockEntry>,
     keys: &'a [usize],
 }
 
-impl<'a> Model for Listed<'a> {
+impl<'a> Model for HeldLocks<'a> {
     ghost use Rattle.std.specs.Prelude.{List};
     ghost use Rattle.tq_locks.specs.Locks.{LockKey};
     ghost use Rattle.tq_locks.specs.declared.mode.Lock.{Lock};
@@ -334,7 +334,7 @@ impl<'a> Model for Listed<'a> {
     ghost view = { λ it. told it.entries.now it.keys.now };
 }
 
-impl<'a> Iterator for Listed<'a> {
+impl<'a> Iterator for HeldLocks<'a> {
     ghost use Rattle.std.specs.Iterator.{YieldsFirst, item_count};
 
     type Item = LockEntry;

@@ -1,7 +1,7 @@
 ghost use Rattle.std.specs.Prelude.{◌≡◌, OnOk, OnErr, IfOk, IfSome, IfNone, None, Some};
 ghost use Rattle.std.specs.FinMap as fin;
 
-use crate::keyed::{KeyedLocks, Listed, held_by};
+use crate::keyed::{HeldLocks, KeyedLocks, held_by};
 use crate::lists::Keys;
 use crate::{Lock, Mode};
 use std::alloc::{AllocError, Global};
@@ -212,13 +212,20 @@ impl LockTable {
         }
     }
 
+    /// A walk of a transaction's locks, ascending by file.
+    pub fn locks_of(&self, txn: u64) -> HeldLocks<'_>
+        ensures { result ≡ held_of self.now txn }
+    {
+        self.kept.listed(self.kept.keys_of_txn(txn))
+    }
+
     /// The locks of a transaction, ascending by file.
     pub fn held(&self, alloc: Global, txn: u64) -> Result<Vec<LockEntry>, AllocError>
         ensures { IfOk result (λ held. held.items ≡ held_of self.now txn) }
     {
         let keys = self.kept.keys_of_txn(txn);
         let mut held = Vec::with_capacity(alloc, keys.len())?;
-        for entry in self.kept.listed(keys) {
+        for entry in self.locks_of(txn) {
             held.push(entry)?;
         }
         Ok(held)
@@ -258,7 +265,7 @@ impl LockTable {
 pub struct LockEntries<'a> {
     kept: &'a KeyedLocks,
     // Those of the file that is walked, and the keys of the files that are to come.
-    here: Listed<'a>,
+    here: HeldLocks<'a>,
     files: Values<'a, FileName, Keys>,
 }
 
