@@ -80,16 +80,6 @@ told_last server ask told old new grown servers asks =
     let P : List NodeTold → Type 0 = λ xs. Contains xs told in
     subst P (sym (answers_more server ask told old new grown servers asks)) (Contains-push (answers_in old) told)
 
-granted_is : (told : NodeTold) (reply : NodeReply) (P : NodeTold → Type 0) → P told → IfOk (granted told reply) P
-granted_is told (replies.Granted version content) P is = is
-granted_is told (replies.Refused refusal) P is = tt
-granted_is told reply P is = tt
-
-pub granted_told : (told : NodeTold) (result : Result NodeTold LineFault) (P : NodeTold → Type 0) → result ≡ granted told told.reply → P told → IfOk result P
-granted_told told result P same is =
-    let Q : Result NodeTold LineFault → Type 0 = λ r. IfOk r P in
-    subst Q (sym same) (granted_is told told.reply P is)
-
 pub told_same : (old new : List Exchange) (before after : List NodeTold) → after ≡ before → Grown old new → AreTold old before → AreTold new after
 told_same old new before after same more are = subst (AreTold new) (sym same) (told_grow old new before more are)
 
