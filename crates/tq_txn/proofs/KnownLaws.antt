@@ -1,11 +1,8 @@
 -- What a transaction knows, as more is told; and what the desk is asked of it.
 use Rattle.std.proofs.Common.{◌≡◌, ℕ, List, [], ◌∷◌, ◌++◌, Result, Ok, Err, sym, ap, ◌∙◌, subst, append_assoc, append-nil}
-use Rattle.std.specs.Prelude.{IfOk}
 use Rattle.std.specs.List.{All, Contains}
 use Rattle.std.proofs.lemmas.List.Elements.{All-nil, All-append, All-push, All-weaker, All-contains, All-contains_itself, Contains-append_left, Contains-push, filter_map-append}
 use Rattle.tq_asks.specs.declared.ask.NodeAsk.{NodeAsk}
-use Rattle.tq_asks.specs.declared.ask.NodeReply.{NodeReply}
-use Rattle.tq_asks.specs.declared.ask.NodeReply.TheVariants as replies
 use Rattle.tq_desk.specs.declared.ask.DeskAsk.{DeskAsk}
 use Rattle.tq_part.specs.declared.fault.AskFault.{AskFault}
 use Rattle.tq_part.specs.declared.fault.AskFault.TheVariants as ask_faults
@@ -18,11 +15,9 @@ use Rattle.tq_states.specs.Cited.{grant_told, vote_told, IsOpTold, IsVoteTold, C
 use Rattle.tq_states.specs.Open.{OpenView, IsTouched}
 use Rattle.tq_states.specs.Voting.{VotingView}
 use Rattle.tq_txn.specs.declared.asker.Exchange.{Exchange}
-use Rattle.tq_txn.specs.declared.fault.LineFault.{LineFault}
 use Rattle.tq_txn.specs.declared.txn.Txn.{Txn}
 use Rattle.tq_txn.specs.declared.txn.Txn.TheVariants as states
 use Rattle.tq_txn.specs.Dialogue.{node_exchange, desk_exchange}
-use Rattle.tq_txn.specs.Lines.{granted}
 use Rattle.tq_txn.specs.Told.{IsAnswered, answer_in, answers_in, AreTold, Knows, CitesTold, CitesSince}
 use Rattle.tq_txn.proofs.LineLaws.{further}
 use Rattle.tq_txn.proofs.ToldLaws.{Grown}
