@@ -50,17 +50,21 @@ module _ (kept : KeyedLocks) (locks : Locks) (a : Agrees kept locks) where
       key_of (get kept.entries) (keys_under kept.by_txn q.1) (held_of locks q.1) (q, l) (a.of_txn q.1)
       (filter-Has (λ (e : Entry). e.0.1 == q.1) (fin.entries locks) (q, l) (entry_of locks_total locks_same locks q l f) (grind (arith, nat_tests)))
 
-  pub locks_in-agreed : locks_in kept ≡ locks
-  locks_in-agreed = fin.same_map locks_total locks_same (locks_in kept) locks (λ q. fin.get-from_entries locks_total (values kept.entries) q ∙ by_look q (fin.find lock_cmp q (values kept.entries)) refl (fin.get locks q) refl)
+  -- a list of the slab's entries has the look-ups of the set
+  pub find-agreed : (es : List Entry) → ((e : Entry) → Has es e → Has (values kept.entries) e) → ((e : Entry) → Has (values kept.entries) e → Has es e) → (q : LockKey) → fin.find lock_cmp q es ≡ fin.get locks q
+  find-agreed es from all q = by_look (fin.find lock_cmp q es) refl (fin.get locks q) refl
     where
-      by_look : (q : LockKey) (o : Option Lock) → fin.find lock_cmp q (values kept.entries) ≡ o → (p : Option Lock) → fin.get locks q ≡ p → o ≡ p
-      by_look q (Some l) e p f =
-          let at = values-Has kept.entries.slots (q, l) (Has-looked_up locks_total locks_same (values kept.entries) q l e) in
+      by_look : (o : Option Lock) → fin.find lock_cmp q es ≡ o → (p : Option Lock) → fin.get locks q ≡ p → o ≡ p
+      by_look (Some l) e p f =
+          let at = values-Has kept.entries.slots (q, l) (from (q, l) (Has-looked_up locks_total locks_same es q l e)) in
           sym (a.sound at.0 (q, l) at.1) ∙ f
-      by_look q None e None f = refl
-      by_look q None e (Some l) f =
+      by_look None e None f = refl
+      by_look None e (Some l) f =
           let at = key_of_lock q l f in
-          absurd (found_none (values kept.entries) q l (Has-values kept.entries.slots at.0 (q, l) at.2) e)
+          absurd (found_none es q l (all (q, l) (Has-values kept.entries.slots at.0 (q, l) at.2)) e)
+
+  pub locks_in-agreed : locks_in kept ≡ locks
+  locks_in-agreed = fin.same_map locks_total locks_same (locks_in kept) locks (λ q. fin.get-from_entries locks_total (values kept.entries) q ∙ find-agreed (values kept.entries) (λ e h. h) (λ e h. h) q)
 
 -- ---- the tests of the two indexes
 

@@ -6,7 +6,7 @@ pub mod Agreed
 pub mod Partition
 pub mod Changed
 pub mod Applied
-pub mod Walked
+pub mod InOrder
 pub mod Copied
 pub mod Locked
 pub mod TakenOut

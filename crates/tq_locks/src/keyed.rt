@@ -5,7 +5,7 @@ ghost use Rattle.std.specs.List.{slice_get};
 ghost use Rattle.std.specs.Option.{option_copied, option_map, option_map_or};
 ghost use Rattle.std.specs.Ordering.{is_lt};
 ghost use Rattle.tq_store.specs.Copies.{name_cmp};
-ghost use Rattle.slab.specs.Slab.{get, slab_len, Updates};
+ghost use Rattle.slab.specs.Slab.{get, slab_len, values, Updates};
 ghost use Rattle.tq_shape.specs.Steps.{state_at};
 ghost use Rattle.tq_locks.specs.Locks.{LockKey, Locks, lock_cmp, kept, released, only_stable};
 ghost use Rattle.tq_locks.specs.Keys.{keys_at, keys_under, place, told};
@@ -84,6 +84,17 @@ impl KeyedLocks {
             entries: &self.entries,
             keys,
         }
+    }
+
+    /// The entries, in the order of their keys.
+    pub(crate) fn unsorted(&self, alloc: Global) -> Result<Vec<LockEntry>, AllocError>
+        ensures { IfOk result (λ all. all.items ≡ values self.now.entries) }
+    {
+        let mut all = Vec::with_capacity(alloc, self.entries.len())?;
+        for (_key, entry) in self.entries.iter() {
+            all.push(*entry)?;
+        }
+        Ok(all)
     }
 
     /// Where the key of a file and a transaction is, or would go.
