@@ -1,5 +1,5 @@
 -- The entries of a slab, put in order, are those of the set of locks.
-use Rattle.std.proofs.Common.{◌≡◌, ℕ, zero, suc, ◌<◌, ◌≤◌, Bool, true, false, List, [], ◌∷◌, map, length, ◌+◌, get_or, Option, Some, None, Contains, refl, ap, sym, ◌∙◌, inl, inr, arith}
+use Rattle.std.proofs.Common.{◌≡◌, ℕ, zero, suc, ◌<◌, ◌≤◌, Bool, false, List, [], ◌∷◌, map, length, ◌+◌, get_or, Option, Some, None, Contains, refl, ap, sym, ◌∙◌, inl, inr, arith}
 use lib.Dec.{T}
 use mathlib.Core.Bool.{true≢false}
 use Rattle.std.proofs.lemmas.List.Sorted.{Contains-permutation, IsPermutation-sym, ranks_by, sorted_far}
@@ -19,7 +19,6 @@ use Rattle.tq_locks.specs.declared.mode.Lock.{Lock}
 use Rattle.tq_locks.specs.Locks.{LockKey, Locks, lock_cmp}
 use Rattle.tq_locks.specs.Kept.{Agrees}
 use Rattle.tq_locks.proofs.LockMaps.{locks_total, locks_same}
-use Rattle.tq_locks.proofs.Locked.{same_key}
 use Rattle.tq_locks.proofs.Ordered.{both}
 use Rattle.tq_locks.proofs.Placed.{turned}
 use Rattle.tq_locks.proofs.Agreed.{apart, values-Has}

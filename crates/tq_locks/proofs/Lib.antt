@@ -11,5 +11,4 @@ pub mod Copied
 pub mod Locked
 pub mod TakenOut
 pub mod Indexed
-pub mod Written
 pub mod Asked

@@ -1,4 +1,4 @@
-use Rattle.std.proofs.Common.{◌++◌, ℕ, map, ap, ◌∙◌}
+use Rattle.std.proofs.Common.{◌++◌, ℕ, map, ◌∙◌}
 use Rattle.tq_locks.specs.declared.mode.Lock.{Lock}
 use Rattle.tq_locks.specs.Locks.{LockKey}
 use Rattle.tq_locks.proofs.InOrder.{values-entries}
