@@ -3,14 +3,22 @@ ghost use Rattle.std.specs.Option.{option_copied};
 ghost use Rattle.tq_evidence.specs.Evidence as spec;
 
 use crate::Grant;
+use smallvec::SmallVec;
 use std::alloc::Global;
 use tq_shape::Memory;
 
+/// Numbers of servers, of which eight need no memory.
+pub type Numbers = SmallVec<u64, 8>;
+
 /// The servers of the grants, in their order.
-pub fn granters(alloc: Global, grants: &[Grant]) -> Result<Vec<u64>, Memory>
+pub fn granters(alloc: Global, grants: &[Grant]) -> Result<Numbers, Memory>
     ensures { IfOk result (λ servers. servers.items ≡ spec.granters grants.now) }
 {
-    grants.iter().map(|grant| grant.server).collect(alloc)
+    let mut servers = Numbers::new(alloc);
+    for grant in grants {
+        servers.push(grant.server)?;
+    }
+    Ok(servers)
 }
 
 /// Whether the numbers strictly ascend.

@@ -10,7 +10,7 @@ mod vote;
 
 pub use evidence::failed_rule;
 pub use grant::Grant;
-pub use grants::{granters, greatest_version, newest, rises};
+pub use grants::{Numbers, granters, greatest_version, newest, rises};
 pub use op::{Op, OpKind};
 pub use rule::Rule;
 pub use vote::Vote;

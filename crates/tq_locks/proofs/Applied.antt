@@ -1,10 +1,9 @@
 -- What the methods of the kept locks find and leave.
-use Rattle.std.proofs.Common.{◌≡◌, ℕ, zero, suc, ◌==◌, Bool, true, false, cond, List, [], ◌∷◌, map, filter, length, Option, Some, None, is_some, IfNone, IfSome, Bor, Result, Ok, Err, IfOk, OnErr, refl, ap, sym, subst, ◌∙◌, inl, inr, ◌<◌, ◌≤◌, ◌-◌, nat_eq, ltb, lt-ltb, ltb-true, get_or, arith}
+use Rattle.std.proofs.Common.{◌≡◌, ℕ, zero, suc, ◌==◌, Bool, true, false, cond, List, [], ◌∷◌, map, filter, length, Option, Some, None, is_some, IfNone, IfSome, Bor, Result, Ok, Err, OnErr, refl, ap, sym, subst, ◌∙◌, inl, inr, ◌<◌, ◌≤◌, ◌-◌, nat_eq, ltb, lt-ltb, ltb-true, get_or, arith}
 use lib.Dec.{T}
 use mathlib.Core.Bool.{true≢false}
 use Rattle.std.proofs.lemmas.Bool.{cases_lt}
 use Rattle.std.proofs.lemmas.Bool.Decides.{nat_tests}
-use Rattle.std.specs.BTreeMap.{is_at}
 use Rattle.std.specs.FinMap as fin
 use Rattle.std.specs.FinMap.Entries.{find, is_sorted, below_all, is_sorted-where_key, find-where_key}
 use Rattle.std.specs.List.{insert, remove, slice_get, filter_map, cons_option, AllByRecursion, IsDistinct}
@@ -14,15 +13,14 @@ use Rattle.std.specs.Option.{option_map, option_map_or, option_copied}
 use Rattle.std.specs.Ordering.{is_lt, is_eq}
 use Rattle.std.specs.declared.cmp.Ordering.{Ordering}
 use Rattle.std.specs.declared.cmp.Ordering.TheVariants.{Less, Equal, Greater}
-use Rattle.slab.specs.Slab.{get, Updates}
-use Rattle.tq_store.specs.Copies.{name_cmp}
+use Rattle.slab.specs.Slab.{Slab, get, Updates}
 use Rattle.tq_store.specs.Names.{same_name}
 use Rattle.tq_shape.specs.Journal.{Has}
 use Rattle.tq_locks.specs.declared.keyed.KeyedLocks.{KeyedLocks}
 use Rattle.tq_locks.specs.declared.mode.Mode.{Mode}
 use Rattle.tq_locks.specs.declared.mode.Lock.{Lock}
 use Rattle.tq_locks.specs.Locks.{LockKey, Locks, lock_cmp, held_of}
-use Rattle.tq_locks.specs.Keys.{keys_at, place, keys_under, told}
+use Rattle.tq_locks.specs.Keys.{place, keys_under, told}
 use Rattle.tq_locks.specs.Kept.{decided, on_file, lock_found, AreKeysOf, Agrees, IsOf, RisesTo}
 use Rattle.tq_locks.proofs.LockMaps.{locks_total, locks_same}
 use Rattle.tq_locks.proofs.Found.{none_some, some_same, first, second, less, below_each, Has-looked_up}
@@ -41,7 +39,7 @@ sorted_held_of locks txn = is_sorted-where_key lock_cmp (λ k. k.1 == txn) (fin.
 
 -- the same entries under the same keys
 pub Agrees-same : (old new : KeyedLocks) (locks : Locks) → Agrees old locks → new.entries.slots ≡ old.entries.slots
-    → ((f : List ℕ) → keys_at name_cmp new.by_file f ≡ keys_at name_cmp old.by_file f) → ((t : ℕ) → keys_under new.by_txn t ≡ keys_under old.by_txn t) → Agrees new locks
+    → ((f : List ℕ) → keys_under same_name new.by_file f ≡ keys_under same_name old.by_file f) → ((t : ℕ) → keys_under nat_eq new.by_txn t ≡ keys_under nat_eq old.by_txn t) → Agrees new locks
 Agrees-same old new locks a same files txns =
     let at : (k : ℕ) → get new.entries k ≡ get old.entries k = λ k. ap (λ (slots : List (Option Entry)). get (record { slots = slots; vacant_key = 0; capacity = 0 }) k) same in
     record {
@@ -51,13 +49,11 @@ Agrees-same old new locks a same files txns =
       of_txn = λ t. (λ i. map (λ k. at k i) (txns t i)) ∙ a.of_txn t;
     }
 
--- a place in a transaction's keys, where the slots and the keys stay
-pub RisesTo-same : (old new : KeyedLocks) (name : LockKey) (txn at : ℕ) → txn ≡ name.1 → new.entries.slots ≡ old.entries.slots → ((t : ℕ) → keys_under new.by_txn t ≡ keys_under old.by_txn t)
-    → RisesTo old.entries (keys_under old.by_txn name.1) name at → RisesTo new.entries (keys_under new.by_txn txn) name at
-RisesTo-same old new name txn at is_txn same txns rises entries listed sorted =
-    let value : (k : ℕ) → get old.entries k ≡ get new.entries k = λ k. ap (λ (slots : List (Option Entry)). get (record { slots = slots; vacant_key = 0; capacity = 0 }) k) (sym same) in
-    let keys : keys_under old.by_txn name.1 ≡ keys_under new.by_txn txn = sym (txns name.1) ∙ ap (keys_under new.by_txn) (sym is_txn) in
-    rises entries ((λ i. map (λ k. value k i) (keys i)) ∙ listed) sorted
+-- a place among keys, where the slots and the keys stay
+pub RisesTo-same : (old new : Slab Entry) (keys later : List ℕ) (name : LockKey) (at : ℕ) → new.slots ≡ old.slots → later ≡ keys → RisesTo old keys name at → RisesTo new later name at
+RisesTo-same old new keys later name at same is rises entries listed sorted =
+    let value : (k : ℕ) → get old k ≡ get new k = λ k. ap (λ (slots : List (Option Entry)). get (record { slots = slots; vacant_key = 0; capacity = 0 }) k) (sym same) in
+    rises entries ((λ i. map (λ k. value k i) (sym is i)) ∙ listed) sorted
 
 -- what is under the key that a search found is the lock that the table has
 pub found_lock : (kept : KeyedLocks) (locks : Locks) (name : LockKey) (found : Option ℕ) → Agrees kept locks → IfSome found (λ key. IsOf kept.entries key name) → IfNone found (fin.get locks name ≡ None) → lock_found kept.entries found ≡ fin.get locks name
@@ -71,7 +67,7 @@ Agrees-empty new slots files txns =
     record {
       sound = λ k e f. absurd (none_some e (sym (vacant k) ∙ f));
       once = λ j k x y f g s. absurd (none_some x (sym (vacant j) ∙ f));
-      of_file = λ f. ap (λ es. map (get new.entries) (option_map_or (λ keys. keys.items) (lookup (is_at (name_cmp f)) es) [])) files ∙ ap (λ es. map Some (filter (λ (e : Entry). same_name f e.0.0) es)) (sym no_entries);
+      of_file = λ f. ap (λ es. map (get new.entries) (option_map_or (λ keys. keys.items) (lookup (same_name f) es) [])) files ∙ ap (λ es. map Some (filter (λ (e : Entry). same_name f e.0.0) es)) (sym no_entries);
       of_txn = λ t. ap (λ es. map (get new.entries) (option_map_or (λ keys. keys.items) (lookup (nat_eq t) es) [])) txns ∙ ap (λ es. map Some (filter (λ (e : Entry). e.0.1 == t) es)) (sym no_entries);
     }
   where
@@ -79,7 +75,7 @@ Agrees-empty new slots files txns =
     empty_entries = ap fin.entries (fin.same_map locks_total locks_same (fin.empty {X = Lock} {R = lock_cmp}) (fin.from_sorted []) (λ q. fin.get-empty lock_cmp q ∙ sym (fin.get-from_sorted lock_cmp [] q tt))) ∙ fin.entries-from_sorted lock_cmp [] tt
 
 module _ (old new : KeyedLocks) (locks : Locks) (a : Agrees old locks) (file : List ℕ) (txn : ℕ) (l : Lock) (in_file in_txn key : ℕ) (in_files in_txns : List ℕ)
-    (file_keys : in_files ≡ keys_at name_cmp old.by_file file) (txn_keys : in_txns ≡ keys_under old.by_txn txn)
+    (file_keys : in_files ≡ keys_under same_name old.by_file file) (txn_keys : in_txns ≡ keys_under nat_eq old.by_txn txn)
     (file_place : RisesTo old.entries in_files (file, txn) in_file) (txn_place : RisesTo old.entries in_txns (file, txn) in_txn) where
   at_file : in_file ≡ place lock_cmp (file, txn) (on_file locks file)
   at_file = file_place (on_file locks file) (ap (map (get old.entries)) file_keys ∙ a.of_file file) (sorted_on_file locks file)
@@ -88,49 +84,49 @@ module _ (old new : KeyedLocks) (locks : Locks) (a : Agrees old locks) (file : L
   at_txn = txn_place (held_of locks txn) (ap (map (get old.entries)) txn_keys ∙ a.of_txn txn) (sorted_held_of locks txn)
 
   pub Agrees-inserted : fin.get locks (file, txn) ≡ None → get old.entries key ≡ None → Updates old.entries new.entries key (Some ((file, txn), l))
-      → ((f : List ℕ) → keys_at name_cmp new.by_file f ≡ cond (is_at (name_cmp file) f) (insert (keys_at name_cmp old.by_file file) in_file key) (keys_at name_cmp old.by_file f))
-      → ((t : ℕ) → keys_under new.by_txn t ≡ cond (txn == t) (insert (keys_under old.by_txn txn) in_txn key) (keys_under old.by_txn t))
+      → ((f : List ℕ) → keys_under same_name new.by_file f ≡ cond (same_name file f) (insert (keys_under same_name old.by_file file) in_file key) (keys_under same_name old.by_file f))
+      → ((t : ℕ) → keys_under nat_eq new.by_txn t ≡ cond (txn == t) (insert (keys_under nat_eq old.by_txn txn) in_txn key) (keys_under nat_eq old.by_txn t))
       → Agrees new (fin.insert locks (file, txn) l)
   Agrees-inserted absent vacant u files txns =
       Agrees-put old new locks a (file, txn) l key absent vacant u
-      (λ f. files f ∙ ap (λ p. cond (is_at (name_cmp file) f) (insert (keys_at name_cmp old.by_file file) p key) (keys_at name_cmp old.by_file f)) at_file)
-      (λ t. txns t ∙ ap (λ p. cond (txn == t) (insert (keys_under old.by_txn txn) p key) (keys_under old.by_txn t)) at_txn)
+      (λ f. files f ∙ ap (λ p. cond (same_name file f) (insert (keys_under same_name old.by_file file) p key) (keys_under same_name old.by_file f)) at_file)
+      (λ t. txns t ∙ ap (λ p. cond (txn == t) (insert (keys_under nat_eq old.by_txn txn) p key) (keys_under nat_eq old.by_txn t)) at_txn)
 
   pub Agrees-taken : get old.entries key ≡ Some ((file, txn), l) → Updates old.entries new.entries key None
-      → ((f : List ℕ) → keys_at name_cmp new.by_file f ≡ cond (is_at (name_cmp file) f) (remove (keys_at name_cmp old.by_file file) in_file) (keys_at name_cmp old.by_file f))
-      → ((t : ℕ) → keys_under new.by_txn t ≡ cond (txn == t) (remove (keys_under old.by_txn txn) in_txn) (keys_under old.by_txn t))
+      → ((f : List ℕ) → keys_under same_name new.by_file f ≡ cond (same_name file f) (remove (keys_under same_name old.by_file file) in_file) (keys_under same_name old.by_file f))
+      → ((t : ℕ) → keys_under nat_eq new.by_txn t ≡ cond (txn == t) (remove (keys_under nat_eq old.by_txn txn) in_txn) (keys_under nat_eq old.by_txn t))
       → Agrees new (fin.remove locks (file, txn))
   Agrees-taken at u files txns =
       Agrees-remove old new locks a (file, txn) l key at u
-      (λ f. files f ∙ ap (λ p. cond (is_at (name_cmp file) f) (remove (keys_at name_cmp old.by_file file) p) (keys_at name_cmp old.by_file f)) at_file)
-      (λ t. txns t ∙ ap (λ p. cond (txn == t) (remove (keys_under old.by_txn txn) p) (keys_under old.by_txn t)) at_txn)
+      (λ f. files f ∙ ap (λ p. cond (same_name file f) (remove (keys_under same_name old.by_file file) p) (keys_under same_name old.by_file f)) at_file)
+      (λ t. txns t ∙ ap (λ p. cond (txn == t) (remove (keys_under nat_eq old.by_txn txn) p) (keys_under nat_eq old.by_txn t)) at_txn)
 
 -- the same of an entry whose file and transaction the lists are looked up by
 module _ (old new : KeyedLocks) (locks : Locks) (a : Agrees old locks) (e : Entry) (file : List ℕ) (txn : ℕ) (is_file : file ≡ e.0.0) (is_txn : txn ≡ e.0.1) (in_file in_txn key : ℕ)
-    (file_place : RisesTo old.entries (keys_at name_cmp old.by_file file) e.0 in_file) (txn_place : RisesTo old.entries (keys_under old.by_txn txn) e.0 in_txn) where
-  file_at : RisesTo old.entries (keys_at name_cmp old.by_file e.0.0) e.0 in_file
-  file_at = subst (λ f. RisesTo old.entries (keys_at name_cmp old.by_file f) e.0 in_file) is_file file_place
+    (file_place : RisesTo old.entries (keys_under same_name old.by_file file) e.0 in_file) (txn_place : RisesTo old.entries (keys_under nat_eq old.by_txn txn) e.0 in_txn) where
+  file_at : RisesTo old.entries (keys_under same_name old.by_file e.0.0) e.0 in_file
+  file_at = subst (λ f. RisesTo old.entries (keys_under same_name old.by_file f) e.0 in_file) is_file file_place
 
-  txn_at : RisesTo old.entries (keys_under old.by_txn e.0.1) e.0 in_txn
-  txn_at = subst (λ t. RisesTo old.entries (keys_under old.by_txn t) e.0 in_txn) is_txn txn_place
+  txn_at : RisesTo old.entries (keys_under nat_eq old.by_txn e.0.1) e.0 in_txn
+  txn_at = subst (λ t. RisesTo old.entries (keys_under nat_eq old.by_txn t) e.0 in_txn) is_txn txn_place
 
   pub Agrees-entered : fin.get locks e.0 ≡ None → get old.entries key ≡ None → Updates old.entries new.entries key (Some e)
-      → ((f : List ℕ) → keys_at name_cmp new.by_file f ≡ cond (is_at (name_cmp file) f) (insert (keys_at name_cmp old.by_file file) in_file key) (keys_at name_cmp old.by_file f))
-      → ((t : ℕ) → keys_under new.by_txn t ≡ cond (txn == t) (insert (keys_under old.by_txn txn) in_txn key) (keys_under old.by_txn t))
+      → ((f : List ℕ) → keys_under same_name new.by_file f ≡ cond (same_name file f) (insert (keys_under same_name old.by_file file) in_file key) (keys_under same_name old.by_file f))
+      → ((t : ℕ) → keys_under nat_eq new.by_txn t ≡ cond (txn == t) (insert (keys_under nat_eq old.by_txn txn) in_txn key) (keys_under nat_eq old.by_txn t))
       → Agrees new (fin.insert locks e.0 e.1)
   Agrees-entered absent vacant u files txns =
-      Agrees-inserted old new locks a e.0.0 e.0.1 e.1 in_file in_txn key (keys_at name_cmp old.by_file e.0.0) (keys_under old.by_txn e.0.1) refl refl file_at txn_at absent vacant u
-      (subst (λ name. (f : List ℕ) → keys_at name_cmp new.by_file f ≡ cond (is_at (name_cmp name) f) (insert (keys_at name_cmp old.by_file name) in_file key) (keys_at name_cmp old.by_file f)) is_file files)
-      (subst (λ name. (t : ℕ) → keys_under new.by_txn t ≡ cond (name == t) (insert (keys_under old.by_txn name) in_txn key) (keys_under old.by_txn t)) is_txn txns)
+      Agrees-inserted old new locks a e.0.0 e.0.1 e.1 in_file in_txn key (keys_under same_name old.by_file e.0.0) (keys_under nat_eq old.by_txn e.0.1) refl refl file_at txn_at absent vacant u
+      (subst (λ name. (f : List ℕ) → keys_under same_name new.by_file f ≡ cond (same_name name f) (insert (keys_under same_name old.by_file name) in_file key) (keys_under same_name old.by_file f)) is_file files)
+      (subst (λ name. (t : ℕ) → keys_under nat_eq new.by_txn t ≡ cond (name == t) (insert (keys_under nat_eq old.by_txn name) in_txn key) (keys_under nat_eq old.by_txn t)) is_txn txns)
 
   pub Agrees-left : get old.entries key ≡ Some e → Updates old.entries new.entries key None
-      → ((f : List ℕ) → keys_at name_cmp new.by_file f ≡ cond (is_at (name_cmp file) f) (remove (keys_at name_cmp old.by_file file) in_file) (keys_at name_cmp old.by_file f))
-      → ((t : ℕ) → keys_under new.by_txn t ≡ cond (txn == t) (remove (keys_under old.by_txn txn) in_txn) (keys_under old.by_txn t))
+      → ((f : List ℕ) → keys_under same_name new.by_file f ≡ cond (same_name file f) (remove (keys_under same_name old.by_file file) in_file) (keys_under same_name old.by_file f))
+      → ((t : ℕ) → keys_under nat_eq new.by_txn t ≡ cond (txn == t) (remove (keys_under nat_eq old.by_txn txn) in_txn) (keys_under nat_eq old.by_txn t))
       → Agrees new (fin.remove locks e.0)
   Agrees-left at u files txns =
-      Agrees-taken old new locks a e.0.0 e.0.1 e.1 in_file in_txn key (keys_at name_cmp old.by_file e.0.0) (keys_under old.by_txn e.0.1) refl refl file_at txn_at at u
-      (subst (λ name. (f : List ℕ) → keys_at name_cmp new.by_file f ≡ cond (is_at (name_cmp name) f) (remove (keys_at name_cmp old.by_file name) in_file) (keys_at name_cmp old.by_file f)) is_file files)
-      (subst (λ name. (t : ℕ) → keys_under new.by_txn t ≡ cond (name == t) (remove (keys_under old.by_txn name) in_txn) (keys_under old.by_txn t)) is_txn txns)
+      Agrees-taken old new locks a e.0.0 e.0.1 e.1 in_file in_txn key (keys_under same_name old.by_file e.0.0) (keys_under nat_eq old.by_txn e.0.1) refl refl file_at txn_at at u
+      (subst (λ name. (f : List ℕ) → keys_under same_name new.by_file f ≡ cond (same_name name f) (remove (keys_under same_name old.by_file name) in_file) (keys_under same_name old.by_file f)) is_file files)
+      (subst (λ name. (t : ℕ) → keys_under nat_eq new.by_txn t ≡ cond (name == t) (remove (keys_under nat_eq old.by_txn name) in_txn) (keys_under nat_eq old.by_txn t)) is_txn txns)
 
 -- ---- what a look-up finds
 
@@ -187,7 +183,7 @@ Has-at [] i k e = absurd (none_some k e)
 Has-at (j ∷ keys) zero k e = inl (some_same j k e)
 Has-at (j ∷ keys) (suc i) k e = inr (Has-at keys i k e)
 
-module _ (kept : KeyedLocks) (locks : Locks) (a : Agrees kept locks) (file : List ℕ) (txn : ℕ) (keys : List ℕ) (i : ℕ) (are : keys ≡ keys_under kept.by_txn txn) (at : RisesTo kept.entries keys (file, txn) i) where
+module _ (kept : KeyedLocks) (locks : Locks) (a : Agrees kept locks) (file : List ℕ) (txn : ℕ) (keys : List ℕ) (i : ℕ) (are : keys ≡ keys_under nat_eq kept.by_txn txn) (at : RisesTo kept.entries keys (file, txn) i) where
   listed : AreKeysOf kept.entries keys (held_of locks txn)
   listed = ap (map (get kept.entries)) are ∙ a.of_txn txn
 
@@ -224,13 +220,6 @@ pub OnErr-any : {A E : Type 0} (P : Type 0) (r : Result A E) → P → OnErr r P
 OnErr-any P (Ok x) p = tt
 OnErr-any P (Err x) p = p
 
--- what is said of a result that is known
-pub at_ok : {A E : Type 0} (P : A → Type 0) (r : Result A E) (x : A) → r ≡ Ok x → IfOk r P → P x
-at_ok P r x is h = subst (λ r. IfOk r P) is h
-
-pub at_err : {A E : Type 0} (P : Type 0) (r : Result A E) (e : E) → r ≡ Err e → OnErr r P → P
-at_err P r e is h = subst (λ r. OnErr r P) is h
-
 -- a key that a look-up in a list copied
 pub copied_at : (o : Option (Bor ℕ)) (keys : List ℕ) (i k : ℕ) → Some k ≡ option_copied o → is_some o ≡ ltb i (length keys) → IfSome o (λ x. x.now ≡ get_or keys i x.now) → slice_get keys i ≡ Some k
 copied_at None keys i k e l at = absurd (none_some k (sym e))
@@ -252,11 +241,11 @@ told-listed f (k ∷ keys) [] e = absurd (nil_cons (f k) (map f keys) (sym e))
 told-listed f (k ∷ keys) (x ∷ xs) e = λ i. cons_option (head_of (f k) (Some x) (map f keys) (map Some xs) e i) (told-listed f keys xs (tail_of (f k) (Some x) (map f keys) (map Some xs) e) i)
 
 -- the entries under the keys of a file say what the locks on it do
-pub decided_on_file : (kept : KeyedLocks) (locks : Locks) → Agrees kept locks → (file name : List ℕ) → file ≡ name → (txn : ℕ) (mode : Mode) → decided txn mode (told kept.entries (keys_at name_cmp kept.by_file file)) ≡ decided txn mode (on_file locks name)
-decided_on_file kept locks a file name e txn mode = ap (decided txn mode) (told-listed (get kept.entries) (keys_at name_cmp kept.by_file file) (on_file locks file) (a.of_file file) ∙ ap (on_file locks) e)
+pub decided_on_file : (kept : KeyedLocks) (locks : Locks) → Agrees kept locks → (file : List ℕ) (txn : ℕ) (mode : Mode) → decided txn mode (told kept.entries (keys_under same_name kept.by_file file)) ≡ decided txn mode (on_file locks file)
+decided_on_file kept locks a file txn mode = ap (decided txn mode) (told-listed (get kept.entries) (keys_under same_name kept.by_file file) (on_file locks file) (a.of_file file))
 
 -- the entry under a key of a transaction's list
-pub entry_of_key : (kept : KeyedLocks) (locks : Locks) → Agrees kept locks → (txn : ℕ) (keys : List ℕ) (i k : ℕ) → keys ≡ keys_under kept.by_txn txn → slice_get keys i ≡ Some k → (e : Entry) × (e.0.1 ≡ txn) × (get kept.entries k ≡ Some e)
+pub entry_of_key : (kept : KeyedLocks) (locks : Locks) → Agrees kept locks → (txn : ℕ) (keys : List ℕ) (i k : ℕ) → keys ≡ keys_under nat_eq kept.by_txn txn → slice_get keys i ≡ Some k → (e : Entry) × (e.0.1 ≡ txn) × (get kept.entries k ≡ Some e)
 entry_of_key kept locks a txn keys i k are at =
     let x = item_of (get kept.entries) keys (held_of locks txn) k (ap (map (get kept.entries)) are ∙ a.of_txn txn) (Has-at keys i k at) in
     (x.0, same_number x.0.0.1 (Has-filter (λ (y : Entry). y.0.1 == txn) (fin.entries locks) x.0 x.1).1, x.2)
@@ -264,7 +253,7 @@ entry_of_key kept locks a txn keys i k are at =
     same_number : (n : ℕ) → (n == txn) ≡ true → n ≡ txn
     same_number n h = grind (arith, nat_tests)
 
-pub empty_keys : (kept : KeyedLocks) (locks : Locks) → Agrees kept locks → (txn : ℕ) → keys_under kept.by_txn txn ≡ [] → held_of locks txn ≡ []
+pub empty_keys : (kept : KeyedLocks) (locks : Locks) → Agrees kept locks → (txn : ℕ) → keys_under nat_eq kept.by_txn txn ≡ [] → held_of locks txn ≡ []
 empty_keys kept locks a txn e = by_list (held_of locks txn) (sym (ap (map (get kept.entries)) e) ∙ a.of_txn txn)
   where
     by_list : (xs : List Entry) → [] ≡ map Some xs → xs ≡ []
@@ -325,12 +314,12 @@ index_of (j ∷ keys) k (inl s) = (0, omega arith, ap Some s)
 index_of (j ∷ keys) k (inr h) = let r = index_of keys k h in (suc r.0, omega (arith, r.1), r.2)
 
 -- what holds at each of a transaction's keys holds of its locks
-pub at_each_key : (kept : KeyedLocks) (locks : Locks) → Agrees kept locks → (P : Lock → Type 0) (txn end : ℕ) (keys : List ℕ) → keys_under kept.by_txn txn ≡ keys → length keys ≤ end
+pub at_each_key : (kept : KeyedLocks) (locks : Locks) → Agrees kept locks → (P : Lock → Type 0) (txn end : ℕ) (keys : List ℕ) → keys_under nat_eq kept.by_txn txn ≡ keys → length keys ≤ end
     → ((i k : ℕ) → i < end → slice_get keys i ≡ Some k → (e : Entry) → get kept.entries k ≡ Some e → P e.1) → (q : LockKey) (l : Lock) → (q.1 == txn) ≡ true → fin.get locks q ≡ Some l → P l
 at_each_key kept locks a P txn end keys are past each q l t f =
     let one : q.1 ≡ txn = same_number q.1 t in
     let at = key_of_lock kept locks a q l f in
-    let i = index_of keys at.0 (subst (λ ks. Has ks at.0) (ap (keys_under kept.by_txn) one ∙ are) at.1) in
+    let i = index_of keys at.0 (subst (λ ks. Has ks at.0) (ap (keys_under nat_eq kept.by_txn) one ∙ are) at.1) in
     each i.0 at.0 (omega (arith, i.1, past)) i.2 (q, l) at.2
   where
     same_number : (n : ℕ) → (n == txn) ≡ true → n ≡ txn

@@ -1,27 +1,22 @@
 -- A slab and its indexes still agree with the set of locks after a change of one entry.
-use Rattle.std.proofs.Common.{◌≡◌, ◌≢◌, ℕ, ◌==◌, Bool, true, false, cond, not, ◌||◌, List, [], ◌∷◌, map, filter, Option, Some, None, refl, ap, sym, subst, ◌∙◌, ◌⊎◌, inl, inr, arith}
+use Rattle.std.proofs.Common.{◌≡◌, ◌≢◌, ℕ, nat_eq, ◌==◌, Bool, true, false, cond, not, ◌||◌, List, [], ◌∷◌, map, filter, Option, Some, None, refl, ap, sym, subst, ◌∙◌, ◌⊎◌, inl, inr, arith}
 use mathlib.Core.Bool.{true≢false}
 use Rattle.std.proofs.lemmas.Bool.{cases_eq}
 use Rattle.std.proofs.lemmas.Bool.Decides.{nat_tests}
-use Rattle.std.proofs.lemmas.Cmp.{tied_itself}
-use Rattle.std.specs.BTreeMap.{is_at}
 use Rattle.std.specs.Cmp.{eq_by_cmp_equiv}
-use Rattle.std.specs.Cmp.Lexicographic.{same_text, nat_list_cmp_total, nat_list_eq_equiv}
+use Rattle.std.specs.Cmp.Lexicographic.{same_text, nat_list_eq_equiv}
 use Rattle.std.specs.FinMap as fin
-use Rattle.std.specs.FinMap.{slice_cmp-IsAntisymmetric, nat_cmp-IsAntisymmetric}
 use Rattle.std.specs.FinMap.Entries.{find, is_sorted-where_key, find-where_key, same_entries}
 use Rattle.std.specs.List.{insert, remove}
 use Rattle.std.specs.Option.{option_map, option_map_or}
-use Rattle.std.specs.Ordering.{is_eq, eq_by_cmp}
+use Rattle.std.specs.Ordering.{eq_by_cmp}
 use Rattle.slab.specs.Slab.{get, values, Updates}
-use Rattle.tq_store.specs.Copies.{name_cmp}
 use Rattle.tq_store.specs.Names.{same_name}
-use Rattle.tq_shape.proofs.Orderings.{is_eq-Equal}
 use Rattle.tq_shape.specs.Journal.{Has}
 use Rattle.tq_locks.specs.declared.keyed.KeyedLocks.{KeyedLocks}
 use Rattle.tq_locks.specs.declared.mode.Lock.{Lock}
 use Rattle.tq_locks.specs.Locks.{LockKey, Locks, lock_cmp, held_of, released, only_stable, kept, stabilised, HasNoConflict}
-use Rattle.tq_locks.specs.Keys.{keys_at, place, keys_under}
+use Rattle.tq_locks.specs.Keys.{place, keys_under}
 use Rattle.tq_locks.specs.Kept.{locks_in, on_file, Agrees, steady}
 use Rattle.tq_locks.proofs.LockMaps.{locks_total, locks_same}
 use Rattle.tq_locks.proofs.Found.{none_some, some_same, Has-looked_up, entry_of}
@@ -45,33 +40,26 @@ found_none (x ∷ es) q l (inr h) e = by_test (eq_by_cmp lock_cmp q x.0) e (foun
 
 module _ (kept : KeyedLocks) (locks : Locks) (a : Agrees kept locks) where
   -- a lock of the set is under some key
-  pub key_of_lock : (q : LockKey) (l : Lock) → fin.get locks q ≡ Some l → (key : ℕ) × Has (keys_under kept.by_txn q.1) key × (get kept.entries key ≡ Some (q, l))
+  pub key_of_lock : (q : LockKey) (l : Lock) → fin.get locks q ≡ Some l → (key : ℕ) × Has (keys_under nat_eq kept.by_txn q.1) key × (get kept.entries key ≡ Some (q, l))
   key_of_lock q l f =
-      key_of (get kept.entries) (keys_under kept.by_txn q.1) (held_of locks q.1) (q, l) (a.of_txn q.1)
+      key_of (get kept.entries) (keys_under nat_eq kept.by_txn q.1) (held_of locks q.1) (q, l) (a.of_txn q.1)
       (filter-Has (λ (e : Entry). e.0.1 == q.1) (fin.entries locks) (q, l) (entry_of locks_total locks_same locks q l f) (grind (arith, nat_tests)))
 
-  pub locks_in-agreed : locks_in kept ≡ locks
-  locks_in-agreed = fin.same_map locks_total locks_same (locks_in kept) locks (λ q. fin.get-from_entries locks_total (values kept.entries) q ∙ by_look q (fin.find lock_cmp q (values kept.entries)) refl (fin.get locks q) refl)
+  -- a list of the slab's entries has the look-ups of the set
+  pub find-agreed : (es : List Entry) → ((e : Entry) → Has es e → Has (values kept.entries) e) → ((e : Entry) → Has (values kept.entries) e → Has es e) → (q : LockKey) → fin.find lock_cmp q es ≡ fin.get locks q
+  find-agreed es from all q = by_look (fin.find lock_cmp q es) refl (fin.get locks q) refl
     where
-      by_look : (q : LockKey) (o : Option Lock) → fin.find lock_cmp q (values kept.entries) ≡ o → (p : Option Lock) → fin.get locks q ≡ p → o ≡ p
-      by_look q (Some l) e p f =
-          let at = values-Has kept.entries.slots (q, l) (Has-looked_up locks_total locks_same (values kept.entries) q l e) in
+      by_look : (o : Option Lock) → fin.find lock_cmp q es ≡ o → (p : Option Lock) → fin.get locks q ≡ p → o ≡ p
+      by_look (Some l) e p f =
+          let at = values-Has kept.entries.slots (q, l) (from (q, l) (Has-looked_up locks_total locks_same es q l e)) in
           sym (a.sound at.0 (q, l) at.1) ∙ f
-      by_look q None e None f = refl
-      by_look q None e (Some l) f =
+      by_look None e None f = refl
+      by_look None e (Some l) f =
           let at = key_of_lock q l f in
-          absurd (found_none (values kept.entries) q l (Has-values kept.entries.slots at.0 (q, l) at.2) e)
+          absurd (found_none es q l (all (q, l) (Has-values kept.entries.slots at.0 (q, l) at.2)) e)
 
--- ---- the tests of the two indexes
-
-at_name : (f g : List ℕ) → is_at (name_cmp g) f ≡ same_name f g
-at_name f g = by_tests (is_at (name_cmp g) f) (same_name f g) refl refl
-  where
-    by_tests : (b c : Bool) → is_at (name_cmp g) f ≡ b → same_name f g ≡ c → b ≡ c
-    by_tests true true d e = refl
-    by_tests false false d e = refl
-    by_tests true false d e = absurd (true≢false (sym (nat_list_eq_equiv.refl f) ∙ ap (same_name f) (sym (slice_cmp-IsAntisymmetric nat_cmp-IsAntisymmetric g f (is_eq-Equal (name_cmp g f) d))) ∙ e))
-    by_tests false true d e = absurd (true≢false (sym (ap is_eq (tied_itself nat_list_cmp_total g)) ∙ ap (λ h. is_at (name_cmp g) h) (sym (same_text f g (sym e))) ∙ d))
+  pub locks_in-agreed : locks_in kept ≡ locks
+  locks_in-agreed = fin.same_map locks_total locks_same (locks_in kept) locks (λ q. fin.get-from_entries locks_total (values kept.entries) q ∙ find-agreed (values kept.entries) (λ e h. h) (λ e h. h) q)
 
 entries-remove : (locks : Locks) (q : LockKey) → fin.entries (fin.remove locks q) ≡ other_keys locks_total locks_same q (fin.entries locks)
 entries-remove locks q =
@@ -111,17 +99,17 @@ module _ (old new : KeyedLocks) (locks : Locks) (a : Agrees old locks) (q : Lock
         | inr other ↦ inr (other, sym (u.others k other) ∙ f)
       ]
 
-  by_file_put : (f : List ℕ) (old_at new_at : List ℕ → List ℕ) → new_at f ≡ cond (is_at (name_cmp q.0) f) (insert (old_at q.0) (place lock_cmp q (on_file locks q.0)) key) (old_at f)
+  by_file_put : (f : List ℕ) (old_at new_at : List ℕ → List ℕ) → new_at f ≡ cond (same_name q.0 f) (insert (old_at q.0) (place lock_cmp q (on_file locks q.0)) key) (old_at f)
       → new_at f ≡ cond (same_name f q.0) (insert (old_at f) (place lock_cmp q (on_file locks f)) key) (old_at f)
-  by_file_put f old_at new_at h = h ∙ ap (λ b. cond b (insert (old_at q.0) (place lock_cmp q (on_file locks q.0)) key) (old_at f)) (at_name f q.0) ∙ by_test (same_name f q.0) refl
+  by_file_put f old_at new_at h = h ∙ ap (λ b. cond b (insert (old_at q.0) (place lock_cmp q (on_file locks q.0)) key) (old_at f)) (nat_list_eq_equiv.symm q.0 f) ∙ by_test (same_name f q.0) refl
     where
       by_test : (b : Bool) → same_name f q.0 ≡ b → cond b (insert (old_at q.0) (place lock_cmp q (on_file locks q.0)) key) (old_at f) ≡ cond b (insert (old_at f) (place lock_cmp q (on_file locks f)) key) (old_at f)
       by_test true e = ap (λ g. insert (old_at g) (place lock_cmp q (on_file locks g)) key) (sym (same_text f q.0 (sym e)))
       by_test false e = refl
 
-  by_file_cut : (f : List ℕ) (old_at new_at : List ℕ → List ℕ) → new_at f ≡ cond (is_at (name_cmp q.0) f) (remove (old_at q.0) (place lock_cmp q (on_file locks q.0))) (old_at f)
+  by_file_cut : (f : List ℕ) (old_at new_at : List ℕ → List ℕ) → new_at f ≡ cond (same_name q.0 f) (remove (old_at q.0) (place lock_cmp q (on_file locks q.0))) (old_at f)
       → new_at f ≡ cond (same_name f q.0) (remove (old_at f) (place lock_cmp q (on_file locks f))) (old_at f)
-  by_file_cut f old_at new_at h = h ∙ ap (λ b. cond b (remove (old_at q.0) (place lock_cmp q (on_file locks q.0))) (old_at f)) (at_name f q.0) ∙ by_test (same_name f q.0) refl
+  by_file_cut f old_at new_at h = h ∙ ap (λ b. cond b (remove (old_at q.0) (place lock_cmp q (on_file locks q.0))) (old_at f)) (nat_list_eq_equiv.symm q.0 f) ∙ by_test (same_name f q.0) refl
     where
       by_test : (b : Bool) → same_name f q.0 ≡ b → cond b (remove (old_at q.0) (place lock_cmp q (on_file locks q.0))) (old_at f) ≡ cond b (remove (old_at f) (place lock_cmp q (on_file locks f))) (old_at f)
       by_test true e = ap (λ g. remove (old_at g) (place lock_cmp q (on_file locks g))) (sym (same_text f q.0 (sym e)))
@@ -149,8 +137,8 @@ module _ (old new : KeyedLocks) (locks : Locks) (a : Agrees old locks) (q : Lock
 
   -- a new entry
   pub Agrees-put : fin.get locks q ≡ None → get old.entries key ≡ None → Updates old.entries new.entries key (Some (q, l))
-      → ((f : List ℕ) → keys_at name_cmp new.by_file f ≡ cond (is_at (name_cmp q.0) f) (insert (keys_at name_cmp old.by_file q.0) (place lock_cmp q (on_file locks q.0)) key) (keys_at name_cmp old.by_file f))
-      → ((t : ℕ) → keys_under new.by_txn t ≡ cond (q.1 == t) (insert (keys_under old.by_txn q.1) (place lock_cmp q (held_of locks q.1)) key) (keys_under old.by_txn t))
+      → ((f : List ℕ) → keys_under same_name new.by_file f ≡ cond (same_name q.0 f) (insert (keys_under same_name old.by_file q.0) (place lock_cmp q (on_file locks q.0)) key) (keys_under same_name old.by_file f))
+      → ((t : ℕ) → keys_under nat_eq new.by_txn t ≡ cond (q.1 == t) (insert (keys_under nat_eq old.by_txn q.1) (place lock_cmp q (held_of locks q.1)) key) (keys_under nat_eq old.by_txn t))
       → Agrees new (fin.insert locks q l)
   Agrees-put absent vacant u files txns = record {
     sound = λ k e f. elim (was_there (Some (q, l)) u k e f) [
@@ -167,9 +155,9 @@ module _ (old new : KeyedLocks) (locks : Locks) (a : Agrees old locks) (q : Lock
         | inr d ↦ a.once j k x y c.1 d.1 s
       ]
     ];
-    of_file = λ f. put_listed old.entries new.entries (file_test f) (fin.entries locks) (keys_at name_cmp old.by_file f) (keys_at name_cmp new.by_file f) key q l (a.of_file f) (fin.entries_sorted locks) not_in vacant u (by_file_put f (keys_at name_cmp old.by_file) (keys_at name_cmp new.by_file) (files f))
+    of_file = λ f. put_listed old.entries new.entries (file_test f) (fin.entries locks) (keys_under same_name old.by_file f) (keys_under same_name new.by_file f) key q l (a.of_file f) (fin.entries_sorted locks) not_in vacant u (by_file_put f (keys_under same_name old.by_file) (keys_under same_name new.by_file) (files f))
         ∙ ap (λ es. map Some (filter (λ (e : Entry). same_name f e.0.0) es)) (sym (fin.entries-insert locks_total locks q l));
-    of_txn = λ t. put_listed old.entries new.entries (λ k. k.1 == t) (fin.entries locks) (keys_under old.by_txn t) (keys_under new.by_txn t) key q l (a.of_txn t) (fin.entries_sorted locks) not_in vacant u (by_txn_put t (keys_under old.by_txn) (keys_under new.by_txn) (txns t))
+    of_txn = λ t. put_listed old.entries new.entries (λ k. k.1 == t) (fin.entries locks) (keys_under nat_eq old.by_txn t) (keys_under nat_eq new.by_txn t) key q l (a.of_txn t) (fin.entries_sorted locks) not_in vacant u (by_txn_put t (keys_under nat_eq old.by_txn) (keys_under nat_eq new.by_txn) (txns t))
         ∙ ap (λ es. map Some (filter (λ (e : Entry). e.0.1 == t) es)) (sym (fin.entries-insert locks_total locks q l));
   }
     where
@@ -181,7 +169,7 @@ module _ (old new : KeyedLocks) (locks : Locks) (a : Agrees old locks) (q : Lock
 
   -- a new lock in an entry that is there
   pub Agrees-set : (m : Lock) → get old.entries key ≡ Some (q, m) → Updates old.entries new.entries key (Some (q, l))
-      → ((f : List ℕ) → keys_at name_cmp new.by_file f ≡ keys_at name_cmp old.by_file f) → ((t : ℕ) → keys_under new.by_txn t ≡ keys_under old.by_txn t) → Agrees new (fin.insert locks q l)
+      → ((f : List ℕ) → keys_under same_name new.by_file f ≡ keys_under same_name old.by_file f) → ((t : ℕ) → keys_under nat_eq new.by_txn t ≡ keys_under nat_eq old.by_txn t) → Agrees new (fin.insert locks q l)
   Agrees-set m at u files txns = record {
     sound = λ k e f. elim (was_there (Some (q, l)) u k e f) [
       | inl c ↦ subst (λ (x : Entry). fin.get (fin.insert locks q l) x.0 ≡ Some x.1) (some_same (q, l) e c.1) (get-put_same locks q l)
@@ -197,9 +185,9 @@ module _ (old new : KeyedLocks) (locks : Locks) (a : Agrees old locks) (q : Lock
         | inr d ↦ a.once j k x y c.1 d.1 s
       ]
     ];
-    of_file = λ f. set_listed old.entries new.entries (file_test f) (fin.entries locks) (keys_at name_cmp old.by_file f) (keys_at name_cmp new.by_file f) key q l (a.of_file f) (fin.entries_sorted locks) m a.once is_in at u (files f)
+    of_file = λ f. set_listed old.entries new.entries (file_test f) (fin.entries locks) (keys_under same_name old.by_file f) (keys_under same_name new.by_file f) key q l (a.of_file f) (fin.entries_sorted locks) m a.once is_in at u (files f)
         ∙ ap (λ es. map Some (filter (λ (e : Entry). same_name f e.0.0) es)) (sym (fin.entries-insert locks_total locks q l));
-    of_txn = λ t. set_listed old.entries new.entries (λ k. k.1 == t) (fin.entries locks) (keys_under old.by_txn t) (keys_under new.by_txn t) key q l (a.of_txn t) (fin.entries_sorted locks) m a.once is_in at u (txns t)
+    of_txn = λ t. set_listed old.entries new.entries (λ k. k.1 == t) (fin.entries locks) (keys_under nat_eq old.by_txn t) (keys_under nat_eq new.by_txn t) key q l (a.of_txn t) (fin.entries_sorted locks) m a.once is_in at u (txns t)
         ∙ ap (λ es. map Some (filter (λ (e : Entry). e.0.1 == t) es)) (sym (fin.entries-insert locks_total locks q l));
   }
     where
@@ -208,15 +196,15 @@ module _ (old new : KeyedLocks) (locks : Locks) (a : Agrees old locks) (q : Lock
 
   -- without an entry
   pub Agrees-remove : get old.entries key ≡ Some (q, l) → Updates old.entries new.entries key None
-      → ((f : List ℕ) → keys_at name_cmp new.by_file f ≡ cond (is_at (name_cmp q.0) f) (remove (keys_at name_cmp old.by_file q.0) (place lock_cmp q (on_file locks q.0))) (keys_at name_cmp old.by_file f))
-      → ((t : ℕ) → keys_under new.by_txn t ≡ cond (q.1 == t) (remove (keys_under old.by_txn q.1) (place lock_cmp q (held_of locks q.1))) (keys_under old.by_txn t))
+      → ((f : List ℕ) → keys_under same_name new.by_file f ≡ cond (same_name q.0 f) (remove (keys_under same_name old.by_file q.0) (place lock_cmp q (on_file locks q.0))) (keys_under same_name old.by_file f))
+      → ((t : ℕ) → keys_under nat_eq new.by_txn t ≡ cond (q.1 == t) (remove (keys_under nat_eq old.by_txn q.1) (place lock_cmp q (held_of locks q.1))) (keys_under nat_eq old.by_txn t))
       → Agrees new (fin.remove locks q)
   Agrees-remove at u files txns = record {
     sound = λ k e f. let c = still k e f in get-cut_other locks q e.0 (λ s. c.0 (a.once k key e (q, l) c.1 at s)) ∙ a.sound k e c.1;
     once = λ j k x y f g s. a.once j k x y (still j x f).1 (still k y g).1 s;
-    of_file = λ f. remove_listed old.entries new.entries (file_test f) (fin.entries locks) (keys_at name_cmp old.by_file f) (keys_at name_cmp new.by_file f) key q l (a.of_file f) (fin.entries_sorted locks) is_in at u (by_file_cut f (keys_at name_cmp old.by_file) (keys_at name_cmp new.by_file) (files f))
+    of_file = λ f. remove_listed old.entries new.entries (file_test f) (fin.entries locks) (keys_under same_name old.by_file f) (keys_under same_name new.by_file f) key q l (a.of_file f) (fin.entries_sorted locks) is_in at u (by_file_cut f (keys_under same_name old.by_file) (keys_under same_name new.by_file) (files f))
         ∙ ap (λ es. map Some (filter (λ (e : Entry). same_name f e.0.0) es)) (sym (entries-remove locks q));
-    of_txn = λ t. remove_listed old.entries new.entries (λ k. k.1 == t) (fin.entries locks) (keys_under old.by_txn t) (keys_under new.by_txn t) key q l (a.of_txn t) (fin.entries_sorted locks) is_in at u (by_txn_cut t (keys_under old.by_txn) (keys_under new.by_txn) (txns t))
+    of_txn = λ t. remove_listed old.entries new.entries (λ k. k.1 == t) (fin.entries locks) (keys_under nat_eq old.by_txn t) (keys_under nat_eq new.by_txn t) key q l (a.of_txn t) (fin.entries_sorted locks) is_in at u (by_txn_cut t (keys_under nat_eq old.by_txn) (keys_under nat_eq new.by_txn) (txns t))
         ∙ ap (λ es. map Some (filter (λ (e : Entry). e.0.1 == t) es)) (sym (entries-remove locks q));
   }
     where
@@ -283,9 +271,6 @@ only_stable-all locks all = same_sets _ _ (λ q. get-only_stable locks q ∙ by_
     by_look : (q : LockKey) (o : Option Lock) → fin.get locks q ≡ o → cond (option_map_or (λ (x : Lock). x.stable) o false) o None ≡ o
     by_look q None f = refl
     by_look q (Some l) f = ap (λ b. cond b (Some l) None) (all q l f)
-
-steady_or : (l : Lock) → l.stable ≡ true → steady l ≡ l
-steady_or l h = λ i. record { mode = l.mode; since = l.since; version = l.version; stable = sym h i }
 
 marked_steady : (l : Lock) (b : Bool) → b ≡ true → (l.stable || b) ≡ true
 marked_steady l true h = by_stable l.stable

@@ -22,9 +22,6 @@ module _ {A : Type 0} (D : A → A → Type 0) (same : (x y : A) → D x y → y
   cloned_slots (Some x ∷ xs) (Some y ∷ ys) z = λ i. Some (same x y z.0 i) ∷ cloned_slots xs ys z.1 i
 
 module _ {K : Type 0} (C : K → K → Type 0) (same : (x y : K) → C x y → y ≡ x) (D : ℕ → ℕ → Type 0) (equal : (x y : ℕ) → D x y → y ≡ x) (test : K → Bool) where
-  keys_in : Option (SmallVec ℕ) → List ℕ
-  keys_in o = option_map_or (λ keys. keys.items) o []
-
   pub cloned_lists : (es fs : List (K × SmallVec ℕ)) → AllZip (λ p q. C p.0 q.0 × AllZip D p.1.items q.1.items) es fs → option_map_or (λ keys. keys.items) (lookup test fs) [] ≡ option_map_or (λ keys. keys.items) (lookup test es) []
   cloned_lists [] [] z = refl
   cloned_lists [] (f ∷ fs) z = absurd z

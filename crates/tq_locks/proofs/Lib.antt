@@ -6,10 +6,9 @@ pub mod Agreed
 pub mod Partition
 pub mod Changed
 pub mod Applied
-pub mod Walked
+pub mod InOrder
 pub mod Copied
 pub mod Locked
 pub mod TakenOut
 pub mod Indexed
-pub mod Written
 pub mod Asked

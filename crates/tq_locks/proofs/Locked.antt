@@ -267,9 +267,6 @@ decided-blocks : (file : List ℕ) (txn : ℕ) (mode : Mode) (es : List (LockKey
 decided-blocks file txn mode [] on agree = refl
 decided-blocks file txn mode (e ∷ es) on agree = decided_step file txn mode e es (on e (inl refl)) agree.0 (decided-blocks file txn mode es (λ x h. on x (inr h)) agree.1)
 
-on_this : (file : List ℕ) → LockKey × Lock → Bool
-on_this file e = pointwise nat_eq file e.0.0
-
 -- a search may leave out what its test leaves out
 find-filtered : (file : List ℕ) (txn : ℕ) (mode : Mode) (es : List (LockKey × Lock)) → lists.find (blocks file txn mode) (filter (λ e. pointwise nat_eq file e.0.0) es) ≡ lists.find (blocks file txn mode) es
 find-filtered file txn mode [] = refl

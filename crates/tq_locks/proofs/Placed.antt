@@ -14,9 +14,6 @@ use Rattle.tq_shape.proofs.Orderings.{is_eq-Equal}
 use Rattle.tq_locks.specs.Keys.{place}
 use Rattle.tq_locks.proofs.Found.{none_some, first, second, less, below_each, Has-looked_up}
 
-not_true : (b : Bool) → b ≡ false → not b ≡ true
-not_true b e = ap not e
-
 module _ {K : Type 0} {R : K → K → Ordering} (o : IsTotalOrder R) where
   pub turned : (a b : K) (r : Ordering) → R a b ≡ r → R b a ≡ ordering_reverse r
   turned a b r e = o.antisymm b a ∙ ap ordering_reverse e

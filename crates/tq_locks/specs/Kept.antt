@@ -1,20 +1,18 @@
 -- The locks of a table as it keeps them: entries under keys, and the keys of each file and of each transaction.
 use Rattle.std.specs.Prelude.{◌≡◌, ◌≤◌, ◌==◌, ℕ, T, Bool, List, [], ◌∷◌, Option, length, map, filter, Some, None, true, false, nat_eq, if◌then◌else◌}
 use Rattle.std.specs.List.{IsDistinct, remove}
-use Rattle.std.specs.BTreeMap.{is_at}
 use Rattle.std.specs.Option.{option_map, option_map_or, option_and_then}
 use Rattle.std.specs.FinMap as fin
 use Rattle.std.specs.Ordering.{is_lt}
 use Rattle.slab.specs.Slab.{Slab, get, values}
-use Rattle.tq_store.specs.Copies.{name_cmp}
 use Rattle.tq_store.specs.Names.{same_name}
 use Rattle.tq_locks.specs.declared.keyed.KeyedLocks.{KeyedLocks}
 use Rattle.indexmap.specs.IndexMap.{index_of}
 use Rattle.tq_locks.specs.declared.mode.Mode.{Mode}
 use Rattle.tq_locks.specs.declared.mode.Lock.{Lock}
-use Rattle.tq_locks.specs.declared.numbered.Spot.{Spot}
+use Rattle.tq_locks.specs.declared.index.Spot.{Spot}
 use Rattle.tq_locks.specs.Locks.{LockKey, Locks, lock_cmp, conflicts, held_of}
-use Rattle.tq_locks.specs.Keys.{keys_at, keys_under, place}
+use Rattle.tq_locks.specs.Keys.{keys_under, place}
 
 -- the entries that are kept, as a set of locks
 abbrev pub locks_in : KeyedLocks → Locks
@@ -43,8 +41,8 @@ pub record Agrees (kept : KeyedLocks) (locks : Locks) : Type 0 where
   pub sound : (key : ℕ) (entry : LockKey × Lock) → get kept.entries key ≡ Some entry → fin.get locks entry.0 ≡ Some entry.1
   pub once : (key other : ℕ) (entry twin : LockKey × Lock) → get kept.entries key ≡ Some entry → get kept.entries other ≡ Some twin → entry.0 ≡ twin.0 → key ≡ other
   -- each index has the keys of all the locks of a file, and of a transaction
-  pub of_file : (file : List ℕ) → AreKeysOf kept.entries (keys_at name_cmp kept.by_file file) (on_file locks file)
-  pub of_txn : (txn : ℕ) → AreKeysOf kept.entries (keys_under kept.by_txn txn) (held_of locks txn)
+  pub of_file : (file : List ℕ) → AreKeysOf kept.entries (keys_under same_name kept.by_file file) (on_file locks file)
+  pub of_txn : (txn : ℕ) → AreKeysOf kept.entries (keys_under nat_eq kept.by_txn txn) (held_of locks txn)
 
 -- the entry under a key comes before a place in the set
 abbrev pub is_under : Slab (LockKey × Lock) → LockKey → ℕ → Bool
@@ -56,13 +54,13 @@ RisesTo slab keys key count = (entries : List (LockKey × Lock)) → AreKeysOf s
 
 -- these are the keys of a transaction, and the key of its lock on a file stands or goes at the place
 pub record IsPlaceUnder (kept : KeyedLocks) (name : LockKey) (keys : List ℕ) (place : ℕ) : Type 0 where
-  pub all : keys ≡ keys_under kept.by_txn name.1
+  pub all : keys ≡ keys_under nat_eq kept.by_txn name.1
   pub within : place ≤ length keys
   pub rises : RisesTo kept.entries keys name place
 
 -- the spot has the index of the transaction's keys, and the place of its lock on a file
 abbrev pub IsSpotOf : KeyedLocks → LockKey → Spot → Type 0
-IsSpotOf kept name spot = (spot.index ≡ index_of nat_eq kept.by_txn name.1) × IsPlaceUnder kept name (keys_under kept.by_txn name.1) spot.place
+IsSpotOf kept name spot = (spot.index ≡ index_of nat_eq kept.by_txn name.1) × IsPlaceUnder kept name (keys_under nat_eq kept.by_txn name.1) spot.place
 
 -- the entry under a key is the lock of this file and transaction
 abbrev pub IsOf : Slab (LockKey × Lock) → ℕ → LockKey → Type 0
@@ -71,8 +69,8 @@ IsOf slab key name = (lock : Lock) × (get slab key ≡ Some (name, lock))
 -- the key of this file and transaction has left the keys of the file, where it stood in its place
 pub record LeftFile (old new : KeyedLocks) (name : LockKey) : Type 0 where
   pub place : ℕ
-  pub stood : RisesTo old.entries (keys_at name_cmp old.by_file name.0) name place
-  pub files : (file : List ℕ) → keys_at name_cmp new.by_file file ≡ (if is_at (name_cmp name.0) file then remove (keys_at name_cmp old.by_file name.0) place else keys_at name_cmp old.by_file file)
+  pub stood : RisesTo old.entries (keys_under same_name old.by_file name.0) name place
+  pub files : (file : List ℕ) → keys_under same_name new.by_file file ≡ (if same_name name.0 file then remove (keys_under same_name old.by_file name.0) place else keys_under same_name old.by_file file)
 
 -- no key stands twice, and there are as many as entries
 abbrev pub HasOneKeyEach : List ℕ → List (LockKey × Lock) → Type 0

@@ -1,34 +1,35 @@
 //! The entries of a table in a slab, with the keys of each file and of each transaction.
-ghost use Rattle.std.specs.Prelude.{◌≡◌, ◌+◌, ◌-◌, ◌≤◌, ◌==◌, ℕ, if◌then◌else◌, List, None, Some, IsSome, IfSome, IfNone, IfOk, OnOk, OnErr, false, [], ◌∷◌, length};
+ghost use Rattle.std.specs.Prelude.{◌≡◌, ◌+◌, ◌-◌, ◌≤◌, ◌==◌, ℕ, if◌then◌else◌, List, None, Some, IsSome, IfSome, IfNone, IfOk, OnErr, length, nat_eq};
 ghost use Rattle.std.specs.FinMap as fin;
 ghost use Rattle.std.specs.List.{slice_get};
-ghost use Rattle.std.specs.Option.{option_copied, option_map, option_map_or};
-ghost use Rattle.std.specs.Ordering.{is_lt};
-ghost use Rattle.tq_store.specs.Copies.{name_cmp};
-ghost use Rattle.slab.specs.Slab.{get, slab_len, Updates};
+ghost use Rattle.std.specs.Option.{option_copied, option_map};
+ghost use Rattle.std.specs.Result.{result_err};
+ghost use Rattle.tq_store.specs.Names.{same_name};
+ghost use Rattle.indexmap.specs.IndexMap.{index_of};
+ghost use Rattle.slab.specs.Slab.{get, slab_len, values, Updates};
 ghost use Rattle.tq_shape.specs.Steps.{state_at};
-ghost use Rattle.tq_locks.specs.Locks.{LockKey, Locks, lock_cmp, kept, released, only_stable};
-ghost use Rattle.tq_locks.specs.Keys.{keys_at, keys_under, place, told};
+ghost use Rattle.tq_locks.specs.Locks.{LockKey, Locks, kept, released, only_stable};
+ghost use Rattle.tq_locks.specs.Keys.{keys_under, place, told};
 ghost use Rattle.tq_locks.specs.Kept.{decided};
 
-use crate::lists::{Keys, add, listed, place, take};
-use crate::numbered::{
+use crate::index::{
     Spot, end_empty_under, list_under, listed_under, make_room_under, put_under, take_all_under,
     take_under,
 };
+use crate::lists::{Keys, place};
 use crate::{Lock, LockEntry, Mode};
 use indexmap::IndexMap;
 use slab::Slab;
 use std::alloc::{AllocError, Global};
-use std::collections::BTreeMap;
 use std::marker::Model;
 use tq_store::FileName;
 
 /// The entries, each under its key, and the keys of each file and of each transaction.
+/// The list of a file stays when its last key leaves, so that a later lock on the file changes no map.
 #[derive(Drop)]
 pub(crate) struct KeyedLocks {
     pub(crate) entries: Slab<LockEntry>,
-    pub(crate) by_file: BTreeMap<FileName, Keys>,
+    pub(crate) by_file: IndexMap<FileName, Keys>,
     pub(crate) by_txn: IndexMap<u64, Keys>,
     alloc: Global,
 }
@@ -41,7 +42,7 @@ pub(crate) struct Found {
 }
 
 impl KeyedLocks {
-    ghost use Rattle.tq_locks.specs.Kept.{is_under, locks_in, lock_found, on_file, Agrees, AreKeysOf, IsOf, IsPlaceUnder, IsSpotOf, IsStableAt, LeftFile, RisesTo, steady};
+    ghost use Rattle.tq_locks.specs.Kept.{locks_in, lock_found, on_file, Agrees, IsOf, IsPlaceUnder, IsSpotOf, IsStableAt, LeftFile, RisesTo, steady};
     ghost use Rattle.tq_locks.specs.declared.mode.Lock.{Lock};
 
     pub(crate) fn new(alloc: Global) -> KeyedLocks
@@ -49,7 +50,7 @@ impl KeyedLocks {
     {
         KeyedLocks {
             entries: Slab::new(alloc),
-            by_file: BTreeMap::new(alloc),
+            by_file: IndexMap::new(alloc),
             by_txn: IndexMap::new(alloc),
             alloc,
         }
@@ -64,26 +65,37 @@ impl KeyedLocks {
 
     /// The keys of a file's entries, ascending by transaction.
     pub(crate) fn keys_of_file(&self, file: &FileName) -> &[usize]
-        ensures { result.now ≡ keys_at name_cmp self.now.by_file file.now }
+        ensures { result.now ≡ keys_under same_name self.now.by_file file.now }
     {
-        listed(&self.by_file, file)
+        listed_under(&self.by_file, file)
     }
 
     /// The keys of a transaction's entries, ascending by file.
     pub(crate) fn keys_of_txn(&self, txn: u64) -> &[usize]
-        ensures { result.now ≡ keys_under self.now.by_txn txn }
+        ensures { result.now ≡ keys_under nat_eq self.now.by_txn txn }
     {
-        listed_under(&self.by_txn, txn)
+        listed_under(&self.by_txn, &txn)
     }
 
     /// The entries under these keys.
-    pub(crate) fn listed<'a>(&'a self, keys: &'a [usize]) -> Listed<'a>
+    pub(crate) fn listed<'a>(&'a self, keys: &'a [usize]) -> HeldLocks<'a>
         ensures { result ≡ told self.now.entries keys.now }
     {
-        Listed {
+        HeldLocks {
             entries: &self.entries,
             keys,
         }
+    }
+
+    /// The entries, in the order of their keys.
+    pub(crate) fn unsorted(&self, alloc: Global) -> Result<Vec<LockEntry>, AllocError>
+        ensures { IfOk result (λ all. all.items ≡ values self.now.entries) }
+    {
+        let mut all = Vec::with_capacity(alloc, self.entries.len())?;
+        for (_key, entry) in self.entries.iter() {
+            all.push(*entry)?;
+        }
+        Ok(all)
     }
 
     /// Where the key of a file and a transaction is, or would go.
@@ -92,7 +104,7 @@ impl KeyedLocks {
         ensures none { Agrees self.now (locks_in self.now) → IfNone result.key (fin.get (locks_in self.now) (file.now, txn) ≡ None) }
         ensures spot { IsSpotOf self.now (file.now, txn) result.spot }
     {
-        let list = list_under(&self.by_txn, txn);
+        let list = list_under(&self.by_txn, &txn);
         let place = place(&self.entries, list.1, file, txn);
         Found {
             spot: Spot {
@@ -131,25 +143,35 @@ impl KeyedLocks {
         ensures ok { IfOk result (λ by. Agrees self.new (state_at by (locks_in self.old) (fin.insert (locks_in self.old) entry.0 entry.1))) }
         ensures err { OnErr result (Agrees self.new (locks_in self.old)) }
     {
+        let in_file = match self.spot_in_file(&entry) {
+            Ok(in_file) => in_file,
+            Err(by) => return Ok(Some(by)),
+        };
         self.entries.reserve(1)?;
-        make_room_under(&mut self.by_txn, entry.txn, spot.index)?;
+        make_room_under(&mut self.by_file, &entry.file, in_file.index)?;
+        make_room_under(&mut self.by_txn, &entry.txn, spot.index)?;
+        // From here on nothing fails.
         let key = self.entries.vacant_key();
-        // The last that can fail makes the first change.
-        let put = add(
-            self.alloc,
-            &mut self.by_file,
-            &self.entries,
-            entry.file,
-            &entry,
-            key,
-        )?;
-        match put {
-            Ok(_place) => {
-                put_under(self.alloc, &mut self.by_txn, entry.txn, spot, key);
-                self.entries.insert_reserved(entry);
-                Ok(None)
-            }
-            Err(by) => Ok(Some(by)),
+        put_under(self.alloc, &mut self.by_file, &entry.file, in_file, key);
+        put_under(self.alloc, &mut self.by_txn, &entry.txn, spot, key);
+        self.entries.insert_reserved(entry);
+        Ok(None)
+    }
+
+    // Where the key of a new entry goes among the keys of its file, or the transaction whose lock there blocks it.
+    fn spot_in_file(&self, entry: &LockEntry) -> Result<Spot, u64>
+        ensures told { result_err result ≡ decided entry.now.0.1 entry.now.1.mode (told self.now.entries (keys_under same_name self.now.by_file entry.now.0.0)) }
+        ensures index { IfOk result (λ spot. spot.index ≡ index_of same_name self.now.by_file entry.now.0.0) }
+        ensures within { IfOk result (λ spot. spot.place ≤ length (keys_under same_name self.now.by_file entry.now.0.0)) }
+        ensures place { IfOk result (λ spot. RisesTo self.now.entries (keys_under same_name self.now.by_file entry.now.0.0) entry.now.0 spot.place) }
+    {
+        let list = list_under(&self.by_file, &entry.file);
+        match held_by(&self.entries, list.1, entry.txn, entry.lock.mode) {
+            Some(by) => Err(by),
+            None => Ok(Spot {
+                index: list.0,
+                place: place(&self.entries, list.1, &entry.file, entry.txn),
+            }),
         }
     }
 
@@ -157,7 +179,7 @@ impl KeyedLocks {
     pub(crate) fn set_lock(&mut self, key: usize, lock: Lock)
         requires { Agrees self.old (locks_in self.old) }
         ensures agreed { (name : LockKey) → IsOf self.old.entries key name → Agrees self.new (fin.insert (locks_in self.old) name lock) }
-        ensures by_txn { (txn : ℕ) → keys_under self.new.by_txn txn ≡ keys_under self.old.by_txn txn }
+        ensures by_txn { (txn : ℕ) → keys_under nat_eq self.new.by_txn txn ≡ keys_under nat_eq self.old.by_txn txn }
         ensures entries { (other : ℕ) → get self.new.entries other ≡ (if other == key then option_map (λ entry. (entry.0, lock)) (get self.old.entries key) else get self.old.entries other) }
     {
         if let Some(entry) = self.entries.get_mut(key) {
@@ -176,7 +198,7 @@ impl KeyedLocks {
         let Some(entry) = self.entries.get(key) else {
             return;
         };
-        take_under(&mut self.by_txn, &self.entries, entry.txn, entry, key);
+        take_under(&mut self.by_txn, &self.entries, &entry.txn, entry, key);
         self.leave_file(key);
     }
 
@@ -190,7 +212,7 @@ impl KeyedLocks {
         let Some(entry) = self.entries.get(key) else {
             return;
         };
-        take(&mut self.by_file, &self.entries, &entry.file, entry, key);
+        take_under(&mut self.by_file, &self.entries, &entry.file, entry, key);
         self.entries.remove(key);
     }
 
@@ -210,7 +232,7 @@ impl KeyedLocks {
     fn stabilise(&mut self, key: usize)
         requires { Agrees self.old (locks_in self.old) }
         ensures agreed { (name : LockKey) (lock : Lock) → get self.old.entries key ≡ Some (name, lock) → Agrees self.new (fin.insert (locks_in self.old) name (steady lock)) }
-        ensures by_txn { (txn : ℕ) → keys_under self.new.by_txn txn ≡ keys_under self.old.by_txn txn }
+        ensures by_txn { (txn : ℕ) → keys_under nat_eq self.new.by_txn txn ≡ keys_under nat_eq self.old.by_txn txn }
         ensures entries { (other : ℕ) → get self.new.entries other ≡ (if other == key then option_map (λ entry. (entry.0, steady entry.1)) (get self.old.entries key) else get self.old.entries other) }
     {
         let Some(entry) = self.entry(key) else {
@@ -233,8 +255,8 @@ impl KeyedLocks {
         requires { Agrees self.old (locks_in self.old) }
         ensures agreed { Agrees self.new (locks_in self.new) }
         ensures kept { kept (locks_in self.new) txn ≡ kept (locks_in self.old) txn }
-        ensures keys { keys_under self.new.by_txn txn ≡ keys_under self.old.by_txn txn }
-        ensures stable { (key : ℕ) → slice_get (keys_under self.old.by_txn txn) place ≡ Some key → IsStableAt self.new.entries key }
+        ensures keys { keys_under nat_eq self.new.by_txn txn ≡ keys_under nat_eq self.old.by_txn txn }
+        ensures stable { (key : ℕ) → slice_get (keys_under nat_eq self.old.by_txn txn) place ≡ Some key → IsStableAt self.new.entries key }
         ensures others { (other : ℕ) → IsStableAt self.old.entries other → IsStableAt self.new.entries other }
     {
         let Some(key) = self.keys_of_txn(txn).get(place).copied() else {
@@ -258,7 +280,7 @@ impl KeyedLocks {
         requires { Agrees self.old (locks_in self.old) }
         ensures { Agrees self.new (released (locks_in self.old) txn) }
     {
-        let mut keys = take_all_under(self.alloc, &mut self.by_txn, txn);
+        let mut keys = take_all_under(self.alloc, &mut self.by_txn, &txn);
         while let Some(key) = keys.pop() {
             self.leave_file(key);
         }
@@ -281,7 +303,7 @@ impl KeyedLocks {
         }
         let txn = entry.txn;
         self.remove(key);
-        end_empty_under(&mut self.by_txn, txn);
+        end_empty_under(&mut self.by_txn, &txn);
     }
 
     /// Ends the locks that aren't stable.
@@ -304,7 +326,7 @@ pub(crate) fn held_by(
 ) -> Option<u64>
     ensures { result ≡ decided txn mode (told entries.now keys.now) }
 {
-    for entry in (Listed { entries, keys }) {
+    for entry in (HeldLocks { entries, keys }) {
         if !(entry.txn == txn) {
             return if mode.conflicts_with(entry.lock.mode) {
                 Some(entry.txn)
@@ -316,14 +338,14 @@ pub(crate) fn held_by(
     None
 }
 
-/// The entries under keys that are left to walk.
+/// Locks of a table that are left to walk.
 #[derive(Drop)]
-pub(crate) struct Listed<'a> {
+pub struct HeldLocks<'a> {
     entries: &'a Slab<LockEntry>,
     keys: &'a [usize],
 }
 
-impl<'a> Model for Listed<'a> {
+impl<'a> Model for HeldLocks<'a> {
     ghost use Rattle.std.specs.Prelude.{List};
     ghost use Rattle.tq_locks.specs.Locks.{LockKey};
     ghost use Rattle.tq_locks.specs.declared.mode.Lock.{Lock};
@@ -334,7 +356,7 @@ impl<'a> Model for Listed<'a> {
     ghost view = { λ it. told it.entries.now it.keys.now };
 }
 
-impl<'a> Iterator for Listed<'a> {
+impl<'a> Iterator for HeldLocks<'a> {
     ghost use Rattle.std.specs.Iterator.{YieldsFirst, item_count};
 
     type Item = LockEntry;

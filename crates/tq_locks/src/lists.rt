@@ -1,36 +1,20 @@
-//! Lists of keys, each under a name: an index of a slab.
-ghost use Rattle.std.specs.Prelude.{◌≡◌, ◌-◌, ◌≤◌, false, length, IfOk, OnErr, Some, [], ◌∷◌, if◌then◌else◌};
-ghost use Rattle.std.specs.Result.{result_err};
+//! Lists of the keys of a slab, whose entries rise.
+ghost use Rattle.std.specs.Prelude.{◌≡◌, ◌-◌, ◌≤◌, false, length, Some, [], ◌∷◌};
 ghost use Rattle.std.specs.Bool.{OnTrue};
 ghost use Rattle.std.specs.List.{insert, remove, slice_get};
 ghost use Rattle.std.specs.Option.{option_map_or};
-ghost use Rattle.std.specs.BTreeMap.{IsOrdered, is_at};
 ghost use Rattle.slab.specs.Slab.{get};
 ghost use Rattle.smallvec.specs.SmallVec.{HasRoomFor};
-ghost use Rattle.tq_locks.specs.Keys.{keys_at, told};
-ghost use Rattle.tq_locks.specs.Kept.{decided, is_under, RisesTo};
+ghost use Rattle.tq_locks.specs.Kept.{is_under, RisesTo};
 
 use crate::LockEntry;
-use crate::keyed::held_by;
 use slab::Slab;
 use smallvec::SmallVec;
-use std::alloc::{AllocError, Global};
-use std::collections::BTreeMap;
-use std::collections::btree_map::Entry;
+use std::alloc::Global;
 use tq_store::FileName;
 
 /// The keys under one name. Up to two of them need no allocation.
 pub(crate) type Keys = SmallVec<usize, 2>;
-
-/// The keys under a name.
-pub(crate) fn listed<'a, K: Ord + Copy>(lists: &'a BTreeMap<K, Keys>, name: &K) -> &'a [usize]
-    ensures { result.now ≡ keys_at K.cmp lists.now name.now }
-{
-    match lists.get(name) {
-        Some(keys) => keys.as_slice(),
-        None => &[],
-    }
-}
 
 /// Whether the entry under a key comes before the place of this file and transaction.
 fn is_below(entries: &Slab<LockEntry>, key: usize, file: &FileName, txn: u64) -> bool
@@ -67,31 +51,6 @@ pub(crate) fn place(entries: &Slab<LockEntry>, keys: &[usize], file: &FileName, 
     keys.partition_point(|key| is_below(entries, *key, file, txn))
 }
 
-/// Puts the key of an entry into its place in a name's list, and tells the place, or whose lock there blocks it.
-/// Where it is blocked, and without memory, all lists stay as they were.
-pub(crate) fn add<K: Ord + Copy + Drop>(
-    alloc: Global,
-    lists: &mut BTreeMap<K, Keys>,
-    entries: &Slab<LockEntry>,
-    name: K,
-    entry: &LockEntry,
-    key: usize,
-) -> Result<Result<usize, u64>, AllocError>
-    ensures told { IfOk result (λ put. result_err put ≡ decided entry.now.0.1 entry.now.1.mode (told entries.now (keys_at K.cmp lists.old name))) }
-    ensures place { IfOk result (λ put. IfOk put (RisesTo entries.now (keys_at K.cmp lists.old name) entry.now.0)) }
-    ensures after { IfOk result (λ put. IfOk put (λ place. (other : K) → keys_at K.cmp lists.new other ≡ (if is_at (K.cmp name) other then insert (keys_at K.cmp lists.old name) place key else keys_at K.cmp lists.old other))) }
-    ensures blocked { IfOk result (λ put. OnErr put ((other : K) → keys_at K.cmp lists.new other ≡ keys_at K.cmp lists.old other)) }
-    ensures err { OnErr result ((other : K) → keys_at K.cmp lists.new other ≡ keys_at K.cmp lists.old other) }
-{
-    match lists.entry(name)? {
-        Entry::Occupied(list) => enter(list.into_mut(), entries, entry, key),
-        Entry::Vacant(list) => {
-            list.insert(only(alloc, key));
-            Ok(Ok(0))
-        }
-    }
-}
-
 /// A list of one key.
 pub(crate) fn only(alloc: Global, key: usize) -> Keys
     ensures { result.items ≡ key ∷ [] }
@@ -99,51 +58,6 @@ pub(crate) fn only(alloc: Global, key: usize) -> Keys
     let mut keys = Keys::new(alloc);
     keys.push_reserved(key);
     keys
-}
-
-/// Takes the key of an entry out of a name's list, and tells its place. A list ends with its last key.
-pub(crate) fn take<K: Ord + Copy + Drop>(
-    lists: &mut BTreeMap<K, Keys>,
-    entries: &Slab<LockEntry>,
-    name: &K,
-    entry: &LockEntry,
-    key: usize,
-) -> usize
-    requires { get entries.now key ≡ Some entry.now }
-    ensures place { RisesTo entries.now (keys_at K.cmp lists.old name.now) entry.now.0 result }
-    ensures after { (other : K) → keys_at K.cmp lists.new other ≡ (if is_at (K.cmp name.now) other then remove (keys_at K.cmp lists.old name.now) result else keys_at K.cmp lists.old other) }
-{
-    let Some(keys) = lists.get_mut(name) else {
-        return 0;
-    };
-    let place = leave(keys, entries, entry, key);
-    if keys.is_empty() {
-        lists.remove(name);
-    }
-    place
-}
-
-/// Puts the key of an entry into its place in a list, and tells the place, or whose lock blocks it.
-/// Where it is blocked, and without memory, the list stays as it was.
-fn enter(
-    keys: &mut Keys,
-    entries: &Slab<LockEntry>,
-    entry: &LockEntry,
-    key: usize,
-) -> Result<Result<usize, u64>, AllocError>
-    ensures told { IfOk result (λ put. result_err put ≡ decided entry.now.0.1 entry.now.1.mode (told entries.now keys.old.items)) }
-    ensures place { IfOk result (λ put. IfOk put (RisesTo entries.now keys.old.items entry.now.0)) }
-    ensures after { IfOk result (λ put. IfOk put (λ place. keys.new.items ≡ insert keys.old.items place key)) }
-    ensures blocked { IfOk result (λ put. OnErr put (keys.new ≡ keys.old)) }
-    ensures err { OnErr result (keys.new ≡ keys.old) }
-{
-    if let Some(by) = held_by(entries, keys.as_slice(), entry.txn, entry.lock.mode) {
-        return Ok(Err(by));
-    }
-    keys.reserve(1)?;
-    let place = place(entries, keys.as_slice(), &entry.file, entry.txn);
-    put_in(keys, place, key);
-    Ok(Ok(place))
 }
 
 /// Puts a key into its place in a list that has room.

@@ -1,11 +1,9 @@
 ghost use Rattle.std.specs.Prelude.{◌≡◌, OnOk, OnErr, IfOk, IfSome, IfNone, None, Some};
 ghost use Rattle.std.specs.FinMap as fin;
 
-use crate::keyed::{KeyedLocks, Listed, held_by};
-use crate::lists::Keys;
+use crate::keyed::{HeldLocks, KeyedLocks, held_by};
 use crate::{Lock, Mode};
 use std::alloc::{AllocError, Global};
-use std::collections::btree_map::Values;
 use std::marker::Model;
 use tq_store::FileName;
 
@@ -99,14 +97,12 @@ impl LockTable {
     }
 
     /// All locks, ascending by file and then by transaction.
-    pub fn iter(&self) -> LockEntries<'_>
-        ensures { result ≡ fin.entries self.now }
+    pub fn entries(&self, alloc: Global) -> Result<Vec<LockEntry>, AllocError>
+        ensures { IfOk result (λ all. all.items ≡ fin.entries self.now) }
     {
-        LockEntries {
-            kept: &self.kept,
-            here: self.kept.listed(&[]),
-            files: self.kept.by_file.values(),
-        }
+        let mut all = self.kept.unsorted(alloc)?;
+        all.sort_unstable_by_key(|entry| (entry.file, entry.txn));
+        Ok(all)
     }
 
     /// The keys of the locks on a file, each once, ascending by transaction.
@@ -212,13 +208,20 @@ impl LockTable {
         }
     }
 
+    /// A walk of a transaction's locks, ascending by file.
+    pub fn locks_of(&self, txn: u64) -> HeldLocks<'_>
+        ensures { result ≡ held_of self.now txn }
+    {
+        self.kept.listed(self.kept.keys_of_txn(txn))
+    }
+
     /// The locks of a transaction, ascending by file.
     pub fn held(&self, alloc: Global, txn: u64) -> Result<Vec<LockEntry>, AllocError>
         ensures { IfOk result (λ held. held.items ≡ held_of self.now txn) }
     {
         let keys = self.kept.keys_of_txn(txn);
         let mut held = Vec::with_capacity(alloc, keys.len())?;
-        for entry in self.kept.listed(keys) {
+        for entry in self.locks_of(txn) {
             held.push(entry)?;
         }
         Ok(held)
@@ -250,45 +253,5 @@ impl LockTable {
         ensures { self.new ≡ only_stable self.old }
     {
         self.kept.drop_unstable();
-    }
-}
-
-/// The locks of a table that are left to walk, ascending by file and then by transaction.
-#[derive(Drop)]
-pub struct LockEntries<'a> {
-    kept: &'a KeyedLocks,
-    // Those of the file that is walked, and the keys of the files that are to come.
-    here: Listed<'a>,
-    files: Values<'a, FileName, Keys>,
-}
-
-impl<'a> Model for LockEntries<'a> {
-    ghost use Rattle.std.specs.Prelude.{List, ◌++◌};
-    ghost use Rattle.tq_locks.specs.Locks.{LockKey};
-    ghost use Rattle.tq_locks.specs.declared.mode.Lock.{Lock};
-    ghost use Rattle.tq_locks.specs.Keys.{told_of};
-
-    ghost Value = { List (LockKey × Lock) };
-
-    ghost view = { λ it. it.here ++ told_of it.kept.now.entries it.files };
-}
-
-impl<'a> Iterator for LockEntries<'a> {
-    ghost use Rattle.std.specs.Iterator.{YieldsFirst, item_count};
-
-    type Item = LockEntry;
-
-    ghost next_gives = { YieldsFirst (λ rest. rest) };
-
-    ghost remaining = { item_count (λ rest. rest) };
-
-    fn next(&mut self) -> Option<LockEntry> {
-        loop {
-            let entry = self.here.next();
-            if entry.is_some() {
-                return entry;
-            }
-            self.here = self.kept.listed(self.files.next()?);
-        }
     }
 }

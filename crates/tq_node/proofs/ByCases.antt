@@ -34,7 +34,7 @@ use Rattle.tq_asks.specs.declared.ask.Verdict.{Verdict}
 use Rattle.tq_asks.specs.declared.ask.Verdict.TheVariants.{Abort, Commit}
 use Rattle.tq_asks.specs.declared.ask.WorkAsk.{WorkAsk}
 use Rattle.tq_asks.specs.declared.ask.WorkAsk.TheVariants as work
-use Rattle.tq_asks.specs.Citing.{are_citing, cites_vote}
+use Rattle.tq_asks.specs.Citing.{cites_vote}
 use Rattle.tq_node.specs.Records.{Records, NodeState, has_vote, holds_exclusively, not_locked, are_good_writes, lock_refusal, prepare_refusal, release_refusal, work_refusal, refusal, open_vote, installs, work_reply, reply_of, work_after, records_after, answer_at, node_reply, node_after, kept_records, stop_writes}
 use Rattle.tq_shape.specs.Steps.{refuse, refuse_for, state_at}
 use Rattle.tq_node.specs.Cases.{IsStep, IsUp, Holds, Blocks, Cites}

@@ -1,5 +1,5 @@
 -- The files whose copies an ask may have raised.
-use Rattle.std.specs.Prelude.{◌≡◌, ℕ, Bool, false, List, [], ◌∷◌, map}
+use Rattle.std.specs.Prelude.{◌≡◌, ℕ, false, List, [], ◌∷◌, map}
 use Rattle.std.specs.List.{list_any}
 use Rattle.tq_store.specs.Copies.{Files, copy_of}
 use Rattle.tq_store.specs.Names.{same_name}

@@ -5,6 +5,7 @@ mod answers;
 mod change;
 mod node;
 mod telling;
+mod votes;
 
 pub use change::{NodeChange, NodeStep};
 pub use node::Node;

@@ -12,15 +12,13 @@ ghost use Rattle.tq_node.specs.Cases.{IsOnlyStep, IsStep};
 
 mod telling;
 
-use crate::{
-    CitedVote, HeldLock, MOST_WRITES, NodeAsk, NodeChange, NodeRefusal, NodeReply, NodeStep,
-    Verdict, WorkAsk,
-};
+use crate::votes::{are_good_writes, locks_of};
+use crate::{CitedVote, NodeAsk, NodeChange, NodeRefusal, NodeReply, NodeStep, Verdict, WorkAsk};
 use std::alloc::Global;
 use std::collections::btree_map::Iter;
 use std::marker::Model;
 use tq_intents::{Intents, NewerWrite, OpenVote, Record, SharedWrite, VoteLocks};
-use tq_locks::{LockEntry, LockTable, Mode};
+use tq_locks::{LockTable, Mode};
 use tq_part::Plan;
 use tq_shape::{Levels, Memory, Seq, ServerId, SharedSeq};
 use tq_store::{Content, Copies, FileName, Write};
@@ -281,8 +279,7 @@ impl Node {
         ensures reply { IfOk result (λ plan. plan.reply ≡ spec.work_reply self.now.server self.now.state.records (WorkAsk.Prepare txn writes.now)) }
         ensures change { IfOk result (λ plan. plan.change ≡ work_step self.now.server self.now.state.records number (WorkAsk.Prepare txn writes.now)) }
     {
-        let entries = self.locks.held(alloc, txn)?;
-        let (held, locks) = locks_of(alloc, entries.as_slice())?;
+        let (held, locks) = locks_of(alloc, &self.locks, txn)?;
         let answered = writes.clone()?;
         let writes = writes.clone()?;
         Ok(Plan {
@@ -774,43 +771,4 @@ fn plan_refresh(
             },
         },
     })
-}
-
-/// Locks, as a vote lists them and as it keeps them: both share one list.
-fn locks_of(
-    alloc: Global,
-    entries: &[LockEntry],
-) -> Result<(SharedSeq<HeldLock>, VoteLocks), Memory>
-    ensures held { IfOk result (λ locks. locks.0 ≡ map spec.held_lock entries.now) }
-    ensures kept { IfOk result (λ locks. locks.1 ≡ map spec.kept_lock entries.now) }
-{
-    let mut held = Vec::with_capacity(alloc, entries.len())?;
-    let mut versions = Vec::with_capacity(alloc, entries.len())?;
-    for entry in entries {
-        held.push(HeldLock {
-            file: entry.file,
-            mode: entry.lock.mode,
-            since: entry.lock.since,
-        })?;
-        versions.push(entry.lock.version)?;
-    }
-    let held = SharedSeq::from_vec(held)?;
-    let kept = VoteLocks::new(held.clone()?, Seq::from_vec(versions));
-    Ok((held, kept))
-}
-
-fn files_rise(writes: &[Write]) -> bool
-    ensures { result ≡ spec.files_rise writes.now }
-{
-    match writes {
-        [] => true,
-        [_] => true,
-        [first, second, ..] => { first.file.cmp(&second.file).is_lt() && files_rise(&writes[1..]) }
-    }
-}
-
-fn are_good_writes(writes: &[Write]) -> bool
-    ensures { result ≡ spec.are_good_writes writes.now }
-{
-    writes.len() <= MOST_WRITES && files_rise(writes)
 }

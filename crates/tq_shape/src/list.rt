@@ -18,6 +18,7 @@ pub struct Seq<T> {
 
 // Written out, so that a crate above lets go of one by a call.
 impl<T: Drop> Drop for Seq<T> {
+    #[inline]
     fn drop(self) {
         let Self { items: _ } = self;
     }

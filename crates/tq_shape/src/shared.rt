@@ -13,6 +13,7 @@ pub struct Shared<T> {
 
 // Written out, so that a crate above lets go of one by a call.
 impl<T: Drop> Drop for Shared<T> {
+    #[inline]
     fn drop(self) {
         let Self { value: _ } = self;
     }

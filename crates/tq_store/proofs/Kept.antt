@@ -1,10 +1,12 @@
 -- A map's entries, as the finite map that contracts see.
-use Rattle.std.proofs.Common.{◌≡◌, ℕ, cond, List, [], ◌∷◌, Some, nat_eq, ◌<◌, arith, refl, ap, sym, ◌∙◌}
+use Rattle.std.proofs.Common.{◌≡◌, ℕ, cond, List, [], ◌∷◌, Some, nat_eq, ◌<◌, ◌≤◌, arith, refl, ap, sym, subst, ◌∙◌}
 use Rattle.std.specs.Cmp.{eq_by_cmp_equiv}
-use Rattle.std.specs.Cmp.Lexicographic.{pointwise, nat_list_cmp_total, texts_ties}
+use Rattle.std.specs.Cmp.Lexicographic.{pointwise, nat_list_cmp_total, nat_list_eq_equiv, texts_ties}
 use Rattle.std.specs.FinMap.{find, get, insert, from_entries, get-from_entries, get-insert, same_map, nat_cmp-IsAntisymmetric, slice_cmp-IsAntisymmetric}
 use Rattle.std.specs.Ordering.{eq_by_cmp}
-use Rattle.std.specs.Map.{lookup}
+use Rattle.std.specs.Map.{lookup, set_value}
+use Rattle.std.specs.Option.{IsSome}
+use Rattle.std.proofs.lemmas.Map.{lookup-set_value}
 use Rattle.tq_store.specs.Copies.{name_cmp, Files, copy_of, installed}
 use Rattle.tq_store.specs.declared.copies.FileCopy.{FileCopy}
 use Rattle.std.proofs.lemmas.Bool.Decides.{nat_tests}
@@ -27,6 +29,14 @@ module _ {X : Type 0} where
       ∙ ap (λ b. cond b (Some x) (lookup (pointwise nat_eq q) es)) (texts_ties name q ∙ (eq_by_cmp_equiv nat_list_cmp_total).symm name q)
       ∙ sym (get-insert nat_list_cmp_total (from_entries es) name x q ∙ ap (cond (eq_by_cmp name_cmp q name) (Some x)) (get_name es q)))
 
+  -- a value that is written over that of a name makes the map in which the name has it
+  pub one_written : (es : List (List ℕ × X)) (name : List ℕ) (had x : X) → lookup (pointwise nat_eq name) es ≡ Some had → from_entries {R = name_cmp} (set_value (pointwise nat_eq name) es x) ≡ insert (from_entries es) name x
+  one_written es name had x found = one_given es _ name x (λ q. lookup-set_value nat_list_eq_equiv (pointwise nat_eq name) (nat_list_eq_equiv.congr name) q x es (subst IsSome (sym found) refl))
+
 -- a greater version is put in
 pub installed-greater : (files : Files) (name : List ℕ) (copy : FileCopy) → (copy_of files name).version < copy.version → insert files name copy ≡ installed files name copy
 installed-greater files name copy h = grind (arith, nat_tests, h)
+
+-- one that is no greater is not
+pub installed-no_greater : (files : Files) (name : List ℕ) (copy : FileCopy) → copy.version ≤ (copy_of files name).version → files ≡ installed files name copy
+installed-no_greater files name copy h = grind (arith, nat_tests, h)

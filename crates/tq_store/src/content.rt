@@ -17,6 +17,7 @@ pub struct Content {
 
 // Written out, so that a crate above lets go of one by a call.
 impl Drop for Content {
+    #[inline]
     fn drop(self) {
         let Self { bytes: _ } = self;
     }

@@ -112,9 +112,18 @@ impl Copies {
         ensures rises { OnlyRises self.old.files self.new.files }
         ensures room { self.old.room ≤ self.new.room + 1 }
     {
-        let copy = FileCopy { version, content };
-        if self.get(&name).version < copy.version {
-            let _replaced = self.files.insert(name, copy).unwrap();
+        match self.files.get_mut(&name) {
+            Some(copy) => {
+                if copy.version < version {
+                    *copy = FileCopy { version, content };
+                }
+            }
+            None => {
+                if 0 < version {
+                    let copy = FileCopy { version, content };
+                    let _put = self.files.insert(name, copy).unwrap();
+                }
+            }
         }
     }
 }

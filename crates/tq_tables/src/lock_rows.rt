@@ -13,18 +13,18 @@ pub fn lock_rows(alloc: Global, nodes: &[Node]) -> Result<Vec<LockRow>, Memory>
 {
     let mut rows = Vec::new(alloc);
     for node in nodes {
-        push_locks(&mut rows, node)?;
+        push_locks(alloc, &mut rows, node)?;
     }
     Ok(rows)
 }
 
 /// Puts the locks of a server at the end.
-fn push_locks(rows: &mut Vec<LockRow>, node: &Node) -> Result<(), Memory>
+fn push_locks(alloc: Global, rows: &mut Vec<LockRow>, node: &Node) -> Result<(), Memory>
     ensures { OnOk result (rows.new.items ≡ rows.old.items
         ++ map (spec.lock_row node.now) (fin.entries node.now.state.records.locks)) }
 {
     let server = node.server();
-    for entry in node.locks().iter() {
+    for entry in node.locks().entries(alloc)? {
         rows.push(LockRow {
             server,
             file: entry.file,

@@ -1,11 +1,8 @@
 -- What a transaction knows, as more is told; and what the desk is asked of it.
 use Rattle.std.proofs.Common.{◌≡◌, ℕ, List, [], ◌∷◌, ◌++◌, Result, Ok, Err, sym, ap, ◌∙◌, subst, append_assoc, append-nil}
-use Rattle.std.specs.Prelude.{IfOk}
 use Rattle.std.specs.List.{All, Contains}
 use Rattle.std.proofs.lemmas.List.Elements.{All-nil, All-append, All-push, All-weaker, All-contains, All-contains_itself, Contains-append_left, Contains-push, filter_map-append}
 use Rattle.tq_asks.specs.declared.ask.NodeAsk.{NodeAsk}
-use Rattle.tq_asks.specs.declared.ask.NodeReply.{NodeReply}
-use Rattle.tq_asks.specs.declared.ask.NodeReply.TheVariants as replies
 use Rattle.tq_desk.specs.declared.ask.DeskAsk.{DeskAsk}
 use Rattle.tq_part.specs.declared.fault.AskFault.{AskFault}
 use Rattle.tq_part.specs.declared.fault.AskFault.TheVariants as ask_faults
@@ -18,11 +15,9 @@ use Rattle.tq_states.specs.Cited.{grant_told, vote_told, IsOpTold, IsVoteTold, C
 use Rattle.tq_states.specs.Open.{OpenView, IsTouched}
 use Rattle.tq_states.specs.Voting.{VotingView}
 use Rattle.tq_txn.specs.declared.asker.Exchange.{Exchange}
-use Rattle.tq_txn.specs.declared.fault.LineFault.{LineFault}
 use Rattle.tq_txn.specs.declared.txn.Txn.{Txn}
 use Rattle.tq_txn.specs.declared.txn.Txn.TheVariants as states
 use Rattle.tq_txn.specs.Dialogue.{node_exchange, desk_exchange}
-use Rattle.tq_txn.specs.Lines.{granted}
 use Rattle.tq_txn.specs.Told.{IsAnswered, answer_in, answers_in, AreTold, Knows, CitesTold, CitesSince}
 use Rattle.tq_txn.proofs.LineLaws.{further}
 use Rattle.tq_txn.proofs.ToldLaws.{Grown}
@@ -79,16 +74,6 @@ pub told_last : (server : ℕ) (ask : NodeAsk) (told : NodeTold) (old new : List
 told_last server ask told old new grown servers asks =
     let P : List NodeTold → Type 0 = λ xs. Contains xs told in
     subst P (sym (answers_more server ask told old new grown servers asks)) (Contains-push (answers_in old) told)
-
-granted_is : (told : NodeTold) (reply : NodeReply) (P : NodeTold → Type 0) → P told → IfOk (granted told reply) P
-granted_is told (replies.Granted version content) P is = is
-granted_is told (replies.Refused refusal) P is = tt
-granted_is told reply P is = tt
-
-pub granted_told : (told : NodeTold) (result : Result NodeTold LineFault) (P : NodeTold → Type 0) → result ≡ granted told told.reply → P told → IfOk result P
-granted_told told result P same is =
-    let Q : Result NodeTold LineFault → Type 0 = λ r. IfOk r P in
-    subst Q (sym same) (granted_is told told.reply P is)
 
 pub told_same : (old new : List Exchange) (before after : List NodeTold) → after ≡ before → Grown old new → AreTold old before → AreTold new after
 told_same old new before after same more are = subst (AreTold new) (sym same) (told_grow old new before more are)

@@ -1,5 +1,6 @@
 ghost use Rattle.std.specs.List.{list_all, Contains};
-ghost use Rattle.std.specs.Prelude.{◌≡◌, ◌==◌, ◌+◌, ◌<◌, ◌≤◌, ℕ, List, [], ◌∷◌, true, length, vec_len, vec_capacity, IfOk, OnErr};
+ghost use Rattle.std.specs.Option.{option_map_or};
+ghost use Rattle.std.specs.Prelude.{◌≡◌, ◌==◌, ◌+◌, ◌<◌, ◌≤◌, ℕ, List, [], ◌∷◌, Ok, Err, true, length, vec_len, vec_capacity, IfOk, OnErr};
 ghost use Rattle.tq_coterie.specs.Coterie.{numbers_of};
 ghost use Rattle.tq_states.specs.Open as open_spec;
 ghost use Rattle.tq_txn.specs.Dialogue as line;
@@ -55,17 +56,17 @@ fn choose<A: Asker>(asker: &mut A, alloc: Global, levels: Levels) -> Result<Quor
     }
 }
 
-/// The answer, where it grants a lock.
-fn granted(told: NodeTold) -> Result<NodeTold, LineFault>
-    ensures { result ≡ spec.granted told told.reply }
+/// Why the answer grants no lock, if it does not.
+fn not_granted(told: &NodeTold) -> Option<LineFault>
+    ensures { spec.granted told.now told.now.reply ≡ option_map_or Err result (Ok told.now) }
 {
     match &told.reply {
-        NodeReply::Granted { .. } => Ok(told),
-        NodeReply::Refused(refusal) => Err(LineFault::Server {
+        NodeReply::Granted { .. } => None,
+        NodeReply::Refused(refusal) => Some(LineFault::Server {
             server: told.server,
             refusal: *refusal,
         }),
-        _ => Err(LineFault::WrongReply {
+        _ => Some(LineFault::WrongReply {
             part: Part::Server(told.server),
         }),
     }
@@ -95,7 +96,10 @@ fn lock_at<A: Asker>(
     ensures tree { A.levels asker.new ≡ A.levels asker.old }
 {
     match asker.node(alloc, server, lock.ask.clone()?) {
-        Ok(told) => granted(told),
+        Ok(told) => match not_granted(&told) {
+            None => Ok(told),
+            Some(fault) => Err(fault),
+        },
         Err(fault) => Err(LineFault::from(fault)),
     }
 }

@@ -4,7 +4,8 @@ ghost use Rattle.tq_node.specs.Node as node;
 ghost use Rattle.tq_node.specs.Untouched.{KeepsOthers, raised_files};
 ghost use Rattle.tq_node.specs.Records as spec;
 
-use super::{Node, locks_of};
+use super::Node;
+use crate::votes::locks_of;
 use crate::{CitedVote, NodeAsk, NodeRefusal, NodeReply, Raised, Telling, Verdict, WorkAsk};
 use std::alloc::Global;
 use tq_locks::{LockOutcome, Mode};
@@ -149,8 +150,7 @@ impl Node {
         if let Some(reason) = self.prepare_refusal(txn, writes.as_slice()) {
             return Ok(self.tell_refusal(number, &reason));
         }
-        let entries = self.locks.held(alloc, txn)?;
-        let (held, locks) = locks_of(alloc, entries.as_slice())?;
+        let (held, locks) = locks_of(alloc, &self.locks, txn)?;
         let entered = NodeReply::Yes {
             held: held.clone()?,
             writes: writes.clone()?,

@@ -1,6 +1,5 @@
 use Rattle.std.proofs.Common.{rules, nat_eq}
-use Rattle.std.specs.BTreeMap.{is_at}
-use Rattle.tq_store.specs.Copies.{name_cmp}
+use Rattle.tq_store.specs.Names.{same_name}
 use Rattle.tq_locks.specs.declared.keyed.KeyedLocks.{KeyedLocks}
 use Rattle.tq_locks.proofs.Applied.{Agrees-same}
 use Rattle.tq_locks.proofs.Copied.{cloned_slots, cloned_lists}
@@ -12,5 +11,5 @@ returns c locks a =
     let copy : KeyedLocks = record { entries = c.in_ok-clone.field-0; by_file = c.in_ok-clone-2.field-0; by_txn = c.in_ok-clone-3.field-0; alloc = old.alloc } in
     Agrees-same old copy locks a
     (cloned_slots _ (search rules) old.entries.slots copy.entries.slots c.in_ok-clone.ensures.cases.slots)
-    (λ f. cloned_lists _ (search rules) _ (search rules) (is_at (name_cmp f)) old.by_file.entries copy.by_file.entries c.in_ok-clone-2.ensures.cases)
+    (λ f. cloned_lists _ (search rules) _ (search rules) (same_name f) old.by_file.entries copy.by_file.entries c.in_ok-clone-2.ensures.cases)
     (λ t. cloned_lists _ (search rules) _ (search rules) (nat_eq t) old.by_txn.entries copy.by_txn.entries c.in_ok-clone-3.ensures.cases)

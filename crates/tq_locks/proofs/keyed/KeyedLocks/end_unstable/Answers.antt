@@ -1,11 +1,11 @@
-use Rattle.std.proofs.Common.{◌≡◌, ℕ, refl, ap, sym, ◌∙◌}
+use Rattle.std.proofs.Common.{◌≡◌, ℕ, nat_eq, refl, ap, sym, ◌∙◌}
 use Rattle.std.specs.FinMap as fin
 use Rattle.slab.specs.Slab.{Slab}
-use Rattle.tq_store.specs.Copies.{name_cmp}
+use Rattle.tq_store.specs.Names.{same_name}
 use Rattle.tq_locks.specs.declared.keyed.KeyedLocks.{KeyedLocks}
 use Rattle.tq_locks.specs.declared.mode.Lock.{Lock}
 use Rattle.tq_locks.specs.Locks.{LockKey, only_stable}
-use Rattle.tq_locks.specs.Keys.{keys_at, keys_under}
+use Rattle.tq_locks.specs.Keys.{keys_under}
 use Rattle.tq_locks.specs.Kept.{locks_in, Agrees}
 use Rattle.tq_locks.proofs.Applied.{Agrees-same}
 use Rattle.tq_locks.proofs.Changed.{agreed_self, locks_in-agreed, only_stable-remove}
@@ -13,9 +13,9 @@ use Rattle.tq_locks.proofs.keyed.KeyedLocks.end_unstable.Goals as goal
 
 -- the entry is taken, and the list of its transaction with its last key
 module _ (old removed new : KeyedLocks) (e : LockKey × Lock) (agreed : Agrees removed (fin.remove (locks_in old) e.0)) (entries : new.entries ≡ removed.entries) (files : new.by_file ≡ removed.by_file)
-    (txns : (t : ℕ) → keys_under new.by_txn t ≡ keys_under removed.by_txn t) where
+    (txns : (t : ℕ) → keys_under nat_eq new.by_txn t ≡ keys_under nat_eq removed.by_txn t) where
   pub taken : Agrees new (fin.remove (locks_in old) e.0)
-  taken = Agrees-same removed new (fin.remove (locks_in old) e.0) agreed (ap (λ (s : Slab (LockKey × Lock)). s.slots) entries) (λ f. ap (λ lists. keys_at name_cmp lists f) files) txns
+  taken = Agrees-same removed new (fin.remove (locks_in old) e.0) agreed (ap (λ (s : Slab (LockKey × Lock)). s.slots) entries) (λ f. ap (λ lists. keys_under same_name lists f) files) txns
 
 pub returns-clause-agreed : goal.returns-clause-agreed
 returns-clause-agreed c =

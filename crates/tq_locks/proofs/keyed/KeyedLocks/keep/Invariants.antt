@@ -1,4 +1,4 @@
-use Rattle.std.proofs.Common.{◌≡◌, ℕ, ◌<◌, Some, length}
+use Rattle.std.proofs.Common.{◌≡◌, ℕ, nat_eq, ◌<◌, Some, length}
 use Rattle.std.specs.List.{slice_get}
 use Rattle.tq_locks.specs.Locks.{kept}
 use Rattle.tq_locks.specs.Keys.{keys_under}
@@ -10,6 +10,6 @@ abbrev pub invariant-loop-place : goal.invariant-loop-place
 invariant-loop-place l =
     Agrees l.self (locks_in l.self)
     × (kept (locks_in l.self) l.txn ≡ kept (locks_in l.fn.self) l.txn)
-    × (keys_under l.self.by_txn l.txn ≡ keys_under l.fn.self.by_txn l.txn)
-    × (l.place-end ≡ length (keys_under l.fn.self.by_txn l.txn))
-    × ((i k : ℕ) → i < l.place → slice_get (keys_under l.fn.self.by_txn l.txn) i ≡ Some k → IsStableAt l.self.entries k)
+    × (keys_under nat_eq l.self.by_txn l.txn ≡ keys_under nat_eq l.fn.self.by_txn l.txn)
+    × (l.place-end ≡ length (keys_under nat_eq l.fn.self.by_txn l.txn))
+    × ((i k : ℕ) → i < l.place → slice_get (keys_under nat_eq l.fn.self.by_txn l.txn) i ≡ Some k → IsStableAt l.self.entries k)

@@ -1,10 +1,9 @@
 use Rattle.std.proofs.Common.{◌≡◌, List, ℕ, cond, ap, subst, ◌∙◌}
-use Rattle.std.specs.BTreeMap.{is_at}
 use Rattle.std.specs.List.{remove}
-use Rattle.tq_store.specs.Copies.{name_cmp}
+use Rattle.tq_store.specs.Names.{same_name}
 use Rattle.tq_locks.specs.declared.mode.Lock.{Lock}
 use Rattle.tq_locks.specs.Locks.{LockKey}
-use Rattle.tq_locks.specs.Keys.{keys_at}
+use Rattle.tq_locks.specs.Keys.{keys_under}
 use Rattle.tq_locks.specs.Kept.{RisesTo}
 use Rattle.tq_locks.proofs.Found.{some_same}
 use Rattle.tq_locks.proofs.keyed.KeyedLocks.leave_file.Goals as goal
@@ -15,7 +14,7 @@ returns-clause-left c name is =
     let same : c.in-Some.entry.now ≡ (name, is.0) = some_same c.in-Some.entry.now (name, is.0) (c.in-Some.ensures ∙ is.1) in
     let file : c.entry.inside.file ≡ name.0 = ap (λ (x : LockKey × Lock). x.0.0) (c.entry.view_is ∙ same) in
     record {
-      place = c.take.result;
-      stood = subst (λ (p : List ℕ × LockKey). RisesTo old.entries (keys_at name_cmp old.by_file p.0) p.1 c.take.result) (λ i. (file i, (same i).0)) c.take.ensures.place;
-      files = subst (λ name. (f : List ℕ) → keys_at name_cmp c.take.new.lists f ≡ cond (is_at (name_cmp name) f) (remove (keys_at name_cmp old.by_file name) c.take.result) (keys_at name_cmp old.by_file f)) file c.take.ensures.after;
+      place = c.take_under.result;
+      stood = subst (λ (p : List ℕ × LockKey). RisesTo old.entries (keys_under same_name old.by_file p.0) p.1 c.take_under.result) (λ i. (file i, (same i).0)) c.take_under.ensures.place;
+      files = subst (λ name. (f : List ℕ) → keys_under same_name c.take_under.new.lists f ≡ cond (same_name name f) (remove (keys_under same_name old.by_file name) c.take_under.result) (keys_under same_name old.by_file f)) file c.take_under.ensures.after;
     }

@@ -1,4 +1,4 @@
-use Rattle.std.proofs.Common.{◌≡◌, ◌-◌, [], length, Some, refl, ap, sym, subst, ◌∙◌, arith}
+use Rattle.std.proofs.Common.{◌≡◌, nat_eq, ◌-◌, [], length, Some, refl, ap, sym, subst, ◌∙◌, arith}
 use Rattle.std.specs.FinMap as fin
 use Rattle.std.specs.List.{slice_get}
 use Rattle.tq_locks.specs.declared.keyed.KeyedLocks.{KeyedLocks}
@@ -15,7 +15,7 @@ loop-key-init c =
     let old = c.args.self.now in
     let out = c.take_all_under-keys in
     let new : KeyedLocks = record { entries = old.entries; by_file = old.by_file; by_txn = out.new.lists; alloc = old.alloc } in
-    (Agrees-out old new (locks_in old) c.args.txn out.result.items c.requires refl refl out.ensures.keys out.ensures.after, refl, out.ensures.after c.args.txn ∙ cond_same c.args.txn [] (keys_under old.by_txn c.args.txn))
+    (Agrees-out old new (locks_in old) c.args.txn out.result.items c.requires refl refl out.ensures.keys out.ensures.after, refl, out.ensures.after c.args.txn ∙ cond_same c.args.txn [] (keys_under nat_eq old.by_txn c.args.txn))
 
 pub loop-key-preserved : goal.loop-key-preserved
 loop-key-preserved c =
@@ -35,7 +35,7 @@ loop-key-preserved c =
       ap (λ m. released m txn) (locks_in-agreed left (fin.remove (locks_in old) e.0.0) agreed)
           ∙ subst (λ t. released (fin.remove (locks_in old) e.0.0) t ≡ released (locks_in old) t) e.1 (released-remove (locks_in old) e.0.0)
           ∙ c.loop-key.invariant.1,
-      ap (λ lists. keys_under lists txn) c.leave_file.ensures.by_txn ∙ c.loop-key.invariant.2,
+      ap (λ lists. keys_under nat_eq lists txn) c.leave_file.ensures.by_txn ∙ c.loop-key.invariant.2,
     )
 
 pub returns : goal.returns

@@ -1,4 +1,4 @@
-use Rattle.std.proofs.Common.{◌≡◌, [], length}
+use Rattle.std.proofs.Common.{◌≡◌, nat_eq, [], length}
 use Rattle.tq_locks.specs.Keys.{keys_under}
 use Rattle.tq_locks.specs.Locks.{released}
 use Rattle.tq_locks.specs.Kept.{locks_in, Agrees}
@@ -7,7 +7,7 @@ use Rattle.tq_locks.proofs.keyed.KeyedLocks.release.Given as goal
 
 -- what is left to release comes to the same
 abbrev pub invariant-loop-key : goal.invariant-loop-key
-invariant-loop-key l = Agrees (with_list l.self l.txn l.keys.items) (locks_in l.self) × (released (locks_in l.self) l.txn ≡ released (locks_in l.fn.self) l.txn) × (keys_under l.self.by_txn l.txn ≡ [])
+invariant-loop-key l = Agrees (with_list l.self l.fn.txn l.keys.items) (locks_in l.self) × (released (locks_in l.self) l.fn.txn ≡ released (locks_in l.fn.self) l.fn.txn) × (keys_under nat_eq l.self.by_txn l.fn.txn ≡ [])
 
 abbrev pub decreases-loop-key : goal.decreases-loop-key
 decreases-loop-key l = length l.keys.items

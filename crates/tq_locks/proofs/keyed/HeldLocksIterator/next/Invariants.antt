@@ -1,6 +1,6 @@
 use Rattle.std.proofs.Common.{◌≡◌, length}
 use Rattle.tq_locks.specs.Keys.{told}
-use Rattle.tq_locks.proofs.keyed.ListedIterator.next.Given as goal
+use Rattle.tq_locks.proofs.keyed.HeldLocksIterator.next.Given as goal
 
 -- the keys that were passed have no entry
 abbrev pub invariant-loop-key : goal.invariant-loop-key

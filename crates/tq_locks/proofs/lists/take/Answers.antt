@@ -1,7 +1,0 @@
-use Rattle.std.proofs.Common.{[], ap, sym}
-use Rattle.std.specs.Option.{option_map_or}
-use Rattle.tq_locks.proofs.Partition.{none_rises}
-use Rattle.tq_locks.proofs.lists.take.Goals as goal
-
-pub returns-in_default-clause-place : goal.returns-in_default-clause-place
-returns-in_default-clause-place g c = none_rises c.args.entries.now _ c.args.entry.now.0 (sym (ap (λ o. option_map_or (λ keys. keys.items) o []) c.in_default.ensures.value))

@@ -1,0 +1,131 @@
+//! An index of a slab: lists of keys, each under a name. The lists have no order.
+ghost use Rattle.std.specs.Prelude.{◌≡◌, ◌≤◌, OnOk, Some, [], if◌then◌else◌, length};
+ghost use Rattle.indexmap.specs.IndexMap.{index_of};
+ghost use Rattle.std.specs.List.{insert, remove};
+ghost use Rattle.slab.specs.Slab.{get};
+ghost use Rattle.tq_locks.specs.Keys.{keys_under, HasRoomUnder};
+ghost use Rattle.tq_locks.specs.Kept.{RisesTo};
+
+use crate::LockEntry;
+use crate::lists::{Keys, leave, only, put_in};
+use indexmap::IndexMap;
+use slab::Slab;
+use std::alloc::{AllocError, Global};
+use std::hash::Hash;
+
+/// The keys under a name.
+pub(crate) fn listed_under<'a, K: Eq + Hash>(lists: &'a IndexMap<K, Keys>, name: &K) -> &'a [usize]
+    ensures { result.now ≡ keys_under K.eq lists.now name.now }
+{
+    match lists.get(name) {
+        Some(keys) => keys.as_slice(),
+        None => &[],
+    }
+}
+
+/// The index of a name's list, if there is one, and its keys.
+pub(crate) fn list_under<'a, K: Eq + Hash>(
+    lists: &'a IndexMap<K, Keys>,
+    name: &K,
+) -> (Option<usize>, &'a [usize])
+    ensures index { result.0 ≡ index_of K.eq lists.now name.now }
+    ensures keys { result.1.now ≡ keys_under K.eq lists.now name.now }
+{
+    match lists.get_full(name) {
+        Some(list) => (Some(list.0), list.2.as_slice()),
+        None => (None, &[]),
+    }
+}
+
+/// The place of a key in the list of its name.
+#[derive(Clone, Copy)]
+pub(crate) struct Spot {
+    /// The index of the list, if there is one.
+    pub(crate) index: Option<usize>,
+    pub(crate) place: usize,
+}
+
+/// Makes room for one more key under a name, whose list is at the index.
+pub(crate) fn make_room_under<K: Eq + Hash>(
+    lists: &mut IndexMap<K, Keys>,
+    name: &K,
+    index: Option<usize>,
+) -> Result<(), AllocError>
+    requires { index ≡ index_of K.eq lists.old name.now }
+    ensures same { (other : K) → keys_under K.eq lists.new other ≡ keys_under K.eq lists.old other }
+    ensures room { OnOk result (HasRoomUnder K.eq lists.new name.now index) }
+{
+    match index {
+        Some(index) => match lists.get_index_mut(index) {
+            Some(keys) => keys.reserve(1),
+            None => Ok(()),
+        },
+        None => lists.reserve(1),
+    }
+}
+
+/// Puts a key into its place under a name, for which there is room.
+pub(crate) fn put_under<K: Eq + Hash + Copy + Drop>(
+    alloc: Global,
+    lists: &mut IndexMap<K, Keys>,
+    name: &K,
+    spot: Spot,
+    key: usize,
+)
+    requires room { HasRoomUnder K.eq lists.old name.now spot.index }
+    requires within { spot.place ≤ length (keys_under K.eq lists.old name.now) }
+    ensures { (other : K) → keys_under K.eq lists.new other ≡ (if K.eq name.now other then insert (keys_under K.eq lists.old name.now) spot.place key else keys_under K.eq lists.old other) }
+{
+    match spot.index {
+        Some(index) => {
+            if let Some(keys) = lists.get_index_mut(index) {
+                put_in(keys, spot.place, key);
+            }
+        }
+        None => {
+            let _room_was_made = lists.insert(*name, only(alloc, key));
+        }
+    }
+}
+
+/// Takes the key of an entry out of a name's list, and tells its place. The list stays, even with no key.
+pub(crate) fn take_under<K: Eq + Hash>(
+    lists: &mut IndexMap<K, Keys>,
+    entries: &Slab<LockEntry>,
+    name: &K,
+    entry: &LockEntry,
+    key: usize,
+) -> usize
+    requires { get entries.now key ≡ Some entry.now }
+    ensures place { RisesTo entries.now (keys_under K.eq lists.old name.now) entry.now.0 result }
+    ensures after { (other : K) → keys_under K.eq lists.new other ≡ (if K.eq name.now other then remove (keys_under K.eq lists.old name.now) result else keys_under K.eq lists.old other) }
+{
+    match lists.get_mut(name) {
+        Some(keys) => leave(keys, entries, entry, key),
+        None => 0,
+    }
+}
+
+/// Takes a whole list out, and gives the keys that were under the name.
+pub(crate) fn take_all_under<K: Eq + Hash + Drop>(
+    alloc: Global,
+    lists: &mut IndexMap<K, Keys>,
+    name: &K,
+) -> Keys
+    ensures keys { result.items ≡ keys_under K.eq lists.old name.now }
+    ensures after { (other : K) → keys_under K.eq lists.new other ≡ (if K.eq name.now other then [] else keys_under K.eq lists.old other) }
+{
+    match lists.swap_remove(name) {
+        Some(keys) => keys,
+        None => Keys::new(alloc),
+    }
+}
+
+/// Ends a name's list if it has no key.
+pub(crate) fn end_empty_under<K: Eq + Hash + Drop>(lists: &mut IndexMap<K, Keys>, name: &K)
+    ensures { (other : K) → keys_under K.eq lists.new other ≡ keys_under K.eq lists.old other }
+{
+    if listed_under(lists, name).is_empty() {
+        lists.swap_remove(name);
+    }
+}

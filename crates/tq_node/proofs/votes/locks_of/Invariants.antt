@@ -1,0 +1,10 @@
+use Rattle.std.proofs.Common.{◌≡◌, ◌++◌, map}
+use Rattle.tq_locks.specs.Locks.{held_of}
+use Rattle.tq_node.specs.Records.{held_lock}
+use Rattle.tq_node.proofs.Versions.{version_of}
+use Rattle.tq_node.proofs.votes.locks_of.Given as goal
+
+abbrev pub invariant-loop-entry : goal.invariant-loop-entry
+invariant-loop-entry l =
+    (l.held.items ++ map held_lock l.entry-iterator ≡ map held_lock (held_of l.table l.txn))
+    × (l.versions.items ++ map version_of l.entry-iterator ≡ map version_of (held_of l.table l.txn))
