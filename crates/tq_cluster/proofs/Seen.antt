@@ -14,7 +14,7 @@ use Rattle.tq_prefixes.specs.declared.entries.Entries.{Entries}
 use Rattle.tq_prefixes.specs.declared.entries.Entries.TheVariants as entries
 use Rattle.tq_prefixes.specs.declared.fault.PullFault.{PullFault}
 use Rattle.tq_prefixes.specs.declared.fault.PullFault.TheVariants as faults
-use Rattle.tq_prefixes.specs.Prefixes.{IsPullFault}
+use Rattle.tq_prefixes.specs.Prefixes.{IsPartOf, IsPullFault, prefix_length}
 use Rattle.tq_cluster.specs.Told.{CallerView, SeesOn, seen_of, having_seen}
 
 module _ {A R : Type 0} where
@@ -85,6 +85,53 @@ pub view_saw : (levels : ℕ) (told : List Exchange) (passes : List (Seen NodeAs
 view_saw levels told passes desk before after old same more =
     (after, subst (λ (o : CallerView). seen_of o parts.View ≤ after) same more, ap (λ (o : CallerView). (having_seen o parts.View after).seen) same)
 
+-- ---- what was seen after a pull of a part
+
+-- the pass of the server that the part is lies within the passes
+pub has_pass : (passes : List (Seen NodeAsk NodeReply)) (levels number : ℕ) (part : Part) (old : CallerView) → IsPartOf levels part → part ≡ parts.Server number → old.levels ≡ levels → length passes + 1 ≡ 2 ^ old.levels
+    → number - 1 < length passes
+has_pass passes levels number part old within named same count =
+    let of_tree : IsServer levels number = subst (IsPartOf levels) named within in
+    let least = of_tree.0 in
+    let most : number < 2 ^ old.levels = subst (λ (l : ℕ). number < 2 ^ l) (sym same) of_tree.1 in
+    omega (arith, count, least, most)
+
+-- a server was pulled, by the pass at its place
+pub server_pulled : (levels : ℕ) (told : List Exchange) (passes : List (Seen NodeAsk NodeReply)) (desk view number : ℕ) (part : Part) (before after : Seen NodeAsk NodeReply) (old : CallerView)
+    → seeing levels told passes desk view ≡ old → number - 1 < length passes → part ≡ parts.Server number → before ≡ get_or passes (number - 1) before → before.seen ≤ after.seen
+    → (seen : ℕ) × (seen_of old part ≤ seen) × (seeing levels told (set passes (number - 1) after) desk view ≡ having_seen old part seen)
+server_pulled levels told passes desk view number part before after old same less named is more =
+    let was : get_or old.seen.servers (number - 1) 0 ≡ before.seen = ap (λ (v : CallerView). get_or v.seen.servers (number - 1) 0) (sym same) ∙ seen_before passes (number - 1) before less is in
+    subst (λ (p : Part). (seen : ℕ) × (seen_of old p ≤ seen) × (seeing levels told (set passes (number - 1) after) desk view ≡ having_seen old p seen)) (sym named)
+        (after.seen, omega (arith, was, more), caller_saw levels told passes desk view number after old same)
+
+-- the desk was pulled, and the view
+pub desk_pulled : (levels : ℕ) (told : List Exchange) (passes : List (Seen NodeAsk NodeReply)) (before after view : ℕ) (part : Part) (old : CallerView) → seeing levels told passes before view ≡ old → part ≡ parts.Desk → before ≤ after
+    → (seen : ℕ) × (seen_of old part ≤ seen) × (seeing levels told passes after view ≡ having_seen old part seen)
+desk_pulled levels told passes before after view part old same named more =
+    subst (λ (p : Part). (seen : ℕ) × (seen_of old p ≤ seen) × (seeing levels told passes after view ≡ having_seen old p seen)) (sym named)
+        (after, subst (λ (o : CallerView). seen_of o parts.Desk ≤ after) same more, ap (λ (o : CallerView). having_seen o parts.Desk after) same)
+
+pub view_pulled : (levels : ℕ) (told : List Exchange) (passes : List (Seen NodeAsk NodeReply)) (desk before after : ℕ) (part : Part) (old : CallerView) → seeing levels told passes desk before ≡ old → part ≡ parts.View → before ≤ after
+    → (seen : ℕ) × (seen_of old part ≤ seen) × (seeing levels told passes desk after ≡ having_seen old part seen)
+view_pulled levels told passes desk before after part old same named more =
+    subst (λ (p : Part). (seen : ℕ) × (seen_of old p ≤ seen) × (seeing levels told passes desk after ≡ having_seen old p seen)) (sym named)
+        (after, subst (λ (o : CallerView). seen_of o parts.View ≤ after) same more, ap (λ (o : CallerView). having_seen o parts.View after) same)
+
+module _ {T : Type 0} (r : Result T PullFault) (new : CallerView) (part there : Part) (seen : ℕ) (named : part ≡ there) (here : seen_of new there ≡ seen) where
+  -- the part of that name has on the board what the caller has seen of it
+  pub pulled_seen : (prefixes : JournalsView) → OnOk r (seen ≤ prefix_length prefixes there) → OnOk r (seen_of new part ≤ prefix_length prefixes part)
+  pulled_seen prefixes least =
+      subst (λ (p : Part). OnOk r (seen_of new p ≤ prefix_length prefixes p)) (sym named) (subst (λ (n : ℕ). OnOk r (n ≤ prefix_length prefixes there)) (sym here) least)
+
+  -- or the fault is that of its pull
+  pub pulled_fault : (prefixes old : JournalsView) → prefixes ≡ old → IfErr r (λ f. (more : Entries) × IsPullFault prefixes there more seen f)
+      → IfErr r (λ f. (more : Entries) × IsPullFault old part more (seen_of new part) f)
+  pulled_fault prefixes old same fault =
+      subst (λ (p : Part). IfErr r (λ f. (more : Entries) × IsPullFault old p more (seen_of new p) f)) (sym named)
+          (subst (λ (n : ℕ). IfErr r (λ f. (more : Entries) × IsPullFault old there more n f)) (sym here)
+              (subst (λ (o : JournalsView). IfErr r (λ f. (more : Entries) × IsPullFault o there more seen f)) same fault))
+
 -- ---- what was seen, and no less after
 
 set-grows : (numbers : List ℕ) (place at seen : ℕ) → get_or numbers place 0 ≤ seen → get_or numbers at 0 ≤ get_or (set numbers place seen) at 0
@@ -125,8 +172,3 @@ pub memory_fault : {T : Type 0} (prefixes : JournalsView) (part : Part) (seen : 
     → IfErr r (λ f. (more : Entries) × IsPullFault prefixes part more seen f)
 memory_fault prefixes part seen (Ok x) is = tt
 memory_fault prefixes part seen (Err f) is = (entries.Desk [], subst (λ (o : PullFault). IsPullFault prefixes part (entries.Desk []) seen o) (sym is) tt)
-
-pub some_fault : {T : Type 0} (prefixes : JournalsView) (part : Part) (more : Entries) (seen saw : ℕ) (r : Result T PullFault) → seen ≡ saw → IfErr r (λ f. IsPullFault prefixes part more seen f)
-    → IfErr r (λ f. (more : Entries) × IsPullFault prefixes part more saw f)
-some_fault prefixes part more seen saw (Ok x) same is = tt
-some_fault prefixes part more seen saw (Err f) same is = (more, subst (λ (n : ℕ). IsPullFault prefixes part more n f) same is)

@@ -11,13 +11,25 @@ use tq_node::Node;
 use tq_shape::Levels;
 
 /// One who asks the parts of a cluster: a pass for each part, and what it was told of its asks, in their order.
-#[derive(Drop)]
 pub struct Caller {
     levels: Levels,
     pub(crate) servers: Vec<Pass<Node>>,
     pub(crate) desk: Pass<Desk>,
     pub(crate) view: Pass<View>,
     pub(crate) heard: Vec<Heard>,
+}
+
+// Written out, so that each function lets go of one by a call.
+impl Drop for Caller {
+    fn drop(self) {
+        let Self {
+            levels: _,
+            servers: _,
+            desk: _,
+            view: _,
+            heard: _,
+        } = self;
+    }
 }
 
 impl Model for Caller {

@@ -22,7 +22,6 @@ use tq_txn::{DeskTold, Exchange, NodeTold, ViewTold};
 
 /// All parts of a system, each in a cell of its own: its servers, its desk and its view. Many threads may ask them at
 /// once. No cell is locked while another one is asked.
-#[derive(Drop)]
 pub struct Cluster<G: Gate + Drop> {
     levels: Levels,
     limits: Limits,
@@ -30,6 +29,20 @@ pub struct Cluster<G: Gate + Drop> {
     pub(crate) desk: Cell<Desk>,
     pub(crate) view: Cell<View>,
     gate: G,
+}
+
+// Written out, so that each function lets go of one by a call.
+impl<G: Gate + Drop> Drop for Cluster<G> {
+    fn drop(self) {
+        let Self {
+            levels: _,
+            limits: _,
+            servers: _,
+            desk: _,
+            view: _,
+            gate: _,
+        } = self;
+    }
 }
 
 impl<G: Gate + Drop> Model for Cluster<G> {

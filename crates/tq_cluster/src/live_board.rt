@@ -11,16 +11,25 @@ use crate::cluster::Cluster;
 use std::alloc::Global;
 use std::marker::Model;
 use std::sync::Wait;
-use tq_cells::Gate;
+use tq_cells::{Cell, Gate, Pass};
+use tq_desk::Desk;
+use tq_live::View;
+use tq_node::Node;
 use tq_prefixes::{Entries, Prefixes, PullFault};
 use tq_shape::{Levels, Limits, Memory, Part};
 use tq_tables::{DeskEntry, NodeEntry, Tables, ViewEntry};
 
 /// A board of a running cluster: of each part the entries that it pulled of the part's journal, from the first on, and
 /// the tables over these. Contracts see it as these entries.
-#[derive(Drop)]
 pub struct LiveBoard {
     pub(crate) prefixes: Prefixes,
+}
+
+// Written out, so that each function lets go of one by a call.
+impl Drop for LiveBoard {
+    fn drop(self) {
+        let Self { prefixes: _ } = self;
+    }
 }
 
 impl Model for LiveBoard {
@@ -108,9 +117,20 @@ impl LiveBoard {
         ensures caller { (seen : ℕ) × (seen_of caller.old part ≤ seen) × (caller.new ≡ having_seen caller.old part seen) }
     {
         match part {
-            Part::Server(number) => self.pull_server(rt, alloc, cluster, caller, number),
-            Part::Desk => self.pull_desk(rt, alloc, cluster, caller),
-            Part::View => self.pull_view(rt, alloc, cluster, caller),
+            Part::Server(number) => {
+                let place = (number - 1) as usize;
+                let cell = &cluster.servers[place];
+                let pass = &mut caller.servers[place];
+                pull_server(&mut self.prefixes, rt, alloc, cell, pass, number)
+            }
+            Part::Desk => {
+                let cell = &cluster.desk;
+                pull_desk(&mut self.prefixes, rt, alloc, cell, &mut caller.desk)
+            }
+            Part::View => {
+                let cell = &cluster.view;
+                pull_view(&mut self.prefixes, rt, alloc, cell, &mut caller.view)
+            }
         }
     }
 
@@ -170,70 +190,66 @@ impl LiveBoard {
         }
         Ok(())
     }
+}
 
-    /// Pulls a server, as `pull_part` does.
-    fn pull_server<R: Wait, G: Gate + Drop>(
-        &mut self,
-        rt: &R,
-        alloc: Global,
-        cluster: &Cluster<G>,
-        caller: &mut Caller,
-        number: u64,
-    ) -> Result<(), PullFault>
-        requires caller { caller.old.levels ≡ cluster.now.levels }
-        requires levels { self.old.levels ≡ cluster.now.levels }
-        requires part { IsServer cluster.now.levels number }
-        ensures grown { OnOk result ((more : Entries) × (self.new ≡ grown self.old (Part.Server number) more)) }
-        ensures seen { OnOk result (seen_of caller.new (Part.Server number) ≤ prefix_length self.new (Part.Server number)) }
-        ensures err { OnErr result (self.new ≡ self.old) }
-        ensures fault { IfErr result (λ fault. (more : Entries) × IsPullFault self.old (Part.Server number) more (seen_of caller.new (Part.Server number)) fault) }
-        ensures caller { (seen : ℕ) × (seen_of caller.old (Part.Server number) ≤ seen) × (caller.new ≡ having_seen caller.old (Part.Server number) seen) }
-    {
-        let place = (number - 1) as usize;
-        let known = self.prefixes.server(number).len() as u64;
-        let pass = &mut caller.servers[place];
-        let entries = cluster.servers[place].since(rt, alloc, pass, known)?;
-        let seen = pass.seen();
-        self.prefixes.take_server(alloc, number, entries, seen)
-    }
+/// Pulls a server onto these prefixes, by the pass of a caller for it, as `LiveBoard::pull_part` does.
+fn pull_server<R: Wait>(
+    prefixes: &mut Prefixes,
+    rt: &R,
+    alloc: Global,
+    cell: &Cell<Node>,
+    pass: &mut Pass<Node>,
+    number: u64,
+) -> Result<(), PullFault>
+    requires { IsServer prefixes.old.levels number }
+    ensures grown { OnOk result ((more : Entries) × (prefixes.new ≡ grown prefixes.old (Part.Server number) more)) }
+    ensures seen { OnOk result (pass.new.seen ≤ prefix_length prefixes.new (Part.Server number)) }
+    ensures err { OnErr result (prefixes.new ≡ prefixes.old) }
+    ensures fault { IfErr result (λ fault. (more : Entries) × IsPullFault prefixes.old (Part.Server number) more pass.new.seen fault) }
+    ensures saw { pass.old.seen ≤ pass.new.seen }
+{
+    let known = prefixes.server(number).len() as u64;
+    let entries = cell.since(rt, alloc, pass, known)?;
+    let seen = pass.seen();
+    prefixes.take_server(alloc, number, entries, seen)
+}
 
-    /// Pulls the desk, as `pull_part` does.
-    fn pull_desk<R: Wait, G: Gate + Drop>(
-        &mut self,
-        rt: &R,
-        alloc: Global,
-        cluster: &Cluster<G>,
-        caller: &mut Caller,
-    ) -> Result<(), PullFault>
-        ensures grown { OnOk result ((more : Entries) × (self.new ≡ grown self.old Part.Desk more)) }
-        ensures seen { OnOk result (seen_of caller.new Part.Desk ≤ prefix_length self.new Part.Desk) }
-        ensures err { OnErr result (self.new ≡ self.old) }
-        ensures fault { IfErr result (λ fault. (more : Entries) × IsPullFault self.old Part.Desk more (seen_of caller.new Part.Desk) fault) }
-        ensures caller { (seen : ℕ) × (seen_of caller.old Part.Desk ≤ seen) × (caller.new ≡ having_seen caller.old Part.Desk seen) }
-    {
-        let known = self.prefixes.desk().len() as u64;
-        let entries = cluster.desk.since(rt, alloc, &mut caller.desk, known)?;
-        let seen = caller.desk.seen();
-        self.prefixes.take_desk(alloc, entries, seen)
-    }
+/// Pulls the desk, as `pull_server` does a server.
+fn pull_desk<R: Wait>(
+    prefixes: &mut Prefixes,
+    rt: &R,
+    alloc: Global,
+    cell: &Cell<Desk>,
+    pass: &mut Pass<Desk>,
+) -> Result<(), PullFault>
+    ensures grown { OnOk result ((more : Entries) × (prefixes.new ≡ grown prefixes.old Part.Desk more)) }
+    ensures seen { OnOk result (pass.new.seen ≤ prefix_length prefixes.new Part.Desk) }
+    ensures err { OnErr result (prefixes.new ≡ prefixes.old) }
+    ensures fault { IfErr result (λ fault. (more : Entries) × IsPullFault prefixes.old Part.Desk more pass.new.seen fault) }
+    ensures saw { pass.old.seen ≤ pass.new.seen }
+{
+    let known = prefixes.desk().len() as u64;
+    let entries = cell.since(rt, alloc, pass, known)?;
+    let seen = pass.seen();
+    prefixes.take_desk(alloc, entries, seen)
+}
 
-    /// Pulls the view, as `pull_part` does.
-    fn pull_view<R: Wait, G: Gate + Drop>(
-        &mut self,
-        rt: &R,
-        alloc: Global,
-        cluster: &Cluster<G>,
-        caller: &mut Caller,
-    ) -> Result<(), PullFault>
-        ensures grown { OnOk result ((more : Entries) × (self.new ≡ grown self.old Part.View more)) }
-        ensures seen { OnOk result (seen_of caller.new Part.View ≤ prefix_length self.new Part.View) }
-        ensures err { OnErr result (self.new ≡ self.old) }
-        ensures fault { IfErr result (λ fault. (more : Entries) × IsPullFault self.old Part.View more (seen_of caller.new Part.View) fault) }
-        ensures caller { (seen : ℕ) × (seen_of caller.old Part.View ≤ seen) × (caller.new ≡ having_seen caller.old Part.View seen) }
-    {
-        let known = self.prefixes.view().len() as u64;
-        let entries = cluster.view.since(rt, alloc, &mut caller.view, known)?;
-        let seen = caller.view.seen();
-        self.prefixes.take_view(alloc, entries, seen)
-    }
+/// Pulls the view, as `pull_server` does a server.
+fn pull_view<R: Wait>(
+    prefixes: &mut Prefixes,
+    rt: &R,
+    alloc: Global,
+    cell: &Cell<View>,
+    view_pass: &mut Pass<View>,
+) -> Result<(), PullFault>
+    ensures grown { OnOk result ((more : Entries) × (prefixes.new ≡ grown prefixes.old Part.View more)) }
+    ensures seen { OnOk result (view_pass.new.seen ≤ prefix_length prefixes.new Part.View) }
+    ensures err { OnErr result (prefixes.new ≡ prefixes.old) }
+    ensures fault { IfErr result (λ fault. (more : Entries) × IsPullFault prefixes.old Part.View more view_pass.new.seen fault) }
+    ensures saw { view_pass.old.seen ≤ view_pass.new.seen }
+{
+    let known = prefixes.view().len() as u64;
+    let entries = cell.since(rt, alloc, view_pass, known)?;
+    let seen = view_pass.seen();
+    prefixes.take_view(alloc, entries, seen)
 }

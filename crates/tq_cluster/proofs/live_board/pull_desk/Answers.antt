@@ -1,17 +1,15 @@
-use Rattle.std.proofs.Common.{◌≡◌, ◌∙◌, ap, rules}
+use Rattle.std.proofs.Common.{◌≡◌, rules}
 use Rattle.std.specs.Prelude.{IfErr}
 use Rattle.tq_shape.specs.declared.part.Part.TheVariants as parts
-use Rattle.tq_tables.specs.Journals.{JournalsView}
 use Rattle.tq_prefixes.specs.declared.entries.Entries.TheVariants as entries
 use Rattle.tq_prefixes.specs.declared.fault.PullFault.TheVariants as faults
-use Rattle.tq_prefixes.specs.Prefixes.{grown}
 use Rattle.tq_cluster.proofs.Seen.{memory_fault, on_ok}
-use Rattle.tq_cluster.proofs.live_board.LiveBoard.pull_view.Goals as goal
+use Rattle.tq_cluster.proofs.live_board.pull_desk.Goals as goal
 
 pub returns-in_err-entries-clause-fault : goal.returns-in_err-entries-clause-fault
 returns-in_err-entries-clause-fault g c =
     let refused : IfErr c.from_residual.result (λ f. f ≡ faults.Memory) = search rules in
-    memory_fault c.args.self.now parts.View c.since.new.pass.seen c.from_residual.result refused
+    memory_fault c.args.prefixes.now (parts.Desk) c.since.new.pass.seen c.from_residual.result refused
 
 pub returns-clause-grown : goal.returns-clause-grown
-returns-clause-grown g c = on_ok _ _ c.take_view.result (λ is. (entries.View c.in_ok-entries.entries.items, is ∙ ap (λ (o : JournalsView). grown o parts.View (entries.View c.in_ok-entries.entries.items)) c.self.view_is)) c.take_view.ensures.grown
+returns-clause-grown g c = on_ok _ _ c.take_desk.result (λ is. (entries.Desk c.in_ok-entries.entries.items, is)) c.take_desk.ensures.grown

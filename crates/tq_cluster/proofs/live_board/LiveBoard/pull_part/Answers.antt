@@ -1,0 +1,44 @@
+use Rattle.std.proofs.Common.{◌-◌, ◌^◌, ◌∙◌, map, set, ap}
+use Rattle.tq_shape.specs.declared.part.Part.TheVariants as parts
+use Rattle.tq_cluster.specs.Told.{CallerView, exchange_of}
+use Rattle.tq_cluster.proofs.Seen.{seeing, seen_here, has_pass, server_pulled, desk_pulled, view_pulled, pulled_seen, pulled_fault}
+use Rattle.tq_cluster.proofs.live_board.LiveBoard.pull_part.Goals as goal
+
+pub returns-in-Server-clause-seen : goal.returns-in-Server-clause-seen
+returns-in-Server-clause-seen g c =
+    let own = c.caller.inside in
+    let passes = own.servers.items in
+    let number = c.in-Server.number in
+    let pass = c.pull_server.new.pass in
+    let less = has_pass passes c.args.cluster.now.levels number c.args.part c.args.caller.now c.requires.part c.in-Server.is c.requires.caller (c.caller.invariant ∙ ap (λ (v : CallerView). 2 ^ v.levels) c.caller.view_is) in
+    pulled_seen c.pull_server.result (seeing own.levels (map exchange_of own.heard.items) (set passes (number - 1) pass) own.desk.seen own.view.seen) c.args.part (parts.Server number) pass.seen c.in-Server.is
+        (seen_here passes (number - 1) pass less) c.pull_server.new.prefixes c.pull_server.ensures.seen
+
+pub returns-in-Server-clause-fault : goal.returns-in-Server-clause-fault
+returns-in-Server-clause-fault g c =
+    let own = c.caller.inside in
+    let passes = own.servers.items in
+    let number = c.in-Server.number in
+    let pass = c.pull_server.new.pass in
+    let less = has_pass passes c.args.cluster.now.levels number c.args.part c.args.caller.now c.requires.part c.in-Server.is c.requires.caller (c.caller.invariant ∙ ap (λ (v : CallerView). 2 ^ v.levels) c.caller.view_is) in
+    pulled_fault c.pull_server.result (seeing own.levels (map exchange_of own.heard.items) (set passes (number - 1) pass) own.desk.seen own.view.seen) c.args.part (parts.Server number) pass.seen c.in-Server.is
+        (seen_here passes (number - 1) pass less) c.self.inside.prefixes c.args.self.now c.self.view_is c.pull_server.ensures.fault
+
+pub returns-in-Server-clause-caller : goal.returns-in-Server-clause-caller
+returns-in-Server-clause-caller g c =
+    let own = c.caller.inside in
+    let passes = own.servers.items in
+    let number = c.in-Server.number in
+    let less = has_pass passes c.args.cluster.now.levels number c.args.part c.args.caller.now c.requires.part c.in-Server.is c.requires.caller (c.caller.invariant ∙ ap (λ (v : CallerView). 2 ^ v.levels) c.caller.view_is) in
+    server_pulled own.levels (map exchange_of own.heard.items) passes own.desk.seen own.view.seen number c.args.part c.index_mut-pass.result.now c.pull_server.new.pass c.args.caller.now c.caller.view_is
+        less c.in-Server.is c.index_mut-pass.ensures.value c.pull_server.ensures.saw
+
+pub returns-in-Desk-clause-caller : goal.returns-in-Desk-clause-caller
+returns-in-Desk-clause-caller g c =
+    let own = c.caller.inside in
+    desk_pulled own.levels (map exchange_of own.heard.items) own.servers.items own.desk.seen c.pull_desk.new.pass.seen own.view.seen c.args.part c.args.caller.now c.caller.view_is c.in-Desk.is c.pull_desk.ensures.saw
+
+pub returns-in-View-clause-caller : goal.returns-in-View-clause-caller
+returns-in-View-clause-caller g c =
+    let own = c.caller.inside in
+    view_pulled own.levels (map exchange_of own.heard.items) own.servers.items own.desk.seen own.view.seen c.pull_view.new.view_pass.seen c.args.part c.args.caller.now c.caller.view_is c.in-View.is c.pull_view.ensures.saw
