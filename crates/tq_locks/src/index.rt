@@ -1,4 +1,4 @@
-//! An index of a slab: lists of keys, each under a name. The lists have no order.
+//! An index of a slab: lists of keys, each under a name. The names have no order.
 ghost use Rattle.std.specs.Prelude.{◌≡◌, ◌≤◌, OnOk, Some, [], if◌then◌else◌, length};
 ghost use Rattle.indexmap.specs.IndexMap.{index_of};
 ghost use Rattle.std.specs.List.{insert, remove};
