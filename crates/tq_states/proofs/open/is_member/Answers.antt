@@ -5,4 +5,4 @@ use Rattle.tq_states.proofs.Tested.{rise_too}
 use Rattle.tq_states.proofs.open.is_member.Goals as goal
 
 pub returns : goal.returns
-returns c = c.is_quorum.ensures ∙ ap (is_quorum c.args.levels) (c.as_slice.ensures.value ∙ c.in_ok-numbers.ensures) ∙ rise_too c.args.levels (granters c.args.grants.now)
+returns c = c.is_quorum.ensures ∙ ap (is_quorum c.args.levels) (c.as_slice.ensures ∙ c.in_ok-numbers.ensures) ∙ rise_too c.args.levels (granters c.args.grants.now)
