@@ -1,7 +1,7 @@
 -- What a caller has seen of servers.
 use Rattle.std.proofs.Common.{◌≡◌, ◌≤◌, ◌<◌, ◌+◌, ◌-◌, ◌^◌, ℕ, zero, suc, List, [], ◌∷◌, ◌++◌, length, map, set, get_or, replicate, sym, ap, subst, ◌∙◌, arith}
 use Rattle.std.proofs.lemmas.List.{length-map, map-set, map-append, get_or-map, get_or-set_same, set-get_or, replicate_more}
-use Rattle.std.specs.Prelude.{Result, Ok, Err, IfErr, OnOk}
+use Rattle.std.specs.Prelude.{Result, Ok, Err, IfOk, IfErr, OnOk}
 use Rattle.tq_cells.specs.Passes.{Seen}
 use Rattle.tq_shape.specs.Tree.{IsServer}
 use Rattle.tq_shape.specs.declared.part.Part.{Part}
@@ -27,6 +27,11 @@ module _ {A R : Type 0} where
       let count : length (numbers passes) ≡ length passes = length-map passes (λ (p : Seen A R). p.seen) in
       ap (λ (l : List ℕ). get_or l place 0) (map-set (λ (p : Seen A R). p.seen) passes place pass)
       ∙ get_or-set_same (numbers passes) place pass.seen 0 (omega (arith, less, count))
+
+  pub seen_there : (passes : List (Seen A R)) (number server : ℕ) (pass : Seen A R) → number ≡ server → number - 1 < length passes
+      → get_or (map (λ (p : Seen A R). p.seen) (set passes (number - 1) pass)) (server - 1) 0 ≡ pass.seen
+  seen_there passes number server pass named less =
+      subst (λ (n : ℕ). get_or (map (λ (p : Seen A R). p.seen) (set passes (number - 1) pass)) (n - 1) 0 ≡ pass.seen) named (seen_here passes (number - 1) pass less)
 
   -- of a server whose pass is as it was
   pub seen_before : (passes : List (Seen A R)) (place : ℕ) (pass : Seen A R) → place < length passes → pass ≡ get_or passes place pass → get_or (map (λ (p : Seen A R). p.seen) passes) place 0 ≡ pass.seen
@@ -167,6 +172,9 @@ sees-on-after first old new there before (seen, less, same) part =
 pub on_ok : {T E : Type 0} (P Q : Type 0) (r : Result T E) → (P → Q) → OnOk r P → OnOk r Q
 on_ok P Q (Ok x) f is = f is
 on_ok P Q (Err e) f is = tt
+
+pub if_ok : {T E : Type 0} (P : T → Type 0) (r : Result T E) (x : T) → r ≡ Ok x → IfOk r P → P x
+if_ok {T} {E} P r x is holds = subst (λ (q : Result T E). IfOk q P) is holds
 
 pub memory_fault : {T : Type 0} (prefixes : JournalsView) (part : Part) (seen : ℕ) (r : Result T PullFault) → IfErr r (λ f. f ≡ faults.Memory)
     → IfErr r (λ f. (more : Entries) × IsPullFault prefixes part more seen f)

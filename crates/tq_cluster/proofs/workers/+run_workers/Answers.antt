@@ -29,10 +29,10 @@ returns-else-memory-clause-ran g t c = λ none.
     let mine = (view c.join-caller.result.taker.pass).taken in
     let works =
     subst (λ (n : ℕ). Works n mine caller) c.levels.ensures
-    (subst (λ (p : Refreshed). Works p.0 mine caller) c.in-Ok-child.ensures.ok (c.join-caller.ensures.0 none)) in (
+    (subst (λ (p : Refreshed). Works p.0 mine caller) c.in-Ok.ensures.ok (c.join-caller.ensures.0 none)) in (
       before.0 ++ caller ∷ [],
       before.1 ++ mine,
       joined c.args.callers.now.items c.args.callers.now.items c.run_workers-memory.new.callers.items before.0 (caller ∷ []) c.push_reserved.new.self.items refl before.2 c.push_reserved.ensures.items,
-      joined (view c.args.putter.now.pass).taken (view c.taker.new.self.pass).taken (view c.run_workers-memory.new.putter.pass).taken before.1 mine (view c.rejoin.new.self.pass).taken c.taker.ensures.same.1 before.3 c.rejoin.ensures.taken,
+      joined (view c.args.putter.now.pass).taken (view c.what_one_takes.new.putter.pass).taken (view c.run_workers-memory.new.putter.pass).taken before.1 mine (view c.rejoin.new.self.pass).taken c.in-Some.ensures.taken before.3 c.rejoin.ensures.taken,
       one_worker_more c.args.cluster.now.levels (workers - (started + 1)) (workers - started) before.1 mine before.0 caller more before.4 works,
     )
