@@ -32,6 +32,12 @@ pub asked_by : {P A R C E : Type 0} (called : Result (Receipts P A R C) E) (ask 
 asked_by (Ok r) ask here there same asked = asked.0 ∙ same
 asked_by (Err e) ask here there same asked = tt
 
+-- what was told is kept, and is of a copy of the ask too
+pub told_of_copy : {P A R C E : Type 0} (called : Result (Receipts P A R C) E) (ask copy : A) (here : Part) → copy ≡ ask → IfOk called (λ r. r.kept ≡ r.told) → IfOk called (λ r. (r.told.part ≡ here) × (r.told.ask ≡ ask))
+    → IfOk called (λ r. (r.kept ≡ r.told) × (r.told.ask ≡ copy))
+told_of_copy (Ok r) ask copy here copied same asked = (same, asked.1 ∙ sym copied)
+told_of_copy (Err e) ask copy here copied same asked = tt
+
 -- the cell at a server's place has that server's name
 pub named_by : (names : List Part) (number : ℕ) (here : Part) → AreServers 1 names → 0 < number → number ≤ length names → here ≡ get_or names (number - 1) here → here ≡ parts.Server number
 named_by names number here named least most at =

@@ -128,6 +128,13 @@ fn what_one_takes<R: Wait, G: Gate + Drop>(
     Some(Ready { caller, taker })
 }
 
+/// Whether one of the two is so.
+pub(crate) fn either(one: bool, other: bool) -> bool
+    ensures { result ≡ false → (one ≡ false) × (other ≡ false) }
+{
+    one || other
+}
+
 /// Starts the workers that are not started yet, pulls the board and puts the jobs for all of them, and joins them. Their
 /// callers are put behind those that are there, the calling thread's first, and then the last worker's. Where a caller,
 /// an end of the queue or a thread is refused, those that were started are stopped and come back, and no jobs are put.
@@ -185,7 +192,7 @@ pub(crate) fn run_workers<'s, 'e: 's, R: Threads + Wait + Sync, G: Gate + Drop +
             } = child.join(rt);
             putter.rejoin(taker);
             callers.push_reserved(caller);
-            memory || mine
+            either(memory, mine)
         }
         Err(refused) => {
             drop(refused);

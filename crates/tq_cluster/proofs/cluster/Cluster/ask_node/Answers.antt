@@ -1,11 +1,15 @@
-use Rattle.std.proofs.Common.{refl, ◌≡◌, ◌≤◌, ◌<◌, ◌-◌, ◌∙◌, ℕ, length, map, ap, sym, subst, arith}
+use Rattle.std.proofs.Common.{refl, ◌≡◌, ◌≤◌, ◌<◌, ◌-◌, ◌∙◌, ◌++◌, ℕ, length, map, ap, sym, subst, arith, rules}
 use Rattle.std.specs.Prelude.{IfOk}
 use Rattle.tq_shape.specs.Tree.{IsServer}
 use Rattle.tq_shape.specs.declared.part.Part.TheVariants as parts
 use Rattle.tq_cluster.specs.Cluster.{ClusterView}
 use Rattle.tq_cluster.specs.Told.{CallerView, exchange_of}
-use Rattle.tq_cluster.proofs.Names.{asked_by, named_by}
+use Rattle.tq_cluster.proofs.Names.{asked_by, named_by, told_of_copy}
 use Rattle.tq_cluster.proofs.Seen.{seeing, seen_there, server_saw, server_not_asked}
+use Rattle.tq_asks.specs.declared.ask.NodeAsk.{NodeAsk}
+use Rattle.tq_txn.specs.declared.asker.Exchange.{Exchange}
+use Rattle.tq_txn.specs.Dialogue.{node_exchange}
+use Rattle.tq_cluster.proofs.Exchanges.{heard_more}
 use Rattle.tq_cluster.proofs.cluster.Cluster.ask_node.Goals as goal
 
 pub returns-clause-saw : goal.returns-clause-saw
@@ -45,3 +49,20 @@ returns-clause-seen g c =
     let less : number - 1 < length passes = omega arith in
     let there = seen_there passes number c.args.server.number c.call-called.new.pass c.number-number.ensures.value less in
     subst (λ (n : ℕ). IfOk c.hear_node.result (λ t. t.number ≤ n)) (sym there) (c.hear_node.ensures.seen c.call-called.new.pass.seen c.call-called.ensures.seen)
+
+pub hear_node-requires-clause-told : goal.hear_node-requires-clause-told
+hear_node-requires-clause-told g c =
+    let copied : c.in_ok-copy.copy ≡ c.args.ask = search rules in
+    told_of_copy c.call-called.result c.args.ask c.in_ok-copy.copy c.index-cell.result.now copied c.call-called.ensures.same c.call-called.ensures.asked
+
+pub returns-clause-exchanges : goal.returns-clause-exchanges
+returns-clause-exchanges g c =
+    let copied : c.in_ok-copy.copy ≡ c.args.ask = search rules in
+    heard_more c.caller.inside.heard.items c.reserve.new.self.items c.hear_node.new.heard.items c.args.caller.now.told (node_exchange c.number-number.result c.in_ok-copy.copy c.hear_node.result) (ap (λ (v : CallerView). v.told) c.caller.view_is) c.in_ok-reserve.ensures.items c.hear_node.ensures.exchanges
+    ∙ (λ i. c.args.caller.now.told ++ node_exchange (c.number-number.ensures.value i) (copied i) c.hear_node.result)
+
+pub returns-clause-same : goal.returns-clause-same
+returns-clause-same g c =
+    let copied : c.in_ok-copy.copy ≡ c.args.ask = search rules in
+    subst (λ (n : ℕ). IfOk c.hear_node.result (λ t. (t.server ≡ n) × (t.ask ≡ c.args.ask))) c.number-number.ensures.value
+        (subst (λ (a : NodeAsk). IfOk c.hear_node.result (λ t. (t.server ≡ c.number-number.result) × (t.ask ≡ a))) copied c.hear_node.ensures.same)
