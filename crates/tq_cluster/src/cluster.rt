@@ -289,7 +289,9 @@ fn hear_node(
             Err(AskFault::Memory)
         }
         Err(CallFault::JournalFull) => {
-            let fault = AskFault::JournalFull { part: Part::Server(server) };
+            let fault = AskFault::JournalFull {
+                part: Part::Server(server),
+            };
             heard.push_reserved(Heard::Full(Exchange::Node {
                 server,
                 ask,

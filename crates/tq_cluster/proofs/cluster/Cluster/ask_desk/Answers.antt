@@ -1,10 +1,9 @@
-use Rattle.std.proofs.Common.{◌≡◌, ◌∙◌, ◌++◌, List, map, ap, subst, arith, rules}
+use Rattle.std.proofs.Common.{◌≡◌, ◌∙◌, ◌++◌, map, ap, subst, arith, rules}
 use Rattle.tq_cluster.specs.Told.{CallerView, exchange_of}
 use Rattle.std.specs.Prelude.{IfOk}
 use Rattle.tq_cluster.proofs.Names.{told_of_copy}
 use Rattle.tq_cluster.proofs.Seen.{desk_saw}
 use Rattle.tq_desk.specs.declared.ask.DeskAsk.{DeskAsk}
-use Rattle.tq_txn.specs.declared.asker.Exchange.{Exchange}
 use Rattle.tq_txn.specs.Dialogue.{desk_exchange}
 use Rattle.tq_cluster.proofs.Exchanges.{heard_more}
 use Rattle.tq_cluster.proofs.cluster.Cluster.ask_desk.Goals as goal
@@ -36,3 +35,9 @@ pub returns-clause-same : goal.returns-clause-same
 returns-clause-same g c =
     let copied : c.in_ok-copy.copy ≡ c.args.ask = search rules in
     subst (λ (a : DeskAsk). IfOk c.hear_desk.result (λ t. t.ask ≡ a)) copied c.hear_desk.ensures.same
+
+pub returns-clause-fault : goal.returns-clause-fault
+returns-clause-fault g c = c.hear_desk.ensures.fault
+
+pub returns-clause-tree : goal.returns-clause-tree
+returns-clause-tree g c = ap (λ (v : CallerView). v.levels) c.caller.view_is

@@ -1,5 +1,6 @@
 use Rattle.std.proofs.Common.{refl, ◌≡◌, ◌≤◌, ◌<◌, ◌-◌, ◌∙◌, ◌++◌, ℕ, length, map, ap, sym, subst, arith, rules}
-use Rattle.std.specs.Prelude.{IfOk}
+use Rattle.std.specs.Prelude.{IfOk, IfErr, ◌⊎◌}
+use Rattle.tq_part.specs.declared.fault.AskFault.TheVariants as faults
 use Rattle.tq_shape.specs.Tree.{IsServer}
 use Rattle.tq_shape.specs.declared.part.Part.TheVariants as parts
 use Rattle.tq_cluster.specs.Cluster.{ClusterView}
@@ -7,7 +8,6 @@ use Rattle.tq_cluster.specs.Told.{CallerView, exchange_of}
 use Rattle.tq_cluster.proofs.Names.{asked_by, named_by, told_of_copy}
 use Rattle.tq_cluster.proofs.Seen.{seeing, seen_there, server_saw, server_not_asked}
 use Rattle.tq_asks.specs.declared.ask.NodeAsk.{NodeAsk}
-use Rattle.tq_txn.specs.declared.asker.Exchange.{Exchange}
 use Rattle.tq_txn.specs.Dialogue.{node_exchange}
 use Rattle.tq_cluster.proofs.Exchanges.{heard_more}
 use Rattle.tq_cluster.proofs.cluster.Cluster.ask_node.Goals as goal
@@ -65,4 +65,10 @@ pub returns-clause-same : goal.returns-clause-same
 returns-clause-same g c =
     let copied : c.in_ok-copy.copy ≡ c.args.ask = search rules in
     subst (λ (n : ℕ). IfOk c.hear_node.result (λ t. (t.server ≡ n) × (t.ask ≡ c.args.ask))) c.number-number.ensures.value
-        (subst (λ (a : NodeAsk). IfOk c.hear_node.result (λ t. (t.server ≡ c.number-number.result) × (t.ask ≡ a))) copied c.hear_node.ensures.same)
+    (subst (λ (a : NodeAsk). IfOk c.hear_node.result (λ t. (t.server ≡ c.number-number.result) × (t.ask ≡ a))) copied c.hear_node.ensures.same)
+
+pub returns-clause-fault : goal.returns-clause-fault
+returns-clause-fault g c = subst (λ (n : ℕ). IfErr c.hear_node.result (λ f. (f ≡ faults.Memory) ⊎ (f ≡ faults.JournalFull (parts.Server n)))) c.number-number.ensures.value c.hear_node.ensures.fault
+
+pub returns-clause-tree : goal.returns-clause-tree
+returns-clause-tree g c = ap (λ (v : CallerView). v.levels) c.caller.view_is
