@@ -23,6 +23,10 @@ module _ (kept receipt : Told NodeAsk NodeReply) (number given : ℕ) (ask : Nod
       ∙ (λ i. exchanges.Node (server i) (asked i) (Ok (record { number = receipt.number; reply = receipt.reply })))
       ∙ ap (λ (n : NodeTold). exchanges.Node given ask (Ok (record { number = n.number; reply = n.reply }))) (sym told)
 
+-- more was heard of
+pub heard_more : (before reserved after : List Heard) (told more : List Exchange) → map exchange_of before ≡ told → reserved ≡ before → map exchange_of after ≡ map exchange_of reserved ++ more → map exchange_of after ≡ told ++ more
+heard_more before reserved after told more was room grown = grown ∙ ap (λ (l : List Heard). map exchange_of l ++ more) room ∙ ap (λ (l : List Exchange). l ++ more) was
+
 -- one more was heard of
 pub one_more_heard : (before reserved after : List Heard) (told : List Exchange) (one : Heard) (exchange : Exchange)
     → map exchange_of before ≡ told → reserved ≡ before → after ≡ reserved ++ one ∷ [] → exchange_of one ≡ exchange → map exchange_of after ≡ told ++ exchange ∷ []

@@ -1,7 +1,7 @@
 -- What a caller has seen of servers.
 use Rattle.std.proofs.Common.{◌≡◌, ◌≤◌, ◌<◌, ◌+◌, ◌-◌, ◌^◌, ℕ, zero, suc, List, [], ◌∷◌, ◌++◌, length, map, set, get_or, replicate, sym, ap, subst, ◌∙◌, arith}
 use Rattle.std.proofs.lemmas.List.{length-map, map-set, map-append, get_or-map, get_or-set_same, set-get_or, replicate_more}
-use Rattle.std.specs.Prelude.{Result, Ok, Err, IfErr, OnOk}
+use Rattle.std.specs.Prelude.{Result, Ok, Err, IfOk, IfErr, OnOk, OnErr}
 use Rattle.tq_cells.specs.Passes.{Seen}
 use Rattle.tq_shape.specs.Tree.{IsServer}
 use Rattle.tq_shape.specs.declared.part.Part.{Part}
@@ -14,7 +14,7 @@ use Rattle.tq_prefixes.specs.declared.entries.Entries.{Entries}
 use Rattle.tq_prefixes.specs.declared.entries.Entries.TheVariants as entries
 use Rattle.tq_prefixes.specs.declared.fault.PullFault.{PullFault}
 use Rattle.tq_prefixes.specs.declared.fault.PullFault.TheVariants as faults
-use Rattle.tq_prefixes.specs.Prefixes.{IsPartOf, IsPullFault, prefix_length}
+use Rattle.tq_prefixes.specs.Prefixes.{IsPartOf, IsPullFault, grown, prefix_length}
 use Rattle.tq_cluster.specs.Told.{CallerView, SeesOn, seen_of, having_seen}
 
 module _ {A R : Type 0} where
@@ -27,6 +27,11 @@ module _ {A R : Type 0} where
       let count : length (numbers passes) ≡ length passes = length-map passes (λ (p : Seen A R). p.seen) in
       ap (λ (l : List ℕ). get_or l place 0) (map-set (λ (p : Seen A R). p.seen) passes place pass)
       ∙ get_or-set_same (numbers passes) place pass.seen 0 (omega (arith, less, count))
+
+  pub seen_there : (passes : List (Seen A R)) (number server : ℕ) (pass : Seen A R) → number ≡ server → number - 1 < length passes
+      → get_or (map (λ (p : Seen A R). p.seen) (set passes (number - 1) pass)) (server - 1) 0 ≡ pass.seen
+  seen_there passes number server pass named less =
+      subst (λ (n : ℕ). get_or (map (λ (p : Seen A R). p.seen) (set passes (number - 1) pass)) (n - 1) 0 ≡ pass.seen) named (seen_here passes (number - 1) pass less)
 
   -- of a server whose pass is as it was
   pub seen_before : (passes : List (Seen A R)) (place : ℕ) (pass : Seen A R) → place < length passes → pass ≡ get_or passes place pass → get_or (map (λ (p : Seen A R). p.seen) passes) place 0 ≡ pass.seen
@@ -103,20 +108,31 @@ pub server_pulled : (levels : ℕ) (told : List Exchange) (passes : List (Seen N
 server_pulled levels told passes desk view number part before after old same less named is more =
     let was : get_or old.seen.servers (number - 1) 0 ≡ before.seen = ap (λ (v : CallerView). get_or v.seen.servers (number - 1) 0) (sym same) ∙ seen_before passes (number - 1) before less is in
     subst (λ (p : Part). (seen : ℕ) × (seen_of old p ≤ seen) × (seeing levels told (set passes (number - 1) after) desk view ≡ having_seen old p seen)) (sym named)
-        (after.seen, omega (arith, was, more), caller_saw levels told passes desk view number after old same)
+    (after.seen, omega (arith, was, more), caller_saw levels told passes desk view number after old same)
 
 -- the desk was pulled, and the view
 pub desk_pulled : (levels : ℕ) (told : List Exchange) (passes : List (Seen NodeAsk NodeReply)) (before after view : ℕ) (part : Part) (old : CallerView) → seeing levels told passes before view ≡ old → part ≡ parts.Desk → before ≤ after
     → (seen : ℕ) × (seen_of old part ≤ seen) × (seeing levels told passes after view ≡ having_seen old part seen)
 desk_pulled levels told passes before after view part old same named more =
     subst (λ (p : Part). (seen : ℕ) × (seen_of old p ≤ seen) × (seeing levels told passes after view ≡ having_seen old p seen)) (sym named)
-        (after, subst (λ (o : CallerView). seen_of o parts.Desk ≤ after) same more, ap (λ (o : CallerView). having_seen o parts.Desk after) same)
+    (after, subst (λ (o : CallerView). seen_of o parts.Desk ≤ after) same more, ap (λ (o : CallerView). having_seen o parts.Desk after) same)
 
 pub view_pulled : (levels : ℕ) (told : List Exchange) (passes : List (Seen NodeAsk NodeReply)) (desk before after : ℕ) (part : Part) (old : CallerView) → seeing levels told passes desk before ≡ old → part ≡ parts.View → before ≤ after
     → (seen : ℕ) × (seen_of old part ≤ seen) × (seeing levels told passes desk after ≡ having_seen old part seen)
 view_pulled levels told passes desk before after part old same named more =
     subst (λ (p : Part). (seen : ℕ) × (seen_of old p ≤ seen) × (seeing levels told passes desk after ≡ having_seen old p seen)) (sym named)
-        (after, subst (λ (o : CallerView). seen_of o parts.View ≤ after) same more, ap (λ (o : CallerView). having_seen o parts.View after) same)
+    (after, subst (λ (o : CallerView). seen_of o parts.View ≤ after) same more, ap (λ (o : CallerView). having_seen o parts.View after) same)
+
+module _ {T : Type 0} (r : Result T PullFault) (part there : Part) (prefixes old new : JournalsView) (named : part ≡ there) (same : prefixes ≡ old) where
+  -- the board grew by the entries of the part of that name
+  pub pulled_grown : OnOk r ((more : Entries) × (new ≡ grown prefixes there more)) → OnOk r ((more : Entries) × (new ≡ grown old part more))
+  pulled_grown is =
+      subst (λ (o : JournalsView). OnOk r ((more : Entries) × (new ≡ grown o part more))) same
+      (subst (λ (p : Part). OnOk r ((more : Entries) × (new ≡ grown prefixes p more))) (sym named) is)
+
+  -- or is as it was
+  pub pulled_err : OnErr r (new ≡ prefixes) → OnErr r (new ≡ old)
+  pulled_err is = subst (λ (o : JournalsView). OnErr r (new ≡ o)) same is
 
 module _ {T : Type 0} (r : Result T PullFault) (new : CallerView) (part there : Part) (seen : ℕ) (named : part ≡ there) (here : seen_of new there ≡ seen) where
   -- the part of that name has on the board what the caller has seen of it
@@ -129,8 +145,8 @@ module _ {T : Type 0} (r : Result T PullFault) (new : CallerView) (part there : 
       → IfErr r (λ f. (more : Entries) × IsPullFault old part more (seen_of new part) f)
   pulled_fault prefixes old same fault =
       subst (λ (p : Part). IfErr r (λ f. (more : Entries) × IsPullFault old p more (seen_of new p) f)) (sym named)
-          (subst (λ (n : ℕ). IfErr r (λ f. (more : Entries) × IsPullFault old there more n f)) (sym here)
-              (subst (λ (o : JournalsView). IfErr r (λ f. (more : Entries) × IsPullFault o there more seen f)) same fault))
+      (subst (λ (n : ℕ). IfErr r (λ f. (more : Entries) × IsPullFault old there more n f)) (sym here)
+      (subst (λ (o : JournalsView). IfErr r (λ f. (more : Entries) × IsPullFault o there more seen f)) same fault))
 
 -- ---- what was seen, and no less after
 
@@ -167,6 +183,9 @@ sees-on-after first old new there before (seen, less, same) part =
 pub on_ok : {T E : Type 0} (P Q : Type 0) (r : Result T E) → (P → Q) → OnOk r P → OnOk r Q
 on_ok P Q (Ok x) f is = f is
 on_ok P Q (Err e) f is = tt
+
+pub if_ok : {T E : Type 0} (P : T → Type 0) (r : Result T E) (x : T) → r ≡ Ok x → IfOk r P → P x
+if_ok {T} {E} P r x is holds = subst (λ (q : Result T E). IfOk q P) is holds
 
 pub memory_fault : {T : Type 0} (prefixes : JournalsView) (part : Part) (seen : ℕ) (r : Result T PullFault) → IfErr r (λ f. f ≡ faults.Memory)
     → IfErr r (λ f. (more : Entries) × IsPullFault prefixes part more seen f)

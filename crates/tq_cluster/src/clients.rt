@@ -10,7 +10,7 @@ ghost use Rattle.tq_cluster.specs.Backwards.{RunBackwards};
 use crate::asking::Asking;
 use crate::caller::Caller;
 use crate::cluster::Cluster;
-use crate::workers::{Message, Team, run_workers};
+use crate::workers::{Message, Team, either, run_workers};
 use std::alloc::Global;
 use std::snapshot::Snapshot;
 use std::sync::Wait;
@@ -111,9 +111,12 @@ fn run_all<'s, 'e: 's, R: Threads + Wait + Sync, G: Gate + Drop + Sync>(
                 memory: mine,
             } = child.join(rt);
             callers.push_reserved(caller);
-            memory || mine
+            either(memory, mine)
         }
-        Err(_refused) => true,
+        Err(refused) => {
+            drop(refused);
+            true
+        }
     }
 }
 

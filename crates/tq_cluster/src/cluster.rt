@@ -1,9 +1,9 @@
-ghost use Rattle.std.specs.Prelude.{◌≡◌, ◌≤◌, ◌+◌, ◌^◌, ◌++◌, ◌⊎◌, ℕ, [], IfOk, IfErr, vec_capacity};
+ghost use Rattle.std.specs.Prelude.{◌≡◌, ◌≤◌, ◌<◌, ◌+◌, ◌^◌, ◌++◌, ◌⊎◌, ℕ, [], length, map, replicate, IfOk, IfErr, vec_len, vec_capacity};
 ghost use Rattle.tq_txn.specs.Dialogue.{node_exchange, desk_exchange, view_exchange};
 ghost use Rattle.tq_tables.specs.Parts.{AreLegal};
-ghost use Rattle.tq_cluster.specs.Told.{IsToldByServer, IsToldByDesk, IsToldByView, having_seen, nothing_seen, seen_of};
+ghost use Rattle.tq_cluster.specs.Told.{IsToldByServer, IsToldByDesk, IsToldByView, exchange_of, having_seen, nothing_seen, seen_of};
 
-use crate::call::call;
+use crate::call::{Receipts, call};
 use crate::caller::Caller;
 use crate::heard::Heard;
 use crate::journals::{desk_journal, server_journals, view_journal};
@@ -11,7 +11,7 @@ use std::alloc::Global;
 use std::marker::Model;
 use std::sync::Wait;
 use tq_asks::NodeAsk;
-use tq_cells::{CallFault, Cell, Gate, Receipt};
+use tq_cells::{CallFault, Cell, Gate, Pass, Receipt};
 use tq_desk::{Desk, DeskAsk};
 use tq_live::{View, ViewAsk};
 use tq_node::Node;
@@ -87,10 +87,7 @@ impl<G: Gate + Drop> Cluster<G> {
     pub fn caller(&self, alloc: Global) -> Result<Caller, Memory>
         ensures { IfOk result (λ caller. caller ≡ record { levels = self.now.levels; told = []; seen = nothing_seen self.now.levels }) }
     {
-        let mut servers = Vec::new(alloc);
-        for cell in self.servers.as_slice() {
-            servers.push(cell.pass(alloc))?;
-        }
+        let servers = passes(alloc, self.servers.as_slice())?;
         let desk = self.desk.pass(alloc);
         let view = self.view.pass(alloc);
         Ok(Caller::new(alloc, self.levels, servers, desk, view))
@@ -169,27 +166,8 @@ impl<G: Gate + Drop> Cluster<G> {
         let copy = ask.clone()?;
         caller.heard.reserve(1)?;
         let cell = &self.servers[place];
-        match call(rt, alloc, cell, &mut caller.servers[place], &self.gate, ask) {
-            Ok(receipts) => {
-                drop(copy);
-                caller.heard.push_reserved(Heard::Server(receipts.kept));
-                Ok(node_told(number, receipts.told))
-            }
-            Err(CallFault::Memory) => {
-                drop(copy);
-                Err(AskFault::Memory)
-            }
-            Err(CallFault::JournalFull) => {
-                let part = Part::Server(number);
-                let fault = AskFault::JournalFull { part };
-                caller.heard.push_reserved(Heard::Full(Exchange::Node {
-                    server: number,
-                    ask: copy,
-                    answer: Err(fault),
-                }));
-                Err(fault)
-            }
-        }
+        let called = call(rt, alloc, cell, &mut caller.servers[place], &self.gate, ask);
+        hear_node(&mut caller.heard, number, copy, called)
     }
 
     /// Asks the desk, once it has its lock: the reply is that of the desk after the entries of its journal, and the ask
@@ -213,25 +191,8 @@ impl<G: Gate + Drop> Cluster<G> {
     {
         let copy = ask.clone()?;
         caller.heard.reserve(1)?;
-        match call(rt, alloc, &self.desk, &mut caller.desk, &self.gate, ask) {
-            Ok(receipts) => {
-                drop(copy);
-                caller.heard.push_reserved(Heard::Desk(receipts.kept));
-                Ok(desk_told(receipts.told))
-            }
-            Err(CallFault::Memory) => {
-                drop(copy);
-                Err(AskFault::Memory)
-            }
-            Err(CallFault::JournalFull) => {
-                let fault = AskFault::JournalFull { part: Part::Desk };
-                caller.heard.push_reserved(Heard::Full(Exchange::Desk {
-                    ask: copy,
-                    answer: Err(fault),
-                }));
-                Err(fault)
-            }
-        }
+        let called = call(rt, alloc, &self.desk, &mut caller.desk, &self.gate, ask);
+        hear_desk(&mut caller.heard, copy, called)
     }
 
     /// Asks the view, as `ask_desk` asks the desk.
@@ -252,21 +213,8 @@ impl<G: Gate + Drop> Cluster<G> {
         ensures tree { caller.new.levels ≡ caller.old.levels }
     {
         caller.heard.reserve(1)?;
-        match call(rt, alloc, &self.view, &mut caller.view, &self.gate, ask) {
-            Ok(receipts) => {
-                caller.heard.push_reserved(Heard::View(receipts.kept));
-                Ok(view_told(receipts.told))
-            }
-            Err(CallFault::Memory) => Err(AskFault::Memory),
-            Err(CallFault::JournalFull) => {
-                let fault = AskFault::JournalFull { part: Part::View };
-                caller.heard.push_reserved(Heard::Full(Exchange::View {
-                    ask,
-                    answer: Err(fault),
-                }));
-                Err(fault)
-            }
-        }
+        let called = call(rt, alloc, &self.view, &mut caller.view, &self.gate, ask);
+        hear_view(&mut caller.heard, ask, called)
     }
 }
 
@@ -300,4 +248,122 @@ fn view_told(receipt: Receipt<View>) -> ViewTold
     let number = receipt.number();
     let Entry { ask, reply } = receipt.into_entry();
     ViewTold { number, ask, reply }
+}
+
+/// A pass for each of these cells, with nothing seen.
+fn passes(alloc: Global, cells: &[Cell<Node>]) -> Result<Vec<Pass<Node>>, Memory>
+    ensures one_each { IfOk result (λ passes. vec_len passes ≡ length cells.now) }
+    ensures unseen { IfOk result (λ passes. map (λ pass. pass.seen) passes.items ≡ replicate (length cells.now) 0) }
+{
+    let mut passes = Vec::new(alloc);
+    for cell in cells {
+        passes.push(cell.pass(alloc))?;
+    }
+    Ok(passes)
+}
+
+/// Puts what a server answered behind what the caller heard, and tells it. Want of memory is not heard of.
+fn hear_node(
+    heard: &mut Vec<Heard>,
+    server: u64,
+    ask: NodeAsk,
+    called: Result<Receipts<Node>, CallFault>,
+) -> Result<NodeTold, AskFault>
+    requires room { vec_len heard.old < vec_capacity heard.old }
+    requires told { IfOk called (λ r. (r.kept ≡ r.told) × (r.told.ask ≡ ask)) }
+    requires part { IfOk called (λ r. r.told.part ≡ Part.Server server) }
+    ensures exchanges { map exchange_of heard.new.items ≡ map exchange_of heard.old.items ++ node_exchange server ask result }
+    ensures same { IfOk result (λ t. (t.server ≡ server) × (t.ask ≡ ask)) }
+    ensures reply { IfOk called (λ r. IsToldByServer r.told.number r.told.ask r.told.reply) → IfOk result (λ t. IsToldByServer t.number t.ask t.reply) }
+    ensures seen { (seen : ℕ) → IfOk called (λ r. r.told.number ≤ seen) → IfOk result (λ t. t.number ≤ seen) }
+    ensures fault { IfErr result (λ f. (f ≡ AskFault.Memory) ⊎ (f ≡ AskFault.JournalFull (Part.Server server))) }
+{
+    match called {
+        Ok(receipts) => {
+            drop(ask);
+            heard.push_reserved(Heard::Server(receipts.kept));
+            Ok(node_told(server, receipts.told))
+        }
+        Err(CallFault::Memory) => {
+            drop(ask);
+            Err(AskFault::Memory)
+        }
+        Err(CallFault::JournalFull) => {
+            let fault = AskFault::JournalFull {
+                part: Part::Server(server),
+            };
+            heard.push_reserved(Heard::Full(Exchange::Node {
+                server,
+                ask,
+                answer: Err(fault),
+            }));
+            Err(fault)
+        }
+    }
+}
+
+/// Puts what the desk answered behind what the caller heard, and tells it. Want of memory is not heard of.
+fn hear_desk(
+    heard: &mut Vec<Heard>,
+    ask: DeskAsk,
+    called: Result<Receipts<Desk>, CallFault>,
+) -> Result<DeskTold, AskFault>
+    requires room { vec_len heard.old < vec_capacity heard.old }
+    requires told { IfOk called (λ r. (r.kept ≡ r.told) × (r.told.ask ≡ ask)) }
+    ensures exchanges { map exchange_of heard.new.items ≡ map exchange_of heard.old.items ++ desk_exchange ask result }
+    ensures same { IfOk result (λ t. t.ask ≡ ask) }
+    ensures reply { IfOk called (λ r. IsToldByDesk r.told.number r.told.ask r.told.reply) → IfOk result (λ t. IsToldByDesk t.number t.ask t.reply) }
+    ensures seen { (seen : ℕ) → IfOk called (λ r. r.told.number ≤ seen) → IfOk result (λ t. t.number ≤ seen) }
+    ensures fault { IfErr result (λ f. (f ≡ AskFault.Memory) ⊎ (f ≡ AskFault.JournalFull Part.Desk)) }
+{
+    match called {
+        Ok(receipts) => {
+            drop(ask);
+            heard.push_reserved(Heard::Desk(receipts.kept));
+            Ok(desk_told(receipts.told))
+        }
+        Err(CallFault::Memory) => {
+            drop(ask);
+            Err(AskFault::Memory)
+        }
+        Err(CallFault::JournalFull) => {
+            let fault = AskFault::JournalFull { part: Part::Desk };
+            heard.push_reserved(Heard::Full(Exchange::Desk {
+                ask,
+                answer: Err(fault),
+            }));
+            Err(fault)
+        }
+    }
+}
+
+/// Puts what the view answered behind what the caller heard, and tells it. Want of memory is not heard of.
+fn hear_view(
+    heard: &mut Vec<Heard>,
+    ask: ViewAsk,
+    called: Result<Receipts<View>, CallFault>,
+) -> Result<ViewTold, AskFault>
+    requires room { vec_len heard.old < vec_capacity heard.old }
+    requires told { IfOk called (λ r. (r.kept ≡ r.told) × (r.told.ask ≡ ask)) }
+    ensures exchanges { map exchange_of heard.new.items ≡ map exchange_of heard.old.items ++ view_exchange ask result }
+    ensures same { IfOk result (λ t. t.ask ≡ ask) }
+    ensures reply { IfOk called (λ r. IsToldByView r.told.number r.told.ask r.told.reply) → IfOk result (λ t. IsToldByView t.number t.ask t.reply) }
+    ensures seen { (seen : ℕ) → IfOk called (λ r. r.told.number ≤ seen) → IfOk result (λ t. t.number ≤ seen) }
+    ensures fault { IfErr result (λ f. (f ≡ AskFault.Memory) ⊎ (f ≡ AskFault.JournalFull Part.View)) }
+{
+    match called {
+        Ok(receipts) => {
+            heard.push_reserved(Heard::View(receipts.kept));
+            Ok(view_told(receipts.told))
+        }
+        Err(CallFault::Memory) => Err(AskFault::Memory),
+        Err(CallFault::JournalFull) => {
+            let fault = AskFault::JournalFull { part: Part::View };
+            heard.push_reserved(Heard::Full(Exchange::View {
+                ask,
+                answer: Err(fault),
+            }));
+            Err(fault)
+        }
+    }
 }

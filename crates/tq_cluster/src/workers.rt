@@ -95,6 +95,46 @@ impl Promise<Worked> for Refreshed {
     ghost kept_by = { λ p r. (r.memory ≡ false → Works p.0 (view r.taker.pass).taken r.caller) × (receives_on r.taker.receiver ≡ receives_on p.1.value.receiver) };
 }
 
+/// What a worker's thread takes along.
+#[derive(Drop)]
+struct Ready {
+    caller: Caller,
+    taker: Taker<Message>,
+}
+
+/// What one worker more takes along. Where it is refused, those that were started are stopped.
+fn what_one_takes<R: Wait, G: Gate + Drop>(
+    rt: &R,
+    alloc: Global,
+    cluster: &Cluster<G>,
+    started: u32,
+    putter: &mut Putter<Message>,
+) -> Option<Ready>
+    requires { 1 < (view putter.old.pass).parts }
+    ensures caller { IfSome result (λ r. (r.caller.levels ≡ cluster.now.levels) × (r.caller.told ≡ [])) }
+    ensures taker { IfSome result (λ r. (receives_on r.taker.receiver ≡ sends_on putter.new.sender) × ((view r.taker.pass).taken ≡ []) × ((view putter.new.pass).parts + 1 ≡ (view putter.old.pass).parts)) }
+    ensures channel { sends_on putter.new.sender ≡ sends_on putter.old.sender }
+    ensures taken { (view putter.new.pass).taken ≡ (view putter.old.pass).taken }
+    ensures some_part { 0 < (view putter.new.pass).parts }
+{
+    let Ok(caller) = cluster.caller(alloc) else {
+        stop(rt, putter, started);
+        return None;
+    };
+    let Ok(taker) = putter.taker() else {
+        stop(rt, putter, started);
+        return None;
+    };
+    Some(Ready { caller, taker })
+}
+
+/// Whether one of the two is so.
+pub(crate) fn either(one: bool, other: bool) -> bool
+    ensures { result ≡ false → (one ≡ false) × (other ≡ false) }
+{
+    one || other
+}
+
 /// Starts the workers that are not started yet, pulls the board and puts the jobs for all of them, and joins them. Their
 /// callers are put behind those that are there, the calling thread's first, and then the last worker's. Where a caller,
 /// an end of the queue or a thread is refused, those that were started are stopped and come back, and no jobs are put.
@@ -122,14 +162,10 @@ pub(crate) fn run_workers<'s, 'e: 's, R: Threads + Wait + Sync, G: Gate + Drop +
     if started == team.workers {
         return run_rounds(rt, alloc, cluster, team, putter, callers);
     }
-    let Ok(caller) = cluster.caller(alloc) else {
-        stop(rt, putter, started);
+    let Some(taken) = what_one_takes(rt, alloc, cluster, started, putter) else {
         return true;
     };
-    let Ok(taker) = putter.taker() else {
-        stop(rt, putter, started);
-        return true;
-    };
+    let Ready { caller, taker } = taken;
     let child = scope.spawn_with(
         Refreshed(cluster.levels(), Snapshot::of(&taker)),
         move || -> Worked
@@ -156,7 +192,7 @@ pub(crate) fn run_workers<'s, 'e: 's, R: Threads + Wait + Sync, G: Gate + Drop +
             } = child.join(rt);
             putter.rejoin(taker);
             callers.push_reserved(caller);
-            memory || mine
+            either(memory, mine)
         }
         Err(refused) => {
             drop(refused);

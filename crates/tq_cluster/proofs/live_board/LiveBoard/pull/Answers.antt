@@ -1,6 +1,8 @@
-use Rattle.std.proofs.Common.{◌∙◌, sym, subst}
+use Rattle.std.proofs.Common.{◌∙◌, ap, sym, subst}
 use Rattle.tq_shape.specs.declared.part.Part.TheVariants as parts
 use Rattle.tq_tables.specs.Journals.{JournalsView}
+use Rattle.tq_prefixes.specs.Prefixes.{IsPullFault}
+use Rattle.tq_cluster.specs.Told.{CallerView, seen_of}
 use Rattle.tq_cluster.specs.Pulls.{Continues}
 use Rattle.tq_cluster.proofs.Seen.{sees-on-after}
 use Rattle.tq_cluster.proofs.Pulled.{continues-grown, continues-after, fault-after, seen-after}
@@ -31,3 +33,23 @@ returns-clause-seen g c =
 pub returns-clause-fault : goal.returns-clause-fault
 returns-clause-fault g c =
     fault-after c.pull_part.new.self c.pull_part-2.new.self c.pull_part-2.new.caller parts.View c.pull_part-2.result c.pull_part-2.ensures.fault c.pull_part-2.ensures.err
+
+pub returns-clause-told : goal.returns-clause-told
+returns-clause-told g c = ap (λ (v : CallerView). v.told) c.pull_part-2.ensures.caller.2 ∙ ap (λ (v : CallerView). v.told) c.pull_part.ensures.caller.2 ∙ c.pull_servers.ensures.told
+
+pub returns-clause-tree : goal.returns-clause-tree
+returns-clause-tree g c = ap (λ (v : CallerView). v.levels) c.pull_part-2.ensures.caller.2 ∙ ap (λ (v : CallerView). v.levels) c.pull_part.ensures.caller.2 ∙ c.pull_servers.ensures.tree
+
+pub returns-in-Err-pull_part-clause-told : goal.returns-in-Err-pull_part-clause-told
+returns-in-Err-pull_part-clause-told g c = ap (λ (v : CallerView). v.told) c.pull_part.ensures.caller.2 ∙ c.pull_servers.ensures.told
+
+pub returns-in-Err-pull_part-clause-tree : goal.returns-in-Err-pull_part-clause-tree
+returns-in-Err-pull_part-clause-tree g c = ap (λ (v : CallerView). v.levels) c.pull_part.ensures.caller.2 ∙ c.pull_servers.ensures.tree
+
+pub returns-in-Err-pull_part-clause-continues : goal.returns-in-Err-pull_part-clause-continues
+returns-in-Err-pull_part-clause-continues g c = subst (λ (o : JournalsView). Continues c.args.self.now o) (sym c.in-Err-pull_part.ensures.err) c.pull_servers.ensures.continues
+
+pub returns-in-Err-pull_part-clause-fault : goal.returns-in-Err-pull_part-clause-fault
+returns-in-Err-pull_part-clause-fault g c =
+    let fault = c.in-Err-pull_part.ensures.fault in
+    (parts.Desk, fault.0, subst (λ (o : JournalsView). IsPullFault o parts.Desk fault.0 (seen_of c.pull_part.new.caller parts.Desk) c.in-Err-pull_part.fault) (sym c.in-Err-pull_part.ensures.err) fault.1)
