@@ -134,12 +134,14 @@ others_all q (x ∷ xs) e = by_test (eq_by_cmp lock_cmp q x.0) refl e (others_al
     by_test true t f next = absurd (none_some x.1 (sym f))
     by_test false t f next = ap (λ ys. x ∷ ys) (next f)
 
-filter-revalued : (p : LockKey → Bool) (q : LockKey) (l : Lock) (es : List Entry) → where_key lock_cmp p (map (revalued locks_total locks_same q l) es) ≡ map (revalued locks_total locks_same q l) (where_key lock_cmp p es)
-filter-revalued p q l [] = refl
-filter-revalued p q l (e ∷ es) = by_test (p e.0) (filter-revalued p q l es)
+-- a test of the keys, and new values
+pub filter-valued : (p : LockKey → Bool) (g : Entry → Lock) (es : List Entry) → where_key lock_cmp p (map (λ e. (e.0, g e)) es) ≡ map (λ e. (e.0, g e)) (where_key lock_cmp p es)
+filter-valued p g [] = refl
+filter-valued p g (e ∷ es) = by_test (p e.0) (filter-valued p g es)
   where
-    by_test : (b : Bool) → where_key lock_cmp p (map (revalued locks_total locks_same q l) es) ≡ map (revalued locks_total locks_same q l) (where_key lock_cmp p es) → cond b (revalued locks_total locks_same q l e ∷ where_key lock_cmp p (map (revalued locks_total locks_same q l) es)) (where_key lock_cmp p (map (revalued locks_total locks_same q l) es)) ≡ map (revalued locks_total locks_same q l) (cond b (e ∷ where_key lock_cmp p es) (where_key lock_cmp p es))
-    by_test true next = ap (λ ys. revalued locks_total locks_same q l e ∷ ys) next
+    by_test : (b : Bool) → where_key lock_cmp p (map (λ e. (e.0, g e)) es) ≡ map (λ e. (e.0, g e)) (where_key lock_cmp p es)
+        → cond b ((e.0, g e) ∷ where_key lock_cmp p (map (λ e. (e.0, g e)) es)) (where_key lock_cmp p (map (λ e. (e.0, g e)) es)) ≡ map (λ e. (e.0, g e)) (cond b (e ∷ where_key lock_cmp p es) (where_key lock_cmp p es))
+    by_test true next = ap (λ ys. (e.0, g e) ∷ ys) next
     by_test false next = next
 
 module _ (s t : Slab Entry) (p : LockKey → Bool) (es : List Entry) (keys later : List ℕ) (key : ℕ) (q : LockKey) (l : Lock) (listed : AreKeysOf s keys (where_key lock_cmp p es)) (sorted : T (is_sorted lock_cmp es)) where
@@ -164,7 +166,7 @@ module _ (s t : Slab Entry) (p : LockKey → Bool) (es : List Entry) (keys later
   set_listed m once found at u e =
       ap (map (get t)) e
       ∙ found_changed (get s) (get t) (revalued locks_total locks_same q l) keys (where_key lock_cmp p es) listed (λ k x h f. by_test k x f (eq_by_cmp lock_cmp q x.0) refl)
-      ∙ ap (map Some) (sym (filter-revalued p q l es) ∙ ap (where_key lock_cmp p) (sym (put-revalued locks_total locks_same q l m es sorted found)))
+      ∙ ap (map Some) (sym (filter-valued p (λ x. cond (eq_by_cmp lock_cmp q x.0) l x.1) es) ∙ ap (where_key lock_cmp p) (sym (put-revalued locks_total locks_same q l m es sorted found)))
     where
       by_test : (k : ℕ) (x : Entry) → get s k ≡ Some x → (b : Bool) → eq_by_cmp lock_cmp q x.0 ≡ b → get t k ≡ Some (x.0, cond b l x.1)
       by_test k x f true t_is =

@@ -1,5 +1,5 @@
 -- What the methods of the kept locks find and leave.
-use Rattle.std.proofs.Common.{◌≡◌, ℕ, zero, suc, ◌==◌, Bool, true, false, cond, List, [], ◌∷◌, map, filter, length, Option, Some, None, is_some, IfNone, IfSome, Bor, Result, Ok, Err, OnErr, refl, ap, sym, subst, ◌∙◌, inl, inr, ◌<◌, ◌≤◌, ◌-◌, nat_eq, ltb, lt-ltb, ltb-true, get_or, arith}
+use Rattle.std.proofs.Common.{◌≡◌, ℕ, zero, suc, ◌==◌, Bool, true, false, cond, List, [], ◌∷◌, map, filter, length, Option, Some, None, IfNone, IfSome, Result, Ok, Err, OnErr, refl, ap, sym, subst, ◌∙◌, inl, inr, ◌<◌, ◌≤◌, ◌-◌, nat_eq, ltb, lt-ltb, ltb-true, get_or, arith}
 use lib.Dec.{T}
 use mathlib.Core.Bool.{true≢false}
 use Rattle.std.proofs.lemmas.Bool.{cases_lt}
@@ -9,7 +9,7 @@ use Rattle.std.specs.FinMap.Entries.{find, is_sorted, below_all, is_sorted-where
 use Rattle.std.specs.List.{insert, remove, slice_get, filter_map, cons_option, AllByRecursion, IsDistinct}
 use Rattle.std.proofs.lemmas.Cmp.{tied_itself}
 use Rattle.std.specs.Map.{lookup}
-use Rattle.std.specs.Option.{option_map, option_map_or, option_copied}
+use Rattle.std.specs.Option.{option_map, option_map_or}
 use Rattle.std.specs.Ordering.{is_lt, is_eq}
 use Rattle.std.specs.declared.cmp.Ordering.{Ordering}
 use Rattle.std.specs.declared.cmp.Ordering.TheVariants.{Less, Equal, Greater}
@@ -26,7 +26,7 @@ use Rattle.tq_locks.proofs.LockMaps.{locks_total, locks_same}
 use Rattle.tq_locks.proofs.Found.{none_some, some_same, first, second, less, below_each, Has-looked_up}
 use Rattle.tq_locks.proofs.Placed.{turned}
 use Rattle.tq_locks.proofs.Agreed.{head_of, tail_of, nil_cons, item_of, Has-filter, alike}
-use Rattle.tq_locks.proofs.Changed.{Agrees-put, Agrees-remove, key_of_lock}
+use Rattle.tq_locks.proofs.Changed.{Agrees-put, Agrees-remove}
 
 abbrev Entry : Type 0
 Entry = LockKey × Lock
@@ -220,13 +220,6 @@ pub OnErr-any : {A E : Type 0} (P : Type 0) (r : Result A E) → P → OnErr r P
 OnErr-any P (Ok x) p = tt
 OnErr-any P (Err x) p = p
 
--- a key that a look-up in a list copied
-pub copied_at : (o : Option (Bor ℕ)) (keys : List ℕ) (i k : ℕ) → Some k ≡ option_copied o → is_some o ≡ ltb i (length keys) → IfSome o (λ x. x.now ≡ get_or keys i x.now) → slice_get keys i ≡ Some k
-copied_at None keys i k e l at = absurd (none_some k (sym e))
-copied_at (Some x) keys i k e l at =
-    let same : k ≡ x.now = some_same k x.now e in
-    looked_at keys i x.now l at ∙ ap Some (sym same)
-
 pub cond_same : {A : Type 0} (k : ℕ) (x y : A) → cond (k == k) x y ≡ x
 cond_same k x y = ap (λ b. cond b x y) (itself_number k)
   where
@@ -307,20 +300,3 @@ all_below P at end below above past k = elim (cases_lt k at) [
   | inl less ↦ below k less
   | inr more ↦ above k (omega (arith, more, past))
 ]
-
-index_of : (keys : List ℕ) (k : ℕ) → Has keys k → (i : ℕ) × (i < length keys) × (slice_get keys i ≡ Some k)
-index_of [] k h = absurd h
-index_of (j ∷ keys) k (inl s) = (0, omega arith, ap Some s)
-index_of (j ∷ keys) k (inr h) = let r = index_of keys k h in (suc r.0, omega (arith, r.1), r.2)
-
--- what holds at each of a transaction's keys holds of its locks
-pub at_each_key : (kept : KeyedLocks) (locks : Locks) → Agrees kept locks → (P : Lock → Type 0) (txn end : ℕ) (keys : List ℕ) → keys_under nat_eq kept.by_txn txn ≡ keys → length keys ≤ end
-    → ((i k : ℕ) → i < end → slice_get keys i ≡ Some k → (e : Entry) → get kept.entries k ≡ Some e → P e.1) → (q : LockKey) (l : Lock) → (q.1 == txn) ≡ true → fin.get locks q ≡ Some l → P l
-at_each_key kept locks a P txn end keys are past each q l t f =
-    let one : q.1 ≡ txn = same_number q.1 t in
-    let at = key_of_lock kept locks a q l f in
-    let i = index_of keys at.0 (subst (λ ks. Has ks at.0) (ap (keys_under nat_eq kept.by_txn) one ∙ are) at.1) in
-    each i.0 at.0 (omega (arith, i.1, past)) i.2 (q, l) at.2
-  where
-    same_number : (n : ℕ) → (n == txn) ≡ true → n ≡ txn
-    same_number n h = grind (arith, nat_tests)

@@ -1,5 +1,5 @@
 -- A slab and its indexes still agree with the set of locks after a change of one entry.
-use Rattle.std.proofs.Common.{◌≡◌, ◌≢◌, ℕ, nat_eq, ◌==◌, Bool, true, false, cond, not, ◌||◌, List, [], ◌∷◌, map, filter, Option, Some, None, refl, ap, sym, subst, ◌∙◌, ◌⊎◌, inl, inr, arith}
+use Rattle.std.proofs.Common.{◌≡◌, ◌≢◌, ℕ, nat_eq, ◌==◌, Bool, true, false, cond, not, List, [], ◌∷◌, map, filter, Option, Some, None, refl, ap, sym, subst, ◌∙◌, ◌⊎◌, inl, inr, arith}
 use mathlib.Core.Bool.{true≢false}
 use Rattle.std.proofs.lemmas.Bool.{cases_eq}
 use Rattle.std.proofs.lemmas.Bool.Decides.{nat_tests}
@@ -8,19 +8,19 @@ use Rattle.std.specs.Cmp.Lexicographic.{same_text, nat_list_eq_equiv}
 use Rattle.std.specs.FinMap as fin
 use Rattle.std.specs.FinMap.Entries.{find, is_sorted-where_key, find-where_key, same_entries}
 use Rattle.std.specs.List.{insert, remove}
-use Rattle.std.specs.Option.{option_map, option_map_or}
+use Rattle.std.specs.Option.{option_map_or}
 use Rattle.std.specs.Ordering.{eq_by_cmp}
 use Rattle.slab.specs.Slab.{get, values, Updates}
 use Rattle.tq_store.specs.Names.{same_name}
 use Rattle.tq_shape.specs.Journal.{Has}
 use Rattle.tq_locks.specs.declared.keyed.KeyedLocks.{KeyedLocks}
 use Rattle.tq_locks.specs.declared.mode.Lock.{Lock}
-use Rattle.tq_locks.specs.Locks.{LockKey, Locks, lock_cmp, held_of, released, only_stable, kept, stabilised, HasNoConflict}
+use Rattle.tq_locks.specs.Locks.{LockKey, Locks, lock_cmp, held_of, released, only_stable, kept, HasNoConflict}
 use Rattle.tq_locks.specs.Keys.{place, keys_under}
-use Rattle.tq_locks.specs.Kept.{locks_in, on_file, Agrees, steady}
+use Rattle.tq_locks.specs.Kept.{locks_in, on_file, Agrees}
 use Rattle.tq_locks.proofs.LockMaps.{locks_total, locks_same}
 use Rattle.tq_locks.proofs.Found.{none_some, some_same, Has-looked_up, entry_of}
-use Rattle.tq_locks.proofs.Locked.{same_key, get-released, get-only_stable, get-kept}
+use Rattle.tq_locks.proofs.Locked.{same_key, get-released, get-only_stable}
 use Rattle.tq_locks.proofs.Placed.{other_keys}
 use Rattle.tq_locks.proofs.Agreed.{put_listed, set_listed, remove_listed, filter-Has, key_of, Has-values, values-Has, itself, apart, alike}
 
@@ -271,42 +271,3 @@ only_stable-all locks all = same_sets _ _ (λ q. get-only_stable locks q ∙ by_
     by_look : (q : LockKey) (o : Option Lock) → fin.get locks q ≡ o → cond (option_map_or (λ (x : Lock). x.stable) o false) o None ≡ o
     by_look q None f = refl
     by_look q (Some l) f = ap (λ b. cond b (Some l) None) (all q l f)
-
-marked_steady : (l : Lock) (b : Bool) → b ≡ true → (l.stable || b) ≡ true
-marked_steady l true h = by_stable l.stable
-  where
-    by_stable : (s : Bool) → (s || true) ≡ true
-    by_stable true = refl
-    by_stable false = refl
-marked_steady l false h = absurd (true≢false (sym h))
-
--- one of the locks that are to be stable may be so first
-pub kept-steady : (locks : Locks) (q : LockKey) (l : Lock) → fin.get locks q ≡ Some l → kept (fin.insert locks q (steady l)) q.1 ≡ kept locks q.1
-kept-steady locks q l f = same_sets _ _ (λ r.
-    get-kept (fin.insert locks q (steady l)) q.1 r
-    ∙ ap (option_map (λ (x : Lock). (stabilised q.1 (r, x)).1)) (fin.get-insert locks_total locks q (steady l) r)
-    ∙ by_test r (eq_by_cmp lock_cmp r q) refl
-    ∙ sym (get-kept locks q.1 r))
-  where
-    itself_number : (n : ℕ) → (n == n) ≡ true
-    itself_number n = grind (arith, nat_tests)
-
-    by_test : (r : LockKey) (b : Bool) → eq_by_cmp lock_cmp r q ≡ b → option_map (λ (x : Lock). (stabilised q.1 (r, x)).1) (cond b (Some (steady l)) (fin.get locks r)) ≡ option_map (λ (x : Lock). (stabilised q.1 (r, x)).1) (fin.get locks r)
-    by_test r false e = refl
-    by_test r true e =
-        let here = ap (λ (k : LockKey). k.1 == q.1) (same_key r q e) ∙ itself_number q.1 in
-        (λ i. Some (record { mode = l.mode; since = l.since; version = l.version; stable = sym (marked_steady l (r.1 == q.1) here) i }))
-        ∙ ap (option_map (λ (x : Lock). (stabilised q.1 (r, x)).1)) (sym (ap (fin.get locks) (same_key r q e) ∙ f))
-
--- where each lock of a transaction is stable there is nothing to keep
-pub kept-all : (locks : Locks) (txn : ℕ) → ((q : LockKey) (l : Lock) → (q.1 == txn) ≡ true → fin.get locks q ≡ Some l → l.stable ≡ true) → kept locks txn ≡ locks
-kept-all locks txn all = same_sets _ _ (λ q. get-kept locks txn q ∙ by_look q (fin.get locks q) refl (q.1 == txn) refl)
-  where
-    or_false : (s : Bool) → (s || false) ≡ s
-    or_false true = refl
-    or_false false = refl
-
-    by_look : (q : LockKey) (o : Option Lock) → fin.get locks q ≡ o → (b : Bool) → (q.1 == txn) ≡ b → option_map (λ (x : Lock). record { mode = x.mode; since = x.since; version = x.version; stable = x.stable || b }) o ≡ o
-    by_look q None f b t = refl
-    by_look q (Some l) f true t = λ i. Some (record { mode = l.mode; since = l.since; version = l.version; stable = (marked_steady l true refl ∙ sym (all q l t f)) i })
-    by_look q (Some l) f false t = λ i. Some (record { mode = l.mode; since = l.since; version = l.version; stable = or_false l.stable i })

@@ -6,6 +6,7 @@ pub mod Agreed
 pub mod Partition
 pub mod Changed
 pub mod Applied
+pub mod Steadied
 pub mod InOrder
 pub mod Copied
 pub mod Locked

@@ -111,21 +111,14 @@ module _ {K X : Type 0} {R : K → K → Ordering} (o : IsTotalOrder R) (same : 
   abbrev pub revalued : K → X → K × X → K × X
   revalued q l x = (x.0, cond (eq_by_cmp R q x.0) l x.1)
 
-  below-revalued : (k q : K) (l : X) (xs : List (K × X)) → T (below_all R k xs) → T (below_all R k (map (revalued q l) xs))
-  below-revalued k q l [] h = tt
-  below-revalued k q l (x ∷ xs) h = both (is_lt (R k x.0)) (below_all R k (map (revalued q l) xs)) (first (is_lt (R k x.0)) (below_all R k xs) h) (below-revalued k q l xs (second (is_lt (R k x.0)) (below_all R k xs) h))
-    where
-      both : (a b : Bool) → T a → T b → T (a && b)
-      both true b x y = y
-      both false b x y = absurd x
+  -- other values leave the order
+  below-valued : (g : K × X → X) (k : K) (xs : List (K × X)) → below_all R k (map (λ x. (x.0, g x)) xs) ≡ below_all R k xs
+  below-valued g k [] = refl
+  below-valued g k (x ∷ xs) = ap (λ b. is_lt (R k x.0) && b) (below-valued g k xs)
 
-  sorted-revalued : (q : K) (l : X) (xs : List (K × X)) → T (is_sorted R xs) → T (is_sorted R (map (revalued q l) xs))
-  sorted-revalued q l [] h = tt
-  sorted-revalued q l (x ∷ xs) h = both (below_all R x.0 (map (revalued q l) xs)) (is_sorted R (map (revalued q l) xs)) (below-revalued x.0 q l xs (first (below_all R x.0 xs) (is_sorted R xs) h)) (sorted-revalued q l xs (second (below_all R x.0 xs) (is_sorted R xs) h))
-    where
-      both : (a b : Bool) → T a → T b → T (a && b)
-      both true b x y = y
-      both false b x y = absurd x
+  pub sorted-valued : (g : K × X → X) (xs : List (K × X)) → is_sorted R (map (λ x. (x.0, g x)) xs) ≡ is_sorted R xs
+  sorted-valued g [] = refl
+  sorted-valued g (x ∷ xs) = λ i. below-valued g x.0 xs i && sorted-valued g xs i
 
   find-revalued : (q r : K) (l : X) (xs : List (K × X)) → find R r (map (revalued q l) xs) ≡ option_map (λ v. cond (eq_by_cmp R q r) l v) (find R r xs)
   find-revalued q r l [] = refl
@@ -144,7 +137,7 @@ module _ {K X : Type 0} {R : K → K → Ordering} (o : IsTotalOrder R) (same : 
   -- a new value at a key that is there
   pub put-revalued : (q : K) (l m : X) (xs : List (K × X)) → T (is_sorted R xs) → find R q xs ≡ Some m → put R q l xs ≡ map (revalued q l) xs
   put-revalued q l m xs t h =
-      same_entries R o same _ _ (is_sorted-put R o q l xs t) (sorted-revalued q l xs t)
+      same_entries R o same _ _ (is_sorted-put R o q l xs t) (subst T (sym (sorted-valued (λ x. cond (eq_by_cmp R q x.0) l x.1) xs)) t)
       (λ r.
       find-put R o r q l xs
       ∙ one_value q r l m (find R r xs) (eq_by_cmp R r q) refl ((eq_by_cmp_equiv o).symm q r) (λ e. ap (λ k. find R k xs) (same r q (is_eq-Equal (R r q) e)) ∙ h)

@@ -80,6 +80,15 @@ HasOneKeyEach keys entries = IsDistinct nat_eq keys × (length keys ≡ length e
 abbrev pub steady : Lock → Lock
 steady lock = record { mode = lock.mode; since = lock.since; version = lock.version; stable = true }
 
+-- the same entry, with its lock stable
+abbrev pub steady_entry : LockKey × Lock → LockKey × Lock
+steady_entry entry = (entry.0, steady entry.1)
+
+-- the entry under a key, where the locks under these keys become stable
+abbrev pub steadied : Slab (LockKey × Lock) → List ℕ → ℕ → Option (LockKey × Lock)
+steadied slab [] key = get slab key
+steadied slab (k ∷ keys) key = if key == k then option_map steady_entry (get slab key) else steadied slab keys key
+
 -- the lock under a key, if there is one, is stable
 abbrev pub IsStableAt : Slab (LockKey × Lock) → ℕ → Type 0
 IsStableAt slab key = (entry : LockKey × Lock) → get slab key ≡ Some entry → entry.1.stable ≡ true

@@ -1,8 +1,7 @@
 //! The entries of a table in a slab, with the keys of each file and of each transaction.
-ghost use Rattle.std.specs.Prelude.{◌≡◌, ◌+◌, ◌-◌, ◌≤◌, ◌==◌, ℕ, if◌then◌else◌, List, None, Some, IsSome, IfSome, IfNone, IfOk, OnErr, length, nat_eq};
+ghost use Rattle.std.specs.Prelude.{◌≡◌, ◌+◌, ◌-◌, ◌≤◌, ℕ, List, [], ◌∷◌, None, Some, IsSome, IfSome, IfNone, IfOk, OnErr, length, nat_eq};
 ghost use Rattle.std.specs.FinMap as fin;
-ghost use Rattle.std.specs.List.{slice_get};
-ghost use Rattle.std.specs.Option.{option_copied, option_map};
+ghost use Rattle.std.specs.Option.{option_copied};
 ghost use Rattle.std.specs.Result.{result_err};
 ghost use Rattle.tq_store.specs.Names.{same_name};
 ghost use Rattle.indexmap.specs.IndexMap.{index_of};
@@ -10,7 +9,7 @@ ghost use Rattle.slab.specs.Slab.{get, slab_len, values, Updates};
 ghost use Rattle.tq_shape.specs.Steps.{state_at};
 ghost use Rattle.tq_locks.specs.Locks.{LockKey, Locks, kept, released, only_stable};
 ghost use Rattle.tq_locks.specs.Keys.{keys_under, place, told};
-ghost use Rattle.tq_locks.specs.Kept.{decided};
+ghost use Rattle.tq_locks.specs.Kept.{decided, steadied};
 
 use crate::index::{
     Spot, end_empty_under, list_under, listed_under, make_room_under, put_under, take_all_under,
@@ -42,7 +41,7 @@ pub(crate) struct Found {
 }
 
 impl KeyedLocks {
-    ghost use Rattle.tq_locks.specs.Kept.{locks_in, lock_found, on_file, Agrees, IsOf, IsPlaceUnder, IsSpotOf, IsStableAt, LeftFile, RisesTo, steady};
+    ghost use Rattle.tq_locks.specs.Kept.{locks_in, lock_found, on_file, Agrees, IsOf, IsPlaceUnder, IsSpotOf, IsStableAt, LeftFile, RisesTo};
     ghost use Rattle.tq_locks.specs.declared.mode.Lock.{Lock};
 
     pub(crate) fn new(alloc: Global) -> KeyedLocks
@@ -178,9 +177,7 @@ impl KeyedLocks {
     /// Puts a new lock into the entry under a key.
     pub(crate) fn set_lock(&mut self, key: usize, lock: Lock)
         requires { Agrees self.old (locks_in self.old) }
-        ensures agreed { (name : LockKey) → IsOf self.old.entries key name → Agrees self.new (fin.insert (locks_in self.old) name lock) }
-        ensures by_txn { (txn : ℕ) → keys_under nat_eq self.new.by_txn txn ≡ keys_under nat_eq self.old.by_txn txn }
-        ensures entries { (other : ℕ) → get self.new.entries other ≡ (if other == key then option_map (λ entry. (entry.0, lock)) (get self.old.entries key) else get self.old.entries other) }
+        ensures { (name : LockKey) → IsOf self.old.entries key name → Agrees self.new (fin.insert (locks_in self.old) name lock) }
     {
         if let Some(entry) = self.entries.get_mut(key) {
             entry.lock = lock;
@@ -228,51 +225,12 @@ impl KeyedLocks {
         })
     }
 
-    // Makes the lock under a key stable.
-    fn stabilise(&mut self, key: usize)
-        requires { Agrees self.old (locks_in self.old) }
-        ensures agreed { (name : LockKey) (lock : Lock) → get self.old.entries key ≡ Some (name, lock) → Agrees self.new (fin.insert (locks_in self.old) name (steady lock)) }
-        ensures by_txn { (txn : ℕ) → keys_under nat_eq self.new.by_txn txn ≡ keys_under nat_eq self.old.by_txn txn }
-        ensures entries { (other : ℕ) → get self.new.entries other ≡ (if other == key then option_map (λ entry. (entry.0, steady entry.1)) (get self.old.entries key) else get self.old.entries other) }
-    {
-        let Some(entry) = self.entry(key) else {
-            return;
-        };
-        let lock = entry.lock;
-        self.set_lock(
-            key,
-            Lock {
-                mode: lock.mode,
-                since: lock.since,
-                version: lock.version,
-                stable: true,
-            },
-        );
-    }
-
-    // Makes the lock at a place of a transaction's keys stable.
-    fn stabilise_at(&mut self, txn: u64, place: usize)
-        requires { Agrees self.old (locks_in self.old) }
-        ensures agreed { Agrees self.new (locks_in self.new) }
-        ensures kept { kept (locks_in self.new) txn ≡ kept (locks_in self.old) txn }
-        ensures keys { keys_under nat_eq self.new.by_txn txn ≡ keys_under nat_eq self.old.by_txn txn }
-        ensures stable { (key : ℕ) → slice_get (keys_under nat_eq self.old.by_txn txn) place ≡ Some key → IsStableAt self.new.entries key }
-        ensures others { (other : ℕ) → IsStableAt self.old.entries other → IsStableAt self.new.entries other }
-    {
-        let Some(key) = self.keys_of_txn(txn).get(place).copied() else {
-            return;
-        };
-        self.stabilise(key);
-    }
-
     /// Makes the locks of a transaction stable.
     pub(crate) fn keep(&mut self, txn: u64)
         requires { Agrees self.old (locks_in self.old) }
         ensures { Agrees self.new (kept (locks_in self.old) txn) }
     {
-        for place in 0..self.keys_of_txn(txn).len() {
-            self.stabilise_at(txn, place);
-        }
+        stabilise_each(&mut self.entries, listed_under(&self.by_txn, &txn));
     }
 
     /// Ends the locks of a transaction.
@@ -317,6 +275,24 @@ impl KeyedLocks {
     }
 }
 
+/// Makes the locks under these keys stable.
+fn stabilise_each(entries: &mut Slab<LockEntry>, keys: &[usize])
+    ensures { (key : ℕ) → get entries.new key ≡ steadied entries.old keys.now key }
+{
+    for key in keys {
+        stabilise(entries, *key);
+    }
+}
+
+/// Makes the lock under a key stable.
+fn stabilise(entries: &mut Slab<LockEntry>, key: usize)
+    ensures { (other : ℕ) → get entries.new other ≡ steadied entries.old (key ∷ []) other }
+{
+    if let Some(entry) = entries.get_mut(key) {
+        entry.lock.stable = true;
+    }
+}
+
 /// The transaction of the first of these entries that is not this one's, where it conflicts with the mode.
 pub(crate) fn held_by(
     entries: &Slab<LockEntry>,
@@ -354,6 +330,15 @@ impl<'a> Model for HeldLocks<'a> {
     ghost Value = { List (LockKey × Lock) };
 
     ghost view = { λ it. told it.entries.now it.keys.now };
+}
+
+impl<'a> HeldLocks<'a> {
+    /// How many locks are left at the most.
+    pub fn most(&self) -> usize
+        ensures { length self.now ≤ result }
+    {
+        self.keys.len()
+    }
 }
 
 impl<'a> Iterator for HeldLocks<'a> {

@@ -13,8 +13,8 @@ use smallvec::SmallVec;
 use std::alloc::Global;
 use tq_store::FileName;
 
-/// The keys under one name. Up to two of them need no allocation.
-pub(crate) type Keys = SmallVec<usize, 2>;
+/// The keys under one name. Up to four of them need no allocation.
+pub(crate) type Keys = SmallVec<usize, 4>;
 
 /// Whether the entry under a key comes before the place of this file and transaction.
 fn is_below(entries: &Slab<LockEntry>, key: usize, file: &FileName, txn: u64) -> bool

@@ -1,14 +1,11 @@
-use Rattle.std.proofs.Common.{◌≡◌, true, sym, subst, ◌∙◌, arith}
-use Rattle.tq_locks.specs.declared.mode.Lock.{Lock}
-use Rattle.tq_locks.specs.Kept.{locks_in, Agrees}
-use Rattle.tq_locks.proofs.Applied.{at_each_key}
-use Rattle.tq_locks.proofs.Changed.{kept-all}
+use Rattle.std.proofs.Common.{ap, refl, ◌∙◌}
+use Rattle.tq_locks.specs.declared.keyed.KeyedLocks.{KeyedLocks}
+use Rattle.tq_locks.specs.Kept.{locks_in, steadied}
+use Rattle.tq_locks.proofs.Steadied.{Agrees-kept}
 use Rattle.tq_locks.proofs.keyed.KeyedLocks.keep.Goals as goal
 
 pub returns : goal.returns
 returns c =
-    let left = c.loop-place.self in
-    let i = c.loop-place.invariant in
-    let past = c.loop-place-test.false in
-    let all = kept-all (locks_in left) c.args.txn (at_each_key left (locks_in left) i.0 (λ (l : Lock). l.stable ≡ true) c.args.txn c.loop-place.place _ i.2 (omega (arith, past, i.3)) i.4) in
-    subst (Agrees left) (sym all ∙ i.1) i.0
+    let old = c.args.self.now in
+    let new : KeyedLocks = record { entries = c.stabilise_each.new.entries; by_file = old.by_file; by_txn = old.by_txn; alloc = old.alloc } in
+    Agrees-kept old new (locks_in old) c.args.txn c.requires (λ k. c.stabilise_each.ensures k ∙ ap (λ keys. steadied old.entries keys k) c.listed_under.ensures) refl refl

@@ -9,8 +9,8 @@ use Rattle.tq_locks.proofs.Found.{some_same}
 use Rattle.tq_locks.proofs.Changed.{Agrees-set}
 use Rattle.tq_locks.proofs.keyed.KeyedLocks.set_lock.Goals as goal
 
-pub returns-in-Some-clause-agreed : goal.returns-in-Some-clause-agreed
-returns-in-Some-clause-agreed c name is =
+pub returns-in-Some : goal.returns-in-Some
+returns-in-Some c name is =
     let old = c.args.self.now in
     let value : LockKey × Lock = ((c.entry.inside.file, c.entry.inside.txn), c.args.lock) in
     let new : KeyedLocks = record { entries = with_value old.entries c.args.key value; by_file = old.by_file; by_txn = old.by_txn; alloc = old.alloc } in

@@ -18,13 +18,13 @@ pub invariant_of-self : goal.invariant_of-self
 invariant_of-self c =
     granted_whole c.self.inside.kept c.set_lock.new.self c.args.self.now c.args.file.now c.args.txn c.args.mode c.args.number c.args.version c.find-found.result.key c.lock_at.result c.after-lock.result
     c.self.view_is c.self.invariant c.find-found.ensures.some c.find-found.ensures.none c.lock_at.ensures c.after-lock.ensures (sym c.blocker.ensures.value ∙ c.in-None-blocker.is)
-    (c.set_lock.ensures.agreed (c.args.file.now, c.args.txn) (subst (λ found. IfSome found (λ key. IsOf c.self.inside.kept.entries key (c.args.file.now, c.args.txn))) c.in-Some.is (c.find-found.ensures.some c.self.invariant.0)))
+    (c.set_lock.ensures (c.args.file.now, c.args.txn) (subst (λ found. IfSome found (λ key. IsOf c.self.inside.kept.entries key (c.args.file.now, c.args.txn))) c.in-Some.is (c.find-found.ensures.some c.self.invariant.0)))
 
 pub returns-in-None-blocker-clause-after : goal.returns-in-None-blocker-clause-after
 returns-in-None-blocker-clause-after c =
     granted_value c.self.inside.kept c.set_lock.new.self c.args.self.now c.args.file.now c.args.txn c.args.mode c.args.number c.args.version c.find-found.result.key c.lock_at.result c.after-lock.result
     c.self.view_is c.self.invariant c.find-found.ensures.some c.find-found.ensures.none c.lock_at.ensures c.after-lock.ensures (sym c.blocker.ensures.value ∙ c.in-None-blocker.is)
-    (c.set_lock.ensures.agreed (c.args.file.now, c.args.txn) (subst (λ found. IfSome found (λ key. IsOf c.self.inside.kept.entries key (c.args.file.now, c.args.txn))) c.in-Some.is (c.find-found.ensures.some c.self.invariant.0)))
+    (c.set_lock.ensures (c.args.file.now, c.args.txn) (subst (λ found. IfSome found (λ key. IsOf c.self.inside.kept.entries key (c.args.file.now, c.args.txn))) c.in-Some.is (c.find-found.ensures.some c.self.invariant.0)))
     ∙ ap (λ o. state_at o c.args.self.now (granted c.args.self.now c.args.file.now c.args.txn c.args.mode c.args.number c.args.version)) (sym c.in-None-blocker.is ∙ c.blocker.ensures.value)
 
 pub returns-in-None-blocker-clause-no_conflict : goal.returns-in-None-blocker-clause-no_conflict

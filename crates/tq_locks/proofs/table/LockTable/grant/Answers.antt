@@ -11,12 +11,12 @@ use Rattle.tq_locks.proofs.table.LockTable.grant.Goals as goal
 pub invariant_of-self : goal.invariant_of-self
 invariant_of-self c =
     granted_whole c.self.inside.kept c.set_lock.new.self c.args.self.now c.args.file c.args.txn c.args.mode c.args.number c.args.version c.find-found.result.key c.lock_at.result c.after-lock.result
-    c.self.view_is c.self.invariant c.find-found.ensures.some c.find-found.ensures.none c.lock_at.ensures c.after-lock.ensures c.requires (c.set_lock.ensures.agreed (c.args.file, c.args.txn) (subst (λ found. IfSome found (λ key. IsOf c.self.inside.kept.entries key (c.args.file, c.args.txn))) c.in-Some.is (c.find-found.ensures.some c.self.invariant.0)))
+    c.self.view_is c.self.invariant c.find-found.ensures.some c.find-found.ensures.none c.lock_at.ensures c.after-lock.ensures c.requires (c.set_lock.ensures (c.args.file, c.args.txn) (subst (λ found. IfSome found (λ key. IsOf c.self.inside.kept.entries key (c.args.file, c.args.txn))) c.in-Some.is (c.find-found.ensures.some c.self.invariant.0)))
 
 pub returns-in-Some-clause-ok : goal.returns-in-Some-clause-ok
 returns-in-Some-clause-ok c =
     granted_value c.self.inside.kept c.set_lock.new.self c.args.self.now c.args.file c.args.txn c.args.mode c.args.number c.args.version c.find-found.result.key c.lock_at.result c.after-lock.result
-    c.self.view_is c.self.invariant c.find-found.ensures.some c.find-found.ensures.none c.lock_at.ensures c.after-lock.ensures c.requires (c.set_lock.ensures.agreed (c.args.file, c.args.txn) (subst (λ found. IfSome found (λ key. IsOf c.self.inside.kept.entries key (c.args.file, c.args.txn))) c.in-Some.is (c.find-found.ensures.some c.self.invariant.0)))
+    c.self.view_is c.self.invariant c.find-found.ensures.some c.find-found.ensures.none c.lock_at.ensures c.after-lock.ensures c.requires (c.set_lock.ensures (c.args.file, c.args.txn) (subst (λ found. IfSome found (λ key. IsOf c.self.inside.kept.entries key (c.args.file, c.args.txn))) c.in-Some.is (c.find-found.ensures.some c.self.invariant.0)))
 
 pub returns-in-Some-clause-no_conflict : goal.returns-in-Some-clause-no_conflict
 returns-in-Some-clause-no_conflict c = (invariant_of-self c).1
