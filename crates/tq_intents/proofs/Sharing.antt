@@ -1,8 +1,8 @@
 -- Lists that others share: what stands at a place, and what is put behind the others.
-use Rattle.std.proofs.Common.{◌≡◌, ◌<◌, ◌+◌, ℕ, List, [], ◌∷◌, ◌++◌, zero, suc, length, length-append, get_or, refl, sym, ap, subst, ◌∙◌, arith}
+use Rattle.std.proofs.Common.{◌≡◌, ◌<◌, ℕ, List, [], ◌∷◌, ◌++◌, zero, suc, length, length-append, get_or, refl, sym, ap, subst, ◌∙◌, arith}
 use Rattle.tq_asks.specs.declared.ask.HeldLock.{HeldLock}
 use Rattle.tq_intents.specs.declared.record.KeptLock.{KeptLock}
-use Rattle.tq_intents.specs.Sharing.{kept, kept_each, lock_at, no_lock}
+use Rattle.tq_intents.specs.Sharing.{kept, kept_each, lock_at}
 
 -- as many as there are locks
 pub length-kept_each : (held : List HeldLock) (versions : List ℕ) → length held ≡ length versions → length (kept_each held versions) ≡ length versions

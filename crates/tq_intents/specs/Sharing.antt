@@ -1,5 +1,5 @@
 -- What contracts see of writes and of locks that others share.
-use Rattle.std.specs.Prelude.{◌≡◌, ◌<◌, ℕ, List, [], ◌∷◌, length, get_or}
+use Rattle.std.specs.Prelude.{◌<◌, ℕ, List, [], ◌∷◌, length, get_or}
 use Rattle.tq_asks.specs.declared.ask.HeldLock.{HeldLock}
 use Rattle.tq_locks.specs.declared.mode.Mode.TheVariants.{Shared}
 use Rattle.tq_store.specs.declared.write.Write.{Write}

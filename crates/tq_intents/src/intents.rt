@@ -285,13 +285,13 @@ fn push_vote(
     records.reserve(count)?;
     for place in 0..writes.len() {
         let write = SharedWrite::at(writes.clone()?, place);
-        records.push(Record::Intent { txn, number, write })?;
+        records.push_reserved(Record::Intent { txn, number, write });
     }
     for place in 0..locks.len() {
         let lock = locks.get(place)?;
-        records.push(Record::Keep { txn, number, lock })?;
+        records.push_reserved(Record::Keep { txn, number, lock });
     }
-    records.push(Record::Prepared { txn, number })?;
+    records.push_reserved(Record::Prepared { txn, number });
     Ok(())
 }
 
