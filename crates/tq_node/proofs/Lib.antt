@@ -6,3 +6,4 @@ pub mod Sound
 pub mod OnlyStep
 pub mod Untouched
 pub mod Versions
+pub mod LocksWalked

@@ -5,3 +5,4 @@ pub mod NodeJournal
 pub mod NodeChanges
 pub mod NodePlans
 pub mod Untouched
+pub mod Walks

@@ -12,7 +12,7 @@ ghost use Rattle.tq_node.specs.Cases.{IsOnlyStep, IsStep};
 
 mod telling;
 
-use crate::votes::{are_good_writes, locks_of};
+use crate::votes::{all_held, are_good_writes, locks_of};
 use crate::{CitedVote, NodeAsk, NodeChange, NodeRefusal, NodeReply, NodeStep, Verdict, WorkAsk};
 use std::alloc::Global;
 use std::collections::btree_map::Iter;
@@ -404,6 +404,10 @@ impl Node {
     fn not_locked(&self, txn: u64, writes: &[Write]) -> Option<FileName>
         ensures { result ≡ spec.not_locked self.now.state.records txn writes.now }
     {
+        // Nearly always it holds them all, in the order of the writes.
+        if all_held(self.locks.locks_of(txn), writes) {
+            return None;
+        }
         writes
             .iter()
             .find(|write| !self.holds_exclusively(txn, write.file))

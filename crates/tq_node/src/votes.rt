@@ -2,11 +2,12 @@
 ghost use Rattle.std.specs.Prelude.{◌≡◌, IfOk, map};
 ghost use Rattle.tq_locks.specs.Locks.{held_of};
 ghost use Rattle.tq_node.specs.Records as spec;
+ghost use Rattle.tq_node.specs.Walks.{all_held};
 
 use crate::{HeldLock, MOST_WRITES};
 use std::alloc::Global;
 use tq_intents::VoteLocks;
-use tq_locks::LockTable;
+use tq_locks::{HeldLocks, LockTable, Mode};
 use tq_shape::{Memory, Seq, SharedSeq};
 use tq_store::Write;
 
@@ -19,20 +20,40 @@ pub(crate) fn locks_of(
     ensures held { IfOk result (λ locks. locks.0 ≡ map spec.held_lock (held_of table.now txn)) }
     ensures kept { IfOk result (λ locks. locks.1 ≡ map spec.kept_lock (held_of table.now txn)) }
 {
-    let count = table.keys_of_txn(txn).len();
-    let mut held = Vec::with_capacity(alloc, count)?;
-    let mut versions = Vec::with_capacity(alloc, count)?;
-    for entry in table.locks_of(txn) {
-        held.push(HeldLock {
+    let entries = table.locks_of(txn);
+    let most = entries.most();
+    let mut held = Vec::with_capacity(alloc, most)?;
+    let mut versions = Vec::with_capacity(alloc, most)?;
+    for entry in entries {
+        held.push_reserved(HeldLock {
             file: entry.file,
             mode: entry.lock.mode,
             since: entry.lock.since,
-        })?;
-        versions.push(entry.lock.version)?;
+        });
+        versions.push_reserved(entry.lock.version);
     }
     let held = SharedSeq::from_vec(held)?;
     let kept = VoteLocks::new(held.clone()?, Seq::from_vec(versions));
     Ok((held, kept))
+}
+
+/// Whether the walk comes to an exclusive lock on the file of each write, one write after the other.
+pub(crate) fn all_held(held: HeldLocks<'_>, writes: &[Write]) -> bool
+    ensures { result ≡ all_held held.entry writes.now }
+{
+    let mut left = writes;
+    for entry in held {
+        let Some((write, rest)) = left.split_first() else {
+            return true;
+        };
+        if entry.file == write.file {
+            if entry.lock.mode == Mode::Shared {
+                return false;
+            }
+            left = rest;
+        }
+    }
+    left.is_empty()
 }
 
 /// Whether the files of the writes rise.

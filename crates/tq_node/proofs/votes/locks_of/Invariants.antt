@@ -1,4 +1,4 @@
-use Rattle.std.proofs.Common.{◌≡◌, ◌++◌, map}
+use Rattle.std.proofs.Common.{◌≡◌, ◌≤◌, ◌+◌, ◌++◌, length, map, vec_capacity, vec_len}
 use Rattle.tq_locks.specs.Locks.{held_of}
 use Rattle.tq_node.specs.Records.{held_lock}
 use Rattle.tq_node.proofs.Versions.{version_of}
@@ -8,3 +8,5 @@ abbrev pub invariant-loop-entry : goal.invariant-loop-entry
 invariant-loop-entry l =
     (l.held.items ++ map held_lock l.entry-iterator ≡ map held_lock (held_of l.table l.txn))
     × (l.versions.items ++ map version_of l.entry-iterator ≡ map version_of (held_of l.table l.txn))
+    × (vec_len l.held + length l.entry-iterator ≤ vec_capacity l.held)
+    × (vec_len l.versions + length l.entry-iterator ≤ vec_capacity l.versions)

@@ -1,0 +1,44 @@
+-- Where a walk of a transaction's locks comes to one for each write, it holds them all exclusively.
+use Rattle.std.proofs.Common.{◌≡◌, ◌==◌, ◌&&◌, ℕ, Bool, true, false, cond, not, List, [], ◌∷◌, Option, Some, None, refl, sym, ap, ◌∙◌, inl, inr}
+use Rattle.std.proofs.lemmas.Bool.{eqb-true, false≢true}
+use Rattle.std.specs.Cmp.Lexicographic.{same_text}
+use Rattle.std.specs.FinMap as fin
+use Rattle.std.specs.List.{find}
+use Rattle.std.specs.Option.{option_map, option_map_or}
+use Rattle.tq_shape.specs.Journal.{Has}
+use Rattle.tq_shape.proofs.Places.{Has-filter}
+use Rattle.tq_store.specs.Names.{same_name}
+use Rattle.tq_store.specs.declared.write.Write.{Write}
+use Rattle.tq_locks.specs.Locks.{LockKey, is_exclusive, held_of}
+use Rattle.tq_locks.specs.declared.mode.Lock.{Lock}
+use Rattle.tq_locks.proofs.LockMaps.{locks_total, locks_same}
+use Rattle.tq_locks.proofs.Found.{get-entry_of}
+use Rattle.tq_node.specs.Records.{Records, holds_exclusively, not_locked}
+use Rattle.tq_node.specs.Walks.{all_held}
+
+module _ (old : Records) (txn : ℕ) where
+  abbrev free : Write → Bool
+  free write = not (holds_exclusively old txn write.file)
+
+  -- a lock of the transaction, on the file of a write
+  held_lock : (entry : LockKey × Lock) (write : Write) → Has (held_of old.locks txn) entry → same_name entry.0.0 write.file ≡ true → is_exclusive entry.1.mode ≡ true → free write ≡ false
+  held_lock entry write has name exclusive =
+      let of = Has-filter (λ (e : LockKey × Lock). e.0.1 == txn) (fin.entries old.locks) entry has in
+      let key : entry.0 ≡ (write.file, txn) = λ i. (same_text entry.0.0 write.file (sym name) i, eqb-true entry.0.1 txn of.1 i) in
+      let there : fin.get old.locks (write.file, txn) ≡ Some entry.1 = ap (fin.get old.locks) (sym key) ∙ get-entry_of locks_total locks_same old.locks entry of.0 in
+      ap not (ap (λ (o : Option Lock). option_map_or (λ (lock : Lock). is_exclusive lock.mode) o false) there ∙ exclusive)
+
+  none_free : (walk : List (LockKey × Lock)) (writes : List Write) → ((entry : LockKey × Lock) → Has walk entry → Has (held_of old.locks txn) entry) → all_held walk writes ≡ true → find free writes ≡ None
+  none_free walk [] from h = refl
+  none_free [] (write ∷ writes) from h = absurd (false≢true h)
+  none_free (entry ∷ walk) (write ∷ writes) from h =
+      by_name (same_name entry.0.0 write.file) refl (is_exclusive entry.1.mode) refl h (none_free walk writes (λ e m. from e (inr m))) (none_free walk (write ∷ writes) (λ e m. from e (inr m)))
+    where
+      by_name : (b : Bool) → same_name entry.0.0 write.file ≡ b → (c : Bool) → is_exclusive entry.1.mode ≡ c → cond b (c && all_held walk writes) (all_held walk (write ∷ writes)) ≡ true
+          → (all_held walk writes ≡ true → find free writes ≡ None) → (all_held walk (write ∷ writes) ≡ true → find free (write ∷ writes) ≡ None) → find free (write ∷ writes) ≡ None
+      by_name true name true mode t here later = ap (λ b. cond b (Some write) (find free writes)) (held_lock entry write (from entry (inl refl)) name mode) ∙ here t
+      by_name true name false mode t here later = absurd (false≢true t)
+      by_name false name c mode t here later = later t
+
+  pub all_locked : (writes : List Write) → all_held (held_of old.locks txn) writes ≡ true → not_locked old txn writes ≡ None
+  all_locked writes h = ap (option_map (λ (w : Write). w.file)) (none_free (held_of old.locks txn) writes (λ e m. m) h)
