@@ -12,9 +12,9 @@ use Rattle.tq_store.proofs.SameName.{same_name-is, same_name-refl, same_name-sym
 use Rattle.tq_node.specs.Node.{NodeView}
 use Rattle.tq_tables.specs.declared.file_row.FileRow.{FileRow}
 use Rattle.tq_tables.specs.Counted.{count_in, version_of}
-use Rattle.tq_tables.specs.Files.{AreFiles, AreOfLevels, all_stood, moved, names_in, stood, stood_at, version_in, with_row, with_rows}
+use Rattle.tq_tables.specs.Files.{AreExact, AreFiles, AreOfLevels, all_stood, moved, names_in, row_in, stood, stood_at, version_in, with_row, with_rows}
 use Rattle.tq_tables.specs.NamesApart.{is_in, Apart}
-use Rattle.tq_tables.specs.Rows.{has_version}
+use Rattle.tq_tables.specs.Rows.{has_version, row_at}
 use Rattle.tq_tables.proofs.Names.{differ, or_false, or_true}
 use Rattle.tq_tables.proofs.RowLaws.{take-next}
 
@@ -27,7 +27,7 @@ rows-by_file : (rows : List FileRow) → map (λ entry. entry.1) (by_file rows) 
 rows-by_file [] = refl
 rows-by_file (row ∷ rows) = ap (λ (rest : List FileRow). row ∷ rest) (rows-by_file rows)
 
-abbrev HasLevels : ℕ → FileRow → Type 0
+abbrev pub HasLevels : ℕ → FileRow → Type 0
 HasLevels levels row = (row.current.levels ≡ levels) × (row.stale.levels ≡ levels)
 
 pub are-files : (levels : ℕ) (entries : List (List ℕ × FileRow)) (rows : List FileRow) → entries ≡ by_file rows → Apart (names_in rows) → AreOfLevels levels rows → AreFiles levels entries
@@ -89,7 +89,7 @@ stood-file node row = by (has_version row.file row.version node)
     by true = refl
     by false = refl
 
-stood-levels : (levels : ℕ) (node : NodeView) (row : FileRow) → HasLevels levels row → HasLevels levels (stood node row)
+pub stood-levels : (levels : ℕ) (node : NodeView) (row : FileRow) → HasLevels levels row → HasLevels levels (stood node row)
 stood-levels levels node row has = by (has_version row.file row.version node)
   where
     by : (b : Bool) → HasLevels levels (moved b node.server row)
@@ -158,6 +158,24 @@ stand-entries node file (first ∷ rows) row apart found = by (same_name file fi
         let none : is_in file (names_in rows) ≡ false = ap (λ (o : List ℕ). is_in o (names_in rows)) (same_name-is file first.file s) ∙ apart.0 in
         (λ i. (sym (stood-file node first) i, stood node (sym is i)) ∷ by_file (sym (absent-stood node file rows none) i))
     by false s h rest = λ i. (first.file, first) ∷ rest h i
+
+-- ---- the row that is found
+
+-- what holds of each row holds of the one of a file, and it is the file's
+row-found : (P : FileRow → Type 0) (rows : List FileRow) (file : List ℕ) (row : FileRow) → All P rows → row_in rows file ≡ Some row → P row × (row.file ≡ file)
+row-found P [] file row all found = cc
+row-found P (first ∷ rows) file row all found = by (same_name file first.file) refl found (λ rest. row-found P rows file row (All-tail P first rows all) rest)
+  where
+    by : (b : Bool) → same_name file first.file ≡ b → cond b (Some first) (row_in rows file) ≡ Some row → (row_in rows file ≡ Some row → P row × (row.file ≡ file)) → P row × (row.file ≡ file)
+    by true s h rest =
+        let is : first ≡ row = ap (λ o. unwrap_or o first) h in
+        (subst P is (All-head P first rows all), ap (λ (r : FileRow). r.file) (sym is) ∙ sym (same_name-is file first.file s))
+    by false s h rest = rest h
+
+pub exact-found : (levels : ℕ) (nodes : List NodeView) (rows : List FileRow) (file : List ℕ) (row : FileRow) → AreExact levels nodes rows → Some row ≡ row_in rows file
+    → (row ≡ row_at levels nodes row.file row.version) × (row.file ≡ file)
+exact-found levels nodes rows file row exact found =
+    row-found (λ (r : FileRow). r ≡ row_at levels nodes r.file r.version) rows file row exact (sym found)
 
 -- ---- the version that a row says
 

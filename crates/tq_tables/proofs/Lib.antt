@@ -8,3 +8,4 @@ pub mod Kept
 pub mod Stood
 pub mod Written
 pub mod Restood
+pub mod Settled

@@ -45,7 +45,7 @@ nodes_at-set levels first (x ∷ servers) (suc place) entries =
 
 -- ---- what stands at a place
 
-get_or-any : (nodes : List NodeView) (place : ℕ) (d e : NodeView) → place < length nodes → get_or nodes place d ≡ get_or nodes place e
+pub get_or-any : (nodes : List NodeView) (place : ℕ) (d e : NodeView) → place < length nodes → get_or nodes place d ≡ get_or nodes place e
 get_or-any [] place d e less = absurd (omega (arith, less))
 get_or-any (n ∷ nodes) zero d e less = refl
 get_or-any (n ∷ nodes) (suc place) d e less = get_or-any nodes place d e (omega (arith, less))

@@ -33,14 +33,14 @@ eq-below : (a b : ℕ) → a < b → (a == b) ≡ false
 eq-below a b h = grind (arith, h)
 
 -- the numbers of the servers that pass a test
-abbrev passing : (NodeView → Bool) → List NodeView → List ℕ
+abbrev pub passing : (NodeView → Bool) → List NodeView → List ℕ
 passing test nodes = map (λ node. node.server) (filter test nodes)
 
 -- the numbers with one that passes, or without one that does not
-abbrev placed : Bool → ℕ → List ℕ → List ℕ
+abbrev pub placed : Bool → ℕ → List ℕ → List ℕ
 placed b number numbers = cond b (with_number number numbers) (without_number number numbers)
 
-numbers-if : (test : NodeView → Bool) (n : NodeView) (nodes : List NodeView) (c : Bool) → map (λ m. m.server) (cond c (n ∷ filter test nodes) (filter test nodes)) ≡ cond c (n.server ∷ passing test nodes) (passing test nodes)
+pub numbers-if : (test : NodeView → Bool) (n : NodeView) (nodes : List NodeView) (c : Bool) → map (λ m. m.server) (cond c (n ∷ filter test nodes) (filter test nodes)) ≡ cond c (n.server ∷ passing test nodes) (passing test nodes)
 numbers-if test n nodes true = refl
 numbers-if test n nodes false = refl
 
@@ -74,29 +74,29 @@ module _ (levels : ℕ) (test : NodeView → Bool) (number : ℕ) where
 
 -- ---- a server in its place
 
+-- the first of them, before which none stands
+pub head-placed : (levels : ℕ) (test : NodeView → Bool) (number : ℕ) (nodes : List NodeView) → AreOfTree levels (number + 1) nodes → (b c : Bool)
+    → cond b (number ∷ passing test nodes) (passing test nodes) ≡ placed b number (cond c (number ∷ passing test nodes) (passing test nodes))
+head-placed levels test number nodes of_tree true true =
+    sym (ap (λ (c : Bool). cond c (number ∷ number ∷ passing test nodes) (cond (number == number) (number ∷ passing test nodes) (number ∷ with_number number (passing test nodes)))) (lt-not number number (omega arith))
+    ∙ ap (λ (c : Bool). cond c (number ∷ passing test nodes) (number ∷ with_number number (passing test nodes))) (eq-self number))
+head-placed levels test number nodes of_tree true false = sym (with-below levels test number (number + 1) nodes of_tree (omega arith))
+head-placed levels test number nodes of_tree false true =
+    sym (ap (λ (c : Bool). cond (not c) (number ∷ without_number number (passing test nodes)) (without_number number (passing test nodes))) (eq-self number)
+    ∙ without-below levels test number (number + 1) nodes of_tree (omega arith))
+head-placed levels test number nodes of_tree false false = sym (without-below levels test number (number + 1) nodes of_tree (omega arith))
+
 module _ (levels : ℕ) (test : NodeView → Bool) (node : NodeView) where
   placed-first : (n : NodeView) (nodes : List NodeView) → AreOfTree levels (n.server + 1) nodes → node.server ≡ n.server → (b : Bool) → test node ≡ b
       → passing test (node ∷ nodes) ≡ placed b node.server (passing test (n ∷ nodes))
   placed-first n nodes of_tree same b is =
-      ap (λ (c : Bool). map (λ m. m.server) (cond c (node ∷ filter test nodes) (filter test nodes))) is ∙ by b (test n)
-    where
-      below : node.server < n.server + 1
-      below = omega (arith, same)
-
-      by : (b c : Bool) → map (λ m. m.server) (cond b (node ∷ filter test nodes) (filter test nodes)) ≡ placed b node.server (map (λ m. m.server) (cond c (n ∷ filter test nodes) (filter test nodes)))
-      by true true =
-          (λ i. node.server ∷ passing test nodes)
-          ∙ (λ i. same i ∷ passing test nodes)
-          ∙ sym (ap (λ (c : Bool). cond c (node.server ∷ n.server ∷ passing test nodes) (cond (node.server == n.server) (n.server ∷ passing test nodes) (n.server ∷ with_number node.server (passing test nodes)))) (lt-not node.server n.server (omega (arith, same)))
-          ∙ ap (λ (c : Bool). cond c (n.server ∷ passing test nodes) (n.server ∷ with_number node.server (passing test nodes))) (ap (λ (k : ℕ). k == n.server) same ∙ eq-self n.server))
-      by true false = sym (with-below levels test node.server (n.server + 1) nodes of_tree below)
-      by false true =
-          sym (ap (λ (c : Bool). cond (not c) (n.server ∷ without_number node.server (passing test nodes)) (without_number node.server (passing test nodes))) (ap (λ (k : ℕ). n.server == k) same ∙ eq-self n.server)
-          ∙ without-below levels test node.server (n.server + 1) nodes of_tree below)
-      by false false = sym (without-below levels test node.server (n.server + 1) nodes of_tree below)
+      numbers-if test node nodes (test node)
+      ∙ (λ i. cond (is i) (same i ∷ passing test nodes) (passing test nodes))
+      ∙ head-placed levels test n.server nodes of_tree b (test n)
+      ∙ (λ i. placed b (sym same i) (sym (numbers-if test n nodes (test n)) i))
 
   -- a server before it keeps its place
-  placed-later : (n : NodeView) (numbers : List ℕ) → n.server < node.server → (b c : Bool)
+  pub placed-later : (n : NodeView) (numbers : List ℕ) → n.server < node.server → (b c : Bool)
       → cond c (n.server ∷ placed b node.server numbers) (placed b node.server numbers) ≡ placed b node.server (cond c (n.server ∷ numbers) numbers)
   placed-later n numbers less b false = refl
   placed-later n numbers less true true =
@@ -132,7 +132,7 @@ same-set test (n ∷ nodes) (suc place) old node less at number passes =
 
 -- ---- the row of a file
 
-abbrev those : ℕ → List ℕ → Servers
+abbrev pub those : ℕ → List ℕ → Servers
 those levels numbers = record { levels = levels; numbers = numbers }
 
 set-set : (xs : List NodeView) (i : ℕ) (y z : NodeView) → set (set xs i y) i z ≡ set xs i z

@@ -18,10 +18,10 @@ use Rattle.tq_tables.specs.declared.file_row.FileRow.{FileRow}
 use Rattle.tq_tables.specs.DeskStates.{intent_state_at}
 use Rattle.tq_tables.specs.Parts.{PartsView, bounds_of}
 use Rattle.tq_tables.specs.Tables.{tables_at, tables_over}
-use Rattle.tq_tables.specs.Files.{names_in}
+use Rattle.tq_tables.specs.Files.{AreExact, names_in}
 use Rattle.tq_tables.specs.NamesApart.{Apart}
 use Rattle.tq_tables.proofs.Counting.{Apart-files_in}
-use Rattle.tq_tables.specs.Rows.{file_row, file_rows, files_in, intent_rows, intent_state, quorum_row, quorum_rows, state_by}
+use Rattle.tq_tables.specs.Rows.{file_row, file_rows, files_in, intent_rows, intent_state, quorum_row, quorum_rows, row_at, state_by}
 
 length-upwards : (first count : ℕ) → length (upwards first count) ≡ count
 length-upwards first zero = refl
@@ -40,6 +40,12 @@ pub of_tree-rows : (levels : ℕ) (nodes : List NodeView) (list : List Commit) (
 of_tree-rows levels nodes list [] = λ k d h. absurd (omega (arith, h))
 of_tree-rows levels nodes list (file ∷ files) =
     All-cons (λ (row : FileRow). (row.current.levels ≡ levels) × (row.stale.levels ≡ levels)) (file_row levels nodes list file) (map (file_row levels nodes list) files) (refl, refl) (of_tree-rows levels nodes list files)
+
+-- each says what the servers' copies of its file do
+pub exact-rows : (levels : ℕ) (nodes : List NodeView) (list : List Commit) (files : List (List ℕ)) → AreExact levels nodes (map (file_row levels nodes list) files)
+exact-rows levels nodes list [] = λ k d h. absurd (omega (arith, h))
+exact-rows levels nodes list (file ∷ files) =
+    All-cons (λ (row : FileRow). row ≡ row_at levels nodes row.file row.version) (file_row levels nodes list file) (map (file_row levels nodes list) files) refl (exact-rows levels nodes list files)
 
 -- each has a row of its own
 names-rows : (levels : ℕ) (nodes : List NodeView) (list : List Commit) (files : List (List ℕ)) → names_in (map (file_row levels nodes list) files) ≡ files

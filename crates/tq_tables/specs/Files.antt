@@ -1,7 +1,8 @@
 -- The rows of files as they are kept, and how one of them changes.
-use Rattle.std.specs.Prelude.{◌≡◌, ℕ, Bool, true, false, cond, List, [], ◌∷◌, map, fold, refl}
+use Rattle.std.specs.Prelude.{◌≡◌, ℕ, Bool, true, false, cond, List, [], ◌∷◌, map, fold, Option, refl}
 use Rattle.std.specs.Coded.{Coded, code_by, coded×, coded_list, coded_ℕ}
 use Rattle.std.specs.List.{All}
+use Rattle.std.specs.Map.{lookup}
 use Rattle.tq_shape.specs.ServerSet.{Servers, with_number, without_number}
 use Rattle.tq_store.specs.Names.{same_name}
 use Rattle.tq_evidence.specs.declared.op.Op.{Op}
@@ -10,11 +11,9 @@ use Rattle.tq_desk.specs.declared.ask.DeskAsk.TheVariants as asks
 use Rattle.tq_desk.specs.declared.ask.DeskReply.{DeskReply}
 use Rattle.tq_desk.specs.declared.ask.DeskReply.TheVariants as replies
 use Rattle.tq_node.specs.Node.{NodeView}
-use Rattle.tq_node.specs.declared.change.NodeStep.{NodeStep}
-use Rattle.tq_node.specs.declared.change.NodeStep.TheVariants as steps
 use Rattle.tq_tables.specs.NamesApart.{Apart}
 use Rattle.tq_tables.specs.Counted.{count_in, version_of}
-use Rattle.tq_tables.specs.Rows.{has_version}
+use Rattle.tq_tables.specs.Rows.{has_version, row_at}
 use Rattle.tq_tables.specs.declared.file_row.FileRow.{FileRow}
 
 -- what callers see of a table of files: the levels of the tree of servers, the rows, and for how many files more there
@@ -32,11 +31,19 @@ names_in rows = map (λ row. row.file) rows
 abbrev pub AreOfLevels : ℕ → List FileRow → Type 0
 AreOfLevels levels rows = All (λ row. (row.current.levels ≡ levels) × (row.stale.levels ≡ levels)) rows
 
+-- each row is as the servers' copies of its file say, at the version that it says
+abbrev pub AreExact : ℕ → List NodeView → List FileRow → Type 0
+AreExact levels nodes rows = All (λ row. row ≡ row_at levels nodes row.file row.version) rows
+
 -- each row stands under its name, no file has two, and the sets of servers are of the tree
 pub record AreFiles (levels : ℕ) (entries : List (List ℕ × FileRow)) : Type 0 where
   pub named : entries ≡ map (λ row. (row.file, row)) (map (λ entry. entry.1) entries)
   pub apart : Apart (names_in (map (λ entry. entry.1) entries))
   pub of_tree : AreOfLevels levels (map (λ entry. entry.1) entries)
+
+-- the row of a file, none where it has none
+abbrev pub row_in : List FileRow → List ℕ → Option FileRow
+row_in rows file = lookup (same_name file) (map (λ row. (row.file, row)) rows)
 
 -- the version that a file's row says, 0 where it has none
 abbrev pub version_in : List FileRow → List ℕ → ℕ

@@ -1,5 +1,7 @@
-ghost use Rattle.std.specs.Prelude.{◌≡◌, IfOk};
+ghost use Rattle.std.specs.Prelude.{◌≡◌, ◌+◌, ◌<◌, ◌^◌, IfOk};
 ghost use Rattle.tq_tables.specs.Files.{stood};
+ghost use Rattle.tq_tables.specs.Parts.{AreOfTree};
+ghost use Rattle.tq_tables.specs.Rows.{row_at};
 
 use tq_node::Node;
 use tq_shape::{Memory, ServerSet};
@@ -41,6 +43,23 @@ impl FileRow {
             current,
             stale,
         })
+    }
+
+    /// The row after one commit more that writes the file. A server whose copy is below a version is below the next one
+    /// too, so only those that were current are looked at.
+    pub(crate) fn of_next_commit(&self, nodes: &[Node]) -> Result<FileRow, Memory>
+        requires of_tree { AreOfTree self.now.current.levels 1 nodes.now }
+        requires exact { self.now ≡ row_at self.now.current.levels nodes.now self.now.file self.now.version }
+        requires room { self.now.version + 1 < 2 ^ 64 }
+        ensures { IfOk result (λ row. row ≡ row_at self.now.current.levels nodes.now self.now.file (self.now.version + 1)) }
+    {
+        let mut row = self.copy()?;
+        row.version += 1;
+        for server in self.current.iter() {
+            let place = (server.number() - 1) as usize;
+            row.stand(&nodes[place]);
+        }
+        Ok(row)
     }
 
     /// The server stands among the current ones where its copy of the file is of the row's version or a later one, and

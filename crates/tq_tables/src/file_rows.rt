@@ -1,7 +1,7 @@
 ghost use Rattle.std.specs.Prelude.{◌≡◌, ◌+◌, ◌<◌, ◌^◌, ◌++◌, ℕ, List, map, IfOk, OnOk, reverse};
 ghost use Rattle.tq_desk.specs.DeskJournal as log;
 ghost use Rattle.tq_tables.specs.Counted.{names_of};
-ghost use Rattle.tq_tables.specs.Files.{version_in};
+ghost use Rattle.tq_tables.specs.Files.{AreExact, version_in};
 ghost use Rattle.tq_tables.specs.Parts.{AreOfTree};
 ghost use Rattle.tq_tables.specs.Rows as spec;
 
@@ -40,18 +40,35 @@ pub(crate) fn rows_written(
     ops: &[Op],
 ) -> Result<Vec<FileRow>, Memory>
     requires of_tree { AreOfTree table.now.levels 1 nodes.now }
+    requires exact { AreExact table.now.levels nodes.now table.now.rows }
     requires room { (file : List ℕ) → version_in table.now.rows file + 1 < 2 ^ 64 }
     ensures { IfOk result (λ rows. rows.items
         ≡ map (λ file. spec.row_at table.now.levels nodes.now file (version_in table.now.rows file + 1)) (names_of ops.now)) }
 {
-    let levels = table.levels();
     let names = FileNames::written(alloc, ops)?;
     let mut rows = Vec::new(alloc);
     for (file, _) in names.iter() {
-        let version = table.version(file) + 1;
-        rows.push(file_row(alloc, levels, nodes, *file, version)?)?;
+        rows.push(next_row(alloc, nodes, table, file)?)?;
     }
     Ok(rows)
+}
+
+/// The row of a file that one commit more writes.
+fn next_row(
+    alloc: Global,
+    nodes: &[Node],
+    table: &FileTable,
+    file: &FileName,
+) -> Result<FileRow, Memory>
+    requires of_tree { AreOfTree table.now.levels 1 nodes.now }
+    requires exact { AreExact table.now.levels nodes.now table.now.rows }
+    requires room { version_in table.now.rows file.now + 1 < 2 ^ 64 }
+    ensures { IfOk result (λ row. row ≡ spec.row_at table.now.levels nodes.now file.now (version_in table.now.rows file.now + 1)) }
+{
+    match table.row(file) {
+        Some(row) => row.of_next_commit(nodes),
+        None => file_row(alloc, table.levels(), nodes, *file, 1),
+    }
 }
 
 /// Rows equal to these, with memory of their own.

@@ -1,5 +1,6 @@
 //! The rows of files, found by the names of the files.
 ghost use Rattle.std.specs.Prelude.{[], ◌≡◌, ◌≤◌, ◌<◌, ◌+◌, length, map, IfOk, OnOk};
+ghost use Rattle.std.specs.Option.{option_copied};
 ghost use Rattle.tq_node.specs.Untouched.{raised_files};
 ghost use Rattle.tq_tables.specs.NamesApart.{Apart};
 ghost use Rattle.tq_tables.specs.Files as spec;
@@ -90,14 +91,11 @@ impl FileTable {
         self.rows.values().as_slice()
     }
 
-    /// The version that the row of the file says, 0 where it has none.
-    pub(crate) fn version(&self, file: &FileName) -> u64
-        ensures { result ≡ spec.version_in self.now.rows file.now }
+    /// The row of the file, if it has one.
+    pub(crate) fn row(&self, file: &FileName) -> Option<&FileRow>
+        ensures { option_copied result ≡ spec.row_in self.now.rows file.now }
     {
-        match self.rows.get(file) {
-            Some(row) => row.version,
-            None => 0,
-        }
+        self.rows.get(file)
     }
 
     /// Makes room for the rows of so many files more. The rows stay, also without memory.

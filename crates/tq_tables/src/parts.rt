@@ -136,8 +136,7 @@ impl Parts {
     {
         let _view = &self.view;
         let place = (server - 1) as usize;
-        let telling = self.nodes[place].tell(alloc, number, ask)?;
-        Ok(telling)
+        self.nodes[place].tell(alloc, number, ask)
     }
 
     /// How many levels the tree of servers has.

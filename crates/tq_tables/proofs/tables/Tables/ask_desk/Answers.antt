@@ -6,16 +6,18 @@ use Rattle.tq_desk.specs.DeskPlans.{change_fits, change_leads}
 use Rattle.tq_desk.specs.DeskStep.{DeskView, desk_reply}
 use Rattle.tq_desk.specs.declared.ask.DeskReply.{DeskReply}
 use Rattle.tq_desk.specs.declared.change.DeskChange.{DeskChange}
+use Rattle.tq_node.specs.Node.{NodeView}
 use Rattle.tq_shape.specs.Journal.{entry}
 use Rattle.tq_tables.specs.Counted.{names_of}
 use Rattle.tq_tables.specs.Files as spec
 use Rattle.tq_tables.specs.Files.{FilesView}
 use Rattle.tq_tables.specs.Parts.{PartsView}
-use Rattle.tq_tables.specs.Rows.{file_rows}
+use Rattle.tq_tables.specs.Rows.{file_rows, files_in}
 use Rattle.tq_tables.specs.Tables.{TablesView, tables_at}
 use Rattle.tq_tables.specs.declared.file_row.FileRow.{FileRow}
 use Rattle.tq_tables.specs.declared.replies.Replies.{Replies}
 use Rattle.tq_tables.proofs.Noted.{asked, asked-at, begun-room, commits-room, desk-noted, desk-replied, rows-at, rows-then}
+use Rattle.tq_tables.proofs.Whole.{exact-rows}
 use Rattle.tq_tables.proofs.Written.{entry-rows, of_tree-next, rows_next, version-room}
 use Rattle.tq_tables.proofs.tables.Tables.ask_desk.Goals as goal
 
@@ -23,6 +25,19 @@ pub plan-requires : goal.plan-requires
 plan-requires c =
     let view_is = (λ i. tables_at (c.deref_mut-parts.ensures.value i) (c.deref_mut-files.ensures.value i).rows) ∙ c.self.view_is in
     subst (λ (d : DeskView). d.begun + 1 < 2 ^ 64) (sym (c.desk.ensures ∙ ap (λ (t : TablesView). t.desk) view_is)) (begun-room c.args.self.now c.requires)
+
+pub rows_written-requires-clause-exact : goal.rows_written-requires-clause-exact
+rows_written-requires-clause-exact c =
+    let view_is = (λ i. tables_at (c.deref_mut-parts.ensures.value i) (c.deref_mut-files.ensures.value i).rows) ∙ c.self.view_is in
+    let same = ap (λ (p : PartsView). p.view.levels) c.deref_mut-parts.ensures.value ∙ c.self.invariant ∙ sym (ap (λ (f : FilesView). f.levels) c.deref_mut-files.ensures.value) in
+    let journals = c.requires.journals in
+    let parts = c.deref_mut-parts.result.now in
+    let list = commits (reverse journals.desk) in
+    let are = rows-at parts c.deref_mut-files.result.now.rows c.args.self.now view_is journals c.requires.stand in
+    let exact : spec.AreExact parts.view.levels parts.nodes c.deref_mut-files.result.now.rows =
+    subst (λ (rows : List FileRow). spec.AreExact parts.view.levels parts.nodes rows) (sym are) (exact-rows parts.view.levels parts.nodes list (files_in list)) in
+    subst (λ (levels : ℕ). spec.AreExact levels c.nodes.result.now c.deref_mut-files.result.now.rows) same
+    (subst (λ (nodes : List NodeView). spec.AreExact parts.view.levels nodes c.deref_mut-files.result.now.rows) (sym c.nodes.ensures.value) exact)
 
 pub rows_written-requires-clause-room : goal.rows_written-requires-clause-room
 rows_written-requires-clause-room c = λ file.

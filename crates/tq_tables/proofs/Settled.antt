@@ -1,0 +1,176 @@
+-- The row of a file after one commit more: only the servers that were current stand anew.
+use Rattle.std.specs.Prelude.{not, nat_le}
+use Rattle.std.proofs.Common.{◌≡◌, ℕ, suc, ◌+◌, ◌-◌, ◌<◌, ◌≤◌, Bool, true, false, cond, List, [], ◌∷◌, length, map, filter, get_or, refl, ap, sym, subst, ◌∙◌, arith}
+use Rattle.std.specs.List.{All, fold}
+use Rattle.std.proofs.lemmas.List.Elements.{All-nil, All-cons}
+use Rattle.tq_shape.specs.ServerSet.{numbered}
+use Rattle.tq_shape.specs.Tree.{Server}
+use Rattle.tq_store.specs.Copies.{copy_of}
+use Rattle.tq_node.specs.Node.{NodeView}
+use Rattle.tq_tables.specs.declared.file_row.FileRow.{FileRow}
+use Rattle.tq_tables.specs.Asked.{node_in}
+use Rattle.tq_tables.specs.Files.{moved, stood}
+use Rattle.tq_tables.specs.Parts.{AreOfTree, node_after_all}
+use Rattle.tq_tables.specs.Rows.{has_version, row_at}
+use Rattle.tq_tables.proofs.Kept.{HasLevels}
+use Rattle.tq_tables.proofs.Restood.{get_or-any}
+use Rattle.tq_tables.proofs.Stood.{head-placed, numbers-if, passing, placed, placed-later, those}
+
+-- ---- the numbers, where some servers are placed anew
+
+-- the numbers with each of the servers that passes, and without the others of them
+abbrev settled : (NodeView → Bool) → List ℕ → List NodeView → List ℕ
+settled test numbers nodes = fold (λ all node. placed (test node) node.server all) numbers nodes
+
+module _ (some test : NodeView → Bool) (levels : ℕ) where
+  -- a server before them keeps its place
+  settled-later : (first : ℕ) (n : NodeView) (nodes : List NodeView) → AreOfTree levels first nodes → n.server < first → (c : Bool) (numbers : List ℕ)
+      → settled test (cond c (n.server ∷ numbers) numbers) (filter some nodes) ≡ cond c (n.server ∷ settled test numbers (filter some nodes)) (settled test numbers (filter some nodes))
+  settled-later first n [] of_tree before c numbers = refl
+  settled-later first n (m ∷ nodes) of_tree before c numbers =
+      by (some m) (λ more. settled-later (first + 1) n nodes of_tree.1 (omega (arith, before)) c more)
+    where
+      less : n.server < m.server
+      less = let is = of_tree.0.1 in omega (arith, before, is)
+
+      by : (b : Bool) → ((more : List ℕ) → settled test (cond c (n.server ∷ more) more) (filter some nodes) ≡ cond c (n.server ∷ settled test more (filter some nodes)) (settled test more (filter some nodes)))
+          → settled test (cond c (n.server ∷ numbers) numbers) (cond b (m ∷ filter some nodes) (filter some nodes))
+          ≡ cond c (n.server ∷ settled test numbers (cond b (m ∷ filter some nodes) (filter some nodes))) (settled test numbers (cond b (m ∷ filter some nodes) (filter some nodes)))
+      by true rest = ap (λ (all : List ℕ). settled test all (filter some nodes)) (sym (placed-later levels test m n numbers less (test m) c)) ∙ rest (placed (test m) m.server numbers)
+      by false rest = rest numbers
+
+  -- where the others passed before as they do now, these are all that pass now
+  settled-are : (before : NodeView → Bool) → ((node : NodeView) → some node ≡ false → before node ≡ test node) → (first : ℕ) (nodes : List NodeView) → AreOfTree levels first nodes
+      → settled test (passing before nodes) (filter some nodes) ≡ passing test nodes
+  settled-are before same first [] of_tree = refl
+  settled-are before same first (n ∷ nodes) of_tree = by (some n) refl (settled-are before same (first + 1) nodes of_tree.1)
+    where
+      less : n.server < first + 1
+      less = let is = of_tree.0.1 in omega (arith, is)
+
+      later : (c : Bool) (numbers : List ℕ)
+          → settled test (cond c (n.server ∷ numbers) numbers) (filter some nodes) ≡ cond c (n.server ∷ settled test numbers (filter some nodes)) (settled test numbers (filter some nodes))
+      later = settled-later (first + 1) n nodes of_tree.1 less
+
+      after : AreOfTree levels (n.server + 1) nodes
+      after = subst (λ (k : ℕ). AreOfTree levels (k + 1) nodes) (sym of_tree.0.1) of_tree.1
+
+      by : (b : Bool) → some n ≡ b → settled test (passing before nodes) (filter some nodes) ≡ passing test nodes
+          → settled test (passing before (n ∷ nodes)) (cond b (n ∷ filter some nodes) (filter some nodes)) ≡ passing test (n ∷ nodes)
+      by true is rest =
+          ap (λ (all : List ℕ). settled test (placed (test n) n.server all) (filter some nodes)) (numbers-if before n nodes (before n))
+          ∙ ap (λ (all : List ℕ). settled test all (filter some nodes)) (sym (head-placed levels before n.server nodes after (test n) (before n)))
+          ∙ later (test n) (passing before nodes)
+          ∙ ap (λ (all : List ℕ). cond (test n) (n.server ∷ all) all) rest
+          ∙ sym (numbers-if test n nodes (test n))
+      by false is rest =
+          ap (λ (all : List ℕ). settled test all (filter some nodes)) (numbers-if before n nodes (before n))
+          ∙ later (before n) (passing before nodes)
+          ∙ (λ i. cond (same n is i) (n.server ∷ rest i) (rest i))
+          ∙ sym (numbers-if test n nodes (test n))
+
+-- ---- rows
+
+-- the row where each of the servers stands anew
+abbrev stood_each : FileRow → List NodeView → FileRow
+stood_each row nodes = fold (λ (r : FileRow) (node : NodeView). stood node r) row nodes
+
+-- and that with the numbers placed anew
+abbrev settled_row : FileRow → List ℕ → List ℕ → List NodeView → FileRow
+settled_row row current stale nodes =
+    record {
+      file = row.file;
+      version = row.version;
+      current = those row.current.levels (settled (has_version row.file row.version) current nodes);
+      stale = those row.stale.levels (settled (λ node. not (has_version row.file row.version node)) stale nodes);
+    }
+
+stood-each : (row : FileRow) (nodes : List NodeView) → stood_each row nodes ≡ settled_row row row.current.numbers row.stale.numbers nodes
+stood-each row [] = refl
+stood-each row (n ∷ nodes) = by (has_version row.file row.version n) (λ r. stood-each r nodes)
+  where
+    by : (b : Bool) → ((r : FileRow) → stood_each r nodes ≡ settled_row r r.current.numbers r.stale.numbers nodes)
+        → stood_each (moved b n.server row) nodes ≡ settled_row row (placed b n.server row.current.numbers) (placed (not b) n.server row.stale.numbers) nodes
+    by true rest = rest (moved true n.server row)
+    by false rest = rest (moved false n.server row)
+
+-- a row at the next version, before any server stands anew in it
+abbrev pub at_next : FileRow → FileRow
+at_next row = record row { version = row.version + 1 }
+
+-- the row with each of the servers where its copy says
+abbrev pub stood_in : List NodeView → FileRow → List Server → FileRow
+stood_in nodes row servers = fold (λ (r : FileRow) (server : Server). stood (node_in nodes server.number) r) row servers
+
+below-next : (version copy : ℕ) → nat_le version copy ≡ false → nat_le version copy ≡ nat_le (version + 1) copy
+below-next version copy below = grind (arith, below)
+
+module _ (levels : ℕ) (nodes : List NodeView) (of_tree : AreOfTree levels 1 nodes) where
+  module _ (file : List ℕ) (version : ℕ) where
+    stood-then : stood_each (at_next (row_at levels nodes file version)) (filter (has_version file version) nodes) ≡ row_at levels nodes file (version + 1)
+    stood-then =
+        let had = has_version file version in
+        let has = has_version file (version + 1) in
+        let below : (node : NodeView) → had node ≡ false → had node ≡ has node = λ node none. below-next version (copy_of node.state.records.copies file).version none in
+        let current = settled-are had has levels had below 1 nodes of_tree in
+        let stale = settled-are had (λ node. not (has node)) levels (λ node. not (had node)) (λ node none. ap not (below node none)) 1 nodes of_tree in
+        stood-each (at_next (row_at levels nodes file version)) (filter had nodes)
+        ∙ (λ i. record { file = file; version = version + 1; current = those levels (current i); stale = those levels (stale i) })
+
+  -- each server is found under its number
+  found-each : (some : NodeView → Bool) (first : ℕ) (rest : List NodeView) → AreOfTree levels first rest → ((i : ℕ) (d : NodeView) → i < length rest → node_in nodes (first + i) ≡ get_or rest i d) → (row : FileRow)
+      → stood_in nodes row (numbered levels (passing some rest)) ≡ stood_each row (filter some rest)
+  found-each some first [] of_rest found row = refl
+  found-each some first (n ∷ rest) of_rest found row = by (some n) (λ r. found-each some (first + 1) rest of_rest.1 later r)
+    where
+      here : node_in nodes n.server ≡ n
+      here = let is = of_rest.0.1 in ap (node_in nodes) (omega (arith, is)) ∙ found 0 n (omega arith)
+
+      later : (i : ℕ) (d : NodeView) → i < length rest → node_in nodes (first + 1 + i) ≡ get_or rest i d
+      later i d less = ap (node_in nodes) (omega arith) ∙ found (suc i) d (omega (arith, less))
+
+      by : (b : Bool) → ((r : FileRow) → stood_in nodes r (numbered levels (passing some rest)) ≡ stood_each r (filter some rest))
+          → stood_in nodes row (numbered levels (map (λ node. node.server) (cond b (n ∷ filter some rest) (filter some rest)))) ≡ stood_each row (cond b (n ∷ filter some rest) (filter some rest))
+      by true all = ap (λ (node : NodeView). stood_in nodes (stood node row) (numbered levels (passing some rest))) here ∙ all (stood n row)
+      by false all = all row
+
+  -- where the current servers stand anew at the next version, the row is exact
+  pub next-exact : (row : FileRow) → row ≡ row_at levels nodes row.file row.version → stood_in nodes (at_next row) (numbered levels row.current.numbers) ≡ row_at levels nodes row.file (row.version + 1)
+  next-exact row exact =
+      (λ i. stood_in nodes (at_next (exact i)) (numbered levels (exact i).current.numbers))
+      ∙ found-each (has_version row.file row.version) 1 nodes of_tree at (at_next (row_at levels nodes row.file row.version))
+      ∙ stood-then row.file row.version
+    where
+      at : (i : ℕ) (d : NodeView) → i < length nodes → node_in nodes (1 + i) ≡ get_or nodes i d
+      at i d less =
+          let place : 1 + i - 1 ≡ i = omega arith in
+          ap (λ (k : ℕ). get_or nodes k (node_after_all 0 0 [])) place ∙ get_or-any nodes i (node_after_all 0 0 []) d less
+
+-- ---- the numbers of servers are places
+
+abbrev pub IsPlace : ℕ → Server → Type 0
+IsPlace count server = (0 < server.number) × (server.number ≤ count)
+
+-- the server at such a place is the one of that number
+pub node-found : (nodes : List NodeView) (server : Server) (node : NodeView) → IsPlace (length nodes) server → node ≡ get_or nodes (server.number - 1) node → node ≡ node_in nodes server.number
+node-found nodes server node there at = at ∙ sym (get_or-any nodes (server.number - 1) (node_after_all 0 0 []) node (omega (arith, there.0, there.1)))
+
+pub are-places : (levels count first : ℕ) (some : NodeView → Bool) (nodes : List NodeView) → AreOfTree levels first nodes → 0 < first → first + length nodes ≤ count + 1
+    → All (IsPlace count) (numbered levels (passing some nodes))
+are-places levels count first some [] of_tree positive within = All-nil (IsPlace count)
+are-places levels count first some (n ∷ nodes) of_tree positive within =
+    by (some n) (are-places levels count (first + 1) some nodes of_tree.1 (omega arith) (omega (arith, within)))
+  where
+    here : IsPlace count (record { number = n.server; levels = levels })
+    here = let is = of_tree.0.1 in (omega (arith, is, positive), omega (arith, is, within))
+
+    by : (b : Bool) → All (IsPlace count) (numbered levels (passing some nodes))
+        → All (IsPlace count) (numbered levels (map (λ node. node.server) (cond b (n ∷ filter some nodes) (filter some nodes))))
+    by true rest = All-cons (IsPlace count) (record { number = n.server; levels = levels }) (numbered levels (passing some nodes)) here rest
+    by false rest = rest
+
+-- the servers that are left lead to the same row, and each is there
+pub record LeadsOn (nodes : List NodeView) (levels : ℕ) (start row : FileRow) (all left : List Server) : Type 0 where
+  pub of_tree : HasLevels levels row
+  pub places : All (IsPlace (length nodes)) left
+  pub same : stood_in nodes row left ≡ stood_in nodes start all
