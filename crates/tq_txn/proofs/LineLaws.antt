@@ -1,5 +1,6 @@
 -- What was told along a line, one ask or one part of it after another.
-use Rattle.std.proofs.Common.{◌≡◌, ℕ, Bool, false, List, [], ◌∷◌, ◌++◌, Option, Some, None, Result, Ok, Err, refl, sym, ap, ◌∙◌, subst, inl, inr, append_assoc, append-nil, ◌+◌, ◌-◌, ◌≤◌, suc, length, take, drop, get_or, arith}
+use Rattle.std.proofs.Common.{◌≡◌, ◌<◌, ℕ, Bool, false, List, [], ◌∷◌, ◌++◌, Option, Some, None, Result, Ok, Err, refl, sym, ap, ◌∙◌, subst, inl, inr, append_assoc, append-nil, ◌+◌, ◌-◌, ◌≤◌, suc, length, take, drop, get_or, arith}
+use Rattle.std.proofs.Math.Seq.{drop-cons}
 use Rattle.tq_asks.specs.declared.ask.NodeAsk.{NodeAsk}
 use Rattle.tq_asks.specs.declared.ask.NodeReply.{NodeReply}
 use Rattle.tq_desk.specs.declared.ask.DeskAsk.{DeskAsk}
@@ -193,6 +194,12 @@ follows_unless cause a before after old none = rw none (follows_end _ old)
 take-length-self : {X : Type 0} (xs : List X) → take (length xs) xs ≡ xs
 take-length-self [] = refl
 take-length-self (x ∷ xs) = ap (λ ys. x ∷ ys) (take-length-self xs)
+
+-- what is left of a list from a place on: the value there, and those behind it
+pub left_from : {X : Type 0} (xs : List X) (place : ℕ) (x : X) → place < length xs → x ≡ get_or xs place x → drop place xs ≡ x ∷ drop (place + 1) xs
+left_from xs place x less is =
+    let next : suc place ≡ place + 1 = omega arith in
+    drop-cons xs place x less ∙ (λ i. sym is i ∷ drop (next i) xs)
 
 pub first_rest : {X : Type 0} (xs : List X) (x : X) → 1 ≤ length xs → x ≡ get_or xs 0 x → xs ≡ x ∷ take (length xs - 1) (drop 1 xs)
 first_rest [] x some is = absurd (omega arith)

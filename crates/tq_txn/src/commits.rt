@@ -27,13 +27,10 @@ fn prepare_each<A: Asker>(
     ensures knows { Knows (A.told asker.old) (Txn.Voting voting.old) → Knows (A.told asker.new) (Txn.Voting voting.new) }
     ensures tree { A.levels asker.new ≡ A.levels asker.old }
 {
-    match servers {
-        [] => Ok(()),
-        [server, ..] => match prepare_at(asker, alloc, voting, *server) {
-            Ok(()) => prepare_each(asker, alloc, voting, &servers[1..]),
-            Err(fault) => Err(fault),
-        },
+    for server in servers {
+        prepare_at(asker, alloc, voting, *server)?;
     }
+    Ok(())
 }
 
 /// What the desk's answer to a commit says.

@@ -167,13 +167,10 @@ fn end_by<A: Asker>(
     ensures asks { line.Follows (spec.ending_line ended.now (numbers_of servers.now)) (A.told asker.old) (A.told asker.new) (line.ended_by result tt) }
     ensures tree { A.levels asker.new ≡ A.levels asker.old }
 {
-    match servers {
-        [] => Ok(()),
-        [server, ..] => match end_at(asker, alloc, ended, decide, *server) {
-            Ok(()) => end_by(asker, alloc, ended, decide, &servers[1..]),
-            Err(fault) => Err(fault),
-        },
+    for server in servers {
+        end_at(asker, alloc, ended, decide, *server)?;
     }
+    Ok(())
 }
 
 /// Tells each of the servers the verdict, in their order.

@@ -161,13 +161,10 @@ fn lock_each<A: Asker>(
     ensures heard { AreTold (A.told asker.old) answers.old.items → AreTold (A.told asker.new) answers.new.items }
     ensures tree { A.levels asker.new ≡ A.levels asker.old }
 {
-    match servers {
-        [] => Ok(()),
-        [server, ..] => match lock_next(asker, alloc, open, lock, *server, noting, answers) {
-            Ok(()) => lock_each(asker, alloc, open, lock, &servers[1..], noting, answers),
-            Err(fault) => Err(fault),
-        },
+    for server in servers {
+        lock_next(asker, alloc, open, lock, *server, noting, answers)?;
     }
+    Ok(())
 }
 
 /// The ask for a lock of the transaction on the file.

@@ -1,0 +1,24 @@
+use Rattle.std.proofs.Common.{◌≡◌, ◌==◌, List, true, drop}
+use Rattle.std.specs.List.{list_all}
+use Rattle.std.specs.Prelude.{Option}
+use Rattle.tq_coterie.specs.Coterie.{numbers_of}
+use Rattle.tq_states.specs.Voting.{IsVotedOn, VotingView}
+use Rattle.tq_txn.specs.Dialogue.{Follows, LineEnd}
+use Rattle.tq_txn.specs.Commits.{prepares_line}
+use Rattle.tq_txn.specs.Told.{Knows}
+use Rattle.tq_txn.specs.declared.asker.Exchange.{Exchange}
+use Rattle.tq_txn.specs.declared.txn.Txn.TheVariants as states
+use Rattle.tq_txn.proofs.commits.prepare_each.Given as goal
+
+-- what follows from here with the servers that are left follows from the start with all of them
+abbrev pub invariant-loop-server : goal.invariant-loop-server
+invariant-loop-server g l = record {
+  tree : g.A.Asker.levels l.asker ≡ g.A.Asker.levels l.initial.asker;
+  of_tree : list_all (λ id. id.levels == g.A.Asker.levels l.asker) (drop l.server-index l.servers) ≡ true;
+  txn : l.voting.txn ≡ l.initial.voting.txn;
+  kept : IsVotedOn l.initial.voting l.voting;
+  knows : Knows (g.A.Asker.told l.initial.asker) (states.Voting l.initial.voting) → Knows (g.A.Asker.told l.asker) (states.Voting l.voting);
+  asks : (after : List Exchange) (end : Option (LineEnd (Unit {0}) VotingView))
+      → Follows (prepares_line (numbers_of (drop l.server-index l.servers)) l.voting) (g.A.Asker.told l.asker) after end
+      → Follows (prepares_line (numbers_of l.servers) l.initial.voting) (g.A.Asker.told l.initial.asker) after end;
+}

@@ -1,0 +1,78 @@
+use Rattle.std.proofs.Common.{rules, ◌≡◌, ◌==◌, ◌+◌, ◌≤◌, ℕ, suc, List, Ok, Some, Err, true, length, drop, vec_len, vec_capacity, ap, sym, ◌∙◌, subst, arith}
+use Rattle.std.proofs.lemmas.List.{drop_all}
+use Rattle.std.proofs.lemmas.Bool.{and_parts}
+use Rattle.std.specs.List.{list_all}
+use Rattle.std.specs.Prelude.{Option, Result}
+use Rattle.tq_txn.specs.declared.fault.LineFault.{LineFault}
+use Rattle.tq_coterie.specs.Coterie.{numbers_of}
+use Rattle.tq_shape.specs.Tree.{Server}
+use Rattle.tq_states.specs.Open.{CanNote, noted}
+use Rattle.tq_states.proofs.NotedLaws.{can_note_first, can_note_none}
+use Rattle.tq_txn.specs.Dialogue.{Follows, LineEnd, ended_by}
+use Rattle.tq_txn.specs.Lines.{LocksView, locks_line}
+use Rattle.tq_txn.proofs.LineLaws.{follows_end, left_from, locks_on, locks_off}
+use Rattle.tq_txn.proofs.operations.lock_each.Goals as goal
+
+-- one answer more leaves room for the rest
+fits : (before after more all room left : ℕ) → after ≤ before + 1 → left ≡ room → all ≡ suc more → before + all ≤ room → after + more ≤ left
+fits before after more all room left one same is enough = omega arith
+
+pub lock_next-requires-clause-noting : goal.lock_next-requires-clause-noting
+lock_next-requires-clause-noting g c =
+    let rest = drop (c.loop-server.server-index + 1) c.args.servers.now in
+    let is = left_from c.args.servers.now c.loop-server.server-index c.server-item.result c.loop-server-test.true c.server-item.is in
+    let P : List Server → Type 0 = λ ids. CanNote c.args.open.now c.loop-server.noting (numbers_of ids) in
+    can_note_first c.args.open.now c.loop-server.noting c.server-item.result.number (numbers_of rest) (subst P is c.loop-server.invariant.noting)
+
+pub loop-server-preserved : goal.loop-server-preserved
+loop-server-preserved g c =
+    let held = c.loop-server.invariant in
+    let all = drop c.loop-server.server-index c.args.servers.now in
+    let rest = drop (c.loop-server.server-index + 1) c.args.servers.now in
+    let is = left_from c.args.servers.now c.loop-server.server-index c.server-item.result c.loop-server-test.true c.server-item.is in
+    let P : List Server → Type 0 = λ ids. CanNote c.args.open.now c.loop-server.noting (numbers_of ids) in
+    let Q : List Server → Type 0 = λ ids. list_all (λ id. id.levels == g.A.Asker.levels c.loop-server.asker) ids ≡ true in
+    let R : ℕ → Type 0 = λ levels. list_all (λ id. id.levels == levels) rest ≡ true in
+    let parts = and_parts (c.server-item.result.levels == g.A.Asker.levels c.loop-server.asker) (list_all (λ (id : Server). id.levels == g.A.Asker.levels c.loop-server.asker) rest) (subst Q is held.of_tree) in
+    record {
+      tree = c.lock_next.ensures.tree ∙ held.tree;
+      of_tree = subst R (sym c.lock_next.ensures.tree) parts.1;
+      noting = c.lock_next.ensures.noting (numbers_of rest) (subst P is held.noting);
+      room = fits (vec_len c.loop-server.answers) (vec_len c.lock_next.new.answers) (length rest) (length all) (vec_capacity c.loop-server.answers) (vec_capacity c.lock_next.new.answers) c.lock_next.ensures.room c.lock_next.ensures.capacity (ap length is) held.room;
+      kept = Prim.search (held.kept, c.lock_next.ensures.kept, rules);
+      heard = λ before. c.lock_next.ensures.heard (held.heard before);
+      asks = λ after end more. held.asks after end (locks_on c.args.lock.now.file c.args.lock.now.mode all rest c.server-item.result record { answers = c.loop-server.answers.items; txn = noted c.args.open.now c.loop-server.noting } record { answers = c.lock_next.new.answers.items; txn = noted c.args.open.now c.lock_next.new.noting } is (g.A.Asker.told c.loop-server.asker) (g.A.Asker.told c.lock_next.new.asker) after end c.in_ok-lock_next.ensures.asks more);
+    }
+
+pub returns-clause-noting : goal.returns-clause-noting
+returns-clause-noting g c = can_note_none c.args.open.now c.loop-server.noting (numbers_of (drop c.loop-server.server-index c.args.servers.now)) c.loop-server.invariant.noting
+
+pub returns-clause-asks : goal.returns-clause-asks
+returns-clause-asks g c =
+    let now : LocksView = record { answers = c.loop-server.answers.items; txn = noted c.args.open.now c.loop-server.noting } in
+    let told = g.A.Asker.told c.loop-server.asker in
+    let end : Option (LineEnd (Unit {0}) LocksView) = Some (record { answer = Ok tt; after = now }) in
+    let P : List Server → Type 0 = λ ids. Follows (locks_line c.args.lock.now.file c.args.lock.now.mode (numbers_of ids) now) told told end in
+    c.loop-server.invariant.asks told end (subst P (sym (drop_all c.loop-server.server-index c.args.servers.now c.loop-server-test.false)) (follows_end _ told))
+
+pub returns-in_err-lock_next-clause-noting : goal.returns-in_err-lock_next-clause-noting
+returns-in_err-lock_next-clause-noting g c =
+    let rest = drop (c.loop-server.server-index + 1) c.args.servers.now in
+    let is = left_from c.args.servers.now c.loop-server.server-index c.server-item.result c.loop-server-test.true c.server-item.is in
+    let P : List Server → Type 0 = λ ids. CanNote c.args.open.now c.loop-server.noting (numbers_of ids) in
+    can_note_none c.args.open.now c.lock_next.new.noting (numbers_of rest) (c.lock_next.ensures.noting (numbers_of rest) (subst P is c.loop-server.invariant.noting))
+
+pub returns-in_err-lock_next-clause-asks : goal.returns-in_err-lock_next-clause-asks
+returns-in_err-lock_next-clause-asks g c =
+    let all = drop c.loop-server.server-index c.args.servers.now in
+    let rest = drop (c.loop-server.server-index + 1) c.args.servers.now in
+    let is = left_from c.args.servers.now c.loop-server.server-index c.server-item.result c.loop-server-test.true c.server-item.is in
+    let new : LocksView = record { answers = c.lock_next.new.answers.items; txn = noted c.args.open.now c.lock_next.new.noting } in
+    let told = g.A.Asker.told c.lock_next.new.asker in
+    let fault : Err c.in_err-lock_next.field-0.0 ≡ c.from_residual.result = Prim.search (c.from_residual.ensures, rules) in
+    let P : Result (Unit {0}) LineFault → Type 0 = λ result. Follows (locks_line c.args.lock.now.file c.args.lock.now.mode (numbers_of c.args.servers.now) record { answers = c.args.answers.now.items; txn = noted c.args.open.now c.args.noting.now }) (g.A.Asker.told c.args.asker.now) told (ended_by result new) in
+    subst P fault (c.loop-server.invariant.asks told (ended_by (Err c.in_err-lock_next.field-0.0) new)
+    (locks_off c.args.lock.now.file c.args.lock.now.mode all rest c.server-item.result record { answers = c.loop-server.answers.items; txn = noted c.args.open.now c.loop-server.noting } new is c.in_err-lock_next.field-0.0 (g.A.Asker.told c.loop-server.asker) told c.in_err-lock_next.ensures.asks))
+
+pub returns-in_err-lock_next-clause-heard : goal.returns-in_err-lock_next-clause-heard
+returns-in_err-lock_next-clause-heard g c = λ before. c.lock_next.ensures.heard (c.loop-server.invariant.heard before)
