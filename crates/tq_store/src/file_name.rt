@@ -21,10 +21,12 @@ pub const MAX_NAME: usize = 32;
 #[derive(Clone, Copy)]
 pub struct FileName {
     bytes: [u8; MAX_NAME],
+    /// No words, so that a name begins where a word may, also in an enum: what holds it is moved by words.
+    words: [u64; 0],
 }
 
 impl Model for FileName {
-    ghost use Rattle.std.specs.Prelude.{◌≡◌, List, ℕ, IsTrue};
+    ghost use Rattle.std.specs.Prelude.{◌≡◌, List, [], ℕ, IsTrue};
     ghost use Rattle.std.specs.Coded.{coded_list, coded_ℕ};
     ghost use Rattle.tq_store.specs.Names.{is_file_name, name_in, padded};
 
@@ -34,11 +36,11 @@ impl Model for FileName {
 
     ghost view = { λ a. name_in a.bytes };
 
-    ghost invariant = { λ a. (padded (name_in a.bytes) ≡ a.bytes) × IsTrue (is_file_name (name_in a.bytes)) };
+    ghost invariant = { λ a. (padded (name_in a.bytes) ≡ a.bytes) × IsTrue (is_file_name (name_in a.bytes)) × ([] ≡ a.words) };
 
-    ghost inverse = { λ name. record { bytes = padded name } };
+    ghost inverse = { λ name. record { bytes = padded name; words = [] } };
 
-    ghost inverse_ok = { λ a h. λ i. record { bytes = h.0 i } };
+    ghost inverse_ok = { λ a h. λ i. record { bytes = h.0 i; words = h.2 i } };
 }
 
 impl FileName {
@@ -52,7 +54,10 @@ impl FileName {
         }
         let mut padded = [0; MAX_NAME];
         padded[..bytes.len()].copy_from_slice(bytes);
-        Some(FileName { bytes: padded })
+        Some(FileName {
+            bytes: padded,
+            words: [],
+        })
     }
 
     /// The bytes, in order.

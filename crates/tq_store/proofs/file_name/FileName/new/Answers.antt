@@ -1,4 +1,4 @@
-use Rattle.std.proofs.Common.{◌≡◌, ◌++◌, length, drop, ℕ, List, replicate, true, ap, sym, ◌∙◌, rules, IsTrue}
+use Rattle.std.proofs.Common.{◌≡◌, ◌++◌, length, drop, ℕ, List, replicate, true, refl, ap, sym, ◌∙◌, rules, IsTrue}
 use Rattle.std.proofs.lemmas.List.{drop-replicate}
 use Rattle.tq_store.specs.Names.{is_file_name, name_in, padded}
 use Rattle.tq_store.proofs.Padded.{name_in-padded}
@@ -20,7 +20,9 @@ kept copied name e text =
     (ap padded name_is ∙ sym (filled copied name e), ap is_file_name name_is ∙ sym text)
 
 pub invariant_of-result : goal.invariant_of-result
-invariant_of-result c = kept c.copy_from_slice.new.self c.args.bytes.now (search rules) (search rules)
+invariant_of-result c =
+    let name = kept c.copy_from_slice.new.self c.args.bytes.now (search rules) (search rules) in
+    (name.0, name.1, refl)
 
 pub returns-clause-value : goal.returns-clause-value
 returns-clause-value c = holds c.copy_from_slice.new.self c.args.bytes.now (search rules) (search rules)
