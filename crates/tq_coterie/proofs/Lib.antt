@@ -6,3 +6,4 @@ pub mod Parts
 pub mod Tested
 pub mod Sameness
 mod Marked
+mod Paths

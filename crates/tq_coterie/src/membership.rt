@@ -22,6 +22,10 @@ pub(crate) fn is_member(levels: Levels, numbers: &[u64]) -> bool
     ensures ascending { IsTrue result → Ascends 0 numbers.now }
 {
     let root = levels.root();
+    // Most quorums are a path of the tree: that is found out sooner.
+    if is_path(levels, numbers) {
+        return true;
+    }
     if !is_ascending(numbers) {
         return false;
     }
@@ -29,6 +33,26 @@ pub(crate) fn is_member(levels: Levels, numbers: &[u64]) -> bool
         return false;
     }
     matches!(part_under_root(root, numbers), Part::Member)
+}
+
+/// Whether the numbers are a path from the root down to a leaf, each but the first a side of the one before.
+fn is_path(levels: Levels, numbers: &[u64]) -> bool
+    ensures { IsTrue result → Contains (coterie levels) numbers.now }
+{
+    let Some((first, below)) = numbers.split_first() else {
+        return false;
+    };
+    if *first != 1 || numbers.len() != levels.count() as usize {
+        return false;
+    }
+    let mut top = 1;
+    for number in below {
+        if *number / 2 != top {
+            return false;
+        }
+        top = *number;
+    }
+    true
 }
 
 /// Whether no number is above those of the tree.
