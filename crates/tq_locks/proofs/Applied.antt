@@ -110,15 +110,6 @@ module _ (old new : KeyedLocks) (locks : Locks) (a : Agrees old locks) (e : Entr
   txn_at : RisesTo old.entries (keys_under nat_eq old.by_txn e.0.1) e.0 in_txn
   txn_at = subst (λ t. RisesTo old.entries (keys_under nat_eq old.by_txn t) e.0 in_txn) is_txn txn_place
 
-  pub Agrees-entered : fin.get locks e.0 ≡ None → get old.entries key ≡ None → Updates old.entries new.entries key (Some e)
-      → ((f : List ℕ) → keys_under same_name new.by_file f ≡ cond (same_name file f) (insert (keys_under same_name old.by_file file) in_file key) (keys_under same_name old.by_file f))
-      → ((t : ℕ) → keys_under nat_eq new.by_txn t ≡ cond (txn == t) (insert (keys_under nat_eq old.by_txn txn) in_txn key) (keys_under nat_eq old.by_txn t))
-      → Agrees new (fin.insert locks e.0 e.1)
-  Agrees-entered absent vacant u files txns =
-      Agrees-inserted old new locks a e.0.0 e.0.1 e.1 in_file in_txn key (keys_under same_name old.by_file e.0.0) (keys_under nat_eq old.by_txn e.0.1) refl refl file_at txn_at absent vacant u
-      (subst (λ name. (f : List ℕ) → keys_under same_name new.by_file f ≡ cond (same_name name f) (insert (keys_under same_name old.by_file name) in_file key) (keys_under same_name old.by_file f)) is_file files)
-      (subst (λ name. (t : ℕ) → keys_under nat_eq new.by_txn t ≡ cond (name == t) (insert (keys_under nat_eq old.by_txn name) in_txn key) (keys_under nat_eq old.by_txn t)) is_txn txns)
-
   pub Agrees-left : get old.entries key ≡ Some e → Updates old.entries new.entries key None
       → ((f : List ℕ) → keys_under same_name new.by_file f ≡ cond (same_name file f) (remove (keys_under same_name old.by_file file) in_file) (keys_under same_name old.by_file f))
       → ((t : ℕ) → keys_under nat_eq new.by_txn t ≡ cond (txn == t) (remove (keys_under nat_eq old.by_txn txn) in_txn) (keys_under nat_eq old.by_txn t))

@@ -1,19 +1,26 @@
 -- The list of a name, where the map has it at an index.
-use Rattle.std.proofs.Common.{◌≡◌, ◌∙◌, ◌<◌, ℕ, zero, suc, Bool, true, false, cond, List, [], ◌∷◌, length, Some, None, slice_get, Result, Ok, Err, OnOk, refl, ap, sym, subst, arith}
+use Rattle.std.proofs.Common.{◌≡◌, ◌∙◌, ◌<◌, ◌≤◌, ℕ, zero, suc, Bool, true, false, cond, List, [], ◌∷◌, length, Some, None, slice_get, Result, Ok, Err, OnOk, refl, ap, sym, subst, arith}
+use Rattle.std.specs.Bool.{OnTrue}
 use Rattle.std.specs.Cmp.{IsEquivalence}
+use Rattle.std.specs.List.{insert}
 use Rattle.std.specs.Map.{lookup, lookup_key, keys_of, values_of}
 use Rattle.std.specs.Option.{option_map_or}
 use Rattle.indexmap.specs.IndexMap.{IndexMap, get, index_of, values, spare, with_value_at, set_value_at, IsUnique, Updates}
 use Rattle.indexmap.proofs.CallerLemmas.{updates-with_value_at}
 use Rattle.indexmap.proofs.MapLemmas.{Found-position, Missing-position}
 use Rattle.smallvec.specs.SmallVec.{SmallVec, HasRoomFor}
-use Rattle.tq_locks.specs.Keys.{keys_under, HasRoomUnder}
+use Rattle.tq_locks.specs.Keys.{keys_under, HasListAt, HasRoomUnder}
 use Rattle.tq_locks.proofs.Found.{none_some, some_same}
 
 entry_within : {X : Type 0} (es : List X) (i : ℕ) → i < length es → (e : X) × (slice_get es i ≡ Some e)
 entry_within [] i l = absurd (omega (arith, l))
 entry_within (e ∷ es) zero l = (e, refl)
 entry_within (e ∷ es) (suc i) l = entry_within es i (omega (arith, l))
+
+alone : (keys : List ℕ) (place key : ℕ) → keys ≡ [] → place ≤ length keys → key ∷ [] ≡ insert keys place key
+alone [] zero key e within = refl
+alone [] (suc place) key e within = absurd (omega (arith, within))
+alone (k ∷ keys) place key e within = let none : suc (length keys) ≡ 0 = ap length e in absurd (omega (arith, none))
 
 module _ {K X : Type 0} where
   parts : (es : List (K × X)) (i : ℕ) (e : K × X) → slice_get es i ≡ Some e → (slice_get (keys_of es) i ≡ Some e.0) × (slice_get (values_of es) i ≡ Some e.1)
@@ -69,9 +76,32 @@ module _ {K : Type 0} (eq : K → K → Bool) where
         let found : get eq (with_value_at m i w) n ≡ Some w = put.0 n ∙ ap (λ b. cond b (Some w) (get eq m n)) (sym (laws.symm n stored) ∙ alike) in
         (stored, w, set_there m.entries i stored v w at, alike, found, r)
 
+  -- a name with no index has no list
+  pub no_list : {X S : Type 0} (m : IndexMap K X S) (n : K) → None ≡ index_of eq m n → get eq m n ≡ None
+  no_list m n none = (Missing-position (eq n) m.entries (sym none)).value
+
+  -- the first key of a name goes to the only place
+  pub begun : {S : Type 0} (old new : IndexMap K (SmallVec ℕ) S) (n : K) (place key : ℕ) → get eq old n ≡ None → place ≤ length (keys_under eq old n)
+      → ((t : K) → keys_under eq new t ≡ cond (eq n t) (key ∷ []) (keys_under eq old t)) → (t : K) → keys_under eq new t ≡ cond (eq n t) (insert (keys_under eq old n) place key) (keys_under eq old t)
+  begun old new n place key none within put t = put t ∙ ap (λ (ks : List ℕ). cond (eq n t) ks (keys_under eq old t)) (alone (keys_under eq old n) place key (ap (λ o. option_map_or (λ keys. keys.items) o []) none) within)
+
   -- a map with no list for a name has room for one after it is made
   pub room_for_list : {S : Type 0} (old new : IndexMap K (SmallVec ℕ) S) (n : K) → None ≡ index_of eq old n → new.entries ≡ old.entries → 0 < spare new → HasRoomUnder eq new n None
-  room_for_list old new n none same more = (ap (lookup (eq n)) same ∙ (Missing-position (eq n) old.entries (sym none)).value, more)
+  room_for_list old new n none same more = (ap (lookup (eq n)) same ∙ no_list old n none, more)
+
+  -- the name that is stored at an index has its list there
+  pub listed_here : {S : Type 0} (laws : IsEquivalence eq) (m : IndexMap K (SmallVec ℕ) S) (n stored : K) (i : ℕ) (keys : SmallVec ℕ) → slice_get m.entries i ≡ Some (stored, keys) → get eq m stored ≡ Some keys → eq n stored ≡ true → HasListAt eq m n i
+  listed_here laws m n stored i keys at here alike = (stored, keys, at, alike, (λ j. lookup (λ k. laws.congr n stored k alike j) m.entries) ∙ here)
+
+  -- the list at the index of its name
+  pub at_index : {S : Type 0} (m : IndexMap K (SmallVec ℕ) S) (n : K) (i : ℕ) (keys : SmallVec ℕ) → HasListAt eq m n i → slice_get (values m) i ≡ Some keys
+      → (stored : K) × (slice_get m.entries i ≡ Some (stored, keys)) × (eq n stored ≡ true) × (keys_under eq m n ≡ keys.items)
+  at_index m n i keys list at =
+      let same : list.1 ≡ keys = some_same list.1 keys (sym (parts m.entries i (list.0, list.1) list.2).1 ∙ at) in
+      (list.0, list.2 ∙ (λ j. Some (list.0, same j)), list.3, ap (λ o. option_map_or (λ keys. keys.items) o []) (list.4 ∙ ap Some same))
+
+  pub list_at_index : {S : Type 0} (m : IndexMap K (SmallVec ℕ) S) (n : K) (i : ℕ) → HasListAt eq m n i → slice_get (values m) i ≡ None → ⊥
+  list_at_index m n i list none = none_some list.1 (sym none ∙ (parts m.entries i (list.0, list.1) list.2).1)
 
   -- the list that has room
   pub roomy : {S : Type 0} (m : IndexMap K (SmallVec ℕ) S) (n : K) (i : ℕ) (keys : SmallVec ℕ) → HasRoomUnder eq m n (Some i) → slice_get (values m) i ≡ Some keys
@@ -82,6 +112,10 @@ module _ {K : Type 0} (eq : K → K → Bool) where
 
   pub list_there : {S : Type 0} (m : IndexMap K (SmallVec ℕ) S) (n : K) (i : ℕ) → HasRoomUnder eq m n (Some i) → slice_get (values m) i ≡ None → ⊥
   list_there m n i room none = none_some room.1 (sym none ∙ (parts m.entries i (room.0, room.1) room.2).1)
+
+pub OnTrue-to : (P : Type 0) (b : Bool) → (b ≡ true → P) → OnTrue b P
+OnTrue-to P true f = f refl
+OnTrue-to P false f = tt
 
 pub OnOk-to : {A E : Type 0} (P Q : Type 0) (r : Result A E) → OnOk r P → (P → Q) → OnOk r Q
 OnOk-to P Q (Ok x) p f = f p

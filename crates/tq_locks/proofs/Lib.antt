@@ -13,3 +13,4 @@ pub mod Locked
 pub mod TakenOut
 pub mod Indexed
 pub mod Asked
+pub mod Sinking

@@ -18,7 +18,7 @@ use Rattle.tq_locks.proofs.Partition.{stands-in_place}
 
 -- the kept locks, with these keys under a transaction
 abbrev pub with_list : KeyedLocks → ℕ → List ℕ → KeyedLocks
-with_list kept txn keys = record { entries = kept.entries; by_file = kept.by_file; by_txn = with_entries kept.by_txn ((txn, record { items = keys; capacity = 0 }) ∷ kept.by_txn.entries); alloc = kept.alloc }
+with_list kept txn keys = record { entries = kept.entries; by_file = kept.by_file; by_txn = with_entries kept.by_txn ((txn, record { items = keys; capacity = 0 }) ∷ kept.by_txn.entries); homes = kept.homes; alloc = kept.alloc }
 
 turned_test : (m n : ℕ) → nat_eq m n ≡ (n == m)
 turned_test m n = grind (arith, nat_tests)

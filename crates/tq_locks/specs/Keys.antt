@@ -17,6 +17,10 @@ module _ {K : Type 0} (eq : K → K → Bool) {S : Type 0} where
   HasRoomUnder lists name None = (get eq lists name ≡ None) × (0 < spare lists)
   HasRoomUnder lists name (Some index) = (stored : K) × (keys : SmallVec ℕ) × (slice_get lists.entries index ≡ Some (stored, keys)) × (eq name stored ≡ true) × (get eq lists name ≡ Some keys) × HasRoomFor keys 1
 
+  -- a name's list is at this index
+  abbrev pub HasListAt : IndexMap K (SmallVec ℕ) S → K → ℕ → Type 0
+  HasListAt lists name index = (stored : K) × (keys : SmallVec ℕ) × (slice_get lists.entries index ≡ Some (stored, keys)) × (eq name stored ≡ true) × (get eq lists name ≡ Some keys)
+
 -- how many of the first entries are below a key: where it goes in their order
 abbrev pub place : {K X : Type 0} → (K → K → Ordering) → K → List (K × X) → ℕ
 place cmp key [] = 0

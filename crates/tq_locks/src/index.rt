@@ -1,13 +1,14 @@
 //! An index of a slab: lists of keys, each under a name. The names have no order.
-ghost use Rattle.std.specs.Prelude.{◌≡◌, ◌≤◌, OnOk, Some, [], if◌then◌else◌, length};
-ghost use Rattle.indexmap.specs.IndexMap.{index_of};
+ghost use Rattle.std.specs.Prelude.{◌≡◌, ◌≤◌, OnOk, OnErr, Some, None, [], ◌∷◌, ◌<◌, if◌then◌else◌, length};
+ghost use Rattle.indexmap.specs.IndexMap.{get, index_of, spare};
 ghost use Rattle.std.specs.List.{insert, remove};
-ghost use Rattle.slab.specs.Slab.{get};
-ghost use Rattle.tq_locks.specs.Keys.{keys_under, HasRoomUnder};
+ghost use Rattle.slab.specs.Slab.{get as in_slab};
+ghost use Rattle.std.specs.Bool.{OnTrue};
+ghost use Rattle.tq_locks.specs.Keys.{keys_under, HasListAt, HasRoomUnder};
 ghost use Rattle.tq_locks.specs.Kept.{RisesTo};
 
 use crate::LockEntry;
-use crate::lists::{Keys, leave, only, put_in};
+use crate::lists::{Keys, leave, make_room, only, put_in};
 use indexmap::IndexMap;
 use slab::Slab;
 use std::alloc::{AllocError, Global};
@@ -24,6 +25,7 @@ pub(crate) fn listed_under<'a, K: Eq + Hash>(lists: &'a IndexMap<K, Keys>, name:
 }
 
 /// The index of a name's list, if there is one, and its keys.
+#[inline(always)]
 pub(crate) fn list_under<'a, K: Eq + Hash>(
     lists: &'a IndexMap<K, Keys>,
     name: &K,
@@ -46,6 +48,7 @@ pub(crate) struct Spot {
 }
 
 /// Makes room for one more key under a name, whose list is at the index.
+#[inline(always)]
 pub(crate) fn make_room_under<K: Eq + Hash>(
     lists: &mut IndexMap<K, Keys>,
     name: &K,
@@ -57,14 +60,74 @@ pub(crate) fn make_room_under<K: Eq + Hash>(
 {
     match index {
         Some(index) => match lists.get_index_mut(index) {
-            Some(keys) => keys.reserve(1),
+            Some(keys) => make_room(keys),
             None => Ok(()),
         },
         None => lists.reserve(1),
     }
 }
 
+/// Puts a key into its place under a name, whose list is at the spot's index. Without memory the keys stay as they were.
+#[inline(always)]
+pub(crate) fn enter_under<K: Eq + Hash + Copy + Drop>(
+    alloc: Global,
+    lists: &mut IndexMap<K, Keys>,
+    name: &K,
+    spot: Spot,
+    key: usize,
+) -> Result<(), AllocError>
+    requires index { spot.index ≡ index_of K.eq lists.old name.now }
+    requires within { spot.place ≤ length (keys_under K.eq lists.old name.now) }
+    ensures ok { OnOk result ((other : K) → keys_under K.eq lists.new other ≡ (if K.eq name.now other then insert (keys_under K.eq lists.old name.now) spot.place key else keys_under K.eq lists.old other)) }
+    ensures err { OnErr result ((other : K) → keys_under K.eq lists.new other ≡ keys_under K.eq lists.old other) }
+{
+    match spot.index {
+        Some(index) => match lists.get_index_mut(index) {
+            Some(keys) => {
+                make_room(keys)?;
+                put_in(keys, spot.place, key);
+                Ok(())
+            }
+            None => Ok(()),
+        },
+        None => begin_under(alloc, lists, name, key),
+    }
+}
+
+/// Begins the list of a name that has none, with one key. Without memory the keys stay as they were.
+#[inline(never)]
+fn begin_under<K: Eq + Hash + Copy + Drop>(
+    alloc: Global,
+    lists: &mut IndexMap<K, Keys>,
+    name: &K,
+    key: usize,
+) -> Result<(), AllocError>
+    requires { get K.eq lists.old name.now ≡ None }
+    ensures ok { OnOk result ((other : K) → keys_under K.eq lists.new other ≡ (if K.eq name.now other then key ∷ [] else keys_under K.eq lists.old other)) }
+    ensures err { OnErr result ((other : K) → keys_under K.eq lists.new other ≡ keys_under K.eq lists.old other) }
+{
+    lists.reserve(1)?;
+    let _room_was_made = lists.insert(*name, only(alloc, key));
+    Ok(())
+}
+
+/// The same, where there is room.
+#[inline(never)]
+fn begin_reserved<K: Eq + Hash + Copy + Drop>(
+    alloc: Global,
+    lists: &mut IndexMap<K, Keys>,
+    name: &K,
+    key: usize,
+)
+    requires room { 0 < spare lists.old }
+    requires absent { get K.eq lists.old name.now ≡ None }
+    ensures { (other : K) → keys_under K.eq lists.new other ≡ (if K.eq name.now other then key ∷ [] else keys_under K.eq lists.old other) }
+{
+    let _room_was_made = lists.insert(*name, only(alloc, key));
+}
+
 /// Puts a key into its place under a name, for which there is room.
+#[inline(always)]
 pub(crate) fn put_under<K: Eq + Hash + Copy + Drop>(
     alloc: Global,
     lists: &mut IndexMap<K, Keys>,
@@ -82,13 +145,12 @@ pub(crate) fn put_under<K: Eq + Hash + Copy + Drop>(
                 put_in(keys, spot.place, key);
             }
         }
-        None => {
-            let _room_was_made = lists.insert(*name, only(alloc, key));
-        }
+        None => begin_reserved(alloc, lists, name, key),
     }
 }
 
 /// Takes the key of an entry out of a name's list, and tells its place. The list stays, even with no key.
+#[inline(always)]
 pub(crate) fn take_under<K: Eq + Hash>(
     lists: &mut IndexMap<K, Keys>,
     entries: &Slab<LockEntry>,
@@ -96,11 +158,63 @@ pub(crate) fn take_under<K: Eq + Hash>(
     entry: &LockEntry,
     key: usize,
 ) -> usize
-    requires { get entries.now key ≡ Some entry.now }
+    requires { in_slab entries.now key ≡ Some entry.now }
     ensures place { RisesTo entries.now (keys_under K.eq lists.old name.now) entry.now.0 result }
     ensures after { (other : K) → keys_under K.eq lists.new other ≡ (if K.eq name.now other then remove (keys_under K.eq lists.old name.now) result else keys_under K.eq lists.old other) }
 {
     match lists.get_mut(name) {
+        Some(keys) => leave(keys, entries, entry, key),
+        None => 0,
+    }
+}
+
+/// The same, where the list is likely to be at the index.
+#[inline(always)]
+pub(crate) fn take_near<K: Eq + Hash>(
+    lists: &mut IndexMap<K, Keys>,
+    entries: &Slab<LockEntry>,
+    name: &K,
+    entry: &LockEntry,
+    key: usize,
+    index: usize,
+) -> usize
+    requires { in_slab entries.now key ≡ Some entry.now }
+    ensures place { RisesTo entries.now (keys_under K.eq lists.old name.now) entry.now.0 result }
+    ensures after { (other : K) → keys_under K.eq lists.new other ≡ (if K.eq name.now other then remove (keys_under K.eq lists.old name.now) result else keys_under K.eq lists.old other) }
+{
+    if is_at(lists, name, index) {
+        return take_at(lists, entries, name, entry, key, index);
+    }
+    take_under(lists, entries, name, entry, key)
+}
+
+/// Whether a name's list is at the index.
+#[inline(always)]
+fn is_at<K: Eq + Hash>(lists: &IndexMap<K, Keys>, name: &K, index: usize) -> bool
+    ensures { OnTrue result (HasListAt K.eq lists.now name.now index) }
+{
+    match lists.get_index(index) {
+        Some(list) => *name == *list.0,
+        None => false,
+    }
+}
+
+/// Takes the key of an entry out of a name's list, which is at the index, and tells its place.
+#[inline(always)]
+fn take_at<K: Eq + Hash>(
+    lists: &mut IndexMap<K, Keys>,
+    entries: &Slab<LockEntry>,
+    name: &K,
+    entry: &LockEntry,
+    key: usize,
+    index: usize,
+) -> usize
+    requires listed { HasListAt K.eq lists.old name.now index }
+    requires entry { in_slab entries.now key ≡ Some entry.now }
+    ensures place { RisesTo entries.now (keys_under K.eq lists.old name.now) entry.now.0 result }
+    ensures after { (other : K) → keys_under K.eq lists.new other ≡ (if K.eq name.now other then remove (keys_under K.eq lists.old name.now) result else keys_under K.eq lists.old other) }
+{
+    match lists.get_index_mut(index) {
         Some(keys) => leave(keys, entries, entry, key),
         None => 0,
     }

@@ -12,8 +12,8 @@ ghost use Rattle.tq_locks.specs.Keys.{keys_under, place, told};
 ghost use Rattle.tq_locks.specs.Kept.{decided, steadied};
 
 use crate::index::{
-    Spot, end_empty_under, list_under, listed_under, make_room_under, put_under, take_all_under,
-    take_under,
+    Spot, end_empty_under, enter_under, list_under, listed_under, make_room_under, put_under,
+    take_all_under, take_near, take_under,
 };
 use crate::lists::{Keys, place};
 use crate::{Lock, LockEntry, Mode};
@@ -30,6 +30,8 @@ pub(crate) struct KeyedLocks {
     pub(crate) entries: Slab<LockEntry>,
     pub(crate) by_file: IndexMap<FileName, Keys>,
     pub(crate) by_txn: IndexMap<u64, Keys>,
+    /// Where in `by_file` the list of an entry's file is likely to be, by the entry's key. This is tested before it is used.
+    pub(crate) homes: Vec<usize>,
     alloc: Global,
 }
 
@@ -51,6 +53,7 @@ impl KeyedLocks {
             entries: Slab::new(alloc),
             by_file: IndexMap::new(alloc),
             by_txn: IndexMap::new(alloc),
+            homes: Vec::new(alloc),
             alloc,
         }
     }
@@ -98,6 +101,7 @@ impl KeyedLocks {
     }
 
     /// Where the key of a file and a transaction is, or would go.
+    #[inline(always)]
     pub(crate) fn find(&self, file: &FileName, txn: u64) -> Found
         ensures some { Agrees self.now (locks_in self.now) → IfSome result.key (λ key. IsOf self.now.entries key (file.now, txn)) }
         ensures none { Agrees self.now (locks_in self.now) → IfNone result.key (fin.get (locks_in self.now) (file.now, txn) ≡ None) }
@@ -115,6 +119,7 @@ impl KeyedLocks {
     }
 
     // The key at the place of a file in the keys of a transaction, if it's that of an entry of the file.
+    #[inline(always)]
     fn key_at(&self, keys: &[usize], place: usize, file: &FileName) -> Option<usize>
         ensures some { (txn : ℕ) → IsPlaceUnder self.now (file.now, txn) keys.now place → Agrees self.now (locks_in self.now) → IfSome result (λ key. IsOf self.now.entries key (file.now, txn)) }
         ensures none { (txn : ℕ) → IsPlaceUnder self.now (file.now, txn) keys.now place → Agrees self.now (locks_in self.now) → IfNone result (fin.get (locks_in self.now) (file.now, txn) ≡ None) }
@@ -125,6 +130,7 @@ impl KeyedLocks {
     }
 
     /// The lock under a key that was found.
+    #[inline(always)]
     pub(crate) fn lock_at(&self, found: Option<usize>) -> Option<Lock>
         ensures { result ≡ lock_found self.now.entries found }
     {
@@ -134,42 +140,55 @@ impl KeyedLocks {
 
     /// Keeps a new entry, whose key goes to the spot, unless a lock on its file blocks it: then tells that lock's transaction.
     /// Without memory the locks stay as they were.
-    pub(crate) fn insert(&mut self, entry: LockEntry, spot: Spot) -> Result<Option<u64>, AllocError>
+    #[inline(always)]
+    pub(crate) fn insert(
+        &mut self,
+        file: &FileName,
+        txn: u64,
+        lock: Lock,
+        spot: Spot,
+    ) -> Result<Option<u64>, AllocError>
         requires agreed { Agrees self.old (locks_in self.old) }
-        requires absent { fin.get (locks_in self.old) entry.0 ≡ None }
-        requires spot { IsSpotOf self.old entry.0 spot }
-        ensures told { IfOk result (λ by. by ≡ decided entry.0.1 entry.1.mode (on_file (locks_in self.old) entry.0.0)) }
-        ensures ok { IfOk result (λ by. Agrees self.new (state_at by (locks_in self.old) (fin.insert (locks_in self.old) entry.0 entry.1))) }
+        requires absent { fin.get (locks_in self.old) (file.now, txn) ≡ None }
+        requires spot { IsSpotOf self.old (file.now, txn) spot }
+        ensures told { IfOk result (λ by. by ≡ decided txn lock.mode (on_file (locks_in self.old) file.now)) }
+        ensures ok { IfOk result (λ by. Agrees self.new (state_at by (locks_in self.old) (fin.insert (locks_in self.old) (file.now, txn) lock))) }
         ensures err { OnErr result (Agrees self.new (locks_in self.old)) }
     {
-        let in_file = match self.spot_in_file(&entry) {
+        let in_file = match self.spot_in_file(file, txn, lock.mode) {
             Ok(in_file) => in_file,
             Err(by) => return Ok(Some(by)),
         };
         self.entries.reserve(1)?;
-        make_room_under(&mut self.by_file, &entry.file, in_file.index)?;
-        make_room_under(&mut self.by_txn, &entry.txn, spot.index)?;
-        // From here on nothing fails.
+        make_room_under(&mut self.by_txn, &txn, spot.index)?;
         let key = self.entries.vacant_key();
-        put_under(self.alloc, &mut self.by_file, &entry.file, in_file, key);
-        put_under(self.alloc, &mut self.by_txn, &entry.txn, spot, key);
-        self.entries.insert_reserved(entry);
+        let new_list = self.by_file.len();
+        enter_under(self.alloc, &mut self.by_file, file, in_file, key)?;
+        // From here on nothing fails.
+        note_home(&mut self.homes, key, in_file.index.unwrap_or(new_list));
+        put_under(self.alloc, &mut self.by_txn, &txn, spot, key);
+        self.entries.insert_reserved(LockEntry {
+            file: *file,
+            txn,
+            lock,
+        });
         Ok(None)
     }
 
     // Where the key of a new entry goes among the keys of its file, or the transaction whose lock there blocks it.
-    fn spot_in_file(&self, entry: &LockEntry) -> Result<Spot, u64>
-        ensures told { result_err result ≡ decided entry.now.0.1 entry.now.1.mode (told self.now.entries (keys_under same_name self.now.by_file entry.now.0.0)) }
-        ensures index { IfOk result (λ spot. spot.index ≡ index_of same_name self.now.by_file entry.now.0.0) }
-        ensures within { IfOk result (λ spot. spot.place ≤ length (keys_under same_name self.now.by_file entry.now.0.0)) }
-        ensures place { IfOk result (λ spot. RisesTo self.now.entries (keys_under same_name self.now.by_file entry.now.0.0) entry.now.0 spot.place) }
+    #[inline(always)]
+    fn spot_in_file(&self, file: &FileName, txn: u64, mode: Mode) -> Result<Spot, u64>
+        ensures told { result_err result ≡ decided txn mode (told self.now.entries (keys_under same_name self.now.by_file file.now)) }
+        ensures index { IfOk result (λ spot. spot.index ≡ index_of same_name self.now.by_file file.now) }
+        ensures within { IfOk result (λ spot. spot.place ≤ length (keys_under same_name self.now.by_file file.now)) }
+        ensures place { IfOk result (λ spot. RisesTo self.now.entries (keys_under same_name self.now.by_file file.now) (file.now, txn) spot.place) }
     {
-        let list = list_under(&self.by_file, &entry.file);
-        match held_by(&self.entries, list.1, entry.txn, entry.lock.mode) {
+        let list = list_under(&self.by_file, file);
+        match held_by(&self.entries, list.1, txn, mode) {
             Some(by) => Err(by),
             None => Ok(Spot {
                 index: list.0,
-                place: place(&self.entries, list.1, &entry.file, entry.txn),
+                place: place(&self.entries, list.1, file, txn),
             }),
         }
     }
@@ -200,6 +219,7 @@ impl KeyedLocks {
     }
 
     // Takes the entry under a key out of the slab and of the keys of its file.
+    #[inline(always)]
     fn leave_file(&mut self, key: usize)
         ensures left { (name : LockKey) → IsOf self.old.entries key name → LeftFile self.old self.new name }
         ensures by_txn { self.new.by_txn ≡ self.old.by_txn }
@@ -209,7 +229,18 @@ impl KeyedLocks {
         let Some(entry) = self.entries.get(key) else {
             return;
         };
-        take_under(&mut self.by_file, &self.entries, &entry.file, entry, key);
+        let home = match self.homes.get(key) {
+            Some(home) => *home,
+            None => 0,
+        };
+        take_near(
+            &mut self.by_file,
+            &self.entries,
+            &entry.file,
+            entry,
+            key,
+            home,
+        );
         self.entries.remove(key);
     }
 
@@ -221,6 +252,7 @@ impl KeyedLocks {
             entries: self.entries.clone()?,
             by_file: self.by_file.clone()?,
             by_txn: self.by_txn.clone()?,
+            homes: self.homes.clone()?,
             alloc: self.alloc,
         })
     }
@@ -275,6 +307,17 @@ impl KeyedLocks {
     }
 }
 
+/// Notes where the list of the file of a new entry is. Without memory for that it notes nothing.
+#[inline(always)]
+fn note_home(homes: &mut Vec<usize>, key: usize, home: usize) {
+    match homes.get_mut(key) {
+        Some(noted) => *noted = home,
+        None => {
+            let _noted = homes.push(home);
+        }
+    }
+}
+
 /// Makes the locks under these keys stable.
 fn stabilise_each(entries: &mut Slab<LockEntry>, keys: &[usize])
     ensures { (key : ℕ) → get entries.new key ≡ steadied entries.old keys.now key }
@@ -294,6 +337,7 @@ fn stabilise(entries: &mut Slab<LockEntry>, key: usize)
 }
 
 /// The transaction of the first of these entries that is not this one's, where it conflicts with the mode.
+#[inline(always)]
 pub(crate) fn held_by(
     entries: &Slab<LockEntry>,
     keys: &[usize],
@@ -332,15 +376,6 @@ impl<'a> Model for HeldLocks<'a> {
     ghost view = { λ it. told it.entries.now it.keys.now };
 }
 
-impl<'a> HeldLocks<'a> {
-    /// How many locks are left at the most.
-    pub fn most(&self) -> usize
-        ensures { length self.now ≤ result }
-    {
-        self.keys.len()
-    }
-}
-
 impl<'a> Iterator for HeldLocks<'a> {
     ghost use Rattle.std.specs.Iterator.{YieldsFirst, item_count};
 
@@ -350,6 +385,7 @@ impl<'a> Iterator for HeldLocks<'a> {
 
     ghost remaining = { item_count (λ rest. rest) };
 
+    #[inline(always)]
     fn next(&mut self) -> Option<LockEntry> {
         while let Some((key, rest)) = self.keys.split_first() {
             self.keys = rest;

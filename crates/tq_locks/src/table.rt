@@ -164,7 +164,7 @@ impl LockTable {
         match found.key {
             Some(key) => self.kept.set_lock(key, lock),
             None => {
-                let _unblocked = self.kept.insert(LockEntry { file, txn, lock }, found.spot)?;
+                let _unblocked = self.kept.insert(&file, txn, lock, found.spot)?;
             }
         }
         Ok(())
@@ -197,12 +197,7 @@ impl LockTable {
                 }
             },
             None => {
-                let entry = LockEntry {
-                    file: *file,
-                    txn,
-                    lock,
-                };
-                let by = self.kept.insert(entry, found.spot)?;
+                let by = self.kept.insert(file, txn, lock, found.spot)?;
                 Ok(LockOutcome::of(by))
             }
         }

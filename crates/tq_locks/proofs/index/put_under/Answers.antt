@@ -1,7 +1,7 @@
 use Rattle.std.proofs.Common.{cond, subst, ap, sym, ◌∙◌}
 use Rattle.std.specs.List.{insert}
 use Rattle.tq_locks.specs.Keys.{keys_under, HasRoomUnder}
-use Rattle.tq_locks.proofs.Indexed.{roomy, list_there, written}
+use Rattle.tq_locks.proofs.Indexed.{begun, roomy, list_there, written}
 use Rattle.tq_locks.proofs.index.put_under.Goals as goal
 
 pub returns-in-Some-get_index_mut : goal.returns-in-Some-get_index_mut
@@ -15,3 +15,16 @@ returns-in-Some-get_index_mut g c t =
 
 pub returns-in_default : goal.returns-in_default
 returns-in_default g c t = absurd (list_there g.K.PartialEq.eq c.args.lists.now c.args.name.now c.in-Some.index (subst (HasRoomUnder g.K.PartialEq.eq c.args.lists.now c.args.name.now) c.in-Some.is c.requires.room) (sym c.in_default.ensures.value))
+
+pub returns-in-None : goal.returns-in-None
+returns-in-None g c t =
+    let eq = g.K.PartialEq.eq in
+    let m = c.args.lists.now in
+    let n = c.args.name.now in
+    let room = subst (HasRoomUnder eq m n) c.in-None.is c.requires.room in
+    begun eq m c.begin_reserved.new.lists n c.args.spot.place c.args.key room.0 c.requires.within c.begin_reserved.ensures t
+
+pub begin_reserved-requires : goal.begin_reserved-requires
+begin_reserved-requires g c =
+    let room = subst (HasRoomUnder g.K.PartialEq.eq c.args.lists.now c.args.name.now) c.in-None.is c.requires.room in
+    record { room = room.1; absent = room.0 }

@@ -7,5 +7,5 @@ use Rattle.tq_locks.proofs.keyed.KeyedLocks.keep.Goals as goal
 pub returns : goal.returns
 returns c =
     let old = c.args.self.now in
-    let new : KeyedLocks = record { entries = c.stabilise_each.new.entries; by_file = old.by_file; by_txn = old.by_txn; alloc = old.alloc } in
+    let new : KeyedLocks = record { entries = c.stabilise_each.new.entries; by_file = old.by_file; by_txn = old.by_txn; homes = old.homes; alloc = old.alloc } in
     Agrees-kept old new (locks_in old) c.args.txn c.requires (λ k. c.stabilise_each.ensures k ∙ ap (λ keys. steadied old.entries keys k) c.listed_under.ensures) refl refl

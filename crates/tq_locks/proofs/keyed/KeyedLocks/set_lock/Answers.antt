@@ -13,7 +13,7 @@ pub returns-in-Some : goal.returns-in-Some
 returns-in-Some c name is =
     let old = c.args.self.now in
     let value : LockKey × Lock = ((c.entry.inside.file, c.entry.inside.txn), c.args.lock) in
-    let new : KeyedLocks = record { entries = with_value old.entries c.args.key value; by_file = old.by_file; by_txn = old.by_txn; alloc = old.alloc } in
+    let new : KeyedLocks = record { entries = with_value old.entries c.args.key value; by_file = old.by_file; by_txn = old.by_txn; homes = old.homes; alloc = old.alloc } in
     let u = Updates-with_value old.entries c.args.key value (ap is_some is.1) in
     let same : c.in-Some.entry.now ≡ (name, is.0) = some_same c.in-Some.entry.now (name, is.0) (c.in-Some.ensures.value ∙ is.1) in
     let names : (c.entry.inside.file, c.entry.inside.txn) ≡ name = ap (λ (e : LockKey × Lock). e.0) (c.entry.view_is ∙ same) in
