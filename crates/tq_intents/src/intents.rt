@@ -13,7 +13,7 @@ ghost use Rattle.tq_intents.specs.Kept as spec;
 ghost use Rattle.tq_intents.specs.Sharing.{kept};
 ghost use Rattle.tq_intents.specs.Kept.{HasOneVoteEach, HoldsVotesLocks, IsAbove, IsUnfinished, KeepsNewest, kept_copies, kept_votes, vote_at, vote_records};
 
-use crate::{KeptLock, NewerWrite, OpenVote, Record, SharedWrite, VoteLocks};
+use crate::{KeptLock, LockVersions, NewerWrite, OpenVote, Record, SharedWrite, VoteLocks};
 use std::alloc::{AllocError, Global};
 use std::collections::BTreeMap;
 use std::collections::btree_map::Iter;
@@ -433,7 +433,7 @@ fn locks_of(
     ensures { IfOk result (λ locks. locks ≡ filter_map (spec.lock_of txn number) records.now) }
 {
     let mut held = Vec::new(alloc);
-    let mut versions = Vec::new(alloc);
+    let mut versions = LockVersions::new(alloc);
     for record in records {
         if let Some(lock) = lock_of(record, txn, number) {
             held.push(held_of(&lock))?;
@@ -441,7 +441,7 @@ fn locks_of(
         }
     }
     let held = SharedSeq::from_vec(held)?;
-    Ok(VoteLocks::new(held, Seq::from_vec(versions)))
+    Ok(VoteLocks::new(held, versions))
 }
 
 /// A lock of a vote, as the vote lists it.

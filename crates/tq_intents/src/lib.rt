@@ -13,4 +13,4 @@ pub use newer_write::NewerWrite;
 pub use record::{KeptLock, OpenVote, Record};
 pub use shared_lock::SharedLock;
 pub use shared_write::SharedWrite;
-pub use vote_locks::VoteLocks;
+pub use vote_locks::{LockVersions, VoteLocks};

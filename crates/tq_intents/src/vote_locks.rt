@@ -2,17 +2,21 @@ ghost use Rattle.std.specs.Prelude.{◌≡◌, ◌<◌, length, get_or, IfOk};
 ghost use Rattle.tq_intents.specs.Sharing.{kept_each};
 
 use crate::SharedLock;
+use smallvec::SmallVec;
 use std::alloc::AllocError;
 use std::marker::Model;
 use tq_asks::HeldLock;
-use tq_shape::{ExactClone, Seq, SharedSeq};
+use tq_shape::{ExactClone, SharedSeq};
+
+/// The versions of the copies of a vote's locks. Up to four of them need no allocation.
+pub type LockVersions = SmallVec<u64, 4>;
 
 /// The locks that a vote keeps: the list of them that its reply shares, and the versions of their files' copies. Contracts
 /// see the locks alone.
 pub struct VoteLocks {
     held: SharedSeq<HeldLock>,
     /// One for each lock: the version of its file's copy when it was granted.
-    versions: Seq<u64>,
+    versions: LockVersions,
 }
 
 // Written out, so that a crate above lets go of one by a call.
@@ -37,16 +41,16 @@ impl Model for VoteLocks {
 
     ghost use Rattle.tq_intents.specs.Sharing.{kept_each};
 
-    ghost view = { λ a. kept_each a.held a.versions };
+    ghost view = { λ a. kept_each a.held a.versions.items };
 
-    ghost invariant = { λ a. length a.held ≡ length a.versions };
+    ghost invariant = { λ a. length a.held ≡ length a.versions.items };
 }
 
 impl VoteLocks {
     /// Locks, each with its version.
-    pub fn new(held: SharedSeq<HeldLock>, versions: Seq<u64>) -> VoteLocks
-        requires { length held ≡ length versions }
-        ensures { result ≡ kept_each held versions }
+    pub fn new(held: SharedSeq<HeldLock>, versions: LockVersions) -> VoteLocks
+        requires { length held ≡ length versions.items }
+        ensures { result ≡ kept_each held versions.items }
     {
         VoteLocks { held, versions }
     }
@@ -84,7 +88,10 @@ impl Clone for VoteLocks {
     fn clone(&self) -> Result<Self, AllocError> {
         Ok(VoteLocks {
             held: self.held.clone()?,
-            versions: self.versions.clone()?,
+            versions: LockVersions::from_slice(
+                *self.versions.allocator(),
+                self.versions.as_slice(),
+            )?,
         })
     }
 }
