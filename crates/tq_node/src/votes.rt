@@ -6,9 +6,9 @@ ghost use Rattle.tq_node.specs.Walks.{all_held};
 
 use crate::{HeldLock, MOST_WRITES};
 use std::alloc::Global;
-use tq_intents::VoteLocks;
+use tq_intents::{LockVersions, VoteLocks};
 use tq_locks::{HeldLocks, LockTable, Mode};
-use tq_shape::{Memory, Seq, SharedSeq};
+use tq_shape::{Memory, SharedSeq};
 use tq_store::Write;
 
 /// The locks of a transaction, as a vote lists them and as it keeps them: both share one list.
@@ -20,11 +20,10 @@ pub(crate) fn locks_of(
     ensures held { IfOk result (λ locks. locks.0 ≡ map spec.held_lock (held_of table.now txn)) }
     ensures kept { IfOk result (λ locks. locks.1 ≡ map spec.kept_lock (held_of table.now txn)) }
 {
-    let entries = table.locks_of(txn);
-    let most = entries.most();
-    let mut held = Vec::with_capacity(alloc, most)?;
-    let mut versions = Vec::with_capacity(alloc, most)?;
-    for entry in entries {
+    let count = table.keys_of_txn(txn).len();
+    let mut held = Vec::with_capacity(alloc, count)?;
+    let mut versions = LockVersions::with_capacity(alloc, count)?;
+    for entry in table.locks_of(txn) {
         held.push_reserved(HeldLock {
             file: entry.file,
             mode: entry.lock.mode,
@@ -33,7 +32,7 @@ pub(crate) fn locks_of(
         versions.push_reserved(entry.lock.version);
     }
     let held = SharedSeq::from_vec(held)?;
-    let kept = VoteLocks::new(held.clone()?, Seq::from_vec(versions));
+    let kept = VoteLocks::new(held.clone()?, versions);
     Ok((held, kept))
 }
 

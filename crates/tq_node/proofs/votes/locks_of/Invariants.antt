@@ -9,4 +9,4 @@ invariant-loop-entry l =
     (l.held.items ++ map held_lock l.entry-iterator ≡ map held_lock (held_of l.table l.txn))
     × (l.versions.items ++ map version_of l.entry-iterator ≡ map version_of (held_of l.table l.txn))
     × (vec_len l.held + length l.entry-iterator ≤ vec_capacity l.held)
-    × (vec_len l.versions + length l.entry-iterator ≤ vec_capacity l.versions)
+    × (length l.versions.items + length l.entry-iterator ≤ l.versions.capacity)
