@@ -14,9 +14,9 @@ pub type Numbers = SmallVec<u64, 8>;
 pub fn granters(alloc: Global, grants: &[Grant]) -> Result<Numbers, Memory>
     ensures { IfOk result (λ servers. servers.items ≡ spec.granters grants.now) }
 {
-    let mut servers = Numbers::new(alloc);
+    let mut servers = Numbers::with_capacity(alloc, grants.len())?;
     for grant in grants {
-        servers.push(grant.server)?;
+        servers.push_reserved(grant.server);
     }
     Ok(servers)
 }
