@@ -9,3 +9,4 @@ pub mod GoodEvidence
 pub mod KeptVotes
 pub mod CitedLaws
 pub mod SameWrites
+pub mod OneGrant

@@ -1,5 +1,5 @@
 -- Sets of servers by their numbers.
-use Rattle.std.proofs.Common.{◌≡◌, ℕ, ◌-◌, ◌<◌, Bool, true, false, ◌&&◌, ◌||◌, ◌==◌, cond, List, [], ◌∷◌, ◌++◌, Some, length, slice_get, nat_lt, map, refl, sym, ap, ◌∙◌, subst, arith}
+use Rattle.std.proofs.Common.{◌≡◌, ℕ, ◌-◌, ◌<◌, Bool, true, false, ◌&&◌, ◌||◌, ◌==◌, cond, List, [], ◌∷◌, ◌++◌, Some, length, take, drop, slice_get, nat_lt, map, refl, sym, ap, ◌∙◌, subst, arith}
 use Rattle.std.specs.List.{list_all, list_any}
 use Rattle.std.proofs.lemmas.Bool.{and_parts, and_from, eqb-true, lt-ltb, or_parts, false≢true}
 use Rattle.std.proofs.lemmas.Bool.Decides.{nat_tests}
@@ -97,10 +97,23 @@ has-all p (first ∷ rest) n all here =
       | false ↦ λ is more. has-all p rest n parts.1 more
     ] refl here
 
--- the set has the servers of others, found one by one
-pub has_all-map : {X : Type 0} (number : X → ℕ) (ids : List Server) (others : List X) → list_all (λ other. list_any (λ id. id.number == number other) ids) others ≡ list_all (has (numbers_of ids)) (map number others)
-has_all-map number ids [] = refl
-has_all-map number ids (other ∷ others) = λ i. sym (has-map (λ (id : Server). id.number) ids (number other)) i && has_all-map number ids others i
+take_whole : {X : Type 0} (xs : List X) → take (length xs) xs ≡ xs
+take_whole [] = refl
+take_whole (x ∷ xs) = ap (λ ys. x ∷ ys) (take_whole xs)
+
+-- a set has still more with a further number
+pub all_later : (first : ℕ) (set numbers : List ℕ) → list_all (has set) numbers ≡ true → list_all (has (first ∷ set)) numbers ≡ true
+all_later first set [] all = refl
+all_later first set (number ∷ numbers) all =
+    let parts = and_parts (has set number) (list_all (has set) numbers) all in
+    and_from (has (first ∷ set) number) (list_all (has (first ∷ set)) numbers) (held (first == number) (has set number) parts.0) (all_later first set numbers parts.1)
+
+pub all_after : (ids : List Server) (numbers : List ℕ) → list_all (has (numbers_of (take (length ids - 1) (drop 1 ids)))) numbers ≡ true → list_all (has (numbers_of ids)) numbers ≡ true
+all_after [] numbers all = all
+all_after (id ∷ ids) numbers all =
+    let len : length (id ∷ ids) - 1 ≡ length ids = omega arith in
+    let rest : take (length (id ∷ ids) - 1) ids ≡ ids = ap (λ n. take n ids) len ∙ take_whole ids in
+    all_later id.number (numbers_of ids) numbers (subst (λ left. list_all (has (numbers_of left)) numbers ≡ true) rest all)
 
 -- a set that has each of the servers does not grow by them
 pub with_numbers-held : (set numbers : List ℕ) → list_all (has set) numbers ≡ true → with_numbers set numbers ≡ set

@@ -14,7 +14,7 @@ use Rattle.tq_desk.specs.declared.ask.DeskAsk.TheVariants.{Commit}
 use Rattle.tq_evidence.specs.declared.grant.Grant.{Grant}
 use Rattle.tq_evidence.specs.declared.op.Op.{Op}
 use Rattle.tq_evidence.specs.declared.vote.Vote.{Vote}
-use Rattle.tq_evidence.specs.Evidence.{is_write, has_server, is_server_of, covers, votes_rise, are_of_servers, has_writes, is_some_op}
+use Rattle.tq_evidence.specs.Evidence.{is_write, has_server, is_server_of, covers, rises, servers_of, votes_rise, are_of_servers, has_writes, is_some_op}
 use Rattle.tq_states.specs.declared.told.NodeTold.{NodeTold}
 use Rattle.tq_states.specs.declared.fault.TxnFault.{TxnFault}
 use Rattle.tq_states.specs.declared.fault.TxnFault.TheVariants.{NotAVoter, NotMyVote, LostLock, VotesMissing}
@@ -42,6 +42,10 @@ write_in op = record { file = op.file; version = op.version; content = op.conten
 abbrev pub writes_at : List Op → ℕ → List Write
 writes_at ops server = map write_in (filter (λ op. has_server op server) (writes_in ops))
 
+-- all that the operations write, they write at the server
+abbrev pub writes_all_at : List Op → ℕ → Bool
+writes_all_at ops server = list_all (λ op. not (is_write op) || has_server op server) ops
+
 -- the work that a voter is asked for its vote
 abbrev pub prepare_work : OpenView → ℕ → WorkAsk
 prepare_work old server = Prepare old.txn (writes_at old.ops server)
@@ -49,6 +53,11 @@ prepare_work old server = Prepare old.txn (writes_at old.ops server)
 -- the ask for a voter's vote
 abbrev pub prepare_ask : OpenView → ℕ → NodeAsk
 prepare_ask old server = Work (Prepare old.txn (writes_at old.ops server))
+
+-- an ask that is kept has all that the transaction writes
+abbrev pub HasWhole : OpenView → Option NodeAsk → Type 0
+HasWhole old None = Unit {0}
+HasWhole old (Some ask) = ask ≡ Work (Prepare old.txn (map write_in (writes_in old.ops)))
 
 abbrev pub ask_fault : OpenView → ℕ → Option TxnFault
 ask_fault old server = refuse (not (is_server_of old.ops server)) NotAVoter None
@@ -121,6 +130,10 @@ pub record IsGoodVote (ops : List Op) (vote : Vote) : Type 0 where
   pub voter : is_server_of ops vote.server ≡ true
   pub covered : list_all (covers_op vote) ops ≡ true
   pub writes : has_writes (writes_in ops) vote ≡ true
+
+-- the servers of each operation ascend
+abbrev pub have_order : List Op → Bool
+have_order ops = list_all (λ op. rises (servers_of op)) ops
 
 -- what a transaction that gathers votes keeps beside: votes that are good evidence as far as they go
 pub record IsVoting (old : VotingView) : Type 0 where

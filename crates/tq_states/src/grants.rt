@@ -26,7 +26,7 @@ pub(crate) fn grants_of(
     let mut grants = Vec::with_capacity(alloc, answers.len())?;
     for told in answers {
         match grant_of(kind, txn, file, told)? {
-            Some(grant) => grants.push(grant)?,
+            Some(grant) => grants.push_reserved(grant),
             None => return Err(TxnFault::NotAGrant {
                 server: told.server,
             }),
@@ -36,6 +36,7 @@ pub(crate) fn grants_of(
 }
 
 /// The grant that an answer tells of.
+#[inline(always)]
 fn grant_of(
     kind: OpKind,
     txn: u64,

@@ -371,7 +371,7 @@ impl Open {
     {
         let voters = self.voters.make_room_for(op.grants.as_slice())?;
         let touched = self.touched.make_room_for(op.grants.as_slice())?;
-        make_room(&mut self.ops)?;
+        self.ops.reserve(1)?;
         self.voters.grow(voters, op.grants.as_slice());
         self.touched.grow(touched, op.grants.as_slice());
         put_in_order(&mut self.ops, op);
@@ -421,18 +421,6 @@ fn put_in_order(ops: &mut Vec<Op>, op: Op)
 {
     let place = place_of(ops.as_slice(), &op.file);
     let _room_was_made = ops.insert(place, op);
-}
-
-/// Makes room for one operation more. Most transactions have one, so the first takes no more than its own.
-fn make_room(ops: &mut Vec<Op>) -> Result<(), Memory>
-    ensures room { OnOk result (vec_len ops.new < vec_capacity ops.new) }
-    ensures items { ops.new.items ≡ ops.old.items }
-{
-    if ops.is_empty() {
-        ops.reserve_exact(1)
-    } else {
-        ops.reserve(1)
-    }
 }
 
 /// The place of the first operation on a later file, or the end.

@@ -1,6 +1,6 @@
 ghost use Rattle.std.specs.Prelude.{◌≡◌, ◌==◌, ◌+◌, ◌<◌, ◌≤◌, [], true, length, nat_lt, position, IfOk, IfSome, IsTrue, OnOk};
 ghost use Rattle.std.specs.List.{list_all, list_any};
-ghost use Rattle.tq_coterie.specs.Coterie.{is_quorum, numbers_of};
+ghost use Rattle.tq_coterie.specs.Coterie.{has, is_quorum, numbers_of};
 ghost use Rattle.tq_evidence.specs.Evidence.{granters, rises};
 ghost use Rattle.tq_states.specs.Sets.{IsReady, IsServerSet, put, with_number, with_numbers};
 ghost use Rattle.tq_states.specs.Places.{place_before};
@@ -171,18 +171,40 @@ fn has_number(ids: &[ServerId], number: u64) -> bool
     ids.iter().any(|id| id.number() == number)
 }
 
-/// Whether all the others are among the servers.
+/// Whether all the others are among the servers, as one walk along both finds them where both ascend.
 fn has_all(ids: &[ServerId], others: &[ServerId]) -> bool
-    ensures { result ≡ list_all (λ other. list_any (λ id. id.number == other.number) ids.now) others.now }
+    ensures { IsTrue result → list_all (has (numbers_of ids.now)) (numbers_of others.now) ≡ true }
 {
-    others.iter().all(|other| has_number(ids, other.number()))
+    match others {
+        [] => true,
+        [other, ..] => match ids {
+            [] => false,
+            [id, ..] => {
+                if id.number() == other.number() {
+                    return has_all(ids, &others[1..]);
+                }
+                has_all(&ids[1..], others)
+            }
+        },
+    }
 }
 
-/// Whether the servers of all the grants are among the servers.
+/// The same for the servers of the grants.
 fn have_all(ids: &[ServerId], grants: &[Grant]) -> bool
-    ensures { result ≡ list_all (λ grant. list_any (λ id. id.number == grant.server) ids.now) grants.now }
+    ensures { IsTrue result → list_all (has (numbers_of ids.now)) (granters grants.now) ≡ true }
 {
-    grants.iter().all(|grant| has_number(ids, grant.server))
+    match grants {
+        [] => true,
+        [grant, ..] => match ids {
+            [] => false,
+            [id, ..] => {
+                if id.number() == grant.server {
+                    return have_all(ids, &grants[1..]);
+                }
+                have_all(&ids[1..], grants)
+            }
+        },
+    }
 }
 
 /// Puts the server before the first above it, in a list that has room.

@@ -1,4 +1,4 @@
-ghost use Rattle.std.specs.Prelude.{◌≡◌, ◌<◌, ◌≤◌, length, nat_lt, position, true, IfOk, IfSome, IsTrue, OnOk, OnErr};
+ghost use Rattle.std.specs.Prelude.{◌≡◌, ◌==◌, ◌<◌, ◌≤◌, is_some, length, nat_lt, position, true, IfOk, IfSome, IsTrue, OnOk, OnErr};
 ghost use Rattle.std.specs.List.{list_all};
 ghost use Rattle.std.specs.Option.{option_copied};
 ghost use Rattle.tq_evidence.specs.Evidence as evidence;
@@ -14,6 +14,7 @@ use tq_shape::{Memory, ServerId, SharedSeq};
 use tq_store::{FileName, Write};
 
 /// The vote for the transaction that an answer tells of.
+#[inline(always)]
 pub(crate) fn vote_of(txn: u64, told: &NodeTold) -> Result<Option<Vote>, Memory>
     ensures value { IfOk result (λ vote. vote ≡ spec.vote_of txn told.now) }
     ensures server { IfOk result (λ vote. IfSome vote (λ v. v.server ≡ told.now.server)) }
@@ -46,6 +47,48 @@ pub(crate) fn is_server_of(ops: &[Op], server: u64) -> bool
     ops.iter().any(|op| op.has_server(server))
 }
 
+/// Where the server's grant stands in the first operation that has one.
+pub(crate) fn place_of_server(ops: &[Op], server: u64) -> Option<usize>
+    ensures { is_some result ≡ evidence.is_server_of ops.now server }
+{
+    match ops {
+        [] => None,
+        [op, ..] => match place_in(op, server) {
+            Some(place) => Some(place),
+            None => place_of_server(&ops[1..], server),
+        },
+    }
+}
+
+/// Where the server's grant stands in an operation.
+#[inline(always)]
+fn place_in(op: &Op, server: u64) -> Option<usize>
+    ensures { is_some result ≡ evidence.has_server op.now server }
+{
+    place_among(op.grants.as_slice(), server)
+}
+
+#[inline(always)]
+fn place_among(grants: &[Grant], server: u64) -> Option<usize>
+    ensures { result ≡ position (λ grant. grant.server == server) grants.now }
+{
+    grants.iter().position(|grant| grant.server == server)
+}
+
+/// Whether a server granted a lock to the operation: its grant likely stands at the place.
+#[inline(always)]
+fn has_server_at(op: &Op, server: u64, place: usize) -> bool
+    ensures { result ≡ evidence.has_server op.now server }
+{
+    let grants = op.grants.as_slice();
+    if let Some(grant) = grants.get(place) {
+        if grant.server == server {
+            return true;
+        }
+    }
+    op.has_server(server)
+}
+
 /// What the operations write at a server, by file.
 pub(crate) fn writes_at(alloc: Global, ops: &[Op], server: u64) -> Result<SharedSeq<Write>, Memory>
     ensures { IfOk result (λ writes. writes ≡ spec.writes_at ops.now server) }
@@ -71,53 +114,99 @@ fn write_in(op: &Op) -> Result<Write, Memory>
 
 /// Whether the ask is the one for the server's vote.
 pub(crate) fn is_ask_at(ask: &NodeAsk, txn: u64, ops: &[Op], server: u64) -> bool
-    ensures voter { IsTrue result → evidence.is_server_of ops.now server ≡ true }
-    ensures ask { IsTrue result → ask.now ≡ NodeAsk.Work (WorkAsk.Prepare txn (spec.writes_at ops.now server)) }
+    ensures { IsTrue result → ask.now ≡ NodeAsk.Work (WorkAsk.Prepare txn (spec.writes_at ops.now server)) }
 {
     let NodeAsk::Work(work) = ask else {
         return false;
     };
-    let WorkAsk::Prepare { txn: voter, writes } = work.get() else {
+    let WorkAsk::Prepare { txn: asker, writes } = work.get() else {
         return false;
     };
-    if *voter != txn || !is_server_of(ops, server) {
+    if *asker != txn {
         return false;
     }
-    are_writes_at(server, writes.as_slice(), ops)
+    are_writes_at(server, writes.as_slice(), ops, 0)
 }
 
-/// Whether the writes voted are those of the operations at the server.
-pub(crate) fn are_writes_at(server: u64, voted: &[Write], ops: &[Op]) -> bool
+/// Whether all that the operations write, they write at the server: its grants likely stand at the place.
+pub(crate) fn writes_all_at(ops: &[Op], server: u64, place: usize) -> bool
+    ensures { result ≡ spec.writes_all_at ops.now server }
+{
+    ops.iter()
+        .all(|op| !op.is_write() || has_server_at(op, server, place))
+}
+
+/// Whether the writes voted are those of the operations at the server: its grants likely stand at the place.
+pub(crate) fn are_writes_at(server: u64, voted: &[Write], ops: &[Op], place: usize) -> bool
     ensures { result ≡ evidence.are_writes_at server voted.now (spec.writes_in ops.now) }
 {
     match ops {
         [] => voted.is_empty(),
         [op, ..] => {
-            if !op.is_write() || !op.has_server(server) {
-                return are_writes_at(server, voted, &ops[1..]);
+            if !op.is_write() || !has_server_at(op, server, place) {
+                return are_writes_at(server, voted, &ops[1..], place);
             }
             match voted {
                 [] => false,
-                [write, ..] => op.makes(write) && are_writes_at(server, &voted[1..], &ops[1..]),
+                [write, ..] => {
+                    op.makes(write) && are_writes_at(server, &voted[1..], &ops[1..], place)
+                }
             }
         }
     }
 }
 
-/// The least file of which the vote does not cover a grant.
-pub(crate) fn lost(ops: &[Op], vote: &Vote) -> Option<FileName>
+/// The least file of which the vote does not cover a grant. The grants of its server likely stand at the place, and the
+/// vote's locks where the operations stand.
+pub(crate) fn lost(ops: &[Op], vote: &Vote, place: usize, lock: usize) -> Option<FileName>
+    requires { spec.have_order ops.now ≡ true }
     ensures { result ≡ spec.lost ops.now vote.now }
 {
-    ops.iter().find(|op| !covers_op(vote, op)).map(|op| op.file)
+    match ops {
+        [] => None,
+        [op, ..] => {
+            if !covers_op(vote, op, place, lock) {
+                return Some(op.file);
+            }
+            lost(&ops[1..], vote, place, lock.wrapping_add(1))
+        }
+    }
 }
 
-fn covers_op(vote: &Vote, op: &Op) -> bool
+/// Whether the vote covers the grants of its server, of which there is one at most.
+#[inline(always)]
+fn covers_op(vote: &Vote, op: &Op, place: usize, lock: usize) -> bool
+    requires { evidence.rises (evidence.servers_of op.now) ≡ true }
     ensures { result ≡ spec.covers_op vote.now op.now }
 {
     let grants = op.grants.as_slice();
+    if let Some(grant) = grants.get(place) {
+        if grant.server == vote.server {
+            return covers_at(vote, op.file, grant, lock);
+        }
+    }
     grants
         .iter()
         .all(|grant| covers_grant(vote, op.file, grant))
+}
+
+/// Whether the vote covers the grant of its server: its lock likely stands at the place.
+#[inline(always)]
+fn covers_at(vote: &Vote, file: FileName, grant: &Grant, lock: usize) -> bool
+    ensures { result ≡ evidence.covers file grant.now vote.now }
+{
+    if vote.server != grant.server {
+        return false;
+    }
+    if grant.number >= vote.number {
+        return false;
+    }
+    if let Some(held) = vote.held.as_slice().get(lock) {
+        if held.file == file && held.since <= grant.number {
+            return true;
+        }
+    }
+    vote.holds_since(file, grant.number)
 }
 
 fn covers_grant(vote: &Vote, file: FileName, grant: &Grant) -> bool

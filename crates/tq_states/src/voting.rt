@@ -9,7 +9,8 @@ ghost use Rattle.tq_states.specs.Voting as spec;
 
 use crate::open::copy_of;
 use crate::votes::{
-    are_writes_at, has_vote, has_votes, is_ask_at, is_server_of, lost, put_vote, vote_of, writes_at,
+    are_writes_at, has_vote, has_votes, is_ask_at, is_server_of, lost, place_of_server, put_vote,
+    vote_of, writes_all_at, writes_at,
 };
 use crate::{DeskTold, Ended, NodeTold, Open, Ready, TxnFault};
 use std::alloc::Global;
@@ -22,8 +23,7 @@ use tq_shape::{Memory, ServerId, Shared, SharedSeq};
 pub struct Voting {
     txn: Open,
     votes: Vec<Vote>,
-    /// The ask of the vote that was taken last: the next server's, where it is the same, shares it. Contracts do not see
-    /// it.
+    /// An ask with all that the transaction writes: that of each server where it writes all of it. Contracts do not see it.
     asked: Option<NodeAsk>,
 }
 
@@ -39,13 +39,13 @@ impl Drop for Voting {
 }
 
 impl Model for Voting {
-    ghost use Rattle.tq_states.specs.Voting.{VotingView, IsVoting};
+    ghost use Rattle.tq_states.specs.Voting.{VotingView, IsVoting, HasWhole};
 
     ghost Value = { VotingView };
 
     ghost view = { λ a. record { txn = a.txn; votes = a.votes.items } };
 
-    ghost invariant = { λ a. IsVoting (record { txn = a.txn; votes = a.votes.items }) };
+    ghost invariant = { λ a. IsVoting (record { txn = a.txn; votes = a.votes.items }) × HasWhole a.txn a.asked };
 }
 
 impl Voting {
@@ -108,17 +108,22 @@ impl Voting {
         }
     }
 
-    /// The ask for the server's vote, where it is that of the vote that was taken last.
+    /// The ask for the server's vote, where it is the one that is kept.
     fn asked_before(&self, server: u64) -> Result<Option<NodeAsk>, Memory>
         ensures voter { IfOk result (λ found. IfSome found (λ ask. spec.ask_fault self.now.txn server ≡ None)) }
         ensures ask { IfOk result (λ found. IfSome found (λ ask. ask ≡ spec.prepare_ask self.now.txn server)) }
     {
-        match &self.asked {
-            Some(ask) if is_ask_at(ask, self.txn.txn(), self.txn.ops(), server) => {
-                Ok(Some(ask.clone()?))
-            }
-            _ => Ok(None),
+        let Some(ask) = &self.asked else {
+            return Ok(None);
+        };
+        let ops = self.txn.ops();
+        let Some(place) = place_of_server(ops, server) else {
+            return Ok(None);
+        };
+        if !writes_all_at(ops, server, place) {
+            return Ok(None);
         }
+        Ok(Some(ask.clone()?))
     }
 
     /// The work that a voter is asked for its vote.
@@ -149,20 +154,19 @@ impl Voting {
         ensures err { OnErr result (self.new ≡ self.old) }
     {
         let ops = self.txn.ops();
-        if !is_server_of(ops, told.server) {
+        let Some(place) = place_of_server(ops, told.server) else {
             return Err(TxnFault::NotAVoter);
-        }
+        };
         let Some(vote) = vote_of(self.txn.txn(), told)? else {
             return Err(TxnFault::NotMyVote);
         };
-        if !are_writes_at(vote.server, vote.writes.as_slice(), ops) {
+        if !are_writes_at(vote.server, vote.writes.as_slice(), ops, place) {
             return Err(TxnFault::NotMyVote);
         }
-        if let Some(file) = lost(ops, &vote) {
+        if let Some(file) = lost(ops, &vote, place, 0) {
             return Err(TxnFault::LostLock { file });
         }
-        let asked = told.ask.clone()?;
-        self.put(vote, asked)?;
+        self.put(vote, &told.ask)?;
         Ok(())
     }
 
@@ -173,15 +177,47 @@ impl Voting {
     }
 
     /// Puts a good vote at its place, and keeps the ask that it answers.
-    fn put(&mut self, vote: Vote, asked: NodeAsk) -> Result<(), Memory>
+    #[inline(always)]
+    fn put(&mut self, vote: Vote, asked: &NodeAsk) -> Result<(), Memory>
         requires { spec.IsGoodVote self.old.txn.ops vote }
         ensures after { OnOk result (self.new ≡ record self.old { votes = spec.with_vote vote self.old.votes }) }
         ensures txn { self.new.txn ≡ self.old.txn }
         ensures kept { OnOk result (spec.KeepsVotes self.old.votes self.new.votes) }
         ensures err { OnErr result (self.new ≡ self.old) }
     {
+        self.make_room()?;
+        self.keep(vote.server, asked)?;
         put_vote(&mut self.votes, vote)?;
-        self.asked = Some(asked);
+        Ok(())
+    }
+
+    /// Makes room for the votes of all voters, where there is none yet.
+    #[inline(always)]
+    fn make_room(&mut self) -> Result<(), Memory>
+        ensures { self.new ≡ self.old }
+    {
+        if !self.votes.is_empty() {
+            return Ok(());
+        }
+        self.votes.reserve_exact(self.txn.voters().len())?;
+        Ok(())
+    }
+
+    /// Keeps the ask of a server, if it has all that the transaction writes and none is kept.
+    #[inline(always)]
+    fn keep(&mut self, server: u64, asked: &NodeAsk) -> Result<(), Memory>
+        ensures { self.new ≡ self.old }
+    {
+        if self.asked.is_some() {
+            return Ok(());
+        }
+        let ops = self.txn.ops();
+        if !writes_all_at(ops, server, 0) {
+            return Ok(());
+        }
+        if is_ask_at(asked, self.txn.txn(), ops, server) {
+            self.asked = Some(asked.clone()?);
+        }
         Ok(())
     }
 

@@ -1,4 +1,4 @@
-use Rattle.std.proofs.Common.{◌∙◌, sym, ap}
+use Rattle.std.proofs.Common.{◌∙◌, ap}
 use Rattle.tq_coterie.specs.Coterie.{is_quorum}
 use Rattle.tq_evidence.specs.Evidence.{granters}
 use Rattle.tq_states.proofs.Tested.{rise_too}

@@ -4,8 +4,8 @@ use Rattle.tq_states.specs.Voting.{writes_in}
 use Rattle.tq_states.proofs.SameWrites.{writes_at-are}
 use Rattle.tq_states.proofs.votes.is_ask_at.Goals as goal
 
-pub returns-clause-ask : goal.returns-clause-ask
-returns-clause-ask c is =
+pub returns : goal.returns
+returns c is =
     let writes = writes_at-are c.args.server c.in-Prepare.writes c.args.ops.now
     ((λ i. are_writes_at c.args.server (sym c.as_slice.ensures i) (writes_in c.args.ops.now)) ∙ sym c.are_writes_at.ensures ∙ is) in
     search (rules, writes)

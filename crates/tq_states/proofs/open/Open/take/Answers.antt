@@ -28,7 +28,7 @@ pub invariant_of-self-2 : goal.invariant_of-self-2
 invariant_of-self-2 c =
     let f = c.self.inside in
     let good = rw (← c.self.view_is) at c.requires in
-    let ops = c.put_in_order.ensures ∙ ap (λ ops. with_op ops c.args.op) c.make_room.ensures.items in
+    let ops = c.put_in_order.ensures ∙ ap (λ ops. with_op ops c.args.op) c.reserve.ensures.items in
     let voters : c.grow.new.self.servers ≡ with_numbers f.voters.servers (granters c.args.op.grants) = c.grow.ensures.servers ∙ λ i. with_numbers (c.make_room_for.ensures.servers i) (granters (c.as_slice-3.ensures i)) in (
       IsOpen-with record { levels = f.levels; limits = f.limits; txn = f.txn; ops = f.ops.items; voters = f.voters.servers; touched = f.touched.servers } c.args.op _ _ _ ops voters good c.self.invariant.0,
       (c.grow.ensures.levels ∙ c.make_room_for.ensures.levels ∙ c.self.invariant.1.0, c.grow-2.ensures.levels ∙ c.make_room_for-2.ensures.levels ∙ c.self.invariant.1.1),
