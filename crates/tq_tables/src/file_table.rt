@@ -145,6 +145,7 @@ impl FileTable {
     }
 
     /// In the rows of these files the server stands where its copies say. It takes no memory.
+    #[inline(always)]
     pub(crate) fn stand_all(&mut self, node: &Node, raised: &Raised)
         requires { node.now.levels ≡ self.old.levels }
         ensures levels { self.new.levels ≡ self.old.levels }

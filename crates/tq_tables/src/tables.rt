@@ -22,7 +22,7 @@ use std::marker::Model;
 use tq_asks::{NodeAsk, NodeReply};
 use tq_desk::{Desk, DeskAsk, DeskReply, Op};
 use tq_live::{Least, View, ViewAsk, ViewReply};
-use tq_node::Node;
+use tq_node::{Node, Telling};
 use tq_shape::{Levels, Memory, Part};
 
 /// The servers, the desk and the view that the tables follow, and rows that say how these stand: the least quorum of
@@ -125,13 +125,14 @@ impl Tables {
     {
         let parts: &mut Parts = &mut self.parts;
         let files: &mut FileTable = &mut self.files;
-        let telling = parts.ask_node(alloc, server, number, ask)?;
+        let Telling {
+            entered,
+            told,
+            raised,
+        } = parts.ask_node(alloc, server, number, ask)?;
         let node = parts.node(server);
-        files.stand_all(node, &telling.raised);
-        Ok(Replies {
-            entered: telling.entered,
-            told: telling.told,
-        })
+        files.stand_all(node, &raised);
+        Ok(Replies { entered, told })
     }
 
     /// Asks the view. No row of files changes. Out of memory leaves the tables as they were.

@@ -38,7 +38,7 @@ node-node-requires c =
     let many = ap (λ (t : TablesView). length t.nodes) view_is in
     let less : c.args.server - 1 < length parts.nodes = omega (arith, there.0, there.1, many) in
     let old = node_in parts.nodes c.args.server in
-    let after = c.in_ok-telling.ensures.after old (node_in-at parts.nodes c.args.server less) in
+    let after = c.in_ok-entered.ensures.after old (node_in-at parts.nodes c.args.server less) in
     let count = ap (λ (p : PartsView). length p.nodes) after ∙ length-set-nodes parts.nodes (c.args.server - 1) (answered old c.args.number c.args.ask.now) in
     (there.0, omega (arith, there.1, many, count))
 
@@ -50,7 +50,7 @@ stand_all-requires c =
     let there = is_there c.args.self.now c.args.server c.args.number c.requires in
     let many = ap (λ (t : TablesView). length t.nodes) view_is in
     let less : c.args.server - 1 < length parts.nodes = omega (arith, there.0, there.1, many) in
-    let after = c.in_ok-telling.ensures.after (node_in parts.nodes c.args.server) (node_in-at parts.nodes c.args.server less) in
+    let after = c.in_ok-entered.ensures.after (node_in parts.nodes c.args.server) (node_in-at parts.nodes c.args.server less) in
     c.node-node.ensures.of_tree ∙ ap (λ (p : PartsView). p.view.levels) after ∙ same
 
 pub invariant_of-self-2 : goal.invariant_of-self-2
@@ -61,7 +61,7 @@ invariant_of-self-2 c =
     let there = is_there c.args.self.now c.args.server c.args.number c.requires in
     let many = ap (λ (t : TablesView). length t.nodes) view_is in
     let less : c.args.server - 1 < length parts.nodes = omega (arith, there.0, there.1, many) in
-    let after = c.in_ok-telling.ensures.after (node_in parts.nodes c.args.server) (node_in-at parts.nodes c.args.server less) in
+    let after = c.in_ok-entered.ensures.after (node_in parts.nodes c.args.server) (node_in-at parts.nodes c.args.server less) in
     ap (λ (p : PartsView). p.view.levels) after ∙ same ∙ sym c.stand_all.ensures.levels
 
 pub returns-clause-replies : goal.returns-clause-replies
@@ -72,7 +72,7 @@ returns-clause-replies c =
     let there = is_there c.args.self.now server c.args.number c.requires in
     let many = ap (λ (t : TablesView). length t.nodes) view_is in
     let less : server - 1 < length nodes = omega (arith, there.0, there.1, many) in
-    let told = c.in_ok-telling.ensures.replies (node_in nodes server) (node_in-at nodes server less) in
+    let told = c.in_ok-entered.ensures.replies (node_in nodes server) (node_in-at nodes server less) in
     (λ i. record { entered = told.0 i; told = told.1 i })
     ∙ ap (λ (t : TablesView). both (node_reply (node_in t.nodes server).server (node_in t.nodes server).state c.args.ask.now)) view_is
 
@@ -92,18 +92,18 @@ returns-clause-asked c = λ journals reply legal stand.
     let old = node_in parts.nodes server in
     let at = node_in-at parts.nodes server less in
     let node = answered old c.args.number ask in
-    let after = c.in_ok-telling.ensures.after old at in
+    let after = c.in_ok-entered.ensures.after old at in
     let node_is : c.node-node.result.now ≡ node =
     c.node-node.ensures.value
     ∙ ap (λ (p : PartsView). get_or p.nodes (server - 1) c.node-node.result.now) after
     ∙ get_or-put parts.nodes (server - 1) node c.node-node.result.now less in
     let whole = view_is ∙ stand in
     let of_tree = of_tree-at journals.levels journals.servers parts.nodes parts.view.levels (ap (λ (t : TablesView). t.nodes) whole) (ap (λ (t : TablesView). t.view.levels) whole) in
-    let stands = rows-stand parts of_tree server there.0 within old node at refl refl (raised_files c.in_ok-telling.telling.raised) (c.in_ok-telling.ensures.raised old at) rows journals
+    let stands = rows-stand parts of_tree server there.0 within old node at refl refl (raised_files c.in_ok-entered.field-0.raised) (c.in_ok-entered.ensures.raised old at) rows journals
     (rows-at parts rows c.args.self.now view_is journals stand) in
     let files : c.stand_all.new.self.rows ≡ file_rows c.args.self.now.view.levels c.ask_node.new.self.nodes list =
     c.stand_all.ensures.rows
-    ∙ (λ i. spec.all_stood (node_is i) rows (raised_files c.in_ok-telling.telling.raised))
+    ∙ (λ i. spec.all_stood (node_is i) rows (raised_files c.in_ok-entered.field-0.raised))
     ∙ stands
     ∙ (λ i. file_rows (view_is i).view.levels (sym after i).nodes list) in
     let at_now = at ∙ ap (λ (t : TablesView). get_or t.nodes (server - 1) old) view_is in
