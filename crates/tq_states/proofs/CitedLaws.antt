@@ -1,8 +1,9 @@
 -- What is kept stands among what was told, from one answer to the next.
-use Rattle.std.proofs.Common.{◌≡◌, ◌==◌, ℕ, Bool, true, false, ◌&&◌, cond, List, [], ◌∷◌, ◌++◌, nat_lt, Some, None, refl, sym, ap, ◌∙◌, subst}
+use Rattle.std.proofs.Common.{◌≡◌, ◌==◌, ℕ, Bool, true, false, ◌&&◌, cond, List, [], ◌∷◌, ◌++◌, nat_lt, Some, None, Result, Ok, Err, refl, sym, ap, ◌∙◌, subst}
 use Rattle.std.specs.Cmp.Lexicographic.{same_text}
 use Rattle.std.specs.List.{All, Contains, cons_option}
 use Rattle.std.specs.Option.{unwrap_or}
+use Rattle.std.specs.Prelude.{OnOk}
 use Rattle.std.proofs.lemmas.Bool.{and_parts, eqb-true}
 use Rattle.std.proofs.lemmas.List.Elements.{All-cons, All-head, All-nil, All-tail, All-weaker, Contains-append_left, Contains-append_right, Contains-push}
 use Rattle.std.specs.Ordering.{is_lt}
@@ -20,7 +21,7 @@ use Rattle.tq_evidence.specs.declared.op.OpKind.{OpKind}
 use Rattle.tq_evidence.specs.declared.vote.Vote.{Vote}
 use Rattle.tq_store.specs.Names.{same_name}
 use Rattle.tq_states.specs.declared.told.NodeTold.{NodeTold}
-use Rattle.tq_states.specs.Cited.{grant_told, vote_told, CitesOnly, IsOpTold, IsVoteTold, KeepsOnly, VotesOnly}
+use Rattle.tq_states.specs.Cited.{grant_told, answers_of, vote_told, CitesOnly, IsOpTold, IsVoteTold, KeepsOnly, VotesOnly}
 use Rattle.tq_states.specs.Open.{OpenView, fits, granted_by, grant_of, grants_of, taken, rewritten}
 use Rattle.tq_evidence.specs.Evidence.{writes_file}
 use Rattle.tq_states.specs.Sets.{put, changed}
@@ -92,6 +93,17 @@ op_told kind txn file told answers =
     All-weaker (λ (grant : Grant). Contains answers (grant_told txn file grant)) (λ (grant : Grant). Contains (told ++ answers) (grant_told txn file grant))
     (λ grant here. Contains-append_right told answers (grant_told txn file grant) here) (grants_of kind txn file answers) (grants_told kind txn file answers)
 
+-- the answers of grants tell each of them
+all_told : (txn : ℕ) (file : List ℕ) (grants : List Grant) → All (λ grant. Contains (answers_of txn file grants) (grant_told txn file grant)) grants
+all_told txn file [] = All-nil (λ (grant : Grant). Contains [] (grant_told txn file grant))
+all_told txn file (first ∷ rest) =
+    let told = grant_told txn file first in
+    let P : Grant → Type 0 = λ grant. Contains (told ∷ answers_of txn file rest) (grant_told txn file grant) in
+    let here : P first = Contains-append_left (told ∷ []) (answers_of txn file rest) told (Contains-push [] told) in
+    let later : All P rest =
+    All-weaker (λ (grant : Grant). Contains (answers_of txn file rest) (grant_told txn file grant)) P (λ grant is. Contains-append_right (told ∷ []) (answers_of txn file rest) (grant_told txn file grant) is) rest (all_told txn file rest) in
+    All-cons P first rest here later
+
 -- ---- a transaction that reads and writes
 
 taken_keeps : (old : OpenView) (op : Op) (told answers : List NodeTold) → IsOpTold old.txn (told ++ answers) op → KeepsOnly told old → KeepsOnly (told ++ answers) (taken old op)
@@ -142,6 +154,21 @@ taken_cited kind old new op answers is grants told kept =
     let P : List Grant → Type 0 = λ gs. All (λ grant. Contains (told ++ answers) (grant_told old.txn op.file grant)) gs in
     let here : IsOpTold old.txn (told ++ answers) op = subst P (sym grants) (op_told kind old.txn op.file told answers) in
     subst (KeepsOnly (told ++ answers)) (sym is) (taken_keeps old op told answers here kept)
+
+-- the same of a call that may have failed
+pub taken_cited_if : {A E : Type 0} (result : Result A E) (kind : OpKind) (old new : OpenView) (op : Op) (answers : List NodeTold) → OnOk result (new ≡ taken old op) → op.grants ≡ grants_of kind old.txn op.file answers → OnOk result ((told : List NodeTold) → KeepsOnly told old → KeepsOnly (told ++ answers) new)
+taken_cited_if (Ok a) kind old new op answers is grants = taken_cited kind old new op answers is grants
+taken_cited_if (Err fault) kind old new op answers is grants = tt
+
+-- the same, by the answers that told of its grants
+pub granted_cited : (old new : OpenView) (op : Op) (grants : List Grant) → new ≡ taken old op → op.grants ≡ grants → (told : List NodeTold) → KeepsOnly told old → KeepsOnly (told ++ answers_of old.txn op.file grants) new
+granted_cited old new op grants is same told kept =
+    let answers = answers_of old.txn op.file grants in
+    let P : List Grant → Type 0 = λ gs. All (λ grant. Contains (told ++ answers) (grant_told old.txn op.file grant)) gs in
+    let all : P grants =
+    All-weaker (λ (grant : Grant). Contains answers (grant_told old.txn op.file grant)) (λ (grant : Grant). Contains (told ++ answers) (grant_told old.txn op.file grant))
+    (λ grant here. Contains-append_right told answers (grant_told old.txn op.file grant) here) grants (all_told old.txn op.file grants) in
+    subst (KeepsOnly (told ++ answers)) (sym is) (taken_keeps old op told answers (subst P (sym same) all) kept)
 
 pub close_cited : (old : OpenView) (new : VotingView) → new ≡ closed old → (told : List NodeTold) → KeepsOnly told old → VotesOnly told new
 close_cited old new is told kept = subst (VotesOnly told) (sym is) kept

@@ -1,5 +1,5 @@
 -- What a list of grants shows of the operation that rests on it.
-use Rattle.std.proofs.Common.{◌≡◌, ◌==◌, ◌+◌, ◌≤◌, ℕ, Bool, true, false, ◌||◌, ◌&&◌, cond, List, [], ◌∷◌, Option, Some, None, max, fold, refl, sym, ap, ◌∙◌, arith, inl, inr, ◌⊎◌}
+use Rattle.std.proofs.Common.{◌≡◌, ◌==◌, ◌+◌, ◌≤◌, ℕ, Bool, true, false, ◌||◌, ◌&&◌, cond, List, [], ◌∷◌, Option, Some, None, max, fold, refl, sym, ◌∙◌, arith, inl, inr, ◌⊎◌}
 use Rattle.std.specs.Cmp.Lexicographic.{nat_list_eq_equiv}
 use Rattle.std.specs.List.{list_all, list_any, find, cons_option}
 use Rattle.std.proofs.lemmas.Bool.{and_from, or_left, or_right, eq-eqb, false≢true, cases_lt}
@@ -111,6 +111,5 @@ good_write old file content grants member exclusive fresh =
       fresh = fresh;
     }
 
-pub good_write_of : (old : OpenView) (txn : ℕ) (file content : List ℕ) (answers : List NodeTold) (grants : List Grant) (version : ℕ) → version ≡ greatest grants + 1 → grants ≡ grants_of Write txn file answers → is_member old.levels grants ≡ true → is_written old.ops file ≡ false → IsGoodOp old (record { file = file; kind = Write; version = version; content = content; grants = grants })
-good_write_of old txn file content answers grants version versions are member fresh =
-    rw versions (good_write old file content grants member (ap is_exclusively_granted are ∙ exclusive_grants txn file answers) fresh)
+pub good_write_by : (old : OpenView) (file content : List ℕ) (grants found : List Grant) (version : ℕ) → version ≡ greatest grants + 1 → found ≡ grants → is_member old.levels grants ≡ true → is_exclusively_granted grants ≡ true → is_written old.ops file ≡ false → IsGoodOp old (record { file = file; kind = Write; version = version; content = content; grants = found })
+good_write_by old file content grants found version versions same member exclusive fresh = rw (versions, same) (good_write old file content grants member exclusive fresh)

@@ -3,6 +3,7 @@ pub mod NotedLaws
 pub mod NumberSets
 pub mod Tested
 pub mod GoodGrants
+pub mod Granted
 pub mod GoodOps
 pub mod GoodVotes
 pub mod GoodEvidence

@@ -1,5 +1,5 @@
 -- What a transaction keeps, and what its commit cites, stands among the answers that it was told.
-use Rattle.std.specs.Prelude.{ℕ, List, []}
+use Rattle.std.specs.Prelude.{ℕ, List, [], map}
 use Rattle.std.specs.List.{All, Contains}
 use Rattle.tq_store.specs.declared.write.Write.{Write}
 use Rattle.tq_asks.specs.declared.ask.NodeAsk.TheVariants.{Work}
@@ -18,6 +18,10 @@ use Rattle.tq_states.specs.Voting.{VotingView, evidence_of}
 abbrev pub grant_told : ℕ → List ℕ → Grant → NodeTold
 grant_told txn file grant =
     record { server = grant.server; number = grant.number; ask = Work (Lock txn file grant.mode); reply = Granted grant.version grant.content }
+
+-- the answers of the servers that granted the transaction these locks on the file
+abbrev pub answers_of : ℕ → List ℕ → List Grant → List NodeTold
+answers_of txn file grants = map (grant_told txn file) grants
 
 -- the answer of a server that gave the transaction this vote, asked with these writes
 abbrev pub vote_told : ℕ → Vote → List Write → NodeTold

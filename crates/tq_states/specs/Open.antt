@@ -142,11 +142,15 @@ read_fault old file answers = refuse (is_used old.ops file) AlreadyThere (grants
 abbrev pub is_full : ℕ → Bool
 is_full version = not (nat_lt (version + 1) (2 ^ 64))
 
+-- what a write by these grants is refused for
+abbrev pub version_fault : List Grant → Option TxnFault
+version_fault grants = refuse (is_full (greatest grants)) VersionFull None
+
 abbrev pub write_fault : OpenView → List ℕ → List NodeTold → Option TxnFault
 write_fault old file answers =
     refuse (is_written old.ops file) AlreadyThere
     (or_else (grants_fault Write old file answers)
-    (refuse (is_full (greatest (grants_of Write old.txn file answers))) VersionFull None))
+    (version_fault (grants_of Write old.txn file answers)))
 
 -- a further operation is good evidence: of a quorum, exclusive where it writes, of the version that it should have,
 -- and the file has no such operation yet, nor a write before a read

@@ -7,7 +7,7 @@ ghost use Rattle.tq_coterie.specs.Coterie.{numbers_of};
 ghost use Rattle.tq_evidence.specs.Evidence as evidence;
 ghost use Rattle.tq_states.specs.Places.{place_before};
 ghost use Rattle.tq_states.specs.Sets as sets;
-ghost use Rattle.tq_states.specs.Cited.{KeepsOnly, VotesOnly};
+ghost use Rattle.tq_states.specs.Cited.{KeepsOnly, VotesOnly, answers_of};
 ghost use Rattle.tq_states.specs.Ended as ending;
 ghost use Rattle.tq_states.specs.Open as spec;
 ghost use Rattle.tq_states.specs.Voting as voting;
@@ -20,7 +20,7 @@ use std::marker::Model;
 use tq_coterie::is_quorum;
 use tq_desk::{Grant, Op, OpKind};
 use tq_evidence::{granters, greatest_version};
-use tq_shape::{ExactClone, Levels, Limits, Memory, ServerId, SharedSeq};
+use tq_shape::{ExactClone, Levels, Limits, Memory, Seq, ServerId, SharedSeq};
 use tq_store::{Content, FileCopy, FileName};
 
 /// A transaction that may read and write.
@@ -230,6 +230,21 @@ impl Open {
             return Err(TxnFault::AlreadyThere);
         }
         let grants = self.admit(alloc, OpKind::Read, file, answers)?;
+        Ok(self.read_granted(file, grants)?)
+    }
+
+    /// Reads a file by the grants of a quorum, as `read` does by the answers that tell of them. Out of memory leaves the
+    /// transaction as it was.
+    pub fn read_granted(&mut self, file: &FileName, grants: Seq<Grant>) -> Result<FileCopy, Memory>
+        requires fresh { spec.is_used self.old.ops file.now ≡ false }
+        requires few { spec.has_all_ops self.old ≡ false }
+        requires member { spec.is_member self.old.levels grants ≡ true }
+        ensures value { IfOk result (λ copy. copy ≡ spec.read_copy grants) }
+        ensures after { OnOk result (self.new ≡ spec.taken self.old (spec.read_op file.now grants)) }
+        ensures cited { OnOk result ((told : List NodeTold) → KeepsOnly told self.old → KeepsOnly (told ++ answers_of self.old.txn file.now grants) self.new) }
+        ensures err { OnErr result (self.new ≡ self.old) }
+    {
+        let grants = SharedSeq::from_vec(grants.into_vec())?;
         let given = read_copy(grants.as_slice())?;
         let kept = given.content.clone()?;
         let op = Op {
@@ -263,9 +278,32 @@ impl Open {
             return Err(TxnFault::AlreadyThere);
         }
         let grants = self.admit(alloc, OpKind::Write, file, answers)?;
+        self.write_granted(file, content, grants)
+    }
+
+    /// Writes a file by the exclusive grants of a quorum, as `write` does by the answers that tell of them. A fault
+    /// leaves the transaction as it was.
+    pub fn write_granted(
+        &mut self,
+        file: &FileName,
+        content: Content,
+        grants: Seq<Grant>,
+    ) -> Result<u64, TxnFault>
+        requires fresh { spec.is_written self.old.ops file.now ≡ false }
+        requires few { spec.has_all_ops self.old ≡ false }
+        requires member { spec.is_member self.old.levels grants ≡ true }
+        requires exclusive { evidence.is_exclusively_granted grants ≡ true }
+        ensures succeeds { IfOk result (λ version. spec.version_fault grants ≡ None) }
+        ensures value { IfOk result (λ version. version ≡ evidence.greatest grants + 1) }
+        ensures after { OnOk result (self.new ≡ spec.taken self.old (spec.write_op file.now content grants)) }
+        ensures cited { OnOk result ((told : List NodeTold) → KeepsOnly told self.old → KeepsOnly (told ++ answers_of self.old.txn file.now grants) self.new) }
+        ensures fault { IfErr result (λ fault. spec.ComesOf (spec.version_fault grants) fault) }
+        ensures err { OnErr result (self.new ≡ self.old) }
+    {
         let Some(version) = greatest_version(grants.as_slice()).checked_add(1) else {
             return Err(TxnFault::VersionFull);
         };
+        let grants = SharedSeq::from_vec(grants.into_vec())?;
         let op = Op {
             file: *file,
             kind: OpKind::Write,
@@ -346,7 +384,7 @@ impl Open {
         kind: OpKind,
         file: &FileName,
         answers: &[NodeTold],
-    ) -> Result<SharedSeq<Grant>, TxnFault>
+    ) -> Result<Seq<Grant>, TxnFault>
         ensures succeeds { IfOk result (λ grants. spec.grants_fault kind self.now file.now answers.now ≡ None) }
         ensures grants { IfOk result (λ grants. grants ≡ spec.grants_of kind self.now.txn file.now answers.now) }
         ensures member { IfOk result (λ grants. spec.is_member self.now.levels grants ≡ true) }
@@ -360,7 +398,7 @@ impl Open {
         if !is_member(alloc, self.levels, grants.as_slice())? {
             return Err(TxnFault::NotAMember);
         }
-        Ok(SharedSeq::from_vec(grants)?)
+        Ok(Seq::from_vec(grants))
     }
 
     /// Takes an operation. Out of memory leaves the transaction as it was.

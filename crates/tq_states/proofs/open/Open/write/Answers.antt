@@ -1,22 +1,14 @@
-use Rattle.std.proofs.Common.{◌≡◌, ◌+◌, ◌∙◌, sym, ap, rules}
-use Rattle.tq_evidence.specs.Evidence.{greatest}
-use Rattle.tq_states.proofs.GoodGrants.{good_write_of}
+use Rattle.std.proofs.Common.{◌∙◌, ap}
 use Rattle.tq_evidence.specs.declared.op.OpKind.TheVariants as kinds
-use Rattle.tq_states.proofs.CitedLaws.{taken_cited}
+use Rattle.tq_evidence.specs.Evidence.{is_exclusively_granted}
+use Rattle.tq_states.specs.Open.{write_op}
+use Rattle.tq_states.proofs.CitedLaws.{taken_cited_if}
+use Rattle.tq_states.proofs.GoodGrants.{exclusive_grants}
 use Rattle.tq_states.proofs.open.Open.write.Goals as goal
 
-pub take-requires : goal.take-requires
-take-requires c =
-    let best : c.greatest_version.result ≡ greatest c.in_ok-grants.grants = c.greatest_version.ensures ∙ ap greatest c.as_slice.ensures in
-    let next : c.in-Some.version ≡ c.greatest_version.result + 1 = search rules in
-    good_write_of c.args.self.now c.args.self.now.txn c.args.file.now c.args.content c.args.answers.now c.in_ok-grants.grants c.in-Some.version (next ∙ ap (λ n. n + 1) best) c.in_ok-grants.ensures.grants c.in_ok-grants.ensures.member (sym c.is_written.ensures ∙ c.if-is_written.false)
+pub write_granted-requires-clause-exclusive : goal.write_granted-requires-clause-exclusive
+write_granted-requires-clause-exclusive c = ap is_exclusively_granted c.in_ok-grants.ensures.grants ∙ exclusive_grants c.args.self.now.txn c.args.file.now c.args.answers.now
 
 pub returns-clause-cited : goal.returns-clause-cited
 returns-clause-cited c =
-    taken_cited kinds.Write c.args.self.now c.take.new.self (record { file = c.args.file.now; kind = kinds.Write; version = c.in-Some.version; content = c.args.content; grants = c.in_ok-grants.grants }) c.args.answers.now c.in_ok-take.ensures.after c.in_ok-grants.ensures.grants
-
-pub returns-clause-value : goal.returns-clause-value
-returns-clause-value c = search rules
-
-pub returns-clause-after : goal.returns-clause-after
-returns-clause-after c = search rules
+    taken_cited_if c.write_granted.result kinds.Write c.args.self.now c.write_granted.new.self (write_op c.args.file.now c.args.content c.in_ok-grants.grants) c.args.answers.now c.write_granted.ensures.after c.in_ok-grants.ensures.grants
