@@ -1,5 +1,6 @@
 -- The lines of a client: what each asks, in order, each as the answers before demand, and what it answers of them.
-use Rattle.std.specs.Prelude.{◌==◌, ◌+◌, ℕ, Bool, true, false, List, [], ◌∷◌, ◌++◌, Option, Some, None, Result, Ok, Err, if◌then◌else◌}
+use Rattle.std.specs.Prelude.{◌≡◌, ◌==◌, ◌+◌, ℕ, Bool, true, false, List, [], ◌∷◌, ◌++◌, Option, Some, None, Result, Ok, Err, if◌then◌else◌}
+use Rattle.std.specs.List.{All}
 use Rattle.tq_shape.specs.declared.part.Part.TheVariants as parts
 use Rattle.tq_store.specs.declared.copies.FileCopy.{FileCopy}
 use Rattle.tq_locks.specs.declared.mode.Mode.{Mode}
@@ -14,6 +15,7 @@ use Rattle.tq_asks.specs.declared.ask.NodeReply.TheVariants as replies
 use Rattle.tq_asks.specs.declared.ask.Verdict.{Verdict}
 use Rattle.tq_asks.specs.declared.ask.WorkAsk.{WorkAsk}
 use Rattle.tq_asks.specs.declared.ask.WorkAsk.TheVariants.{Lock, Decide, Release}
+use Rattle.tq_evidence.specs.declared.grant.Grant.{Grant}
 use Rattle.tq_evidence.specs.declared.op.Op.{Op}
 use Rattle.tq_evidence.specs.declared.op.OpKind.TheVariants as kinds
 use Rattle.tq_evidence.specs.Evidence.{greatest}
@@ -28,6 +30,7 @@ use Rattle.tq_txn.specs.declared.reading.Reading.{Reading}
 use Rattle.tq_txn.specs.declared.reading.Reading.TheVariants.{Pending, Copy}
 use Rattle.tq_txn.specs.declared.applying.Applied.{Applied}
 use Rattle.tq_txn.specs.declared.applying.Applied.TheVariants.{Installed, Discarded}
+use Rattle.tq_states.specs.Cited.{answers_of, grant_told}
 use Rattle.tq_states.specs.Ended.{EndedView, decide_ask}
 use Rattle.tq_txn.specs.Dialogue.{Told, Dialogue, LineEnd, Ends, AsksNode, done, failed, and_then, unless, node_line, view_line}
 use Rattle.tq_states.specs.Open.{OpenView, pending, seen, written, has_all_ops, read_fault, read_copy, read_after, write_fault, write_after, grants_of, touched_by, rewritten}
@@ -61,6 +64,24 @@ abbrev pub granted : NodeTold → NodeReply → Result NodeTold LineFault
 granted told (replies.Granted version content) = Ok told
 granted told (replies.Refused refusal) = Err (faults.Server told.server refusal)
 granted told reply = Err (faults.WrongReply (parts.Server told.server))
+
+-- the answer that granted the transaction a lock on the file, or why there is none
+abbrev pub grant_answer : ℕ → List ℕ → Result Grant LineFault → Result NodeTold LineFault
+grant_answer txn file (Ok grant) = Ok (grant_told txn file grant)
+grant_answer txn file (Err fault) = Err fault
+
+-- the same of locks at several servers
+abbrev pub grants_answer : ℕ → List ℕ → Result (List Grant) LineFault → Result (List NodeTold) LineFault
+grants_answer txn file (Ok grants) = Ok (answers_of txn file grants)
+grants_answer txn file (Err fault) = Err fault
+
+-- the grant is of this server and mode
+abbrev pub IsLockAt : ℕ → Mode → Grant → Type 0
+IsLockAt server mode grant = (grant.server ≡ server) × (grant.mode ≡ mode)
+
+-- all grants are of this mode
+abbrev pub AreOf : Mode → List Grant → Type 0
+AreOf mode grants = All (λ grant. grant.mode ≡ mode) grants
 
 abbrev pub lock_line : ℕ → List ℕ → Mode → ℕ → Dialogue (LineEnd NodeTold (Unit {0}))
 lock_line txn file mode server = and_then (node_line server (lock_ask txn file mode)) (λ none. none) (λ told none. answers (granted told told.reply) none)

@@ -1,7 +1,8 @@
 ghost use Rattle.std.specs.List.{list_all, Contains};
-ghost use Rattle.std.specs.Option.{option_map_or};
-ghost use Rattle.std.specs.Prelude.{◌≡◌, ◌==◌, ◌+◌, ◌<◌, ◌≤◌, ℕ, List, [], ◌∷◌, Ok, Err, true, length, vec_len, vec_capacity, IfOk, OnErr};
+ghost use Rattle.std.specs.Prelude.{◌≡◌, ◌==◌, ◌+◌, ◌<◌, ◌≤◌, ℕ, List, [], ◌∷◌, Ok, Err, true, length, vec_len, vec_capacity, IfOk, OnErr, OnOk, ◌++◌, false};
 ghost use Rattle.tq_coterie.specs.Coterie.{numbers_of};
+ghost use Rattle.tq_evidence.specs.Evidence.{granters};
+ghost use Rattle.tq_states.specs.Cited.{answers_of, grant_told};
 ghost use Rattle.tq_states.specs.Open as open_spec;
 ghost use Rattle.tq_txn.specs.Dialogue as line;
 ghost use Rattle.tq_txn.specs.Lines as spec;
@@ -12,6 +13,7 @@ use crate::{Asker, LineFault, NodeTold, Open, Reading, TxnFault};
 use std::alloc::Global;
 use tq_asks::{NodeAsk, NodeReply, WorkAsk};
 use tq_coterie::Quorum;
+use tq_evidence::Grant;
 use tq_live::{ViewAsk, ViewReply};
 use tq_locks::Mode;
 use tq_shape::{Levels, Memory, Part, Seq, ServerId, Shared};
@@ -56,28 +58,39 @@ fn choose<A: Asker>(asker: &mut A, alloc: Global, levels: Levels) -> Result<Quor
     }
 }
 
-/// Why the answer grants no lock, if it does not.
-fn not_granted(told: &NodeTold) -> Option<LineFault>
-    ensures { spec.granted told.now told.now.reply ≡ option_map_or Err result (Ok told.now) }
-{
-    match &told.reply {
-        NodeReply::Granted { .. } => None,
-        NodeReply::Refused(refusal) => Some(LineFault::Server {
-            server: told.server,
-            refusal: *refusal,
-        }),
-        _ => Some(LineFault::WrongReply {
-            part: Part::Server(told.server),
-        }),
-    }
-}
-
 /// A lock that a transaction wants at each server of a quorum, with the ask for it, which all of them are sent.
 #[derive(Drop)]
 struct WantedLock {
     file: FileName,
     mode: Mode,
     ask: NodeAsk,
+}
+
+/// The lock of this mode that a server's answer grants.
+#[inline(always)]
+fn granted(mode: Mode, told: NodeTold) -> Result<Grant, LineFault>
+    ensures told { (txn : ℕ) (file : List ℕ) → told.ask ≡ spec.lock_ask txn file mode → spec.granted told told.reply ≡ spec.grant_answer txn file result }
+    ensures grant { IfOk result (λ grant. spec.IsLockAt told.server mode grant) }
+{
+    let NodeTold {
+        server,
+        number,
+        ask: _,
+        reply,
+    } = told;
+    match reply {
+        NodeReply::Granted { version, content } => Ok(Grant {
+            server,
+            number,
+            mode,
+            version,
+            content,
+        }),
+        NodeReply::Refused(refusal) => Err(LineFault::Server { server, refusal }),
+        _ => Err(LineFault::WrongReply {
+            part: Part::Server(server),
+        }),
+    }
 }
 
 /// A lock at a server.
@@ -87,19 +100,17 @@ fn lock_at<A: Asker>(
     txn: u64,
     lock: &WantedLock,
     server: ServerId,
-) -> Result<NodeTold, LineFault>
+) -> Result<Grant, LineFault>
     requires of_tree { server.levels ≡ A.levels asker.old }
     requires ask { lock.now.ask ≡ spec.lock_ask txn lock.now.file lock.now.mode }
-    ensures asks { line.Follows (spec.lock_line txn lock.now.file lock.now.mode server.number) (A.told asker.old) (A.told asker.new) (line.ended_by result tt) }
+    ensures asks { line.Follows (spec.lock_line txn lock.now.file lock.now.mode server.number) (A.told asker.old) (A.told asker.new) (line.ended_by (spec.grant_answer txn lock.now.file result) tt) }
     ensures unasked { line.IsUnasked result (A.told asker.old) (A.told asker.new) }
-    ensures heard { IfOk result (λ answer. Contains (answers_in (A.told asker.new)) answer) }
+    ensures heard { IfOk result (λ grant. Contains (answers_in (A.told asker.new)) (grant_told txn lock.now.file grant)) }
+    ensures grant { IfOk result (λ grant. spec.IsLockAt server.number lock.now.mode grant) }
     ensures tree { A.levels asker.new ≡ A.levels asker.old }
 {
     match asker.node(alloc, server, lock.ask.clone()?) {
-        Ok(told) => match not_granted(&told) {
-            None => Ok(told),
-            Some(fault) => Err(fault),
-        },
+        Ok(told) => granted(lock.mode, told),
         Err(fault) => Err(LineFault::from(fault)),
     }
 }
@@ -113,29 +124,31 @@ fn lock_next<A: Asker>(
     lock: &WantedLock,
     server: ServerId,
     noting: &mut Option<Noting>,
-    answers: &mut Vec<NodeTold>,
+    grants: &mut Vec<Grant>,
 ) -> Result<(), LineFault>
     requires same { open.now.levels ≡ A.levels asker.old }
     requires of_tree { server.levels ≡ A.levels asker.old }
     requires ask { lock.now.ask ≡ spec.lock_ask open.now.txn lock.now.file lock.now.mode }
     requires noting { open_spec.CanNote open.now noting.old (server.number ∷ []) }
-    requires room { vec_len answers.old < vec_capacity answers.old }
-    ensures asks { line.Follows (spec.next_lock lock.now.file lock.now.mode server.number (record { answers = answers.old.items; txn = open_spec.noted open.now noting.old })) (A.told asker.old) (A.told asker.new)
-        (line.ended_by result (record { answers = answers.new.items; txn = open_spec.noted open.now noting.new })) }
+    requires room { vec_len grants.old < vec_capacity grants.old }
+    ensures asks { line.Follows (spec.next_lock lock.now.file lock.now.mode server.number (record { answers = answers_of open.now.txn lock.now.file grants.old.items; txn = open_spec.noted open.now noting.old })) (A.told asker.old) (A.told asker.new)
+        (line.ended_by result (record { answers = answers_of open.now.txn lock.now.file grants.new.items; txn = open_spec.noted open.now noting.new })) }
     ensures unasked { line.IsUnasked result (A.told asker.old) (A.told asker.new) }
     ensures noting { (more : List ℕ) → open_spec.CanNote open.now noting.old (server.number ∷ more) → open_spec.CanNote open.now noting.new more }
     ensures kept { open_spec.IsTouched (open_spec.noted open.now noting.old) (open_spec.noted open.now noting.new) }
-    ensures room { vec_len answers.new ≤ vec_len answers.old + 1 }
-    ensures capacity { vec_capacity answers.new ≡ vec_capacity answers.old }
-    ensures heard { AreTold (A.told asker.old) answers.old.items → AreTold (A.told asker.new) answers.new.items }
+    ensures room { vec_len grants.new ≤ vec_len grants.old + 1 }
+    ensures capacity { vec_capacity grants.new ≡ vec_capacity grants.old }
+    ensures heard { AreTold (A.told asker.old) (answers_of open.now.txn lock.now.file grants.old.items) → AreTold (A.told asker.new) (answers_of open.now.txn lock.now.file grants.new.items) }
+    ensures servers { OnOk result (granters grants.new.items ≡ granters grants.old.items ++ server.number ∷ []) }
+    ensures modes { spec.AreOf lock.now.mode grants.old.items → spec.AreOf lock.now.mode grants.new.items }
     ensures tree { A.levels asker.new ≡ A.levels asker.old }
 {
-    let told = match lock_at(asker, alloc, open.txn(), lock, server) {
-        Ok(told) => told,
+    let grant = match lock_at(asker, alloc, open.txn(), lock, server) {
+        Ok(grant) => grant,
         Err(fault) => return Err(fault),
     };
     open.note(noting, server);
-    answers.push_reserved(told);
+    grants.push_reserved(grant);
     Ok(())
 }
 
@@ -147,22 +160,24 @@ fn lock_each<A: Asker>(
     lock: &WantedLock,
     servers: &[ServerId],
     noting: &mut Option<Noting>,
-    answers: &mut Vec<NodeTold>,
+    grants: &mut Vec<Grant>,
 ) -> Result<(), LineFault>
     requires same { open.now.levels ≡ A.levels asker.old }
     requires of_tree { list_all (λ id. id.levels == A.levels asker.old) servers.now ≡ true }
     requires ask { lock.now.ask ≡ spec.lock_ask open.now.txn lock.now.file lock.now.mode }
     requires noting { open_spec.CanNote open.now noting.old (numbers_of servers.now) }
-    requires room { vec_len answers.old + length servers.now ≤ vec_capacity answers.old }
-    ensures asks { line.Follows (spec.locks_line lock.now.file lock.now.mode (numbers_of servers.now) (record { answers = answers.old.items; txn = open_spec.noted open.now noting.old })) (A.told asker.old) (A.told asker.new)
-        (line.ended_by result (record { answers = answers.new.items; txn = open_spec.noted open.now noting.new })) }
+    requires room { vec_len grants.old + length servers.now ≤ vec_capacity grants.old }
+    ensures asks { line.Follows (spec.locks_line lock.now.file lock.now.mode (numbers_of servers.now) (record { answers = answers_of open.now.txn lock.now.file grants.old.items; txn = open_spec.noted open.now noting.old })) (A.told asker.old) (A.told asker.new)
+        (line.ended_by result (record { answers = answers_of open.now.txn lock.now.file grants.new.items; txn = open_spec.noted open.now noting.new })) }
     ensures noting { open_spec.CanNote open.now noting.new [] }
     ensures kept { open_spec.IsTouched (open_spec.noted open.now noting.old) (open_spec.noted open.now noting.new) }
-    ensures heard { AreTold (A.told asker.old) answers.old.items → AreTold (A.told asker.new) answers.new.items }
+    ensures heard { AreTold (A.told asker.old) (answers_of open.now.txn lock.now.file grants.old.items) → AreTold (A.told asker.new) (answers_of open.now.txn lock.now.file grants.new.items) }
+    ensures servers { OnOk result (granters grants.new.items ≡ granters grants.old.items ++ numbers_of servers.now) }
+    ensures modes { spec.AreOf lock.now.mode grants.old.items → spec.AreOf lock.now.mode grants.new.items }
     ensures tree { A.levels asker.new ≡ A.levels asker.old }
 {
     for server in servers {
-        lock_next(asker, alloc, open, lock, *server, noting, answers)?;
+        lock_next(asker, alloc, open, lock, *server, noting, grants)?;
     }
     Ok(())
 }
@@ -179,19 +194,21 @@ fn lock_ask(alloc: Global, open: &Open, file: &FileName, mode: Mode) -> Result<N
     Ok(NodeAsk::Work(Shared::new(alloc, lock)?))
 }
 
-/// A quorum from the view, and a lock at each of its servers: their answers.
+/// A quorum from the view, and a lock at each of its servers: their grants.
 fn lock_quorum<A: Asker>(
     asker: &mut A,
     alloc: Global,
     open: &mut Open,
     file: &FileName,
     mode: Mode,
-) -> Result<Seq<NodeTold>, LineFault>
+) -> Result<Seq<Grant>, LineFault>
     requires { open.old.levels ≡ A.levels asker.old }
-    ensures asks { line.Follows (spec.quorum_line file.now mode open.old) (A.told asker.old) (A.told asker.new) (line.ended_by result open.new) }
+    ensures asks { line.Follows (spec.quorum_line file.now mode open.old) (A.told asker.old) (A.told asker.new) (line.ended_by (spec.grants_answer open.old.txn file.now result) open.new) }
     ensures levels { open.new.levels ≡ open.old.levels }
     ensures kept { open_spec.IsTouched open.old open.new }
-    ensures heard { IfOk result (λ answers. AreTold (A.told asker.new) answers) }
+    ensures heard { IfOk result (λ grants. AreTold (A.told asker.new) (answers_of open.old.txn file.now grants)) }
+    ensures member { IfOk result (λ grants. open_spec.is_member open.old.levels grants ≡ true) }
+    ensures modes { IfOk result (λ grants. spec.AreOf mode grants) }
     ensures tree { A.levels asker.new ≡ A.levels asker.old }
 {
     let ask = lock_ask(alloc, open, file, mode)?;
@@ -205,26 +222,18 @@ fn lock_quorum<A: Asker>(
         ask,
     };
     let servers = quorum.servers();
-    let mut answers = match Vec::with_capacity(alloc, servers.len()) {
-        Ok(answers) => answers,
+    let mut grants = match Vec::with_capacity(alloc, servers.len()) {
+        Ok(grants) => grants,
         Err(_) => return Err(LineFault::Memory),
     };
     let mut noting = match open.room_for(servers) {
         Ok(noting) => noting,
         Err(_) => return Err(LineFault::Memory),
     };
-    let locked = lock_each(
-        asker,
-        alloc,
-        open,
-        &lock,
-        servers,
-        &mut noting,
-        &mut answers,
-    );
+    let locked = lock_each(asker, alloc, open, &lock, servers, &mut noting, &mut grants);
     open.take_back(noting);
     match locked {
-        Ok(()) => Ok(Seq::from_vec(answers)),
+        Ok(()) => Ok(Seq::from_vec(grants)),
         Err(fault) => Err(fault),
     }
 }
@@ -266,20 +275,22 @@ fn read_at_quorum<A: Asker>(
     open: &mut Open,
     file: &FileName,
 ) -> Result<Reading, LineFault>
-    requires { open.old.levels ≡ A.levels asker.old }
+    requires tree { open.old.levels ≡ A.levels asker.old }
+    requires fresh { open_spec.is_used open.old.ops file.now ≡ false }
+    requires few { open_spec.has_all_ops open.old ≡ false }
     ensures asks { line.Follows (spec.quorum_read open.old file.now) (A.told asker.old) (A.told asker.new) (line.ended_by result open.new) }
     ensures levels { open.new.levels ≡ open.old.levels }
     ensures err { OnErr result (open_spec.IsTouched open.old open.new) }
     ensures knows { Knows (A.told asker.old) (states.Open open.old) → Knows (A.told asker.new) (states.Open open.new) }
     ensures tree { A.levels asker.new ≡ A.levels asker.old }
 {
-    let answers = match lock_quorum(asker, alloc, open, file, Mode::Shared) {
-        Ok(answers) => answers,
+    let grants = match lock_quorum(asker, alloc, open, file, Mode::Shared) {
+        Ok(grants) => grants,
         Err(fault) => return Err(fault),
     };
-    match open.read(alloc, file, answers.as_slice()) {
+    match open.read_granted(file, grants) {
         Ok(copy) => Ok(Reading::Copy(copy)),
-        Err(fault) => Err(LineFault::from(fault)),
+        Err(_) => Err(LineFault::Memory),
     }
 }
 
@@ -318,18 +329,20 @@ fn write_at_quorum<A: Asker>(
     file: &FileName,
     content: Content,
 ) -> Result<u64, LineFault>
-    requires { open.old.levels ≡ A.levels asker.old }
+    requires tree { open.old.levels ≡ A.levels asker.old }
+    requires fresh { open_spec.is_written open.old.ops file.now ≡ false }
+    requires few { open_spec.has_all_ops open.old ≡ false }
     ensures asks { line.Follows (spec.quorum_write open.old file.now content) (A.told asker.old) (A.told asker.new) (line.ended_by result open.new) }
     ensures levels { open.new.levels ≡ open.old.levels }
     ensures err { OnErr result (open_spec.IsTouched open.old open.new) }
     ensures knows { Knows (A.told asker.old) (states.Open open.old) → Knows (A.told asker.new) (states.Open open.new) }
     ensures tree { A.levels asker.new ≡ A.levels asker.old }
 {
-    let answers = match lock_quorum(asker, alloc, open, file, Mode::Exclusive) {
-        Ok(answers) => answers,
+    let grants = match lock_quorum(asker, alloc, open, file, Mode::Exclusive) {
+        Ok(grants) => grants,
         Err(fault) => return Err(fault),
     };
-    match open.write(alloc, file, content, answers.as_slice()) {
+    match open.write_granted(file, content, grants) {
         Ok(version) => Ok(version),
         Err(fault) => Err(LineFault::from(fault)),
     }

@@ -1,7 +1,7 @@
 use Rattle.tq_txn.specs.Told.{AreTold, answers_in}
 use Rattle.std.proofs.lemmas.List.Elements.{All-nil}
 use Rattle.std.specs.List.{Contains}
-use Rattle.std.proofs.Common.{◌≡◌, ◌==◌, ◌∙◌, ℕ, List, [], true, refl, sym, ap, subst, Option, Some, Ok, Err}
+use Rattle.std.proofs.Common.{◌≡◌, ◌==◌, ◌∙◌, ◌++◌, ℕ, List, [], true, refl, sym, ap, subst, Option, Some, Ok, Err}
 use Rattle.std.specs.List.{list_all}
 use Rattle.tq_states.specs.declared.told.NodeTold.{NodeTold}
 use Rattle.tq_txn.specs.declared.fault.LineFault.TheVariants.{Memory}
@@ -9,8 +9,12 @@ use Rattle.tq_coterie.specs.Coterie.{numbers_of}
 use Rattle.tq_locks.specs.declared.mode.Mode.{Mode}
 use Rattle.tq_txn.specs.declared.asker.Exchange.{Exchange}
 use Rattle.tq_txn.specs.Dialogue.{Follows, LineEnd, ended_by}
-use Rattle.tq_txn.specs.Lines.{LocksView, lock_ask, locks_line, quorum_line}
+use Rattle.tq_txn.specs.Lines.{AreOf, LocksView, lock_ask, locks_line, quorum_line}
+use Rattle.tq_evidence.specs.declared.grant.Grant.{Grant}
+use Rattle.tq_evidence.specs.Evidence.{granters}
+use Rattle.tq_states.specs.Cited.{answers_of}
 use Rattle.tq_states.specs.Open.{OpenView, IsTouched, noted}
+use Rattle.tq_txn.proofs.GrantLaws.{member_of}
 use Rattle.tq_txn.proofs.LineLaws.{follows_memory, quorum_off, quorum_stopped, quorum_locked}
 use Rattle.tq_states.proofs.Tested.{of_tree}
 use Rattle.tq_txn.proofs.operations.lock_quorum.Goals as goal
@@ -54,36 +58,62 @@ take_back-requires-clause-kept g c = λ server here. c.lock_each-locked.ensures.
 
 pub returns-in-Ok-locked-clause-asks : goal.returns-in-Ok-locked-clause-asks
 returns-in-Ok-locked-clause-asks g c =
+    let file = c.args.file.now in
     let told = g.A.Asker.told c.args.asker.now in
     let mid = g.A.Asker.told c.choose.new.asker in
     let after = g.A.Asker.told c.lock_each-locked.new.asker in
     let old = c.args.open.now in
-    let none = c.in-Ok-with_capacity.answers.items in
-    let new : LocksView = record { answers = c.lock_each-locked.new.answers.items; txn = noted c.room_for.new.self c.lock_each-locked.new.noting } in
-    let locked = started c.args.file.now c.args.mode (numbers_of c.servers-servers.result.now) none (noted c.room_for.new.self c.in-Ok-room_for.noting) old c.in-Ok-room_for.ensures.value mid after (Some (record { answer = Ok tt; after = new })) c.in-Ok-locked.ensures.asks in
-    let all = quorum_locked c.args.file.now c.args.mode c.levels.result old c.levels.ensures c.in-Ok.quorum.servers c.servers-servers.result.now none c.servers-servers.ensures.numbers c.in-Ok-with_capacity.ensures.items told mid c.in-Ok.ensures.asks new after locked in
-    let P : List NodeTold → OpenView → Type 0 = λ xs txn. Follows (quorum_line c.args.file.now c.args.mode old) told after (Some (record { answer = Ok xs; after = txn })) in
+    let handed = c.room_for.new.self in
+    let none = answers_of handed.txn file c.in-Ok-with_capacity.grants.items in
+    let empty : none ≡ [] = ap (answers_of handed.txn file) c.in-Ok-with_capacity.ensures.items in
+    let same : handed.txn ≡ old.txn = ap (λ (v : OpenView). v.txn) c.in-Ok-room_for.ensures.value in
+    let new : LocksView = record { answers = answers_of handed.txn file c.lock_each-locked.new.grants.items; txn = noted handed c.lock_each-locked.new.noting } in
+    let locked = started file c.args.mode (numbers_of c.servers-servers.result.now) none (noted handed c.in-Ok-room_for.noting) old c.in-Ok-room_for.ensures.value mid after (Some (record { answer = Ok tt; after = new })) c.in-Ok-locked.ensures.asks in
+    let all = quorum_locked file c.args.mode c.levels.result old c.levels.ensures c.in-Ok.quorum.servers c.servers-servers.result.now none c.servers-servers.ensures.numbers empty told mid c.in-Ok.ensures.asks new after locked in
+    let P : List NodeTold → OpenView → Type 0 = λ xs txn. Follows (quorum_line file c.args.mode old) told after (Some (record { answer = Ok xs; after = txn })) in
     let Q : List NodeTold → Type 0 = λ xs. P xs c.take_back.new.self in
-    subst Q (sym c.from_vec.ensures) (subst (P new.answers) (sym c.take_back.ensures.after) all)
+    let answers : new.answers ≡ answers_of old.txn file c.from_vec.result = λ i. answers_of (same i) file (sym c.from_vec.ensures i) in
+    subst Q answers (subst (P new.answers) (sym c.take_back.ensures.after) all)
 
 pub returns-clause-asks : goal.returns-clause-asks
 returns-clause-asks g c =
+    let file = c.args.file.now in
     let told = g.A.Asker.told c.args.asker.now in
     let mid = g.A.Asker.told c.choose.new.asker in
     let after = g.A.Asker.told c.lock_each-locked.new.asker in
     let old = c.args.open.now in
-    let none = c.in-Ok-with_capacity.answers.items in
-    let new : LocksView = record { answers = c.lock_each-locked.new.answers.items; txn = noted c.room_for.new.self c.lock_each-locked.new.noting } in
-    let locked = started c.args.file.now c.args.mode (numbers_of c.servers-servers.result.now) none (noted c.room_for.new.self c.in-Ok-room_for.noting) old c.in-Ok-room_for.ensures.value mid after (ended_by (Err c.in-Err-locked.fault) new) c.in-Err-locked.ensures.asks in
-    let all = quorum_stopped c.args.file.now c.args.mode c.levels.result old c.levels.ensures c.in-Ok.quorum.servers c.servers-servers.result.now none c.servers-servers.ensures.numbers c.in-Ok-with_capacity.ensures.items told mid c.in-Ok.ensures.asks c.in-Err-locked.fault new after locked in
-    let P : OpenView → Type 0 = λ txn. Follows (quorum_line c.args.file.now c.args.mode old) told after (ended_by (Err c.in-Err-locked.fault) txn) in
+    let handed = c.room_for.new.self in
+    let none = answers_of handed.txn file c.in-Ok-with_capacity.grants.items in
+    let empty : none ≡ [] = ap (answers_of handed.txn file) c.in-Ok-with_capacity.ensures.items in
+    let new : LocksView = record { answers = answers_of handed.txn file c.lock_each-locked.new.grants.items; txn = noted handed c.lock_each-locked.new.noting } in
+    let locked = started file c.args.mode (numbers_of c.servers-servers.result.now) none (noted handed c.in-Ok-room_for.noting) old c.in-Ok-room_for.ensures.value mid after (ended_by (Err c.in-Err-locked.fault) new) c.in-Err-locked.ensures.asks in
+    let all = quorum_stopped file c.args.mode c.levels.result old c.levels.ensures c.in-Ok.quorum.servers c.servers-servers.result.now none c.servers-servers.ensures.numbers empty told mid c.in-Ok.ensures.asks c.in-Err-locked.fault new after locked in
+    let P : OpenView → Type 0 = λ txn. Follows (quorum_line file c.args.mode old) told after (ended_by (Err c.in-Err-locked.fault) txn) in
     subst P (sym c.take_back.ensures.after) all
 
 pub returns-in-Ok-locked-clause-heard : goal.returns-in-Ok-locked-clause-heard
 returns-in-Ok-locked-clause-heard g c =
+    let file = c.args.file.now in
     let told = g.A.Asker.told c.choose.new.asker in
-    subst (AreTold (g.A.Asker.told c.lock_each-locked.new.asker)) (sym c.from_vec.ensures)
-    (c.lock_each-locked.ensures.heard (subst (AreTold told) (sym c.in-Ok-with_capacity.ensures.items) (All-nil (Contains (answers_in told)))))
+    let handed = c.room_for.new.self in
+    let same : handed.txn ≡ c.args.open.now.txn = ap (λ (v : OpenView). v.txn) c.in-Ok-room_for.ensures.value in
+    let empty : answers_of handed.txn file c.in-Ok-with_capacity.grants.items ≡ [] = ap (answers_of handed.txn file) c.in-Ok-with_capacity.ensures.items in
+    let answers : answers_of handed.txn file c.lock_each-locked.new.grants.items ≡ answers_of c.args.open.now.txn file c.from_vec.result = λ i. answers_of (same i) file (sym c.from_vec.ensures i) in
+    subst (AreTold (g.A.Asker.told c.lock_each-locked.new.asker)) answers
+    (c.lock_each-locked.ensures.heard (subst (AreTold told) (sym empty) (All-nil (Contains (answers_in told)))))
+
+pub returns-in-Ok-locked-clause-member : goal.returns-in-Ok-locked-clause-member
+returns-in-Ok-locked-clause-member g c =
+    let servers = c.servers-servers.result.now in
+    let none : granters c.in-Ok-with_capacity.grants.items ≡ [] = ap granters c.in-Ok-with_capacity.ensures.items in
+    let all : granters c.from_vec.result ≡ numbers_of servers = ap granters c.from_vec.ensures ∙ c.in-Ok-locked.ensures.servers ∙ ap (λ numbers. numbers ++ numbers_of servers) none in
+    member_of c.args.open.now.levels c.in-Ok.quorum.levels servers c.from_vec.result c.servers-servers.ensures.member (c.in-Ok.ensures.quorum ∙ c.levels.ensures) all
+
+pub returns-in-Ok-locked-clause-modes : goal.returns-in-Ok-locked-clause-modes
+returns-in-Ok-locked-clause-modes g c =
+    let mode = c.args.mode in
+    subst (AreOf mode) (sym c.from_vec.ensures)
+    (c.lock_each-locked.ensures.modes (subst (AreOf mode) (sym c.in-Ok-with_capacity.ensures.items) (All-nil (λ (grant : Grant). grant.mode ≡ mode))))
 
 kept : (old start new after : OpenView) → start ≡ old → after ≡ new → IsTouched start new → IsTouched old after
 kept old start new after before same touched = subst (IsTouched old) (sym same) (let P : OpenView → Type 0 = λ txn. IsTouched txn new in subst P before touched)
