@@ -1,16 +1,16 @@
 -- Copies that a server's step leaves.
-use Rattle.std.proofs.Common.{◌≡◌, ℕ, false, List, [], ◌∷◌, map, refl, ap, sym, ◌∙◌}
-use Rattle.std.specs.List.{list_any}
+use Rattle.std.proofs.Common.{◌≡◌, ◌≤◌, ℕ, nat_lt, Bool, true, false, List, [], ◌∷◌, map, refl, ap, sym, subst, ◌∙◌, arith}
+use Rattle.std.specs.List.{AllByRecursion, list_any}
 use mathlib.Core.Bool.{true≢false}
-use Rattle.std.proofs.lemmas.Bool.{or_parts}
+use Rattle.std.proofs.lemmas.Bool.{ltb-false, ltb-true, or_parts}
 use Rattle.tq_store.specs.Copies.{Files, copy_in, copy_of, installed, installed_all}
 use Rattle.tq_store.specs.Names.{same_name}
 use Rattle.tq_store.specs.declared.copies.FileCopy.{FileCopy}
 use Rattle.tq_store.specs.declared.write.Write.{Write}
-use Rattle.tq_store.proofs.Installed.{Installs-installed}
+use Rattle.tq_store.proofs.Installed.{Installs-installed, rises-installed_all, rises_then}
 use Rattle.tq_store.proofs.SameName.{same_name-refl}
 use Rattle.tq_node.specs.NodeChanges.{stepped}
-use Rattle.tq_node.specs.Untouched.{KeepsOthers, step_raises}
+use Rattle.tq_node.specs.Untouched.{AreReached, KeepsOthers, raised_files, step_raises}
 use Rattle.tq_node.specs.Records.{Records}
 use Rattle.tq_node.specs.declared.change.NodeStep.{NodeStep}
 use Rattle.tq_node.specs.declared.change.NodeStep.TheVariants as steps
@@ -27,7 +27,7 @@ other-installed_all files (write ∷ writes) other none =
     ∙ other-installed files write.file (copy_in write) other both.0
 
 -- the copies of other files stay under a step
-pub step-keeps : (old : Records) (number : ℕ) (step : NodeStep) → KeepsOthers (step_raises step) old.copies (stepped old number step).copies
+pub step-keeps : (old : Records) (number : ℕ) (step : NodeStep) → KeepsOthers (raised_files (step_raises step)) old.copies (stepped old number step).copies
 step-keeps old number steps.Nothing file none = refl
 step-keeps old number (steps.Lock txn name mode version) file none = refl
 step-keeps old number (steps.Vote txn vote) file none = refl
@@ -40,3 +40,33 @@ step-keeps old number (steps.Unfinished records) file none = refl
 step-keeps old number (steps.Copies newer) file none = other-installed_all old.copies newer file none
 step-keeps old number steps.Crash file none = refl
 step-keeps old number steps.Return file none = refl
+
+-- ---- and those of its own files come to the versions told
+
+own-installed : (files : Files) (name : List ℕ) (copy : FileCopy) → copy.version ≤ (copy_of (installed files name copy) name).version
+own-installed files name copy = by_order (nat_lt (copy_of files name).version copy.version) refl
+  where
+    by_order : (b : Bool) → nat_lt (copy_of files name).version copy.version ≡ b → copy.version ≤ (copy_of (installed files name copy) name).version
+    by_order true less = subst (λ (had : FileCopy). copy.version ≤ had.version) (sym ((Installs-installed files name copy).newer (ltb-true _ _ less))) (omega arith)
+    by_order false more =
+        let low = ltb-false _ _ more in
+        subst (λ (had : FileCopy). copy.version ≤ had.version) (sym ((Installs-installed files name copy).no_newer low)) low
+
+own-installed_all : (files : Files) (writes : List Write) → AllByRecursion (λ write. write.version ≤ (copy_of (installed_all files writes) write.file).version) writes
+own-installed_all files [] = tt
+own-installed_all files (write ∷ writes) =
+    let first = installed files write.file (copy_in write) in
+    (rises_then _ _ _ (own-installed files write.file (copy_in write)) (rises-installed_all first writes write.file), own-installed_all first writes)
+
+pub step-reaches : (old : Records) (number : ℕ) (step : NodeStep) → AreReached (step_raises step) (stepped old number step).copies
+step-reaches old number steps.Nothing = tt
+step-reaches old number (steps.Lock txn name mode version) = tt
+step-reaches old number (steps.Vote txn vote) = tt
+step-reaches old number (steps.Discard txn vote) = tt
+step-reaches old number (steps.Install txn vote writes newer) = own-installed_all old.copies writes
+step-reaches old number (steps.Release txn) = tt
+step-reaches old number (steps.Refresh write) = own-installed old.copies write.file (record { version = write.version; content = write.content })
+step-reaches old number (steps.Unfinished records) = tt
+step-reaches old number (steps.Copies newer) = own-installed_all old.copies newer
+step-reaches old number steps.Crash = tt
+step-reaches old number steps.Return = tt

@@ -1,6 +1,6 @@
--- The files whose copies an ask may have raised.
-use Rattle.std.specs.Prelude.{◌≡◌, ℕ, false, List, [], ◌∷◌, map}
-use Rattle.std.specs.List.{list_any}
+-- The files whose copies an ask may have raised, and to what versions.
+use Rattle.std.specs.Prelude.{◌≡◌, ◌≤◌, ℕ, false, List, [], ◌∷◌, map}
+use Rattle.std.specs.List.{AllByRecursion, list_any}
 use Rattle.tq_store.specs.Copies.{Files, copy_of}
 use Rattle.tq_store.specs.Names.{same_name}
 use Rattle.tq_node.specs.declared.change.NodeStep.{NodeStep}
@@ -10,15 +10,20 @@ use Rattle.tq_node.specs.declared.telling.Raised.TheVariants.{Written, One}
 
 abbrev pub raised_files : Raised → List (List ℕ)
 raised_files (Written writes) = map (λ write. write.file) writes
-raised_files (One file) = file ∷ []
+raised_files (One file version) = file ∷ []
 
--- the files whose copies a step may raise
-abbrev pub step_raises : NodeStep → List (List ℕ)
-step_raises (steps.Install txn number writes newer) = map (λ write. write.file) writes
-step_raises (steps.Refresh write) = write.file ∷ []
-step_raises (steps.Copies newer) = map (λ write. write.file) newer
-step_raises other = []
+-- what a step may raise
+abbrev pub step_raises : NodeStep → Raised
+step_raises (steps.Install txn number writes newer) = Written writes
+step_raises (steps.Refresh write) = One write.file write.version
+step_raises (steps.Copies newer) = Written newer
+step_raises other = Written []
 
 -- the copy of each file that is not in the list is as it was
 abbrev pub KeepsOthers : List (List ℕ) → Files → Files → Type 0
 KeepsOthers files old new = (file : List ℕ) → list_any (same_name file) files ≡ false → copy_of new file ≡ copy_of old file
+
+-- the copy of each raised file is of the version told, or of a later one
+abbrev pub AreReached : Raised → Files → Type 0
+AreReached (Written writes) files = AllByRecursion (λ write. write.version ≤ (copy_of files write.file).version) writes
+AreReached (One file version) files = version ≤ (copy_of files file).version

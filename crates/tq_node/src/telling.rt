@@ -1,5 +1,5 @@
 ghost use Rattle.std.specs.Prelude.{◌≡◌, [], IfOk};
-ghost use Rattle.tq_node.specs.Untouched.{raised_files, step_raises};
+ghost use Rattle.tq_node.specs.Untouched.{step_raises};
 
 use crate::{NodeReply, NodeStep};
 use std::alloc::Global;
@@ -16,25 +16,25 @@ pub struct Telling {
     pub raised: Raised,
 }
 
-/// The files whose copies an ask may have raised.
+/// The files whose copies an ask may have raised. The copy of each is of the version told, or of a later one, from then on.
 #[derive(Drop)]
 pub enum Raised {
     /// Those of the writes.
     Written(SharedSeq<Write>),
-    One(FileName),
+    One { file: FileName, version: u64 },
 }
 
 impl Raised {
     /// No file.
     pub(crate) fn nothing() -> Raised
-        ensures { raised_files result ≡ [] }
+        ensures { result ≡ Raised.Written [] }
     {
         Raised::Written(SharedSeq::empty())
     }
 
-    /// The files whose copies the step may raise.
+    /// What the step may raise.
     pub(crate) fn by(alloc: Global, step: &NodeStep) -> Result<Raised, Memory>
-        ensures { IfOk result (λ raised. raised_files raised ≡ step_raises step.now) }
+        ensures { IfOk result (λ raised. raised ≡ step_raises step.now) }
     {
         match step {
             NodeStep::Install { writes, .. } => Ok(Raised::Written(writes.clone()?)),
@@ -42,7 +42,10 @@ impl Raised {
                 let writes = writes_of(alloc, newer.as_slice())?;
                 Ok(Raised::Written(writes))
             }
-            NodeStep::Refresh { write } => Ok(Raised::One(write.file)),
+            NodeStep::Refresh { write } => Ok(Raised::One {
+                file: write.file,
+                version: write.version,
+            }),
             _ => Ok(Raised::nothing()),
         }
     }

@@ -153,7 +153,7 @@ impl FileTable {
     {
         match raised {
             Raised::Written(writes) => self.stand_written(node, writes.as_slice()),
-            Raised::One(file) => self.stand(node, file),
+            Raised::One { file, .. } => self.stand(node, file),
         }
     }
 

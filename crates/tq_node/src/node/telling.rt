@@ -1,7 +1,7 @@
 //! Asks that are answered at once, with no plan of their change, and their replies told twice.
 ghost use Rattle.std.specs.Prelude.{◌≡◌, ◌<◌, [], false, OnOk, OnErr, IfOk};
 ghost use Rattle.tq_node.specs.Node as node;
-ghost use Rattle.tq_node.specs.Untouched.{KeepsOthers, raised_files};
+ghost use Rattle.tq_node.specs.Untouched.{AreReached, KeepsOthers, raised_files};
 ghost use Rattle.tq_node.specs.Records as spec;
 
 use super::Node;
@@ -15,14 +15,15 @@ use tq_store::{Content, FileName, Write};
 
 impl Node {
     /// Answers an ask, of a number above that of the last one answered, as `answer` does, and tells the reply twice, with
-    /// the files whose copies this may have raised: no other copy changes. Where memory is wanting the server is as it
-    /// was.
+    /// the files whose copies this may have raised: no other copy changes, and each of theirs is of the version told or of
+    /// a later one. Where memory is wanting the server is as it was.
     pub fn tell(&mut self, alloc: Global, number: u64, ask: &NodeAsk) -> Result<Telling, Memory>
         requires { self.old.last < number }
         ensures entered { IfOk result (λ telling. telling.entered ≡ spec.node_reply self.old.server self.old.state ask.now) }
         ensures told { IfOk result (λ telling. telling.told ≡ spec.node_reply self.old.server self.old.state ask.now) }
         ensures after { OnOk result (self.new ≡ node.answered self.old number ask.now) }
         ensures raised { IfOk result (λ telling. KeepsOthers (raised_files telling.raised) self.old.state.records.copies self.new.state.records.copies) }
+        ensures reached { IfOk result (λ telling. AreReached telling.raised self.new.state.records.copies) }
         ensures err { OnErr result (self.new ≡ self.old) }
     {
         match ask {
@@ -38,6 +39,7 @@ impl Node {
         ensures told { IfOk result (λ telling. telling.told ≡ spec.node_reply self.old.server self.old.state ask.now) }
         ensures after { OnOk result (self.new ≡ node.answered self.old number ask.now) }
         ensures raised { IfOk result (λ telling. KeepsOthers (raised_files telling.raised) self.old.state.records.copies self.new.state.records.copies) }
+        ensures reached { IfOk result (λ telling. AreReached telling.raised self.new.state.records.copies) }
         ensures err { OnErr result (self.new ≡ self.old) }
     {
         let plan = self.plan(alloc, number, ask)?;
@@ -58,6 +60,7 @@ impl Node {
         ensures told { IfOk result (λ telling. telling.told ≡ spec.node_reply self.old.server self.old.state (NodeAsk.Work ask.now)) }
         ensures after { OnOk result (self.new ≡ node.answered self.old number (NodeAsk.Work ask.now)) }
         ensures raised { IfOk result (λ telling. KeepsOthers (raised_files telling.raised) self.old.state.records.copies self.new.state.records.copies) }
+        ensures reached { IfOk result (λ telling. AreReached telling.raised self.new.state.records.copies) }
         ensures err { OnErr result (self.new ≡ self.old) }
     {
         if self.down {
@@ -86,7 +89,7 @@ impl Node {
         ensures entered { result.entered ≡ NodeReply.Refused reason.now }
         ensures told { result.told ≡ NodeReply.Refused reason.now }
         ensures after { self.new ≡ node.numbered number self.old }
-        ensures raised { raised_files result.raised ≡ [] }
+        ensures raised { result.raised ≡ Raised.Written [] }
     {
         self.note(number);
         refused(reason)
@@ -107,6 +110,7 @@ impl Node {
         ensures told { IfOk result (λ telling. telling.told ≡ spec.node_reply self.old.server self.old.state (NodeAsk.Work (WorkAsk.Lock txn file mode))) }
         ensures after { OnOk result (self.new ≡ node.answered self.old number (NodeAsk.Work (WorkAsk.Lock txn file mode))) }
         ensures raised { IfOk result (λ telling. KeepsOthers (raised_files telling.raised) self.old.state.records.copies self.new.state.records.copies) }
+        ensures reached { IfOk result (λ telling. AreReached telling.raised self.new.state.records.copies) }
         ensures err { OnErr result (self.new ≡ self.old) }
     {
         if self.intents.of(txn).is_some() {
@@ -145,6 +149,7 @@ impl Node {
         ensures told { IfOk result (λ telling. telling.told ≡ spec.node_reply self.old.server self.old.state (NodeAsk.Work (WorkAsk.Prepare txn writes.now))) }
         ensures after { OnOk result (self.new ≡ node.answered self.old number (NodeAsk.Work (WorkAsk.Prepare txn writes.now))) }
         ensures raised { IfOk result (λ telling. KeepsOthers (raised_files telling.raised) self.old.state.records.copies self.new.state.records.copies) }
+        ensures reached { IfOk result (λ telling. AreReached telling.raised self.new.state.records.copies) }
         ensures err { OnErr result (self.new ≡ self.old) }
     {
         if let Some(reason) = self.prepare_refusal(txn, writes.as_slice()) {
@@ -182,6 +187,7 @@ impl Node {
         ensures told { IfOk result (λ telling. telling.told ≡ spec.node_reply self.old.server self.old.state (NodeAsk.Work (WorkAsk.Decide txn verdict.now _cite))) }
         ensures after { OnOk result (self.new ≡ node.answered self.old number (NodeAsk.Work (WorkAsk.Decide txn verdict.now _cite))) }
         ensures raised { IfOk result (λ telling. KeepsOthers (raised_files telling.raised) self.old.state.records.copies self.new.state.records.copies) }
+        ensures reached { IfOk result (λ telling. AreReached telling.raised self.new.state.records.copies) }
         ensures err { OnErr result (self.new ≡ self.old) }
     {
         let Some(vote) = self.intents.of(txn) else {
@@ -216,6 +222,7 @@ impl Node {
         ensures told { result.told ≡ spec.node_reply self.old.server self.old.state (NodeAsk.Work (WorkAsk.Release txn)) }
         ensures after { self.new ≡ node.answered self.old number (NodeAsk.Work (WorkAsk.Release txn)) }
         ensures raised { KeepsOthers (raised_files result.raised) self.old.state.records.copies self.new.state.records.copies }
+        ensures reached { AreReached result.raised self.new.state.records.copies }
     {
         if let Some(reason) = self.release_refusal(txn) {
             return self.tell_refusal(number, &reason);
@@ -237,6 +244,7 @@ impl Node {
         ensures told { IfOk result (λ telling. telling.told ≡ spec.node_reply self.old.server self.old.state (NodeAsk.Work (WorkAsk.Peek file.now))) }
         ensures after { OnOk result (self.new ≡ node.answered self.old number (NodeAsk.Work (WorkAsk.Peek file.now))) }
         ensures raised { IfOk result (λ telling. KeepsOthers (raised_files telling.raised) self.old.state.records.copies self.new.state.records.copies) }
+        ensures reached { IfOk result (λ telling. AreReached telling.raised self.new.state.records.copies) }
         ensures err { OnErr result (self.new ≡ self.old) }
     {
         let entered = self.peek(*file)?;
@@ -265,6 +273,7 @@ impl Node {
         ensures told { IfOk result (λ telling. telling.told ≡ spec.node_reply self.old.server self.old.state (NodeAsk.Work (WorkAsk.Refresh file version content.now _from))) }
         ensures after { OnOk result (self.new ≡ node.answered self.old number (NodeAsk.Work (WorkAsk.Refresh file version content.now _from))) }
         ensures raised { IfOk result (λ telling. KeepsOthers (raised_files telling.raised) self.old.state.records.copies self.new.state.records.copies) }
+        ensures reached { IfOk result (λ telling. AreReached telling.raised self.new.state.records.copies) }
         ensures err { OnErr result (self.new ≡ self.old) }
     {
         if version <= self.copies.get(&file).version {
@@ -280,7 +289,7 @@ impl Node {
         Ok(Telling {
             entered: NodeReply::Refreshed,
             told: NodeReply::Refreshed,
-            raised: Raised::One(file),
+            raised: Raised::One { file, version },
         })
     }
 }
@@ -289,7 +298,7 @@ impl Node {
 fn refused(reason: &NodeRefusal) -> Telling
     ensures entered { result.entered ≡ NodeReply.Refused reason.now }
     ensures told { result.told ≡ NodeReply.Refused reason.now }
-    ensures raised { raised_files result.raised ≡ [] }
+    ensures raised { result.raised ≡ Raised.Written [] }
 {
     Telling {
         entered: NodeReply::Refused(*reason),

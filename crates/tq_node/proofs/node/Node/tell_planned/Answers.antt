@@ -1,11 +1,13 @@
-use Rattle.std.proofs.Common.{List, ℕ, ap, sym, subst, ◌∙◌}
+use Rattle.std.proofs.Common.{ap, sym, subst, ◌∙◌}
 use Rattle.std.specs.List.{list_any}
-use Rattle.tq_node.specs.NodeChanges.{node_changed, NodeFits}
+use Rattle.tq_node.specs.NodeChanges.{node_changed, stepped, NodeFits}
 use Rattle.tq_node.specs.NodePlans.{change_fits, change_leads}
 use Rattle.tq_node.specs.declared.change.NodeChange.{NodeChange}
 use Rattle.tq_store.specs.Copies.{Files, copy_of}
 use Rattle.tq_store.specs.Names.{same_name}
-use Rattle.tq_node.proofs.Untouched.{step-keeps}
+use Rattle.tq_node.proofs.Untouched.{step-keeps, step-reaches}
+use Rattle.tq_node.specs.Untouched.{AreReached, raised_files}
+use Rattle.tq_node.specs.declared.telling.Raised.{Raised}
 use Rattle.tq_node.proofs.node.Node.tell_planned.Goals as goal
 
 pub apply-requires : goal.apply-requires
@@ -21,4 +23,9 @@ returns-clause-after c =
 pub returns-clause-raised : goal.returns-clause-raised
 returns-clause-raised c = λ file none.
     ap (λ (files : Files). copy_of files file) c.in_ok-apply.ensures.copies
-    ∙ step-keeps _ _ _ file (sym (ap (λ (names : List (List ℕ)). list_any (same_name file) names) c.in_ok-raised.ensures) ∙ none)
+    ∙ step-keeps _ _ _ file (sym (ap (λ (raised : Raised). list_any (same_name file) (raised_files raised)) c.in_ok-raised.ensures) ∙ none)
+
+pub returns-clause-reached : goal.returns-clause-reached
+returns-clause-reached c =
+    subst (λ (files : Files). AreReached c.in_ok-raised.raised files) (sym c.in_ok-apply.ensures.copies)
+    (subst (λ (raised : Raised). AreReached raised (stepped c.args.self.now.state.records c.in_ok-plan.plan.change.number c.in_ok-plan.plan.change.step).copies) (sym c.in_ok-raised.ensures) (step-reaches _ _ _))
