@@ -1,11 +1,13 @@
 -- What contracts see of writes and of locks that others share.
 use Rattle.std.specs.Prelude.{◌<◌, ℕ, List, [], ◌∷◌, length, get_or}
 use Rattle.tq_asks.specs.declared.ask.HeldLock.{HeldLock}
+use Rattle.tq_asks.specs.declared.ask.WorkAsk.{WorkAsk}
+use Rattle.tq_asks.specs.declared.ask.WorkAsk.TheVariants.{Refresh}
 use Rattle.tq_locks.specs.declared.mode.Mode.TheVariants.{Shared}
 use Rattle.tq_store.specs.declared.write.Write.{Write}
 use Rattle.tq_intents.specs.declared.record.KeptLock.{KeptLock}
 use Rattle.tq_intents.specs.declared.shared_write.Source.{Source}
-use Rattle.tq_intents.specs.declared.shared_write.Source.TheVariants.{Listed, Alone}
+use Rattle.tq_intents.specs.declared.shared_write.Source.TheVariants.{Listed, Told, Alone}
 
 -- the write of no file
 abbrev pub no_write : Write
@@ -15,13 +17,25 @@ no_write = record { file = []; version = 0; content = [] }
 abbrev pub write_at : List Write → ℕ → Write
 write_at writes place = get_or writes place no_write
 
+-- the write that an ask to refresh tells
+abbrev pub told_write : WorkAsk → Write
+told_write (Refresh file version content from) = record { file = file; version = version; content = content }
+told_write other = no_write
+
+-- the ask is one to refresh
+abbrev pub IsRefresh : WorkAsk → Type 0
+IsRefresh (Refresh file version content from) = Unit {0}
+IsRefresh other = ⊥
+
 abbrev pub write_of_source : Source → Write
 write_of_source (Listed writes place) = write_at writes place
+write_of_source (Told ask) = told_write ask
 write_of_source (Alone write) = write
 
 -- a place is one of the list
 abbrev pub IsSource : Source → Type 0
 IsSource (Listed writes place) = place < length writes
+IsSource (Told ask) = IsRefresh ask
 IsSource (Alone write) = Unit {0}
 
 -- the lock of no file

@@ -151,8 +151,7 @@ impl Intents {
     {
         for newer in writes.into_vec() {
             let (write, content) = newer.parts();
-            let listed = write.get();
-            copies.install(listed.file, listed.version, content);
+            copies.install(write.file(), write.version(), content);
             self.push_copy(write);
         }
     }
@@ -245,10 +244,9 @@ fn install_record(alloc: Global, copies: &mut Copies, written: &Record) -> Resul
 {
     match written {
         Record::Copy(write) => {
-            let write = write.get();
-            let content = write.content.clone()?;
+            let content = write.content().clone()?;
             copies.reserve(alloc, 1)?;
-            copies.install(write.file, write.version, content);
+            copies.install(write.file(), write.version(), content);
             Ok(())
         }
         _ => Ok(()),
@@ -369,7 +367,7 @@ fn is_ended(records: &[Record], txn: u64, number: u64) -> bool
     records.iter().any(|record| ends_vote(record, txn, number))
 }
 
-fn write_of(written: &Record, txn: u64, number: u64) -> Option<&Write>
+fn write_of(written: &Record, txn: u64, number: u64) -> Option<&SharedWrite>
     ensures { option_copied result ≡ spec.write_of txn number written.now }
 {
     match written {
@@ -379,7 +377,7 @@ fn write_of(written: &Record, txn: u64, number: u64) -> Option<&Write>
             write,
         } => {
             if txn == *t && number == *n {
-                Some(write.get())
+                Some(write)
             } else {
                 None
             }
@@ -418,7 +416,7 @@ fn writes_of(
     let mut writes = Vec::new(alloc);
     for record in records {
         if let Some(write) = write_of(record, txn, number) {
-            writes.push(write.clone()?)?;
+            writes.push(write.write()?)?;
         }
     }
     SharedSeq::from_vec(writes)

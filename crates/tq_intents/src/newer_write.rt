@@ -32,7 +32,7 @@ impl NewerWrite {
     pub fn of(write: SharedWrite) -> Result<NewerWrite, AllocError>
         ensures { IfOk result (λ newer. newer ≡ write) }
     {
-        let content = write.get().content.clone()?;
+        let content = write.content().clone()?;
         Ok(NewerWrite { write, content })
     }
 

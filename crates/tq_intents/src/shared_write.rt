@@ -1,13 +1,14 @@
 ghost use Rattle.std.specs.Prelude.{◌≡◌, ◌<◌, IfOk, length};
-ghost use Rattle.tq_intents.specs.Sharing.{write_at};
+ghost use Rattle.tq_intents.specs.Sharing.{write_at, told_write, IsRefresh};
 
 use std::alloc::{AllocError, Global};
 use std::marker::Model;
+use tq_asks::WorkAsk;
 use tq_shape::{ExactClone, Shared, SharedSeq};
-use tq_store::Write;
+use tq_store::{Content, FileName, Write};
 
-/// A write that others share: it stands in a list, and its place there is cited, or it stands alone. Contracts see the write
-/// alone.
+/// A write that others share: it stands in a list, and its place there is cited, or an ask tells it, or it stands alone.
+/// Contracts see the write alone.
 pub struct SharedWrite {
     source: Source,
 }
@@ -26,6 +27,8 @@ enum Source {
         writes: SharedSeq<Write>,
         place: usize,
     },
+    /// The ask is one to refresh.
+    Told(Shared<WorkAsk>),
     Alone(Shared<Write>),
 }
 
@@ -54,6 +57,16 @@ impl SharedWrite {
         }
     }
 
+    /// The write that an ask to refresh tells. It takes no memory.
+    pub fn told(ask: Shared<WorkAsk>) -> SharedWrite
+        requires { IsRefresh ask }
+        ensures { result ≡ told_write ask }
+    {
+        SharedWrite {
+            source: Source::Told(ask),
+        }
+    }
+
     /// A write that stands in no list.
     ///
     /// # Errors
@@ -68,14 +81,66 @@ impl SharedWrite {
         })
     }
 
-    /// The write.
-    pub fn get(&self) -> &Write
-        ensures { result.now ≡ self.now }
+    /// Its file.
+    pub fn file(&self) -> FileName
+        ensures { result ≡ self.now.file }
     {
         match &self.source {
-            Source::Listed { writes, place } => &writes.as_slice()[*place],
-            Source::Alone(write) => write.get(),
+            Source::Listed { writes, place } => writes.as_slice()[*place].file,
+            Source::Told(ask) => refreshed(ask.get()).0,
+            Source::Alone(write) => write.get().file,
         }
+    }
+
+    /// Its version.
+    pub fn version(&self) -> u64
+        ensures { result ≡ self.now.version }
+    {
+        match &self.source {
+            Source::Listed { writes, place } => writes.as_slice()[*place].version,
+            Source::Told(ask) => refreshed(ask.get()).1,
+            Source::Alone(write) => write.get().version,
+        }
+    }
+
+    /// Its content.
+    pub fn content(&self) -> &Content
+        ensures { result.now ≡ self.now.content }
+    {
+        match &self.source {
+            Source::Listed { writes, place } => &writes.as_slice()[*place].content,
+            Source::Told(ask) => refreshed(ask.get()).2,
+            Source::Alone(write) => &write.get().content,
+        }
+    }
+
+    /// An equal write, in memory of its own.
+    pub fn write(&self) -> Result<Write, AllocError>
+        ensures { IfOk result (λ write. write ≡ self.now) }
+    {
+        Ok(Write {
+            file: self.file(),
+            version: self.version(),
+            content: self.content().clone()?,
+        })
+    }
+}
+
+/// The file, the version and the content that an ask to refresh tells.
+fn refreshed(ask: &WorkAsk) -> (FileName, u64, &Content)
+    requires { IsRefresh ask.now }
+    ensures file { result.0 ≡ (told_write ask.now).file }
+    ensures version { result.1 ≡ (told_write ask.now).version }
+    ensures content { result.2.now ≡ (told_write ask.now).content }
+{
+    match ask {
+        WorkAsk::Refresh {
+            file,
+            version,
+            content,
+            ..
+        } => (*file, *version, content),
+        _ => unreachable!(),
     }
 }
 
@@ -91,6 +156,9 @@ impl Clone for SharedWrite {
                     writes: writes.clone()?,
                     place: *place,
                 },
+            }),
+            Source::Told(ask) => Ok(SharedWrite {
+                source: Source::Told(ask.clone()?),
             }),
             Source::Alone(write) => Ok(SharedWrite {
                 source: Source::Alone(write.clone()?),

@@ -58,7 +58,7 @@ fn writes_of(alloc: Global, newer: &[NewerWrite]) -> Result<SharedSeq<Write>, Me
     let mut writes = Vec::new(alloc);
     for write in newer {
         let listed = write.get();
-        writes.push(listed.get().clone()?)?;
+        writes.push(listed.write()?)?;
     }
     SharedSeq::from_vec(writes)
 }

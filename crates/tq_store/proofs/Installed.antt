@@ -60,10 +60,10 @@ rises-installed_all files (write ∷ rest) q =
 
 -- ---- the greater version stays
 
-lt-true : (a b : ℕ) → a < b → nat_lt a b ≡ true
+pub lt-true : (a b : ℕ) → a < b → nat_lt a b ≡ true
 lt-true a b h = grind (arith, nat_tests)
 
-lt-false : (a b : ℕ) → b ≤ a → nat_lt a b ≡ false
+pub lt-false : (a b : ℕ) → b ≤ a → nat_lt a b ≡ false
 lt-false a b h = grind (arith, nat_tests)
 
 arrives-newer : (had : Option FileCopy) (copy : FileCopy) → (copy_at had).version < copy.version → copy_at (arrives had copy) ≡ copy

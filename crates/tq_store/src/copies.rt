@@ -1,4 +1,4 @@
-ghost use Rattle.std.specs.Prelude.{◌≡◌, ◌+◌, ◌<◌, ◌≤◌, OnOk, IfOk, IsOk};
+ghost use Rattle.std.specs.Prelude.{◌≡◌, ◌+◌, ◌<◌, ◌≤◌, OnOk, IfOk, IsOk, nat_lt};
 ghost use Rattle.std.specs.FinMap as map;
 
 use crate::{Content, FileName};
@@ -112,17 +112,33 @@ impl Copies {
         ensures rises { OnlyRises self.old.files self.new.files }
         ensures room { self.old.room ≤ self.new.room + 1 }
     {
+        let _is_newer = self.install_newer(name, version, content);
+    }
+
+    /// Installs a copy as `install` does, and tells whether it is newer than the one that was there. It takes no memory.
+    pub fn install_newer(&mut self, name: FileName, version: u64, content: Content) -> bool
+        requires { 0 < self.old.room }
+        ensures newer { result ≡ nat_lt (copy_of self.old.files name).version version }
+        ensures files { self.new.files ≡ installed self.old.files name (record { version = version; content = content }) }
+        ensures installs { Installs self.old.files self.new.files name (record { version = version; content = content }) }
+        ensures rises { OnlyRises self.old.files self.new.files }
+        ensures room { self.old.room ≤ self.new.room + 1 }
+    {
         match self.files.get_mut(&name) {
             Some(copy) => {
-                if copy.version < version {
-                    *copy = FileCopy { version, content };
+                if version <= copy.version {
+                    return false;
                 }
+                *copy = FileCopy { version, content };
+                true
             }
             None => {
-                if 0 < version {
-                    let copy = FileCopy { version, content };
-                    let _put = self.files.insert(name, copy).unwrap();
+                if version == 0 {
+                    return false;
                 }
+                let copy = FileCopy { version, content };
+                let _put = self.files.insert(name, copy).unwrap();
+                true
             }
         }
     }

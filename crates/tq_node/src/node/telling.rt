@@ -8,9 +8,10 @@ use super::Node;
 use crate::votes::locks_of;
 use crate::{CitedVote, NodeAsk, NodeRefusal, NodeReply, Raised, Telling, Verdict, WorkAsk};
 use std::alloc::Global;
+use tq_intents::SharedWrite;
 use tq_locks::{LockOutcome, Mode};
 use tq_part::Plan;
-use tq_shape::{Memory, SharedSeq};
+use tq_shape::{Memory, Shared, SharedSeq};
 use tq_store::{Content, FileName, Write};
 
 impl Node {
@@ -27,7 +28,7 @@ impl Node {
         ensures err { OnErr result (self.new ≡ self.old) }
     {
         match ask {
-            NodeAsk::Work(work) => self.tell_work(alloc, number, work.get()),
+            NodeAsk::Work(work) => self.tell_work(alloc, number, work),
             _ => self.tell_planned(alloc, number, ask),
         }
     }
@@ -54,7 +55,12 @@ impl Node {
         })
     }
 
-    fn tell_work(&mut self, alloc: Global, number: u64, ask: &WorkAsk) -> Result<Telling, Memory>
+    fn tell_work(
+        &mut self,
+        alloc: Global,
+        number: u64,
+        ask: &Shared<WorkAsk>,
+    ) -> Result<Telling, Memory>
         requires { self.old.last < number }
         ensures entered { IfOk result (λ telling. telling.entered ≡ spec.node_reply self.old.server self.old.state (NodeAsk.Work ask.now)) }
         ensures told { IfOk result (λ telling. telling.told ≡ spec.node_reply self.old.server self.old.state (NodeAsk.Work ask.now)) }
@@ -66,7 +72,7 @@ impl Node {
         if self.down {
             return Ok(self.tell_refusal(number, &NodeRefusal::Down));
         }
-        match ask {
+        match ask.get() {
             WorkAsk::Lock { txn, file, mode } => self.tell_lock(alloc, number, *txn, *file, *mode),
             WorkAsk::Prepare { txn, writes } => self.tell_vote(alloc, number, *txn, writes),
             WorkAsk::Decide { txn, verdict, cite } => {
@@ -79,7 +85,7 @@ impl Node {
                 version,
                 content,
                 from,
-            } => self.tell_refresh(alloc, number, *file, *version, content, *from),
+            } => self.tell_refresh(alloc, number, ask, *file, *version, content, *from),
         }
     }
 
@@ -257,17 +263,19 @@ impl Node {
         })
     }
 
-    /// Takes a copy that is newer, or tells that it is not.
+    /// Takes a copy that is newer, or tells that it is not. All memory is asked for before the first change.
     fn tell_refresh(
         &mut self,
         alloc: Global,
         number: u64,
+        ask: &Shared<WorkAsk>,
         file: FileName,
         version: u64,
         content: &Content,
         _from: CitedVote,
     ) -> Result<Telling, Memory>
         requires rises { self.old.last < number }
+        requires ask { ask.now ≡ WorkAsk.Refresh file version content.now _from }
         requires up { self.old.state.records.down ≡ false }
         ensures entered { IfOk result (λ telling. telling.entered ≡ spec.node_reply self.old.server self.old.state (NodeAsk.Work (WorkAsk.Refresh file version content.now _from))) }
         ensures told { IfOk result (λ telling. telling.told ≡ spec.node_reply self.old.server self.old.state (NodeAsk.Work (WorkAsk.Refresh file version content.now _from))) }
@@ -276,15 +284,14 @@ impl Node {
         ensures reached { IfOk result (λ telling. AreReached telling.raised self.new.state.records.copies) }
         ensures err { OnErr result (self.new ≡ self.old) }
     {
-        if version <= self.copies.get(&file).version {
+        let kept = content.clone()?;
+        let written = SharedWrite::told(ask.clone()?);
+        self.copies.reserve(alloc, 1)?;
+        self.intents.reserve(1)?;
+        if !self.copies.install_newer(file, version, kept) {
             return Ok(self.tell_refusal(number, &NodeRefusal::NotNewer));
         }
-        let write = Write {
-            file,
-            version,
-            content: content.clone()?,
-        };
-        self.refresh(alloc, number, write)?;
+        self.intents.push_copy(written);
         self.note(number);
         Ok(Telling {
             entered: NodeReply::Refreshed,

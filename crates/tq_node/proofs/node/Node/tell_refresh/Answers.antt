@@ -1,20 +1,19 @@
-use Rattle.std.proofs.Common.{◌≤◌, ap, sym, subst, ◌∙◌}
-use Rattle.tq_node.specs.Node.{NodeView, numbered}
-use Rattle.tq_node.specs.declared.change.NodeStep.TheVariants.{Refresh}
-use Rattle.tq_store.specs.Copies.{copy_of}
+use Rattle.std.proofs.Common.{◌≡◌, [], ◌∷◌, ◌++◌, refl, ap, ◌∙◌, rules}
+use Rattle.tq_intents.specs.Sharing.{told_write}
+use Rattle.tq_intents.specs.declared.record.Record.TheVariants.{Copy}
+use Rattle.tq_store.specs.Copies.{installed}
 use Rattle.tq_store.specs.declared.write.Write.{Write}
-use Rattle.tq_node.proofs.Untouched.{step-keeps, step-reaches}
+use Rattle.tq_node.proofs.Sound.{sound-as, sound-copies}
 use Rattle.tq_node.proofs.node.Node.tell_refresh.Goals as goal
 
-pub returns-clause-raised : goal.returns-clause-raised
-returns-clause-raised c = λ file none.
-    let write : Write = record { file = c.args.file; version = c.args.version; content = c.in_ok-clone.field-0 } in
-    ap (λ (v : NodeView). copy_of v.state.records.copies file) (c.note.ensures ∙ ap (numbered c.args.number) c.in_ok-refresh.ensures.after)
-    ∙ step-keeps c.args.self.now.state.records c.args.number (Refresh write) file none
-
-pub returns-clause-reached : goal.returns-clause-reached
-returns-clause-reached c =
-    let write : Write = record { file = c.args.file; version = c.args.version; content = c.in_ok-clone.field-0 } in
-    let after = c.note.ensures ∙ ap (numbered c.args.number) c.in_ok-refresh.ensures.after in
-    subst (λ (v : NodeView). c.args.version ≤ (copy_of v.state.records.copies c.args.file).version) (sym after)
-    (step-reaches c.args.self.now.state.records c.args.number (Refresh write))
+pub invariant_of-self-2 : goal.invariant_of-self-2
+invariant_of-self-2 c =
+    let inside = c.self.inside in
+    let write : Write = record { file = c.args.file; version = c.args.version; content = c.args.content.now } in
+    let stored : c.in_ok-kept.kept ≡ c.args.content.now = search rules in
+    let shared : c.in_ok-clone.field-0 ≡ c.args.ask.now = search rules in
+    let told : c.told-written.result ≡ write = c.told-written.ensures ∙ ap told_write (shared ∙ c.requires.ask) in
+    sound-as (sound-copies inside.intents.records inside.last inside.copies.files inside.locks c.self.invariant (write ∷ []))
+    (c.push_copy.ensures.records ∙ (λ i. c.in_ok-reserve-2.ensures.records i ++ Copy (told i) ∷ []))
+    (c.install_newer.ensures.files ∙ (λ i. installed (c.in_ok-reserve.ensures.files i) write.file (record { version = write.version; content = stored i })))
+    refl
