@@ -4,5 +4,6 @@ pub mod Towards
 pub mod Joined
 pub mod Places
 pub mod Marks
+pub mod SetBits
 pub mod Orderings
 pub mod Options

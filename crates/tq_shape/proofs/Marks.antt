@@ -1,10 +1,9 @@
 -- The numbers that are marked, as one mark changes.
-use Rattle.std.proofs.Common.{◌≡◌, ℕ, ◌+◌, ◌<◌, ◌≤◌, ◌^◌, subst, zero, suc, Bool, true, false, List, [], ◌∷◌, ◌++◌, length, replicate, get_or, refl, sym, ap, ◌∙◌, arith}
+use Rattle.std.proofs.Common.{◌≡◌, ℕ, ◌+◌, ◌<◌, zero, suc, Bool, true, false, List, [], ◌∷◌, ◌++◌, length, refl, sym, ap, ◌∙◌, arith}
 use Rattle.std.specs.Prelude.{slice_set, slice_index_or}
 use Rattle.std.specs.List.{All}
 use Rattle.std.proofs.lemmas.Bool.{lt-ltb, le-ltb, eq-eqb, ne_eqb}
-use Rattle.std.proofs.lemmas.List.Elements.{All-cons, All-head, All-tail}
-use Rattle.std.proofs.lemmas.List.{get_or_default}
+use Rattle.std.proofs.lemmas.List.Elements.{All-head, All-tail}
 use Rattle.tq_shape.specs.ServerSet.{Ascends, has_number, with_number, without_number, marked}
 
 -- none is marked twice
@@ -72,34 +71,8 @@ with_number-last number (first ∷ rest) all =
     with_number-later number first rest (All-head (λ other. other < number) first rest all)
     ∙ ap (λ numbers. first ∷ numbers) (with_number-last number rest (All-tail (λ other. other < number) first rest all))
 
--- with no mark there is no number
-pub marked-none : (first count : ℕ) → marked first (replicate count false) ≡ []
-marked-none first zero = refl
-marked-none first (suc count) = marked-none (first + 1) count
-
--- ---- a tree's marks begin at server 1
-
--- the place of a server of the tree is that of a mark
-pub place-within : (place number levels own count : ℕ) → place + 1 ≡ number → number < 2 ^ levels → levels ≡ own → count + 1 ≡ 2 ^ own → place < count
-place-within place number levels own count is less same all = let lower : number < 2 ^ own = subst (λ l. number < 2 ^ l) same less in omega (arith, is, lower, all)
-
-module _ (marks : List Bool) (place number : ℕ) (within : place < length marks) (is : place + 1 ≡ number) where
-  pub mark-says : (mark : Bool) → mark ≡ get_or marks place mark → mark ≡ has_number (marked 1 marks) number
-  mark-says mark read = read ∙ get_or_default marks place mark false within ∙ sym (ap (has_number (marked 1 marks)) (omega (arith, is)) ∙ has_number-marked 1 marks place)
-
-  pub mark-put : marked 1 (slice_set marks place true) ≡ with_number number (marked 1 marks)
-  mark-put = marked-with 1 marks place within ∙ ap (λ n. with_number n (marked 1 marks)) (omega (arith, is))
-
-  pub mark-taken : marked 1 (slice_set marks place false) ≡ without_number number (marked 1 marks)
-  mark-taken = marked-without 1 marks place within ∙ ap (λ n. without_number n (marked 1 marks)) (omega (arith, is))
-
+-- they ascend
 pub marked-ascends : (low first : ℕ) (marks : List Bool) → low < first → Ascends low (marked first marks)
 marked-ascends low first [] less = tt
 marked-ascends low first (true ∷ marks) less = (less, marked-ascends first (first + 1) marks (omega arith))
 marked-ascends low first (false ∷ marks) less = marked-ascends low (first + 1) marks (omega (arith, less))
-
-pub marked-within : (first past : ℕ) (marks : List Bool) → 0 < first → first + length marks ≤ past → All (λ number. (0 < number) × (number < past)) (marked first marks)
-marked-within first past [] positive fits = λ k d h. absurd (omega (arith, h))
-marked-within first past (true ∷ marks) positive fits =
-    All-cons (λ number. (0 < number) × (number < past)) first (marked (first + 1) marks) (positive, omega (arith, fits)) (marked-within (first + 1) past marks (omega arith) (omega (arith, fits)))
-marked-within first past (false ∷ marks) positive fits = marked-within (first + 1) past marks (omega arith) (omega (arith, fits))

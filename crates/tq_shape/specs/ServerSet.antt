@@ -1,5 +1,5 @@
 -- A set of servers of one tree.
-use Rattle.std.specs.Prelude.{ℕ, ◌+◌, ◌<◌, ◌==◌, Bool, true, false, not, nat_lt, cond, List, [], ◌∷◌, map, Option, Some, None}
+use Rattle.std.specs.Prelude.{ℕ, ◌+◌, ◌/◌, ◌%◌, ◌<◌, ◌==◌, zero, suc, Bool, true, false, not, nat_lt, cond, List, [], ◌∷◌, map, Option, Some, None}
 use Rattle.std.specs.List.{filter, list_any}
 use Rattle.tq_shape.specs.Tree.{Server}
 
@@ -42,3 +42,12 @@ abbrev pub marked : ℕ → List Bool → List ℕ
 marked first [] = []
 marked first (true ∷ marks) = first ∷ marked (first + 1) marks
 marked first (false ∷ marks) = marked (first + 1) marks
+
+-- whether each bit of a number is set, the lowest first
+abbrev pub marks_of : ℕ → ℕ → List Bool
+marks_of zero bits = []
+marks_of (suc count) bits = (bits % 2 == 1) ∷ marks_of count (bits / 2)
+
+-- the places of the bits that are set in a number of 64 bits
+unfoldable pub numbers_of : ℕ → List ℕ
+numbers_of bits = marked 0 (marks_of 64 bits)

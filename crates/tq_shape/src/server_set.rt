@@ -1,10 +1,10 @@
-ghost use Rattle.std.specs.Prelude.{◌≡◌, ◌+◌, ◌++◌, ◌<◌, ◌^◌, ◌↔◌, ℕ, not, [], ◌∷◌, length, replicate, All, IfOk, IsTrue};
+ghost use Rattle.std.specs.Prelude.{◌≡◌, ◌++◌, ◌<◌, ◌^◌, ◌↔◌, not, [], ◌∷◌, All, IfOk, IsTrue};
 ghost use Rattle.tq_shape.specs.Tree.{IsServer};
-ghost use Rattle.tq_shape.specs.ServerSet.{Ascends, has_number, with_number, without_number, numbered, marked, first_of};
+ghost use Rattle.tq_shape.specs.ServerSet.{Ascends, has_number, with_number, without_number, numbered, first_of};
 
-use crate::{ExactClone, Levels, Memory, ServerId};
+use crate::{Levels, Memory, ServerId};
 use std::alloc::{AllocError, Global};
-use std::marker::Model;
+use std::marker::{Model, PhantomData};
 
 /// A set of servers of one tree, walked upwards.
 ///
@@ -12,38 +12,34 @@ use std::marker::Model;
 #[derive(Debug)]
 pub struct ServerSet {
     levels: Levels,
-    /// For each server upwards from server 1, whether it is in the set.
-    marks: Vec<bool>,
+    /// The bit at a server's number says whether it is in the set. No other bit is set.
+    bits: u64,
 }
 
 // Written out, so that a crate above lets go of one by a call.
 impl Drop for ServerSet {
     fn drop(self) {
-        let Self {
-            levels: _,
-            marks: _,
-        } = self;
+        let Self { levels: _, bits: _ } = self;
     }
 }
 
 impl Model for ServerSet {
-    ghost use Rattle.std.specs.Prelude.{◌≡◌, ◌+◌, ◌^◌, length};
-    ghost use Rattle.tq_shape.specs.ServerSet.{Servers, marked};
+    ghost use Rattle.std.specs.Prelude.{◌≡◌, ◌%◌, ◌^◌, ◌<◌};
+    ghost use Rattle.tq_shape.specs.ServerSet.{Servers, numbers_of};
 
     ghost Value = { Servers };
 
-    ghost view = { λ set. record { levels = set.levels; numbers = marked 1 set.marks.items } };
+    ghost view = { λ set. record { levels = set.levels; numbers = numbers_of set.bits } };
 
-    ghost invariant = { λ set. length set.marks.items + 1 ≡ 2 ^ set.levels };
+    ghost invariant = { λ set. (set.bits % 2 ≡ 0) × (set.bits < 2 ^ (2 ^ set.levels)) };
 }
 
 impl ServerSet {
-    /// The set of no server of a tree of that many levels. What is put in and taken out later needs no memory.
-    pub fn new(alloc: Global, levels: Levels) -> Result<ServerSet, Memory>
+    /// The set of no server of a tree of that many levels. Neither it nor what is put in and taken out later needs memory.
+    pub fn new(_alloc: Global, levels: Levels) -> Result<ServerSet, Memory>
         ensures { IfOk result (λ set. set ≡ record { levels = levels; numbers = [] }) }
     {
-        let marks = Vec::from_elem(alloc, false, levels.servers() as usize)?;
-        Ok(ServerSet { levels, marks })
+        Ok(ServerSet { levels, bits: 0 })
     }
 
     /// The levels of the tree.
@@ -58,7 +54,7 @@ impl ServerSet {
         requires { server.levels ≡ self.now.levels }
         ensures { result ≡ has_number self.now.numbers server.number }
     {
-        self.marks[place_of(server)]
+        self.bits & bit_of(server) != 0
     }
 
     /// Puts a server of the set's tree in, and answers whether it was not there before.
@@ -68,9 +64,8 @@ impl ServerSet {
         ensures after { self.new ≡ record { levels = self.old.levels; numbers = with_number server.number self.old.numbers } }
         ensures last { All (λ number. number < server.number) self.old.numbers → self.new ≡ record { levels = self.old.levels; numbers = self.old.numbers ++ server.number ∷ [] } }
     {
-        let place = place_of(server);
-        let is_new = !self.marks[place];
-        self.marks[place] = true;
+        let is_new = !self.contains(server);
+        self.bits |= bit_of(server);
         is_new
     }
 
@@ -80,9 +75,8 @@ impl ServerSet {
         ensures old { result ≡ has_number self.old.numbers server.number }
         ensures after { self.new ≡ record { levels = self.old.levels; numbers = without_number server.number self.old.numbers } }
     {
-        let place = place_of(server);
-        let was_there = self.marks[place];
-        self.marks[place] = false;
+        let was_there = self.contains(server);
+        self.bits &= !bit_of(server);
         was_there
     }
 
@@ -108,7 +102,8 @@ impl ServerSet {
     {
         ServerSetIter {
             levels: self.levels,
-            marks: self.marks.as_slice(),
+            bits: self.bits,
+            of_set: PhantomData,
         }
     }
 }
@@ -117,20 +112,21 @@ impl ServerSet {
 #[derive(Drop)]
 pub struct ServerSetIter<'a> {
     levels: Levels,
-    /// The marks of the last servers of the tree.
-    marks: &'a [bool],
+    /// The bits of the servers that are left, as in the set.
+    bits: u64,
+    of_set: PhantomData<&'a ServerSet>,
 }
 
 impl<'a> Model for ServerSetIter<'a> {
-    ghost use Rattle.std.specs.Prelude.{◌<◌, ◌-◌, ◌^◌, List, length};
+    ghost use Rattle.std.specs.Prelude.{◌≡◌, ◌%◌, ◌<◌, ◌^◌, List};
     ghost use Rattle.tq_shape.specs.Tree.{Server};
-    ghost use Rattle.tq_shape.specs.ServerSet.{numbered, marked};
+    ghost use Rattle.tq_shape.specs.ServerSet.{numbered, numbers_of};
 
     ghost Value = { List Server };
 
-    ghost view = { λ it. numbered it.levels (marked (2 ^ it.levels - length it.marks.now) it.marks.now) };
+    ghost view = { λ it. numbered it.levels (numbers_of it.bits) };
 
-    ghost invariant = { λ it. length it.marks.now < 2 ^ it.levels };
+    ghost invariant = { λ it. (it.bits % 2 ≡ 0) × (it.bits < 2 ^ (2 ^ it.levels)) };
 }
 
 impl<'a> Iterator for ServerSetIter<'a> {
@@ -143,24 +139,24 @@ impl<'a> Iterator for ServerSetIter<'a> {
     ghost remaining = { item_count (λ rest. rest) };
 
     fn next(&mut self) -> Option<ServerId> {
-        let past = self.levels.servers() + 1;
-        while let Some((mark, marks)) = self.marks.split_first() {
-            let number = past - self.marks.len() as u64;
-            self.marks = marks;
-            if *mark {
-                return Some(ServerId::new(self.levels, number));
-            }
+        if self.bits == 0 {
+            return None;
         }
-        None
+        let number = u64::from(self.bits.trailing_zeros());
+        self.bits &= self.bits - 1;
+        Some(ServerId::new(self.levels, number))
     }
 }
 
-/// Where a server's mark stands.
-fn place_of(server: ServerId) -> usize
-    ensures place { result + 1 ≡ server.number }
+/// The bit of a server.
+fn bit_of(server: ServerId) -> u64
+    ensures bit { result ≡ 2 ^ server.number }
     ensures within { IsServer server.levels server.number }
+    ensures small { server.number < 64 }
 {
-    (server.number() - 1) as usize
+    let levels = server.levels();
+    let _ = &levels.count;
+    1 << server.number()
 }
 
 impl Clone for ServerSet {
@@ -169,8 +165,9 @@ impl Clone for ServerSet {
     ghost is_clone = { λ set copy. copy ≡ set };
 
     fn clone(&self) -> Result<Self, AllocError> {
-        let levels = self.levels;
-        let marks = self.marks.clone()?;
-        Ok(ServerSet { levels, marks })
+        Ok(ServerSet {
+            levels: self.levels,
+            bits: self.bits,
+        })
     }
 }

@@ -1,22 +1,19 @@
-use Rattle.std.proofs.Common.{◌<◌, sym, ap, ◌∙◌, not, length}
-use Rattle.tq_shape.proofs.Marks.{place-within, mark-says, mark-put, with_number-last}
+use Rattle.std.proofs.Common.{sym, ap, ◌∙◌}
+use Rattle.tq_shape.proofs.Marks.{with_number-last}
+use Rattle.tq_shape.proofs.SetBits.{OfTree-with, set-with}
 use Rattle.tq_shape.proofs.server_set.ServerSet.insert.Goals as goal
 
-within : (c : goal.After-self-1) → c.place_of-place.result < length c.self.inside.marks.items
-within c =
-    place-within c.place_of-place.result c.args.server.number c.args.server.levels c.self.inside.levels (length c.self.inside.marks.items) c.place_of-place.ensures.place
-    c.place_of-place.ensures.within.1 (c.requires ∙ sym (ap (λ v. v.levels) c.self.view_is)) c.self.invariant
-
-pub returns-clause-new : goal.returns-clause-new
-returns-clause-new c =
-    rw (← c.self.view_is)
-    (ap not (mark-says c.self.inside.marks.items c.place_of-place.result c.args.server.number (within c) c.place_of-place.ensures.place c.index.result.now c.index.ensures))
+pub invariant_of-self : goal.invariant_of-self
+invariant_of-self c =
+    let own = c.requires ∙ sym (ap (λ v. v.levels) c.self.view_is) in
+    rw c.bit_of.ensures.bit
+    (OfTree-with c.self.inside.levels c.self.inside.bits c.args.server.number c.self.invariant c.bit_of.ensures.within.0 (rw own at c.bit_of.ensures.within.1))
 
 pub returns-clause-after : goal.returns-clause-after
 returns-clause-after c =
-    rw (← c.self.view_is)
+    rw (← c.self.view_is, c.bit_of.ensures.bit)
     (ap (λ numbers. record { levels = c.self.inside.levels; numbers = numbers })
-    (mark-put c.self.inside.marks.items c.place_of-place.result c.args.server.number (within c) c.place_of-place.ensures.place))
+    (set-with c.self.inside.bits c.args.server.number c.bit_of.ensures.small))
 
 pub returns-clause-last : goal.returns-clause-last
 returns-clause-last c =
