@@ -1,6 +1,6 @@
 ghost use Rattle.std.specs.Prelude.{◌≡◌, IfOk};
 
-use crate::told::{nothing, with_desk, with_node, with_view};
+use crate::told::{nothing, with_answer, with_desk, with_fault, with_view};
 use std::alloc::Global;
 use std::marker::Model;
 use tq_asks::NodeAsk;
@@ -8,6 +8,7 @@ use tq_core::Service;
 use tq_desk::DeskAsk;
 use tq_history::History;
 use tq_live::ViewAsk;
+use tq_part::Answered;
 use tq_shape::{Levels, Limits, Memory, ServerId};
 use tq_txn::{AskFault, Asker, DeskTold, Exchange, NodeTold, ViewTold};
 
@@ -85,17 +86,29 @@ impl Asker for Recorder {
         ensures tree { self.new.journals.levels ≡ self.old.journals.levels }
     {
         let number = server.number();
-        let copy = copy_of_node_ask(&ask)?;
-        let answer = self.service.ask_node(alloc, server, ask);
-        self.told = with_node(&self.told, number, &copy, &answer);
-        match answer {
-            Ok(told) => Ok(NodeTold {
-                server: number,
-                number: told.number,
-                ask: copy,
-                reply: told.reply,
-            }),
-            Err(fault) => Err(fault),
+        let copy = match copy_of_node_ask(&ask) {
+            Ok(copy) => copy,
+            Err(_) => return Err(AskFault::Memory),
+        };
+        match self.service.ask_node(alloc, server, ask) {
+            Ok(told) => {
+                // Taken apart and built anew: moved whole, the reply is copied once more.
+                let Answered {
+                    number: entry,
+                    reply,
+                } = told;
+                self.told = with_answer(&self.told, number, &copy, entry, &reply);
+                Ok(NodeTold {
+                    server: number,
+                    number: entry,
+                    ask: copy,
+                    reply,
+                })
+            }
+            Err(fault) => {
+                self.told = with_fault(&self.told, number, copy, &fault);
+                Err(fault)
+            }
         }
     }
 

@@ -1,5 +1,6 @@
-ghost use Rattle.std.specs.Prelude.{◌≡◌, ◌++◌, []};
+ghost use Rattle.std.specs.Prelude.{◌≡◌, ◌++◌, ◌∷◌, [], Ok, Err};
 ghost use Rattle.tq_txn.specs.declared.asker.Exchange.TheVariants as exchanges;
+ghost use Rattle.tq_txn.specs.Dialogue.{unless_memory};
 ghost use Rattle.tq_answering.specs.Recorded.{noted};
 
 use tq_asks::{NodeAsk, NodeReply};
@@ -17,13 +18,23 @@ struct Asked<'a, A, R> {
     answer: &'a Result<Answered<R>, AskFault>,
 }
 
-/// What was told before, and an ask of a server with its answer.
+/// What was told before, and an ask of a server with what it answered.
 #[derive(Drop)]
-struct ServerAsked<'a> {
+struct ServerAnswered<'a> {
     before: &'a History<Exchange>,
     server: u64,
     ask: &'a NodeAsk,
-    answer: &'a Result<Answered<NodeReply>, AskFault>,
+    number: u64,
+    reply: &'a NodeReply,
+}
+
+/// What was told before, and an ask that no server took.
+#[derive(Drop)]
+struct ServerUnasked<'a> {
+    before: &'a History<Exchange>,
+    server: u64,
+    ask: &'a NodeAsk,
+    fault: &'a AskFault,
 }
 
 /// What was told where nothing was asked.
@@ -33,24 +44,43 @@ pub(crate) fn nothing() -> History<Exchange>
     History::of(&())
 }
 
-/// What was told, with an ask of a server more. An ask that met want of memory is not told.
-pub(crate) fn with_node(
+/// What was told, with an ask of a server more that it answered by the entry of that number.
+pub(crate) fn with_answer(
     before: &History<Exchange>,
     server: u64,
     ask: &NodeAsk,
-    answer: &Result<Answered<NodeReply>, AskFault>,
+    number: u64,
+    reply: &NodeReply,
 ) -> History<Exchange>
-    ensures { result.items ≡ before.now.items ++ noted answer.now (exchanges.Node server ask.now answer.now) }
+    ensures { result.items ≡ before.now.items ++ exchanges.Node server ask.now (Ok (record { number = number; reply = reply.now })) ∷ [] }
 {
-    History::of(&ServerAsked {
+    History::of(&ServerAnswered {
         before,
         server,
         ask,
-        answer,
+        number,
+        reply,
     })
 }
 
-/// What was told, with an ask of the desk more, as `with_node`.
+/// What was told, with an ask of a server more that was not taken. One that met want of memory is not told.
+pub(crate) fn with_fault(
+    before: &History<Exchange>,
+    server: u64,
+    ask: NodeAsk,
+    fault: &AskFault,
+) -> History<Exchange>
+    ensures { result.items ≡ before.now.items ++ unless_memory fault.now (exchanges.Node server ask (Err fault.now)) }
+{
+    History::of(&ServerUnasked {
+        before,
+        server,
+        ask: &ask,
+        fault,
+    })
+}
+
+/// What was told, with an ask of the desk more. An ask that met want of memory is not told.
 pub(crate) fn with_desk(
     before: &History<Exchange>,
     ask: &DeskAsk,
@@ -65,7 +95,7 @@ pub(crate) fn with_desk(
     })
 }
 
-/// What was told, with an ask of the view more, as `with_node`.
+/// What was told, with an ask of the view more, as `with_desk`.
 pub(crate) fn with_view(
     before: &History<Exchange>,
     ask: &ViewAsk,
