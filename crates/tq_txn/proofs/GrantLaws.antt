@@ -12,6 +12,7 @@ use Rattle.tq_locks.specs.Locks.{is_exclusive}
 use Rattle.tq_locks.specs.declared.mode.Mode.{Mode}
 use Rattle.tq_locks.specs.declared.mode.Mode.TheVariants.{Exclusive}
 use Rattle.tq_coterie.specs.Coterie.{coterie, is_quorum, numbers_of, IsMemberList}
+use Rattle.tq_asks.specs.declared.ask.NodeAsk.{NodeAsk}
 use Rattle.tq_asks.specs.declared.ask.NodeReply.{NodeReply}
 use Rattle.tq_asks.specs.declared.ask.NodeReply.TheVariants as replies
 use Rattle.tq_evidence.specs.declared.grant.Grant.{Grant}
@@ -36,8 +37,8 @@ granted_is told (replies.Granted version content) answer is = cc
 granted_is told (replies.Refused refusal) answer is = cc
 granted_is told reply answer is = cc
 
-pub heard_at : (txn : ℕ) (file : List ℕ) (told : NodeTold) (result : Result Grant LineFault) (new : List Exchange) → granted told told.reply ≡ grant_answer txn file result → Contains (answers_in new) told → IfOk result (λ grant. Contains (answers_in new) (grant_told txn file grant))
-heard_at txn file told (Ok grant) new is here = subst (Contains (answers_in new)) (granted_is told told.reply (grant_told txn file grant) is) here
+pub heard_at : (txn : ℕ) (file : List ℕ) (told : NodeTold) (result : Result (Grant × NodeAsk) LineFault) (new : List Exchange) → granted told told.reply ≡ grant_answer txn file result → Contains (answers_in new) told → IfOk result (λ locked. Contains (answers_in new) (grant_told txn file locked.0))
+heard_at txn file told (Ok locked) new is here = subst (Contains (answers_in new)) (granted_is told told.reply (grant_told txn file locked.0) is) here
 heard_at txn file told (Err fault) new is here = tt
 
 -- an answer is not want of memory
@@ -46,12 +47,12 @@ no_want told (replies.Granted version content) is = cc
 no_want told (replies.Refused refusal) is = cc
 no_want told reply is = cc
 
-pub unasked_lock : (txn : ℕ) (file : List ℕ) (told : NodeTold) (result : Result Grant LineFault) (old new : List Exchange) → granted told told.reply ≡ grant_answer txn file result → IsUnasked result old new
-unasked_lock txn file told (Ok grant) old new is = tt
+pub unasked_lock : (txn : ℕ) (file : List ℕ) (told : NodeTold) (result : Result (Grant × NodeAsk) LineFault) (old new : List Exchange) → granted told told.reply ≡ grant_answer txn file result → IsUnasked result old new
+unasked_lock txn file told (Ok locked) old new is = tt
 unasked_lock txn file told (Err faults.Memory) old new is = absurd (no_want told told.reply is)
 unasked_lock txn file told (Err fault) old new is = tt
 
-pub asked_lock : (txn : ℕ) (file : List ℕ) (mode : Mode) (server : ℕ) (told : NodeTold) (result : Result Grant LineFault) (old new : List Exchange) → Follows (node_line server (lock_ask txn file mode)) old new (Some (record { answer = Ok told; after = tt })) → granted told told.reply ≡ grant_answer txn file result → Follows (lock_line txn file mode server) old new (ended_by (grant_answer txn file result) tt)
+pub asked_lock : (txn : ℕ) (file : List ℕ) (mode : Mode) (server : ℕ) (told : NodeTold) (result : Result (Grant × NodeAsk) LineFault) (old new : List Exchange) → Follows (node_line server (lock_ask txn file mode)) old new (Some (record { answer = Ok told; after = tt })) → granted told told.reply ≡ grant_answer txn file result → Follows (lock_line txn file mode server) old new (ended_by (grant_answer txn file result) tt)
 asked_lock txn file mode server told result old new first is =
     let P : Result NodeTold LineFault → Type 0 = λ answer. Follows (lock_line txn file mode server) old new (ended_by answer tt) in
     subst P is (follows_on (node_line server (lock_ask txn file mode)) (λ none. none) (λ t none. answers (granted t t.reply) none) told tt old new new (ended_by (granted told told.reply) tt) first (follows_answer (granted told told.reply) tt new))

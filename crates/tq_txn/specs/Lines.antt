@@ -66,14 +66,19 @@ granted told (replies.Refused refusal) = Err (faults.Server told.server refusal)
 granted told reply = Err (faults.WrongReply (parts.Server told.server))
 
 -- the answer that granted the transaction a lock on the file, or why there is none
-abbrev pub grant_answer : ℕ → List ℕ → Result Grant LineFault → Result NodeTold LineFault
-grant_answer txn file (Ok grant) = Ok (grant_told txn file grant)
+abbrev pub grant_answer : ℕ → List ℕ → Result (Grant × NodeAsk) LineFault → Result NodeTold LineFault
+grant_answer txn file (Ok locked) = Ok (grant_told txn file locked.0)
 grant_answer txn file (Err fault) = Err fault
 
 -- the same of locks at several servers
 abbrev pub grants_answer : ℕ → List ℕ → Result (List Grant) LineFault → Result (List NodeTold) LineFault
 grants_answer txn file (Ok grants) = Ok (answers_of txn file grants)
 grants_answer txn file (Err fault) = Err fault
+
+-- how a call ended that hands its ask back
+abbrev pub without_ask : Result NodeAsk LineFault → Result (Unit {0}) LineFault
+without_ask (Ok ask) = Ok tt
+without_ask (Err fault) = Err fault
 
 -- the grant is of this server and mode
 abbrev pub IsLockAt : ℕ → Mode → Grant → Type 0

@@ -58,34 +58,37 @@ fn choose<A: Asker>(asker: &mut A, alloc: Global, levels: Levels) -> Result<Quor
     }
 }
 
-/// A lock that a transaction wants at each server of a quorum, with the ask for it, which all of them are sent.
+/// A lock that a transaction wants at each server of a quorum.
 #[derive(Drop)]
 struct WantedLock {
     file: FileName,
     mode: Mode,
-    ask: NodeAsk,
 }
 
-/// The lock of this mode that a server's answer grants.
+/// The lock of this mode that a server's answer grants, with the ask once more.
 #[inline(always)]
-fn granted(mode: Mode, told: NodeTold) -> Result<Grant, LineFault>
+fn granted(mode: Mode, told: NodeTold) -> Result<(Grant, NodeAsk), LineFault>
     ensures told { (txn : ℕ) (file : List ℕ) → told.ask ≡ spec.lock_ask txn file mode → spec.granted told told.reply ≡ spec.grant_answer txn file result }
-    ensures grant { IfOk result (λ grant. spec.IsLockAt told.server mode grant) }
+    ensures grant { IfOk result (λ locked. spec.IsLockAt told.server mode locked.0) }
+    ensures ask { IfOk result (λ locked. locked.1 ≡ told.ask) }
 {
     let NodeTold {
         server,
         number,
-        ask: _,
+        ask,
         reply,
     } = told;
     match reply {
-        NodeReply::Granted { version, content } => Ok(Grant {
-            server,
-            number,
-            mode,
-            version,
-            content,
-        }),
+        NodeReply::Granted { version, content } => {
+            let grant = Grant {
+                server,
+                number,
+                mode,
+                version,
+                content,
+            };
+            Ok((grant, ask))
+        }
         NodeReply::Refused(refusal) => Err(LineFault::Server { server, refusal }),
         _ => Err(LineFault::WrongReply {
             part: Part::Server(server),
@@ -93,78 +96,84 @@ fn granted(mode: Mode, told: NodeTold) -> Result<Grant, LineFault>
     }
 }
 
-/// A lock at a server.
+/// A lock at a server by this ask, which is handed back.
 fn lock_at<A: Asker>(
     asker: &mut A,
     alloc: Global,
     txn: u64,
     lock: &WantedLock,
     server: ServerId,
-) -> Result<Grant, LineFault>
+    ask: NodeAsk,
+) -> Result<(Grant, NodeAsk), LineFault>
     requires of_tree { server.levels ≡ A.levels asker.old }
-    requires ask { lock.now.ask ≡ spec.lock_ask txn lock.now.file lock.now.mode }
+    requires ask { ask ≡ spec.lock_ask txn lock.now.file lock.now.mode }
     ensures asks { line.Follows (spec.lock_line txn lock.now.file lock.now.mode server.number) (A.told asker.old) (A.told asker.new) (line.ended_by (spec.grant_answer txn lock.now.file result) tt) }
     ensures unasked { line.IsUnasked result (A.told asker.old) (A.told asker.new) }
-    ensures heard { IfOk result (λ grant. Contains (answers_in (A.told asker.new)) (grant_told txn lock.now.file grant)) }
-    ensures grant { IfOk result (λ grant. spec.IsLockAt server.number lock.now.mode grant) }
+    ensures heard { IfOk result (λ locked. Contains (answers_in (A.told asker.new)) (grant_told txn lock.now.file locked.0)) }
+    ensures grant { IfOk result (λ locked. spec.IsLockAt server.number lock.now.mode locked.0) }
+    ensures ask { IfOk result (λ locked. locked.1 ≡ spec.lock_ask txn lock.now.file lock.now.mode) }
     ensures tree { A.levels asker.new ≡ A.levels asker.old }
 {
-    match asker.node(alloc, server, lock.ask.clone()?) {
+    match asker.node(alloc, server, ask) {
         Ok(told) => granted(lock.mode, told),
         Err(fault) => Err(LineFault::from(fault)),
     }
 }
 
-/// A lock at one more server, which is noted if it granted it: where memory runs out, it was not asked, or did not
-/// answer.
+/// A lock at one more server by this ask, which is handed back. The server is noted if it granted the lock: where memory
+/// runs out, it was not asked, or did not answer.
 fn lock_next<A: Asker>(
     asker: &mut A,
     alloc: Global,
     open: &Open,
     lock: &WantedLock,
     server: ServerId,
+    ask: NodeAsk,
     noting: &mut Option<Noting>,
     grants: &mut Vec<Grant>,
-) -> Result<(), LineFault>
+) -> Result<NodeAsk, LineFault>
     requires same { open.now.levels ≡ A.levels asker.old }
     requires of_tree { server.levels ≡ A.levels asker.old }
-    requires ask { lock.now.ask ≡ spec.lock_ask open.now.txn lock.now.file lock.now.mode }
+    requires ask { ask ≡ spec.lock_ask open.now.txn lock.now.file lock.now.mode }
     requires noting { open_spec.CanNote open.now noting.old (server.number ∷ []) }
     requires room { vec_len grants.old < vec_capacity grants.old }
     ensures asks { line.Follows (spec.next_lock lock.now.file lock.now.mode server.number (record { answers = answers_of open.now.txn lock.now.file grants.old.items; txn = open_spec.noted open.now noting.old })) (A.told asker.old) (A.told asker.new)
-        (line.ended_by result (record { answers = answers_of open.now.txn lock.now.file grants.new.items; txn = open_spec.noted open.now noting.new })) }
+        (line.ended_by (spec.without_ask result) (record { answers = answers_of open.now.txn lock.now.file grants.new.items; txn = open_spec.noted open.now noting.new })) }
     ensures unasked { line.IsUnasked result (A.told asker.old) (A.told asker.new) }
     ensures noting { (more : List ℕ) → open_spec.CanNote open.now noting.old (server.number ∷ more) → open_spec.CanNote open.now noting.new more }
     ensures kept { open_spec.IsTouched (open_spec.noted open.now noting.old) (open_spec.noted open.now noting.new) }
     ensures room { vec_len grants.new ≤ vec_len grants.old + 1 }
     ensures capacity { vec_capacity grants.new ≡ vec_capacity grants.old }
     ensures heard { AreTold (A.told asker.old) (answers_of open.now.txn lock.now.file grants.old.items) → AreTold (A.told asker.new) (answers_of open.now.txn lock.now.file grants.new.items) }
+    ensures ask { IfOk result (λ again. again ≡ spec.lock_ask open.now.txn lock.now.file lock.now.mode) }
     ensures servers { OnOk result (granters grants.new.items ≡ granters grants.old.items ++ server.number ∷ []) }
     ensures modes { spec.AreOf lock.now.mode grants.old.items → spec.AreOf lock.now.mode grants.new.items }
     ensures tree { A.levels asker.new ≡ A.levels asker.old }
 {
-    let grant = match lock_at(asker, alloc, open.txn(), lock, server) {
-        Ok(grant) => grant,
+    let locked = match lock_at(asker, alloc, open.txn(), lock, server, ask) {
+        Ok(locked) => locked,
         Err(fault) => return Err(fault),
     };
+    let (grant, ask) = locked;
     open.note(noting, server);
     grants.push_reserved(grant);
-    Ok(())
+    Ok(ask)
 }
 
-/// A lock at each of the servers, in their order. Each that granted one is noted.
+/// A lock at each of the servers, in their order, by the same ask. Each that granted one is noted.
 fn lock_each<A: Asker>(
     asker: &mut A,
     alloc: Global,
     open: &Open,
     lock: &WantedLock,
     servers: &[ServerId],
+    ask: NodeAsk,
     noting: &mut Option<Noting>,
     grants: &mut Vec<Grant>,
 ) -> Result<(), LineFault>
     requires same { open.now.levels ≡ A.levels asker.old }
     requires of_tree { list_all (λ id. id.levels == A.levels asker.old) servers.now ≡ true }
-    requires ask { lock.now.ask ≡ spec.lock_ask open.now.txn lock.now.file lock.now.mode }
+    requires ask { ask ≡ spec.lock_ask open.now.txn lock.now.file lock.now.mode }
     requires noting { open_spec.CanNote open.now noting.old (numbers_of servers.now) }
     requires room { vec_len grants.old + length servers.now ≤ vec_capacity grants.old }
     ensures asks { line.Follows (spec.locks_line lock.now.file lock.now.mode (numbers_of servers.now) (record { answers = answers_of open.now.txn lock.now.file grants.old.items; txn = open_spec.noted open.now noting.old })) (A.told asker.old) (A.told asker.new)
@@ -176,8 +185,12 @@ fn lock_each<A: Asker>(
     ensures modes { spec.AreOf lock.now.mode grants.old.items → spec.AreOf lock.now.mode grants.new.items }
     ensures tree { A.levels asker.new ≡ A.levels asker.old }
 {
+    let mut ask = ask;
     for server in servers {
-        lock_next(asker, alloc, open, lock, *server, noting, grants)?;
+        ask = match lock_next(asker, alloc, open, lock, *server, ask, noting, grants) {
+            Ok(ask) => ask,
+            Err(fault) => return Err(fault),
+        };
     }
     Ok(())
 }
@@ -216,11 +229,7 @@ fn lock_quorum<A: Asker>(
         Ok(quorum) => quorum,
         Err(fault) => return Err(fault),
     };
-    let lock = WantedLock {
-        file: *file,
-        mode,
-        ask,
-    };
+    let lock = WantedLock { file: *file, mode };
     let servers = quorum.servers();
     let mut grants = match Vec::with_capacity(alloc, servers.len()) {
         Ok(grants) => grants,
@@ -230,7 +239,16 @@ fn lock_quorum<A: Asker>(
         Ok(noting) => noting,
         Err(_) => return Err(LineFault::Memory),
     };
-    let locked = lock_each(asker, alloc, open, &lock, servers, &mut noting, &mut grants);
+    let locked = lock_each(
+        asker,
+        alloc,
+        open,
+        &lock,
+        servers,
+        ask,
+        &mut noting,
+        &mut grants,
+    );
     open.take_back(noting);
     match locked {
         Ok(()) => Ok(Seq::from_vec(grants)),

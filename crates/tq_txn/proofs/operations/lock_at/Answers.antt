@@ -1,7 +1,6 @@
-use Rattle.std.proofs.Common.{◌≡◌, ◌∙◌, rules, Some, Ok, subst}
+use Rattle.std.proofs.Common.{◌∙◌, Some, Ok, subst}
 use Rattle.tq_asks.specs.declared.ask.NodeAsk.{NodeAsk}
 use Rattle.tq_txn.specs.Dialogue.{Follows, node_line}
-use Rattle.tq_txn.specs.Lines.{lock_ask}
 use Rattle.tq_txn.proofs.GrantLaws.{asked_lock, heard_at, unasked_lock}
 use Rattle.tq_txn.proofs.KnownLaws.{told_last}
 use Rattle.tq_txn.proofs.LineLaws.{told_node}
@@ -13,21 +12,18 @@ returns-in-Ok-clause-asks g c =
     let mode = c.args.lock.now.mode in
     let old = g.A.Asker.told c.args.asker.now in
     let new = g.A.Asker.told c.node.new.self in
-    let same : c.in_ok-clone.field-0 ≡ lock_ask c.args.txn file mode = search rules in
     let P : NodeAsk → Type 0 = λ ask. Follows (node_line c.args.server.number ask) old new (Some (record { answer = Ok c.in-Ok.told; after = tt })) in
-    let first = told_node c.args.server.number c.in_ok-clone.field-0 c.in-Ok.told old new c.in-Ok.ensures.exchanges c.in-Ok.ensures.same.0 c.in-Ok.ensures.same.1 in
-    asked_lock c.args.txn file mode c.args.server.number c.in-Ok.told c.granted.result old new (subst P same first) (c.granted.ensures.told c.args.txn file (c.in-Ok.ensures.same.1 ∙ same))
+    let first = told_node c.args.server.number c.args.ask c.in-Ok.told old new c.in-Ok.ensures.exchanges c.in-Ok.ensures.same.0 c.in-Ok.ensures.same.1 in
+    asked_lock c.args.txn file mode c.args.server.number c.in-Ok.told c.granted.result old new (subst P c.requires.ask first) (c.granted.ensures.told c.args.txn file (c.in-Ok.ensures.same.1 ∙ c.requires.ask))
 
 pub returns-in-Ok-clause-heard : goal.returns-in-Ok-clause-heard
 returns-in-Ok-clause-heard g c =
     let file = c.args.lock.now.file in
     let new = g.A.Asker.told c.node.new.self in
-    let same : c.in_ok-clone.field-0 ≡ lock_ask c.args.txn file c.args.lock.now.mode = search rules in
-    heard_at c.args.txn file c.in-Ok.told c.granted.result new (c.granted.ensures.told c.args.txn file (c.in-Ok.ensures.same.1 ∙ same))
-    (told_last c.args.server.number c.in_ok-clone.field-0 c.in-Ok.told (g.A.Asker.told c.args.asker.now) new c.in-Ok.ensures.exchanges c.in-Ok.ensures.same.0 c.in-Ok.ensures.same.1)
+    heard_at c.args.txn file c.in-Ok.told c.granted.result new (c.granted.ensures.told c.args.txn file (c.in-Ok.ensures.same.1 ∙ c.requires.ask))
+    (told_last c.args.server.number c.args.ask c.in-Ok.told (g.A.Asker.told c.args.asker.now) new c.in-Ok.ensures.exchanges c.in-Ok.ensures.same.0 c.in-Ok.ensures.same.1)
 
 pub returns-in-Ok-clause-unasked : goal.returns-in-Ok-clause-unasked
 returns-in-Ok-clause-unasked g c =
     let file = c.args.lock.now.file in
-    let same : c.in_ok-clone.field-0 ≡ lock_ask c.args.txn file c.args.lock.now.mode = search rules in
-    unasked_lock c.args.txn file c.in-Ok.told c.granted.result (g.A.Asker.told c.args.asker.now) (g.A.Asker.told c.node.new.self) (c.granted.ensures.told c.args.txn file (c.in-Ok.ensures.same.1 ∙ same))
+    unasked_lock c.args.txn file c.in-Ok.told c.granted.result (g.A.Asker.told c.args.asker.now) (g.A.Asker.told c.node.new.self) (c.granted.ensures.told c.args.txn file (c.in-Ok.ensures.same.1 ∙ c.requires.ask))

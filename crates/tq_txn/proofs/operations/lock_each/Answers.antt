@@ -2,8 +2,7 @@ use Rattle.std.proofs.Common.{rules, ◌≡◌, ◌==◌, ◌+◌, ◌++◌, ◌
 use Rattle.std.proofs.lemmas.List.{drop_all}
 use Rattle.std.proofs.lemmas.Bool.{and_parts}
 use Rattle.std.specs.List.{list_all}
-use Rattle.std.specs.Prelude.{Option, Result}
-use Rattle.tq_txn.specs.declared.fault.LineFault.{LineFault}
+use Rattle.std.specs.Prelude.{Option}
 use Rattle.tq_coterie.specs.Coterie.{numbers_of}
 use Rattle.tq_shape.specs.Tree.{Server}
 use Rattle.tq_evidence.specs.Evidence.{granters}
@@ -40,13 +39,14 @@ loop-server-preserved g c =
     record {
       tree = c.lock_next.ensures.tree ∙ held.tree;
       of_tree = subst R (sym c.lock_next.ensures.tree) parts.1;
+      ask = c.in-Ok.ensures.ask;
       noting = c.lock_next.ensures.noting (numbers_of rest) (subst P is held.noting);
       room = fits (vec_len c.loop-server.grants) (vec_len c.lock_next.new.grants) (length rest) (length all) (vec_capacity c.loop-server.grants) (vec_capacity c.lock_next.new.grants) c.lock_next.ensures.room c.lock_next.ensures.capacity (ap length is) held.room;
       kept = Prim.search (held.kept, c.lock_next.ensures.kept, rules);
       heard = λ before. c.lock_next.ensures.heard (held.heard before);
-      servers = servers_left c.loop-server.grants.items c.lock_next.new.grants.items c.server-item.result all rest c.in_ok-lock_next.ensures.servers is ∙ held.servers;
+      servers = servers_left c.loop-server.grants.items c.lock_next.new.grants.items c.server-item.result all rest c.in-Ok.ensures.servers is ∙ held.servers;
       modes = λ before. c.lock_next.ensures.modes (held.modes before);
-      asks = λ after end more. held.asks after end (locks_on c.args.lock.now.file c.args.lock.now.mode all rest c.server-item.result record { answers = answers_of c.args.open.now.txn c.args.lock.now.file c.loop-server.grants.items; txn = noted c.args.open.now c.loop-server.noting } record { answers = answers_of c.args.open.now.txn c.args.lock.now.file c.lock_next.new.grants.items; txn = noted c.args.open.now c.lock_next.new.noting } is (g.A.Asker.told c.loop-server.asker) (g.A.Asker.told c.lock_next.new.asker) after end c.in_ok-lock_next.ensures.asks more);
+      asks = λ after end more. held.asks after end (locks_on c.args.lock.now.file c.args.lock.now.mode all rest c.server-item.result record { answers = answers_of c.args.open.now.txn c.args.lock.now.file c.loop-server.grants.items; txn = noted c.args.open.now c.loop-server.noting } record { answers = answers_of c.args.open.now.txn c.args.lock.now.file c.lock_next.new.grants.items; txn = noted c.args.open.now c.lock_next.new.noting } is (g.A.Asker.told c.loop-server.asker) (g.A.Asker.told c.lock_next.new.asker) after end c.in-Ok.ensures.asks more);
     }
 
 pub returns-clause-noting : goal.returns-clause-noting
@@ -60,27 +60,25 @@ returns-clause-asks g c =
     let P : List Server → Type 0 = λ ids. Follows (locks_line c.args.lock.now.file c.args.lock.now.mode (numbers_of ids) now) told told end in
     c.loop-server.invariant.asks told end (subst P (sym (drop_all c.loop-server.server-index c.args.servers.now c.loop-server-test.false)) (follows_end _ told))
 
-pub returns-in_err-lock_next-clause-noting : goal.returns-in_err-lock_next-clause-noting
-returns-in_err-lock_next-clause-noting g c =
+pub returns-in-Err-clause-noting : goal.returns-in-Err-clause-noting
+returns-in-Err-clause-noting g c =
     let rest = drop (c.loop-server.server-index + 1) c.args.servers.now in
     let is = left_from c.args.servers.now c.loop-server.server-index c.server-item.result c.loop-server-test.true c.server-item.is in
     let P : List Server → Type 0 = λ ids. CanNote c.args.open.now c.loop-server.noting (numbers_of ids) in
     can_note_none c.args.open.now c.lock_next.new.noting (numbers_of rest) (c.lock_next.ensures.noting (numbers_of rest) (subst P is c.loop-server.invariant.noting))
 
-pub returns-in_err-lock_next-clause-asks : goal.returns-in_err-lock_next-clause-asks
-returns-in_err-lock_next-clause-asks g c =
+pub returns-in-Err-clause-asks : goal.returns-in-Err-clause-asks
+returns-in-Err-clause-asks g c =
     let all = drop c.loop-server.server-index c.args.servers.now in
     let rest = drop (c.loop-server.server-index + 1) c.args.servers.now in
     let is = left_from c.args.servers.now c.loop-server.server-index c.server-item.result c.loop-server-test.true c.server-item.is in
     let new : LocksView = record { answers = answers_of c.args.open.now.txn c.args.lock.now.file c.lock_next.new.grants.items; txn = noted c.args.open.now c.lock_next.new.noting } in
     let told = g.A.Asker.told c.lock_next.new.asker in
-    let fault : Err c.in_err-lock_next.field-0.0 ≡ c.from_residual.result = Prim.search (c.from_residual.ensures, rules) in
-    let P : Result (Unit {0}) LineFault → Type 0 = λ result. Follows (locks_line c.args.lock.now.file c.args.lock.now.mode (numbers_of c.args.servers.now) record { answers = answers_of c.args.open.now.txn c.args.lock.now.file c.args.grants.now.items; txn = noted c.args.open.now c.args.noting.now }) (g.A.Asker.told c.args.asker.now) told (ended_by result new) in
-    subst P fault (c.loop-server.invariant.asks told (ended_by (Err c.in_err-lock_next.field-0.0) new)
-    (locks_off c.args.lock.now.file c.args.lock.now.mode all rest c.server-item.result record { answers = answers_of c.args.open.now.txn c.args.lock.now.file c.loop-server.grants.items; txn = noted c.args.open.now c.loop-server.noting } new is c.in_err-lock_next.field-0.0 (g.A.Asker.told c.loop-server.asker) told c.in_err-lock_next.ensures.asks))
+    c.loop-server.invariant.asks told (ended_by (Err c.in-Err.fault) new)
+    (locks_off c.args.lock.now.file c.args.lock.now.mode all rest c.server-item.result record { answers = answers_of c.args.open.now.txn c.args.lock.now.file c.loop-server.grants.items; txn = noted c.args.open.now c.loop-server.noting } new is c.in-Err.fault (g.A.Asker.told c.loop-server.asker) told c.in-Err.ensures.asks)
 
-pub returns-in_err-lock_next-clause-heard : goal.returns-in_err-lock_next-clause-heard
-returns-in_err-lock_next-clause-heard g c = λ before. c.lock_next.ensures.heard (c.loop-server.invariant.heard before)
+pub returns-in-Err-clause-heard : goal.returns-in-Err-clause-heard
+returns-in-Err-clause-heard g c = λ before. c.lock_next.ensures.heard (c.loop-server.invariant.heard before)
 
 pub returns-clause-servers : goal.returns-clause-servers
 returns-clause-servers g c =
@@ -88,5 +86,5 @@ returns-clause-servers g c =
     let none : left ≡ [] = drop_all c.loop-server.server-index c.args.servers.now c.loop-server-test.false in
     sym (ap (λ servers. granters c.loop-server.grants.items ++ numbers_of servers) none ∙ append-nil (granters c.loop-server.grants.items)) ∙ c.loop-server.invariant.servers
 
-pub returns-in_err-lock_next-clause-modes : goal.returns-in_err-lock_next-clause-modes
-returns-in_err-lock_next-clause-modes g c = λ before. c.lock_next.ensures.modes (c.loop-server.invariant.modes before)
+pub returns-in-Err-clause-modes : goal.returns-in-Err-clause-modes
+returns-in-Err-clause-modes g c = λ before. c.lock_next.ensures.modes (c.loop-server.invariant.modes before)

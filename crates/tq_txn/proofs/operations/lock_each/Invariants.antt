@@ -6,7 +6,7 @@ use Rattle.tq_evidence.specs.Evidence.{granters}
 use Rattle.tq_states.specs.Cited.{answers_of}
 use Rattle.tq_states.specs.Open.{CanNote, IsTouched, noted}
 use Rattle.tq_txn.specs.Dialogue.{Follows, LineEnd}
-use Rattle.tq_txn.specs.Lines.{AreOf, LocksView, locks_line}
+use Rattle.tq_txn.specs.Lines.{AreOf, LocksView, lock_ask, locks_line}
 use Rattle.tq_txn.specs.Told.{AreTold}
 use Rattle.tq_txn.specs.declared.asker.Exchange.{Exchange}
 use Rattle.tq_txn.proofs.operations.lock_each.Given as goal
@@ -16,6 +16,7 @@ abbrev pub invariant-loop-server : goal.invariant-loop-server
 invariant-loop-server g l = record {
   tree : g.A.Asker.levels l.asker ≡ g.A.Asker.levels l.initial.asker;
   of_tree : list_all (λ id. id.levels == g.A.Asker.levels l.asker) (drop l.server-index l.servers) ≡ true;
+  ask : l.ask ≡ lock_ask l.open.txn l.lock.file l.lock.mode;
   noting : CanNote l.open l.noting (numbers_of (drop l.server-index l.servers));
   room : vec_len l.grants + length (drop l.server-index l.servers) ≤ vec_capacity l.grants;
   kept : IsTouched (noted l.open l.initial.noting) (noted l.open l.noting);

@@ -26,7 +26,7 @@ pub returns-clause-heard : goal.returns-clause-heard
 returns-clause-heard g c =
     let file = c.args.lock.now.file in
     let txn = c.args.open.now.txn in
-    let grant = c.in-Ok.grant in
+    let grant = c.in-Ok.locked.0 in
     let old = g.A.Asker.told c.args.asker.now in
     let new = g.A.Asker.told c.lock_at.new.asker in
     let more = grown_along (lock_line c.txn.result file c.args.lock.now.mode c.args.server.number) old new (ended_by (grant_answer c.txn.result file c.lock_at.result) tt) c.lock_at.ensures.asks in
@@ -38,7 +38,7 @@ pub returns-clause-asks : goal.returns-clause-asks
 returns-clause-asks g c =
     let file = c.args.lock.now.file in
     let txn = c.args.open.now.txn in
-    let grant = c.in-Ok.grant in
+    let grant = c.in-Ok.locked.0 in
     let old : LocksView = record { answers = answers_of txn file c.args.grants.now.items; txn = noted c.args.open.now c.args.noting.now } in
     let new : LocksView = record { answers = answers_of txn file c.push_reserved.new.self.items; txn = noted c.args.open.now c.note.new.noting } in
     let told = g.A.Asker.told c.args.asker.now in
@@ -48,7 +48,7 @@ returns-clause-asks g c =
     (answers_push txn file c.args.grants.now.items c.push_reserved.new.self.items grant c.push_reserved.ensures.items) c.note.ensures.value (subst P c.txn.ensures c.in-Ok.ensures.asks)
 
 pub returns-clause-servers : goal.returns-clause-servers
-returns-clause-servers g c = granters_push c.args.grants.now.items c.push_reserved.new.self.items c.in-Ok.grant c.args.server.number c.push_reserved.ensures.items c.in-Ok.ensures.grant.0
+returns-clause-servers g c = granters_push c.args.grants.now.items c.push_reserved.new.self.items c.in-Ok.locked.0 c.args.server.number c.push_reserved.ensures.items c.in-Ok.ensures.grant.0
 
 pub returns-clause-modes : goal.returns-clause-modes
-returns-clause-modes g c = modes_push c.args.lock.now.mode c.args.grants.now.items c.push_reserved.new.self.items c.in-Ok.grant c.push_reserved.ensures.items c.in-Ok.ensures.grant.1
+returns-clause-modes g c = modes_push c.args.lock.now.mode c.args.grants.now.items c.push_reserved.new.self.items c.in-Ok.locked.0 c.push_reserved.ensures.items c.in-Ok.ensures.grant.1
