@@ -1,5 +1,5 @@
 -- Names of files.
-use Rattle.std.specs.Prelude.{ℕ, ◌+◌, ◌-◌, Bool, false, ◌||◌, ◌&&◌, ◌==◌, List, [], ◌∷◌, ◌++◌, length, replicate, nat_le, slice_get, slice_index}
+use Rattle.std.specs.Prelude.{ℕ, ◌+◌, ◌-◌, Bool, false, ◌||◌, ◌&&◌, ◌==◌, List, [], ◌∷◌, ◌++◌, length, replicate, nat_le, slice_get, slice_index, if◌then◌else◌}
 use Rattle.std.specs.List.{list_all, before_first}
 use Rattle.std.specs.Option.{option_map_or}
 use Rattle.std.specs.Char.{is_ascii_lowercase, is_ascii_digit}
@@ -34,9 +34,11 @@ word_at bytes at = from_be_bytes w64
     (slice_index bytes at ∷ slice_index bytes (at + 1) ∷ slice_index bytes (at + 2) ∷ slice_index bytes (at + 3)
     ∷ slice_index bytes (at + 4) ∷ slice_index bytes (at + 5) ∷ slice_index bytes (at + 6) ∷ slice_index bytes (at + 7) ∷ [])
 
--- what a hash of a name is fed: its words, in order
+-- what a hash of a name is fed: its words, in order, and the first alone where it has no more than eight bytes
 abbrev pub hashed_words : List ℕ → HashWrites
-hashed_words name = fed.u64 (word_at (padded name) 0) ++ fed.u64 (word_at (padded name) 8) ++ fed.u64 (word_at (padded name) 16) ++ fed.u64 (word_at (padded name) 24)
+hashed_words name =
+    fed.u64 (word_at (padded name) 0)
+    ++ (if word_at (padded name) 8 == 0 then [] else fed.u64 (word_at (padded name) 8) ++ fed.u64 (word_at (padded name) 16) ++ fed.u64 (word_at (padded name) 24))
 
 -- two names, or two contents, are the same bytes
 abbrev pub same_name : List ℕ → List ℕ → Bool

@@ -182,9 +182,12 @@ impl Hash for FileName {
 
     fn hash<H: Hasher>(&self, state: &mut H) {
         self.word(0).hash(state);
-        self.word(8).hash(state);
-        self.word(16).hash(state);
-        self.word(24).hash(state);
+        // No byte of a name is zero, so one of up to eight bytes ends here.
+        if self.word(8) != 0 {
+            self.word(8).hash(state);
+            self.word(16).hash(state);
+            self.word(24).hash(state);
+        }
     }
 }
 
