@@ -172,6 +172,9 @@ row-found P (first ∷ rows) file row all found = by (same_name file first.file)
         (subst P is (All-head P first rows all), ap (λ (r : FileRow). r.file) (sym is) ∙ sym (same_name-is file first.file s))
     by false s h rest = rest h
 
+pub file-found : (file : List ℕ) (rows : List FileRow) (row : FileRow) → lookup (same_name file) (by_file rows) ≡ Some row → row.file ≡ file
+file-found file rows row found = let both = row-found (λ (r : FileRow). Unit {0}) rows file row (λ k d h. tt) found in both.1
+
 pub exact-found : (levels : ℕ) (nodes : List NodeView) (rows : List FileRow) (file : List ℕ) (row : FileRow) → AreExact levels nodes rows → Some row ≡ row_in rows file
     → (row ≡ row_at levels nodes row.file row.version) × (row.file ≡ file)
 exact-found levels nodes rows file row exact found =

@@ -7,6 +7,7 @@ use Rattle.std.proofs.lemmas.List.Elements.{All-nil, All-cons}
 use Rattle.indexmap.specs.IndexMap.{insert_entry}
 use Rattle.tq_store.specs.Names.{same_name}
 use Rattle.tq_store.proofs.SameName.{same_name-is, same_name-refl}
+use Rattle.tq_evidence.specs.declared.op.Op.{Op}
 use Rattle.tq_desk.specs.declared.ask.DeskAsk.{DeskAsk}
 use Rattle.tq_desk.specs.declared.ask.DeskAsk.TheVariants as asks
 use Rattle.tq_desk.specs.declared.ask.DeskReply.{DeskReply}
@@ -105,3 +106,9 @@ module _ (levels : ℕ) (nodes : List NodeView) where
   of_tree-next rows [] = All-nil (λ (row : FileRow). (row.current.levels ≡ levels) × (row.stale.levels ≡ levels))
   of_tree-next rows (name ∷ names) =
       All-cons (λ (row : FileRow). (row.current.levels ≡ levels) × (row.stale.levels ≡ levels)) (row_at levels nodes name (version_in rows name + 1)) (rows_next rows names) (refl, refl) (of_tree-next rows names)
+
+-- ---- no ops
+
+pub names-none : (ops : List Op) → length ops < 1 → names_of ops ≡ []
+names-none [] none = no_ops
+names-none (op ∷ ops) none = absurd (omega (arith, none))

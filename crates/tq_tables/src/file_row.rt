@@ -1,4 +1,5 @@
-ghost use Rattle.std.specs.Prelude.{◌≡◌, ◌+◌, ◌<◌, ◌^◌, IfOk};
+ghost use Rattle.std.specs.Prelude.{◌≡◌, ◌+◌, ◌<◌, ◌≤◌, ◌^◌, IfOk};
+ghost use Rattle.tq_store.specs.Copies.{copy_of};
 ghost use Rattle.tq_tables.specs.Files.{stood};
 ghost use Rattle.tq_tables.specs.Parts.{AreOfTree};
 ghost use Rattle.tq_tables.specs.Rows.{row_at};
@@ -57,20 +58,21 @@ impl FileRow {
         row.version += 1;
         for server in self.current.iter() {
             let place = (server.number() - 1) as usize;
-            row.stand(&nodes[place]);
+            row.stand(&nodes[place], 0);
         }
         Ok(row)
     }
 
-    /// The server stands among the current ones where its copy of the file is of the row's version or a later one, and
-    /// else among the stale ones. It takes no memory.
-    pub(crate) fn stand(&mut self, node: &Node)
+    /// The server, whose copy of the file is at least of that version, stands among the current ones where its copy is of
+    /// the row's version or a later one, and else among the stale ones. It takes no memory.
+    pub(crate) fn stand(&mut self, node: &Node, least: u64)
+        requires least { least ≤ (copy_of node.now.state.records.copies self.old.file).version }
         requires current { node.now.levels ≡ self.old.current.levels }
         requires stale { node.now.levels ≡ self.old.stale.levels }
         ensures { self.new ≡ stood node.now self.old }
     {
         let server = node.server();
-        if node.copies().get(&self.file).version >= self.version {
+        if least >= self.version || node.copies().get(&self.file).version >= self.version {
             self.current.insert(server);
             self.stale.remove(server);
         } else {

@@ -32,8 +32,28 @@ pub fn file_rows(
 }
 
 /// A row for each file that the ops write, ascending by name, at the version after the one that the table says, or at
-/// version 1 where the table has no row of the file.
+/// version 1 where the table has no row of the file. Most asks have no ops, and take no memory.
+#[inline(always)]
 pub(crate) fn rows_written(
+    alloc: Global,
+    nodes: &[Node],
+    table: &FileTable,
+    ops: &[Op],
+) -> Result<Vec<FileRow>, Memory>
+    requires of_tree { AreOfTree table.now.levels 1 nodes.now }
+    requires exact { AreExact table.now.levels nodes.now table.now.rows }
+    requires room { (file : List ℕ) → version_in table.now.rows file + 1 < 2 ^ 64 }
+    ensures { IfOk result (λ rows. rows.items
+        ≡ map (λ file. spec.row_at table.now.levels nodes.now file (version_in table.now.rows file + 1)) (names_of ops.now)) }
+{
+    match ops {
+        [] => Ok(Vec::new(alloc)),
+        [_, ..] => rows_of_ops(alloc, nodes, table, ops),
+    }
+}
+
+/// The same, where there may be ops.
+fn rows_of_ops(
     alloc: Global,
     nodes: &[Node],
     table: &FileTable,

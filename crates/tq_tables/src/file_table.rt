@@ -1,7 +1,9 @@
 //! The rows of files, found by the names of the files.
 ghost use Rattle.std.specs.Prelude.{[], ◌≡◌, ◌≤◌, ◌<◌, ◌+◌, length, map, IfOk, OnOk};
 ghost use Rattle.std.specs.Option.{option_copied};
-ghost use Rattle.tq_node.specs.Untouched.{raised_files};
+ghost use Rattle.std.specs.List.{AllByRecursion};
+ghost use Rattle.tq_node.specs.Untouched.{AreReached, raised_files};
+ghost use Rattle.tq_store.specs.Copies.{copy_of};
 ghost use Rattle.tq_tables.specs.NamesApart.{Apart};
 ghost use Rattle.tq_tables.specs.Files as spec;
 ghost use Rattle.tq_tables.specs.Files.{AreOfLevels};
@@ -132,39 +134,43 @@ impl FileTable {
         }
     }
 
-    /// In the row of the file, if it has one, the server stands where its copy says. It takes no memory.
-    fn stand(&mut self, node: &Node, file: &FileName)
-        requires { node.now.levels ≡ self.old.levels }
+    /// In the row of the file, if it has one, the server, whose copy is at least of that version, stands where its copy
+    /// says. It takes no memory.
+    fn stand(&mut self, node: &Node, file: &FileName, least: u64)
+        requires levels { node.now.levels ≡ self.old.levels }
+        requires least { least ≤ (copy_of node.now.state.records.copies file.now).version }
         ensures levels { self.new.levels ≡ self.old.levels }
         ensures rows { self.new.rows ≡ map (spec.stood_at node.now file.now) self.old.rows }
     {
         let _levels = self.levels;
         if let Some(row) = self.rows.get_mut(file) {
-            row.stand(node);
+            row.stand(node, least);
         }
     }
 
     /// In the rows of these files the server stands where its copies say. It takes no memory.
     #[inline(always)]
     pub(crate) fn stand_all(&mut self, node: &Node, raised: &Raised)
-        requires { node.now.levels ≡ self.old.levels }
+        requires levels { node.now.levels ≡ self.old.levels }
+        requires reached { AreReached raised.now node.now.state.records.copies }
         ensures levels { self.new.levels ≡ self.old.levels }
         ensures rows { self.new.rows ≡ spec.all_stood node.now self.old.rows (raised_files raised.now) }
     {
         match raised {
             Raised::Written(writes) => self.stand_written(node, writes.as_slice()),
-            Raised::One { file, .. } => self.stand(node, file),
+            Raised::One { file, version } => self.stand(node, file, *version),
         }
     }
 
     /// The same for the files of the writes.
     fn stand_written(&mut self, node: &Node, writes: &[Write])
-        requires { node.now.levels ≡ self.old.levels }
+        requires levels { node.now.levels ≡ self.old.levels }
+        requires reached { AllByRecursion (λ write. write.version ≤ (copy_of node.now.state.records.copies write.file).version) writes.now }
         ensures levels { self.new.levels ≡ self.old.levels }
         ensures rows { self.new.rows ≡ spec.all_stood node.now self.old.rows (map (λ write. write.file) writes.now) }
     {
         for write in writes {
-            self.stand(node, &write.file);
+            self.stand(node, &write.file, write.version);
         }
     }
 }

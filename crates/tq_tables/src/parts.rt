@@ -3,7 +3,7 @@ ghost use Rattle.tq_desk.specs.DeskChanges.{DeskFits, desk_changed};
 ghost use Rattle.tq_live.specs.View.{view_after, view_reply};
 ghost use Rattle.tq_node.specs.Node.{NodeView, answered};
 ghost use Rattle.tq_node.specs.Records.{node_reply};
-ghost use Rattle.tq_node.specs.Untouched.{KeepsOthers, raised_files};
+ghost use Rattle.tq_node.specs.Untouched.{AreReached, KeepsOthers, raised_files};
 ghost use Rattle.tq_tables.specs.Asked.{both};
 
 use crate::Journals;
@@ -132,6 +132,8 @@ impl Parts {
             → self.new ≡ record self.old { nodes = slice_set self.old.nodes (server - 1) (answered node number ask.now) }) }
         ensures raised { IfOk result (λ telling. (node : NodeView) → node ≡ slice_index_or self.old.nodes (server - 1) node
             → KeepsOthers (raised_files telling.raised) node.state.records.copies (answered node number ask.now).state.records.copies) }
+        ensures reached { IfOk result (λ telling. (node : NodeView) → node ≡ slice_index_or self.old.nodes (server - 1) node
+            → AreReached telling.raised (answered node number ask.now).state.records.copies) }
         ensures unchanged { OnErr result (self.new ≡ self.old) }
     {
         let _view = &self.view;

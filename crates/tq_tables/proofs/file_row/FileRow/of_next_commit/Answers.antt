@@ -12,6 +12,9 @@ use Rattle.tq_tables.proofs.RowLaws.{at-place}
 use Rattle.tq_tables.proofs.Settled.{IsPlace, are-places, at_next, next-exact, node-found, stood_in}
 use Rattle.tq_tables.proofs.file_row.FileRow.of_next_commit.Goals as goal
 
+pub stand-requires-clause-least : goal.stand-requires-clause-least
+stand-requires-clause-least c = omega arith
+
 pub loop-server-init : goal.loop-server-init
 loop-server-init c =
     let row = c.args.self.now in

@@ -1,12 +1,13 @@
-use Rattle.std.proofs.Common.{◌≡◌, List, map, ap, sym, subst, ◌∙◌}
+use Rattle.std.proofs.Common.{◌≡◌, ◌≤◌, ℕ, List, map, ap, sym, subst, ◌∙◌}
 use Rattle.std.specs.Map.{lookup, set_value}
 use Rattle.std.specs.Option.{option_copied_mut}
+use Rattle.tq_store.specs.Copies.{copy_of}
 use Rattle.tq_store.specs.Names.{same_name}
 use Rattle.tq_tables.specs.Files as spec
 use Rattle.tq_tables.specs.Files.{FilesView}
 use Rattle.tq_tables.specs.declared.file_row.FileRow.{FileRow}
 use Rattle.tq_tables.specs.declared.file_table.FileTable.TheInside.{Inside}
-use Rattle.tq_tables.proofs.Kept.{by_file, are-files, are-rows, stand-entries, stand-none, Apart-stood, of_tree-stood}
+use Rattle.tq_tables.proofs.Kept.{by_file, file-found, are-files, are-rows, stand-entries, stand-none, Apart-stood, of_tree-stood}
 use Rattle.tq_tables.proofs.file_table.FileTable.stand.Goals as goal
 use Rattle.tq_tables.proofs.file_table.FileTable.stand.Goals.{in-Some, in_default}
 
@@ -35,6 +36,14 @@ invariant_of-self c =
           ap (λ m. m.entries) c.get_mut.follows.holds-at-none ∙ c.self.invariant.named ∙ sym (ap by_file (stand-none node file rows none)) in
           stands (ap (λ (x : Inside). x.levels) w.self-inside-is) (ap (λ (x : Inside). x.rows.entries) w.self-inside-is ∙ are)
     ]
+
+pub stand-requires-clause-least : goal.stand-requires-clause-least
+stand-requires-clause-least c =
+    let rows = map (λ entry. entry.1) c.self.inside.rows.entries in
+    let file = c.args.file.now in
+    let found : lookup (same_name file) (by_file rows) ≡ Rattle.std.proofs.Common.Some c.in-Some.row.now =
+    ap (λ es. lookup (same_name file) es) (sym c.self.invariant.named) ∙ sym c.get_mut.ensures.value ∙ ap option_copied_mut c.in-Some.is in
+    subst (λ (name : List ℕ). c.args.least ≤ (copy_of c.args.node.now.state.records.copies name).version) (sym (file-found file rows c.in-Some.row.now found)) c.requires.least
 
 pub returns-clause-rows : goal.returns-clause-rows
 returns-clause-rows c =

@@ -1,9 +1,9 @@
 use Rattle.std.specs.Prelude.{reverse}
-use Rattle.std.proofs.Common.{◌≡◌, ◌-◌, ◌<◌, ◌≤◌, length, set, get_or, ap, sym, ◌∙◌, refl, arith}
+use Rattle.std.proofs.Common.{◌≡◌, ◌-◌, ◌<◌, ◌≤◌, length, set, get_or, ap, sym, subst, ◌∙◌, refl, arith}
 use Rattle.tq_desk.specs.DeskJournal.{commits}
-use Rattle.tq_node.specs.Node.{answered}
+use Rattle.tq_node.specs.Node.{NodeView, answered}
 use Rattle.tq_node.specs.Records.{node_reply}
-use Rattle.tq_node.specs.Untouched.{raised_files}
+use Rattle.tq_node.specs.Untouched.{AreReached, raised_files}
 use Rattle.tq_shape.specs.Journal.{entry}
 use Rattle.tq_tables.specs.Asked.{both, node_in}
 use Rattle.tq_tables.specs.Files as spec
@@ -42,8 +42,8 @@ node-node-requires c =
     let count = ap (λ (p : PartsView). length p.nodes) after ∙ length-set-nodes parts.nodes (c.args.server - 1) (answered old c.args.number c.args.ask.now) in
     (there.0, omega (arith, there.1, many, count))
 
-pub stand_all-requires : goal.stand_all-requires
-stand_all-requires c =
+pub stand_all-requires-clause-levels : goal.stand_all-requires-clause-levels
+stand_all-requires-clause-levels c =
     let view_is = (λ i. tables_at (c.deref_mut-parts.ensures.value i) (c.deref_mut-files.ensures.value i).rows) ∙ c.self.view_is in
     let same = ap (λ (p : PartsView). p.view.levels) c.deref_mut-parts.ensures.value ∙ c.self.invariant ∙ sym (ap (λ (f : FilesView). f.levels) c.deref_mut-files.ensures.value) in
     let parts = c.deref_mut-parts.result.now in
@@ -52,6 +52,24 @@ stand_all-requires c =
     let less : c.args.server - 1 < length parts.nodes = omega (arith, there.0, there.1, many) in
     let after = c.in_ok-entered.ensures.after (node_in parts.nodes c.args.server) (node_in-at parts.nodes c.args.server less) in
     c.node-node.ensures.of_tree ∙ ap (λ (p : PartsView). p.view.levels) after ∙ same
+
+pub stand_all-requires-clause-reached : goal.stand_all-requires-clause-reached
+stand_all-requires-clause-reached c =
+    let view_is = (λ i. tables_at (c.deref_mut-parts.ensures.value i) (c.deref_mut-files.ensures.value i).rows) ∙ c.self.view_is in
+    let server = c.args.server in
+    let parts = c.deref_mut-parts.result.now in
+    let there = is_there c.args.self.now server c.args.number c.requires in
+    let many = ap (λ (t : TablesView). length t.nodes) view_is in
+    let less : server - 1 < length parts.nodes = omega (arith, there.0, there.1, many) in
+    let old = node_in parts.nodes server in
+    let at = node_in-at parts.nodes server less in
+    let node = answered old c.args.number c.args.ask.now in
+    let after = c.in_ok-entered.ensures.after old at in
+    let node_is : c.node-node.result.now ≡ node =
+    c.node-node.ensures.value
+    ∙ ap (λ (p : PartsView). get_or p.nodes (server - 1) c.node-node.result.now) after
+    ∙ get_or-put parts.nodes (server - 1) node c.node-node.result.now less in
+    subst (λ (n : NodeView). AreReached c.in_ok-entered.field-0.raised n.state.records.copies) (sym node_is) (c.in_ok-entered.ensures.reached old at)
 
 pub invariant_of-self-2 : goal.invariant_of-self-2
 invariant_of-self-2 c =
