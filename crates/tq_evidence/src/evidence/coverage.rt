@@ -69,12 +69,12 @@ fn is_covered(op: &Op, lists: &[Listed<'_>]) -> bool
     ensures { result ≡ order.is_walked lists.now op.now }
 {
     let grants = op.grants.as_slice();
-    are_covered_in_order(op.file, lists, grants)
+    are_covered_in_order(&op.file, lists, grants)
 }
 
 /// Whether the votes cover the grants, in one walk through both, which ascend by server.
-fn are_covered_in_order(file: FileName, lists: &[Listed<'_>], grants: &[Grant]) -> bool
-    ensures { result ≡ order.walk file lists.now grants.now }
+fn are_covered_in_order(file: &FileName, lists: &[Listed<'_>], grants: &[Grant]) -> bool
+    ensures { result ≡ order.walk file.now lists.now grants.now }
 {
     match lists {
         [] => grants.is_empty(),
@@ -84,7 +84,7 @@ fn are_covered_in_order(file: FileName, lists: &[Listed<'_>], grants: &[Grant]) 
                 if list.server() < grant.server {
                     return are_covered_in_order(file, &lists[1..], grants);
                 }
-                list.covers(file, grant) && are_covered_in_order(file, &lists[1..], &grants[1..])
+                list.covers(*file, grant) && are_covered_in_order(file, &lists[1..], &grants[1..])
             }
         },
     }
