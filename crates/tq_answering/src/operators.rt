@@ -144,9 +144,15 @@ fn takes(
     ensures after { OnOk result (recorder.new.journals ≡ world_after recorder.old.journals (steps.Node server.number ask)) }
     ensures tree { recorder.new.journals.levels ≡ recorder.old.journals.levels }
 {
-    match answer_of(recorder, alloc, server, ask)? {
-        None => Ok(false),
-        Some(told) => Ok(is_refreshed(&told.reply)),
+    recorder.replayed();
+    let result = recorder.node(alloc, server, ask);
+    recorder.replayed();
+    match result {
+        Ok(told) => Ok(is_refreshed(&told.reply)),
+        Err(fault) => {
+            pass_over(fault)?;
+            Ok(false)
+        }
     }
 }
 
