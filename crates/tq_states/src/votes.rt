@@ -158,15 +158,20 @@ pub(crate) fn are_writes_at(server: u64, voted: &[Write], ops: &[Op], place: usi
 
 /// The least file of which the vote does not cover a grant. The grants of its server likely stand at the place, and the
 /// vote's locks where the operations stand.
-pub(crate) fn lost(ops: &[Op], vote: &Vote, place: usize, lock: usize) -> Option<FileName>
+pub(crate) fn lost<'a>(
+    ops: &'a [Op],
+    vote: &Vote,
+    place: usize,
+    lock: usize,
+) -> Option<&'a FileName>
     requires { spec.have_order ops.now ≡ true }
-    ensures { result ≡ spec.lost ops.now vote.now }
+    ensures { option_copied result ≡ spec.lost ops.now vote.now }
 {
     match ops {
         [] => None,
         [op, ..] => {
             if !covers_op(vote, op, place, lock) {
-                return Some(op.file);
+                return Some(&op.file);
             }
             lost(&ops[1..], vote, place, lock.wrapping_add(1))
         }

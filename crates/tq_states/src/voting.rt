@@ -164,7 +164,7 @@ impl Voting {
             return Err(TxnFault::NotMyVote);
         }
         if let Some(file) = lost(ops, &vote, place, 0) {
-            return Err(TxnFault::LostLock { file });
+            return Err(TxnFault::LostLock { file: *file });
         }
         self.put(vote, &told.ask)?;
         Ok(())

@@ -1,4 +1,5 @@
 use Rattle.std.proofs.Common.{◌≡◌, ◌∙◌, List, true, sym, ap}
+use Rattle.std.specs.Option.{option_copied}
 use Rattle.tq_evidence.specs.declared.op.Op.{Op}
 use Rattle.tq_evidence.specs.Evidence.{is_server_of, are_quorums, are_writes_at}
 use Rattle.tq_states.specs.Voting.{lost, writes_in}
@@ -16,7 +17,7 @@ put-requires c =
     let ops = c.ops-ops.ensures.value in
     let server : vote.server ≡ c.args.told.now.server = rw c.in-Some-2.is at c.in_ok-vote.ensures.server in
     let voter : is_server_of c.self.inside.txn.ops c.args.told.now.server ≡ true = ap (λ (list : List Op). is_server_of list c.args.told.now.server) (sym ops) ∙ sym c.in-Some.ensures in
-    let none = ap (λ (list : List Op). lost list vote) (sym ops) ∙ sym c.lost.ensures ∙ c.in_default-lost.is in
+    let none = ap (λ (list : List Op). lost list vote) (sym ops) ∙ sym c.lost.ensures ∙ ap option_copied c.in_default-lost.is in
     let writes = (λ i. are_writes_at vote.server (sym c.as_slice.ensures i) (writes_in (sym ops i))) ∙ sym c.are_writes_at.ensures ∙ c.if-not-are_writes_at.false in
     rw (← c.self.view_is) record { voter = rw server voter; covered = none_lost c.self.inside.txn.ops vote none; writes = writes }
 
