@@ -235,6 +235,7 @@ pub(crate) fn has_votes(votes: &[Vote], voters: &[ServerId]) -> bool
 }
 
 /// Puts a vote at its place, instead of one of its server that is there.
+#[inline(always)]
 pub(crate) fn put_vote(votes: &mut Vec<Vote>, vote: Vote) -> Result<(), Memory>
     ensures ok { OnOk result (votes.new.items ≡ spec.with_vote vote votes.old.items) }
     ensures err { OnErr result (votes.new.items ≡ votes.old.items) }

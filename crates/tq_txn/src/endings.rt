@@ -55,6 +55,7 @@ pub fn prepare_at<A: Asker>(
 }
 
 /// Takes the vote that a server told, unless it refused.
+#[inline(always)]
 fn take_vote(alloc: Global, voting: &mut Voting, told: &NodeTold) -> Result<(), LineFault>
     ensures asks { (exchanges : List Exchange) → line.Follows (spec.voted voting.old told.now) exchanges exchanges (line.ended_by result voting.new) }
     ensures txn { voting.new.txn ≡ voting.old.txn }

@@ -30,6 +30,7 @@ fn are_of(levels: Levels, servers: &[ServerId]) -> bool
 }
 
 /// The quorum that the view chose.
+#[inline(always)]
 fn chosen(levels: Levels, reply: ViewReply) -> Result<Quorum, LineFault>
     ensures value { spec.servers_of result ≡ spec.chosen levels reply }
     ensures tree { IfOk result (λ quorum. quorum.levels ≡ levels) }
@@ -161,6 +162,7 @@ fn lock_next<A: Asker>(
 }
 
 /// A lock at each of the servers, in their order, by the same ask. Each that granted one is noted.
+#[inline(always)]
 fn lock_each<A: Asker>(
     asker: &mut A,
     alloc: Global,
