@@ -11,6 +11,7 @@ use Rattle.tq_live.proofs.Crossing.{tree_send}
 use Rattle.tq_store.specs.contracts.copies.Copies as Copies
 use Rattle.tq_locks.specs.contracts.table.LockTable as LockTable
 use Rattle.tq_intents.specs.contracts.intents.Intents as Intents
+use Rattle.tq_intents.specs.contracts.shared_write.SharedWrite as SharedWrite
 use Rattle.tq_asks.specs.contracts.ask.NodeAsk as NodeAsk
 use Rattle.tq_asks.specs.contracts.ask.NodeReply as NodeReply
 use Rattle.tq_node.specs.contracts.node.Node as Node
@@ -58,8 +59,12 @@ copies_send = search (sendable, crosses, maps.crosses, others.crosses) depth 60 
 locks_send : IsSend LockTable.the_field.row
 locks_send = search (sendable, crosses, maps.crosses, others.crosses) depth 60 fits 30000
 
+-- a write that others share may stand in an ask
+shared_write_send : IsSend SharedWrite.the_field.row
+shared_write_send = search (sendable, crosses, maps.crosses, others.crosses) depth 60 fits 30000
+
 intents_send : IsSend Intents.the_field.row
-intents_send = search (sendable, crosses, maps.crosses, others.crosses) depth 60 fits 30000
+intents_send = search (shared_write_send, sendable, crosses, maps.crosses, others.crosses) depth 60 fits 30000
 
 node_send : IsSend Node.the_field.row
 node_send = search (copies_send, locks_send, intents_send, sendable, crosses, maps.crosses, others.crosses) depth 60 fits 30000
