@@ -1,17 +1,15 @@
--- Sets of numbers as the bits of one number: the places of the bits are the set.
-use Rattle.std.proofs.Common.{◌≡◌, ℕ, ◌+◌, ◌-◌, ◌*◌, ◌/◌, ◌%◌, ◌^◌, ◌<◌, ◌≤◌, zero, suc, List, [], ◌∷◌, ◌++◌, refl, sym, ap, subst, ◌∙◌, arith, sum_by, inl, inr}
+-- Sets of numbers as the bits of one number: the places of the bits are the set, as a tree's set of servers has it.
+use Rattle.std.proofs.Common.{◌≡◌, ℕ, ◌+◌, ◌-◌, ◌*◌, ◌/◌, ◌%◌, ◌^◌, ◌<◌, ◌≤◌, zero, suc, List, [], ◌∷◌, refl, sym, ap, subst, ◌∙◌, arith, sum_by, inl, inr}
 use Rattle.std.specs.List.{All}
-use Rattle.std.specs.Int.Count.{count_trailing_zeros}
-use Rattle.std.proofs.Math.Nat.{pow-suc, zero-add, add-mod-mod, mod-add-mod}
+use Rattle.std.proofs.Math.Nat.{pow-suc, add-mod-mod, mod-add-mod}
 use Rattle.std.proofs.lemmas.List.Sums.{sum_by-cons}
 use Rattle.std.proofs.lemmas.Bool.{cases_lt}
 use Rattle.std.proofs.lemmas.List.Elements.{All-nil, All-head, All-tail, All-weaker}
-use Rattle.std.proofs.lemmas.List.{append_assoc}
-use Rattle.tq_shape.specs.Tree.{Server, IsServer}
-use Rattle.tq_shape.specs.ServerSet.{Ascends}
-use Rattle.tq_coterie.specs.Coterie.{joined, servers_of}
+use Rattle.tq_shape.specs.Tree.{IsServer}
+use Rattle.tq_shape.specs.ServerSet.{Ascends, marked, marks_of, numbers_of}
+use Rattle.tq_coterie.specs.Coterie.{joined}
 use Rattle.tq_coterie.proofs.Sets.{sum_by-joined}
-use Rattle.tq_live.specs.Bits.{bits_of, places_from, places_of}
+use Rattle.tq_live.specs.Bits.{bits_of}
 
 -- ---- sums of bits that wrap around
 
@@ -25,60 +23,11 @@ bits-both left right set others e f =
     ∙ (mod-add-mod (bits_of set) (2 ^ 64) (bits_of others)
     ∙ ap (λ n. n % 2 ^ 64) (sym (sum_by-joined (λ n. 2 ^ n) set others))))
 
--- ---- the lowest bit is the first place
-
-half-less : (bits count : ℕ) → bits < 2 ^ suc count → bits / 2 < 2 ^ count
-half-less bits count less =
-    let double : 2 ^ suc count ≡ 2 ^ count * 2 = pow-suc 2 count in
-    omega (arith, less, double)
-
-first_place : (count place bits : ℕ) → 0 < bits → bits < 2 ^ count → let k = count_trailing_zeros count bits in (k < count) × (2 ^ k ≤ bits) × (places_from count place bits ≡ (place + k) ∷ places_from count place (bits - 2 ^ k))
-unfolding count_trailing_zeros
-first_place zero place bits some less = absurd (omega (arith, some, less))
-first_place (suc count) place bits some less = by_parity (bits % 2) refl (λ half. first_place count (place + 1) (bits / 2) half (half-less bits count less))
-  where
-    by_parity : (d : ℕ) → bits % 2 ≡ d
-        → (0 < bits / 2 → let k = count_trailing_zeros count (bits / 2) in (k < count) × (2 ^ k ≤ bits / 2) × (places_from count (place + 1) (bits / 2) ≡ (place + 1 + k) ∷ places_from count (place + 1) (bits / 2 - 2 ^ k)))
-        → let k = count_trailing_zeros (suc count) bits in (k < suc count) × (2 ^ k ≤ bits) × (places_from (suc count) place bits ≡ (place + k) ∷ places_from (suc count) place (bits - 2 ^ k))
-    by_parity zero even rest =
-        let t = count_trailing_zeros count (bits / 2) in
-        let below = rest (omega (arith, some, even)) in
-        let double : 2 ^ suc t ≡ 2 ^ t * 2 = pow-suc 2 t in
-        let less_even : (bits - 2 ^ suc t) % 2 ≡ 0 = omega (arith, even, double, below.1) in
-        let less_half : (bits - 2 ^ suc t) / 2 ≡ bits / 2 - 2 ^ t = omega (arith, even, double, below.1) in
-        let next : place + 1 + t ≡ place + suc t = omega arith in
-        rw even (omega (arith, below.0), omega (arith, double, below.1, even), rw (less_even, less_half, ← next) below.2)
-    by_parity (suc d) odd rest =
-        let one : bits % 2 ≡ 1 = omega (arith, odd) in
-        let less_even : (bits - 1) % 2 ≡ 0 = omega (arith, one) in
-        let less_half : (bits - 1) / 2 ≡ bits / 2 = omega (arith, one) in
-        rw one (omega arith, some, rw (less_even, less_half) (ap (λ first. first ∷ places_from count (place + 1) (bits / 2)) (omega arith)))
-
-lowest_place : (count bits : ℕ) → 0 < bits → bits < 2 ^ count → let k = count_trailing_zeros count bits in (k < count) × (2 ^ k ≤ bits) × (places_from count 0 bits ≡ k ∷ places_from count 0 (bits - 2 ^ k))
-lowest_place count bits some less =
-    let found = first_place count 0 bits some less in
-    let k = count_trailing_zeros count bits in
-    (found.0, found.1, found.2 ∙ ap (λ n. n ∷ places_from count 0 (bits - 2 ^ k)) (zero-add k))
-
--- the place of the lowest bit comes first, and then those of the others
-pub next_place : (bits place : ℕ) → 0 < bits → bits < 2 ^ 64 → place ≡ count_trailing_zeros 64 bits → (place < 64) × (2 ^ place ≤ bits) × (places_of bits ≡ place ∷ places_of (bits - 2 ^ place))
-unfolding places_of
-next_place bits place some less is =
-    let P : ℕ → Type 0 = λ k. (k < 64) × (2 ^ k ≤ bits) × (places_from 64 0 bits ≡ k ∷ places_from 64 0 (bits - 2 ^ k)) in
-    subst P (sym is) (lowest_place 64 bits some less)
-
-places_from-zero : (count place : ℕ) → places_from count place 0 ≡ []
-places_from-zero zero place = refl
-places_from-zero (suc count) place = places_from-zero count (place + 1)
-
-places_of-zero : places_of 0 ≡ []
-unfolding places_of
-places_of-zero = places_from-zero 64 0
-
-pub no_places : (bits : ℕ) → bits ≡ 0 → places_of bits ≡ []
-no_places bits none = ap places_of none ∙ places_of-zero
-
 -- ---- the places of a set's bits are the set
+
+-- where the lowest so many bits are set, upwards; the lowest has this place
+abbrev places_from : ℕ → ℕ → ℕ → List ℕ
+places_from count place bits = marked place (marks_of count bits)
 
 -- none is below the bound, and each is above the one before it
 abbrev Follows : ℕ → List ℕ → Type 0
@@ -176,22 +125,17 @@ set-places count set up fits =
     let P : ℕ → Type 0 = λ bits. (places_from count 0 bits ≡ set) × (bits < 2 ^ count) in
     subst P (bits_from-zero set) are
 
-pub places_of-bits : (set : List ℕ) → Ascends 0 set → All (λ number. number < 64) set → (places_of (bits_of set) ≡ set) × (bits_of set < 2 ^ 64)
-unfolding places_of
-places_of-bits set up fits = set-places 64 set up fits
+bits_of-even : (set : List ℕ) → Ascends 0 set → bits_of set % 2 ≡ 0
+bits_of-even set up =
+    let all = bits_from-zero set in
+    let double = bits_from-next 0 1 set (omega arith) (Follows-ascends 0 set up) in
+    omega (arith, all, double)
 
--- ---- servers at places, one after another
-
-pub first_server : (levels first : ℕ) (places others : List ℕ) → places ≡ first ∷ others → All (IsServer levels) places → IsServer levels first
-first_server levels first places others is all =
-    let P : List ℕ → Type 0 = λ xs. All (IsServer levels) xs in
-    All-head (IsServer levels) first others (subst P is all)
-
-pub other_servers : (levels first : ℕ) (all places others : List ℕ) (before after : List Server) (server : Server) → places ≡ first ∷ others → servers_of levels all ≡ before ++ servers_of levels places → server ≡ record { number = first; levels = levels } → after ≡ before ++ server ∷ [] → All (IsServer levels) places → (servers_of levels all ≡ after ++ servers_of levels others) × All (IsServer levels) others
-other_servers levels first all places others before after server is so_far made pushed there =
-    let P : List ℕ → Type 0 = λ xs. All (IsServer levels) xs in
-    let rest = servers_of levels others in
-    let here : servers_of levels places ≡ server ∷ rest = ap (servers_of levels) is ∙ ap (λ s. s ∷ rest) (sym made) in (
-      so_far ∙ (ap (λ xs. before ++ xs) here ∙ (sym (append_assoc before (server ∷ []) rest) ∙ ap (λ xs. xs ++ rest) (sym pushed))),
-      All-tail (IsServer levels) first others (subst P is there),
-    )
+-- the bits of servers of a tree are those of a set of it
+pub servers-bits : (levels : ℕ) (set : List ℕ) → 2 ^ levels ≤ 64 → Ascends 0 set → All (IsServer levels) set → (numbers_of (bits_of set) ≡ set) × (bits_of set % 2 ≡ 0) × (bits_of set < 2 ^ (2 ^ levels)) × (bits_of set < 2 ^ 64)
+unfolding numbers_of
+servers-bits levels set small up servers =
+    let within = All-weaker (IsServer levels) (λ number. number < 2 ^ levels) (λ number server. server.1) set servers in
+    let few = All-weaker (IsServer levels) (λ number. number < 64) (λ number server. omega (arith, server.1, small)) set servers in
+    let most = set-places 64 set up few in
+    (most.0, bits_of-even set up, (set-places (2 ^ levels) set up within).1, most.1)

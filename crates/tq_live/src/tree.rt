@@ -1,8 +1,9 @@
-ghost use Rattle.std.specs.Prelude.{◌≡◌, ℕ, ◌+◌, ◌-◌, ◌*◌, ◌^◌, ◌<◌, ◌≤◌, ◌↔◌, IsOk, IfOk, IfSome, IsSome, OnOk, OnErr, slice_set, true, replicate, Some, List, All};
+ghost use Rattle.std.specs.Prelude.{◌≡◌, ℕ, ◌+◌, ◌-◌, ◌*◌, ◌^◌, ◌<◌, ◌≤◌, ◌↔◌, IsOk, IfOk, IfSome, IsSome, OnOk, OnErr, slice_set, true, is_some, replicate, Some, [], List, All};
+ghost use Rattle.std.specs.Bool.{OnTrue, OnFalse};
 ghost use Rattle.tq_shape.specs.Depth.{depth_of};
 ghost use Rattle.tq_coterie.specs.Coterie.{IsMemberList, is_same, servers_of, numbers_of};
 
-use crate::bits::servers_at;
+use crate::bits::listed;
 use crate::choice::Choice;
 use crate::cost::{BadCost, is_cost};
 use crate::least::Least;
@@ -13,7 +14,7 @@ use crate::turns::Turns;
 use std::alloc::Global;
 use std::marker::Model;
 use tq_coterie::{Blocker, Quorum, ServerIds};
-use tq_shape::{Levels, Memory, Seq, ServerId};
+use tq_shape::{Levels, Memory, ServerId, ServerSet};
 
 /// The costs and marks of the servers of a tree.
 pub struct LiveTree {
@@ -41,10 +42,11 @@ impl Model for LiveTree {
 }
 
 impl LiveTree {
-    ghost use Rattle.std.specs.Prelude.{◌≡◌, ℕ, ◌+◌, ◌-◌, ◌*◌, ◌^◌, ◌<◌, ◌≤◌, ◌↔◌, IsOk, IfOk, IfSome, IsSome, OnOk, OnErr, slice_set, true, replicate, Some, List, All};
+    ghost use Rattle.std.specs.Prelude.{◌≡◌, ℕ, ◌+◌, ◌-◌, ◌*◌, ◌^◌, ◌<◌, ◌≤◌, ◌↔◌, IsOk, IfOk, IfSome, IsSome, OnOk, OnErr, slice_set, true, is_some, replicate, Some, [], List, All};
+    ghost use Rattle.std.specs.Bool.{OnTrue, OnFalse};
     ghost use Rattle.tq_shape.specs.Depth.{depth_of};
     ghost use Rattle.tq_coterie.specs.Coterie.{IsMemberList, is_same, servers_of, numbers_of};
-    ghost use Rattle.tq_live.specs.Live.{best, best_cost, blocker, cost_of, is_up, HasQuorumOrBlocker, HasQuorumOrBlockerUnder};
+    ghost use Rattle.tq_live.specs.Live.{best, best_cost, blocker, cost_of, is_up, members_up, HasQuorumOrBlocker, HasQuorumOrBlockerUnder};
     ghost use Rattle.tq_live.specs.LiveOf.{IsAt, changed_live};
     ghost use Rattle.tq_live.specs.Kept.{cost_after};
     ghost use Rattle.tq_live.specs.Sought.{found};
@@ -172,35 +174,78 @@ impl LiveTree {
         self.node(server).least().get()
     }
 
-    /// What is looked for in the server's subtree, where it is there.
-    fn gathered(&self, alloc: Global, sought: Sought, server: ServerId) -> Result<ServerIds, Memory>
+    /// What is looked for in the server's subtree, where it is there. It takes no memory.
+    fn gathered(&self, sought: Sought, server: ServerId) -> ServerSet
+        requires tree { server.levels ≡ self.now.levels }
+        requires there { IsSome (found self.now sought server.number) }
+        ensures set { found self.now sought server.number ≡ Some result.numbers }
+        ensures tree { result.levels ≡ self.now.levels }
+    {
+        let number = server.number();
+        let levels = server.levels();
+        let bits = self.node(server).gather(sought, number);
+        ServerSet::of_bits(levels, bits)
+    }
+
+    /// The same as a list.
+    fn gathered_list(
+        &self,
+        alloc: Global,
+        sought: Sought,
+        server: ServerId,
+    ) -> Result<ServerIds, Memory>
         requires tree { server.levels ≡ self.now.levels }
         requires there { IsSome (found self.now sought server.number) }
         ensures set { IfOk result (λ ids. found self.now sought server.number ≡ Some (numbers_of ids.items)) }
         ensures tree { IfOk result (λ ids. ids.items ≡ servers_of self.now.levels (numbers_of ids.items)) }
     {
-        let number = server.number();
-        let levels = server.levels();
-        let bits = self.node(server).gather(sought, number);
-        let ids = servers_at(alloc, levels, bits)?;
-        Ok(ids)
+        let servers = self.gathered(sought, server);
+        listed(alloc, &servers)
+    }
+
+    /// As `best`. It takes no memory.
+    fn best_of(&self, server: ServerId) -> Option<Least>
+        requires { server.levels ≡ self.now.levels }
+        ensures { IsBestOf self.now server.number result }
+    {
+        match self.best_cost(server) {
+            Some(cost) => {
+                let servers = self.gathered(Sought::Quorum, server);
+                Some(Least { cost, servers })
+            }
+            None => None,
+        }
     }
 
     /// The first quorum of least cost of the server's subtree with its cost, among those that are up, if there is
     /// one. The server is one of this tree.
-    pub fn best(&self, alloc: Global, server: ServerId) -> Result<Option<Least>, Memory>
+    pub fn best(&self, _alloc: Global, server: ServerId) -> Result<Option<Least>, Memory>
         requires { server.levels ≡ self.now.levels }
         ensures best { IfOk result (λ answer. IsBestOf self.now server.number answer) }
         ensures first { IfOk result (λ answer. IsFirstOf self.now server.number answer) }
         ensures either { HasQuorumOrBlockerUnder self.now server.number }
     {
-        match self.best_cost(server) {
-            Some(cost) => {
-                let ids = self.gathered(alloc, Sought::Quorum, server)?;
-                let servers = Seq::from_vec(Vec::from_slice(alloc, ids.as_slice())?);
-                Ok(Some(Least { cost, servers }))
+        Ok(self.best_of(server))
+    }
+
+    /// Writes the first quorum of least cost of the server's subtree with its cost, among those that are up, into the row
+    /// and answers true. Where there is none, it leaves the row as it was and answers false. It takes no memory. The
+    /// server is one of this tree.
+    pub fn best_into(&self, server: ServerId, row: &mut Least) -> bool
+        requires { server.levels ≡ self.now.levels }
+        ensures there { result ≡ is_some (best self.now server.number) }
+        ensures best { OnTrue result (IsBestOf self.now server.number (Some row.new)) }
+        ensures first { OnTrue result (IsFirstOf self.now server.number (Some row.new)) }
+        ensures none { OnFalse result (members_up self.now server.number ≡ []) }
+        ensures unchanged { OnFalse result (row.new ≡ row.old) }
+        ensures either { HasQuorumOrBlockerUnder self.now server.number }
+    {
+        match self.best_of(server) {
+            Some(least) => {
+                *row = least;
+                true
             }
-            None => Ok(None),
+            None => false,
         }
     }
 
@@ -227,12 +272,12 @@ impl LiveTree {
         let root = levels.root();
         match self.best_cost(root) {
             Some(cost) => {
-                let servers = self.gathered(alloc, Sought::Quorum, root)?;
+                let servers = self.gathered_list(alloc, Sought::Quorum, root)?;
                 let quorum = quorum_of(alloc, levels, servers, kept)?;
                 Ok(Choice::Quorum { quorum, cost })
             }
             None => {
-                let servers = self.gathered(alloc, Sought::Blocker, root)?;
+                let servers = self.gathered_list(alloc, Sought::Blocker, root)?;
                 let blocker = Blocker::new(alloc, levels, servers)?;
                 Ok(Choice::Blocked(blocker))
             }

@@ -1,6 +1,6 @@
-ghost use Rattle.std.specs.Prelude.{◌≡◌, ◌++◌, ◌<◌, ◌^◌, ◌↔◌, not, [], ◌∷◌, All, IfOk, IsTrue};
+ghost use Rattle.std.specs.Prelude.{◌≡◌, ◌++◌, ◌<◌, ◌%◌, ◌^◌, ◌↔◌, not, [], ◌∷◌, All, IfOk, IsTrue};
 ghost use Rattle.tq_shape.specs.Tree.{IsServer};
-ghost use Rattle.tq_shape.specs.ServerSet.{Ascends, has_number, with_number, without_number, numbered, first_of};
+ghost use Rattle.tq_shape.specs.ServerSet.{Ascends, has_number, with_number, without_number, numbered, numbers_of, first_of};
 
 use crate::{Levels, Memory, ServerId};
 use std::alloc::{AllocError, Global};
@@ -40,6 +40,15 @@ impl ServerSet {
         ensures { IfOk result (λ set. set ≡ record { levels = levels; numbers = [] }) }
     {
         Ok(ServerSet { levels, bits: 0 })
+    }
+
+    /// The servers of a tree whose bits are set, each at its number. No other bit is set.
+    pub fn of_bits(levels: Levels, bits: u64) -> ServerSet
+        requires numbered { bits % 2 ≡ 0 }
+        requires of_tree { bits < 2 ^ (2 ^ levels) }
+        ensures { result ≡ record { levels = levels; numbers = numbers_of bits } }
+    {
+        ServerSet { levels, bits }
     }
 
     /// The levels of the tree.

@@ -1,0 +1,21 @@
+use Rattle.std.proofs.Common.{◌≡◌, ap, sym, ◌∙◌, Some, List, ℕ}
+use Rattle.std.proofs.lemmas.Result.{IfOk-weaker}
+use Rattle.tq_shape.specs.Tree.{Server}
+use Rattle.tq_coterie.specs.Coterie.{numbers_of, servers_of}
+use Rattle.tq_coterie.proofs.Parts.{numbers_of-servers_of}
+use Rattle.tq_live.proofs.tree.LiveTree.gathered_list.Goals as goal
+
+-- a list of the servers of these numbers has them
+has_numbers : (levels : ℕ) (numbers : List ℕ) (ids : List Server) → ids ≡ servers_of levels numbers → numbers_of ids ≡ numbers
+has_numbers levels numbers ids are = ap numbers_of are ∙ numbers_of-servers_of levels numbers
+
+pub returns-clause-set : goal.returns-clause-set
+returns-clause-set c =
+    let servers = c.gathered-servers.result in
+    IfOk-weaker c.listed.result _ _ (λ ids are. c.gathered-servers.ensures.set ∙ ap Some (sym (has_numbers servers.levels servers.numbers ids.items are))) c.listed.ensures
+
+pub returns-clause-tree : goal.returns-clause-tree
+returns-clause-tree c =
+    let servers = c.gathered-servers.result in
+    let levels = c.args.self.now.levels in
+    IfOk-weaker c.listed.result _ _ (λ ids are. are ∙ (ap (λ l. servers_of l servers.numbers) c.gathered-servers.ensures.tree ∙ ap (servers_of levels) (sym (has_numbers servers.levels servers.numbers ids.items are)))) c.listed.ensures
