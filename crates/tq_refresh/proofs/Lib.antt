@@ -1,3 +1,4 @@
+pub mod Marked
 pub mod Walked
 pub mod Planned
 pub mod Asked

@@ -1,9 +1,10 @@
 -- The refresh plan: which copies a refresh mends, and from where; and what a refresh asks for one of them.
-use Rattle.std.specs.Prelude.{ℕ, List, [], map, find, filter, Option, Some, None}
+use Rattle.std.specs.Prelude.{ℕ, ◌-◌, ◌^◌, List, [], map, find, filter, Option, Some, None}
 use Rattle.std.specs.List.{flat_map}
 use Rattle.tq_shape.specs.Tree.{Server}
 use Rattle.tq_shape.specs.ServerSet.{Servers, numbered}
 use Rattle.tq_live.specs.Live.{Live, is_up}
+use Rattle.tq_live.specs.View.{upwards}
 use Rattle.tq_asks.specs.declared.ask.NodeAsk.{NodeAsk}
 use Rattle.tq_asks.specs.declared.ask.NodeAsk.TheVariants.{Work}
 use Rattle.tq_asks.specs.declared.ask.WorkAsk.TheVariants.{Refresh}
@@ -16,6 +17,10 @@ use Rattle.tq_refresh.specs.declared.job.Job.{Job}
 -- the servers of a set, upwards
 abbrev pub servers_in : Servers → List Server
 servers_in set = numbered set.levels set.numbers
+
+-- the servers of a tree that are marked up
+abbrev pub servers_up : Live → Servers
+servers_up live = record { levels = live.levels; numbers = filter (is_up live) (upwards 1 (2 ^ live.levels - 1)) }
 
 -- the jobs that mend a file's copies at these servers from a source; none where there is no source
 abbrev pub jobs_from : List ℕ → List Server → Option Server → List Job
