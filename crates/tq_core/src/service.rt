@@ -17,7 +17,7 @@ use tq_asks::{NodeAsk, NodeReply};
 use tq_desk::{Desk, DeskAsk, DeskReply};
 use tq_live::{View, ViewAsk, ViewReply};
 use tq_part::AskFault;
-use tq_shape::{Levels, Limits, Memory, Part, ServerId};
+use tq_shape::{Levels, Limits, Memory, Part, ServerId, make_room};
 use tq_tables::{
     DeskEntry, Entry, Journals, NodeEntry, Parts, Replies, Tables, ViewEntry, replay_nodes,
 };
@@ -175,6 +175,7 @@ impl Service {
 
     /// Asks a server: the ask is entered into its journal with its reply, which is told with the number of the entry.
     /// Where the ask is not taken, everything is as it was.
+    #[inline(always)]
     pub fn ask_node(
         &mut self,
         alloc: Global,
@@ -327,6 +328,7 @@ impl Service {
 
 /// Asks a server under the number of its next entry, and enters the ask with its reply into the server's journal. Out of
 /// memory leaves the tables and the journal as they were.
+#[inline(always)]
 fn enter_node(
     tables: &mut Tables,
     journal: &mut Vec<NodeEntry>,
@@ -339,7 +341,7 @@ fn enter_node(
         (reply_of (node_in tables.old.nodes server) ask) result }
 {
     let number = journal.len() as u64 + 1;
-    journal.reserve(1)?;
+    make_room(journal, 1)?;
     let replies = tables.ask_node(alloc, server, number, &ask)?;
     let Replies { entered, told } = replies;
     journal.push_reserved(Entry {
@@ -364,7 +366,7 @@ fn enter_desk(
     ensures { IsEntered with_desk tables.old tables.new journal.old.items journal.new.items ask (desk_reply tables.old.desk ask) result }
 {
     let number = journal.len() as u64 + 1;
-    journal.reserve(1)?;
+    make_room(journal, 1)?;
     let replies = tables.ask_desk(alloc, &ask)?;
     let Replies { entered, told } = replies;
     journal.push_reserved(Entry {
@@ -388,7 +390,7 @@ fn enter_view(
     ensures { IsEntered with_view tables.old tables.new journal.old.items journal.new.items ask (view_reply tables.old.view ask) result }
 {
     let number = journal.len() as u64 + 1;
-    journal.reserve(1)?;
+    make_room(journal, 1)?;
     let replies = tables.ask_view(alloc, &ask)?;
     let Replies { entered, told } = replies;
     journal.push_reserved(Entry {

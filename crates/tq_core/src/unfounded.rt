@@ -112,6 +112,7 @@ impl Service {
     }
 
     /// The first citation of a server's ask that is not founded.
+    #[inline(always)]
     pub(crate) fn unfounded_in_node_ask(&self, ask: &NodeAsk) -> Option<Citation>
         ensures { result ≡ spec.unfounded_in_node_ask self.now ask.now }
     {
@@ -123,6 +124,7 @@ impl Service {
         }
     }
 
+    #[inline(always)]
     fn unfounded_in_work(&self, ask: &WorkAsk) -> Option<Citation>
         ensures { result ≡ spec.unfounded_in_work self.now ask.now }
     {

@@ -19,7 +19,7 @@ use std::collections::BTreeMap;
 use std::collections::btree_map::Iter;
 use std::marker::Model;
 use tq_asks::HeldLock;
-use tq_shape::{Seq, SharedSeq};
+use tq_shape::{Seq, SharedSeq, make_room};
 use tq_store::{Copies, Write};
 
 /// The stable records of a server, and an index of the open votes that they stand for.
@@ -125,7 +125,7 @@ impl Intents {
         ensures records { self.new.records ≡ self.old.records }
         ensures room { OnOk result (additional ≤ self.new.room) }
     {
-        self.records.reserve(additional)
+        make_room(&mut self.records, additional)
     }
 
     /// Writes that a copy was installed, in the room that was made for it.
@@ -280,7 +280,7 @@ fn push_vote(
     ensures first { take (length records.old.items) records.new.items ≡ records.old.items }
 {
     let count = writes.len().saturating_add(locks.len()).saturating_add(1);
-    records.reserve(count)?;
+    make_room(records, count)?;
     for place in 0..writes.len() {
         let write = SharedWrite::at(writes.clone()?, place);
         records.push_reserved(Record::Intent { txn, number, write });

@@ -44,6 +44,7 @@ impl<T: Drop> Shared<T> {
     /// # Errors
     ///
     /// Refuses where there is no memory for it.
+    #[inline(always)]
     pub fn new(alloc: Global, value: T) -> Result<Self, Memory>
         ensures { IfOk result (λ shared. shared ≡ value) }
     {

@@ -14,7 +14,7 @@ pub struct SharedSeq<T> {
 
 // Written out, so that a crate above lets go of one by a call.
 impl<T: Drop> Drop for SharedSeq<T> {
-    #[inline]
+    #[inline(always)]
     fn drop(self) {
         let Self { items: _ } = self;
     }
