@@ -2,5 +2,6 @@ pub mod Ascii
 pub mod Installed
 pub mod Kept
 pub mod Padded
+mod Replaced
 pub mod SameName
 pub mod Spelled

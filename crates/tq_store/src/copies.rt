@@ -1,4 +1,4 @@
-ghost use Rattle.std.specs.Prelude.{◌≡◌, ◌+◌, ◌<◌, ◌≤◌, OnOk, IfOk, IsOk, nat_lt};
+ghost use Rattle.std.specs.Prelude.{◌≡◌, ◌+◌, ◌<◌, ◌≤◌, OnOk, IfOk, IfSome, IsOk, nat_lt};
 ghost use Rattle.std.specs.FinMap as map;
 
 use crate::{Content, FileName};
@@ -28,6 +28,8 @@ impl Drop for FileCopy {
 pub struct Copies {
     files: IndexMap<FileName, FileCopy>,
     never_written: FileCopy,
+    /// Where the copy stands that was noted last. Nothing rests on it.
+    noted: usize,
 }
 
 // Written out, so that a crate above lets go of one by a call.
@@ -36,6 +38,7 @@ impl Drop for Copies {
         let Self {
             files: _,
             never_written: _,
+            noted: _,
         } = self;
     }
 }
@@ -68,6 +71,7 @@ impl Copies {
                 version: 0,
                 content: Content::empty(),
             },
+            noted: 0,
         }
     }
 
@@ -83,6 +87,7 @@ impl Copies {
         Ok(Copies {
             files,
             never_written,
+            noted: 0,
         })
     }
 
@@ -96,12 +101,56 @@ impl Copies {
         }
     }
 
-    /// Makes room for this many calls of `install`. The copies stay as they are.
+    /// Notes where the file's copy stands, so that `get_noted` finds it with no search. The copies stay as they are.
+    #[inline(always)]
+    pub fn note(&mut self, name: &FileName)
+        ensures { self.new ≡ self.old }
+    {
+        if self.noted_copy(name).is_none() {
+            if let Some(place) = self.files.get_index_of(name) {
+                self.noted = place;
+            }
+        }
+    }
+
+    /// The copy of a file, as `get` tells it; one that was noted is found with no search.
+    #[inline(always)]
+    pub fn get_noted(&self, name: &FileName) -> &FileCopy
+        ensures { result.now ≡ copy_of self.now.files name.now }
+    {
+        if let Some(copy) = self.noted_copy(name) {
+            return copy;
+        }
+        self.get(name)
+    }
+
+    /// The copy that was noted, where it is that of the file.
+    #[inline(always)]
+    fn noted_copy(&self, name: &FileName) -> Option<&FileCopy>
+        ensures { IfSome result (λ copy. copy.now ≡ copy_of self.now.files name.now) }
+    {
+        match self.files.get_index(self.noted) {
+            Some(entry) => {
+                if *entry.0 == *name {
+                    return Some(entry.1);
+                }
+                None
+            }
+            None => None,
+        }
+    }
+
+    /// Makes room for this many calls of `install`. The copies stay as they are. Where there is too little, room is made for
+    /// three times as many copies more, so that they are seldom moved.
     pub fn reserve(&mut self, _alloc: Global, additional: usize) -> Result<(), AllocError>
         ensures files { self.new.files ≡ self.old.files }
         ensures room { OnOk result (additional ≤ self.new.room) }
     {
-        self.files.reserve(additional)
+        if additional <= self.files.capacity() - self.files.len() {
+            return Ok(());
+        }
+        let more = self.files.len().saturating_mul(3).max(additional);
+        self.files.reserve(more)
     }
 
     /// Keeps the greater version, at equal ones the copy that is there. It takes no memory.
@@ -124,23 +173,21 @@ impl Copies {
         ensures rises { OnlyRises self.old.files self.new.files }
         ensures room { self.old.room ≤ self.new.room + 1 }
     {
-        match self.files.get_mut(&name) {
-            Some(copy) => {
-                if version <= copy.version {
-                    return false;
-                }
-                *copy = FileCopy { version, content };
-                true
-            }
-            None => {
-                if version == 0 {
-                    return false;
-                }
-                let copy = FileCopy { version, content };
-                let _put = self.files.insert(name, copy).unwrap();
-                true
-            }
+        if version == 0 {
+            return false;
         }
+        let copy = FileCopy { version, content };
+        let replaced = self.files.insert(name, copy).unwrap();
+        let Some(before) = replaced else {
+            return true;
+        };
+        if before.version < version {
+            return true;
+        }
+        if let Some(copy) = self.files.get_mut(&name) {
+            *copy = before;
+        }
+        false
     }
 }
 

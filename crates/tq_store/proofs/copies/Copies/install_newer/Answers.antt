@@ -1,124 +1,104 @@
-use Rattle.std.proofs.Common.{ap, sym, ◌∙◌, ◌≡◌, ◌<◌, ◌≤◌, Some, None, subst, rules}
+use Rattle.std.proofs.Common.{◌≡◌, ◌∙◌, Some, None, nat_eq, nat_lt, ap, sym, subst, rules}
+use Rattle.std.specs.Cmp.Lexicographic.{pointwise}
 use Rattle.std.specs.FinMap as map
 use Rattle.std.specs.Map.{lookup}
-use Rattle.std.specs.Cmp.Lexicographic.{pointwise}
-use Rattle.std.proofs.lemmas.Map.Steps.{set_value_same}
-use Rattle.std.specs.Prelude.{nat_eq}
-use Rattle.tq_store.specs.Copies.{Files, Installs, OnlyRises, copy_at, copy_of, installed}
+use Rattle.std.specs.Option.{option_copied_mut}
+use Rattle.tq_store.specs.Copies.{CopiesView, Files, Installs, OnlyRises, copy_of, installed}
 use Rattle.tq_store.specs.declared.copies.FileCopy.{FileCopy}
-use Rattle.tq_store.proofs.Kept.{get_name, one_given, one_written, installed-greater, installed-no_greater}
-use Rattle.tq_store.proofs.Installed.{Installs-installed, lt-false, lt-true, rises-installed}
+use Rattle.tq_store.proofs.Installed.{Installs-installed, rises-installed}
+use Rattle.tq_store.proofs.Replaced.{is-newer, is-no_newer, put-back, put-in}
 use Rattle.tq_store.proofs.copies.Copies.install_newer.Goals as goal
-use Rattle.tq_store.proofs.copies.Copies.install_newer.Goals.{in-Some-1, in-None-1}
+use Rattle.tq_store.proofs.copies.Copies.install_newer.Goals.{in-Some-get_mut, in_default-get_mut}
 
-pub returns-else-version-copy-clause-newer : goal.returns-else-version-copy-clause-newer
-returns-else-version-copy-clause-newer c =
-    let files = c.args.self.now.files in
-    let name = c.args.name in
-    let entries = c.self.inside.files.entries in
-    let found : lookup (pointwise nat_eq name) entries ≡ Some c.in-Some.copy.now = sym c.in-Some.ensures.value in
-    let had : copy_of files name ≡ c.in-Some.copy.now =
-    sym (ap (λ v. copy_of v.files name) c.self.view_is) ∙ ap copy_at (get_name entries name ∙ found) in
-    let greater : (copy_of files name).version < c.args.version = subst (λ (h : FileCopy). h.version < c.args.version) (sym had) (search rules) in
-    sym (lt-true _ _ greater)
+-- a file that had no copy
 
-pub returns-else-version-copy-clause-files : goal.returns-else-version-copy-clause-files
-returns-else-version-copy-clause-files c =
-    let files = c.args.self.now.files in
-    let name = c.args.name in
+pub returns-in_default-clause-newer : goal.returns-in_default-clause-newer
+returns-in_default-clause-newer c =
+    let copy : FileCopy = record { version = c.args.version; content = c.args.content } in
+    let found : lookup (pointwise nat_eq c.args.name) c.self.inside.files.entries ≡ None = sym (rw c.unwrap-replaced.ensures at c.insert.ensures.old) ∙ c.in_default.is in
+    is-newer c.self.inside.files.entries c.args.name copy None found (search rules)
+    ∙ ap (λ (v : CopiesView). nat_lt (copy_of v.files c.args.name).version c.args.version) c.self.view_is
+
+pub returns-in_default-clause-files : goal.returns-in_default-clause-files
+returns-in_default-clause-files c =
     let copy : FileCopy = record { version = c.args.version; content = c.args.content } in
     let entries = c.self.inside.files.entries in
-    let found : lookup (pointwise nat_eq name) entries ≡ Some c.in-Some.copy.now = sym c.in-Some.ensures.value in
-    let had : copy_of files name ≡ c.in-Some.copy.now =
-    sym (ap (λ v. copy_of v.files name) c.self.view_is) ∙ ap copy_at (get_name entries name ∙ found) in
-    let greater : (copy_of files name).version < copy.version = subst (λ (h : FileCopy). h.version < copy.version) (sym had) (search rules) in
-    ap (λ es. map.from_entries es) (c.get_mut.follows.holds copy).0
-    ∙ one_written entries name c.in-Some.copy.now copy found
-    ∙ ap (λ v. map.insert v.files name copy) c.self.view_is
-    ∙ installed-greater files name copy greater
+    let found : lookup (pointwise nat_eq c.args.name) entries ≡ None = sym (rw c.unwrap-replaced.ensures at c.insert.ensures.old) ∙ c.in_default.is in
+    let updates = rw c.unwrap-replaced.ensures at c.insert.ensures.updates in
+    put-in entries c.args.name copy None found c.insert.new.self.entries updates.0 (search rules)
+    ∙ ap (λ (v : CopiesView). installed v.files c.args.name copy) c.self.view_is
 
-pub returns-else-version-copy-clause-installs : goal.returns-else-version-copy-clause-installs
-returns-else-version-copy-clause-installs c =
+pub returns-in_default-clause-installs : goal.returns-in_default-clause-installs
+returns-in_default-clause-installs c =
     let copy : FileCopy = record { version = c.args.version; content = c.args.content } in
-    subst (λ (files : Files). Installs c.args.self.now.files files c.args.name copy) (sym (returns-else-version-copy-clause-files c)) (Installs-installed c.args.self.now.files c.args.name copy)
+    subst (λ (files : Files). Installs c.args.self.now.files files c.args.name copy) (sym (returns-in_default-clause-files c)) (Installs-installed c.args.self.now.files c.args.name copy)
 
-pub returns-else-version-copy-clause-rises : goal.returns-else-version-copy-clause-rises
-returns-else-version-copy-clause-rises c =
+pub returns-in_default-clause-rises : goal.returns-in_default-clause-rises
+returns-in_default-clause-rises c =
     let copy : FileCopy = record { version = c.args.version; content = c.args.content } in
-    subst (OnlyRises c.args.self.now.files) (sym (returns-else-version-copy-clause-files c)) (rises-installed c.args.self.now.files c.args.name copy)
+    subst (OnlyRises c.args.self.now.files) (sym (returns-in_default-clause-files c)) (rises-installed c.args.self.now.files c.args.name copy)
 
-pub returns-then-version-copy-clause-newer : goal.returns-then-version-copy-clause-newer
-returns-then-version-copy-clause-newer c =
-    let files = c.args.self.now.files in
-    let name = c.args.name in
-    let entries = c.self.inside.files.entries in
-    let found : lookup (pointwise nat_eq name) entries ≡ Some c.in-Some.copy.now = sym c.in-Some.ensures.value in
-    let had : copy_of files name ≡ c.in-Some.copy.now =
-    sym (ap (λ v. copy_of v.files name) c.self.view_is) ∙ ap copy_at (get_name entries name ∙ found) in
-    let no_greater : c.args.version ≤ (copy_of files name).version = subst (λ (h : FileCopy). c.args.version ≤ h.version) (sym had) (search rules) in
-    sym (lt-false _ _ no_greater)
+-- one whose copy was older
 
-pub returns-then-version-copy-clause-files : goal.returns-then-version-copy-clause-files
-returns-then-version-copy-clause-files c =
-    let files = c.args.self.now.files in
-    let name = c.args.name in
+pub returns-then-before-version-clause-newer : goal.returns-then-before-version-clause-newer
+returns-then-before-version-clause-newer c =
+    let copy : FileCopy = record { version = c.args.version; content = c.args.content } in
+    let found : lookup (pointwise nat_eq c.args.name) c.self.inside.files.entries ≡ Some c.in-Some.before = sym (rw c.unwrap-replaced.ensures at c.insert.ensures.old) ∙ c.in-Some.is in
+    is-newer c.self.inside.files.entries c.args.name copy (Some c.in-Some.before) found c.if-before-version.true
+    ∙ ap (λ (v : CopiesView). nat_lt (copy_of v.files c.args.name).version c.args.version) c.self.view_is
+
+pub returns-then-before-version-clause-files : goal.returns-then-before-version-clause-files
+returns-then-before-version-clause-files c =
     let copy : FileCopy = record { version = c.args.version; content = c.args.content } in
     let entries = c.self.inside.files.entries in
-    let found : lookup (pointwise nat_eq name) entries ≡ Some c.in-Some.copy.now = sym c.in-Some.ensures.value in
-    let had : copy_of files name ≡ c.in-Some.copy.now =
-    sym (ap (λ v. copy_of v.files name) c.self.view_is) ∙ ap copy_at (get_name entries name ∙ found) in
-    let no_greater : copy.version ≤ (copy_of files name).version = subst (λ (h : FileCopy). copy.version ≤ h.version) (sym had) (search rules) in
-    ap (λ es. map.from_entries es) ((c.get_mut.follows.holds c.in-Some.copy.now).0 ∙ set_value_same (pointwise nat_eq name) entries c.in-Some.copy.now found)
-    ∙ ap (λ v. v.files) c.self.view_is
-    ∙ installed-no_greater files name copy no_greater
+    let found : lookup (pointwise nat_eq c.args.name) entries ≡ Some c.in-Some.before = sym (rw c.unwrap-replaced.ensures at c.insert.ensures.old) ∙ c.in-Some.is in
+    let updates = rw c.unwrap-replaced.ensures at c.insert.ensures.updates in
+    put-in entries c.args.name copy (Some c.in-Some.before) found c.insert.new.self.entries updates.0 c.if-before-version.true
+    ∙ ap (λ (v : CopiesView). installed v.files c.args.name copy) c.self.view_is
 
-pub returns-then-version-copy-clause-installs : goal.returns-then-version-copy-clause-installs
-returns-then-version-copy-clause-installs c =
+pub returns-then-before-version-clause-installs : goal.returns-then-before-version-clause-installs
+returns-then-before-version-clause-installs c =
     let copy : FileCopy = record { version = c.args.version; content = c.args.content } in
-    subst (λ (files : Files). Installs c.args.self.now.files files c.args.name copy) (sym (returns-then-version-copy-clause-files c)) (Installs-installed c.args.self.now.files c.args.name copy)
+    subst (λ (files : Files). Installs c.args.self.now.files files c.args.name copy) (sym (returns-then-before-version-clause-files c)) (Installs-installed c.args.self.now.files c.args.name copy)
 
-pub returns-then-version-copy-clause-rises : goal.returns-then-version-copy-clause-rises
-returns-then-version-copy-clause-rises c =
+pub returns-then-before-version-clause-rises : goal.returns-then-before-version-clause-rises
+returns-then-before-version-clause-rises c =
     let copy : FileCopy = record { version = c.args.version; content = c.args.content } in
-    subst (OnlyRises c.args.self.now.files) (sym (returns-then-version-copy-clause-files c)) (rises-installed c.args.self.now.files c.args.name copy)
+    subst (OnlyRises c.args.self.now.files) (sym (returns-then-before-version-clause-files c)) (rises-installed c.args.self.now.files c.args.name copy)
 
-pub returns-else-version-eq0-clause-newer : goal.returns-else-version-eq0-clause-newer
-returns-else-version-eq0-clause-newer c =
-    let files = c.args.self.now.files in
-    let name = c.args.name in
-    let entries = c.self.inside.files.entries in
-    let none : lookup (pointwise nat_eq name) entries ≡ None = sym c.in-None.ensures.value in
-    let had : copy_of files name ≡ copy_at None =
-    sym (ap (λ v. copy_of v.files name) c.self.view_is) ∙ ap copy_at (get_name entries name ∙ none) in
-    let greater : (copy_of files name).version < c.args.version = subst (λ (h : FileCopy). h.version < c.args.version) (sym had) (search rules) in
-    sym (lt-true _ _ greater)
+-- one whose copy is put back
 
-pub returns-else-version-eq0-clause-files : goal.returns-else-version-eq0-clause-files
-returns-else-version-eq0-clause-files c =
-    let files = c.args.self.now.files in
-    let name = c.args.name in
+pub returns-clause-newer : goal.returns-clause-newer
+returns-clause-newer c =
+    let copy : FileCopy = record { version = c.args.version; content = c.args.content } in
+    let found : lookup (pointwise nat_eq c.args.name) c.self.inside.files.entries ≡ Some c.in-Some.before = sym (rw c.unwrap-replaced.ensures at c.insert.ensures.old) ∙ c.in-Some.is in
+    is-no_newer c.self.inside.files.entries c.args.name copy (Some c.in-Some.before) found c.if-before-version.false
+    ∙ ap (λ (v : CopiesView). nat_lt (copy_of v.files c.args.name).version c.args.version) c.self.view_is
+
+pub returns-clause-files : goal.returns-clause-files
+returns-clause-files c =
     let copy : FileCopy = record { version = c.args.version; content = c.args.content } in
     let entries = c.self.inside.files.entries in
-    let none : lookup (pointwise nat_eq name) entries ≡ None = sym c.in-None.ensures.value in
-    let had : copy_of files name ≡ copy_at None =
-    sym (ap (λ v. copy_of v.files name) c.self.view_is) ∙ ap copy_at (get_name entries name ∙ none) in
-    let greater : (copy_of files name).version < copy.version = subst (λ (h : FileCopy). h.version < copy.version) (sym had) (search rules) in
-    let updates = rw c.get_mut.follows.holds-at-none at (rw c.unwrap-put.ensures at c.insert.ensures.updates) in
-    let put : map.from_entries c.insert.new.self.entries ≡ installed files name copy =
-    one_given entries c.insert.new.self.entries name copy updates.0
-    ∙ ap (λ v. map.insert v.files name copy) c.self.view_is
-    ∙ installed-greater files name copy greater in
-    elim c.match-put.branch [
-      | in-Some-1 w ↦ ap (λ v. v.files) w.self-is ∙ put
-      | in-None-1 w ↦ ap (λ v. v.files) w.self-is ∙ put
+    let found : lookup (pointwise nat_eq c.args.name) entries ≡ Some c.in-Some.before = sym (rw c.unwrap-replaced.ensures at c.insert.ensures.old) ∙ c.in-Some.is in
+    let updates = rw c.unwrap-replaced.ensures at c.insert.ensures.updates in
+    elim c.match-get_mut.branch [
+      | in-Some-get_mut w ↦
+          ap (λ x. map.from_entries x.files.entries) w.self-inside-is
+          ∙ ap (λ es. map.from_entries es) (c.get_mut.follows.holds c.in-Some.before).0
+          ∙ put-back entries c.insert.new.self.entries c.args.name copy c.in-Some.before found updates.0 updates.1 c.if-before-version.false
+          ∙ ap (λ (v : CopiesView). installed v.files c.args.name copy) c.self.view_is
+      | in_default-get_mut w ↦
+          let none : lookup (pointwise nat_eq c.args.name) c.insert.new.self.entries ≡ None = sym c.get_mut.ensures.value ∙ ap option_copied_mut w.in_default-get_mut.is in
+          let some : lookup (pointwise nat_eq c.args.name) c.insert.new.self.entries ≡ Some copy = updates.1 in
+          absurd (cc)
     ]
 
-pub returns-else-version-eq0-clause-installs : goal.returns-else-version-eq0-clause-installs
-returns-else-version-eq0-clause-installs c =
+pub returns-clause-installs : goal.returns-clause-installs
+returns-clause-installs c =
     let copy : FileCopy = record { version = c.args.version; content = c.args.content } in
-    subst (λ (files : Files). Installs c.args.self.now.files files c.args.name copy) (sym (returns-else-version-eq0-clause-files c)) (Installs-installed c.args.self.now.files c.args.name copy)
+    subst (λ (files : Files). Installs c.args.self.now.files files c.args.name copy) (sym (returns-clause-files c)) (Installs-installed c.args.self.now.files c.args.name copy)
 
-pub returns-else-version-eq0-clause-rises : goal.returns-else-version-eq0-clause-rises
-returns-else-version-eq0-clause-rises c =
+pub returns-clause-rises : goal.returns-clause-rises
+returns-clause-rises c =
     let copy : FileCopy = record { version = c.args.version; content = c.args.content } in
-    subst (OnlyRises c.args.self.now.files) (sym (returns-else-version-eq0-clause-files c)) (rises-installed c.args.self.now.files c.args.name copy)
+    subst (OnlyRises c.args.self.now.files) (sym (returns-clause-files c)) (rises-installed c.args.self.now.files c.args.name copy)
