@@ -2,7 +2,6 @@
 use Rattle.std.specs.Prelude.{ℕ, ◌-◌, ◌^◌, Bool, true, false, List, [], ◌∷◌, ◌++◌, map, Option, Some, None, codes, slice_index_or}
 use Rattle.std.specs.List.{flat_map}
 use Rattle.std.specs.Fmt.{decimal}
-use Rattle.tq_coterie.specs.Coterie.{numbers_of}
 use Rattle.tq_live.specs.Live.{Live, cost_of, is_up}
 use Rattle.tq_live.specs.View.{upwards}
 use Rattle.tq_live.specs.declared.least.Least.{Least}
@@ -56,7 +55,7 @@ state_text Discard = codes "discard"
 -- the cost and the servers of the least quorum of a subtree, where there is one
 abbrev pub least_text : Option Least → List ℕ
 least_text None = codes "none"
-least_text (Some least) = decimal least.cost ++ codes " by" ++ servers_text (numbers_of least.servers)
+least_text (Some least) = decimal least.cost ++ codes " by" ++ servers_text least.servers.numbers
 
 -- a server: its cost and mark in the view, and the least quorum of its subtree
 abbrev pub server_text : Live → Option Least → ℕ → List ℕ

@@ -1,7 +1,7 @@
 ghost use Rattle.std.specs.Prelude.{◌≡◌, ◌++◌, OnOk, string_bytes};
 ghost use Rattle.tq_rendered.specs.Board.{as_line, file_text, intent_text, least_text, lock_text, server_text};
 
-use crate::word::{mark_word, push_quorum, push_set, push_writes, state_word};
+use crate::word::{mark_word, push_set, push_writes, state_word};
 use tq_live::{Least, LiveTree};
 use tq_shape::{Memory, ServerId};
 use tq_tables::{FileRow, IntentRow, LockRow};
@@ -31,7 +31,7 @@ fn push_least(text: &mut String, least: &Option<Least>) -> Result<(), Memory>
         None => text.push_str("none"),
         Some(least) => {
             write!(text, "{} by", least.cost)?;
-            push_quorum(text, least.servers.as_slice())
+            push_set(text, &least.servers)
         }
     }
 }

@@ -1,9 +1,8 @@
 ghost use Rattle.std.specs.Prelude.{◌≡◌, ◌+◌, ◌<◌, ◌++◌, ◌∷◌, OnOk, map, string_bytes};
 ghost use Rattle.std.specs.Fmt.{decimal};
-ghost use Rattle.tq_coterie.specs.Coterie.{numbers_of};
 ghost use Rattle.tq_rendered.specs.Board.{listed, mark_text, servers_text, state_text, write_text};
 
-use tq_shape::{Memory, ServerId, ServerSet};
+use tq_shape::{Memory, ServerSet};
 use tq_tables::{FileVersion, IntentState};
 
 /// The word for a mark.
@@ -34,19 +33,6 @@ pub(crate) fn push_set(text: &mut String, servers: &ServerSet) -> Result<(), Mem
         return text.push_str(" -");
     }
     for server in servers.iter() {
-        push_spaced(text, server.number())?;
-    }
-    Ok(())
-}
-
-/// Puts the numbers of a quorum's servers behind the text, each after a space, or `-` where there is none.
-pub(crate) fn push_quorum(text: &mut String, quorum: &[ServerId]) -> Result<(), Memory>
-    ensures { OnOk result (string_bytes text.new ≡ string_bytes text.old ++ servers_text (numbers_of quorum.now)) }
-{
-    if quorum.is_empty() {
-        return text.push_str(" -");
-    }
-    for server in quorum {
         push_spaced(text, server.number())?;
     }
     Ok(())

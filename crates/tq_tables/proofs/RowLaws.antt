@@ -1,5 +1,5 @@
 -- Rows as they are gathered, one after another.
-use Rattle.std.specs.Prelude.{reverse, sum_by, nat_le}
+use Rattle.std.specs.Prelude.{reverse, nat_le}
 use Rattle.std.proofs.Common.{◌≡◌, ℕ, zero, suc, ◌+◌, ◌≤◌, ◌<◌, Bool, true, false, cond, List, [], ◌∷◌, ◌++◌, length, map, filter, take, get_or, Option, Some, None, refl, ap, sym, subst, ◌∙◌, arith}
 use Rattle.std.specs.List.{All, flat_map}
 use Rattle.std.specs.Option.{option_map}
@@ -8,15 +8,14 @@ use Rattle.std.proofs.lemmas.List.Elements.{All-cons, filter-append}
 use Rattle.tq_shape.specs.ServerSet.{Servers}
 use Rattle.tq_shape.specs.Tree.{Server}
 use Rattle.tq_shape.proofs.Joined.{reverse-push}
-use Rattle.tq_coterie.specs.Coterie.{servers_of}
 use Rattle.tq_desk.specs.DeskJournal.{commits, with_commit, DeskEntry}
 use Rattle.tq_live.specs.BestOf.{IsBestOf}
-use Rattle.tq_live.specs.Live.{Live, cost_of}
+use Rattle.tq_live.specs.Live.{Live}
 use Rattle.tq_live.specs.View.{upwards}
 use Rattle.tq_live.specs.declared.least.Least.{Least}
 use Rattle.tq_node.specs.Node.{NodeView}
 use Rattle.tq_tables.specs.Parts.{AreOfTree}
-use Rattle.tq_tables.specs.Rows.{quorum_row, row_at, servers_where}
+use Rattle.tq_tables.specs.Rows.{least_of, quorum_row, row_at, servers_where}
 
 -- ---- lists
 
@@ -40,10 +39,10 @@ upwards-push first count = ap (upwards first) (one count) ∙ by first count
     by first (suc count) = ap (λ rest. first ∷ rest) (by (first + 1) count ∙ ap (λ (n : ℕ). upwards (first + 1) count ++ n ∷ []) (omega arith))
 
 pub quorum_row-is : (live : Live) (server : ℕ) (told : Option Least) → IsBestOf live server told → told ≡ quorum_row live server
-quorum_row-is live server None is = sym (ap (option_map (λ servers. record { cost = sum_by (cost_of live) servers; servers = servers_of live.levels servers })) is)
+quorum_row-is live server None is = sym (ap (option_map (least_of live)) is)
 quorum_row-is live server (Some least) is =
-    (λ i. Some (record { cost = is.2 i; servers = is.1 i }))
-    ∙ sym (ap (option_map (λ servers. record { cost = sum_by (cost_of live) servers; servers = servers_of live.levels servers })) is.0)
+    (λ i. Some (record { cost = is.2 i; servers = record { levels = is.1 i; numbers = least.servers.numbers } }))
+    ∙ sym (ap (option_map (least_of live)) is.0)
 
 -- ---- files
 

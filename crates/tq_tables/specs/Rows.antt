@@ -5,7 +5,6 @@ use Rattle.std.specs.List.{flat_map}
 use Rattle.std.specs.Option.{option_map}
 use Rattle.tq_shape.specs.Tree.{Server}
 use Rattle.tq_shape.specs.ServerSet.{Servers}
-use Rattle.tq_coterie.specs.Coterie.{servers_of}
 use Rattle.tq_store.specs.Copies.{copy_of}
 use Rattle.tq_store.specs.declared.write.Write.{Write}
 use Rattle.tq_locks.specs.Locks.{LockKey}
@@ -34,9 +33,13 @@ server_of node = record { number = node.server; levels = node.levels }
 
 -- ---- the least quorums
 
+-- a least quorum of these servers of the tree, with its cost
+abbrev pub least_of : Live → List ℕ → Least
+least_of live servers = record { cost = sum_by (cost_of live) servers; servers = record { levels = live.levels; numbers = servers } }
+
 -- the best of the server's subtree, as cost and servers; none where there is none
 abbrev pub quorum_row : Live → ℕ → Option Least
-quorum_row live server = option_map (λ servers. record { cost = sum_by (cost_of live) servers; servers = servers_of live.levels servers }) (best live server)
+quorum_row live server = option_map (least_of live) (best live server)
 
 -- for each server upwards
 abbrev pub quorum_rows : Live → List (Option Least)

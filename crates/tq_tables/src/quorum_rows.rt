@@ -13,7 +13,20 @@ pub fn quorum_rows(alloc: Global, tree: &LiveTree) -> Result<Vec<Option<Least>>,
     let mut rows = Vec::new(alloc);
     for below in 0..levels.servers() {
         let server = ServerId::new(levels, below + 1);
-        rows.push(tree.best(alloc, server)?)?;
+        rows.push(quorum_row(tree, server))?;
     }
     Ok(rows)
+}
+
+/// The best of the server's subtree, none where there is none. It takes no memory.
+fn quorum_row(tree: &LiveTree, server: ServerId) -> Option<Least>
+    requires { server.levels ≡ tree.now.levels }
+    ensures { result ≡ spec.quorum_row tree.now server.number }
+{
+    let mut row = Least::new(tree.levels());
+    if tree.best_into(server, &mut row) {
+        Some(row)
+    } else {
+        None
+    }
 }

@@ -1,8 +1,8 @@
 use std::alloc::Global;
 use tq_check::{Wrong, check};
-use tq_live::{Choice, LiveTree, Turns, View, ViewAsk, ViewReply};
+use tq_live::{Choice, Least, LiveTree, Turns, View, ViewAsk, ViewReply};
 use tq_part::{Fault, Journaled, foresee};
-use tq_shape::{Entry, Levels, Memory, ServerId};
+use tq_shape::{Entry, Levels, Memory, ServerId, ServerSet};
 
 fn bit(number: u64) -> u64 {
     1u64.wrapping_shl((number % 64) as u32)
@@ -128,6 +128,67 @@ fn changes_each(alloc: Global, tree: &mut LiveTree) -> bool {
 fn each_depth_writes_one_cache_more(rt: HostRuntime) -> Result<(), Wrong> {
     let mut tree = LiveTree::new(rt.alloc(), Levels::new(6).unwrap())?;
     check(changes_each(rt.alloc(), &mut tree), "another offer")
+}
+
+// ---- rows
+
+/// The servers of a set as the bits of a number.
+fn bits_in(servers: &ServerSet) -> u64 {
+    let mut bits = 0u64;
+    for server in servers.iter() {
+        bits |= bit(server.number());
+    }
+    bits
+}
+
+fn is_of(row: &Least, servers: u64, cost: u64) -> bool {
+    bits_in(&row.servers) == servers && row.cost == cost
+}
+
+/// Whether a row is written as the best of the server's subtree is told, and left as it was where there is none.
+fn writes_best(alloc: Global, tree: &LiveTree, number: u64) -> bool {
+    let Some(server) = tree.levels().server(number) else {
+        return false;
+    };
+    let mut row = Least::new(tree.levels());
+    let written = tree.best_into(server, &mut row);
+    match tree.best(alloc, server) {
+        Ok(Some(least)) => written && is_of(&row, bits_in(&least.servers), least.cost),
+        Ok(None) => !written && is_of(&row, 0, 0),
+        Err(_) => false,
+    }
+}
+
+fn writes_each_best(alloc: Global, tree: &LiveTree) -> bool {
+    for number in 1..8u64 {
+        if !writes_best(alloc, tree, number) {
+            return false;
+        }
+    }
+    true
+}
+
+/// Whether a row is written over with these servers at that cost, for the server, and then left for one that is down.
+fn has_row(tree: &LiveTree, number: u64, down: u64, servers: u64, cost: u64) -> bool {
+    let levels = tree.levels();
+    let (Some(server), Some(down)) = (levels.server(number), levels.server(down)) else {
+        return false;
+    };
+    let mut row = Least::new(levels);
+    tree.best_into(server, &mut row)
+        && !tree.best_into(down, &mut row)
+        && is_of(&row, servers, cost)
+}
+
+#[test]
+fn rows_are_written_where_a_quorum_is_up(rt: HostRuntime) -> Result<(), Wrong> {
+    let mut tree = LiveTree::new(rt.alloc(), Levels::new(3).unwrap())?;
+    let holds = writes_each_best(rt.alloc(), &tree)
+        && sets_mark(&mut tree, 4, false, 3)
+        && writes_each_best(rt.alloc(), &tree)
+        && has_row(&tree, 1, 4, bit(1) | bit(2) | bit(5), 3)
+        && has_row(&tree, 2, 4, bit(2) | bit(5), 2);
+    check(holds, "another row")
 }
 
 // ---- a view with its journal

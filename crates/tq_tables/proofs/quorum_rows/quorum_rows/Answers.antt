@@ -3,7 +3,7 @@ use Rattle.std.proofs.lemmas.List.{map-append}
 use Rattle.tq_live.specs.View.{upwards}
 use Rattle.tq_shape.specs.Tree.{Server}
 use Rattle.tq_tables.specs.Rows as spec
-use Rattle.tq_tables.proofs.RowLaws.{quorum_row-is, upwards-push}
+use Rattle.tq_tables.proofs.RowLaws.{upwards-push}
 use Rattle.tq_tables.proofs.quorum_rows.quorum_rows.Goals as goal
 
 pub loop-below-preserved : goal.loop-below-preserved
@@ -11,10 +11,8 @@ loop-below-preserved c =
     let live = c.args.tree.now in
     let below = c.loop-below.below in
     let after : below + 1 ≡ 1 + below = omega arith in
-    let row : c.in_ok-best.field-0 ≡ spec.quorum_row live (1 + below) =
-    quorum_row-is live c.new-server.result.number c.in_ok-best.field-0 c.in_ok-best.ensures.best
-    ∙ ap (λ (s : Server). spec.quorum_row live s.number) c.new-server.ensures
-    ∙ ap (spec.quorum_row live) after in
+    let row : c.quorum_row.result ≡ spec.quorum_row live (1 + below) =
+    c.quorum_row.ensures ∙ ap (λ (s : Server). spec.quorum_row live s.number) c.new-server.ensures ∙ ap (spec.quorum_row live) after in
     c.in_ok-push.ensures.items
     ∙ (λ j. c.loop-below.invariant j ++ row j ∷ [])
     ∙ sym (map-append (spec.quorum_row live) (upwards 1 below) ((1 + below) ∷ []))
