@@ -9,6 +9,7 @@ use Rattle.tq_store.specs.declared.copies.FileCopy.{FileCopy}
 use Rattle.tq_store.specs.declared.write.Write.{Write}
 use Rattle.tq_store.proofs.Installed.{Installs-installed, rises-installed_all, rises_then}
 use Rattle.tq_store.proofs.SameName.{same_name-refl}
+use Rattle.tq_asks.specs.declared.ask.NodeAsk.{NodeAsk}
 use Rattle.tq_node.specs.NodeChanges.{stepped}
 use Rattle.tq_node.specs.Untouched.{AreReached, KeepsOthers, raised_files, step_raises}
 use Rattle.tq_node.specs.Records.{Records}
@@ -27,19 +28,19 @@ other-installed_all files (write ∷ writes) other none =
     ∙ other-installed files write.file (copy_in write) other both.0
 
 -- the copies of other files stay under a step
-pub step-keeps : (old : Records) (number : ℕ) (step : NodeStep) → KeepsOthers (raised_files (step_raises step)) old.copies (stepped old number step).copies
-step-keeps old number steps.Nothing file none = refl
-step-keeps old number (steps.Lock txn name mode version) file none = refl
-step-keeps old number (steps.Vote txn vote) file none = refl
-step-keeps old number (steps.Discard txn vote) file none = refl
-step-keeps old number (steps.Install txn vote writes newer) file none = other-installed_all old.copies writes file none
-step-keeps old number (steps.Release txn) file none = refl
-step-keeps old number (steps.Refresh write) file none =
+pub step-keeps : (ask : NodeAsk) (old : Records) (number : ℕ) (step : NodeStep) → KeepsOthers (raised_files ask (step_raises step)) old.copies (stepped old number step).copies
+step-keeps ask old number steps.Nothing file none = refl
+step-keeps ask old number (steps.Lock txn name mode version) file none = refl
+step-keeps ask old number (steps.Vote txn vote) file none = refl
+step-keeps ask old number (steps.Discard txn vote) file none = refl
+step-keeps ask old number (steps.Install txn vote writes newer) file none = other-installed_all old.copies writes file none
+step-keeps ask old number (steps.Release txn) file none = refl
+step-keeps ask old number (steps.Refresh write) file none =
     other-installed old.copies write.file (record { version = write.version; content = write.content }) file (or_parts (same_name file write.file) false none).0
-step-keeps old number (steps.Unfinished records) file none = refl
-step-keeps old number (steps.Copies newer) file none = other-installed_all old.copies newer file none
-step-keeps old number steps.Crash file none = refl
-step-keeps old number steps.Return file none = refl
+step-keeps ask old number (steps.Unfinished records) file none = refl
+step-keeps ask old number (steps.Copies newer) file none = other-installed_all old.copies newer file none
+step-keeps ask old number steps.Crash file none = refl
+step-keeps ask old number steps.Return file none = refl
 
 -- ---- and those of its own files come to the versions told
 
@@ -58,15 +59,15 @@ own-installed_all files (write ∷ writes) =
     let first = installed files write.file (copy_in write) in
     (rises_then _ _ _ (own-installed files write.file (copy_in write)) (rises-installed_all first writes write.file), own-installed_all first writes)
 
-pub step-reaches : (old : Records) (number : ℕ) (step : NodeStep) → AreReached (step_raises step) (stepped old number step).copies
-step-reaches old number steps.Nothing = tt
-step-reaches old number (steps.Lock txn name mode version) = tt
-step-reaches old number (steps.Vote txn vote) = tt
-step-reaches old number (steps.Discard txn vote) = tt
-step-reaches old number (steps.Install txn vote writes newer) = own-installed_all old.copies writes
-step-reaches old number (steps.Release txn) = tt
-step-reaches old number (steps.Refresh write) = own-installed old.copies write.file (record { version = write.version; content = write.content })
-step-reaches old number (steps.Unfinished records) = tt
-step-reaches old number (steps.Copies newer) = own-installed_all old.copies newer
-step-reaches old number steps.Crash = tt
-step-reaches old number steps.Return = tt
+pub step-reaches : (ask : NodeAsk) (old : Records) (number : ℕ) (step : NodeStep) → AreReached ask (step_raises step) (stepped old number step).copies
+step-reaches ask old number steps.Nothing = tt
+step-reaches ask old number (steps.Lock txn name mode version) = tt
+step-reaches ask old number (steps.Vote txn vote) = tt
+step-reaches ask old number (steps.Discard txn vote) = tt
+step-reaches ask old number (steps.Install txn vote writes newer) = own-installed_all old.copies writes
+step-reaches ask old number (steps.Release txn) = tt
+step-reaches ask old number (steps.Refresh write) = (own-installed old.copies write.file (record { version = write.version; content = write.content }), tt)
+step-reaches ask old number (steps.Unfinished records) = tt
+step-reaches ask old number (steps.Copies newer) = own-installed_all old.copies newer
+step-reaches ask old number steps.Crash = tt
+step-reaches ask old number steps.Return = tt

@@ -1,11 +1,11 @@
-ghost use Rattle.std.specs.Prelude.{◌≡◌, [], IfOk};
+ghost use Rattle.std.specs.Prelude.{◌≡◌, [], ◌∷◌, IfOk};
 ghost use Rattle.tq_node.specs.Untouched.{step_raises};
 
 use crate::{NodeReply, NodeStep};
 use std::alloc::Global;
 use tq_intents::NewerWrite;
 use tq_shape::{Memory, SharedSeq};
-use tq_store::{FileName, Write};
+use tq_store::Write;
 
 /// A server's reply, twice: one to enter into the journal and one to tell. And the files whose copies there it may have
 /// raised.
@@ -21,7 +21,8 @@ pub struct Telling {
 pub enum Raised {
     /// Those of the writes.
     Written(SharedSeq<Write>),
-    One { file: FileName, version: u64 },
+    /// The one that the ask, a refresh, offers. It stands in the ask, and is not told again.
+    Asked,
 }
 
 impl Raised {
@@ -42,10 +43,10 @@ impl Raised {
                 let writes = writes_of(alloc, newer.as_slice())?;
                 Ok(Raised::Written(writes))
             }
-            NodeStep::Refresh { write } => Ok(Raised::One {
-                file: write.file,
-                version: write.version,
-            }),
+            NodeStep::Refresh { write } => {
+                let writes = alone(alloc, write)?;
+                Ok(Raised::Written(writes))
+            }
             _ => Ok(Raised::nothing()),
         }
     }
@@ -60,5 +61,14 @@ fn writes_of(alloc: Global, newer: &[NewerWrite]) -> Result<SharedSeq<Write>, Me
         let listed = write.get();
         writes.push(listed.write()?)?;
     }
+    SharedSeq::from_vec(writes)
+}
+
+/// A list of that write alone.
+fn alone(alloc: Global, write: &Write) -> Result<SharedSeq<Write>, Memory>
+    ensures { IfOk result (λ writes. writes ≡ write.now ∷ []) }
+{
+    let mut writes = Vec::new(alloc);
+    writes.push(write.clone()?)?;
     SharedSeq::from_vec(writes)
 }

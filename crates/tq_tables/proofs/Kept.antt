@@ -82,7 +82,7 @@ of_tree-with_row levels (first ∷ rows) row of_tree is = by (same_name row.file
 
 -- ---- a server that stands in a row
 
-stood-file : (node : NodeView) (row : FileRow) → (stood node row).file ≡ row.file
+pub stood-file : (node : NodeView) (row : FileRow) → (stood node row).file ≡ row.file
 stood-file node row = by (has_version row.file row.version node)
   where
     by : (b : Bool) → (moved b node.server row).file ≡ row.file
@@ -124,7 +124,7 @@ of_tree-stood levels node file (row ∷ rows) of_tree =
     (stood_at-levels levels node file row (All-head (HasLevels levels) row rows of_tree)) (of_tree-stood levels node file rows (All-tail (HasLevels levels) row rows of_tree))
 
 -- where the file has no row, none changes
-absent-stood : (node : NodeView) (file : List ℕ) (rows : List FileRow) → is_in file (names_in rows) ≡ false → map (stood_at node file) rows ≡ rows
+pub absent-stood : (node : NodeView) (file : List ℕ) (rows : List FileRow) → is_in file (names_in rows) ≡ false → map (stood_at node file) rows ≡ rows
 absent-stood node file [] none = refl
 absent-stood node file (row ∷ rows) none =
     let both = or_false (same_name file row.file) (is_in file (names_in rows)) none in

@@ -5,6 +5,7 @@ pub mod Replayed
 pub mod Whole
 pub mod Noted
 pub mod Kept
+mod Placed
 pub mod Stood
 pub mod Written
 pub mod Restood

@@ -1,5 +1,5 @@
 -- The rows of files as they are kept, and how one of them changes.
-use Rattle.std.specs.Prelude.{◌≡◌, ℕ, Bool, true, false, cond, List, [], ◌∷◌, map, fold, Option, refl}
+use Rattle.std.specs.Prelude.{◌≡◌, ℕ, Bool, true, false, cond, List, [], ◌∷◌, map, fold, slice_get, Option, Some, refl}
 use Rattle.std.specs.Coded.{Coded, code_by, coded×, coded_list, coded_ℕ}
 use Rattle.std.specs.List.{All}
 use Rattle.std.specs.Map.{lookup}
@@ -40,6 +40,10 @@ pub record AreFiles (levels : ℕ) (entries : List (List ℕ × FileRow)) : Type
   pub named : entries ≡ map (λ row. (row.file, row)) (map (λ entry. entry.1) entries)
   pub apart : Apart (names_in (map (λ entry. entry.1) entries))
   pub of_tree : AreOfLevels levels (map (λ entry. entry.1) entries)
+
+-- a row of the file stands at the place
+abbrev pub HasRowAt : List (List ℕ × FileRow) → ℕ → List ℕ → Type 0
+HasRowAt entries place file = (row : FileRow) × (slice_get entries place ≡ Some (file, row))
 
 -- the row of a file, none where it has none
 abbrev pub row_in : List FileRow → List ℕ → Option FileRow

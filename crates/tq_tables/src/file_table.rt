@@ -1,18 +1,22 @@
 //! The rows of files, found by the names of the files.
-ghost use Rattle.std.specs.Prelude.{[], ◌≡◌, ◌≤◌, ◌<◌, ◌+◌, length, map, IfOk, OnOk};
+ghost use Rattle.std.specs.Prelude.{[], ◌≡◌, ◌≤◌, ◌<◌, ◌+◌, ℕ, List, Some, length, map, slice_get, IfOk, OnOk};
+ghost use Rattle.std.specs.Bool.{OnTrue};
 ghost use Rattle.std.specs.Option.{option_copied};
 ghost use Rattle.std.specs.List.{AllByRecursion};
-ghost use Rattle.tq_node.specs.Untouched.{AreReached, raised_files};
+ghost use Rattle.tq_node.specs.Untouched.{AreReached, HasOffered, offered_files, raised_files};
 ghost use Rattle.tq_store.specs.Copies.{copy_of};
 ghost use Rattle.tq_tables.specs.NamesApart.{Apart};
 ghost use Rattle.tq_tables.specs.Files as spec;
-ghost use Rattle.tq_tables.specs.Files.{AreOfLevels};
+ghost use Rattle.tq_tables.specs.Files.{AreOfLevels, HasRowAt};
+ghost use Rattle.indexmap.specs.IndexMap.{set_value_at};
+ghost use Rattle.tq_tables.specs.declared.file_row.FileRow.{FileRow};
 
 use crate::FileRow;
 use crate::file_rows::copy_files;
 use indexmap::IndexMap;
 use std::alloc::Global;
 use std::marker::Model;
+use tq_asks::{NodeAsk, WorkAsk};
 use tq_node::{Node, Raised};
 use tq_shape::{Levels, Memory};
 use tq_store::{FileName, Write};
@@ -23,6 +27,8 @@ use tq_store::{FileName, Write};
 pub(crate) struct FileTable {
     levels: Levels,
     rows: IndexMap<FileName, FileRow>,
+    /// Where a row was found last: the place at which one is looked for first. Nothing rests on it.
+    last: usize,
 }
 
 impl Model for FileTable {
@@ -65,6 +71,7 @@ impl FileTable {
         FileTable {
             levels,
             rows: IndexMap::new(alloc),
+            last: 0,
         }
     }
 
@@ -136,6 +143,7 @@ impl FileTable {
 
     /// In the row of the file, if it has one, the server, whose copy is at least of that version, stands where its copy
     /// says. It takes no memory.
+    #[inline(never)]
     fn stand(&mut self, node: &Node, file: &FileName, least: u64)
         requires levels { node.now.levels ≡ self.old.levels }
         requires least { least ≤ (copy_of node.now.state.records.copies file.now).version }
@@ -148,17 +156,60 @@ impl FileTable {
         }
     }
 
-    /// In the rows of these files the server stands where its copies say. It takes no memory.
-    #[inline(always)]
-    pub(crate) fn stand_all(&mut self, node: &Node, raised: &Raised)
+    /// The same for a file that is likely to be that of the row that was found last, as where a refresh goes from server to
+    /// server.
+    fn stand_again(&mut self, node: &Node, file: &FileName, least: u64)
         requires levels { node.now.levels ≡ self.old.levels }
-        requires reached { AreReached raised.now node.now.state.records.copies }
+        requires least { least ≤ (copy_of node.now.state.records.copies file.now).version }
         ensures levels { self.new.levels ≡ self.old.levels }
-        ensures rows { self.new.rows ≡ spec.all_stood node.now self.old.rows (raised_files raised.now) }
+        ensures rows { self.new.rows ≡ map (spec.stood_at node.now file.now) self.old.rows }
+    {
+        let _levels = self.levels;
+        if has_row_at(&self.rows, self.last, file) {
+            stand_at(&mut self.rows, self.last, node, least);
+            return;
+        }
+        if let Some(place) = self.rows.get_index_of(file) {
+            self.last = place;
+        }
+        self.stand(node, file, least);
+    }
+
+    /// In the rows of the files that the ask raised the server stands where its copies say. It takes no memory.
+    #[inline(always)]
+    pub(crate) fn stand_all(&mut self, node: &Node, ask: &NodeAsk, raised: &Raised)
+        requires levels { node.now.levels ≡ self.old.levels }
+        requires reached { AreReached ask.now raised.now node.now.state.records.copies }
+        ensures levels { self.new.levels ≡ self.old.levels }
+        ensures rows { self.new.rows ≡ spec.all_stood node.now self.old.rows (raised_files ask.now raised.now) }
     {
         match raised {
             Raised::Written(writes) => self.stand_written(node, writes.as_slice()),
-            Raised::One { file, version } => self.stand(node, file, *version),
+            Raised::Asked => self.stand_offered(node, ask),
+        }
+    }
+
+    /// The same for the file that a refresh offers.
+    #[inline(never)]
+    fn stand_offered(&mut self, node: &Node, ask: &NodeAsk)
+        requires levels { node.now.levels ≡ self.old.levels }
+        requires reached { HasOffered ask.now node.now.state.records.copies }
+        ensures levels { self.new.levels ≡ self.old.levels }
+        ensures rows { self.new.rows ≡ spec.all_stood node.now self.old.rows (offered_files ask.now) }
+    {
+        let _levels = self.levels;
+        match ask {
+            NodeAsk::Work(work) => match work.get() {
+                WorkAsk::Refresh { file, version, .. } => self.stand_again(node, file, *version),
+                WorkAsk::Lock { .. } => {}
+                WorkAsk::Prepare { .. } => {}
+                WorkAsk::Decide { .. } => {}
+                WorkAsk::Release { .. } => {}
+                WorkAsk::Peek { .. } => {}
+            },
+            NodeAsk::Crash => {}
+            NodeAsk::Return => {}
+            NodeAsk::CrashIn { .. } => {}
         }
     }
 
@@ -172,5 +223,30 @@ impl FileTable {
         for write in writes {
             self.stand(node, &write.file, write.version);
         }
+    }
+}
+
+/// Whether the row of the file stands at the place.
+#[inline(always)]
+fn has_row_at(rows: &IndexMap<FileName, FileRow>, place: usize, file: &FileName) -> bool
+    ensures { OnTrue result (HasRowAt rows.now.entries place file.now) }
+{
+    match rows.get_index(place) {
+        Some(entry) => *entry.0 == *file,
+        None => false,
+    }
+}
+
+/// In the row at the place, if there is one, the server stands where its copy says. It takes no memory.
+#[inline(always)]
+fn stand_at(rows: &mut IndexMap<FileName, FileRow>, place: usize, node: &Node, least: u64)
+    requires least { (file : List ℕ) (row : FileRow) → slice_get rows.old.entries place ≡ Some (file, row) → least ≤ (copy_of node.now.state.records.copies row.file).version }
+    requires levels { (file : List ℕ) (row : FileRow) → slice_get rows.old.entries place ≡ Some (file, row)
+        → (node.now.levels ≡ row.current.levels) × (node.now.levels ≡ row.stale.levels) }
+    ensures { (file : List ℕ) (row : FileRow) → slice_get rows.old.entries place ≡ Some (file, row)
+        → rows.new.entries ≡ set_value_at rows.old.entries place (spec.stood node.now row) }
+{
+    if let Some(row) = rows.get_index_mut(place) {
+        row.stand(node, least);
     }
 }

@@ -131,9 +131,9 @@ impl Parts {
         ensures after { OnOk result ((node : NodeView) → node ≡ slice_index_or self.old.nodes (server - 1) node
             → self.new ≡ record self.old { nodes = slice_set self.old.nodes (server - 1) (answered node number ask.now) }) }
         ensures raised { IfOk result (λ telling. (node : NodeView) → node ≡ slice_index_or self.old.nodes (server - 1) node
-            → KeepsOthers (raised_files telling.raised) node.state.records.copies (answered node number ask.now).state.records.copies) }
+            → KeepsOthers (raised_files ask.now telling.raised) node.state.records.copies (answered node number ask.now).state.records.copies) }
         ensures reached { IfOk result (λ telling. (node : NodeView) → node ≡ slice_index_or self.old.nodes (server - 1) node
-            → AreReached telling.raised (answered node number ask.now).state.records.copies) }
+            → AreReached ask.now telling.raised (answered node number ask.now).state.records.copies) }
         ensures unchanged { OnErr result (self.new ≡ self.old) }
     {
         let _view = &self.view;

@@ -131,7 +131,7 @@ impl Tables {
             raised,
         } = parts.ask_node(alloc, server, number, ask)?;
         let node = parts.node(server);
-        files.stand_all(node, &raised);
+        files.stand_all(node, ask, &raised);
         Ok(Replies { entered, told })
     }
 

@@ -23,8 +23,8 @@ impl Node {
         ensures entered { IfOk result (λ telling. telling.entered ≡ spec.node_reply self.old.server self.old.state ask.now) }
         ensures told { IfOk result (λ telling. telling.told ≡ spec.node_reply self.old.server self.old.state ask.now) }
         ensures after { OnOk result (self.new ≡ node.answered self.old number ask.now) }
-        ensures raised { IfOk result (λ telling. KeepsOthers (raised_files telling.raised) self.old.state.records.copies self.new.state.records.copies) }
-        ensures reached { IfOk result (λ telling. AreReached telling.raised self.new.state.records.copies) }
+        ensures raised { IfOk result (λ telling. KeepsOthers (raised_files ask.now telling.raised) self.old.state.records.copies self.new.state.records.copies) }
+        ensures reached { IfOk result (λ telling. AreReached ask.now telling.raised self.new.state.records.copies) }
         ensures err { OnErr result (self.new ≡ self.old) }
     {
         match ask {
@@ -39,8 +39,8 @@ impl Node {
         ensures entered { IfOk result (λ telling. telling.entered ≡ spec.node_reply self.old.server self.old.state ask.now) }
         ensures told { IfOk result (λ telling. telling.told ≡ spec.node_reply self.old.server self.old.state ask.now) }
         ensures after { OnOk result (self.new ≡ node.answered self.old number ask.now) }
-        ensures raised { IfOk result (λ telling. KeepsOthers (raised_files telling.raised) self.old.state.records.copies self.new.state.records.copies) }
-        ensures reached { IfOk result (λ telling. AreReached telling.raised self.new.state.records.copies) }
+        ensures raised { IfOk result (λ telling. KeepsOthers (raised_files ask.now telling.raised) self.old.state.records.copies self.new.state.records.copies) }
+        ensures reached { IfOk result (λ telling. AreReached ask.now telling.raised self.new.state.records.copies) }
         ensures err { OnErr result (self.new ≡ self.old) }
     {
         let plan = self.plan(alloc, number, ask)?;
@@ -65,8 +65,8 @@ impl Node {
         ensures entered { IfOk result (λ telling. telling.entered ≡ spec.node_reply self.old.server self.old.state (NodeAsk.Work ask.now)) }
         ensures told { IfOk result (λ telling. telling.told ≡ spec.node_reply self.old.server self.old.state (NodeAsk.Work ask.now)) }
         ensures after { OnOk result (self.new ≡ node.answered self.old number (NodeAsk.Work ask.now)) }
-        ensures raised { IfOk result (λ telling. KeepsOthers (raised_files telling.raised) self.old.state.records.copies self.new.state.records.copies) }
-        ensures reached { IfOk result (λ telling. AreReached telling.raised self.new.state.records.copies) }
+        ensures raised { IfOk result (λ telling. KeepsOthers (raised_files (NodeAsk.Work ask.now) telling.raised) self.old.state.records.copies self.new.state.records.copies) }
+        ensures reached { IfOk result (λ telling. AreReached (NodeAsk.Work ask.now) telling.raised self.new.state.records.copies) }
         ensures err { OnErr result (self.new ≡ self.old) }
     {
         if self.down {
@@ -115,8 +115,8 @@ impl Node {
         ensures entered { IfOk result (λ telling. telling.entered ≡ spec.node_reply self.old.server self.old.state (NodeAsk.Work (WorkAsk.Lock txn file mode))) }
         ensures told { IfOk result (λ telling. telling.told ≡ spec.node_reply self.old.server self.old.state (NodeAsk.Work (WorkAsk.Lock txn file mode))) }
         ensures after { OnOk result (self.new ≡ node.answered self.old number (NodeAsk.Work (WorkAsk.Lock txn file mode))) }
-        ensures raised { IfOk result (λ telling. KeepsOthers (raised_files telling.raised) self.old.state.records.copies self.new.state.records.copies) }
-        ensures reached { IfOk result (λ telling. AreReached telling.raised self.new.state.records.copies) }
+        ensures raised { IfOk result (λ telling. KeepsOthers (raised_files (NodeAsk.Work (WorkAsk.Lock txn file mode)) telling.raised) self.old.state.records.copies self.new.state.records.copies) }
+        ensures reached { IfOk result (λ telling. AreReached (NodeAsk.Work (WorkAsk.Lock txn file mode)) telling.raised self.new.state.records.copies) }
         ensures err { OnErr result (self.new ≡ self.old) }
     {
         if self.intents.of(txn).is_some() {
@@ -154,8 +154,8 @@ impl Node {
         ensures entered { IfOk result (λ telling. telling.entered ≡ spec.node_reply self.old.server self.old.state (NodeAsk.Work (WorkAsk.Prepare txn writes.now))) }
         ensures told { IfOk result (λ telling. telling.told ≡ spec.node_reply self.old.server self.old.state (NodeAsk.Work (WorkAsk.Prepare txn writes.now))) }
         ensures after { OnOk result (self.new ≡ node.answered self.old number (NodeAsk.Work (WorkAsk.Prepare txn writes.now))) }
-        ensures raised { IfOk result (λ telling. KeepsOthers (raised_files telling.raised) self.old.state.records.copies self.new.state.records.copies) }
-        ensures reached { IfOk result (λ telling. AreReached telling.raised self.new.state.records.copies) }
+        ensures raised { IfOk result (λ telling. KeepsOthers (raised_files (NodeAsk.Work (WorkAsk.Prepare txn writes.now)) telling.raised) self.old.state.records.copies self.new.state.records.copies) }
+        ensures reached { IfOk result (λ telling. AreReached (NodeAsk.Work (WorkAsk.Prepare txn writes.now)) telling.raised self.new.state.records.copies) }
         ensures err { OnErr result (self.new ≡ self.old) }
     {
         if let Some(reason) = self.prepare_refusal(txn, writes.as_slice()) {
@@ -192,8 +192,8 @@ impl Node {
         ensures entered { IfOk result (λ telling. telling.entered ≡ spec.node_reply self.old.server self.old.state (NodeAsk.Work (WorkAsk.Decide txn verdict.now _cite))) }
         ensures told { IfOk result (λ telling. telling.told ≡ spec.node_reply self.old.server self.old.state (NodeAsk.Work (WorkAsk.Decide txn verdict.now _cite))) }
         ensures after { OnOk result (self.new ≡ node.answered self.old number (NodeAsk.Work (WorkAsk.Decide txn verdict.now _cite))) }
-        ensures raised { IfOk result (λ telling. KeepsOthers (raised_files telling.raised) self.old.state.records.copies self.new.state.records.copies) }
-        ensures reached { IfOk result (λ telling. AreReached telling.raised self.new.state.records.copies) }
+        ensures raised { IfOk result (λ telling. KeepsOthers (raised_files (NodeAsk.Work (WorkAsk.Decide txn verdict.now _cite)) telling.raised) self.old.state.records.copies self.new.state.records.copies) }
+        ensures reached { IfOk result (λ telling. AreReached (NodeAsk.Work (WorkAsk.Decide txn verdict.now _cite)) telling.raised self.new.state.records.copies) }
         ensures err { OnErr result (self.new ≡ self.old) }
     {
         let Some(vote) = self.intents.of(txn) else {
@@ -227,8 +227,8 @@ impl Node {
         ensures entered { result.entered ≡ spec.node_reply self.old.server self.old.state (NodeAsk.Work (WorkAsk.Release txn)) }
         ensures told { result.told ≡ spec.node_reply self.old.server self.old.state (NodeAsk.Work (WorkAsk.Release txn)) }
         ensures after { self.new ≡ node.answered self.old number (NodeAsk.Work (WorkAsk.Release txn)) }
-        ensures raised { KeepsOthers (raised_files result.raised) self.old.state.records.copies self.new.state.records.copies }
-        ensures reached { AreReached result.raised self.new.state.records.copies }
+        ensures raised { KeepsOthers (raised_files (NodeAsk.Work (WorkAsk.Release txn)) result.raised) self.old.state.records.copies self.new.state.records.copies }
+        ensures reached { AreReached (NodeAsk.Work (WorkAsk.Release txn)) result.raised self.new.state.records.copies }
     {
         if let Some(reason) = self.release_refusal(txn) {
             return self.tell_refusal(number, &reason);
@@ -249,16 +249,22 @@ impl Node {
         ensures entered { IfOk result (λ telling. telling.entered ≡ spec.node_reply self.old.server self.old.state (NodeAsk.Work (WorkAsk.Peek file.now))) }
         ensures told { IfOk result (λ telling. telling.told ≡ spec.node_reply self.old.server self.old.state (NodeAsk.Work (WorkAsk.Peek file.now))) }
         ensures after { OnOk result (self.new ≡ node.answered self.old number (NodeAsk.Work (WorkAsk.Peek file.now))) }
-        ensures raised { IfOk result (λ telling. KeepsOthers (raised_files telling.raised) self.old.state.records.copies self.new.state.records.copies) }
-        ensures reached { IfOk result (λ telling. AreReached telling.raised self.new.state.records.copies) }
+        ensures raised { IfOk result (λ telling. KeepsOthers (raised_files (NodeAsk.Work (WorkAsk.Peek file.now)) telling.raised) self.old.state.records.copies self.new.state.records.copies) }
+        ensures reached { IfOk result (λ telling. AreReached (NodeAsk.Work (WorkAsk.Peek file.now)) telling.raised self.new.state.records.copies) }
         ensures err { OnErr result (self.new ≡ self.old) }
     {
-        let entered = self.peek(*file)?;
-        let told = entered.clone()?;
+        self.copies.note(file);
+        let copy = self.copies.get_noted(file);
+        let version = copy.version;
+        let content = copy.content.clone()?;
+        let told = copy.content.clone()?;
         self.note(number);
         Ok(Telling {
-            entered,
-            told,
+            entered: NodeReply::Copy { version, content },
+            told: NodeReply::Copy {
+                version,
+                content: told,
+            },
             raised: Raised::nothing(),
         })
     }
@@ -280,8 +286,8 @@ impl Node {
         ensures entered { IfOk result (λ telling. telling.entered ≡ spec.node_reply self.old.server self.old.state (NodeAsk.Work (WorkAsk.Refresh file version content.now _from))) }
         ensures told { IfOk result (λ telling. telling.told ≡ spec.node_reply self.old.server self.old.state (NodeAsk.Work (WorkAsk.Refresh file version content.now _from))) }
         ensures after { OnOk result (self.new ≡ node.answered self.old number (NodeAsk.Work (WorkAsk.Refresh file version content.now _from))) }
-        ensures raised { IfOk result (λ telling. KeepsOthers (raised_files telling.raised) self.old.state.records.copies self.new.state.records.copies) }
-        ensures reached { IfOk result (λ telling. AreReached telling.raised self.new.state.records.copies) }
+        ensures raised { IfOk result (λ telling. KeepsOthers (raised_files (NodeAsk.Work (WorkAsk.Refresh file version content.now _from)) telling.raised) self.old.state.records.copies self.new.state.records.copies) }
+        ensures reached { IfOk result (λ telling. AreReached (NodeAsk.Work (WorkAsk.Refresh file version content.now _from)) telling.raised self.new.state.records.copies) }
         ensures err { OnErr result (self.new ≡ self.old) }
     {
         let kept = content.clone()?;
@@ -296,7 +302,7 @@ impl Node {
         Ok(Telling {
             entered: NodeReply::Refreshed,
             told: NodeReply::Refreshed,
-            raised: Raised::One { file, version },
+            raised: Raised::Asked,
         })
     }
 }

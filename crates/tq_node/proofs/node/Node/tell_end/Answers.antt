@@ -1,5 +1,7 @@
 use Rattle.std.proofs.Common.{List, [], map, ap, sym, subst, ◌∙◌}
 use Rattle.std.specs.List.{list_any}
+use Rattle.tq_asks.specs.declared.ask.NodeAsk.TheVariants.{Work}
+use Rattle.tq_asks.specs.declared.ask.WorkAsk.TheVariants.{Decide}
 use Rattle.tq_node.specs.Node.{NodeView, numbered}
 use Rattle.tq_node.specs.declared.change.NodeStep.TheVariants.{Install}
 use Rattle.tq_store.specs.Copies.{copy_of, installed_all}
@@ -13,13 +15,14 @@ use Rattle.tq_node.proofs.node.Node.tell_end.Goals as goal
 pub returns-clause-raised : goal.returns-clause-raised
 returns-clause-raised c = λ file none.
     ap (λ (v : NodeView). copy_of v.state.records.copies file) (c.note-2.ensures ∙ ap (numbered c.args.number) c.in_ok-install.ensures.after)
-    ∙ step-keeps c.args.self.now.state.records c.args.number (Install c.args.txn 0 c.as_slice.result.now []) file
+    ∙ step-keeps (Work (Decide c.args.txn c.args.verdict.now c.args._cite)) c.args.self.now.state.records c.args.number (Install c.args.txn 0 c.as_slice.result.now []) file
     (ap (λ (writes : List Write). list_any (same_name file) (map (λ write. write.file) writes)) c.as_slice.ensures ∙ none)
 
 pub returns-clause-reached : goal.returns-clause-reached
 returns-clause-reached c =
+    let ask = Work (Decide c.args.txn c.args.verdict.now c.args._cite) in
     let old = c.args.self.now.state.records in
     let after = c.note-2.ensures ∙ ap (numbered c.args.number) c.in_ok-install.ensures.after in
-    subst (λ (v : NodeView). AreReached (Written c.in_ok-writes.writes) v.state.records.copies) (sym after)
-    (subst (λ (writes : List Write). AreReached (Written c.in_ok-writes.writes) (installed_all old.copies writes)) (sym c.as_slice.ensures)
-    (step-reaches old c.args.number (Install c.args.txn 0 c.in_ok-writes.writes [])))
+    subst (λ (v : NodeView). AreReached ask (Written c.in_ok-writes.writes) v.state.records.copies) (sym after)
+    (subst (λ (writes : List Write). AreReached ask (Written c.in_ok-writes.writes) (installed_all old.copies writes)) (sym c.as_slice.ensures)
+    (step-reaches ask old c.args.number (Install c.args.txn 0 c.in_ok-writes.writes [])))

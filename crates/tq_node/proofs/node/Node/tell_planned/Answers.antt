@@ -23,9 +23,9 @@ returns-clause-after c =
 pub returns-clause-raised : goal.returns-clause-raised
 returns-clause-raised c = λ file none.
     ap (λ (files : Files). copy_of files file) c.in_ok-apply.ensures.copies
-    ∙ step-keeps _ _ _ file (sym (ap (λ (raised : Raised). list_any (same_name file) (raised_files raised)) c.in_ok-raised.ensures) ∙ none)
+    ∙ step-keeps c.args.ask.now _ _ _ file (sym (ap (λ (raised : Raised). list_any (same_name file) (raised_files c.args.ask.now raised)) c.in_ok-raised.ensures) ∙ none)
 
 pub returns-clause-reached : goal.returns-clause-reached
 returns-clause-reached c =
-    subst (λ (files : Files). AreReached c.in_ok-raised.raised files) (sym c.in_ok-apply.ensures.copies)
-    (subst (λ (raised : Raised). AreReached raised (stepped c.args.self.now.state.records c.in_ok-plan.plan.change.number c.in_ok-plan.plan.change.step).copies) (sym c.in_ok-raised.ensures) (step-reaches _ _ _))
+    subst (λ (files : Files). AreReached c.args.ask.now c.in_ok-raised.raised files) (sym c.in_ok-apply.ensures.copies)
+    (subst (λ (raised : Raised). AreReached c.args.ask.now raised (stepped c.args.self.now.state.records c.in_ok-plan.plan.change.number c.in_ok-plan.plan.change.step).copies) (sym c.in_ok-raised.ensures) (step-reaches c.args.ask.now _ _ _))

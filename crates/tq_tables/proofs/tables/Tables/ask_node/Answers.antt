@@ -69,7 +69,7 @@ stand_all-requires-clause-reached c =
     c.node-node.ensures.value
     ∙ ap (λ (p : PartsView). get_or p.nodes (server - 1) c.node-node.result.now) after
     ∙ get_or-put parts.nodes (server - 1) node c.node-node.result.now less in
-    subst (λ (n : NodeView). AreReached c.in_ok-entered.field-0.raised n.state.records.copies) (sym node_is) (c.in_ok-entered.ensures.reached old at)
+    subst (λ (n : NodeView). AreReached c.args.ask.now c.in_ok-entered.field-0.raised n.state.records.copies) (sym node_is) (c.in_ok-entered.ensures.reached old at)
 
 pub invariant_of-self-2 : goal.invariant_of-self-2
 invariant_of-self-2 c =
@@ -117,11 +117,11 @@ returns-clause-asked c = λ journals reply legal stand.
     ∙ get_or-put parts.nodes (server - 1) node c.node-node.result.now less in
     let whole = view_is ∙ stand in
     let of_tree = of_tree-at journals.levels journals.servers parts.nodes parts.view.levels (ap (λ (t : TablesView). t.nodes) whole) (ap (λ (t : TablesView). t.view.levels) whole) in
-    let stands = rows-stand parts of_tree server there.0 within old node at refl refl (raised_files c.in_ok-entered.field-0.raised) (c.in_ok-entered.ensures.raised old at) rows journals
+    let stands = rows-stand parts of_tree server there.0 within old node at refl refl (raised_files c.args.ask.now c.in_ok-entered.field-0.raised) (c.in_ok-entered.ensures.raised old at) rows journals
     (rows-at parts rows c.args.self.now view_is journals stand) in
     let files : c.stand_all.new.self.rows ≡ file_rows c.args.self.now.view.levels c.ask_node.new.self.nodes list =
     c.stand_all.ensures.rows
-    ∙ (λ i. spec.all_stood (node_is i) rows (raised_files c.in_ok-entered.field-0.raised))
+    ∙ (λ i. spec.all_stood (node_is i) rows (raised_files c.args.ask.now c.in_ok-entered.field-0.raised))
     ∙ stands
     ∙ (λ i. file_rows (view_is i).view.levels (sym after i).nodes list) in
     let at_now = at ∙ ap (λ (t : TablesView). get_or t.nodes (server - 1) old) view_is in
