@@ -14,11 +14,11 @@ use crate::recorder::Recorder;
 use std::alloc::{AllocError, Global};
 use tq_asks::{NodeAsk, NodeReply};
 use tq_core::Service;
+use tq_part::{Answered, AskFault};
 use tq_print::{push_at, say_number};
 use tq_refresh::{Job, copy_ask, peek_ask, plan};
 use tq_rendered::render;
 use tq_shape::{Memory, ServerId};
-use tq_txn::{AskFault, Asker, NodeTold};
 
 /// An ask for a copy of a file, and the job that it was made for.
 #[derive(Drop)]
@@ -145,7 +145,7 @@ fn takes(
     ensures tree { recorder.new.journals.levels ≡ recorder.old.journals.levels }
 {
     recorder.replayed();
-    let result = recorder.node(alloc, server, ask);
+    let result = recorder.put(alloc, server, ask);
     recorder.replayed();
     match result {
         Ok(told) => Ok(is_refreshed(&told.reply)),
@@ -162,14 +162,14 @@ fn answer_of(
     alloc: Global,
     server: ServerId,
     ask: NodeAsk,
-) -> Result<Option<NodeTold>, Memory>
+) -> Result<Option<Answered<NodeReply>>, Memory>
     requires { server.levels ≡ recorder.old.journals.levels }
     ensures answer { IfOk result (λ told. option_map (λ t. (t.number, t.reply)) told ≡ spec.answer_in (node_told recorder.old.journals server.number ask)) }
     ensures after { OnOk result (recorder.new.journals ≡ world_after recorder.old.journals (steps.Node server.number ask)) }
     ensures tree { recorder.new.journals.levels ≡ recorder.old.journals.levels }
 {
     recorder.replayed();
-    let result = recorder.node(alloc, server, ask);
+    let result = recorder.put(alloc, server, ask);
     recorder.replayed();
     match result {
         Ok(told) => Ok(Some(told)),

@@ -1,9 +1,9 @@
 ghost use Rattle.std.specs.Prelude.{◌≡◌, IfOk};
 
-use crate::told::{nothing, with_answer, with_desk, with_fault, with_view};
+use crate::told::{handed, nothing, with_answer, with_desk, with_fault, with_handed, with_view};
 use std::alloc::Global;
 use std::marker::Model;
-use tq_asks::NodeAsk;
+use tq_asks::{NodeAsk, NodeReply};
 use tq_core::Service;
 use tq_desk::DeskAsk;
 use tq_history::History;
@@ -31,9 +31,10 @@ impl Model for Recorder {
 }
 
 impl Recorder {
-    ghost use Rattle.std.specs.Prelude.{◌≡◌, [], IfOk};
+    ghost use Rattle.std.specs.Prelude.{◌≡◌, ◌++◌, [], IfOk};
     ghost use Rattle.tq_world.specs.World.{empty_world};
-    ghost use Rattle.tq_answering.specs.Recorded.{full_limits, IsReplayed};
+    ghost use Rattle.tq_answering.specs.Recorded.{full_limits, noted, IsReplayed};
+    ghost use Rattle.tq_txn.specs.declared.asker.Exchange.TheVariants as exchanges;
 
     /// A service with full limits that was asked nothing.
     pub(crate) fn new(alloc: Global, levels: Levels) -> Result<Recorder, Memory>
@@ -49,6 +50,24 @@ impl Recorder {
         ensures { result.now ≡ self.now.journals }
     {
         &self.service
+    }
+
+    /// Asks the server, as the asker's `node` does, and keeps no copy of the ask: the entry's number and the reply are told.
+    pub(crate) fn put(
+        &mut self,
+        alloc: Global,
+        server: ServerId,
+        ask: NodeAsk,
+    ) -> Result<Answered<NodeReply>, AskFault>
+        requires { server.levels ≡ self.old.journals.levels }
+        ensures exchanges { self.new.told ≡ self.old.told ++ noted result (exchanges.Node server.number ask result) }
+        ensures tree { self.new.journals.levels ≡ self.old.journals.levels }
+    {
+        let number = server.number();
+        let given = handed(&ask);
+        let answer = self.service.ask_node(alloc, server, ask);
+        self.told = with_handed(&self.told, number, &given, &answer);
+        answer
     }
 
     /// What was told, replayed from empty journals, leads to these: this does nothing, and says so.

@@ -1,4 +1,5 @@
 ghost use Rattle.std.specs.Prelude.{◌≡◌, ◌++◌, ◌∷◌, [], Ok, Err};
+ghost use Rattle.std.specs.List.{flat_map};
 ghost use Rattle.tq_txn.specs.declared.asker.Exchange.TheVariants as exchanges;
 ghost use Rattle.tq_txn.specs.Dialogue.{unless_memory};
 ghost use Rattle.tq_answering.specs.Recorded.{noted};
@@ -35,6 +36,15 @@ struct ServerUnasked<'a> {
     server: u64,
     ask: &'a NodeAsk,
     fault: &'a AskFault,
+}
+
+/// What was told before, and what a server that was handed an ask answered.
+#[derive(Drop)]
+struct ServerHanded<'a> {
+    before: &'a History<Exchange>,
+    server: u64,
+    ask: &'a History<NodeAsk>,
+    answer: &'a Result<Answered<NodeReply>, AskFault>,
 }
 
 /// What was told where nothing was asked.
@@ -77,6 +87,30 @@ pub(crate) fn with_fault(
         server,
         ask: &ask,
         fault,
+    })
+}
+
+/// The ask that is handed to a server, for contracts to see it afterwards.
+pub(crate) fn handed(ask: &NodeAsk) -> History<NodeAsk>
+    ensures { result.items ≡ ask.now ∷ [] }
+{
+    History::of(ask)
+}
+
+/// What was told, with the ask that was handed to a server more. One that met want of memory is not told.
+pub(crate) fn with_handed(
+    before: &History<Exchange>,
+    server: u64,
+    ask: &History<NodeAsk>,
+    answer: &Result<Answered<NodeReply>, AskFault>,
+) -> History<Exchange>
+    ensures { result.items ≡ before.now.items ++ flat_map (λ ask. noted answer.now (exchanges.Node server ask answer.now)) ask.now.items }
+{
+    History::of(&ServerHanded {
+        before,
+        server,
+        ask,
+        answer,
     })
 }
 

@@ -26,6 +26,7 @@ pub fn peek_ask(alloc: Global, job: &Job) -> Result<NodeAsk, Memory>
 
 /// What the job's server is asked after the source has answered with the entry of that number: to take the copy that
 /// the source told, citing that entry. There is nothing to ask where the source told no copy, and that takes no memory.
+#[inline(always)]
 pub fn copy_ask(
     alloc: Global,
     job: &Job,
