@@ -150,18 +150,18 @@ pub node_ask-is : (a b : NodeAsk) → same_node_ask a b ≡ true → a ≡ b
 node_ask-is (node_asks.Work a) (node_asks.Work b) same = ap (λ w. node_asks.Work w) (work-is a b same)
 node_ask-is node_asks.Crash node_asks.Crash same = refl
 node_ask-is node_asks.Return node_asks.Return same = refl
-node_ask-is (node_asks.CrashIn a k) (node_asks.CrashIn b l) same =
+node_ask-is (node_asks.CrashIn k a) (node_asks.CrashIn l b) same =
     let parts = and_parts (same_work a b) (k == l) same in
     let ask = work-is a b parts.0 in
     let after = eqb-true k l parts.1 in
-    λ i. node_asks.CrashIn (ask i) (after i)
+    λ i. node_asks.CrashIn (after i) (ask i)
 node_ask-is a b same = absurd (false≢true same)
 
 node_ask-self : (a : NodeAsk) → same_node_ask a a ≡ true
 node_ask-self (node_asks.Work a) = work-self a
 node_ask-self node_asks.Crash = refl
 node_ask-self node_asks.Return = refl
-node_ask-self (node_asks.CrashIn a k) = and_from (same_work a a) (k == k) (work-self a) (eq-eqb k k refl)
+node_ask-self (node_asks.CrashIn k a) = and_from (same_work a a) (k == k) (work-self a) (eq-eqb k k refl)
 
 pub is-node_ask : (a b : NodeAsk) → a ≡ b → same_node_ask a b ≡ true
 is-node_ask a b same = ap (λ x. same_node_ask a x) (sym same) ∙ node_ask-self a

@@ -64,7 +64,7 @@ abbrev pub same_node_ask : NodeAsk → NodeAsk → Bool
 same_node_ask (node_asks.Work a) (node_asks.Work b) = same_work a b
 same_node_ask node_asks.Crash node_asks.Crash = true
 same_node_ask node_asks.Return node_asks.Return = true
-same_node_ask (node_asks.CrashIn a k) (node_asks.CrashIn b l) = same_work a b && k == l
+same_node_ask (node_asks.CrashIn k a) (node_asks.CrashIn l b) = same_work a b && k == l
 same_node_ask a b = false
 
 abbrev pub same_reason : NodeRefusal → NodeRefusal → Bool

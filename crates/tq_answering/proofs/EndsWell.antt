@@ -409,8 +409,8 @@ down_ends levels server = ends_view {B = Unit {0}} {T = Unit {0}} levels Any (vi
 
 pub stop_well : (levels server : ℕ) (ask : WorkAsk) (after : ℕ) → EndsIn levels (IsWell Any) (stop_line server ask after)
 stop_well levels server ask after =
-    ends_and levels Any Any (any_line server (asks.CrashIn ask after)) (λ none. none) (λ reply none. down_line server)
-    (any_ends levels server (asks.CrashIn ask after)) (λ reply none so. down_ends levels server)
+    ends_and levels Any Any (any_line server (asks.CrashIn after ask)) (λ none. none) (λ reply none. down_line server)
+    (any_ends levels server (asks.CrashIn after ask)) (λ reply none so. down_ends levels server)
 
 pub prepare_stop_well : (levels : ℕ) (old : VotingView) (server after : ℕ) → EndsIn levels (IsWell Any) (prepare_stop_line old server after)
 prepare_stop_well levels old server after = by (has_vote old.votes server)

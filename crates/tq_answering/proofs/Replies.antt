@@ -124,7 +124,7 @@ node_cites : (world : JournalsView) (ask : NodeAsk) → IfSome (unfounded_in_nod
 node_cites world (asks.Work ask) = work_cites world ask
 node_cites world asks.Crash = tt
 node_cites world asks.Return = tt
-node_cites world (asks.CrashIn ask after) = work_cites world ask
+node_cites world (asks.CrashIn after ask) = work_cites world ask
 
 -- ---- servers
 
@@ -194,7 +194,7 @@ node_replies : (server : ℕ) (old : NodeState) (ask : NodeAsk) → IsNodeReply 
 node_replies server old (asks.Work ask) = work_answered (work_refusal old.records ask) (work_reply server old.records ask) ask (work_refused old.records ask) (work_replied server old.records ask)
 node_replies server old asks.Crash = tt
 node_replies server old asks.Return = tt
-node_replies server old (asks.CrashIn ask after) = tt
+node_replies server old (asks.CrashIn after ask) = tt
 
 -- ---- the desk
 

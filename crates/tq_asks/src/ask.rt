@@ -1,8 +1,9 @@
-ghost use Rattle.std.specs.Prelude.{◌≡◌};
+ghost use Rattle.std.specs.Prelude.{◌≡◌, IfOk};
 ghost use Rattle.tq_asks.specs.Citing as spec;
 
+use std::alloc::Global;
 use tq_locks::Mode;
-use tq_shape::{ExactClone, Seq, Shared, SharedSeq};
+use tq_shape::{ExactClone, Memory, Seq, Shared, SharedSeq};
 use tq_store::{Content, FileName, Write};
 
 /// The most writes that a vote may have.
@@ -78,7 +79,8 @@ pub enum NodeAsk {
     Return,
     /// To stop in the midst of the work, behind so many of the stable records that it would write, and go down: these
     /// records are kept, and what isn't stable is lost.
-    CrashIn { ask: Shared<WorkAsk>, after: u32 },
+    // The count stands first, beside the tag: so an ask takes two words and not three.
+    CrashIn { after: u32, ask: Shared<WorkAsk> },
 }
 
 /// Why a server refuses an ask. A refusal changes nothing.
@@ -126,7 +128,22 @@ pub enum NodeReply {
     Refreshed,
     Crashed,
     Returned,
-    Refused(NodeRefusal),
+    /// The reason stands in a block of its own: in place, one that names a file would make every reply longer.
+    Refused(Shared<NodeRefusal>),
+}
+
+impl NodeReply {
+    /// The refusal for this reason.
+    ///
+    /// # Errors
+    ///
+    /// Refuses where there is no memory for the reason.
+    pub fn refused(alloc: Global, reason: NodeRefusal) -> Result<NodeReply, Memory>
+        ensures { IfOk result (λ reply. reply ≡ NodeReply.Refused reason) }
+    {
+        let reason = Shared::new(alloc, reason)?;
+        Ok(NodeReply::Refused(reason))
+    }
 }
 
 impl Verdict {

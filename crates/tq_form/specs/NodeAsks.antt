@@ -89,7 +89,7 @@ stop format value = do
   after ← count_at value
   inside ← get (codes "ask") value
   ask ← work_at format inside
-  Some (CrashIn ask after)
+  Some (CrashIn after ask)
 
 abbrev pub node_ask_by : Format → List ℕ → Data → Option NodeAsk
 node_ask_by format kind value =

@@ -34,7 +34,7 @@ fn node_reply_by(alloc: Global, kind: &str, value: &Value<'_>) -> Result<Option<
         return copy(alloc, value);
     }
     if is_text(kind, "refused") {
-        return Ok(refused(value));
+        return refused(alloc, value);
     }
     Ok(bare_reply(kind))
 }
@@ -100,11 +100,14 @@ fn yes_vote(alloc: Global, value: &Value<'_>) -> Result<Option<NodeReply>, Memor
     Ok(Some(NodeReply::Yes { held, writes }))
 }
 
-fn refused(value: &Value<'_>) -> Option<NodeReply>
-    ensures { result ≡ spec.node_refused (view value.now) }
+fn refused(alloc: Global, value: &Value<'_>) -> Result<Option<NodeReply>, Memory>
+    ensures { IfOk result (λ reply. reply ≡ spec.node_refused (view value.now)) }
 {
-    let refusal = refusal(value)?;
-    Some(NodeReply::Refused(refusal))
+    let Some(refusal) = refusal(value) else {
+        return Ok(None);
+    };
+    let refused = NodeReply::refused(alloc, refusal)?;
+    Ok(Some(refused))
 }
 
 fn refusal(value: &Value<'_>) -> Option<NodeRefusal>

@@ -127,7 +127,7 @@ module _ (world other : JournalsView) where
   founded_stays (steps.Node server (node_asks.Work ask)) stay none = work_stays ask stay none
   founded_stays (steps.Node server node_asks.Crash) stay none = refl
   founded_stays (steps.Node server node_asks.Return) stay none = refl
-  founded_stays (steps.Node server (node_asks.CrashIn ask after)) stay none = work_stays ask stay none
+  founded_stays (steps.Node server (node_asks.CrashIn after ask)) stay none = work_stays ask stay none
   founded_stays (steps.Desk (desk_asks.Commit txn ops votes)) stay none =
       let both = or_else-none (unfounded_op world txn ops) (unfounded_vote world txn votes) none in
       both_none (unfounded_op other txn ops) (unfounded_vote other txn votes)
@@ -183,7 +183,7 @@ module _ (world : JournalsView) where
   cited_stands (steps.Node server (node_asks.Work ask)) none c has = work_stands ask none c has
   cited_stands (steps.Node server node_asks.Crash) none c has = absurd has
   cited_stands (steps.Node server node_asks.Return) none c has = absurd has
-  cited_stands (steps.Node server (node_asks.CrashIn ask after)) none c has = work_stands ask none c has
+  cited_stands (steps.Node server (node_asks.CrashIn after ask)) none c has = work_stands ask none c has
   cited_stands (steps.Desk (desk_asks.Commit txn ops votes)) none c has =
       let both = or_else-none (unfounded_op world txn ops) (unfounded_vote world txn votes) none in
       elim (Has-append (cited_in_ops ops) (map cited_vote votes) c has) [

@@ -84,7 +84,7 @@ module _ (journals : JournalsView) (order : List Part) (servers : List ℕ) (cou
   node_numbers desk is (node_asks.Work ask) ready c has = work_numbers desk is ask ready c has
   node_numbers desk is node_asks.Crash ready c has = absurd has
   node_numbers desk is node_asks.Return ready c has = absurd has
-  node_numbers desk is (node_asks.CrashIn ask after) ready c has = work_numbers desk is ask ready c has
+  node_numbers desk is (node_asks.CrashIn after ask) ready c has = work_numbers desk is ask ready c has
 
   pub ready_founded : (desk : ℕ) → desk ≡ times order parts.Desk → (server : ℕ) (ask : NodeAsk) → is_ready journals servers desk ask ≡ true → unfounded (placed journals order) (steps.Node server ask) ≡ None
   ready_founded desk is server ask ready =
@@ -105,7 +105,7 @@ module _ (journals : JournalsView) (order : List Part) (servers : List ℕ) (cou
   node_placed desk is server (node_asks.Work ask) none = work_placed desk is server ask none
   node_placed desk is server node_asks.Crash none = refl
   node_placed desk is server node_asks.Return none = refl
-  node_placed desk is server (node_asks.CrashIn ask after) none = work_placed desk is server ask none
+  node_placed desk is server (node_asks.CrashIn after ask) none = work_placed desk is server ask none
 
   pub founded_ready : (desk : ℕ) → desk ≡ times order parts.Desk → (server : ℕ) (ask : NodeAsk) → unfounded (placed journals order) (steps.Node server ask) ≡ None → is_ready journals servers desk ask ≡ true
   founded_ready desk is server ask none =

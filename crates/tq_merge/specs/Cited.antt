@@ -22,7 +22,7 @@ cited_in_work ask = []
 
 abbrev pub cited_in_node_ask : NodeAsk → List Citation
 cited_in_node_ask (node_asks.Work ask) = cited_in_work ask
-cited_in_node_ask (node_asks.CrashIn ask after) = cited_in_work ask
+cited_in_node_ask (node_asks.CrashIn after ask) = cited_in_work ask
 cited_in_node_ask ask = []
 
 -- those of ops: their grants, op by op

@@ -33,7 +33,7 @@ is_placed_in_work counts desk ask = true
 
 abbrev pub is_placed_in_node_ask : List ℕ → ℕ → NodeAsk → Bool
 is_placed_in_node_ask counts desk (node_asks.Work ask) = is_placed_in_work counts desk ask
-is_placed_in_node_ask counts desk (node_asks.CrashIn ask after) = is_placed_in_work counts desk ask
+is_placed_in_node_ask counts desk (node_asks.CrashIn after ask) = is_placed_in_work counts desk ask
 is_placed_in_node_ask counts desk ask = true
 
 -- a server's ask can be placed: what it cites is placed, and stands in the journals

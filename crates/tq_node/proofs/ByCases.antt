@@ -291,7 +291,7 @@ pub step : (server : ℕ) (list : List Record) (old : Records) (number : ℕ) (a
 step server list old number (Work ask) = step_work server list old number ask
 step server list old number Crash = by_test (StepAt server list old number Crash) old.down refusals.AlreadyDown None (λ down. (down, refl)) (λ up. (up, refl))
 step server list old number Return = by_test (StepAt server list old number Return) (not old.down) refusals.AlreadyUp None (λ up. (not-true old.down up, refl)) (λ down. (not-false old.down down, refl))
-step server list old number (CrashIn ask after) = by_test (StepAt server list old number (CrashIn ask after)) old.down refusals.AlreadyDown None (λ down. (down, refl)) (λ up. (up, refl))
+step server list old number (CrashIn after ask) = by_test (StepAt server list old number (CrashIn after ask)) old.down refusals.AlreadyDown None (λ down. (down, refl)) (λ up. (up, refl))
 
 pub state_at-records : (reason : Option NodeRefusal) (old new : NodeState) → (state_at reason old new).records ≡ state_at reason old.records new.records
 state_at-records None old new = refl
@@ -330,7 +330,7 @@ crashed_is server old new number (Work (work.Release t)) h k = absurd h
 crashed_is server old new number (Work (work.Peek f)) h k = absurd h
 crashed_is server old new number (Work (work.Refresh f v c g)) h k = absurd h
 crashed_is server old new number Return h k = absurd h
-crashed_is server old new number (CrashIn ask after) h k = stopped_is new (old.stable ++ stop_writes server old.records number ask after) h.1 k
+crashed_is server old new number (CrashIn after ask) h k = stopped_is new (old.stable ++ stop_writes server old.records number ask after) h.1 k
 crashed_is server old new number Crash h k =
     let p = h.1 in
     let locks = ap (λ (r : Records). r.locks) p ∙ sym (only_stable-twice old.records.locks) ∙ sym (ap (λ (r : Records). only_stable r.locks) p) in

@@ -263,10 +263,10 @@ only_step server list old number Return (Refused refusals.AlreadyUp) new h = own
 only_step server list old number Return (Refused reason) new h = absurd h.0
 only_step server list old number Return Returned new h = own-answered server list old number Return Returned new (test-false (not old.down) refusals.AlreadyUp None (ap not h.0)) refl h.1
 only_step server list old number Return reply new h = absurd h
-only_step server list old number (CrashIn ask after) (Refused refusals.AlreadyDown) new h = own-refused server list old number (CrashIn ask after) refusals.AlreadyDown new (test-true old.down refusals.AlreadyDown None h.0) h.1
-only_step server list old number (CrashIn ask after) (Refused reason) new h = absurd h.0
-only_step server list old number (CrashIn ask after) Crashed new h = own-answered server list old number (CrashIn ask after) Crashed new (test-false old.down refusals.AlreadyDown None h.0) refl h.1
-only_step server list old number (CrashIn ask after) reply new h = absurd h
+only_step server list old number (CrashIn after ask) (Refused refusals.AlreadyDown) new h = own-refused server list old number (CrashIn after ask) refusals.AlreadyDown new (test-true old.down refusals.AlreadyDown None h.0) h.1
+only_step server list old number (CrashIn after ask) (Refused reason) new h = absurd h.0
+only_step server list old number (CrashIn after ask) Crashed new h = own-answered server list old number (CrashIn after ask) Crashed new (test-false old.down refusals.AlreadyDown None h.0) refl h.1
+only_step server list old number (CrashIn after ask) reply new h = absurd h
 
 -- a call's result, by what it told: no other reply and no other records are a step
 pub told_only : (old new : NodeView) (number : ℕ) (ask : NodeAsk) (told : Result NodeReply AllocError) → IfOk told (λ reply. reply ≡ node_reply old.server old.state ask) → OnOk told (new ≡ answered old number ask)

@@ -59,7 +59,7 @@ IsRefused old (Work (Release txn)) NothingHere = IsUp old × HasNoVote old txn �
 IsRefused old (Work (Refresh file version content from)) NotNewer = IsUp old × (version ≤ (copy_of old.copies file).version)
 IsRefused old Crash AlreadyDown = old.down ≡ true
 IsRefused old Return AlreadyUp = old.down ≡ false
-IsRefused old (CrashIn ask after) AlreadyDown = old.down ≡ true
+IsRefused old (CrashIn after ask) AlreadyDown = old.down ≡ true
 IsRefused old ask reason = ⊥
 
 -- the verdict is Commit and cites the vote
@@ -91,7 +91,7 @@ IsStep server list old number (Work (Refresh file version content from)) Refresh
 IsStep server list old number Crash Crashed new = IsUp old × (new ≡ record old { locks = only_stable old.locks; down = true })
 IsStep server list old number Return Returned new = (old.down ≡ true) × (new ≡ record old { down = false })
 -- a stop: what the stable list keeps, with the first records of the ask behind it
-IsStep server list old number (CrashIn ask after) Crashed new = IsUp old × (new ≡ kept_records (list ++ stop_writes server old number ask after))
+IsStep server list old number (CrashIn after ask) Crashed new = IsUp old × (new ≡ kept_records (list ++ stop_writes server old number ask after))
 IsStep server list old number ask reply new = ⊥
 
 -- the cases leave nothing open: a step from these records by this ask gives this reply and these records

@@ -61,11 +61,11 @@ abbrev pub step_of : ℕ → Records → ℕ → NodeAsk → NodeStep
 step_of server old number (asks.Work ask) = work_step server old number ask
 step_of server old number asks.Crash = Crash
 step_of server old number asks.Return = Return
-step_of server old number (asks.CrashIn ask after) = stop_step server old number ask after
+step_of server old number (asks.CrashIn after ask) = stop_step server old number ask after
 
 -- whether the server stops in the midst of the ask
 abbrev pub is_stop : NodeAsk → Bool
-is_stop (asks.CrashIn ask after) = true
+is_stop (asks.CrashIn after ask) = true
 is_stop other = false
 
 abbrev pub node_change : NodeView → ℕ → NodeAsk → NodeChange

@@ -48,7 +48,7 @@ abbrev pub inner : NodeAsk → Option WorkAsk
 inner (asks.Work ask) = Some ask
 inner asks.Crash = None
 inner asks.Return = None
-inner (asks.CrashIn ask after) = Some ask
+inner (asks.CrashIn after ask) = Some ask
 
 -- the verdict is Commit, and its list has the vote
 abbrev pub IsCited : Verdict → ℕ → ℕ → Type 0

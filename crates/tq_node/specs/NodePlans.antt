@@ -107,7 +107,7 @@ fits_of : (server : ℕ) (old : Records) (number : ℕ) (ask : NodeAsk) → refu
 fits_of server old number (asks.Work ask) h = work_fits server old number ask h
 fits_of server old number asks.Crash h = tt
 fits_of server old number asks.Return h = tt
-fits_of server old number (asks.CrashIn ask after) h = stop_fits server old number ask after (work_refusal old ask) refl
+fits_of server old number (asks.CrashIn after ask) h = stop_fits server old number ask after (work_refusal old ask) refl
 
 fits_at : (old : Records) (number : ℕ) (step : NodeStep) (reason : Option NodeRefusal) → (reason ≡ None → StepFits old number step) → StepFits old number (state_at reason steps.Nothing step)
 fits_at old number step None h = h refl
@@ -220,7 +220,7 @@ pub writes_lead : (server : ℕ) (old : Records) (number : ℕ) (ask : NodeAsk) 
 writes_lead server old number (asks.Work ask) = work_writes_lead server old number ask
 writes_lead server old number asks.Crash = refl
 writes_lead server old number asks.Return = refl
-writes_lead server old number (asks.CrashIn ask after) = stop_lead server old number ask after (work_refusal old ask)
+writes_lead server old number (asks.CrashIn after ask) = stop_lead server old number ask after (work_refusal old ask)
 
 -- the raw records with their stable list, after a step
 abbrev pub state_stepped : NodeState → ℕ → NodeStep → NodeState
@@ -241,9 +241,9 @@ leads_of server old number (asks.Work ask) = λ i. record {
 }
 leads_of server old number asks.Crash = refl
 leads_of server old number asks.Return = refl
-leads_of server old number (asks.CrashIn ask after) =
+leads_of server old number (asks.CrashIn after ask) =
     let behind : List Record → NodeState = λ list. record { records = kept_records (old.stable ++ list); stable = old.stable ++ list } in
-    ap behind (writes_lead server old.records number (asks.CrashIn ask after))
+    ap behind (writes_lead server old.records number (asks.CrashIn after ask))
 
 pub change_leads : (old : NodeView) (number : ℕ) (ask : NodeAsk) → node_changed old (node_change old number ask) ≡ answered old number ask
 change_leads old number ask =

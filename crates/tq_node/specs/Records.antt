@@ -85,7 +85,7 @@ abbrev pub refusal : Records → NodeAsk → Option NodeRefusal
 refusal old (Work ask) = work_refusal old ask
 refusal old Crash = refuse old.down AlreadyDown None
 refusal old Return = refuse (not old.down) AlreadyUp None
-refusal old (CrashIn ask after) = refuse old.down AlreadyDown None
+refusal old (CrashIn after ask) = refuse old.down AlreadyDown None
 
 -- ---- the answers
 
@@ -114,7 +114,7 @@ abbrev pub reply_of : ℕ → Records → NodeAsk → NodeReply
 reply_of server old (Work ask) = work_reply server old ask
 reply_of server old Crash = Crashed
 reply_of server old Return = Returned
-reply_of server old (CrashIn ask after) = Crashed
+reply_of server old (CrashIn after ask) = Crashed
 
 -- ---- the records after
 
@@ -152,7 +152,7 @@ stop_writes server old number ask after = take after (state_at (work_refusal old
 
 abbrev pub writes_of : ℕ → Records → ℕ → NodeAsk → List Record
 writes_of server old number (Work ask) = work_writes server old number ask
-writes_of server old number (CrashIn ask after) = stop_writes server old number ask after
+writes_of server old number (CrashIn after ask) = stop_writes server old number ask after
 writes_of server old number other = []
 
 -- ---- the step
@@ -170,7 +170,7 @@ abbrev pub records_after : ℕ → NodeState → ℕ → NodeAsk → Records
 records_after server old number (Work ask) = work_after server old.records number ask
 records_after server old number Crash = crashed old.records
 records_after server old number Return = record old.records { down = false }
-records_after server old number (CrashIn ask after) = kept_records (old.stable ++ stop_writes server old.records number ask after)
+records_after server old number (CrashIn after ask) = kept_records (old.stable ++ stop_writes server old.records number ask after)
 
 abbrev pub answer_at : Option NodeRefusal → NodeReply → NodeReply
 answer_at None reply = reply

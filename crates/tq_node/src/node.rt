@@ -177,7 +177,8 @@ impl Node {
         ensures change { IfOk result (λ plan. plan.change ≡ node_change self.now number ask.now) }
     {
         if let Some(reason) = self.refusal(ask) {
-            return Ok(planned(number, NodeReply::Refused(reason), NodeStep::Nothing));
+            let refused = NodeReply::refused(alloc, reason)?;
+            return Ok(planned(number, refused, NodeStep::Nothing));
         }
         match ask {
             NodeAsk::Work(work) => {

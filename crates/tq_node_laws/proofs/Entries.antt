@@ -23,7 +23,7 @@ picked_state last st (Some r) new h f = recorded_same last (suc last) st (omega 
 
 step_recorded : (s last : ℕ) (st : NodeState) (ask : NodeAsk) → IsRecorded last st → IsRecorded (suc last) (node_after s st (suc last) ask)
 step_recorded s last st (Work a) h = picked_state last st (work_refusal st.records a) _ h (λ none. work_recorded s last st a h none)
-step_recorded s last st (CrashIn a k) h = picked_state last st (refusal st.records (CrashIn a k)) _ h (λ none. stop_recorded s last st a k h)
+step_recorded s last st (CrashIn k a) h = picked_state last st (refusal st.records (CrashIn k a)) _ h (λ none. stop_recorded s last st a k h)
 step_recorded s last st Crash h =
     picked_state last st (refusal st.records Crash) _ h (λ none. recorded_table last st (only_stable st.records.locks) true h (sound-crashed st.stable last st.records.copies st.records.locks h.sound))
 step_recorded s last st Return h = picked_state last st (refusal st.records Return) _ h (λ none. recorded_table last st st.records.locks false h h.sound)
@@ -44,7 +44,7 @@ step_frame : (s last : ℕ) (old : NodeState) (ask : NodeAsk) (r : NodeReply) �
 step_frame s last old (Work a) r h legal = picked s (suc last) _ old (work_refusal old.records a) _ (work_reply s old.records a) legal (λ none reply. work_frame s (suc last) old.records a r none reply)
 step_frame s last old Crash r h legal = picked s (suc last) _ old (refusal old.records Crash) _ replies.Crashed legal (λ none reply. crash_frame s (suc last) old.records r)
 step_frame s last old Return r h legal = picked s (suc last) _ old (refusal old.records Return) _ replies.Returned legal (λ none reply. return_frame s (suc last) old.records r)
-step_frame s last old (CrashIn a k) r h legal = picked s (suc last) _ old (refusal old.records (CrashIn a k)) _ replies.Crashed legal (λ none reply. stop_step_frame s last old a k (record { ask = CrashIn a k; reply = r }) (ap (λ (x : NodeReply). record { ask = CrashIn a k; reply = x }) reply) h)
+step_frame s last old (CrashIn k a) r h legal = picked s (suc last) _ old (refusal old.records (CrashIn k a)) _ replies.Crashed legal (λ none reply. stop_step_frame s last old a k (record { ask = CrashIn k a; reply = r }) (ap (λ (x : NodeReply). record { ask = CrashIn k a; reply = x }) reply) h)
 
 pub frames : (s : ℕ) (e : NodeEntry) (K : List NodeEntry) → IsLegalNode s (e ∷ K) → Frame s (suc (length K)) e (node_state s K).records (node_state s (e ∷ K)).records
 frames s e K legal = step_frame s (length K) (node_state s K) e.ask e.reply (recorded s K) legal.0

@@ -254,7 +254,7 @@ mid_of s last st a k h = by (work_refusal st.records a) refl
     by (Some r) e = mid_moved s last st a _ [] (take-empty k) (mid_same s last st a h)
 
 -- what a stop leaves is one of the three
-pub stop_is : (s last : ℕ) (st : NodeState) (a : WorkAsk) (k : ℕ) → IsRecorded last st → IsStopped s (suc last) st.records a (records_after s st (suc last) (CrashIn a k))
+pub stop_is : (s last : ℕ) (st : NodeState) (a : WorkAsk) (k : ℕ) → IsRecorded last st → IsStopped s (suc last) st.records a (records_after s st (suc last) (CrashIn k a))
 stop_is s last st a k h =
     let m = mid_of s last st a k h in
     let is = recorded_kept (suc last) _ m.recorded in
@@ -268,7 +268,7 @@ stop_is s last st a k h =
     ]
 
 -- and the records keep it
-pub stop_recorded : (s last : ℕ) (st : NodeState) (a : WorkAsk) (k : ℕ) → IsRecorded last st → IsRecorded (suc last) (record { records = records_after s st (suc last) (CrashIn a k); stable = st.stable ++ stop_writes s st.records (suc last) a k })
+pub stop_recorded : (s last : ℕ) (st : NodeState) (a : WorkAsk) (k : ℕ) → IsRecorded last st → IsRecorded (suc last) (record { records = records_after s st (suc last) (CrashIn k a); stable = st.stable ++ stop_writes s st.records (suc last) a k })
 stop_recorded s last st a k h =
     let ws : List Record = take k (state_at (work_refusal st.records a) [] (work_writes s st.records (suc last) a)) in
     let m = mid_of s last st a k h in
@@ -279,9 +279,9 @@ stop_recorded s last st a k h =
 
 -- ---- the ask itself
 
-pub stop_step_frame : (s last : ℕ) (st : NodeState) (a : WorkAsk) (k : ℕ) (e : NodeEntry) → e ≡ record { ask = CrashIn a k; reply = replies.Crashed } → IsRecorded last st
-    → Frame s (suc last) e st.records (records_after s st (suc last) (CrashIn a k))
+pub stop_step_frame : (s last : ℕ) (st : NodeState) (a : WorkAsk) (k : ℕ) (e : NodeEntry) → e ≡ record { ask = CrashIn k a; reply = replies.Crashed } → IsRecorded last st
+    → Frame s (suc last) e st.records (records_after s st (suc last) (CrashIn k a))
 stop_step_frame s last st a k e is h =
     let asked = ap (λ (x : NodeEntry). x.ask) is in
-    stop_frame s (suc last) st.records (records_after s st (suc last) (CrashIn a k)) a e
+    stop_frame s (suc last) st.records (records_after s st (suc last) (CrashIn k a)) a e
     (ap inner asked) (ap is_prepare asked) (ap is_telling asked) (ap (λ (x : NodeEntry). is_refusal x.reply) is) (stop_is s last st a k h)

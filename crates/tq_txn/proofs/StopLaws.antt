@@ -15,12 +15,12 @@ use Rattle.tq_txn.proofs.LineLaws.{follows_on, follows_off}
 
 module _ (server : ℕ) (ask : WorkAsk) (after : ℕ) (old : List Exchange) where
   -- memory ran out in the ask
-  pub stop_off : (new : List Exchange) → Follows (any_line server (CrashIn ask after)) old new None → Follows (stop_line server ask after) old new None
-  stop_off new first = follows_off (any_line server (CrashIn ask after)) (λ none. none) (λ reply none. down_line server) faults.Memory tt tt old new refl first
+  pub stop_off : (new : List Exchange) → Follows (any_line server (CrashIn after ask)) old new None → Follows (stop_line server ask after) old new None
+  stop_off new first = follows_off (any_line server (CrashIn after ask)) (λ none. none) (λ reply none. down_line server) faults.Memory tt tt old new refl first
 
   pub stop_on : (reply : Option NodeReply) (mid new : List Exchange) (end : Option (LineEnd (Unit {0}) (Unit {0})))
-      → Follows (any_line server (CrashIn ask after)) old mid (Some (record { answer = Ok reply; after = tt })) → Follows (down_line server) mid new end → Follows (stop_line server ask after) old new end
-  stop_on reply mid new end first rest = follows_on (any_line server (CrashIn ask after)) (λ none. none) (λ reply none. down_line server) reply tt old mid new end first rest
+      → Follows (any_line server (CrashIn after ask)) old mid (Some (record { answer = Ok reply; after = tt })) → Follows (down_line server) mid new end → Follows (stop_line server ask after) old new end
+  stop_on reply mid new end first rest = follows_on (any_line server (CrashIn after ask)) (λ none. none) (λ reply none. down_line server) reply tt old mid new end first rest
 
 -- ---- a stop in a vote that met a fault
 

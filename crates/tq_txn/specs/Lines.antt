@@ -229,7 +229,7 @@ down_line server = and_then (view_line (Mark server false)) (λ none. none) (λ 
 
 -- the server stops in the work, behind so many of its records, and is marked down, whatever is answered
 abbrev pub stop_line : ℕ → WorkAsk → ℕ → Dialogue (LineEnd (Unit {0}) (Unit {0}))
-stop_line server ask after = and_then (any_line server (CrashIn ask after)) (λ none. none) (λ reply none. down_line server)
+stop_line server ask after = and_then (any_line server (CrashIn after ask)) (λ none. none) (λ reply none. down_line server)
 
 -- a voter stops in its vote, which is not taken
 abbrev pub first_prepare_stop : VotingView → ℕ → ℕ → Dialogue (LineEnd Bool VotingView)

@@ -20,7 +20,7 @@ fn refusal_in(reply: &NodeReply) -> Option<NodeRefusal>
     ensures { result ≡ spec.refusal_in reply.now }
 {
     match reply {
-        NodeReply::Refused(refusal) => Some(*refusal),
+        NodeReply::Refused(refusal) => Some(*refusal.get()),
         _ => None,
     }
 }
@@ -99,7 +99,7 @@ fn is_nothing_here(reply: &Option<NodeReply>) -> bool
     ensures { result ≡ spec.is_nothing_here reply.now }
 {
     match reply {
-        Some(NodeReply::Refused(NodeRefusal::NothingHere)) => true,
+        Some(NodeReply::Refused(refusal)) => matches!(refusal.get(), NodeRefusal::NothingHere),
         _ => false,
     }
 }
@@ -201,7 +201,7 @@ fn applied(server: u64, reply: &NodeReply) -> Result<Applied, LineFault>
         NodeReply::Discarded => Ok(Applied::Discarded),
         NodeReply::Refused(refusal) => Err(LineFault::Server {
             server,
-            refusal: *refusal,
+            refusal: *refusal.get(),
         }),
         _ => Err(LineFault::WrongReply {
             part: Part::Server(server),

@@ -90,7 +90,10 @@ fn granted(mode: Mode, told: NodeTold) -> Result<(Grant, NodeAsk), LineFault>
             };
             Ok((grant, ask))
         }
-        NodeReply::Refused(refusal) => Err(LineFault::Server { server, refusal }),
+        NodeReply::Refused(refusal) => Err(LineFault::Server {
+            server,
+            refusal: *refusal.get(),
+        }),
         _ => Err(LineFault::WrongReply {
             part: Part::Server(server),
         }),

@@ -122,7 +122,7 @@ module _ (events : List Event) (world : JournalsView) (journaled : IsJournaled e
   node_ask-is (node_asks.Work ask) none = work-is ask none
   node_ask-is node_asks.Crash none = tt
   node_ask-is node_asks.Return none = tt
-  node_ask-is (node_asks.CrashIn ask after) none = work-is ask none
+  node_ask-is (node_asks.CrashIn after ask) none = work-is ask none
 
   none_unfounded : {A : Type 0} (founded : A → Bool) (xs : List A) → find (λ x. not (founded x)) xs ≡ None → (x : A) → Has xs x → founded x ≡ true
   none_unfounded founded xs none x has = by (founded x) (none-Has (λ y. not (founded y)) xs none x has)

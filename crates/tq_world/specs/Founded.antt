@@ -137,5 +137,5 @@ unfounded_in_work world ask = None
 
 abbrev pub unfounded_in_node_ask : JournalsView → NodeAsk → Option Citation
 unfounded_in_node_ask world (node_asks.Work ask) = unfounded_in_work world ask
-unfounded_in_node_ask world (node_asks.CrashIn ask after) = unfounded_in_work world ask
+unfounded_in_node_ask world (node_asks.CrashIn after ask) = unfounded_in_work world ask
 unfounded_in_node_ask world ask = None

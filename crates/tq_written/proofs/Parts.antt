@@ -101,7 +101,7 @@ node-ask-again (ask.Work (work.Peek file)) h = rw (name-again file h)
 node-ask-again (ask.Work (work.Refresh file version content from)) h = rw (name-again file h.0, content-again content h.1)
 node-ask-again ask.Crash h = refl
 node-ask-again ask.Return h = refl
-node-ask-again (ask.CrashIn a after) h = rw (le-leb after 4294967295 h.1, work-again a h.0)
+node-ask-again (ask.CrashIn after a) h = rw (le-leb after 4294967295 h.1, work-again a h.0)
 
 node-refusal-again : (r : NodeRefusal) → IsNodeRefusal r → replies.node_reply one (nodes.node_refusal_value r) ≡ Some (reply.Refused r)
 node-refusal-again refusal.Down h = refl

@@ -83,7 +83,7 @@ node-ask-shaped : (a : NodeAsk) → IsShaped (nodes.node_ask_value a) 123
 node-ask-shaped (ask.Work a) = work-shaped 123 (omega arith) a
 node-ask-shaped ask.Crash = kind-shaped 123 (omega arith) _
 node-ask-shaped ask.Return = kind-shaped 123 (omega arith) _
-node-ask-shaped (ask.CrashIn a after) = (omega arith, (tt, (work-shaped 122 (omega arith) a, (tt, tt))), refl)
+node-ask-shaped (ask.CrashIn after a) = (omega arith, (tt, (work-shaped 122 (omega arith) a, (tt, tt))), refl)
 
 node-refusal-shaped : (r : NodeRefusal) → IsShaped (nodes.node_refusal_value r) 123
 node-refusal-shaped refusal.Down = code-shaped 123 (omega arith) 11

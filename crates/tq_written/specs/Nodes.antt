@@ -79,7 +79,7 @@ abbrev pub node_ask_value : NodeAsk → Data
 node_ask_value (Work work) = work_value work
 node_ask_value Crash = kind_value (codes "crash")
 node_ask_value Return = kind_value (codes "return")
-node_ask_value (CrashIn work after) =
+node_ask_value (CrashIn after work) =
     object (member (codes "after") (whole after)
     (member (codes "ask") (work_value work)
     (member (codes "is") (string (codes "crashin")) no_members)))

@@ -67,7 +67,7 @@ abbrev pub IsNodeAsk : NodeAsk → Type 0
 IsNodeAsk (ask.Work a) = IsWork a
 IsNodeAsk ask.Crash = ⊤
 IsNodeAsk ask.Return = ⊤
-IsNodeAsk (ask.CrashIn a after) = IsWork a × (after ≤ 4294967295)
+IsNodeAsk (ask.CrashIn after a) = IsWork a × (after ≤ 4294967295)
 
 abbrev pub IsNodeRefusal : NodeRefusal → Type 0
 IsNodeRefusal (refusal.NotLocked file) = IsFile file

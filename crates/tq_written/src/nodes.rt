@@ -236,8 +236,8 @@ fn put_stop(
     ask: &WorkAsk,
     after: u32,
 ) -> Result<(), Memory>
-    ensures adds { Adds result out.old out.new (spelled (node_ask_value (NodeAsk.CrashIn ask.now after))) }
-    ensures fits { OnOk result (IsFitting (node_ask_value (NodeAsk.CrashIn ask.now after))) }
+    ensures adds { Adds result out.old out.new (spelled (node_ask_value (NodeAsk.CrashIn after ask.now))) }
+    ensures fits { OnOk result (IsFitting (node_ask_value (NodeAsk.CrashIn after ask.now))) }
     ensures kept { OnOk result (IsWork ask.now × (after ≤ 4294967295)) }
 {
     open_member(alloc, out, "after", &(after as u64))?;
@@ -347,7 +347,7 @@ impl Formed for NodeReply {
             NodeReply::Refreshed => put_only_kind(out, "refreshed"),
             NodeReply::Crashed => put_only_kind(out, "crashed"),
             NodeReply::Returned => put_only_kind(out, "returned"),
-            NodeReply::Refused(refusal) => refusal.put(alloc, out),
+            NodeReply::Refused(refusal) => refusal.get().put(alloc, out),
         }
     }
 }

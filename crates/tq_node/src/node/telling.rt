@@ -18,6 +18,8 @@ impl Node {
     /// Answers an ask, of a number above that of the last one answered, as `answer` does, and tells the reply twice, with
     /// the files whose copies this may have raised: no other copy changes, and each of theirs is of the version told or of
     /// a later one. Where memory is wanting the server is as it was.
+    // Compiled into its callers: what it tells is long, and is read there in other pieces than it is written in, which waits for each store before it.
+    #[inline(always)]
     pub fn tell(&mut self, alloc: Global, number: u64, ask: &NodeAsk) -> Result<Telling, Memory>
         requires { self.old.last < number }
         ensures entered { IfOk result (λ telling. telling.entered ≡ spec.node_reply self.old.server self.old.state ask.now) }
@@ -70,7 +72,7 @@ impl Node {
         ensures err { OnErr result (self.new ≡ self.old) }
     {
         if self.down {
-            return Ok(self.tell_refusal(number, &NodeRefusal::Down));
+            return self.tell_refusal(alloc, number, NodeRefusal::Down);
         }
         match ask.get() {
             WorkAsk::Lock { txn, file, mode } => self.tell_lock(alloc, number, *txn, *file, *mode),
@@ -78,7 +80,7 @@ impl Node {
             WorkAsk::Decide { txn, verdict, cite } => {
                 self.tell_end(alloc, number, *txn, verdict, *cite)
             }
-            WorkAsk::Release { txn } => Ok(self.tell_release(number, *txn)),
+            WorkAsk::Release { txn } => self.tell_release(alloc, number, *txn),
             WorkAsk::Peek { file } => self.tell_copy(number, file),
             WorkAsk::Refresh {
                 file,
@@ -89,16 +91,23 @@ impl Node {
         }
     }
 
-    /// Refuses an ask: nothing changes but the number of the last one.
-    fn tell_refusal(&mut self, number: u64, reason: &NodeRefusal) -> Telling
+    /// Refuses an ask: nothing changes but the number of the last one. The reply is made before that.
+    fn tell_refusal(
+        &mut self,
+        alloc: Global,
+        number: u64,
+        reason: NodeRefusal,
+    ) -> Result<Telling, Memory>
         requires { self.old.last < number }
-        ensures entered { result.entered ≡ NodeReply.Refused reason.now }
-        ensures told { result.told ≡ NodeReply.Refused reason.now }
-        ensures after { self.new ≡ node.numbered number self.old }
-        ensures raised { result.raised ≡ Raised.Written [] }
+        ensures entered { IfOk result (λ telling. telling.entered ≡ NodeReply.Refused reason) }
+        ensures told { IfOk result (λ telling. telling.told ≡ NodeReply.Refused reason) }
+        ensures after { OnOk result (self.new ≡ node.numbered number self.old) }
+        ensures raised { IfOk result (λ telling. telling.raised ≡ Raised.Written []) }
+        ensures err { OnErr result (self.new ≡ self.old) }
     {
+        let telling = refused(alloc, reason)?;
         self.note(number);
-        refused(reason)
+        Ok(telling)
     }
 
     /// Grants a lock, or tells why not.
@@ -120,25 +129,25 @@ impl Node {
         ensures err { OnErr result (self.new ≡ self.old) }
     {
         if self.intents.of(txn).is_some() {
-            return Ok(self.tell_refusal(number, &NodeRefusal::Prepared));
+            return self.tell_refusal(alloc, number, NodeRefusal::Prepared);
         }
         let copy = self.copies.get(&file);
         let version = copy.version;
         let content = copy.content.clone()?;
         let told = copy.content.clone()?;
         let outcome = self.locks.ask(alloc, txn, &file, mode, number, version)?;
-        self.note(number);
-        match outcome {
-            LockOutcome::Granted => Ok(Telling {
-                entered: NodeReply::Granted { version, content },
-                told: NodeReply::Granted {
-                    version,
-                    content: told,
-                },
-                raised: Raised::nothing(),
-            }),
-            LockOutcome::Held { by } => Ok(refused(&NodeRefusal::Held { by })),
+        if let LockOutcome::Held { by } = outcome {
+            return self.tell_refusal(alloc, number, NodeRefusal::Held { by });
         }
+        self.note(number);
+        Ok(Telling {
+            entered: NodeReply::Granted { version, content },
+            told: NodeReply::Granted {
+                version,
+                content: told,
+            },
+            raised: Raised::nothing(),
+        })
     }
 
     /// Votes for the writes of a transaction, or tells why not.
@@ -159,7 +168,7 @@ impl Node {
         ensures err { OnErr result (self.new ≡ self.old) }
     {
         if let Some(reason) = self.prepare_refusal(txn, writes.as_slice()) {
-            return Ok(self.tell_refusal(number, &reason));
+            return self.tell_refusal(alloc, number, reason);
         }
         let (held, locks) = locks_of(alloc, &self.locks, txn)?;
         let entered = NodeReply::Yes {
@@ -197,7 +206,7 @@ impl Node {
         ensures err { OnErr result (self.new ≡ self.old) }
     {
         let Some(vote) = self.intents.of(txn) else {
-            return Ok(self.tell_refusal(number, &NodeRefusal::NothingHere));
+            return self.tell_refusal(alloc, number, NodeRefusal::NothingHere);
         };
         let given = vote.number;
         if !verdict.cites(self.server.number(), given) {
@@ -221,25 +230,26 @@ impl Node {
     }
 
     /// Ends the locks of a transaction, or tells why not.
-    fn tell_release(&mut self, number: u64, txn: u64) -> Telling
+    fn tell_release(&mut self, alloc: Global, number: u64, txn: u64) -> Result<Telling, Memory>
         requires rises { self.old.last < number }
         requires up { self.old.state.records.down ≡ false }
-        ensures entered { result.entered ≡ spec.node_reply self.old.server self.old.state (NodeAsk.Work (WorkAsk.Release txn)) }
-        ensures told { result.told ≡ spec.node_reply self.old.server self.old.state (NodeAsk.Work (WorkAsk.Release txn)) }
-        ensures after { self.new ≡ node.answered self.old number (NodeAsk.Work (WorkAsk.Release txn)) }
-        ensures raised { KeepsOthers (raised_files (NodeAsk.Work (WorkAsk.Release txn)) result.raised) self.old.state.records.copies self.new.state.records.copies }
-        ensures reached { AreReached (NodeAsk.Work (WorkAsk.Release txn)) result.raised self.new.state.records.copies }
+        ensures entered { IfOk result (λ telling. telling.entered ≡ spec.node_reply self.old.server self.old.state (NodeAsk.Work (WorkAsk.Release txn))) }
+        ensures told { IfOk result (λ telling. telling.told ≡ spec.node_reply self.old.server self.old.state (NodeAsk.Work (WorkAsk.Release txn))) }
+        ensures after { OnOk result (self.new ≡ node.answered self.old number (NodeAsk.Work (WorkAsk.Release txn))) }
+        ensures raised { IfOk result (λ telling. KeepsOthers (raised_files (NodeAsk.Work (WorkAsk.Release txn)) telling.raised) self.old.state.records.copies self.new.state.records.copies) }
+        ensures reached { IfOk result (λ telling. AreReached (NodeAsk.Work (WorkAsk.Release txn)) telling.raised self.new.state.records.copies) }
+        ensures err { OnErr result (self.new ≡ self.old) }
     {
         if let Some(reason) = self.release_refusal(txn) {
-            return self.tell_refusal(number, &reason);
+            return self.tell_refusal(alloc, number, reason);
         }
         self.release(number, txn);
         self.note(number);
-        Telling {
+        Ok(Telling {
             entered: NodeReply::Released,
             told: NodeReply::Released,
             raised: Raised::nothing(),
-        }
+        })
     }
 
     /// Tells the copy of a file.
@@ -295,7 +305,7 @@ impl Node {
         self.copies.reserve(alloc, 1)?;
         self.intents.reserve(1)?;
         if !self.copies.install_newer(file, version, kept) {
-            return Ok(self.tell_refusal(number, &NodeRefusal::NotNewer));
+            return self.tell_refusal(alloc, number, NodeRefusal::NotNewer);
         }
         self.intents.push_copy(written);
         self.note(number);
@@ -308,14 +318,16 @@ impl Node {
 }
 
 /// A refusal, which raises no copy.
-fn refused(reason: &NodeRefusal) -> Telling
-    ensures entered { result.entered ≡ NodeReply.Refused reason.now }
-    ensures told { result.told ≡ NodeReply.Refused reason.now }
-    ensures raised { result.raised ≡ Raised.Written [] }
+fn refused(alloc: Global, reason: NodeRefusal) -> Result<Telling, Memory>
+    ensures entered { IfOk result (λ telling. telling.entered ≡ NodeReply.Refused reason) }
+    ensures told { IfOk result (λ telling. telling.told ≡ NodeReply.Refused reason) }
+    ensures raised { IfOk result (λ telling. telling.raised ≡ Raised.Written []) }
 {
-    Telling {
-        entered: NodeReply::Refused(*reason),
-        told: NodeReply::Refused(*reason),
+    let entered = NodeReply::refused(alloc, reason)?;
+    let told = entered.clone()?;
+    Ok(Telling {
+        entered,
+        told,
         raised: Raised::nothing(),
-    }
+    })
 }
