@@ -10,3 +10,4 @@ pub mod Stood
 pub mod Written
 pub mod Restood
 pub mod Settled
+pub mod Beside

@@ -6,7 +6,7 @@ use Rattle.std.specs.Option.{unwrap_or}
 use Rattle.std.proofs.lemmas.List.Elements.{All-head, All-tail}
 use Rattle.indexmap.specs.IndexMap.{set_value_at}
 use Rattle.tq_store.specs.Names.{same_name}
-use Rattle.tq_store.proofs.SameName.{same_name-is, same_name-refl, same_name-sym}
+use Rattle.tq_store.proofs.SameName.{same_name-is, same_name-refl}
 use Rattle.tq_node.specs.Node.{NodeView}
 use Rattle.tq_tables.specs.declared.file_row.FileRow.{FileRow}
 use Rattle.tq_tables.specs.Files.{AreFiles, AreOfLevels, names_in, stood, stood_at}

@@ -10,3 +10,4 @@ pub mod Files
 pub mod NextOfServer
 pub mod Asked
 pub mod NextEntry
+pub mod Reserved

@@ -1,50 +1,49 @@
-ghost use Rattle.std.specs.Prelude.{◌≡◌, ◌+◌, ◌^◌, true, length, reverse, IfOk, OnOk, OnErr};
+ghost use Rattle.std.specs.Prelude.{◌≡◌, ◌+◌, ◌^◌, ◌↔◌, Some, length, reverse, IsTrue, IfOk, IsOk, OnOk, OnErr};
 ghost use Rattle.std.specs.List.{All};
+ghost use Rattle.std.specs.Option.{option_map};
 ghost use Rattle.tq_desk.specs.DeskJournal.{IsLegalDesk, desk_state};
 ghost use Rattle.tq_desk.specs.DeskStep.{desk_reply};
 ghost use Rattle.tq_live.specs.View.{view_reply};
 ghost use Rattle.tq_node.specs.Records.{node_reply};
 ghost use Rattle.tq_shape.specs.Journal.{entry};
 ghost use Rattle.tq_tables.specs.Asked.{MayAskDesk, MayAskNode, both, node_in};
-ghost use Rattle.tq_tables.specs.Files as spec;
+ghost use Rattle.tq_tables.specs.Reserved.{ready_entry};
 
-use crate::file_rows::{file_rows, rows_written};
-use crate::file_table::FileTable;
-use crate::intent_rows::intent_rows;
-use crate::lock_rows::lock_rows;
-use crate::quorum_rows::quorum_rows;
-use crate::replies::{Replies, twice};
-use crate::{
-    DeskEntry, FileRow, IntentRow, Journals, LockRow, NodeEntry, PartEntry, Parts, ViewEntry,
-};
+use crate::followed::Followed;
+use crate::ready::Ready;
+use crate::replies::Replies;
+use crate::{DeskEntry, FileRow, IntentRow, Journals, LockRow, PartEntry, Parts};
 use std::alloc::Global;
 use std::marker::Model;
 use tq_asks::{NodeAsk, NodeReply};
-use tq_desk::{Desk, DeskAsk, DeskReply, Op};
+use tq_desk::{Desk, DeskAsk, DeskReply};
 use tq_live::{Least, View, ViewAsk, ViewReply};
-use tq_node::{Node, Telling};
+use tq_node::Node;
 use tq_shape::{Levels, Memory, Part};
 
 /// The servers, the desk and the view that the tables follow, and rows that say how these stand: the least quorum of
 /// each subtree, the files that commits wrote, the locks that are held, and the votes that are open.
 ///
-/// The rows of files are kept, and an ask changes only those of the files that it is about. The other rows are read
-/// off the parts, which keep them in order: the best of each subtree, the lock tables, and the open votes.
-// Both are boxed, so that what is moved or let go of is two words and not a dozen containers.
+/// A note of an entry may be reserved: the tables as they will follow it are kept beside them then, and a note takes
+/// these.
 pub struct Tables {
-    parts: Box<Parts>,
-    files: Box<FileTable>,
+    followed: Followed,
+    ready: Option<Ready>,
 }
 
 // Written out, so that a crate above lets go of one by a call.
 impl Drop for Tables {
     fn drop(self) {
-        let Self { parts: _, files: _ } = self;
+        let Self {
+            followed: _,
+            ready: _,
+        } = self;
     }
 }
 
 impl Model for Tables {
-    ghost use Rattle.std.specs.Prelude.{◌≡◌};
+    ghost use Rattle.std.specs.Prelude.{◌≡◌, None, IfSome};
+    ghost use Rattle.std.specs.Option.{option_map};
     ghost use Rattle.tq_intents.specs.contracts.record.Record as record_type;
     ghost use Rattle.tq_intents.specs.contracts.record.OpenVote as vote_type;
     ghost use Rattle.tq_asks.specs.contracts.ask.Verdict as verdict_type;
@@ -52,32 +51,37 @@ impl Model for Tables {
     ghost use Rattle.tq_tables.specs.contracts.file_row.FileRow as file_type;
     ghost use Rattle.tq_tables.specs.contracts.lock_row.LockRow as lock_type;
     ghost use Rattle.tq_tables.specs.contracts.intent_row.IntentRow as intent_type;
-    ghost use Rattle.tq_tables.specs.Tables.{TablesView, tables_at, tables_code};
+    ghost use Rattle.tq_tables.specs.contracts.ready_entry.ReadyEntry as ready_type;
+    ghost use Rattle.tq_tables.specs.Reserved.{AreReady, with_ready};
+    ghost use Rattle.tq_tables.specs.Tables.{TablesView, tables_code};
 
     ghost Value = { TablesView };
 
-    ghost coded = { tables_code record_type.the_row.coded vote_type.the_row.coded verdict_type.the_row.coded least_type.the_row.coded file_type.the_row.coded lock_type.the_row.coded intent_type.the_row.coded };
+    ghost coded = { tables_code record_type.the_row.coded vote_type.the_row.coded verdict_type.the_row.coded least_type.the_row.coded file_type.the_row.coded lock_type.the_row.coded intent_type.the_row.coded ready_type.the_row.coded };
 
-    ghost view = { λ a. tables_at a.parts.value a.files.value.rows };
+    ghost view = { λ a. with_ready a.followed (option_map (λ ready. ready.entry) a.ready) };
 
-    ghost invariant = { λ a. a.parts.value.view.levels ≡ a.files.value.levels };
+    ghost invariant = { λ a. (a.followed.ready ≡ None) × IfSome a.ready (λ ready. AreReady a.followed ready.after ready.entry) };
 }
 
 impl Tables {
     ghost use Rattle.tq_tables.specs.Journals.{JournalsView, with_desk, with_view};
     ghost use Rattle.tq_tables.specs.NextEntry.{IsNextEntry, with_entry};
-    ghost use Rattle.tq_tables.specs.NextOfServer.{IsNextOfServer, with_node};
+    ghost use Rattle.tq_tables.specs.NextOfServer.{with_node};
     ghost use Rattle.tq_tables.specs.Parts.{AreLegal, bounds_of};
-    ghost use Rattle.tq_tables.specs.Tables.{IsNextOfDesk, tables_of, tables_over};
+    ghost use Rattle.tq_tables.specs.Reserved.{IsReadyFor, unready};
+    ghost use Rattle.tq_tables.specs.Tables.{tables_of, tables_over};
 
     /// The tables of these journals, which are legal: each reply is the one that its part gives there.
     pub fn of(alloc: Global, journals: &Journals) -> Result<Tables, Memory>
         requires { AreLegal journals.now }
         ensures { IfOk result (λ tables. tables ≡ tables_of journals.now) }
     {
-        let parts = Parts::replay(alloc, journals)?;
-        let tables = Tables::over(alloc, parts, journals.desk())?;
-        Ok(tables)
+        let followed = Followed::of(alloc, journals)?;
+        Ok(Tables {
+            followed,
+            ready: None,
+        })
     }
 
     /// The tables over these parts, of which the desk stands as a legal journal with these entries leaves it. The rows of
@@ -87,23 +91,20 @@ impl Tables {
         requires stands { parts.desk ≡ desk_state (bounds_of parts.desk.levels parts.desk.limits) (reverse entries.now) }
         ensures { IfOk result (λ tables. tables ≡ tables_over parts entries.now) }
     {
-        let parts = Box::new(alloc, parts)?;
-        let levels = parts.levels();
-        let rows = file_rows(alloc, levels, parts.nodes(), entries)?;
-        let files = FileTable::of(alloc, levels, rows)?;
-        let files = Box::new(alloc, files)?;
-        Ok(Tables { parts, files })
+        let followed = Followed::over(alloc, parts, entries)?;
+        Ok(Tables {
+            followed,
+            ready: None,
+        })
     }
 
-    /// Equal tables, with memory of their own.
+    /// Equal tables, with memory of their own: what is reserved is reserved there too.
     pub fn copy(&self, alloc: Global) -> Result<Tables, Memory>
         ensures { IfOk result (λ copy. copy ≡ self.now) }
     {
-        let parts = self.parts.copy(alloc)?;
-        let parts = Box::new(alloc, parts)?;
-        let files = self.files.copy(alloc)?;
-        let files = Box::new(alloc, files)?;
-        Ok(Tables { parts, files })
+        let followed = self.followed.copy(alloc)?;
+        let ready = copy_ready(alloc, &self.ready)?;
+        Ok(Tables { followed, ready })
     }
 
     /// Asks the server, under the number of the next entry of its journal. Only the rows of the files change whose copies
@@ -123,19 +124,11 @@ impl Tables {
             → self.old ≡ tables_of journals → self.new ≡ tables_of (with_node journals server (entry ask.now reply))) }
         ensures unchanged { OnErr result (self.new ≡ self.old) }
     {
-        let parts: &mut Parts = &mut self.parts;
-        let files: &mut FileTable = &mut self.files;
-        let Telling {
-            entered,
-            told,
-            raised,
-        } = parts.ask_node(alloc, server, number, ask)?;
-        let node = parts.node(server);
-        files.stand_all(node, ask, &raised);
-        Ok(Replies { entered, told })
+        self.followed.ask_node(alloc, server, number, ask)
     }
 
-    /// Asks the view. No row of files changes. Out of memory leaves the tables as they were.
+    /// Asks the view. No row of files changes, and nothing is reserved any more. Out of memory leaves the tables as they
+    /// were, and what is reserved too.
     #[inline(always)]
     pub fn ask_view(&mut self, alloc: Global, ask: &ViewAsk) -> Result<Replies<ViewReply>, Memory>
         ensures replies { IfOk result (λ replies. replies ≡ both (view_reply self.old.view ask.now)) }
@@ -143,8 +136,8 @@ impl Tables {
             → self.old ≡ tables_of journals → self.new ≡ tables_of (with_view journals (entry ask.now reply))) }
         ensures unchanged { OnErr result (self.new ≡ self.old) }
     {
-        let parts: &mut Parts = &mut self.parts;
-        let replies = parts.ask_view(alloc, ask)?;
+        let replies = self.followed.ask_view(alloc, ask)?;
+        self.ready = None;
         Ok(replies)
     }
 
@@ -158,21 +151,33 @@ impl Tables {
             → self.old ≡ tables_of journals → self.new ≡ tables_of (with_desk journals (entry ask.now reply))) }
         ensures unchanged { OnErr result (self.new ≡ self.old) }
     {
-        let parts: &mut Parts = &mut self.parts;
-        let files: &mut FileTable = &mut self.files;
-        let plan = parts.desk().plan(alloc, ask)?;
-        let change = plan.change;
-        let replies = twice::<Desk>(alloc, plan.reply)?;
-        let ops = committed_ops(ask, &replies.entered);
-        let rows = rows_written(alloc, parts.nodes(), files, ops)?;
-        files.reserve(rows.len())?;
-        parts.change_desk(change)?;
-        files.put_all(rows);
-        Ok(replies)
+        self.followed.ask_desk(alloc, ask)
+    }
+
+    /// Reserves what a note of this entry, of that number, takes: a `note` of it directly after this does not fail. The
+    /// tables stay as they are. What was reserved before is not any more. While an entry is reserved no server is asked,
+    /// nor the desk: the next thing is a `note`. It costs as much as `copy`, and holds as much memory as a copy until
+    /// then. Out of memory changes nothing.
+    pub fn reserve(
+        &mut self,
+        alloc: Global,
+        part: Part,
+        number: u64,
+        entry: &PartEntry<'_>,
+    ) -> Result<(), Memory>
+        requires { IsNextEntry (unready self.old) part number entry.now }
+        ensures same { unready self.new ≡ unready self.old }
+        ensures ready { OnOk result (IsReadyFor self.new part number entry.now) }
+        ensures unchanged { OnErr result (self.new ≡ self.old) }
+    {
+        let ready = Ready::of(alloc, &self.followed, part, number, entry)?;
+        self.ready = Some(ready);
+        Ok(())
     }
 
     /// Follows the entry, of that number, that the part's journal got next. Only the rows of the files change that the
-    /// entry is about. Out of memory leaves the tables as they were.
+    /// entry is about. It takes no memory, and does not fail, where this entry is reserved. Then nothing is reserved any
+    /// more. Out of memory leaves the tables as they were, and what is reserved too.
     pub fn note(
         &mut self,
         alloc: Global,
@@ -180,65 +185,21 @@ impl Tables {
         number: u64,
         entry: &PartEntry<'_>,
     ) -> Result<(), Memory>
-        requires { IsNextEntry self.old part number entry.now }
+        requires { IsNextEntry (unready self.old) part number entry.now }
         ensures noted { OnOk result ((journals : JournalsView) → AreLegal (with_entry journals part entry.now)
-            → self.old ≡ tables_of journals → self.new ≡ tables_of (with_entry journals part entry.now)) }
+            → unready self.old ≡ tables_of journals → self.new ≡ tables_of (with_entry journals part entry.now)) }
         ensures unchanged { OnErr result (self.new ≡ self.old) }
+        ensures reserved { IsReadyFor self.old part number entry.now → IsOk result }
     {
-        match part {
-            Part::Server(server) => match entry {
-                PartEntry::Server(entry) => self.note_node(alloc, server, number, entry),
-                PartEntry::Desk(_) | PartEntry::View(_) => unreachable!(),
-            },
-            Part::Desk => match entry {
-                PartEntry::Desk(entry) => self.note_desk(alloc, entry),
-                PartEntry::Server(_) | PartEntry::View(_) => unreachable!(),
-            },
-            Part::View => match entry {
-                PartEntry::View(entry) => self.note_view(alloc, entry),
-                PartEntry::Server(_) | PartEntry::Desk(_) => unreachable!(),
-            },
-        }
-    }
-
-    /// Follows the entry, of that number, that the server's journal got next, as `ask_node`.
-    fn note_node(
-        &mut self,
-        alloc: Global,
-        server: u64,
-        number: u64,
-        entry: &NodeEntry,
-    ) -> Result<(), Memory>
-        requires { IsNextOfServer self.old server number entry.now }
-        ensures noted { OnOk result ((journals : JournalsView) → AreLegal (with_node journals server entry.now)
-            → self.old ≡ tables_of journals → self.new ≡ tables_of (with_node journals server entry.now)) }
-        ensures unchanged { OnErr result (self.new ≡ self.old) }
-    {
-        self.ask_node(alloc, server, number, &entry.ask)?;
-        Ok(())
-    }
-
-    /// Follows the entry that the view's journal got next, as `ask_view`.
-    fn note_view(&mut self, alloc: Global, entry: &ViewEntry) -> Result<(), Memory>
-        ensures noted { OnOk result ((journals : JournalsView) → AreLegal (with_view journals entry.now)
-            → self.old ≡ tables_of journals → self.new ≡ tables_of (with_view journals entry.now)) }
-        ensures unchanged { OnErr result (self.new ≡ self.old) }
-    {
-        if changes_nothing(&entry.ask) {
+        if is_ready(&self.ready, part, number, entry) {
+            match self.ready.take() {
+                Some(ready) => self.followed = ready.into_after(),
+                None => unreachable!(),
+            }
             return Ok(());
         }
-        self.ask_view(alloc, &entry.ask)?;
-        Ok(())
-    }
-
-    /// Follows the entry that the desk's journal got next, as `ask_desk`.
-    fn note_desk(&mut self, alloc: Global, entry: &DeskEntry) -> Result<(), Memory>
-        requires { IsNextOfDesk self.old entry.now }
-        ensures noted { OnOk result ((journals : JournalsView) → AreLegal (with_desk journals entry.now)
-            → self.old ≡ tables_of journals → self.new ≡ tables_of (with_desk journals entry.now)) }
-        ensures unchanged { OnErr result (self.new ≡ self.old) }
-    {
-        self.ask_desk(alloc, &entry.ask)?;
+        self.followed.note(alloc, part, number, entry)?;
+        self.ready = None;
         Ok(())
     }
 
@@ -247,21 +208,21 @@ impl Tables {
         ensures value { result ≡ self.now.levels }
         ensures followed { self.now.view.levels ≡ result }
     {
-        self.parts.levels()
+        self.followed.levels()
     }
 
     /// The servers that the tables follow, upwards from server 1.
     pub fn nodes(&self) -> &[Node]
         ensures { result.now ≡ self.now.nodes }
     {
-        self.parts.nodes()
+        self.followed.nodes()
     }
 
     /// The desk that the tables follow.
     pub fn desk(&self) -> &Desk
         ensures { result.now ≡ self.now.desk }
     {
-        self.parts.desk()
+        self.followed.desk()
     }
 
     /// The view that the tables follow.
@@ -269,7 +230,7 @@ impl Tables {
         ensures value { result.now ≡ self.now.view }
         ensures followed { result.now.levels ≡ self.now.levels }
     {
-        self.parts.view()
+        self.followed.view()
     }
 
     /// For each server, upwards from server 1, the first quorum of least cost of its subtree among those that are up;
@@ -278,8 +239,7 @@ impl Tables {
         ensures value { IfOk result (λ rows. rows.items ≡ self.now.quorums) }
         ensures one_each { IfOk result (λ rows. length rows.items + 1 ≡ 2 ^ self.now.levels) }
     {
-        let rows = quorum_rows(alloc, self.parts.view().tree())?;
-        Ok(rows)
+        self.followed.quorums(alloc)
     }
 
     /// The files that commits wrote, in the order of the first such commit, and within one commit ascending by name.
@@ -288,41 +248,40 @@ impl Tables {
         ensures of_tree { All (λ row. (row.current.levels ≡ self.now.levels)
             × (row.stale.levels ≡ self.now.levels)) result.now }
     {
-        let _parts = &self.parts;
-        self.files.rows()
+        self.followed.files()
     }
 
     /// The locks that are held, ascending by server, file and transaction. They are read off the servers.
     pub fn locks(&self, alloc: Global) -> Result<Vec<LockRow>, Memory>
         ensures { IfOk result (λ rows. rows.items ≡ self.now.locks) }
     {
-        lock_rows(alloc, self.parts.nodes())
+        self.followed.locks(alloc)
     }
 
     /// The votes that are open, ascending by server and transaction. They are read off the servers and the desk.
     pub fn intentions(&self, alloc: Global) -> Result<Vec<IntentRow>, Memory>
         ensures { IfOk result (λ rows. rows.items ≡ self.now.intentions) }
     {
-        intent_rows(alloc, self.parts.nodes(), self.parts.desk())
+        self.followed.intentions(alloc)
     }
 }
 
-/// Whether the ask leaves costs and marks as they are, whatever they are.
-fn changes_nothing(ask: &ViewAsk) -> bool
-    ensures { result ≡ true → ask.now ≡ ViewAsk.Choose }
+/// What is reserved, with tables of its own memory.
+fn copy_ready(alloc: Global, ready: &Option<Ready>) -> Result<Option<Ready>, Memory>
+    ensures { IfOk result (λ copy. copy ≡ ready.now) }
 {
-    matches!(ask, ViewAsk::Choose)
+    match ready {
+        Some(ready) => Ok(Some(ready.copy(alloc)?)),
+        None => Ok(None),
+    }
 }
 
-/// The ops of the commit that the desk replied to so, none where it replied otherwise.
-fn committed_ops<'a>(ask: &'a DeskAsk, reply: &DeskReply) -> &'a [Op]
-    ensures { result.now ≡ spec.committed_ops ask.now reply.now }
+/// Whether this entry of the part, of that number, is reserved.
+fn is_ready(ready: &Option<Ready>, part: Part, number: u64, entry: &PartEntry<'_>) -> bool
+    ensures { IsTrue result ↔ (option_map (λ ready. ready.entry) ready.now ≡ Some (ready_entry part number entry.now)) }
 {
-    match ask {
-        DeskAsk::Commit { ops, .. } => match reply {
-            DeskReply::Committed { .. } => ops.as_slice(),
-            _ => &[],
-        },
-        _ => &[],
+    match ready {
+        Some(ready) => ready.entry.is_for(part, number, entry),
+        None => false,
     }
 }

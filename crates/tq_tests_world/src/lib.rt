@@ -1,5 +1,6 @@
 //! What no program calls or prints: a service that is given steps, the tables of whole journals, a board beside another
-//! view, each kind of entry written as it was read, and answers that no part of a client's world gives.
+//! view, each kind of entry written as it was read, answers that no part of a client's world gives,
+//! and an entry that is reserved.
 #![tactic(auto)]
 
 #[cfg(test)]
@@ -8,6 +9,8 @@ mod asked;
 mod board;
 #[cfg(test)]
 mod foreign;
+#[cfg(test)]
+mod reserved;
 #[cfg(test)]
 mod rows;
 #[cfg(test)]

@@ -1,4 +1,4 @@
-use Rattle.std.proofs.Common.{◌≡◌, ◌≤◌, ◌∙◌, ℕ, List, Some, map, ap, sym, subst}
+use Rattle.std.proofs.Common.{◌≡◌, ◌≤◌, ◌∙◌, ℕ, List, map, ap, sym, subst}
 use Rattle.tq_store.specs.Copies.{copy_of}
 use Rattle.tq_tables.specs.Files as spec
 use Rattle.tq_tables.specs.Files.{FilesView}

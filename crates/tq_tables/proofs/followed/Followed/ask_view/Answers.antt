@@ -3,7 +3,7 @@ use Rattle.tq_shape.specs.Journal.{entry}
 use Rattle.tq_tables.specs.Parts.{PartsView}
 use Rattle.tq_tables.specs.Tables.{TablesView, tables_at}
 use Rattle.tq_tables.proofs.Noted.{view-noted, viewed, viewed-at}
-use Rattle.tq_tables.proofs.tables.Tables.ask_view.Goals as goal
+use Rattle.tq_tables.proofs.followed.Followed.ask_view.Goals as goal
 
 pub returns-clause-asked : goal.returns-clause-asked
 returns-clause-asked c = λ journals reply legal stand.

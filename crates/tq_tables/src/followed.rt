@@ -1,0 +1,352 @@
+ghost use Rattle.std.specs.Prelude.{◌≡◌, ◌+◌, ◌^◌, true, None, length, reverse, IfOk, OnOk, OnErr};
+ghost use Rattle.std.specs.List.{All};
+ghost use Rattle.tq_desk.specs.DeskJournal.{IsLegalDesk, desk_state};
+ghost use Rattle.tq_desk.specs.DeskStep.{desk_reply};
+ghost use Rattle.tq_live.specs.View.{view_reply};
+ghost use Rattle.tq_node.specs.Records.{node_reply};
+ghost use Rattle.tq_shape.specs.Journal.{entry};
+ghost use Rattle.tq_shape.specs.Journal as journal;
+ghost use Rattle.tq_tables.specs.Asked.{MayAskDesk, MayAskNode, both, node_in};
+ghost use Rattle.tq_tables.specs.Files as spec;
+
+use crate::file_rows::{file_rows, rows_written};
+use crate::file_table::FileTable;
+use crate::intent_rows::intent_rows;
+use crate::lock_rows::lock_rows;
+use crate::quorum_rows::quorum_rows;
+use crate::replies::{Replies, twice};
+use crate::{
+    DeskEntry, FileRow, IntentRow, Journals, LockRow, NodeEntry, PartEntry, Parts, ViewEntry,
+};
+use std::alloc::Global;
+use std::marker::Model;
+use tq_asks::{NodeAsk, NodeReply};
+use tq_desk::{Desk, DeskAsk, DeskReply, Op};
+use tq_live::{Least, View, ViewAsk, ViewReply};
+use tq_node::{Node, Telling};
+use tq_shape::{Levels, Memory, Part};
+
+/// The parts that the tables follow, and the rows of files: tables beside which nothing is reserved.
+///
+/// The rows of files are kept, and an ask changes only those of the files that it is about. The other rows are read
+/// off the parts, which keep them in order: the best of each subtree, the lock tables, and the open votes.
+// Both are boxed, so that what is moved or let go of is two words and not a dozen containers.
+pub(crate) struct Followed {
+    parts: Box<Parts>,
+    files: Box<FileTable>,
+}
+
+// Written out, so that a crate above lets go of one by a call.
+impl Drop for Followed {
+    fn drop(self) {
+        let Self { parts: _, files: _ } = self;
+    }
+}
+
+impl Model for Followed {
+    ghost use Rattle.std.specs.Prelude.{◌≡◌};
+    ghost use Rattle.tq_intents.specs.contracts.record.Record as record_type;
+    ghost use Rattle.tq_intents.specs.contracts.record.OpenVote as vote_type;
+    ghost use Rattle.tq_asks.specs.contracts.ask.Verdict as verdict_type;
+    ghost use Rattle.tq_live.specs.contracts.least.Least as least_type;
+    ghost use Rattle.tq_tables.specs.contracts.file_row.FileRow as file_type;
+    ghost use Rattle.tq_tables.specs.contracts.lock_row.LockRow as lock_type;
+    ghost use Rattle.tq_tables.specs.contracts.intent_row.IntentRow as intent_type;
+    ghost use Rattle.tq_tables.specs.contracts.ready_entry.ReadyEntry as ready_type;
+    ghost use Rattle.tq_tables.specs.Tables.{TablesView, tables_at, tables_code};
+
+    ghost Value = { TablesView };
+
+    ghost coded = { tables_code record_type.the_row.coded vote_type.the_row.coded verdict_type.the_row.coded least_type.the_row.coded file_type.the_row.coded lock_type.the_row.coded intent_type.the_row.coded ready_type.the_row.coded };
+
+    ghost view = { λ a. tables_at a.parts.value a.files.value.rows };
+
+    ghost invariant = { λ a. a.parts.value.view.levels ≡ a.files.value.levels };
+}
+
+impl Followed {
+    ghost use Rattle.tq_tables.specs.Journals.{JournalsView, with_desk, with_view};
+    ghost use Rattle.tq_tables.specs.NextEntry.{IsNextEntry};
+    ghost use Rattle.tq_tables.specs.NextOfServer.{IsNextOfServer, with_node};
+    ghost use Rattle.tq_tables.specs.Parts.{AreLegal, bounds_of};
+    ghost use Rattle.tq_tables.specs.Reserved.{LeadsTo, ask_of};
+    ghost use Rattle.tq_tables.specs.Tables.{IsNextOfDesk, tables_of, tables_over};
+
+    /// The tables of these journals, which are legal: each reply is the one that its part gives there.
+    pub(crate) fn of(alloc: Global, journals: &Journals) -> Result<Followed, Memory>
+        requires { AreLegal journals.now }
+        ensures value { IfOk result (λ tables. tables ≡ tables_of journals.now) }
+        ensures none { IfOk result (λ tables. tables.ready ≡ None) }
+    {
+        let parts = Parts::replay(alloc, journals)?;
+        let tables = Followed::over(alloc, parts, journals.desk())?;
+        Ok(tables)
+    }
+
+    /// The tables over these parts, of which the desk stands as a legal journal with these entries leaves it. The rows of
+    /// files, locks and intentions are of the servers alone.
+    pub(crate) fn over(
+        alloc: Global,
+        parts: Parts,
+        entries: &[DeskEntry],
+    ) -> Result<Followed, Memory>
+        requires legal { IsLegalDesk (bounds_of parts.desk.levels parts.desk.limits) (reverse entries.now) }
+        requires stands { parts.desk ≡ desk_state (bounds_of parts.desk.levels parts.desk.limits) (reverse entries.now) }
+        ensures value { IfOk result (λ tables. tables ≡ tables_over parts entries.now) }
+        ensures none { IfOk result (λ tables. tables.ready ≡ None) }
+    {
+        let parts = Box::new(alloc, parts)?;
+        let levels = parts.levels();
+        let rows = file_rows(alloc, levels, parts.nodes(), entries)?;
+        let files = FileTable::of(alloc, levels, rows)?;
+        let files = Box::new(alloc, files)?;
+        Ok(Followed { parts, files })
+    }
+
+    /// Equal tables, with memory of their own.
+    pub(crate) fn copy(&self, alloc: Global) -> Result<Followed, Memory>
+        ensures value { IfOk result (λ copy. copy ≡ self.now) }
+        ensures none { IfOk result (λ copy. copy.ready ≡ None) }
+    {
+        let parts = self.parts.copy(alloc)?;
+        let parts = Box::new(alloc, parts)?;
+        let files = self.files.copy(alloc)?;
+        let files = Box::new(alloc, files)?;
+        Ok(Followed { parts, files })
+    }
+
+    /// Asks the server, under the number of the next entry of its journal. Only the rows of the files change whose copies
+    /// the ask changed there, and in each that server alone. Out of memory leaves the tables as they were.
+    #[inline(always)]
+    pub(crate) fn ask_node(
+        &mut self,
+        alloc: Global,
+        server: u64,
+        number: u64,
+        ask: &NodeAsk,
+    ) -> Result<Replies<NodeReply>, Memory>
+        requires { MayAskNode self.old server number }
+        ensures replies { IfOk result (λ replies. replies
+            ≡ both (node_reply (node_in self.old.nodes server).server (node_in self.old.nodes server).state ask.now)) }
+        ensures asked { OnOk result ((journals : JournalsView) (reply : NodeReply) → AreLegal (with_node journals server (entry ask.now reply))
+            → self.old ≡ tables_of journals → self.new ≡ tables_of (with_node journals server (entry ask.now reply))) }
+        ensures unchanged { OnErr result (self.new ≡ self.old) }
+        ensures none { self.new.ready ≡ None }
+    {
+        let parts: &mut Parts = &mut self.parts;
+        let files: &mut FileTable = &mut self.files;
+        let Telling {
+            entered,
+            told,
+            raised,
+        } = parts.ask_node(alloc, server, number, ask)?;
+        let node = parts.node(server);
+        files.stand_all(node, ask, &raised);
+        Ok(Replies { entered, told })
+    }
+
+    /// Asks the view. No row of files changes. Out of memory leaves the tables as they were.
+    #[inline(always)]
+    pub(crate) fn ask_view(
+        &mut self,
+        alloc: Global,
+        ask: &ViewAsk,
+    ) -> Result<Replies<ViewReply>, Memory>
+        ensures replies { IfOk result (λ replies. replies ≡ both (view_reply self.old.view ask.now)) }
+        ensures asked { OnOk result ((journals : JournalsView) (reply : ViewReply) → AreLegal (with_view journals (entry ask.now reply))
+            → self.old ≡ tables_of journals → self.new ≡ tables_of (with_view journals (entry ask.now reply))) }
+        ensures unchanged { OnErr result (self.new ≡ self.old) }
+        ensures none { self.new.ready ≡ None }
+    {
+        let parts: &mut Parts = &mut self.parts;
+        let replies = parts.ask_view(alloc, ask)?;
+        Ok(replies)
+    }
+
+    /// Asks the desk. Only the rows of the files change that a commit writes. All memory is taken before the first
+    /// change, so that out of memory leaves the tables as they were.
+    #[inline(always)]
+    pub(crate) fn ask_desk(
+        &mut self,
+        alloc: Global,
+        ask: &DeskAsk,
+    ) -> Result<Replies<DeskReply>, Memory>
+        requires { MayAskDesk self.old }
+        ensures replies { IfOk result (λ replies. replies ≡ both (desk_reply self.old.desk ask.now)) }
+        ensures asked { OnOk result ((journals : JournalsView) (reply : DeskReply) → AreLegal (with_desk journals (entry ask.now reply))
+            → self.old ≡ tables_of journals → self.new ≡ tables_of (with_desk journals (entry ask.now reply))) }
+        ensures unchanged { OnErr result (self.new ≡ self.old) }
+        ensures none { self.new.ready ≡ None }
+    {
+        let parts: &mut Parts = &mut self.parts;
+        let files: &mut FileTable = &mut self.files;
+        let plan = parts.desk().plan(alloc, ask)?;
+        let change = plan.change;
+        let replies = twice::<Desk>(alloc, plan.reply)?;
+        let ops = committed_ops(ask, &replies.entered);
+        let rows = rows_written(alloc, parts.nodes(), files, ops)?;
+        files.reserve(rows.len())?;
+        parts.change_desk(change)?;
+        files.put_all(rows);
+        Ok(replies)
+    }
+
+    /// Follows the entry, of that number, that the part's journal got next. Only the rows of the files change that the
+    /// entry is about. Out of memory leaves the tables as they were.
+    pub(crate) fn note(
+        &mut self,
+        alloc: Global,
+        part: Part,
+        number: u64,
+        entry: &PartEntry<'_>,
+    ) -> Result<(), Memory>
+        requires { IsNextEntry self.old part number entry.now }
+        ensures noted { OnOk result (LeadsTo self.old self.new part (ask_of entry.now)) }
+        ensures unchanged { OnErr result (self.new ≡ self.old) }
+        ensures none { self.new.ready ≡ None }
+    {
+        match part {
+            Part::Server(server) => match entry {
+                PartEntry::Server(entry) => self.note_node(alloc, server, number, entry),
+                PartEntry::Desk(_) | PartEntry::View(_) => unreachable!(),
+            },
+            Part::Desk => match entry {
+                PartEntry::Desk(entry) => self.note_desk(alloc, entry),
+                PartEntry::Server(_) | PartEntry::View(_) => unreachable!(),
+            },
+            Part::View => match entry {
+                PartEntry::View(entry) => self.note_view(alloc, entry),
+                PartEntry::Server(_) | PartEntry::Desk(_) => unreachable!(),
+            },
+        }
+    }
+
+    /// Follows the entry, of that number, that the server's journal got next, as `ask_node`.
+    fn note_node(
+        &mut self,
+        alloc: Global,
+        server: u64,
+        number: u64,
+        entry: &NodeEntry,
+    ) -> Result<(), Memory>
+        requires { IsNextOfServer self.old server number entry.now }
+        ensures noted { OnOk result ((journals : JournalsView) (reply : NodeReply) → AreLegal (with_node journals server (journal.entry entry.now.ask reply))
+            → self.old ≡ tables_of journals → self.new ≡ tables_of (with_node journals server (journal.entry entry.now.ask reply))) }
+        ensures unchanged { OnErr result (self.new ≡ self.old) }
+        ensures none { self.new.ready ≡ None }
+    {
+        self.ask_node(alloc, server, number, &entry.ask)?;
+        Ok(())
+    }
+
+    /// Follows the entry that the view's journal got next, as `ask_view`.
+    fn note_view(&mut self, alloc: Global, entry: &ViewEntry) -> Result<(), Memory>
+        ensures noted { OnOk result ((journals : JournalsView) (reply : ViewReply) → AreLegal (with_view journals (journal.entry entry.now.ask reply))
+            → self.old ≡ tables_of journals → self.new ≡ tables_of (with_view journals (journal.entry entry.now.ask reply))) }
+        ensures unchanged { OnErr result (self.new ≡ self.old) }
+        ensures none { self.new.ready ≡ None }
+    {
+        let _parts = &self.parts;
+        if changes_nothing(&entry.ask) {
+            return Ok(());
+        }
+        self.ask_view(alloc, &entry.ask)?;
+        Ok(())
+    }
+
+    /// Follows the entry that the desk's journal got next, as `ask_desk`.
+    fn note_desk(&mut self, alloc: Global, entry: &DeskEntry) -> Result<(), Memory>
+        requires { IsNextOfDesk self.old entry.now }
+        ensures noted { OnOk result ((journals : JournalsView) (reply : DeskReply) → AreLegal (with_desk journals (journal.entry entry.now.ask reply))
+            → self.old ≡ tables_of journals → self.new ≡ tables_of (with_desk journals (journal.entry entry.now.ask reply))) }
+        ensures unchanged { OnErr result (self.new ≡ self.old) }
+        ensures none { self.new.ready ≡ None }
+    {
+        self.ask_desk(alloc, &entry.ask)?;
+        Ok(())
+    }
+
+    /// How many levels the tree of servers has.
+    pub(crate) fn levels(&self) -> Levels
+        ensures value { result ≡ self.now.levels }
+        ensures followed { self.now.view.levels ≡ result }
+    {
+        self.parts.levels()
+    }
+
+    /// The servers that the tables follow, upwards from server 1.
+    pub(crate) fn nodes(&self) -> &[Node]
+        ensures { result.now ≡ self.now.nodes }
+    {
+        self.parts.nodes()
+    }
+
+    /// The desk that the tables follow.
+    pub(crate) fn desk(&self) -> &Desk
+        ensures { result.now ≡ self.now.desk }
+    {
+        self.parts.desk()
+    }
+
+    /// The view that the tables follow.
+    pub(crate) fn view(&self) -> &View
+        ensures value { result.now ≡ self.now.view }
+        ensures followed { result.now.levels ≡ self.now.levels }
+    {
+        self.parts.view()
+    }
+
+    /// For each server, upwards from server 1, the first quorum of least cost of its subtree among those that are up;
+    /// none where none is. They are read off the view's tree.
+    pub(crate) fn quorums(&self, alloc: Global) -> Result<Vec<Option<Least>>, Memory>
+        ensures value { IfOk result (λ rows. rows.items ≡ self.now.quorums) }
+        ensures one_each { IfOk result (λ rows. length rows.items + 1 ≡ 2 ^ self.now.levels) }
+    {
+        let rows = quorum_rows(alloc, self.parts.view().tree())?;
+        Ok(rows)
+    }
+
+    /// The files that commits wrote, in the order of the first such commit, and within one commit ascending by name.
+    pub(crate) fn files(&self) -> &[FileRow]
+        ensures value { result.now ≡ self.now.files }
+        ensures of_tree { All (λ row. (row.current.levels ≡ self.now.levels)
+            × (row.stale.levels ≡ self.now.levels)) result.now }
+    {
+        let _parts = &self.parts;
+        self.files.rows()
+    }
+
+    /// The locks that are held, ascending by server, file and transaction. They are read off the servers.
+    pub(crate) fn locks(&self, alloc: Global) -> Result<Vec<LockRow>, Memory>
+        ensures { IfOk result (λ rows. rows.items ≡ self.now.locks) }
+    {
+        lock_rows(alloc, self.parts.nodes())
+    }
+
+    /// The votes that are open, ascending by server and transaction. They are read off the servers and the desk.
+    pub(crate) fn intentions(&self, alloc: Global) -> Result<Vec<IntentRow>, Memory>
+        ensures { IfOk result (λ rows. rows.items ≡ self.now.intentions) }
+    {
+        intent_rows(alloc, self.parts.nodes(), self.parts.desk())
+    }
+}
+
+/// Whether the ask leaves costs and marks as they are, whatever they are.
+fn changes_nothing(ask: &ViewAsk) -> bool
+    ensures { result ≡ true → ask.now ≡ ViewAsk.Choose }
+{
+    matches!(ask, ViewAsk::Choose)
+}
+
+/// The ops of the commit that the desk replied to so, none where it replied otherwise.
+fn committed_ops<'a>(ask: &'a DeskAsk, reply: &DeskReply) -> &'a [Op]
+    ensures { result.now ≡ spec.committed_ops ask.now reply.now }
+{
+    match ask {
+        DeskAsk::Commit { ops, .. } => match reply {
+            DeskReply::Committed { .. } => ops.as_slice(),
+            _ => &[],
+        },
+        _ => &[],
+    }
+}
