@@ -10,12 +10,18 @@ by step, while servers fail and return. `board` and `refresh` time one such line
 servers and 1,000 files: the time of a run with these lines less that of one without. `mixed` has
 4,000,000 bytes of lines of all kinds at 1, 3, 5 and 6 levels, as the other program makes them.
 OTHER WORD.. is a program that takes the words `shell --levels 6` after these, and makes lines by
-`OTHER gen mixed`. Its output is compared with that of tq, byte for byte. Each time is the best of
-seven runs, or of N.
+`OTHER gen mixed`. Its output is compared with that of tq, byte for byte.
+
+In each of seven turns, or N, all programs run, one after another, so that a machine whose speed
+varies slows down all of them. Told are the least wall time and the least and the median processor
+time of each, and tq's speed to the other's by these three and by the median, over the turns, of the
+quotient of their processor times: the last is what varies least.
 """
 import argparse
+import collections
 import os
 import pathlib
+import statistics
 import subprocess
 import sys
 import tempfile
@@ -138,16 +144,42 @@ def many_files():
         yield from [f"down {server}", "begin", f"write {number} file{number} {TEXT}", f"commit {number}", f"up {server}"]
 
 
-def seconds(program, source, answers, turns):
-    """The least time of a run."""
-    least = None
-    for _ in range(turns):
-        with open(source, "rb") as given, open(answers, "wb") as taken:
-            start = time.monotonic()
-            subprocess.run(program, stdin=given, stdout=taken, check=True)
-            passed = time.monotonic() - start
-        least = passed if least is None else min(least, passed)
-    return least
+Took = collections.namedtuple("Took", "wall processor")
+
+
+def run(program, source, answers):
+    """The times of a run."""
+    with open(source, "rb") as given, open(answers, "wb") as taken:
+        start = time.monotonic()
+        going = subprocess.Popen(program, stdin=given, stdout=taken)
+        _, status, used = os.wait4(going.pid, 0)
+        wall = time.monotonic() - start
+    if status:
+        sys.exit(f"{' '.join(program)}: status {status}")
+    return Took(wall, used.ru_utime + used.ru_stime)
+
+
+def in_turn(runs, turns):
+    """The times of these runs, each a program, its input and its output, in each of the turns: a list for each run."""
+    return list(zip(*[[run(*it) for it in runs] for _ in range(turns)]))
+
+
+def least(took, part):
+    return min(getattr(it, part) for it in took)
+
+
+def median(took):
+    return statistics.median(it.processor for it in took)
+
+
+def speeds(own, theirs):
+    """tq's speed to the other's: by the least wall and processor times, the medians, and the quotients of the turns."""
+    quotients = [other.processor / tq.processor for tq, other in zip(own, theirs)]
+    return (
+        f"  tq has {least(theirs, 'wall') / least(own, 'wall'):.2f} of the other's speed by wall time;"
+        f" by processor time {least(theirs, 'processor') / least(own, 'processor'):.2f} by the least,"
+        f" {median(theirs) / median(own):.2f} by the medians, {statistics.median(quotients):.2f} by the turns' quotients"
+    )
 
 
 def memory(program, given):
@@ -173,36 +205,38 @@ def whole(name, given, tq, other, turns, folder):
     source, first, second = (os.path.join(folder, end) for end in (name, "tq", "other"))
     pathlib.Path(source).write_bytes(given)
     count = given.count(b"\n")
-    own = seconds(tq, source, first, turns)
+    own, *theirs = in_turn([(tq, source, first), *([(other, source, second)] if other else [])], turns)
     few = b"".join(given.splitlines(keepends=True)[:100])
     print(f"{name}: {count} lines, {len(given)} bytes")
-    print(f"  tq     {own:.3f} s, {count / own:,.0f} lines/s, {memory(tq, given)} KiB"
-          f" (of 100 lines {memory(tq, few)} KiB)", flush=True)
-    if not other:
-        return
-    theirs = seconds(other, source, second, turns)
-    print(f"  other  {theirs:.3f} s, {count / theirs:,.0f} lines/s, {memory(other, given)} KiB")
-    print(f"  tq has {theirs / own:.2f} of the other's speed")
-    compare(name, first, second)
+    for what, words, took in [("tq", tq, own), *([("other", other, theirs[0])] if other else [])]:
+        print(
+            f"  {what:6} wall {least(took, 'wall'):.3f} s, processor {least(took, 'processor'):.3f} s, median {median(took):.3f} s,"
+            f" {memory(words, given)} KiB (of 100 lines {memory(words, few)} KiB)",
+            flush=True,
+        )
+    if other:
+        print(speeds(own, theirs[0]))
+        compare(name, first, second)
 
 
 def single(name, line, times, tq, other, turns, folder):
     """Times one line on a service of many files: so many of it at the end, less none of it."""
     before = list(many_files())
-    took = {}
-    for program, words in [("tq", tq), ("other", other)]:
-        if not words:
-            continue
-        ends = []
+    runs = []
+    for program, words in [("tq", tq), *([("other", other)] if other else [])]:
         for count in (0, times):
-            source, answers = os.path.join(folder, f"{name}{count}"), os.path.join(folder, program)
+            source = os.path.join(folder, f"{name}{count}")
             pathlib.Path(source).write_bytes(joined(before + [line] * count))
-            ends.append(seconds(words, source, answers, turns))
-        took[program] = (ends[1] - ends[0]) / times
+            runs.append((words, source, os.path.join(folder, program)))
+    took = in_turn(runs, turns)
     print(f"{name}: one line on 63 servers and 1,000 files")
-    print(f"  tq     {1000 * took['tq']:.2f} ms")
+    lows, middles = [], []
+    for what, without, within in zip(("tq", "other"), took[::2], took[1::2]):
+        lows.append((least(within, "processor") - least(without, "processor")) / times)
+        middles.append((median(within) - median(without)) / times)
+        print(f"  {what:6} {1000 * lows[-1]:.2f} ms by the least processor times, {1000 * middles[-1]:.2f} ms by the medians")
     if other:
-        print(f"  other  {1000 * took['other']:.2f} ms; tq has {took['other'] / took['tq']:.2f} of the other's speed")
+        print(f"  tq has {lows[1] / lows[0]:.2f} of the other's speed by the least, {middles[1] / middles[0]:.2f} by the medians")
         compare(name, os.path.join(folder, "tq"), os.path.join(folder, "other"))
 
 
