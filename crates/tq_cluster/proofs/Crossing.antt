@@ -14,6 +14,7 @@ use Rattle.tq_intents.specs.contracts.intents.Intents as Intents
 use Rattle.tq_intents.specs.contracts.shared_write.SharedWrite as SharedWrite
 use Rattle.tq_asks.specs.contracts.ask.NodeAsk as NodeAsk
 use Rattle.tq_asks.specs.contracts.ask.NodeReply as NodeReply
+use Rattle.tq_asks.specs.contracts.ask.WorkAsk as WorkAsk
 use Rattle.tq_node.specs.contracts.node.Node as Node
 use Rattle.tq_desk.specs.contracts.ask.DeskAsk as DeskAsk
 use Rattle.tq_desk.specs.contracts.ask.DeskReply as DeskReply
@@ -33,8 +34,15 @@ use Rattle.tq_cluster.proofs.workers.Message.TheSendSync as messages
 
 -- ---- asks and replies
 
+-- what a server is asked to work on, which clones of an ask share
+work_ask_send : IsSend WorkAsk.the_field.row
+work_ask_send = search (sendable, crosses, maps.crosses, others.crosses) depth 60 fits 30000
+
+work_ask_sync : IsSync WorkAsk.the_field.row
+work_ask_sync = search (sendable, crosses, maps.crosses, others.crosses) depth 60 fits 30000
+
 node_ask_send : IsSend NodeAsk.the_field.row
-node_ask_send = search (sendable, crosses, maps.crosses, others.crosses) depth 60 fits 30000
+node_ask_send = search (work_ask_send, work_ask_sync, sendable, crosses, maps.crosses, others.crosses) depth 60 fits 30000
 
 node_reply_send : IsSend NodeReply.the_field.row
 node_reply_send = search (sendable, crosses, maps.crosses, others.crosses) depth 60 fits 30000
