@@ -16,7 +16,7 @@ use tq_asks::{NodeAsk, NodeReply};
 use tq_core::Service;
 use tq_part::{Answered, AskFault};
 use tq_print::{push_at, say_number};
-use tq_refresh::{Job, copy_ask, peek_ask, plan};
+use tq_refresh::{Job, copy_ask_of, peek_ask, plan};
 use tq_rendered::render;
 use tq_shape::{Memory, ServerId};
 
@@ -125,7 +125,7 @@ fn mend(recorder: &mut Recorder, alloc: Global, job: &Job, peek: NodeAsk) -> Res
     let Some(told) = answer_of(recorder, alloc, job.source, peek)? else {
         return Ok(false);
     };
-    let Some(ask) = copy_ask(alloc, job, told.number, &told.reply)? else {
+    let Some(ask) = copy_ask_of(alloc, job, told.number, told.reply)? else {
         return Ok(false);
     };
     let taken = takes(recorder, alloc, job.server, ask)?;

@@ -1,10 +1,10 @@
-ghost use Rattle.std.specs.Prelude.{◌≡◌, IfOk, Ok, None};
+ghost use Rattle.std.specs.Prelude.{◌≡◌, IfOk, Ok, None, Some};
 ghost use Rattle.tq_refresh.specs.Plan.{refresh_of};
 
 use std::alloc::Global;
 use tq_asks::{CitedVote, NodeAsk, NodeReply, WorkAsk};
 use tq_shape::{Memory, ServerId, Shared};
-use tq_store::FileName;
+use tq_store::{Content, FileName};
 
 /// A stale copy that a refresh is to mend.
 #[derive(Clone, Copy, Debug, PartialEq)]
@@ -39,14 +39,48 @@ pub fn copy_ask(
     let NodeReply::Copy { version, content } = reply else {
         return Ok(None);
     };
+    let ask = taking_ask(alloc, job, number, *version, content.clone()?)?;
+    Ok(Some(ask))
+}
+
+/// What `copy_ask` answers, of a reply that is handed in: its content goes into the ask with no clone.
+#[inline(always)]
+pub fn copy_ask_of(
+    alloc: Global,
+    job: &Job,
+    number: u64,
+    reply: NodeReply,
+) -> Result<Option<NodeAsk>, Memory>
+    ensures value { IfOk result (λ ask. ask ≡ refresh_of job.now number reply) }
+    ensures nothing { refresh_of job.now number reply ≡ None → result ≡ Ok None }
+{
+    let NodeReply::Copy { version, content } = reply else {
+        return Ok(None);
+    };
+    let ask = taking_ask(alloc, job, number, version, content)?;
+    Ok(Some(ask))
+}
+
+/// What the job's server is asked: to take this content at that version, which the source's entry of that number told.
+#[inline(always)]
+fn taking_ask(
+    alloc: Global,
+    job: &Job,
+    number: u64,
+    version: u64,
+    content: Content,
+) -> Result<NodeAsk, Memory>
+    ensures { IfOk result (λ ask. Some ask ≡ refresh_of job.now number (NodeReply.Copy version content)) }
+{
+    let from = CitedVote {
+        server: job.source.number(),
+        number,
+    };
     let refresh = WorkAsk::Refresh {
         file: job.file,
-        version: *version,
-        content: content.clone()?,
-        from: CitedVote {
-            server: job.source.number(),
-            number,
-        },
+        version,
+        content,
+        from,
     };
-    Ok(Some(NodeAsk::Work(Shared::new(alloc, refresh)?)))
+    Ok(NodeAsk::Work(Shared::new(alloc, refresh)?))
 }

@@ -6,7 +6,7 @@ mod job;
 mod mending;
 mod planning;
 
-pub use job::{Job, copy_ask, peek_ask};
+pub use job::{Job, copy_ask, copy_ask_of, peek_ask};
 pub use mending::{mend, refresh};
 pub use planning::{plan, plan_rows};
 pub use tq_shape::Memory;

@@ -7,7 +7,6 @@ use Rattle.tq_shape.specs.declared.part.Part.{Part}
 use Rattle.tq_shape.specs.declared.part.Part.TheVariants as parts
 use Rattle.tq_tables.specs.declared.part_entry.PartEntry.{PartEntry}
 use Rattle.tq_tables.specs.declared.part_entry.PartEntry.TheVariants as lent
-use Rattle.tq_tables.specs.declared.ready.Ready.{Ready}
 use Rattle.tq_tables.specs.declared.ready_entry.ReadyEntry.{ReadyEntry}
 use Rattle.tq_tables.specs.Asked.{MayAskDesk, MayAskNode}
 use Rattle.tq_tables.specs.Journals.{JournalsView}
@@ -48,11 +47,11 @@ nothing-holds show P None none = tt
 nothing-holds show P (Some v) none = absurd (none-some (show v) (sym none))
 
 -- what is kept ready for the entry follows it
-pub taken : (old : TablesView) (kept : Option Ready) (ready : Ready) (e : ReadyEntry) → kept ≡ Some ready → option_map (λ r. r.entry) kept ≡ Some e
-    → IfSome kept (λ r. AreReady old r.after r.entry) → AreReady old ready.after e
-taken old kept ready e is shows all =
-    let same : ready.entry ≡ e = same_Some ready.entry e (sym (ap (λ (o : Option Ready). option_map (λ r. r.entry) o) is) ∙ shows) in
-    subst (λ (entry : ReadyEntry). AreReady old ready.after entry) same (subst (λ (o : Option Ready). IfSome o (λ r. AreReady old r.after r.entry)) is all)
+pub taken : {V : Type 0} (entry : V → ReadyEntry) (after : V → TablesView) (old : TablesView) (kept : Option V) (ready : V) (e : ReadyEntry)
+    → kept ≡ Some ready → option_map entry kept ≡ Some e → IfSome kept (λ r. AreReady old (after r) (entry r)) → AreReady old (after ready) e
+taken {V = V} entry after old kept ready e is shows all =
+    let same : entry ready ≡ e = same_Some (entry ready) e (sym (ap (λ (o : Option V). option_map entry o) is) ∙ shows) in
+    subst (λ (at : ReadyEntry). AreReady old (after ready) at) same (subst (λ (o : Option V). IfSome o (λ r. AreReady old (after r) (entry r))) is all)
 
 -- tables that follow what the next entry asks follow the entry
 pub noted : (tables old new : TablesView) (part : Part) (number : ℕ) (e : PartEntry) → IsNextEntry tables part number e → LeadsTo old new part (ask_of e)

@@ -49,6 +49,7 @@ impl Ready {
         let entry = self.entry.copy()?;
         Ok(Ready { entry, after })
     }
+
     /// The tables as they follow the entry.
     pub(crate) fn into_after(self) -> Followed
         ensures { result ≡ self.after }

@@ -28,7 +28,7 @@ use tq_shape::{Levels, Memory, Part};
 /// these.
 pub struct Tables {
     followed: Followed,
-    ready: Option<Ready>,
+    ready: Option<Box<Ready>>,
 }
 
 // Written out, so that a crate above lets go of one by a call.
@@ -59,9 +59,9 @@ impl Model for Tables {
 
     ghost coded = { tables_code record_type.the_row.coded vote_type.the_row.coded verdict_type.the_row.coded least_type.the_row.coded file_type.the_row.coded lock_type.the_row.coded intent_type.the_row.coded ready_type.the_row.coded };
 
-    ghost view = { λ a. with_ready a.followed (option_map (λ ready. ready.entry) a.ready) };
+    ghost view = { λ a. with_ready a.followed (option_map (λ ready. ready.value.entry) a.ready) };
 
-    ghost invariant = { λ a. (a.followed.ready ≡ None) × IfSome a.ready (λ ready. AreReady a.followed ready.after ready.entry) };
+    ghost invariant = { λ a. (a.followed.ready ≡ None) × IfSome a.ready (λ ready. AreReady a.followed ready.value.after ready.value.entry) };
 }
 
 impl Tables {
@@ -133,7 +133,7 @@ impl Tables {
     pub fn ask_view(&mut self, alloc: Global, ask: &ViewAsk) -> Result<Replies<ViewReply>, Memory>
         ensures replies { IfOk result (λ replies. replies ≡ both (view_reply self.old.view ask.now)) }
         ensures asked { OnOk result ((journals : JournalsView) (reply : ViewReply) → AreLegal (with_view journals (entry ask.now reply))
-            → self.old ≡ tables_of journals → self.new ≡ tables_of (with_view journals (entry ask.now reply))) }
+            → unready self.old ≡ tables_of journals → self.new ≡ tables_of (with_view journals (entry ask.now reply))) }
         ensures unchanged { OnErr result (self.new ≡ self.old) }
     {
         let replies = self.followed.ask_view(alloc, ask)?;
@@ -171,7 +171,7 @@ impl Tables {
         ensures unchanged { OnErr result (self.new ≡ self.old) }
     {
         let ready = Ready::of(alloc, &self.followed, part, number, entry)?;
-        self.ready = Some(ready);
+        self.ready = Some(Box::new(alloc, ready)?);
         Ok(())
     }
 
@@ -193,7 +193,7 @@ impl Tables {
     {
         if is_ready(&self.ready, part, number, entry) {
             match self.ready.take() {
-                Some(ready) => self.followed = ready.into_after(),
+                Some(ready) => self.followed = Box::into_inner(ready).into_after(),
                 None => unreachable!(),
             }
             return Ok(());
@@ -267,18 +267,21 @@ impl Tables {
 }
 
 /// What is reserved, with tables of its own memory.
-fn copy_ready(alloc: Global, ready: &Option<Ready>) -> Result<Option<Ready>, Memory>
-    ensures { IfOk result (λ copy. copy ≡ ready.now) }
+fn copy_ready(
+    alloc: Global,
+    ready: &Option<Box<Ready>>,
+) -> Result<Option<Box<Ready>>, Memory>
+    ensures { IfOk result (λ copy. option_map (λ ready. ready.value) copy ≡ option_map (λ ready. ready.value) ready.now) }
 {
     match ready {
-        Some(ready) => Ok(Some(ready.copy(alloc)?)),
+        Some(ready) => Ok(Some(Box::new(alloc, ready.copy(alloc)?)?)),
         None => Ok(None),
     }
 }
 
 /// Whether this entry of the part, of that number, is reserved.
-fn is_ready(ready: &Option<Ready>, part: Part, number: u64, entry: &PartEntry<'_>) -> bool
-    ensures { IsTrue result ↔ (option_map (λ ready. ready.entry) ready.now ≡ Some (ready_entry part number entry.now)) }
+fn is_ready(ready: &Option<Box<Ready>>, part: Part, number: u64, entry: &PartEntry<'_>) -> bool
+    ensures { IsTrue result ↔ (option_map (λ ready. ready.value.entry) ready.now ≡ Some (ready_entry part number entry.now)) }
 {
     match ready {
         Some(ready) => ready.entry.is_for(part, number, entry),

@@ -1,5 +1,6 @@
 use Rattle.std.proofs.Common.{ap, inl, refl, sym, ◌∙◌}
 use Rattle.std.proofs.lemmas.Bool.{false≢true}
+use Rattle.tq_tables.specs.Reserved.{unready}
 use Rattle.tq_prefixes.proofs.Led.{led_all, led_next, led_none, not_given}
 use Rattle.tq_prefixes.proofs.Standing.{view_grows, view_none, enough}
 use Rattle.tq_prefixes.proofs.prefixes.Prefixes.ahead_of_view.Goals as goal
@@ -15,7 +16,8 @@ returns-then-not-is_same c =
 pub loop-entry-preserved : goal.loop-entry-preserved
 loop-entry-preserved c =
     led_next (view_grows c.args.self.now c.kept.ensures.legal) c.args.entries.now c.loop-entry.entry-index c.entry-item.result c.loop-entry-test.true c.entry-item.is c.loop-entry.ahead c.loop-entry.invariant c.ask_view.new.self
-    (sym (ap (λ r. r.told) c.in_ok-replies.ensures.replies) ∙ c.if-not-is_same.ensures.0 refl) c.in_ok-replies.ensures.asked
+    (sym (ap (λ r. r.told) c.in_ok-replies.ensures.replies) ∙ c.if-not-is_same.ensures.0 refl)
+    (λ journals reply legal stand. c.in_ok-replies.ensures.asked journals reply legal (ap unready stand))
 
 pub returns : goal.returns
 returns c =

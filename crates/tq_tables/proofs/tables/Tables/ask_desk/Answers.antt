@@ -34,4 +34,4 @@ returns-clause-asked c =
     c.ask_desk.ensures.asked
 
 pub returns-clause-unchanged : goal.returns-clause-unchanged
-returns-clause-unchanged c = on_err_weaker c.ask_desk.result (λ same. ap (λ (t : TablesView). with_ready t (option_map (λ r. r.entry) c.self.inside.ready)) same ∙ c.self.view_is) c.ask_desk.ensures.unchanged
+returns-clause-unchanged c = on_err_weaker c.ask_desk.result (λ same. ap (λ (t : TablesView). with_ready t (option_map (λ r. r.value.entry) c.self.inside.ready)) same ∙ c.self.view_is) c.ask_desk.ensures.unchanged
