@@ -1,7 +1,7 @@
 -- Jobs one after another, and what each asks.
 use Rattle.std.specs.Int.{from_bool}
-use Rattle.std.proofs.Common.{◌≡◌, ◌∙◌, ◌+◌, ◌<◌, ◌≤◌, ℕ, Bool, true, cond, List, [], ◌∷◌, ◌++◌, length, get_or, drop, append_assoc, None, Err, false, refl, sym, ap, subst, arith}
-use Rattle.std.proofs.lemmas.List.{drop_more}
+use Rattle.std.proofs.Common.{◌≡◌, ◌∙◌, ◌+◌, ◌≤◌, ℕ, Bool, true, cond, List, [], ◌∷◌, ◌++◌, length, append_assoc, None, Err, false, refl, sym, ap, subst, arith}
+use Rattle.std.proofs.lemmas.List.{length-append}
 use Rattle.tq_tables.specs.Journals.{JournalsView}
 use Rattle.tq_world.specs.declared.answer.Step.TheVariants as steps
 use Rattle.tq_world.specs.World.{empty_world}
@@ -14,7 +14,7 @@ use Rattle.tq_part.specs.declared.fault.AskFault.{AskFault}
 use Rattle.tq_part.specs.declared.fault.AskFault.TheVariants as faults
 use Rattle.tq_txn.specs.Dialogue.{Told, Dialogue, Ends, AsksNode, AsksDesk, AsksView, then_line, node_exchange, fault_of_ask}
 use Rattle.tq_refresh.specs.declared.job.Job.{Job}
-use Rattle.tq_answering.specs.Operators.{Mended, nothing_mended, behind, answer_in, job_asked, jobs_asked, with_job, job_text, count_text, refresh_asked, refresh_jobs, refreshed_text}
+use Rattle.tq_answering.specs.Operators.{LeadsOn, Mended, nothing_mended, behind, so_far, answer_in, job_asked, jobs_asked, with_job, job_text, count_text, refresh_asked, refresh_jobs, refreshed_text}
 use Rattle.tq_print.specs.Print.{printed}
 use Rattle.tq_print.specs.Refusals.{is_memory}
 use Rattle.tq_answering.specs.Asking.{Ran, run_line, node_told, desk_told, view_told}
@@ -82,21 +82,35 @@ jobs_on all end old after mended job jobs refreshed ends leads is there =
       ap (λ w. (run_line w (next refreshed)).after) there ∙ ap (λ r. (run_line (run_line old (job_asked job)).after (next r)).after) is ∙ sym (then_after (job_asked job) next old) ∙ leads,
     )
 
--- after the job at that place, the jobs behind it come to what all come to
-pub jobs_next : (all : Mended) (end : JournalsView) (old after : JournalsView) (text_old text_new : List ℕ) (count number : ℕ) (jobs : List Job) (i : ℕ) (job : Job) (refreshed : Bool)
-    → i < length jobs → job ≡ get_or jobs i job
-    → (run_line old (jobs_asked (record { text = text_old; count = count }) (drop i jobs))).end ≡ all → (run_line old (jobs_asked (record { text = text_old; count = count }) (drop i jobs))).after ≡ end
-    → refreshed ≡ (run_line old (job_asked job)).end → after ≡ (run_line old (job_asked job)).after
-    → text_new ≡ text_old ++ printed (job_text job refreshed) → number ≡ from_bool refreshed
-    → ((run_line after (jobs_asked (record { text = text_new; count = count + number }) (drop (i + 1) jobs))).end ≡ all)
-    × ((run_line after (jobs_asked (record { text = text_new; count = count + number }) (drop (i + 1) jobs))).after ≡ end)
-jobs_next all end old after text_old text_new count number jobs i job refreshed less item ends leads is there said counts =
-    let before : Mended = record { text = text_old; count = count } in
-    let left : drop i jobs ≡ job ∷ drop (i + 1) jobs = drop_more jobs i job less ∙ ap (λ j. j ∷ drop (i + 1) jobs) (sym item) in
-    let now : record { text = text_new; count = count + number } ≡ with_job before job refreshed = λ k. record { text = said k; count = count + (counts ∙ counted refreshed) k } in
-    let on = jobs_on all end old after before job (drop (i + 1) jobs) refreshed
-    (sym (ap (λ js. (run_line old (jobs_asked before js)).end) left) ∙ ends) (sym (ap (λ js. (run_line old (jobs_asked before js)).after) left) ∙ leads) is there in
-    (ap (λ m. (run_line after (jobs_asked m (drop (i + 1) jobs))).end) now ∙ on.0, ap (λ m. (run_line after (jobs_asked m (drop (i + 1) jobs))).after) now ∙ on.1)
+-- jobs that lead on lead on through those that they lead to
+pub leads_through : {old middle new : JournalsView} {start halfway done : Mended} {jobs some left : List Job} → LeadsOn old start jobs middle halfway some → LeadsOn middle halfway some new done left → LeadsOn old start jobs new done left
+leads_through first second = record { end = second.end ∙ first.end; after = second.after ∙ first.after }
+
+-- the same jobs may be listed otherwise
+pub leads_from : {old new : JournalsView} {start done : Mended} {jobs some left : List Job} → some ≡ left → LeadsOn old start jobs new done some → LeadsOn old start jobs new done left
+leads_from {old = old} {new = new} {start = start} {done = done} {jobs = jobs} same leads = subst (λ (js : List Job). LeadsOn old start jobs new done js) same leads
+
+-- after one job more, the jobs behind it come to what all come to
+pub one_on : (old : JournalsView) (start : Mended) (jobs : List Job) (now after : JournalsView) (text_now text_after : List ℕ) (count number : ℕ) (job : Job) (left : List Job) (refreshed : Bool)
+    → LeadsOn old start jobs now (so_far text_now count) (job ∷ left) → refreshed ≡ (run_line now (job_asked job)).end → after ≡ (run_line now (job_asked job)).after
+    → text_after ≡ text_now ++ printed (job_text job refreshed) → number ≡ from_bool refreshed → LeadsOn old start jobs after (so_far text_after (count + number)) left
+one_on old start jobs now after text_now text_after count number job left refreshed leads is there said counts =
+    let before = so_far text_now count in
+    let is_with : so_far text_after (count + number) ≡ with_job before job refreshed = λ k. record { text = said k; count = count + (counts ∙ counted refreshed) k } in
+    let on = jobs_on (run_line old (jobs_asked start jobs)).end (run_line old (jobs_asked start jobs)).after now after before job left refreshed leads.end leads.after is there in
+    record {
+      end = ap (λ m. (run_line after (jobs_asked m left)).end) is_with ∙ on.0;
+      after = ap (λ m. (run_line after (jobs_asked m left)).after) is_with ∙ on.1;
+    }
+
+-- ---- how many jobs there were, which are no more than the bytes that they left
+
+-- a line is a byte or more
+pub longer : (text_now text_after line : List ℕ) → text_after ≡ text_now ++ printed line → length text_now + 1 ≤ length text_after
+longer text_now text_after line said =
+    let long : length text_after ≡ length text_now + (length line + 1) =
+    ap length said ∙ length-append text_now (printed line) ∙ ap (λ n. length text_now + n) (length-append line (10 ∷ [])) in
+    omega (arith, long)
 
 -- ---- jobs behind a text
 

@@ -3,19 +3,18 @@ use Rattle.std.specs.Prelude.{◌≡◌, ℕ, ◌+◌, Bool, true, false, cond, 
 use Rattle.std.specs.Fmt.{decimal}
 use Rattle.std.specs.Option.{option_and_then, option_map_or}
 use Rattle.tq_asks.specs.declared.ask.NodeAsk.{NodeAsk}
-use Rattle.tq_asks.specs.declared.ask.NodeAsk.TheVariants.{Work}
-use Rattle.tq_asks.specs.declared.ask.WorkAsk.TheVariants.{Peek}
 use Rattle.tq_asks.specs.declared.ask.NodeReply.{NodeReply}
 use Rattle.tq_asks.specs.declared.ask.NodeReply.TheVariants.{Refreshed}
 use Rattle.tq_tables.specs.Journals.{JournalsView}
 use Rattle.tq_tables.specs.Parts.{view_at}
 use Rattle.tq_tables.specs.Tables.{tables_of}
-use Rattle.tq_refresh.specs.Plan.{plan_of, refresh_of}
+use Rattle.tq_refresh.specs.Plan.{peek_of, plan_of, refresh_of}
 use Rattle.tq_refresh.specs.declared.job.Job.{Job}
 use Rattle.tq_rendered.specs.Board.{board_text}
 use Rattle.tq_txn.specs.Dialogue as asks
 use Rattle.tq_txn.specs.Dialogue.{Told, Ends, AsksNode, then_line}
 use Rattle.tq_print.specs.Print.{printed}
+use Rattle.tq_answering.specs.Asking.{run_line}
 
 -- ---- one job of a refresh
 
@@ -40,13 +39,9 @@ abbrev pub mend_asked : Job → Option NodeAsk → asks.Dialogue Bool
 mend_asked job None = Ends false
 mend_asked job (Some ask) = AsksNode job.server.number ask (λ told. Ends (took (answer_in told)))
 
--- what the source is asked: its copy of the file
-abbrev pub peek_of : Job → NodeAsk
-peek_of job = Work (Peek job.file)
-
 -- the source is asked for its copy, and where it tells one the server is asked to take it
 abbrev pub job_asked : Job → asks.Dialogue Bool
-job_asked job = AsksNode job.source.number (peek_of job) (λ told. mend_asked job (mend_ask job (answer_in told)))
+job_asked job = AsksNode job.source.number (peek_of job.file) (λ told. mend_asked job (mend_ask job (answer_in told)))
 
 -- the servers of the job are of a tree of those levels
 abbrev pub IsOfTree : ℕ → Job → Type 0
@@ -76,6 +71,15 @@ with_job mended job refreshed = record { text = mended.text ++ printed (job_text
 abbrev pub jobs_asked : Mended → List Job → asks.Dialogue Mended
 jobs_asked mended [] = Ends mended
 jobs_asked mended (job ∷ jobs) = then_line (job_asked job) (λ refreshed. jobs_asked (with_job mended job refreshed) jobs)
+
+-- what jobs came to so far, as text and count stand
+abbrev pub so_far : List ℕ → ℕ → Mended
+so_far text count = record { text = text; count = count }
+
+-- the jobs that are left, behind what others came to, come to what all come to
+pub record LeadsOn (old : JournalsView) (start : Mended) (jobs : List Job) (new : JournalsView) (mended : Mended) (left : List Job) : Type 0 where
+  pub end : (run_line new (jobs_asked mended left)).end ≡ (run_line old (jobs_asked start jobs)).end
+  pub after : (run_line new (jobs_asked mended left)).after ≡ (run_line old (jobs_asked start jobs)).after
 
 -- how many of the jobs mended a copy
 abbrev pub count_text : ℕ → ℕ → List ℕ

@@ -1,30 +1,31 @@
 //! The lines of operators: the refresh and the board.
-ghost use Rattle.std.specs.Prelude.{◌≡◌, ◌++◌, true, false, IfOk, IfSome, OnOk, string_bytes};
-ghost use Rattle.std.specs.List.{All};
+ghost use Rattle.std.specs.Prelude.{◌≡◌, ◌≤◌, ◌+◌, ◌++◌, List, length, true, false, IfOk, OnOk, string_bytes};
 ghost use Rattle.std.specs.Option.{option_map};
 ghost use Rattle.tq_world.specs.Steps.{world_after};
 ghost use Rattle.tq_world.specs.declared.answer.Step.TheVariants as steps;
+ghost use Rattle.tq_refresh.specs.Plan.{ArePlanned, IsPlanned, jobs_in, jobs_of_plan, peek_of};
+ghost use Rattle.tq_refresh.specs.declared.job.Job.{Job};
 ghost use Rattle.tq_txn.specs.Dialogue.{fault_of_ask};
 ghost use Rattle.tq_answering.specs.Asking.{node_told, run_line};
 ghost use Rattle.tq_answering.specs.Operators as spec;
 ghost use Rattle.tq_print.specs.Print.{printed};
 ghost use Rattle.tq_print.specs.Refusals.{is_memory};
 
-use crate::recorder::Recorder;
+use crate::recorder::{Recorder, copy_of_node_ask};
 use std::alloc::{AllocError, Global};
 use tq_asks::{NodeAsk, NodeReply};
 use tq_core::Service;
 use tq_part::{Answered, AskFault};
 use tq_print::{push_at, say_number};
-use tq_refresh::{Job, copy_ask_of, peek_ask, plan};
+use tq_refresh::{FileJobs, Job, PlanByFile, copy_ask_of, plan_by_file};
 use tq_rendered::render;
-use tq_shape::{Memory, ServerId};
+use tq_shape::{Memory, ServerId, ServerSet};
 
-/// An ask for a copy of a file, and the job that it was made for.
-#[derive(Drop)]
-struct Peeked {
-    job: Job,
-    ask: NodeAsk,
+/// How many jobs there were, and how many of them mended a copy.
+#[derive(Clone, Copy)]
+struct Counts {
+    jobs: usize,
+    mended: usize,
 }
 
 /// Puts the board of the service behind the text.
@@ -55,69 +56,85 @@ pub(crate) fn refresh_all(
     ensures after { OnOk result (recorder.new.journals ≡ (run_line recorder.old.journals (spec.refresh_asked recorder.old.journals)).after) }
     ensures tree { recorder.new.journals.levels ≡ recorder.old.journals.levels }
 {
-    let jobs = planned(recorder.service(), alloc)?;
-    let count = mend_all(recorder, alloc, jobs.as_slice(), text)?;
-    say_count(text, count as u64, jobs.len() as u64)?;
+    let plan = planned(recorder.service(), alloc)?;
+    let counts = mend_all(recorder, alloc, &plan, text)?;
+    say_count(text, counts.mended as u64, counts.jobs as u64)?;
     Ok(())
 }
 
-/// The jobs of a refresh, as the service stands now.
-fn planned(service: &Service, alloc: Global) -> Result<Vec<Job>, Memory>
-    ensures jobs { IfOk result (λ jobs. jobs.items ≡ spec.refresh_jobs service.now) }
-    ensures of_tree { IfOk result (λ jobs. All (spec.IsOfTree service.now.levels) jobs.items) }
+/// The jobs of a refresh by their files, as the service stands now.
+fn planned(service: &Service, alloc: Global) -> Result<PlanByFile, Memory>
+    ensures jobs { IfOk result (λ plan. jobs_of_plan plan ≡ spec.refresh_jobs service.now) }
+    ensures of_tree { IfOk result (λ plan. ArePlanned service.now.levels plan) }
 {
     let tables = service.tables();
-    plan(alloc, tables, service.view())
+    plan_by_file(alloc, tables, service.view())
 }
 
-/// Does the jobs one after another: a line for each goes behind the text, and how many copies were mended is answered.
+/// Does the jobs one after another: a line for each goes behind the text, and how many there were, and how many copies
+/// were mended, is answered.
 fn mend_all(
     recorder: &mut Recorder,
     alloc: Global,
-    jobs: &[Job],
+    plan: &PlanByFile,
     text: &mut Vec<u8>,
-) -> Result<usize, Memory>
-    requires { All (spec.IsOfTree recorder.old.journals.levels) jobs.now }
-    ensures text { OnOk result (text.new.items ≡ (run_line recorder.old.journals (spec.jobs_asked (spec.behind text.old.items spec.nothing_mended) jobs.now)).end.text) }
-    ensures count { IfOk result (λ count. count ≡ (run_line recorder.old.journals (spec.jobs_asked (spec.behind text.old.items spec.nothing_mended) jobs.now)).end.count) }
-    ensures after { OnOk result (recorder.new.journals ≡ (run_line recorder.old.journals (spec.jobs_asked (spec.behind text.old.items spec.nothing_mended) jobs.now)).after) }
+) -> Result<Counts, Memory>
+    requires { ArePlanned recorder.old.journals.levels plan.now }
+    ensures text { OnOk result (text.new.items ≡ (run_line recorder.old.journals (spec.jobs_asked (spec.behind text.old.items spec.nothing_mended) (jobs_of_plan plan.now))).end.text) }
+    ensures count { IfOk result (λ counts. counts.mended ≡ (run_line recorder.old.journals (spec.jobs_asked (spec.behind text.old.items spec.nothing_mended) (jobs_of_plan plan.now))).end.count) }
+    ensures jobs { IfOk result (λ counts. counts.jobs ≡ length (jobs_of_plan plan.now)) }
+    ensures after { OnOk result (recorder.new.journals ≡ (run_line recorder.old.journals (spec.jobs_asked (spec.behind text.old.items spec.nothing_mended) (jobs_of_plan plan.now))).after) }
     ensures tree { recorder.new.journals.levels ≡ recorder.old.journals.levels }
 {
-    let mut count = 0;
-    let mut kept = None;
-    for job in jobs {
-        let peek = peek_for(&mut kept, alloc, job)?;
-        let refreshed = mend(recorder, alloc, job, peek)?;
-        say_job(text, job, refreshed)?;
-        count += usize::from(refreshed);
+    let mut counts = Counts { jobs: 0, mended: 0 };
+    for of_file in plan.files.as_slice() {
+        mend_file(recorder, alloc, of_file, &plan.up, text, &mut counts)?;
     }
-    Ok(count)
+    Ok(counts)
 }
 
-/// What the job's source is asked: the ask that is kept, where that is for the same file, else one that is then kept.
-fn peek_for(kept: &mut Option<Peeked>, alloc: Global, job: &Job) -> Result<NodeAsk, Memory>
-    requires { IfSome kept.old (λ peeked. peeked.ask ≡ spec.peek_of peeked.job) }
-    ensures ask { IfOk result (λ ask. ask ≡ spec.peek_of job.now) }
-    ensures kept { OnOk result (IfSome kept.new (λ peeked. peeked.ask ≡ spec.peek_of peeked.job)) }
+/// Does the jobs of one file, where `up` is the set of the servers that are marked up as the refresh begins, and counts
+/// them. Whatever jobs are behind them lead on from there.
+fn mend_file(
+    recorder: &mut Recorder,
+    alloc: Global,
+    of_file: &FileJobs,
+    up: &ServerSet,
+    text: &mut Vec<u8>,
+    counts: &mut Counts,
+) -> Result<(), Memory>
+    requires planned { IsPlanned recorder.old.journals.levels of_file.now }
+    requires up { up.now.levels ≡ recorder.old.journals.levels }
+    requires fits { (counts.old.mended ≤ counts.old.jobs) × (counts.old.jobs ≤ length text.old.items) }
+    ensures mended { OnOk result ((more : List Job) → spec.LeadsOn recorder.old.journals (spec.so_far text.old.items counts.old.mended) (jobs_in up.now of_file.now ++ more)
+        recorder.new.journals (spec.so_far text.new.items counts.new.mended) more) }
+    ensures jobs { OnOk result (counts.new.jobs ≡ counts.old.jobs + length (jobs_in up.now of_file.now)) }
+    ensures fits { OnOk result ((counts.new.mended ≤ counts.new.jobs) × (counts.new.jobs ≤ length text.new.items)) }
+    ensures tree { recorder.new.journals.levels ≡ recorder.old.journals.levels }
 {
-    if let Some(peeked) = &*kept {
-        if peeked.job.file == job.file {
-            return Ok(peeked.ask.clone()?);
+    let peek = of_file.peek_ask(alloc)?;
+    for server in of_file.stale.iter() {
+        if up.contains(server) {
+            let job = Job {
+                file: of_file.file,
+                server,
+                source: of_file.source,
+            };
+            let ask = copy_of_node_ask(&peek)?;
+            let refreshed = mend(recorder, alloc, &job, ask)?;
+            say_job(text, &job, refreshed)?;
+            // Each job left a line, so that there are no more of them than bytes of text.
+            counts.jobs += 1;
+            counts.mended += usize::from(refreshed);
         }
     }
-    let ask = peek_ask(alloc, job)?;
-    let copy = ask.clone()?;
-    *kept = Some(Peeked {
-        job: *job,
-        ask: copy,
-    });
-    Ok(ask)
+    Ok(())
 }
 
 /// Whether the job mended its copy: its source told one, and the server took it.
 fn mend(recorder: &mut Recorder, alloc: Global, job: &Job, peek: NodeAsk) -> Result<bool, Memory>
     requires of_tree { spec.IsOfTree recorder.old.journals.levels job.now }
-    requires peek { peek ≡ spec.peek_of job.now }
+    requires peek { peek ≡ peek_of job.now.file }
     ensures value { IfOk result (λ refreshed. refreshed ≡ (run_line recorder.old.journals (spec.job_asked job.now)).end) }
     ensures after { OnOk result (recorder.new.journals ≡ (run_line recorder.old.journals (spec.job_asked job.now)).after) }
     ensures tree { recorder.new.journals.levels ≡ recorder.old.journals.levels }

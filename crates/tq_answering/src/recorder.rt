@@ -78,7 +78,8 @@ impl Recorder {
     }
 }
 
-fn copy_of_node_ask(ask: &NodeAsk) -> Result<NodeAsk, Memory>
+/// An ask equal to this.
+pub(crate) fn copy_of_node_ask(ask: &NodeAsk) -> Result<NodeAsk, Memory>
     ensures { IfOk result (λ copy. copy ≡ ask.now) }
 {
     Ok(ask.clone()?)

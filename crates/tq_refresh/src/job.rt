@@ -1,4 +1,5 @@
 ghost use Rattle.std.specs.Prelude.{◌≡◌, IfOk, Ok, None, Some};
+ghost use Rattle.tq_refresh.specs.Plan as spec;
 ghost use Rattle.tq_refresh.specs.Plan.{refresh_of};
 
 use std::alloc::Global;
@@ -20,7 +21,14 @@ pub struct Job {
 pub fn peek_ask(alloc: Global, job: &Job) -> Result<NodeAsk, Memory>
     ensures { IfOk result (λ ask. ask ≡ NodeAsk.Work (WorkAsk.Peek job.now.file)) }
 {
-    let peek = WorkAsk::Peek { file: job.file };
+    peek_of(alloc, job.file)
+}
+
+/// An ask for a server's copy of the file.
+pub(crate) fn peek_of(alloc: Global, file: FileName) -> Result<NodeAsk, Memory>
+    ensures { IfOk result (λ ask. ask ≡ spec.peek_of file) }
+{
+    let peek = WorkAsk::Peek { file };
     Ok(NodeAsk::Work(Shared::new(alloc, peek)?))
 }
 

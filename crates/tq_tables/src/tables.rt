@@ -267,10 +267,7 @@ impl Tables {
 }
 
 /// What is reserved, with tables of its own memory.
-fn copy_ready(
-    alloc: Global,
-    ready: &Option<Box<Ready>>,
-) -> Result<Option<Box<Ready>>, Memory>
+fn copy_ready(alloc: Global, ready: &Option<Box<Ready>>) -> Result<Option<Box<Ready>>, Memory>
     ensures { IfOk result (λ copy. option_map (λ ready. ready.value) copy ≡ option_map (λ ready. ready.value) ready.now) }
 {
     match ready {

@@ -1,15 +1,15 @@
-use Rattle.std.specs.Prelude.{IfSome}
-use Rattle.std.proofs.Common.{◌≡◌, ◌≤◌, drop}
-use Rattle.tq_answering.specs.Asking.{run_line}
-use Rattle.tq_answering.specs.Operators.{behind, jobs_asked, nothing_mended, peek_of}
+use Rattle.std.proofs.Common.{◌≡◌, ◌≤◌, ◌+◌, drop, length}
+use Rattle.std.specs.List.{flat_map}
+use Rattle.tq_refresh.specs.Plan.{jobs_in, jobs_of_plan}
+use Rattle.tq_answering.specs.Operators.{LeadsOn, behind, nothing_mended, so_far}
 use Rattle.tq_answering.proofs.operators.mend_all.Given as goal
 
--- after what was mended so far, the jobs that are left come to what all come to
-abbrev pub invariant-loop-job : goal.invariant-loop-job
-invariant-loop-job l = record {
-  end : (run_line l.recorder.journals (jobs_asked (record { text = l.text.items; count = l.count }) (drop l.job-index l.jobs))).end ≡ (run_line l.fn.recorder.journals (jobs_asked (behind l.fn.text.items nothing_mended) l.jobs)).end;
-  after : (run_line l.recorder.journals (jobs_asked (record { text = l.text.items; count = l.count }) (drop l.job-index l.jobs))).after ≡ (run_line l.fn.recorder.journals (jobs_asked (behind l.fn.text.items nothing_mended) l.jobs)).after;
+-- after the jobs of some files, those of the others come to what all come to
+abbrev pub invariant-loop-of_file : goal.invariant-loop-of_file
+invariant-loop-of_file l = record {
+  on : LeadsOn l.fn.recorder.journals (behind l.fn.text.items nothing_mended) (jobs_of_plan l.plan)
+      l.recorder.journals (so_far l.text.items l.counts.mended) (flat_map (jobs_in l.plan.up) (drop l.of_file-index l.of_file-items));
+  jobs : l.counts.jobs + length (flat_map (jobs_in l.plan.up) (drop l.of_file-index l.of_file-items)) ≡ length (jobs_of_plan l.plan);
+  fits : (l.counts.mended ≤ l.counts.jobs) × (l.counts.jobs ≤ length l.text.items);
   tree : l.recorder.journals.levels ≡ l.fn.recorder.journals.levels;
-  kept : IfSome l.kept (λ peeked. peeked.ask ≡ peek_of peeked.job);
-  fits : l.count ≤ l.job-index;
 }

@@ -22,14 +22,14 @@ loop-current-preserved c =
       left = find-passed has _ _ _ c.in-Some.ensures.steps _ (sym c.contains.ensures ∙ c.if-contains.false) c.loop-current.invariant.left;
     }
 
-pub returns-then-contains : goal.returns-then-contains
-returns-then-contains c = λ live is.
+pub returns-then-contains-clause-value : goal.returns-then-contains-clause-value
+returns-then-contains-clause-value c = λ live is.
     let has = λ (server : Server). has_number c.args.up.now.numbers server.number in
     let found : Some c.in-Some.current ≡ find has (servers_in c.args.servers.now) = search rules in
     found ∙ find-up live c.args.up.now c.args.servers.now is c.requires c.iter-current-items.ensures.of_tree
 
-pub returns : goal.returns
-returns c = λ live is.
+pub returns-clause-value : goal.returns-clause-value
+returns-clause-value c = λ live is.
     let has = λ (server : Server). has_number c.args.up.now.numbers server.number in
     let found : None ≡ find has (servers_in c.args.servers.now) = search rules in
     found ∙ find-up live c.args.up.now c.args.servers.now is c.requires c.iter-current-items.ensures.of_tree

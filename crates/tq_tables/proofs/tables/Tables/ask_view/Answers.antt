@@ -1,5 +1,4 @@
 use Rattle.std.proofs.Common.{ap, ◌∙◌}
-use Rattle.std.proofs.lemmas.Result.{on_ok_weaker}
 use Rattle.tq_tables.specs.Reserved.{unready}
 use Rattle.tq_tables.proofs.Beside.{inside-is}
 use Rattle.tq_tables.proofs.tables.Tables.ask_view.Goals as goal
