@@ -165,7 +165,7 @@ fn test_of_reply(one: &NodeReply, other: &NodeReply) -> bool
         NodeReply::Crashed => matches!(other, NodeReply::Crashed),
         NodeReply::Returned => matches!(other, NodeReply::Returned),
         NodeReply::Refused(reason) => match other {
-            NodeReply::Refused(cause) => is_same_reason(*reason.get(), *cause.get()),
+            NodeReply::Refused(cause) => is_same_reason(reason.get(), cause.get()),
             _ => false,
         },
     }

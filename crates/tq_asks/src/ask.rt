@@ -1,6 +1,7 @@
 ghost use Rattle.std.specs.Prelude.{◌≡◌, IfOk};
 ghost use Rattle.tq_asks.specs.Citing as spec;
 
+use crate::Reason;
 use std::alloc::Global;
 use tq_locks::Mode;
 use tq_shape::{ExactClone, Memory, Seq, Shared, SharedSeq};
@@ -128,8 +129,7 @@ pub enum NodeReply {
     Refreshed,
     Crashed,
     Returned,
-    /// The reason stands in a block of its own: in place, one that names a file would make every reply longer.
-    Refused(Shared<NodeRefusal>),
+    Refused(Reason),
 }
 
 impl NodeReply {
@@ -137,11 +137,11 @@ impl NodeReply {
     ///
     /// # Errors
     ///
-    /// Refuses where there is no memory for the reason.
+    /// Refuses where there is no memory for the name of a file.
     pub fn refused(alloc: Global, reason: NodeRefusal) -> Result<NodeReply, Memory>
         ensures { IfOk result (λ reply. reply ≡ NodeReply.Refused reason) }
     {
-        let reason = Shared::new(alloc, reason)?;
+        let reason = Reason::new(alloc, reason)?;
         Ok(NodeReply::Refused(reason))
     }
 }

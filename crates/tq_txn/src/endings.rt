@@ -20,7 +20,7 @@ fn refusal_in(reply: &NodeReply) -> Option<NodeRefusal>
     ensures { result ≡ spec.refusal_in reply.now }
 {
     match reply {
-        NodeReply::Refused(refusal) => Some(*refusal.get()),
+        NodeReply::Refused(refusal) => Some(refusal.get()),
         _ => None,
     }
 }
@@ -201,7 +201,7 @@ fn applied(server: u64, reply: &NodeReply) -> Result<Applied, LineFault>
         NodeReply::Discarded => Ok(Applied::Discarded),
         NodeReply::Refused(refusal) => Err(LineFault::Server {
             server,
-            refusal: *refusal.get(),
+            refusal: refusal.get(),
         }),
         _ => Err(LineFault::WrongReply {
             part: Part::Server(server),

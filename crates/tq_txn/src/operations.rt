@@ -92,7 +92,7 @@ fn granted(mode: Mode, told: NodeTold) -> Result<(Grant, NodeAsk), LineFault>
         }
         NodeReply::Refused(refusal) => Err(LineFault::Server {
             server,
-            refusal: *refusal.get(),
+            refusal: refusal.get(),
         }),
         _ => Err(LineFault::WrongReply {
             part: Part::Server(server),
