@@ -18,6 +18,7 @@ pub fn render(alloc: Global, tables: &Tables, view: &View) -> Result<String, Mem
     ensures { IfOk result (λ text. string_bytes text ≡ board_text tables.now view.now) }
 {
     let mut text = String::new(alloc);
+    text.reserve(room_of(tables))?;
     writeln!(text, "board levels {}", tables.levels().count())?;
     push_server_lines(alloc, &mut text, tables, view)?;
     let locks = tables.locks(alloc)?;
@@ -30,6 +31,14 @@ pub fn render(alloc: Global, tables: &Tables, view: &View) -> Result<String, Mem
     )?;
     text.push_str("end\n")?;
     Ok(text)
+}
+
+/// Room for the text, so that it is not moved as it grows: a line for each server and each file, few of them longer than 64
+/// bytes and three for each server that it may name.
+fn room_of(tables: &Tables) -> usize {
+    let servers = tables.levels().servers() as usize;
+    let lines = servers.saturating_add(tables.files().len());
+    lines.saturating_mul(64 + 3 * servers)
 }
 
 /// Puts a line for each server upwards behind the text.
