@@ -1,4 +1,4 @@
-"""What files, parts and orders have in common: journals as a file, what an audit of them is to say, and the audit itself.
+"""What the scripts of sessions/ have in common: journals as a file, what an audit of them is to say, the audit itself, and one script as another's module.
 
 Journals are those of sessions/plain.py: of each part, which is a server's number, "desk" or "view", a list of entries (ask, reply)."""
 import argparse
@@ -7,6 +7,7 @@ import importlib.util
 import json
 import os
 import subprocess
+import sys
 
 import plain
 
@@ -15,12 +16,19 @@ ROOT = os.path.dirname(HERE)
 BUILT = "crates/tq/out/tq"
 
 
-def walks():
-    """The script sessions/walks as a module."""
-    loader = importlib.machinery.SourceFileLoader("walks", f"{HERE}/walks")
-    made = importlib.util.module_from_spec(importlib.util.spec_from_loader("walks", loader))
+def script(name):
+    """A script of sessions/ as a module."""
+    loader = importlib.machinery.SourceFileLoader(name, f"{HERE}/{name}")
+    made = importlib.util.module_from_spec(importlib.util.spec_from_loader(name, loader))
+    # Where a dataclass looks its module up.
+    sys.modules[name] = made
     loader.exec_module(made)
     return made
+
+
+def walks():
+    """The script sessions/walks as a module."""
+    return script("walks")
 
 
 def given(about, rounds):
