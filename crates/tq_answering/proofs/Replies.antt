@@ -30,6 +30,7 @@ use Rattle.tq_evidence.specs.declared.op.Op.{Op}
 use Rattle.tq_evidence.specs.declared.vote.Vote.{Vote}
 use Rattle.tq_live.specs.Live.{Live, cost_of, is_up, best}
 use Rattle.tq_live.specs.View.{is_server, is_cost, choice_reply, view_reply}
+use Rattle.tq_live.specs.declared.purpose.Purpose.TheVariants as purposes
 use Rattle.tq_live.specs.declared.view.ViewAsk.{ViewAsk}
 use Rattle.tq_live.specs.declared.view.ViewAsk.TheVariants as view_asks
 use Rattle.tq_live.specs.declared.view.ViewReply.{ViewReply}
@@ -239,14 +240,14 @@ mark_replied : (levels server : ℕ) (up there : Bool) → is_server levels serv
 mark_replied levels server up true p = tt
 mark_replied levels server up false p = p
 
-choice_replied : (live : Live) (o : Option (List ℕ)) → best live 1 ≡ o → IsViewReply live.levels (choice_reply live o) view_asks.Choose
-choice_replied live (Some servers) is = (refl, found_in_tree (cost_of live) (is_up live) live.levels servers is)
+choice_replied : (live : Live) (o : Option (List ℕ)) → best live purposes.Read 1 ≡ o → IsViewReply live.levels (choice_reply live purposes.Read o) view_asks.Choose
+choice_replied live (Some servers) is = (refl, found_in_tree (cost_of live purposes.Read) (is_up live) live.levels servers is)
 choice_replied live None is = tt
 
 view_replies_so : (live : Live) (ask : ViewAsk) → IsViewReply live.levels (view_reply live ask) ask
 view_replies_so live (view_asks.SetCost server cost) = cost_replied live.levels server cost (is_server live.levels server) (is_cost cost) refl refl
 view_replies_so live (view_asks.Mark server up) = mark_replied live.levels server up (is_server live.levels server) refl
-view_replies_so live view_asks.Choose = choice_replied live (best live 1) refl
+view_replies_so live view_asks.Choose = choice_replied live (best live purposes.Read 1) refl
 
 -- ---- in any world
 

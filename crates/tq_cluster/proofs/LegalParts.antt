@@ -18,6 +18,7 @@ use Rattle.tq_desk.specs.DeskJournal.{DeskBounds, DeskEntry, IsLegalDesk, step_r
 use Rattle.tq_live.specs.Live.{Live, best}
 use Rattle.tq_live.specs.ViewLaws.{keeps_levels}
 use Rattle.tq_live.specs.View.{view_state, view_reply, view_reply_at, view_after_at, IsLegalView, is_server, is_cost, choice_reply}
+use Rattle.tq_live.specs.declared.purpose.Purpose.TheVariants.{Read}
 use Rattle.tq_live.specs.declared.view.ViewAsk.{ViewAsk}
 use Rattle.tq_live.specs.declared.view.ViewAsk.TheVariants.{SetCost, Mark, Choose}
 use Rattle.tq_live.specs.declared.view.ViewReply.TheVariants.{CostSet, Marked, Refused}
@@ -64,14 +65,14 @@ mark_of_tree : (levels : ℕ) (there : Bool) → IsOfTree levels (cond there Mar
 mark_of_tree levels true = tt
 mark_of_tree levels false = tt
 
-choice_of_tree : (live : Live) (least : Option (List ℕ)) → IsOfTree live.levels (choice_reply live least)
+choice_of_tree : (live : Live) (least : Option (List ℕ)) → IsOfTree live.levels (choice_reply live Read least)
 choice_of_tree live None = refl
 choice_of_tree live (Some servers) = refl
 
 reply_of_tree : (live : Live) (ask : ViewAsk) → IsOfTree live.levels (view_reply live ask)
 reply_of_tree live (SetCost server cost) = cost_of_tree live.levels (is_server live.levels server) (is_cost cost)
 reply_of_tree live (Mark server up) = mark_of_tree live.levels (is_server live.levels server)
-reply_of_tree live Choose = choice_of_tree live (best live 1)
+reply_of_tree live Choose = choice_of_tree live (best live Read 1)
 
 from_tree : (levels : ℕ) (live : Live) (n : ℕ) (entries : List ViewEntry) → live.levels ≡ levels → IsLegalFrom view_reply_at view_after_at live n entries
     → All (λ (entry : ViewEntry). IsOfTree levels entry.reply) entries

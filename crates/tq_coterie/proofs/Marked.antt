@@ -1,11 +1,12 @@
 -- Marks of members, from the leaves up to the root.
-use Rattle.std.proofs.Common.{◌≡◌, ℕ, ◌+◌, ◌-◌, ◌*◌, ◌/◌, ◌%◌, ◌^◌, ◌<◌, ◌≤◌, zero, suc, List, Bool, true, false, ◌||◌, eqb, refl, sym, inl, inr, arith, ap, ◌∙◌, subst, w64}
-use Rattle.std.specs.Prelude.{bit_and, bit_or, min}
+use Rattle.std.proofs.Common.{◌≡◌, ℕ, ◌+◌, ◌-◌, ◌*◌, ◌/◌, ◌%◌, ◌^◌, ◌<◌, ◌≤◌, zero, suc, List, length, Bool, true, false, ◌||◌, eqb, refl, sym, inl, inr, arith, ap, ◌∙◌, subst, w64}
+use Rattle.std.specs.Prelude.{bit_and, bit_or, min, slice_index, slice_set, ◌==◌}
 use Rattle.std.specs.Int.{bit_at}
 use Rattle.std.proofs.lemmas.Bool.{cases_eq, cases_lt, eq-eqb, ne_eqb}
 use Rattle.std.specs.Int.Bits.{mask_lt}
 use Rattle.std.specs.Int.Count.{count_leading_zeros}
 use Rattle.std.proofs.Math.Pow.{pow_mono}
+use Rattle.std.proofs.lemmas.List.{get_or-set_same, get_or-set_other}
 use Rattle.std.proofs.lemmas.Nat.{leading_top}
 use Rattle.std.proofs.lemmas.Nat.Bits.{bit_at_above, bit_at_and, bit_at_ones, bit_at-zero, bit_at_set_same, bit_at_set_other}
 use Rattle.tq_shape.specs.Tree.{left_of, right_of}
@@ -20,28 +21,63 @@ use Rattle.tq_coterie.proofs.Parts.{part_of-leaf, part_of-fork}
 
 -- ---- one mark
 
-pub one_more : (marks server other : ℕ) → server < 64 → is_marked (bit_or marks (1 * 2 ^ server % 2 ^ 64)) other ≡ (eqb server other || is_marked marks other)
-one_more marks server other within =
-    elim (cases_eq server other) [
+-- a server's mark is a bit of its word
+mark-at : (marks : List ℕ) (place bit other : ℕ) → bit < 64 → other ≡ 64 * place + bit → is_marked marks other ≡ (bit_at (slice_index marks place) bit == 1)
+mark-at marks place bit other less is =
+    let word : other / 64 ≡ place = omega (arith, is, less) in
+    let own : other % 64 ≡ bit = omega (arith, is, less) in
+    rw (word, own) refl
+
+no-bit : (word bit : ℕ) → bit_at word bit ≡ 0 → (bit_at word bit == 1) ≡ false
+no-bit word bit none = rw none refl
+
+bit_more : (word bit other : ℕ) → bit < 64 → (bit_at (bit_or word (1 * 2 ^ bit % 2 ^ 64)) other == 1) ≡ (eqb bit other || (bit_at word other == 1))
+bit_more word bit other within =
+    elim (cases_eq bit other) [
       | inl same ↦
-          let set : bit_at (bit_or marks (1 * 2 ^ server % 2 ^ 64)) other ≡ 1 =
-          ap (λ n. bit_at (bit_or marks (1 * 2 ^ server % 2 ^ 64)) n) (sym same) ∙ bit_at_set_same w64 marks server within in
-          rw (set, eq-eqb server other same) refl
+          let set : bit_at (bit_or word (1 * 2 ^ bit % 2 ^ 64)) other ≡ 1 =
+          ap (λ n. bit_at (bit_or word (1 * 2 ^ bit % 2 ^ 64)) n) (sym same) ∙ bit_at_set_same w64 word bit within in
+          rw (set, eq-eqb bit other same) refl
       | inr different ↦
-          rw (bit_at_set_other w64 marks server within other (λ e. different (sym e)), ne_eqb server other different) refl
+          rw (bit_at_set_other w64 word bit within other (λ e. different (sym e)), ne_eqb bit other different) refl
     ]
+
+pub one_more : (marks : List ℕ) (server other : ℕ) → server / 64 < length marks
+    → is_marked (slice_set marks (server / 64) (bit_or (slice_index marks (server / 64)) (1 * 2 ^ (server % 64) % 2 ^ 64))) other ≡ (eqb server other || is_marked marks other)
+one_more marks server other within =
+    let place = server / 64 in
+    let bit = server % 64 in
+    let word = slice_index marks place in
+    let after = bit_or word (1 * 2 ^ bit % 2 ^ 64) in
+    elim (cases_eq place (other / 64)) [
+      | inl same ↦
+          let here : slice_index (slice_set marks place after) (other / 64) ≡ after = ap (slice_index (slice_set marks place after)) (sym same) ∙ get_or-set_same marks place after 0 within in
+          let was : slice_index marks (other / 64) ≡ word = ap (slice_index marks) (sym same) in
+          let test : eqb server other ≡ eqb bit (other % 64) = same_bit server other same in
+          rw (here, was, test) (bit_more word bit (other % 64) (omega arith))
+      | inr different ↦
+          let here : slice_index (slice_set marks place after) (other / 64) ≡ slice_index marks (other / 64) = get_or-set_other marks place (other / 64) after 0 (λ e. different (sym e)) in
+          rw (here, ne_eqb server other (λ e. different (ap (λ n. n / 64) e))) refl
+    ]
+  where
+    same_bit : (server other : ℕ) → server / 64 ≡ other / 64 → eqb server other ≡ eqb (server % 64) (other % 64)
+    same_bit server other same =
+        elim (cases_eq server other) [
+          | inl is ↦ rw (eq-eqb server other is, eq-eqb (server % 64) (other % 64) (ap (λ n. n % 64) is)) refl
+          | inr not ↦ rw (ne_eqb server other not, ne_eqb (server % 64) (other % 64) (λ e. not (omega (arith, same, e)))) refl
+        ]
 
 -- ---- the marks of one server after the other, downwards
 
 -- The marks up to a server are those of the set. Those above it say whether the set has a member of the subtree there
 -- or nothing of it.
-pub record AreRaised (levels : ℕ) (servers : List ℕ) (marks server : ℕ) : Type 0 where
+pub record AreRaised (levels : ℕ) (servers marks : List ℕ) (server : ℕ) : Type 0 where
   pub own : (n : ℕ) → n ≤ server → is_marked marks n ≡ has servers n
   pub members : (n : ℕ) → server < n → n < 2 ^ levels → part_of (height_of levels n) n servers ≡ member_or_empty (is_marked marks n)
   pub inner : 2 * server < 2 ^ levels
 
 -- at first only leaves stand above
-pub raised-leaves : (levels : ℕ) (servers : List ℕ) (marks greatest : ℕ) → greatest + 1 ≡ 2 ^ levels → AreMarksOf marks servers → AreRaised levels servers marks (greatest / 2)
+pub raised-leaves : (levels : ℕ) (servers marks : List ℕ) (greatest : ℕ) → greatest + 1 ≡ 2 ^ levels → AreMarksOf marks servers → AreRaised levels servers marks (greatest / 2)
 raised-leaves levels servers marks greatest is marked = record {
   own = λ n low. marked n;
   members = λ n high within.
@@ -49,7 +85,7 @@ raised-leaves levels servers marks greatest is marked = record {
   inner = omega (arith, is);
 }
 
-pub part_of-marks : (levels : ℕ) (servers : List ℕ) (marks server : ℕ) → 0 < server → AreRaised levels servers marks server → part_of (height_of levels server) server servers ≡ part_at marks server
+pub part_of-marks : (levels : ℕ) (servers marks : List ℕ) (server : ℕ) → 0 < server → AreRaised levels servers marks server → part_of (height_of levels server) server servers ≡ part_at marks server
 part_of-marks levels servers marks server positive raised =
     let left : left_of server < 2 ^ levels = raised.inner in
     let right : right_of server < 2 ^ levels = right_within levels server (omega arith) positive left in
@@ -60,7 +96,7 @@ part_of-marks levels servers marks server positive raised =
     (sym (raised.members (left_of server) (omega arith) left))
     (sym (raised.members (right_of server) (omega arith) right))
 
-pub raised-more : (levels : ℕ) (servers : List ℕ) (marks server after : ℕ) → 0 < server → AreRaised levels servers marks server → IsRaised marks server after → AreRaised levels servers after (server - 1)
+pub raised-more : (levels : ℕ) (servers marks : List ℕ) (server : ℕ) (after : List ℕ) → 0 < server → AreRaised levels servers marks server → IsRaised marks server after → AreRaised levels servers after (server - 1)
 raised-more levels servers marks server after positive raised step = record {
   own = λ n low. step.others n (λ e. omega (arith, e)) ∙ raised.own n (omega arith);
   members = λ n high within.
@@ -75,14 +111,14 @@ raised-more levels servers marks server after positive raised step = record {
 }
 
 -- a server with no mark below it is raised as it is
-bare-raised : (marks server : ℕ) → IsBare marks server → IsRaised marks server marks
+bare-raised : (marks : List ℕ) (server : ℕ) → IsBare marks server → IsRaised marks server marks
 bare-raised marks server bare = record {
   here = rw (bare.own, bare.left, bare.right) refl;
   others = λ other different. refl;
 }
 
 -- and so are all servers with none, one after the other
-pub raised-over : (bare : ℕ) (levels : ℕ) (servers : List ℕ) (marks server next : ℕ) → next + bare ≡ server → ((other : ℕ) → next < other → other ≤ server → IsBare marks other) → AreRaised levels servers marks server → AreRaised levels servers marks next
+pub raised-over : (bare : ℕ) (levels : ℕ) (servers marks : List ℕ) (server next : ℕ) → next + bare ≡ server → ((other : ℕ) → next < other → other ≤ server → IsBare marks other) → AreRaised levels servers marks server → AreRaised levels servers marks next
 raised-over zero levels servers marks server next is bare raised = subst (λ n. AreRaised levels servers marks n) (omega (arith, is)) raised
 raised-over (suc more) levels servers marks server next is bare raised =
     raised-over more levels servers marks (server - 1) next (omega (arith, is)) (λ other above within. bare other above (omega arith))
@@ -90,38 +126,84 @@ raised-over (suc more) levels servers marks server next is bare raised =
 
 -- ---- the last mark below a limit
 
-masked : (marks limit other : ℕ) → other < limit → bit_at (bit_and marks (2 ^ limit - 1)) other ≡ 0 → is_marked marks other ≡ false
-masked marks limit other within none =
-    let both : min (bit_at marks other) 1 ≡ 0 = ap (λ n. min (bit_at marks other) n) (sym (bit_at_ones limit other within)) ∙ sym (bit_at_and marks (2 ^ limit - 1) other) ∙ none in
-    elim (cases_eq (bit_at marks other) 1) [
+masked : (word limit bit : ℕ) → bit < limit → bit_at (bit_and word (2 ^ limit - 1)) bit ≡ 0 → (bit_at word bit == 1) ≡ false
+masked word limit bit within none =
+    let both : min (bit_at word bit) 1 ≡ 0 = ap (λ n. min (bit_at word bit) n) (sym (bit_at_ones limit bit within)) ∙ sym (bit_at_and word (2 ^ limit - 1) bit) ∙ none in
+    elim (cases_eq (bit_at word bit) 1) [
       | inl one ↦
           let P : ℕ → Type 0 = λ n. min n 1 ≡ 0 in
           absurd (omega (arith, subst P one both))
       | inr other_bit ↦
-          ne_eqb (bit_at marks other) 1 other_bit
+          ne_eqb (bit_at word bit) 1 other_bit
     ]
 
-pub none-below : (marks limit other : ℕ) → other < limit → bit_and marks (2 ^ limit - 1) ≡ 0 → is_marked marks other ≡ false
-none-below marks limit other within none = masked marks limit other within (ap (λ n. bit_at n other) none ∙ bit_at-zero other)
+-- What is looked at on the way down: of the word at that place the marks below the limit. None is marked from the next
+-- word on.
+pub record IsLookedAt (marks : List ℕ) (limit place word : ℕ) : Type 0 where
+  pub reach : 64 * place ≤ limit
+  pub fits : word < 2 ^ (limit - 64 * place)
+  pub kept : (bit : ℕ) → bit < 64 → 64 * place + bit < limit → bit_at word bit ≡ 0 → (bit_at (slice_index marks place) bit == 1) ≡ false
+  pub bare : (other : ℕ) → 64 * (place + 1) ≤ other → other < limit → is_marked marks other ≡ false
 
--- the place of the first bit of what is below the limit
-pub record IsLastMark (marks limit place : ℕ) : Type 0 where
-  pub below : place < limit
-  pub last : (other : ℕ) → place < other → other < limit → is_marked marks other ≡ false
+pub looked-first : (marks : List ℕ) (limit : ℕ) → IsLookedAt marks limit (limit / 64) (bit_and (slice_index marks (limit / 64)) (2 ^ (limit % 64) - 1))
+looked-first marks limit =
+    let rest : limit - 64 * (limit / 64) ≡ limit % 64 = omega arith in record {
+      reach = omega arith;
+      fits = rw rest (mask_lt (slice_index marks (limit / 64)) (limit % 64));
+      kept = λ bit less under none. masked (slice_index marks (limit / 64)) (limit % 64) bit (omega (arith, under)) none;
+      bare = λ other above under. absurd (omega (arith, above, under));
+    }
 
-pub last-mark : (marks limit : ℕ) → limit < 64 → 0 < bit_and marks (2 ^ limit - 1) → IsLastMark marks limit (63 - count_leading_zeros 64 (bit_and marks (2 ^ limit - 1)))
-last-mark marks limit within some =
-    let low : ℕ = bit_and marks (2 ^ limit - 1) in
-    let small : low < 2 ^ limit = mask_lt marks limit in
-    let top = leading_top 64 low some (omega (arith, small, pow_mono {i = limit} {j = 64} (omega arith))) in
-    let place : ℕ = top.0 in
-    let is : 63 - count_leading_zeros 64 low ≡ place = omega (arith, top.1) in
+-- where a word has none, no server is marked from its first place on
+none-from : (marks : List ℕ) (limit place word other : ℕ) → IsLookedAt marks limit place word → word ≡ 0 → 64 * place ≤ other → other < limit → is_marked marks other ≡ false
+none-from marks limit place word other looked empty from under =
+    elim (cases_lt other (64 * (place + 1))) [
+      | inl here ↦
+          let bit = other - 64 * place in
+          let none : bit_at word bit ≡ 0 = ap (λ w. bit_at w bit) empty ∙ bit_at-zero bit in
+          mark-at marks place bit other (omega (arith, from, here)) (omega (arith, from)) ∙ looked.kept bit (omega (arith, from, here)) (omega (arith, from, under)) none
+      | inr above ↦ looked.bare other above under
+    ]
+
+pub looked-more : (marks : List ℕ) (limit place word next : ℕ) → IsLookedAt marks limit place word → word ≡ 0 → 0 < place → next ≡ slice_index marks (place - 1) → next < 2 ^ 64
+    → IsLookedAt marks limit (place - 1) next
+looked-more marks limit place word next looked empty some is fits = record {
+  reach = omega (arith, looked.reach);
+  fits = omega (arith, fits, pow_mono {i = 64} {j = limit - 64 * (place - 1)} (omega (arith, looked.reach, some)));
+  kept = λ bit less under none. no-bit (slice_index marks (place - 1)) bit (ap (λ w. bit_at w bit) (sym is) ∙ none);
+  bare = λ other above under. none-from marks limit place word other looked empty (omega (arith, above, some)) under;
+}
+
+-- a server below the limit, above which none is marked
+pub record IsLastMark (marks : List ℕ) (limit server : ℕ) : Type 0 where
+  pub below : server < limit
+  pub last : (other : ℕ) → server < other → other < limit → is_marked marks other ≡ false
+
+pub looked-none : (marks : List ℕ) (limit place word : ℕ) → 0 < limit → IsLookedAt marks limit place word → word ≡ 0 → place ≡ 0 → IsLastMark marks limit 0
+looked-none marks limit place word some looked empty first = record {
+  below = some;
+  last = λ other above under. none-from marks limit place word other looked empty (omega (arith, first)) under;
+}
+
+pub looked-last : (marks : List ℕ) (limit place word : ℕ) → IsLookedAt marks limit place word → 0 < word → word < 2 ^ 64 → IsLastMark marks limit (64 * place + (63 - count_leading_zeros 64 word))
+looked-last marks limit place word looked some small =
+    let top = leading_top 64 word some small in
+    let bit : ℕ = top.0 in
+    let is : 63 - count_leading_zeros 64 word ≡ bit = omega (arith, top.1) in
+    let lower : bit < limit - 64 * place = elim (cases_lt bit (limit - 64 * place)) [
+      | inl lower ↦ lower
+      | inr higher ↦ absurd (omega (arith, looked.fits, top.2, pow_mono {i = limit - 64 * place} {j = bit} (omega (arith, higher))))
+    ] in
     rw is (record {
-      below = elim (cases_lt place limit) [
-        | inl lower ↦ lower
-        | inr higher ↦ absurd (omega (arith, small, top.2, pow_mono {i = limit} {j = place} (omega (arith, higher))))
-      ];
-      last = λ other above under. masked marks limit other under (bit_at_above low (suc place) other top.3 (omega (arith, above)));
+      below = omega (arith, lower);
+      last = λ other above under.
+          elim (cases_lt other (64 * (place + 1))) [
+            | inl here ↦
+                let own = other - 64 * place in
+                let none : bit_at word own ≡ 0 = bit_at_above word (suc bit) own top.3 (omega (arith, above)) in
+                mark-at marks place own other (omega (arith, above, here)) (omega (arith, above)) ∙ looked.kept own (omega (arith, above, here)) (omega (arith, above, under)) none
+            | inr higher ↦ looked.bare other higher under
+          ];
     })
 
 -- ---- what is neither at one server is neither at the root
@@ -168,7 +250,7 @@ neither-up (suc steps) levels server servers most positive within neither =
           neither-up steps levels (server / 2) servers (omega arith) (omega arith) (omega arith) (neither-above levels server servers high within neither)
     ]
 
-pub neither-root : (levels : ℕ) (servers : List ℕ) (marks server : ℕ) → 0 < server → AreRaised levels servers marks server → part_at marks server ≡ Neither → part_of (height_of levels 1) 1 servers ≡ Neither
+pub neither-root : (levels : ℕ) (servers marks : List ℕ) (server : ℕ) → 0 < server → AreRaised levels servers marks server → part_at marks server ≡ Neither → part_of (height_of levels 1) 1 servers ≡ Neither
 neither-root levels servers marks server positive raised neither =
     neither-up server levels server servers (omega arith) positive (omega (arith, raised.inner))
     (part_of-marks levels servers marks server positive raised ∙ neither)

@@ -1,4 +1,5 @@
-ghost use Rattle.std.specs.Prelude.{◌≡◌, ◌+◌, ◌*◌, ◌^◌, ◌<◌, ◌==◌, ◌||◌, ℕ, All, IfSome, IfNone, false};
+ghost use Rattle.std.specs.Prelude.{◌≡◌, ◌+◌, ◌*◌, ◌^◌, ◌<◌, ◌==◌, ◌||◌, ℕ, All, false, slice_index};
+ghost use Rattle.std.specs.Bool.{OnTrue, OnFalse};
 ghost use Rattle.tq_shape.specs.Depth.{height_of};
 ghost use Rattle.tq_coterie.specs.Parts.{part_of};
 ghost use Rattle.tq_coterie.specs.Marks.{is_marked, part_at, AreMarksOf, IsBare, IsRaised};
@@ -6,10 +7,13 @@ ghost use Rattle.tq_coterie.specs.Marks.{is_marked, part_at, AreMarksOf, IsBare,
 use crate::part::{Part, part_of_fork};
 use tq_shape::ServerId;
 
-/// Marks of the servers of a tree, bit n that of server n.
-#[derive(Clone, Copy, Debug)]
+/// How many words hold the marks of the servers of every tree, 64 to a word.
+const WORDS: usize = 16;
+
+/// Marks of the servers of a tree, bit `n % 64` of word `n / 64` that of server n.
+#[derive(Drop)]
 pub(crate) struct Marks {
-    bits: u64,
+    words: [u64; WORDS],
 }
 
 /// How the set of servers stands to the whole tree.
@@ -22,9 +26,8 @@ pub(crate) fn part_under_root(root: ServerId, servers: &[u64]) -> Part
     let mut members = Marks::of(servers);
     let mut server = greatest / 2;
     while server > 0 {
-        match members.raised(server) {
-            Some(after) => members = after,
-            None => return Part::Neither,
+        if !members.raise(server) {
+            return Part::Neither;
         }
         server = members.next_below(server);
     }
@@ -38,39 +41,42 @@ pub(crate) fn part_under_root(root: ServerId, servers: &[u64]) -> Part
 impl Marks {
     /// The marks of these servers.
     fn of(servers: &[u64]) -> Marks
-        requires { All (λ server. server < 64) servers.now }
-        ensures { AreMarksOf result.bits servers.now }
+        requires { All (λ server. server < 1024) servers.now }
+        ensures { AreMarksOf result.words servers.now }
     {
-        let mut marks = Marks { bits: 0 };
+        let mut marks = Marks { words: [0; WORDS] };
         for server in servers {
-            marks = marks.with(*server);
+            marks.put(*server);
         }
         marks
     }
 
-    /// The marks once the server's own mark says whether there is a member of the subtree over it, as those of its
-    /// sides do already. `None` where there are servers of it that are no member.
-    fn raised(self, server: u64) -> Option<Marks>
-        requires { 2 * server + 1 < 64 }
-        ensures raised { IfSome result (λ after. IsRaised self.bits server after.bits) }
-        ensures neither { IfNone result (part_at self.bits server ≡ Part.Neither) }
+    /// Makes the server's own mark say whether there is a member of the subtree over it, as those of its sides do
+    /// already. Answers whether it can: where there are servers of the subtree that are no member, nothing changes.
+    fn raise(&mut self, server: u64) -> bool
+        requires { 2 * server + 1 < 1024 }
+        ensures raised { OnTrue result (IsRaised self.old.words server self.new.words) }
+        ensures neither { OnFalse result (part_at self.old.words server ≡ Part.Neither) }
     {
         let chosen = self.has(server);
         let left = self.has(2 * server);
         let right = self.has(2 * server + 1);
         match part_of_fork(chosen, left, right) {
-            Part::Empty => Some(self),
-            Part::Member => Some(self.with(server)),
-            Part::Neither => None,
+            Part::Empty => true,
+            Part::Member => {
+                self.put(server);
+                true
+            }
+            Part::Neither => false,
         }
     }
 
     /// The greatest server below this one that is marked, or has a side that is; 0 where there is none.
-    fn next_below(self, server: u64) -> u64
+    fn next_below(&self, server: u64) -> u64
         requires positive { 0 < server }
-        requires within { 2 * server < 64 }
+        requires within { 2 * server < 1024 }
         ensures below { result < server }
-        ensures bare { (other : ℕ) → result < other → other < server → IsBare self.bits other }
+        ensures bare { (other : ℕ) → result < other → other < server → IsBare self.now.words other }
     {
         let own = self.last_below(server);
         let above_side = self.last_below(2 * server) / 2;
@@ -78,34 +84,45 @@ impl Marks {
     }
 
     /// The greatest marked server below this one; 0 where there is none.
-    fn last_below(self, server: u64) -> u64
+    fn last_below(&self, server: u64) -> u64
         requires positive { 0 < server }
-        requires within { server < 64 }
+        requires within { server < 1024 }
         ensures below { result < server }
-        ensures last { (other : ℕ) → result < other → other < server → is_marked self.bits other ≡ false }
+        ensures last { (other : ℕ) → result < other → other < server → is_marked self.now.words other ≡ false }
     {
-        let below = self.bits & ((1u64 << server) - 1);
-        if below == 0 {
-            return 0;
+        let mut place = (server / 64) as usize;
+        let mut word = self.word(place) & ((1u64 << (server % 64)) - 1);
+        while word == 0 {
+            if place == 0 {
+                return 0;
+            }
+            place -= 1;
+            word = self.word(place);
         }
-        63 - below.leading_zeros() as u64
+        64 * place as u64 + (63 - word.leading_zeros() as u64)
+    }
+
+    /// The marks of 64 servers.
+    fn word(&self, place: usize) -> u64
+        requires { place < 16 }
+        ensures { result ≡ slice_index self.now.words place }
+    {
+        self.words[place]
     }
 
     /// Whether the server is marked.
-    fn has(self, server: u64) -> bool
-        requires { server < 64 }
-        ensures { result ≡ is_marked self.bits server }
+    fn has(&self, server: u64) -> bool
+        requires { server < 1024 }
+        ensures { result ≡ is_marked self.now.words server }
     {
-        (self.bits >> server) & 1 == 1
+        (self.word((server / 64) as usize) >> (server % 64)) & 1 == 1
     }
 
-    /// The marks with one more.
-    fn with(self, server: u64) -> Marks
-        requires { server < 64 }
-        ensures { (other : ℕ) → is_marked result.bits other ≡ (server == other || is_marked self.bits other) }
+    /// Marks one more server.
+    fn put(&mut self, server: u64)
+        requires { server < 1024 }
+        ensures { (other : ℕ) → is_marked self.new.words other ≡ (server == other || is_marked self.old.words other) }
     {
-        Marks {
-            bits: self.bits | (1u64 << server),
-        }
+        self.words[(server / 64) as usize] |= 1u64 << (server % 64);
     }
 }

@@ -4,16 +4,17 @@ use Rattle.std.proofs.Math.Nat.{pow-suc, div-div-eq-div-mul}
 use Rattle.std.proofs.lemmas.Bool.{eqb-true, eqb-false}
 use Rattle.tq_shape.specs.Tree.{left_of, right_of}
 use Rattle.tq_live.specs.Subtree.{Subtree, Alone, Over}
-use Rattle.tq_live.specs.Kept.{turns_left, under, changed_under, caches_on_way, cost_after, mark_after, top_of, IsComplete}
+use Rattle.tq_live.specs.Kept.{turns_left, under, changed_under, caches_on_way, costs_after, mark_after, top_of, IsComplete}
 use Rattle.tq_live.specs.declared.setting.Setting.{Setting}
+use Rattle.tq_live.specs.declared.costs.Costs.{Costs}
 
 abbrev pub left_side : Subtree → Subtree
-left_side (Alone cost up) = Alone cost up
-left_side (Over cost up left right) = left
+left_side (Alone costs up) = Alone costs up
+left_side (Over costs up left right) = left
 
 abbrev pub right_side : Subtree → Subtree
-right_side (Alone cost up) = Alone cost up
-right_side (Over cost up left right) = right
+right_side (Alone costs up) = Alone costs up
+right_side (Over costs up left right) = right
 
 -- ---- numbers on the way
 
@@ -36,24 +37,24 @@ is_zero steps = grind arith
 back : (steps : ℕ) → suc steps - 1 ≡ steps
 back steps = omega arith
 
-pub under-step : (cost : ℕ) (up : Bool) (left right : Subtree) (steps number : ℕ) → under (Over cost up left right) (suc steps) number ≡ cond (turns_left number steps) (under left steps number) (under right steps number)
-under-step cost up left right steps number =
-    ap (λ b. cond b (Over cost up left right) (cond (turns_left number (suc steps - 1)) (under left (suc steps - 1) number) (under right (suc steps - 1) number))) (is_zero steps)
+pub under-step : (costs : Costs) (up : Bool) (left right : Subtree) (steps number : ℕ) → under (Over costs up left right) (suc steps) number ≡ cond (turns_left number steps) (under left steps number) (under right steps number)
+under-step costs up left right steps number =
+    ap (λ b. cond b (Over costs up left right) (cond (turns_left number (suc steps - 1)) (under left (suc steps - 1) number) (under right (suc steps - 1) number))) (is_zero steps)
     ∙ ap (λ s. cond (turns_left number s) (under left s number) (under right s number)) (back steps)
 
-changed-step : (cost : ℕ) (up : Bool) (left right : Subtree) (steps number : ℕ) (change : Setting) → changed_under (Over cost up left right) (suc steps) number change ≡ cond (turns_left number steps) (Over cost up (changed_under left steps number change) right) (Over cost up left (changed_under right steps number change))
-changed-step cost up left right steps number change =
-    ap (λ b. cond b (Over (cost_after change cost) (mark_after change up) left right) (cond (turns_left number (suc steps - 1)) (Over cost up (changed_under left (suc steps - 1) number change) right) (Over cost up left (changed_under right (suc steps - 1) number change)))) (is_zero steps)
-    ∙ ap (λ s. cond (turns_left number s) (Over cost up (changed_under left s number change) right) (Over cost up left (changed_under right s number change))) (back steps)
+changed-step : (costs : Costs) (up : Bool) (left right : Subtree) (steps number : ℕ) (change : Setting) → changed_under (Over costs up left right) (suc steps) number change ≡ cond (turns_left number steps) (Over costs up (changed_under left steps number change) right) (Over costs up left (changed_under right steps number change))
+changed-step costs up left right steps number change =
+    ap (λ b. cond b (Over (costs_after change costs) (mark_after change up) left right) (cond (turns_left number (suc steps - 1)) (Over costs up (changed_under left (suc steps - 1) number change) right) (Over costs up left (changed_under right (suc steps - 1) number change)))) (is_zero steps)
+    ∙ ap (λ s. cond (turns_left number s) (Over costs up (changed_under left s number change) right) (Over costs up left (changed_under right s number change))) (back steps)
 
-caches-step : (cost : ℕ) (up : Bool) (left right : Subtree) (steps number : ℕ) → caches_on_way (Over cost up left right) (suc steps) number ≡ 1 + cond (turns_left number steps) (caches_on_way left steps number) (caches_on_way right steps number)
-caches-step cost up left right steps number =
+caches-step : (costs : Costs) (up : Bool) (left right : Subtree) (steps number : ℕ) → caches_on_way (Over costs up left right) (suc steps) number ≡ 1 + cond (turns_left number steps) (caches_on_way left steps number) (caches_on_way right steps number)
+caches-step costs up left right steps number =
     ap (λ b. cond b 1 (1 + cond (turns_left number (suc steps - 1)) (caches_on_way left (suc steps - 1) number) (caches_on_way right (suc steps - 1) number))) (is_zero steps)
     ∙ ap (λ s. 1 + cond (turns_left number s) (caches_on_way left s number) (caches_on_way right s number)) (back steps)
 
 pub under-zero : (tree : Subtree) (number : ℕ) → under tree 0 number ≡ tree
-under-zero (Alone cost up) number = refl
-under-zero (Over cost up left right) number = refl
+under-zero (Alone costs up) number = refl
+under-zero (Over costs up left right) number = refl
 
 -- ---- a step further down
 
@@ -62,40 +63,40 @@ chosen side true left right left' right' e f = e
 chosen side false left right left' right' e f = f
 
 pub under-left : (tree : Subtree) (height steps top : ℕ) → IsComplete height tree → steps < height → under tree (suc steps) (left_of top) ≡ left_side (under tree steps top)
-under-left (Alone cost up) height steps top complete low = absurd (omega (arith, complete))
-under-left (Over cost up left right) height zero top complete low =
+under-left (Alone costs up) height steps top complete low = absurd (omega (arith, complete))
+under-left (Over costs up left right) height zero top complete low =
     let here : turns_left (left_of top) 0 ≡ true = grind arith in
-    under-step cost up left right 0 (left_of top)
+    under-step costs up left right 0 (left_of top)
     ∙ (ap (λ turn. cond turn (under left 0 (left_of top)) (under right 0 (left_of top))) here ∙ under-zero left (left_of top))
-under-left (Over cost up left right) height (suc steps) top complete low =
+under-left (Over costs up left right) height (suc steps) top complete low =
     let way = side_way top (left_of top) steps (omega arith) in
     let turn : turns_left (left_of top) (suc steps) ≡ turns_left top steps = ap (λ n. n % 2 == 0) way in
-    under-step cost up left right (suc steps) (left_of top)
+    under-step costs up left right (suc steps) (left_of top)
     ∙ (ap (λ b. cond b (under left (suc steps) (left_of top)) (under right (suc steps) (left_of top))) turn
     ∙ (chosen left_side (turns_left top steps) (under left steps top) (under right steps top) _ _ (under-left left (height - 1) steps top complete.1.0 (omega arith)) (under-left right (height - 1) steps top complete.1.1 (omega arith))
-    ∙ ap left_side (sym (under-step cost up left right steps top))))
+    ∙ ap left_side (sym (under-step costs up left right steps top))))
 
 pub under-right : (tree : Subtree) (height steps top : ℕ) → IsComplete height tree → steps < height → under tree (suc steps) (right_of top) ≡ right_side (under tree steps top)
-under-right (Alone cost up) height steps top complete low = absurd (omega (arith, complete))
-under-right (Over cost up left right) height zero top complete low =
+under-right (Alone costs up) height steps top complete low = absurd (omega (arith, complete))
+under-right (Over costs up left right) height zero top complete low =
     let here : turns_left (right_of top) 0 ≡ false = grind arith in
-    under-step cost up left right 0 (right_of top)
+    under-step costs up left right 0 (right_of top)
     ∙ (ap (λ turn. cond turn (under left 0 (right_of top)) (under right 0 (right_of top))) here ∙ under-zero right (right_of top))
-under-right (Over cost up left right) height (suc steps) top complete low =
+under-right (Over costs up left right) height (suc steps) top complete low =
     let way = side_way top (right_of top) steps (omega arith) in
     let turn : turns_left (right_of top) (suc steps) ≡ turns_left top steps = ap (λ n. n % 2 == 0) way in
-    under-step cost up left right (suc steps) (right_of top)
+    under-step costs up left right (suc steps) (right_of top)
     ∙ (ap (λ b. cond b (under left (suc steps) (right_of top)) (under right (suc steps) (right_of top))) turn
     ∙ (chosen right_side (turns_left top steps) (under left steps top) (under right steps top) _ _ (under-right left (height - 1) steps top complete.1.0 (omega arith)) (under-right right (height - 1) steps top complete.1.1 (omega arith))
-    ∙ ap right_side (sym (under-step cost up left right steps top))))
+    ∙ ap right_side (sym (under-step costs up left right steps top))))
 
 pub complete-under : (tree : Subtree) (height steps number : ℕ) → IsComplete height tree → steps ≤ height → IsComplete (height - steps) (under tree steps number)
-complete-under (Alone cost up) height steps number complete low = omega (arith, complete)
-complete-under (Over cost up left right) height zero number complete low = subst (λ h. IsComplete h (Over cost up left right)) (omega arith) complete
-complete-under (Over cost up left right) height (suc steps) number complete low =
+complete-under (Alone costs up) height steps number complete low = omega (arith, complete)
+complete-under (Over costs up left right) height zero number complete low = subst (λ h. IsComplete h (Over costs up left right)) (omega arith) complete
+complete-under (Over costs up left right) height (suc steps) number complete low =
     let lefts = complete-under left (height - 1) steps number complete.1.0 (omega arith) in
     let rights = complete-under right (height - 1) steps number complete.1.1 (omega arith) in
-    subst (λ t. IsComplete (height - suc steps) t) (sym (under-step cost up left right steps number)) (either (turns_left number steps) lefts rights)
+    subst (λ t. IsComplete (height - suc steps) t) (sym (under-step costs up left right steps number)) (either (turns_left number steps) lefts rights)
   where
     either : (turn : Bool) → IsComplete (height - 1 - steps) (under left steps number) → IsComplete (height - 1 - steps) (under right steps number) → IsComplete (height - suc steps) (cond turn (under left steps number) (under right steps number))
     either true lefts rights = subst (λ h. IsComplete h (under left steps number)) (omega arith) lefts
@@ -104,22 +105,22 @@ complete-under (Over cost up left right) height (suc steps) number complete low 
 -- ---- a change
 
 pub complete-changed : (tree : Subtree) (height steps number : ℕ) (change : Setting) → IsComplete height tree → IsComplete height (changed_under tree steps number change)
-complete-changed (Alone cost up) height steps number change complete = complete
-complete-changed (Over cost up left right) height zero number change complete = complete
-complete-changed (Over cost up left right) height (suc steps) number change complete =
-    subst (λ t. IsComplete height t) (sym (changed-step cost up left right steps number change)) (either (turns_left number steps) (complete-changed left (height - 1) steps number change complete.1.0) (complete-changed right (height - 1) steps number change complete.1.1))
+complete-changed (Alone costs up) height steps number change complete = complete
+complete-changed (Over costs up left right) height zero number change complete = complete
+complete-changed (Over costs up left right) height (suc steps) number change complete =
+    subst (λ t. IsComplete height t) (sym (changed-step costs up left right steps number change)) (either (turns_left number steps) (complete-changed left (height - 1) steps number change complete.1.0) (complete-changed right (height - 1) steps number change complete.1.1))
   where
-    either : (turn : Bool) → IsComplete (height - 1) (changed_under left steps number change) → IsComplete (height - 1) (changed_under right steps number change) → IsComplete height (cond turn (Over cost up (changed_under left steps number change) right) (Over cost up left (changed_under right steps number change)))
+    either : (turn : Bool) → IsComplete (height - 1) (changed_under left steps number change) → IsComplete (height - 1) (changed_under right steps number change) → IsComplete height (cond turn (Over costs up (changed_under left steps number change) right) (Over costs up left (changed_under right steps number change)))
     either true lefts rights = (complete.0, (lefts, complete.1.1))
     either false lefts rights = (complete.0, (complete.1.0, rights))
 
 pub caches-complete : (tree : Subtree) (height steps number : ℕ) → IsComplete height tree → steps ≤ height → caches_on_way tree steps number ≡ steps + 1
-caches-complete (Alone cost up) height steps number complete low = omega (arith, complete)
-caches-complete (Over cost up left right) height zero number complete low = refl
-caches-complete (Over cost up left right) height (suc steps) number complete low =
+caches-complete (Alone costs up) height steps number complete low = omega (arith, complete)
+caches-complete (Over costs up left right) height zero number complete low = refl
+caches-complete (Over costs up left right) height (suc steps) number complete low =
     let lefts = caches-complete left (height - 1) steps number complete.1.0 (omega arith) in
     let rights = caches-complete right (height - 1) steps number complete.1.1 (omega arith) in
-    caches-step cost up left right steps number ∙ either (turns_left number steps) lefts rights
+    caches-step costs up left right steps number ∙ either (turns_left number steps) lefts rights
   where
     either : (turn : Bool) → caches_on_way left steps number ≡ steps + 1 → caches_on_way right steps number ≡ steps + 1 → 1 + cond turn (caches_on_way left steps number) (caches_on_way right steps number) ≡ suc steps + 1
     either true lefts rights = omega arith
@@ -127,24 +128,24 @@ caches-complete (Over cost up left right) height (suc steps) number complete low
 
 -- ---- what is seen after a change
 
--- what the change makes of a cost and a mark
-abbrev pub seen_after : Setting → ℕ × Bool → ℕ × Bool
-seen_after change seen = (cost_after change seen.0, mark_after change seen.1)
+-- what the change makes of the costs and a mark
+abbrev pub seen_after : Setting → Costs × Bool → Costs × Bool
+seen_after change seen = (costs_after change seen.0, mark_after change seen.1)
 
 -- at the server itself
 pub changed-here : (tree : Subtree) (height steps number : ℕ) (change : Setting) → IsComplete height tree → steps ≤ height → top_of (under (changed_under tree steps number change) steps number) ≡ seen_after change (top_of (under tree steps number))
-changed-here (Alone cost up) height steps number change complete low = refl
-changed-here (Over cost up left right) height zero number change complete low = refl
-changed-here (Over cost up left right) height (suc steps) number change complete low =
-    ap (λ t. top_of (under t (suc steps) number)) (changed-step cost up left right steps number change)
+changed-here (Alone costs up) height steps number change complete low = refl
+changed-here (Over costs up left right) height zero number change complete low = refl
+changed-here (Over costs up left right) height (suc steps) number change complete low =
+    ap (λ t. top_of (under t (suc steps) number)) (changed-step costs up left right steps number change)
     ∙ (either (turns_left number steps) refl (changed-here left (height - 1) steps number change complete.1.0 (omega arith)) (changed-here right (height - 1) steps number change complete.1.1 (omega arith))
-    ∙ ap (λ t. seen_after change (top_of t)) (sym (under-step cost up left right steps number)))
+    ∙ ap (λ t. seen_after change (top_of t)) (sym (under-step costs up left right steps number)))
   where
-    either : (turn : Bool) → turns_left number steps ≡ turn → top_of (under (changed_under left steps number change) steps number) ≡ seen_after change (top_of (under left steps number)) → top_of (under (changed_under right steps number change) steps number) ≡ seen_after change (top_of (under right steps number)) → top_of (under (cond turn (Over cost up (changed_under left steps number change) right) (Over cost up left (changed_under right steps number change))) (suc steps) number) ≡ seen_after change (top_of (cond turn (under left steps number) (under right steps number)))
+    either : (turn : Bool) → turns_left number steps ≡ turn → top_of (under (changed_under left steps number change) steps number) ≡ seen_after change (top_of (under left steps number)) → top_of (under (changed_under right steps number change) steps number) ≡ seen_after change (top_of (under right steps number)) → top_of (under (cond turn (Over costs up (changed_under left steps number change) right) (Over costs up left (changed_under right steps number change))) (suc steps) number) ≡ seen_after change (top_of (cond turn (under left steps number) (under right steps number)))
     either true e lefts rights =
-        ap top_of (under-step cost up (changed_under left steps number change) right steps number ∙ ap (λ b. cond b (under (changed_under left steps number change) steps number) (under right steps number)) e) ∙ lefts
+        ap top_of (under-step costs up (changed_under left steps number change) right steps number ∙ ap (λ b. cond b (under (changed_under left steps number change) steps number) (under right steps number)) e) ∙ lefts
     either false e lefts rights =
-        ap top_of (under-step cost up left (changed_under right steps number change) steps number ∙ ap (λ b. cond b (under left steps number) (under (changed_under right steps number change) steps number)) e) ∙ rights
+        ap top_of (under-step costs up left (changed_under right steps number change) steps number ∙ ap (λ b. cond b (under left steps number) (under (changed_under right steps number change) steps number)) e) ∙ rights
 
 -- the same turn at the same height above leads to the same server
 same_way : (n m a b : ℕ) (turn : Bool) → n / 2 ^ suc a ≡ m / 2 ^ suc b → turns_left n a ≡ turn → turns_left m b ≡ turn → n / 2 ^ a ≡ m / 2 ^ b
@@ -163,27 +164,27 @@ same_way n m a b false above e f =
 
 -- at another server
 pub changed-elsewhere : (tree : Subtree) (height a n b m : ℕ) (change : Setting) → IsComplete height tree → a ≤ height → b ≤ height → n / 2 ^ a ≡ m / 2 ^ b → n ≢ m → top_of (under (changed_under tree a n change) b m) ≡ top_of (under tree b m)
-changed-elsewhere (Alone cost up) height a n b m change complete low low' above other =
+changed-elsewhere (Alone costs up) height a n b m change complete low low' above other =
     let a_zero : a ≡ 0 = omega (arith, complete) in
     let b_zero : b ≡ 0 = omega (arith, complete) in
     let n_is : n / 2 ^ a ≡ n = ap (λ s. n / 2 ^ s) a_zero ∙ omega arith in
     let m_is : m / 2 ^ b ≡ m = ap (λ s. m / 2 ^ s) b_zero ∙ omega arith in
     absurd (other (sym n_is ∙ (above ∙ m_is)))
-changed-elsewhere (Over cost up left right) height zero n zero m change complete low low' above other = absurd (other (omega arith))
-changed-elsewhere (Over cost up left right) height zero n (suc b) m change complete low low' above other =
-    ap top_of (under-step (cost_after change cost) (mark_after change up) left right b m ∙ sym (under-step cost up left right b m))
-changed-elsewhere (Over cost up left right) height (suc a) n zero m change complete low low' above other =
-    ap (λ t. top_of (under t 0 m)) (changed-step cost up left right a n change) ∙ either (turns_left n a)
+changed-elsewhere (Over costs up left right) height zero n zero m change complete low low' above other = absurd (other (omega arith))
+changed-elsewhere (Over costs up left right) height zero n (suc b) m change complete low low' above other =
+    ap top_of (under-step (costs_after change costs) (mark_after change up) left right b m ∙ sym (under-step costs up left right b m))
+changed-elsewhere (Over costs up left right) height (suc a) n zero m change complete low low' above other =
+    ap (λ t. top_of (under t 0 m)) (changed-step costs up left right a n change) ∙ either (turns_left n a)
   where
-    either : (turn : Bool) → top_of (under (cond turn (Over cost up (changed_under left a n change) right) (Over cost up left (changed_under right a n change))) 0 m) ≡ (cost, up)
+    either : (turn : Bool) → top_of (under (cond turn (Over costs up (changed_under left a n change) right) (Over costs up left (changed_under right a n change))) 0 m) ≡ (costs, up)
     either true = refl
     either false = refl
-changed-elsewhere (Over cost up left right) height (suc a) n (suc b) m change complete low low' above other =
-    ap (λ t. top_of (under t (suc b) m)) (changed-step cost up left right a n change)
+changed-elsewhere (Over costs up left right) height (suc a) n (suc b) m change complete low low' above other =
+    ap (λ t. top_of (under t (suc b) m)) (changed-step costs up left right a n change)
     ∙ (either (turns_left n a) (turns_left m b) refl refl
     (λ below. changed-elsewhere left (height - 1) a n b m change complete.1.0 (omega arith) (omega arith) below other)
     (λ below. changed-elsewhere right (height - 1) a n b m change complete.1.1 (omega arith) (omega arith) below other)
-    ∙ ap top_of (sym (under-step cost up left right b m)))
+    ∙ ap top_of (sym (under-step costs up left right b m)))
   where
     new_left : Subtree
     new_left = changed_under left a n change
@@ -191,16 +192,16 @@ changed-elsewhere (Over cost up left right) height (suc a) n (suc b) m change co
     new_right : Subtree
     new_right = changed_under right a n change
 
-    either : (p q : Bool) → turns_left n a ≡ p → turns_left m b ≡ q → (n / 2 ^ a ≡ m / 2 ^ b → top_of (under new_left b m) ≡ top_of (under left b m)) → (n / 2 ^ a ≡ m / 2 ^ b → top_of (under new_right b m) ≡ top_of (under right b m)) → top_of (under (cond p (Over cost up new_left right) (Over cost up left new_right)) (suc b) m) ≡ top_of (cond (turns_left m b) (under left b m) (under right b m))
+    either : (p q : Bool) → turns_left n a ≡ p → turns_left m b ≡ q → (n / 2 ^ a ≡ m / 2 ^ b → top_of (under new_left b m) ≡ top_of (under left b m)) → (n / 2 ^ a ≡ m / 2 ^ b → top_of (under new_right b m) ≡ top_of (under right b m)) → top_of (under (cond p (Over costs up new_left right) (Over costs up left new_right)) (suc b) m) ≡ top_of (cond (turns_left m b) (under left b m) (under right b m))
     either true true e f lefts rights =
-        ap top_of (under-step cost up new_left right b m ∙ ap (λ t. cond t (under new_left b m) (under right b m)) f)
+        ap top_of (under-step costs up new_left right b m ∙ ap (λ t. cond t (under new_left b m) (under right b m)) f)
         ∙ (lefts (same_way n m a b true above e f) ∙ ap (λ t. top_of (cond t (under left b m) (under right b m))) (sym f))
     either true false e f lefts rights =
-        ap top_of (under-step cost up new_left right b m ∙ ap (λ t. cond t (under new_left b m) (under right b m)) f)
+        ap top_of (under-step costs up new_left right b m ∙ ap (λ t. cond t (under new_left b m) (under right b m)) f)
         ∙ ap (λ t. top_of (cond t (under left b m) (under right b m))) (sym f)
     either false true e f lefts rights =
-        ap top_of (under-step cost up left new_right b m ∙ ap (λ t. cond t (under left b m) (under new_right b m)) f)
+        ap top_of (under-step costs up left new_right b m ∙ ap (λ t. cond t (under left b m) (under new_right b m)) f)
         ∙ ap (λ t. top_of (cond t (under left b m) (under right b m))) (sym f)
     either false false e f lefts rights =
-        ap top_of (under-step cost up left new_right b m ∙ ap (λ t. cond t (under left b m) (under new_right b m)) f)
+        ap top_of (under-step costs up left new_right b m ∙ ap (λ t. cond t (under left b m) (under new_right b m)) f)
         ∙ (rights (same_way n m a b false above e f) ∙ ap (λ t. top_of (cond t (under left b m) (under right b m))) (sym f))

@@ -9,12 +9,14 @@ use Rattle.tq_shape.specs.Tree.{IsServer, left_of, right_of}
 use Rattle.tq_shape.specs.Depth.{depth_of, height_of}
 use Rattle.tq_shape.proofs.Depth.{depth_of-bounds, depth_of-side}
 use Rattle.tq_live.specs.Least.{least_member, changed, pair}
-use Rattle.tq_live.specs.Live.{Live, cost_of, is_up}
+use Rattle.tq_live.specs.Live.{Live, costs_of, is_up}
 use Rattle.tq_live.specs.Sought.{cost_for, allowed_for, found, found_weight}
 use Rattle.tq_live.specs.Subtree.{Subtree, Alone, Over}
 use Rattle.tq_live.specs.Form.{form_of, by_form}
+use Rattle.tq_live.specs.Costs.{even_costs, no_costs}
+use Rattle.tq_live.specs.declared.costs.Costs.{Costs}
 use Rattle.tq_live.specs.Kept.{allowed_here, with_here, turns_left, weight_here, weight_of, form_in, found_in, under, changed_under, caches_on_way, top_of, IsComplete, StandsAt, even}
-use Rattle.tq_live.specs.LiveOf.{seen_at, cost_at, mark_at, live_of, changed_live, IsAt}
+use Rattle.tq_live.specs.LiveOf.{seen_at, costs_at, mark_at, live_of, changed_live, IsAt}
 use Rattle.tq_live.specs.declared.sought.Sought.{Sought}
 use Rattle.tq_live.specs.declared.sought.Sought.TheVariants.{Quorum, Blocker}
 use Rattle.tq_live.specs.declared.setting.Setting.{Setting}
@@ -42,9 +44,9 @@ way-top number positive =
 
 -- ---- what is seen of one server
 
-pub cost_of-live : (levels : ℕ) (tree : Subtree) (number : ℕ) → IsServer levels number → cost_of (live_of levels tree) number ≡ cost_at tree number
-cost_of-live levels tree number is =
-    get_or-map-range_with_len (cost_at tree) 1 (2 ^ levels - 1) (number - 1) number 0 (omega (arith, is.0, is.1)) (omega (arith, is.0))
+pub costs_of-live : (levels : ℕ) (tree : Subtree) (number : ℕ) → IsServer levels number → costs_of (live_of levels tree) number ≡ costs_at tree number
+costs_of-live levels tree number is =
+    get_or-map-range_with_len (costs_at tree) 1 (2 ^ levels - 1) (number - 1) number no_costs (omega (arith, is.0, is.1)) (omega (arith, is.0))
 
 pub is_up-live : (levels : ℕ) (tree : Subtree) (number : ℕ) → IsServer levels number → is_up (live_of levels tree) number ≡ mark_at tree number
 is_up-live levels tree number is =
@@ -54,14 +56,14 @@ is_up-live levels tree number is =
 
 IsAt-from : (levels : ℕ) (root tree : Subtree) (height top : ℕ) → IsComplete (levels - 1) root → IsComplete height tree → IsServer levels top → depth_of top + height + 1 ≡ levels → under root (depth_of top) top ≡ tree → IsAt (live_of levels root) top tree
 unfolding height_of
-IsAt-from levels root (Alone cost up) height top whole complete is deep at =
+IsAt-from levels root (Alone costs up) height top whole complete is deep at =
     let low : height ≡ 0 = complete in (
       is,
       omega arith,
-      cost_of-live levels root top is ∙ ap (λ t. (top_of t).0) at,
+      costs_of-live levels root top is ∙ ap (λ t. (top_of t).0) at,
       is_up-live levels root top is ∙ ap (λ t. (top_of t).1) at,
     )
-IsAt-from levels root (Over cost up left right) height top whole complete is deep at =
+IsAt-from levels root (Over costs up left right) height top whole complete is deep at =
     let high : 0 < height = complete.0 in
     let depth = depth_of top in
     let bounds = depth_of-bounds top is.0 in
@@ -80,7 +82,7 @@ IsAt-from levels root (Over cost up left right) height top whole complete is dee
       is,
       omega arith,
       omega arith,
-      cost_of-live levels root top is ∙ ap (λ t. (top_of t).0) at,
+      costs_of-live levels root top is ∙ ap (λ t. (top_of t).0) at,
       is_up-live levels root top is ∙ ap (λ t. (top_of t).1) at,
       IsAt-from levels root left (height - 1) (left_of top) whole complete.1.0 left_is (omega arith) left_at,
       IsAt-from levels root right (height - 1) (right_of top) whole complete.1.1 right_is (omega arith) right_at,
@@ -95,12 +97,12 @@ IsAt-under levels root top whole is =
 -- ---- what is found there
 
 pub StandsAt-IsAt : (live : Live) (top : ℕ) (tree : Subtree) → IsAt live top tree → StandsAt live.levels top tree
-StandsAt-IsAt live top (Alone cost up) at = at.0
-StandsAt-IsAt live top (Over cost up left right) at = (at.0, (StandsAt-IsAt live (left_of top) left at.5, StandsAt-IsAt live (right_of top) right at.6))
+StandsAt-IsAt live top (Alone costs up) at = at.0
+StandsAt-IsAt live top (Over costs up left right) at = (at.0, (StandsAt-IsAt live (left_of top) left at.5, StandsAt-IsAt live (right_of top) right at.6))
 
-same_here : (live : Live) (sought : Sought) (top cost : ℕ) (up : Bool) → cost_of live top ≡ cost → is_up live top ≡ up → weight_here sought cost up ≡ top_weight (cost_for live sought) (allowed_for live sought) top
-same_here live Quorum top cost up e f = rw (← e, ← f) refl
-same_here live Blocker top cost up e f = either up ∙ ap none_at (sym f)
+same_here : (live : Live) (sought : Sought) (top : ℕ) (costs : Costs) (up : Bool) → costs_of live top ≡ costs → is_up live top ≡ up → weight_here sought costs up ≡ top_weight (cost_for live sought) (allowed_for live sought) top
+same_here live (Quorum purpose) top costs up e f = rw (← e, ← f) refl
+same_here live Blocker top costs up e f = either up ∙ ap none_at (sym f)
   where
     none_at : Bool → Option ℕ
     none_at mark = cond (not mark) (Some 0) None
@@ -110,33 +112,33 @@ same_here live Blocker top cost up e f = either up ∙ ap none_at (sym f)
     either false = refl
 
 pub weight_of-IsAt : (live : Live) (sought : Sought) (top : ℕ) (tree : Subtree) → IsAt live top tree → weight_of sought tree ≡ found_weight live sought top
-weight_of-IsAt live sought top (Alone cost up) at =
+weight_of-IsAt live sought top (Alone costs up) at =
     let height = height_of live.levels top in
-    same_here live sought top cost up at.2 at.3
+    same_here live sought top costs up at.2 at.3
     ∙ (sym (least_weight-leaf (cost_for live sought) (allowed_for live sought) top)
     ∙ ap (λ h. least_weight (cost_for live sought) (allowed_for live sought) h top) (sym at.1))
-weight_of-IsAt live sought top (Over cost up left right) at =
-    let here = weight_here sought cost up in
+weight_of-IsAt live sought top (Over costs up left right) at =
+    let here = weight_here sought costs up in
     let l = weight_of sought left in
     let r = weight_of sought right in
     least_weight-from (cost_for live sought) (allowed_for live sought) (height_of live.levels top) (height_of live.levels (left_of top)) (height_of live.levels (right_of top)) top (left_of top) (right_of top)
-    here l r (weight_of sought (Over cost up left right))
+    here l r (weight_of sought (Over costs up left right))
     at.1 at.2 refl refl
-    (same_here live sought top cost up at.3 at.4)
+    (same_here live sought top costs up at.3 at.4)
     (weight_of-IsAt live sought (left_of top) left at.5)
     (weight_of-IsAt live sought (right_of top) right at.6)
     refl
 
 top_found : (live : Live) (sought : Sought) (top : ℕ) (up : Bool) (set : Option (List ℕ)) → is_up live top ≡ up → cond (allowed_here sought up) set None ≡ cond (allowed_for live sought top) set None
-top_found live Quorum top up set f = ap (λ b. cond b set None) (sym f)
+top_found live (Quorum purpose) top up set f = ap (λ b. cond b set None) (sym f)
 top_found live Blocker top up set f = ap (λ b. cond (not b) set None) (sym f)
 
 pub found_in-IsAt : (live : Live) (sought : Sought) (top : ℕ) (tree : Subtree) → IsAt live top tree → found_in sought top tree ≡ found live sought top
-found_in-IsAt live sought top (Alone cost up) at =
+found_in-IsAt live sought top (Alone costs up) at =
     top_found live sought top up (Some (top ∷ [])) at.3
     ∙ (sym (least_member-leaf (cost_for live sought) (allowed_for live sought) top)
     ∙ ap (λ h. least_member (cost_for live sought) (allowed_for live sought) h top) (sym at.1))
-found_in-IsAt live sought top (Over cost up left right) at =
+found_in-IsAt live sought top (Over costs up left right) at =
     let weigh = cost_for live sought in
     let allowed = allowed_for live sought in
     let height = height_of live.levels top in
@@ -146,12 +148,12 @@ found_in-IsAt live sought top (Over cost up left right) at =
     let in_right = found_in sought (right_of top) right in
     let found_left = least_member weigh allowed below (left_of top) in
     let found_right = least_member weigh allowed other (right_of top) in
-    let form = form_in sought (Over cost up left right) in
+    let form = form_in sought (Over costs up left right) in
     let lefts : in_left ≡ found_left = found_in-IsAt live sought (left_of top) left at.5 in
     let rights : in_right ≡ found_right = found_in-IsAt live sought (right_of top) right at.6 in
     let fork : IsFork weigh allowed height top below (left_of top) other (right_of top) = record { left_height = at.1; right_height = at.2; left_is = refl; right_is = refl } in
     let form_is : form ≡ form_of (top_weight weigh allowed top) (least_weight weigh allowed below (left_of top)) (least_weight weigh allowed other (right_of top)) =
-    rw (same_here live sought top cost up at.3 at.4, weight_of-IsAt live sought (left_of top) left at.5, weight_of-IsAt live sought (right_of top) right at.6) refl in
+    rw (same_here live sought top costs up at.3 at.4, weight_of-IsAt live sought (left_of top) left at.5, weight_of-IsAt live sought (right_of top) right at.6) refl in
     let one : with_here sought up top in_left ≡ with_top allowed top found_left = top_found live sought top up (changed (λ set. top ∷ set) in_left) at.4 ∙ ap (with_top allowed top) lefts in
     let two : with_here sought up top in_right ≡ with_top allowed top found_right = top_found live sought top up (changed (λ set. top ∷ set) in_right) at.4 ∙ ap (with_top allowed top) rights in
     ap (λ a. by_form form a (with_here sought up top in_right) (pair in_left in_right)) one
@@ -198,45 +200,45 @@ set_range f g value changed first (suc count) (suc place) at each =
     let tail = set_range f g value changed (first + 1) count place (omega arith) (λ number after before. each number (omega arith) (omega arith)) in
     rw (head, tail) refl
 
-same_live : (levels : ℕ) (costs others : List ℕ) (up marks : List Bool) → costs ≡ others → up ≡ marks → let live : Live = record { levels = levels; costs = costs; up = up } in let other : Live = record { levels = levels; costs = others; up = marks } in live ≡ other
+same_live : (levels : ℕ) (costs others : List Costs) (up marks : List Bool) → costs ≡ others → up ≡ marks → let live : Live = record { levels = levels; costs = costs; up = up } in let other : Live = record { levels = levels; costs = others; up = marks } in live ≡ other
 same_live levels costs others up marks same also = rw (same, also) refl
 
-pub live_of-cost : (levels : ℕ) (root : Subtree) (number cost : ℕ) → IsComplete (levels - 1) root → IsServer levels number → live_of levels (changed_under root (depth_of number) number (Cost cost)) ≡ record (live_of levels root) { costs = set (live_of levels root).costs (number - 1) cost }
-live_of-cost levels root number cost whole is =
-    let after = changed_under root (depth_of number) number (Cost cost) in
+pub live_of-cost : (levels : ℕ) (root : Subtree) (number : ℕ) (costs : Costs) → IsComplete (levels - 1) root → IsServer levels number → live_of levels (changed_under root (depth_of number) number (Cost costs)) ≡ record (live_of levels root) { costs = set (live_of levels root).costs (number - 1) costs }
+live_of-cost levels root number costs whole is =
+    let after = changed_under root (depth_of number) number (Cost costs) in
     same_live levels _ _ _ _
-    (set_range (cost_at root) (cost_at after) cost number 1 (2 ^ levels - 1) (number - 1) (omega (arith, is.0))
-    (λ other from below. ap (λ s. s.0) (seen_at-changed levels root number other (Cost cost) whole is (from, omega (arith, pow_pos levels)))
-    ∙ first_of (number == other) (seen_after (Cost cost) (seen_at root number)) (seen_at root other)))
+    (set_range (costs_at root) (costs_at after) costs number 1 (2 ^ levels - 1) (number - 1) (omega (arith, is.0))
+    (λ other from below. ap (λ s. s.0) (seen_at-changed levels root number other (Cost costs) whole is (from, omega (arith, pow_pos levels)))
+    ∙ first_of (number == other) (seen_after (Cost costs) (seen_at root number)) (seen_at root other)))
     (same_range (mark_at after) (mark_at root) 1 (2 ^ levels - 1)
-    (λ other from below. ap (λ s. s.1) (seen_at-changed levels root number other (Cost cost) whole is (from, omega (arith, pow_pos levels)))
+    (λ other from below. ap (λ s. s.1) (seen_at-changed levels root number other (Cost costs) whole is (from, omega (arith, pow_pos levels)))
     ∙ same_mark other (cases_eq number other)))
   where
-    first_of : (b : Bool) (x y : ℕ × Bool) → (cond b x y).0 ≡ cond b x.0 y.0
+    first_of : (b : Bool) (x y : Costs × Bool) → (cond b x y).0 ≡ cond b x.0 y.0
     first_of true x y = refl
     first_of false x y = refl
 
-    same_mark : (other : ℕ) → (number ≡ other) ⊎ (number ≢ other) → (cond (number == other) (seen_after (Cost cost) (seen_at root number)) (seen_at root other)).1 ≡ mark_at root other
-    same_mark other (inl same) = ap (λ b. (cond b (seen_after (Cost cost) (seen_at root number)) (seen_at root other)).1) (eq-eqb number other same) ∙ ap (mark_at root) same
-    same_mark other (inr differ) = ap (λ b. (cond b (seen_after (Cost cost) (seen_at root number)) (seen_at root other)).1) (ne_eqb number other differ)
+    same_mark : (other : ℕ) → (number ≡ other) ⊎ (number ≢ other) → (cond (number == other) (seen_after (Cost costs) (seen_at root number)) (seen_at root other)).1 ≡ mark_at root other
+    same_mark other (inl same) = ap (λ b. (cond b (seen_after (Cost costs) (seen_at root number)) (seen_at root other)).1) (eq-eqb number other same) ∙ ap (mark_at root) same
+    same_mark other (inr differ) = ap (λ b. (cond b (seen_after (Cost costs) (seen_at root number)) (seen_at root other)).1) (ne_eqb number other differ)
 
 pub live_of-mark : (levels : ℕ) (root : Subtree) (number : ℕ) (up : Bool) → IsComplete (levels - 1) root → IsServer levels number → live_of levels (changed_under root (depth_of number) number (Mark up)) ≡ record (live_of levels root) { up = set (live_of levels root).up (number - 1) up }
 live_of-mark levels root number up whole is =
     let after = changed_under root (depth_of number) number (Mark up) in
     same_live levels _ _ _ _
-    (same_range (cost_at after) (cost_at root) 1 (2 ^ levels - 1)
+    (same_range (costs_at after) (costs_at root) 1 (2 ^ levels - 1)
     (λ other from below. ap (λ s. s.0) (seen_at-changed levels root number other (Mark up) whole is (from, omega (arith, pow_pos levels)))
     ∙ same_cost other (cases_eq number other)))
     (set_range (mark_at root) (mark_at after) up number 1 (2 ^ levels - 1) (number - 1) (omega (arith, is.0))
     (λ other from below. ap (λ s. s.1) (seen_at-changed levels root number other (Mark up) whole is (from, omega (arith, pow_pos levels)))
     ∙ second_of (number == other) (seen_after (Mark up) (seen_at root number)) (seen_at root other)))
   where
-    second_of : (b : Bool) (x y : ℕ × Bool) → (cond b x y).1 ≡ cond b x.1 y.1
+    second_of : (b : Bool) (x y : Costs × Bool) → (cond b x y).1 ≡ cond b x.1 y.1
     second_of true x y = refl
     second_of false x y = refl
 
-    same_cost : (other : ℕ) → (number ≡ other) ⊎ (number ≢ other) → (cond (number == other) (seen_after (Mark up) (seen_at root number)) (seen_at root other)).0 ≡ cost_at root other
-    same_cost other (inl same) = ap (λ b. (cond b (seen_after (Mark up) (seen_at root number)) (seen_at root other)).0) (eq-eqb number other same) ∙ ap (cost_at root) same
+    same_cost : (other : ℕ) → (number ≡ other) ⊎ (number ≢ other) → (cond (number == other) (seen_after (Mark up) (seen_at root number)) (seen_at root other)).0 ≡ costs_at root other
+    same_cost other (inl same) = ap (λ b. (cond b (seen_after (Mark up) (seen_at root number)) (seen_at root other)).0) (eq-eqb number other same) ∙ ap (costs_at root) same
     same_cost other (inr differ) = ap (λ b. (cond b (seen_after (Mark up) (seen_at root number)) (seen_at root other)).0) (ne_eqb number other differ)
 
 -- ---- a new tree
@@ -251,13 +253,13 @@ complete-even (suc height) =
 pub complete-new : (levels : ℕ) → IsComplete (levels - 1) (even (levels - 1))
 complete-new levels = complete-even (levels - 1)
 
-seen-even : (height steps number : ℕ) → top_of (under (even height) steps number) ≡ (1, true)
+seen-even : (height steps number : ℕ) → top_of (under (even height) steps number) ≡ (even_costs 1, true)
 seen-even zero steps number = refl
 seen-even (suc height) zero number = refl
 seen-even (suc height) (suc steps) number =
-    ap top_of (under-step 1 true (even height) (even height) steps number) ∙ either (turns_left number steps) (seen-even height steps number)
+    ap top_of (under-step (even_costs 1) true (even height) (even height) steps number) ∙ either (turns_left number steps) (seen-even height steps number)
   where
-    either : (turn : Bool) → top_of (under (even height) steps number) ≡ (1, true) → top_of (cond turn (under (even height) steps number) (under (even height) steps number)) ≡ (1, true)
+    either : (turn : Bool) → top_of (under (even height) steps number) ≡ (even_costs 1, true) → top_of (cond turn (under (even height) steps number) (under (even height) steps number)) ≡ (even_costs 1, true)
     either true below = below
     either false below = below
 
@@ -265,14 +267,14 @@ replicate_range : {A : Type 0} (value : A) (first count : ℕ) → map (λ n. va
 replicate_range value first zero = refl
 replicate_range value first (suc count) = ap (λ rest. value ∷ rest) (replicate_range value (first + 1) count)
 
-pub live_of-even : (levels height : ℕ) → let new : Live = record { levels = levels; costs = replicate (2 ^ levels - 1) 1; up = replicate (2 ^ levels - 1) true } in live_of levels (even height) ≡ new
+pub live_of-even : (levels height : ℕ) → let new : Live = record { levels = levels; costs = replicate (2 ^ levels - 1) (even_costs 1); up = replicate (2 ^ levels - 1) true } in live_of levels (even height) ≡ new
 live_of-even levels height =
     same_live levels _ _ _ _
-    (same_range (cost_at (even height)) (λ n. 1) 1 (2 ^ levels - 1) (λ n from below. ap (λ s. s.0) (seen-even height (depth_of n) n)) ∙ replicate_range 1 1 (2 ^ levels - 1))
+    (same_range (costs_at (even height)) (λ n. even_costs 1) 1 (2 ^ levels - 1) (λ n from below. ap (λ s. s.0) (seen-even height (depth_of n) n)) ∙ replicate_range (even_costs 1) 1 (2 ^ levels - 1))
     (same_range (mark_at (even height)) (λ n. true) 1 (2 ^ levels - 1) (λ n from below. ap (λ s. s.1) (seen-even height (depth_of n) n)) ∙ replicate_range true 1 (2 ^ levels - 1))
 
 pub live_of-changed : (levels : ℕ) (root : Subtree) (number : ℕ) (change : Setting) → IsComplete (levels - 1) root → IsServer levels number → live_of levels (changed_under root (depth_of number) number change) ≡ changed_live (live_of levels root) number change
-live_of-changed levels root number (Cost cost) whole is = live_of-cost levels root number cost whole is
+live_of-changed levels root number (Cost costs) whole is = live_of-cost levels root number costs whole is
 live_of-changed levels root number (Mark up) whole is = live_of-mark levels root number up whole is
 
 -- ---- the same, of a tree that is seen so

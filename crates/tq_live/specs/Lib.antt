@@ -1,6 +1,8 @@
 pub use Rattle.tq_shape.specs.Tree
 pub use Rattle.tq_shape.specs.Depth
 pub use Rattle.tq_coterie.specs.Coterie
+pub mod Purposes
+pub mod Costs
 pub mod Least
 pub mod Weights
 pub mod Live
@@ -13,6 +15,6 @@ pub mod Subtree
 pub mod Kept
 pub mod Below
 pub mod LiveOf
-pub mod Bits
+pub mod Collected
 pub mod ViewChanges
 pub mod ViewLaws

@@ -1,3 +1,4 @@
+use crate::costs::Costs;
 use tq_coterie::Quorum;
 use tq_shape::ServerId;
 
@@ -6,8 +7,8 @@ use tq_shape::ServerId;
 pub enum ViewChange {
     /// The ask is refused, or only looks.
     Nothing,
-    /// The server has this cost, which is one that a server may have.
-    Cost { server: ServerId, cost: u64 },
+    /// The server has these costs, which are ones that a server may have.
+    Cost { server: ServerId, costs: Costs },
     /// The server has this mark.
     Mark { server: ServerId, up: bool },
     /// Costs and marks stay. This quorum was chosen, and the next choice of the same one shares its list.

@@ -2,13 +2,14 @@
 #![tactic(auto)]
 
 mod answers;
-mod bits;
 mod cache;
 mod change;
 mod choice;
-mod cost;
+mod costs;
 mod least;
+mod listed;
 mod node;
+mod purpose;
 mod setting;
 mod sought;
 mod tree;
@@ -18,8 +19,9 @@ mod weight;
 
 pub use change::ViewChange;
 pub use choice::Choice;
-pub use cost::{BadCost, MOST_COST, is_cost};
+pub use costs::{BadCost, Costs, MOST_COST, is_cost};
 pub use least::Least;
+pub use purpose::Purpose;
 pub use tree::LiveTree;
 pub use turns::Turns;
 pub use view::{View, ViewAsk, ViewRefusal, ViewReply};

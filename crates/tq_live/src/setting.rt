@@ -1,6 +1,8 @@
+use crate::costs::Costs;
+
 /// What is set anew at a server.
 #[derive(Clone, Copy, Debug, PartialEq, Eq)]
 pub(crate) enum Setting {
-    Cost(u64),
+    Cost(Costs),
     Mark(bool),
 }

@@ -3,11 +3,12 @@ ghost use Rattle.std.specs.Bool.{OnTrue, OnFalse};
 ghost use Rattle.tq_shape.specs.Depth.{depth_of};
 ghost use Rattle.tq_coterie.specs.Coterie.{IsMemberList, is_same, servers_of, numbers_of};
 
-use crate::bits::listed;
 use crate::choice::Choice;
-use crate::cost::{BadCost, is_cost};
+use crate::costs::{BadCost, Costs, is_cost};
 use crate::least::Least;
+use crate::listed::listed;
 use crate::node::Node;
+use crate::purpose::Purpose;
 use crate::setting::Setting;
 use crate::sought::Sought;
 use crate::turns::Turns;
@@ -46,16 +47,17 @@ impl LiveTree {
     ghost use Rattle.std.specs.Bool.{OnTrue, OnFalse};
     ghost use Rattle.tq_shape.specs.Depth.{depth_of};
     ghost use Rattle.tq_coterie.specs.Coterie.{IsMemberList, is_same, servers_of, numbers_of};
-    ghost use Rattle.tq_live.specs.Live.{best, best_cost, blocker, cost_of, is_up, members_up, HasQuorumOrBlocker, HasQuorumOrBlockerUnder};
+    ghost use Rattle.tq_live.specs.Live.{best, best_cost, blocker, costs_of, is_up, members_up, HasQuorumOrBlocker, HasQuorumOrBlockerUnder};
     ghost use Rattle.tq_live.specs.LiveOf.{IsAt, changed_live};
-    ghost use Rattle.tq_live.specs.Kept.{cost_after};
+    ghost use Rattle.tq_live.specs.Kept.{costs_after};
+    ghost use Rattle.tq_live.specs.Costs.{AreLow, even_costs, no_costs};
     ghost use Rattle.tq_live.specs.Sought.{found};
     ghost use Rattle.tq_live.specs.Choice.{IsChoice, IsFirstChoice};
     ghost use Rattle.tq_live.specs.BestOf.{IsBestOf, IsFirstOf};
 
-    /// Every server at cost 1 and up.
+    /// Every server at cost 1 for each purpose and up.
     pub fn new(alloc: Global, levels: Levels) -> Result<LiveTree, Memory>
-        ensures { IfOk result (λ tree. tree ≡ record { levels = levels; costs = replicate (2 ^ levels - 1) 1; up = replicate (2 ^ levels - 1) true }) }
+        ensures { IfOk result (λ tree. tree ≡ record { levels = levels; costs = replicate (2 ^ levels - 1) (even_costs 1); up = replicate (2 ^ levels - 1) true }) }
     {
         let root = Node::new(alloc, levels.count() - 1)?;
         Ok(LiveTree { levels, root })
@@ -77,10 +79,10 @@ impl LiveTree {
         self.levels
     }
 
-    /// The cost of a server of this tree.
-    pub fn cost(&self, server: ServerId) -> u64
+    /// The costs of a server of this tree.
+    pub fn costs(&self, server: ServerId) -> Costs
         requires { server.levels ≡ self.now.levels }
-        ensures { result ≡ cost_of self.now server.number }
+        ensures { result ≡ costs_of self.now server.number }
     {
         self.node(server).top().0
     }
@@ -93,38 +95,42 @@ impl LiveTree {
         self.node(server).top().1
     }
 
-    /// Sets the cost of a server of this tree. A cost that is not from 1 to 1,000,000 is refused, and nothing
+    /// Sets the costs of a server of this tree. Where one is not from 1 to 1,000,000, both are refused, and nothing
     /// changes. It takes no memory. The caches of the server and of each server above it are written, and no others.
     pub fn set_cost(
         &mut self,
         server: ServerId,
-        cost: u64,
+        read: u64,
+        write: u64,
         turns: &mut Turns,
     ) -> Result<(), BadCost>
         requires tree { server.levels ≡ self.old.levels }
         requires room { turns.old + self.old.levels < 2 ^ 64 }
-        ensures ok { IsOk result ↔ ((1 ≤ cost) × (cost ≤ 1000000)) }
-        ensures set { OnOk result (self.new ≡ record self.old { costs = slice_set self.old.costs (server.number - 1) cost }) }
+        ensures ok { IsOk result ↔ ((1 ≤ read) × (read ≤ 1000000) × (1 ≤ write) × (write ≤ 1000000)) }
+        ensures set { OnOk result (self.new ≡ record self.old { costs = slice_set self.old.costs (server.number - 1) (record { read = read; write = write }) }) }
         ensures unchanged { OnErr result (self.new ≡ self.old) }
         ensures turns { OnOk result (turns.new ≡ turns.old + (depth_of server.number + 1)) }
         ensures no_turns { OnErr result (turns.new ≡ turns.old) }
     {
-        if !is_cost(cost) {
+        if !is_cost(read) {
             return Err(BadCost);
         }
-        self.put_cost(server, cost, turns);
+        if !is_cost(write) {
+            return Err(BadCost);
+        }
+        self.put_costs(server, Costs { read, write }, turns);
         Ok(())
     }
 
-    /// Sets the cost of a server of this tree to one that a server may have.
-    pub(crate) fn put_cost(&mut self, server: ServerId, cost: u64, turns: &mut Turns)
+    /// Sets the costs of a server of this tree to ones that a server may have.
+    pub(crate) fn put_costs(&mut self, server: ServerId, costs: Costs, turns: &mut Turns)
         requires server { server.levels ≡ self.old.levels }
-        requires cost { cost ≤ 1000000 }
+        requires cost { AreLow costs }
         requires room { turns.old + self.old.levels < 2 ^ 64 }
-        ensures set { self.new ≡ record self.old { costs = slice_set self.old.costs (server.number - 1) cost } }
+        ensures set { self.new ≡ record self.old { costs = slice_set self.old.costs (server.number - 1) costs } }
         ensures turns { turns.new ≡ turns.old + (depth_of server.number + 1) }
     {
-        self.change(server, Setting::Cost(cost), turns);
+        self.change(server, Setting::Cost(costs), turns);
     }
 
     /// Marks a server of this tree up or down. It takes no memory. The caches of the server and of each server above
@@ -141,7 +147,7 @@ impl LiveTree {
     /// Makes the change at the server.
     fn change(&mut self, server: ServerId, change: Setting, turns: &mut Turns)
         requires tree { server.levels ≡ self.old.levels }
-        requires cost { cost_after change 0 ≤ 1000000 }
+        requires cost { AreLow (costs_after change no_costs) }
         requires room { turns.old + self.old.levels < 2 ^ 64 }
         ensures set { self.new ≡ changed_live self.old server.number change }
         ensures turns { turns.new ≡ turns.old + (depth_of server.number + 1) }
@@ -155,36 +161,34 @@ impl LiveTree {
     /// The node of the server.
     fn node(&self, server: ServerId) -> &Node
         requires { server.levels ≡ self.now.levels }
-        ensures at { IsAt self.now server.number result.now }
-        ensures small { 2 ^ self.now.levels ≤ 64 }
+        ensures { IsAt self.now server.number result.now }
     {
         let _levels = self.levels.count();
-        let _servers = self.levels.servers();
         let steps = server.depth();
         let number = server.number();
         self.root.under(steps, number)
     }
 
-    /// The cost of the first quorum of least cost of the server's subtree, among those that are up. It takes no
+    /// For the purpose, the cost of the first quorum of least cost of the server's subtree, among those that are up. It takes no
     /// memory. The server is one of this tree.
-    pub fn best_cost(&self, server: ServerId) -> Option<u64>
+    pub fn best_cost(&self, purpose: Purpose, server: ServerId) -> Option<u64>
         requires { server.levels ≡ self.now.levels }
-        ensures { result ≡ best_cost self.now server.number }
+        ensures { result ≡ best_cost self.now purpose server.number }
     {
-        self.node(server).least().get()
+        self.node(server).least(purpose).get()
     }
 
-    /// What is looked for in the server's subtree, where it is there. It takes no memory.
-    fn gathered(&self, sought: Sought, server: ServerId) -> ServerSet
+    /// Puts the servers of what is looked for in the server's subtree, where it is there, into a set of none. It takes no
+    /// memory.
+    fn gather_into(&self, sought: Sought, server: ServerId, set: &mut ServerSet)
         requires tree { server.levels ≡ self.now.levels }
+        requires empty { set.old ≡ record { levels = self.now.levels; numbers = [] } }
         requires there { IsSome (found self.now sought server.number) }
-        ensures set { found self.now sought server.number ≡ Some result.numbers }
-        ensures tree { result.levels ≡ self.now.levels }
+        ensures found { found self.now sought server.number ≡ Some set.new.numbers }
+        ensures levels { set.new.levels ≡ self.now.levels }
     {
         let number = server.number();
-        let levels = server.levels();
-        let bits = self.node(server).gather(sought, number);
-        ServerSet::of_bits(levels, bits)
+        self.node(server).gather(sought, number, set);
     }
 
     /// The same as a list.
@@ -199,80 +203,84 @@ impl LiveTree {
         ensures set { IfOk result (λ ids. found self.now sought server.number ≡ Some (numbers_of ids.items)) }
         ensures tree { IfOk result (λ ids. ids.items ≡ servers_of self.now.levels (numbers_of ids.items)) }
     {
-        let servers = self.gathered(sought, server);
+        let mut servers = ServerSet::new(alloc, self.levels)?;
+        self.gather_into(sought, server, &mut servers);
         listed(alloc, &servers)
     }
 
-    /// As `best`. It takes no memory.
-    fn best_of(&self, server: ServerId) -> Option<Least>
+    /// For the purpose, the first quorum of least cost of the server's subtree with its cost, among those that are up, if
+    /// there is one. The server is one of this tree.
+    pub fn best(
+        &self,
+        alloc: Global,
+        purpose: Purpose,
+        server: ServerId,
+    ) -> Result<Option<Least>, Memory>
         requires { server.levels ≡ self.now.levels }
-        ensures { IsBestOf self.now server.number result }
+        ensures best { IfOk result (λ answer. IsBestOf self.now purpose server.number answer) }
+        ensures first { IfOk result (λ answer. IsFirstOf self.now purpose server.number answer) }
+        ensures either { HasQuorumOrBlockerUnder self.now purpose server.number }
     {
-        match self.best_cost(server) {
+        match self.best_cost(purpose, server) {
             Some(cost) => {
-                let servers = self.gathered(Sought::Quorum, server);
-                Some(Least { cost, servers })
+                let mut least = Least::new(alloc, self.levels)?;
+                least.cost = cost;
+                self.gather_into(Sought::Quorum(purpose), server, &mut least.servers);
+                Ok(Some(least))
             }
-            None => None,
+            None => Ok(None),
         }
     }
 
-    /// The first quorum of least cost of the server's subtree with its cost, among those that are up, if there is
-    /// one. The server is one of this tree.
-    pub fn best(&self, _alloc: Global, server: ServerId) -> Result<Option<Least>, Memory>
-        requires { server.levels ≡ self.now.levels }
-        ensures best { IfOk result (λ answer. IsBestOf self.now server.number answer) }
-        ensures first { IfOk result (λ answer. IsFirstOf self.now server.number answer) }
-        ensures either { HasQuorumOrBlockerUnder self.now server.number }
-    {
-        Ok(self.best_of(server))
-    }
-
-    /// Writes the first quorum of least cost of the server's subtree with its cost, among those that are up, into the row
-    /// and answers true. Where there is none, it leaves the row as it was and answers false. It takes no memory. The
-    /// server is one of this tree.
-    pub fn best_into(&self, server: ServerId, row: &mut Least) -> bool
-        requires { server.levels ≡ self.now.levels }
-        ensures there { result ≡ is_some (best self.now server.number) }
-        ensures best { OnTrue result (IsBestOf self.now server.number (Some row.new)) }
-        ensures first { OnTrue result (IsFirstOf self.now server.number (Some row.new)) }
+    /// Writes, for the purpose, the first quorum of least cost of the server's subtree with its cost, among those that are
+    /// up, into the row and answers true. Where there is none, it leaves the row as it was and answers false. It takes no
+    /// memory. The server is one of this tree, and the row one for such a tree.
+    pub fn best_into(&self, purpose: Purpose, server: ServerId, row: &mut Least) -> bool
+        requires tree { server.levels ≡ self.now.levels }
+        requires row { row.old.servers.levels ≡ self.now.levels }
+        ensures there { result ≡ is_some (best self.now purpose server.number) }
+        ensures best { OnTrue result (IsBestOf self.now purpose server.number (Some row.new)) }
+        ensures first { OnTrue result (IsFirstOf self.now purpose server.number (Some row.new)) }
         ensures none { OnFalse result (members_up self.now server.number ≡ []) }
         ensures unchanged { OnFalse result (row.new ≡ row.old) }
-        ensures either { HasQuorumOrBlockerUnder self.now server.number }
+        ensures either { HasQuorumOrBlockerUnder self.now purpose server.number }
     {
-        match self.best_of(server) {
-            Some(least) => {
-                *row = least;
+        match self.best_cost(purpose, server) {
+            Some(cost) => {
+                row.cost = cost;
+                row.servers.clear();
+                self.gather_into(Sought::Quorum(purpose), server, &mut row.servers);
                 true
             }
             None => false,
         }
     }
 
-    /// The first quorum of least cost among those that are up, or the blocker where none is.
-    pub fn choose(&self, alloc: Global) -> Result<Choice, Memory>
-        ensures choice { IfOk result (λ choice. IsChoice self.now choice) }
-        ensures first { IfOk result (λ choice. IsFirstChoice self.now choice) }
-        ensures either { HasQuorumOrBlocker self.now }
+    /// The first quorum of least cost for the purpose among those that are up, or the blocker where none is.
+    pub fn choose(&self, alloc: Global, purpose: Purpose) -> Result<Choice, Memory>
+        ensures choice { IfOk result (λ choice. IsChoice self.now purpose choice) }
+        ensures first { IfOk result (λ choice. IsFirstChoice self.now purpose choice) }
+        ensures either { HasQuorumOrBlocker self.now purpose }
     {
-        self.choose_or_share(alloc, None)
+        self.choose_or_share(alloc, purpose, None)
     }
 
     /// As `choose`. Where the quorum is the one that is kept, it shares that one's list.
     pub(crate) fn choose_or_share(
         &self,
         alloc: Global,
+        purpose: Purpose,
         kept: Option<&Quorum>,
     ) -> Result<Choice, Memory>
-        ensures choice { IfOk result (λ choice. IsChoice self.now choice) }
-        ensures first { IfOk result (λ choice. IsFirstChoice self.now choice) }
-        ensures either { HasQuorumOrBlocker self.now }
+        ensures choice { IfOk result (λ choice. IsChoice self.now purpose choice) }
+        ensures first { IfOk result (λ choice. IsFirstChoice self.now purpose choice) }
+        ensures either { HasQuorumOrBlocker self.now purpose }
     {
         let levels = self.levels;
         let root = levels.root();
-        match self.best_cost(root) {
+        match self.best_cost(purpose, root) {
             Some(cost) => {
-                let servers = self.gathered_list(alloc, Sought::Quorum, root)?;
+                let servers = self.gathered_list(alloc, Sought::Quorum(purpose), root)?;
                 let quorum = quorum_of(alloc, levels, servers, kept)?;
                 Ok(Choice::Quorum { quorum, cost })
             }

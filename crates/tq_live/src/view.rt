@@ -2,7 +2,8 @@ ghost use Rattle.std.specs.Prelude.{◌≡◌, ◌++◌, ◌∷◌, [], List, �
 
 use crate::change::ViewChange;
 use crate::choice::Choice;
-use crate::cost::is_cost;
+use crate::costs::{Costs, is_cost};
+use crate::purpose::Purpose;
 use crate::tree::LiveTree;
 use crate::turns::Turns;
 use std::alloc::Global;
@@ -14,22 +15,22 @@ use tq_shape::{ExactClone, Levels, Memory};
 /// What a view is asked.
 #[derive(Clone, Copy, Debug, PartialEq, Eq)]
 pub enum ViewAsk {
-    /// The server is to have this cost.
+    /// The server is to have this cost for each purpose.
     SetCost { server: u64, cost: u64 },
     /// The server is to be marked up or down.
     Mark { server: u64, up: bool },
-    /// Which quorum is up at least cost.
+    /// Which quorum to read from is up at least cost.
     Choose,
 }
 
 /// What a view answers.
 #[derive(Clone, Drop, PartialEq)]
 pub enum ViewReply {
-    /// The server has this cost from now on.
+    /// The server has this cost for each purpose from now on.
     CostSet,
     /// The server has this mark from now on; it may have had it before.
     Marked,
-    /// The first quorum of least cost among those that are up, with its cost.
+    /// The first quorum of least cost to read from among those that are up, with its cost.
     Chosen { quorum: Quorum, cost: u64 },
     /// Nothing has changed.
     Refused(ViewRefusal),
@@ -100,8 +101,9 @@ impl View {
     ghost use Rattle.tq_live.specs.Live.{HasQuorumOrBlocker};
     ghost use Rattle.tq_live.specs.View.{view_reply, view_after, view_state, IsFirstReply, ReplaysJournals};
     ghost use Rattle.tq_live.specs.ViewChanges.{view_change, view_changed, ViewFits};
+    ghost use Rattle.tq_live.specs.declared.purpose.Purpose.TheVariants.{Read};
 
-    /// Every server at cost 1 and up. From there, asks and replies lead where their journal says.
+    /// Every server at cost 1 for each purpose and up. From there, asks and replies lead where their journal says.
     pub fn new(alloc: Global, levels: Levels) -> Result<View, Memory>
         ensures new { IfOk result (λ view. view ≡ view_state levels []) }
         ensures replays { ReplaysJournals levels }
@@ -127,7 +129,7 @@ impl View {
     pub fn answer(&mut self, alloc: Global, ask: &ViewAsk) -> Result<ViewReply, Memory>
         ensures reply { IfOk result (λ reply. reply ≡ view_reply self.old ask.now) }
         ensures first { IfOk result (λ reply. IsFirstReply self.old reply) }
-        ensures either { HasQuorumOrBlocker self.old }
+        ensures either { HasQuorumOrBlocker self.old Read }
         ensures after { OnOk result (self.new ≡ view_after self.old ask.now) }
         ensures unchanged { OnErr result (self.new ≡ self.old) }
         ensures journal { IfOk result (λ reply. (levels : ℕ) → (journal : List (Entry ViewAsk ViewReply)) → self.old ≡ view_state levels journal
@@ -168,8 +170,8 @@ impl View {
     {
         match change {
             ViewChange::Nothing => (),
-            ViewChange::Cost { server, cost } => {
-                self.tree.put_cost(server, cost, &mut Turns::new());
+            ViewChange::Cost { server, costs } => {
+                self.tree.put_costs(server, costs, &mut Turns::new());
             }
             ViewChange::Mark { server, up } => {
                 self.tree.set_mark(server, up, &mut Turns::new());
@@ -201,7 +203,10 @@ impl View {
             None => refused(ViewRefusal::NoSuchServer),
             Some(server) if is_cost(cost) => Plan {
                 reply: ViewReply::CostSet,
-                change: ViewChange::Cost { server, cost },
+                change: ViewChange::Cost {
+                    server,
+                    costs: Costs::even(cost),
+                },
             },
             Some(_) => refused(ViewRefusal::BadCost),
         }
@@ -227,7 +232,10 @@ impl View {
         ensures reply { IfOk result (λ plan. plan.reply ≡ view_reply self.now ViewAsk.Choose) }
         ensures change { IfOk result (λ plan. plan.change ≡ view_change self.now ViewAsk.Choose) }
     {
-        match self.tree.choose_or_share(alloc, self.kept.as_ref())? {
+        match self
+            .tree
+            .choose_or_share(alloc, Purpose::Read, self.kept.as_ref())?
+        {
             Choice::Quorum { quorum, cost } => {
                 let kept = quorum.clone()?;
                 Ok(Plan {

@@ -4,6 +4,7 @@ use Rattle.std.specs.List.{flat_map}
 use Rattle.std.specs.Fmt.{decimal}
 use Rattle.tq_live.specs.Live.{Live, cost_of, is_up}
 use Rattle.tq_live.specs.View.{upwards}
+use Rattle.tq_live.specs.declared.purpose.Purpose.TheVariants.{Read}
 use Rattle.tq_live.specs.declared.least.Least.{Least}
 use Rattle.tq_tables.specs.Tables.{TablesView}
 use Rattle.tq_tables.specs.declared.file_row.FileRow.{FileRow}
@@ -57,11 +58,11 @@ abbrev pub least_text : Option Least → List ℕ
 least_text None = codes "none"
 least_text (Some least) = decimal least.cost ++ codes " by" ++ servers_text least.servers.numbers
 
--- a server: its cost and mark in the view, and the least quorum of its subtree
+-- a server: its cost to read from and its mark in the view, and the least quorum of its subtree
 abbrev pub server_text : Live → Option Least → ℕ → List ℕ
 server_text view least server =
     codes "server " ++ decimal server
-    ++ codes " cost " ++ decimal (cost_of view server)
+    ++ codes " cost " ++ decimal (cost_of view Read server)
     ++ codes " " ++ mark_text (is_up view server)
     ++ codes " least " ++ least_text least
 

@@ -16,7 +16,7 @@ pub fn push_server(
     requires { server.levels ≡ tree.now.levels }
     ensures { OnOk result (string_bytes text.new ≡ string_bytes text.old ++ as_line (server_text tree.now least.now server.number)) }
 {
-    let cost = tree.cost(server);
+    let cost = tree.costs(server).read;
     let mark = mark_word(tree.is_up(server));
     write!(text, "server {} cost {cost} {mark} least ", server.number())?;
     push_least(text, least)?;

@@ -5,5 +5,6 @@ pub mod Joined
 pub mod Places
 pub mod Marks
 pub mod SetBits
+pub mod SetWords
 pub mod Orderings
 pub mod Options

@@ -1,9 +1,9 @@
 -- The numbers that are marked, as one mark changes.
 use Rattle.std.proofs.Common.{◌≡◌, ℕ, ◌+◌, ◌<◌, zero, suc, Bool, true, false, List, [], ◌∷◌, ◌++◌, length, refl, sym, ap, ◌∙◌, arith}
-use Rattle.std.specs.Prelude.{slice_set, slice_index_or}
+use Rattle.std.specs.Prelude.{slice_set, slice_index_or, cond, nat_lt, ◌==◌}
 use Rattle.std.specs.List.{All}
 use Rattle.std.proofs.lemmas.Bool.{lt-ltb, le-ltb, eq-eqb, ne_eqb}
-use Rattle.std.proofs.lemmas.List.Elements.{All-head, All-tail}
+use Rattle.std.proofs.lemmas.List.Elements.{All-cons, All-head, All-tail}
 use Rattle.tq_shape.specs.ServerSet.{Ascends, has_number, with_number, without_number, marked}
 
 -- none is marked twice
@@ -76,3 +76,23 @@ pub marked-ascends : (low first : ℕ) (marks : List Bool) → low < first → A
 marked-ascends low first [] less = tt
 marked-ascends low first (true ∷ marks) less = (less, marked-ascends first (first + 1) marks (omega arith))
 marked-ascends low first (false ∷ marks) less = marked-ascends low (first + 1) marks (omega (arith, less))
+
+-- what holds of the numbers and of one more holds of all of them then
+by_place : (P : ℕ → Type 0) (number first : ℕ) (rest : List ℕ) (below same : Bool) → P number → P first → All P rest → All P (with_number number rest)
+    → All P (cond below (number ∷ first ∷ rest) (cond same (first ∷ rest) (first ∷ with_number number rest)))
+by_place P number first rest true same here head tail later = All-cons P number (first ∷ rest) here (All-cons P first rest head tail)
+by_place P number first rest false true here head tail later = All-cons P first rest head tail
+by_place P number first rest false false here head tail later = All-cons P first (with_number number rest) head later
+
+pub All-with_number : (P : ℕ → Type 0) (number : ℕ) (numbers : List ℕ) → P number → All P numbers → All P (with_number number numbers)
+All-with_number P number [] here all = All-cons P number [] here all
+All-with_number P number (first ∷ rest) here all =
+    let tail = All-tail P first rest all in
+    by_place P number first rest (nat_lt number first) (number == first) here (All-head P first rest all) tail (All-with_number P number rest here tail)
+
+-- the numbers of two lists of marks, one behind the other
+pub marked-append : (first : ℕ) (marks more : List Bool) → marked first (marks ++ more) ≡ marked first marks ++ marked (first + length marks) more
+marked-append first [] more = ap (λ n. marked n more) (omega arith)
+marked-append first (true ∷ marks) more =
+    ap (λ numbers. first ∷ numbers) (marked-append (first + 1) marks more ∙ ap (λ n. marked (first + 1) marks ++ marked n more) (omega arith))
+marked-append first (false ∷ marks) more = marked-append (first + 1) marks more ∙ ap (λ n. marked (first + 1) marks ++ marked n more) (omega arith)

@@ -1,7 +1,7 @@
 -- A set of servers of one tree.
-use Rattle.std.specs.Prelude.{ℕ, ◌+◌, ◌/◌, ◌%◌, ◌<◌, ◌==◌, zero, suc, Bool, true, false, not, nat_lt, cond, List, [], ◌∷◌, map, Option, Some, None}
-use Rattle.std.specs.List.{filter, list_any}
-use Rattle.tq_shape.specs.Tree.{Server}
+use Rattle.std.specs.Prelude.{ℕ, ◌+◌, ◌*◌, ◌/◌, ◌%◌, ◌^◌, ◌<◌, ◌≤◌, ◌==◌, zero, suc, Bool, true, false, not, nat_lt, cond, List, [], ◌∷◌, ◌++◌, length, map, Option, Some, None}
+use Rattle.std.specs.List.{All, filter, list_any}
+use Rattle.tq_shape.specs.Tree.{Server, IsServer}
 
 -- what callers see of a set: the levels of the tree, and the numbers of its servers, ascending, each once
 pub record Servers : Type 0 where
@@ -48,6 +48,30 @@ abbrev pub marks_of : ℕ → ℕ → List Bool
 marks_of zero bits = []
 marks_of (suc count) bits = (bits % 2 == 1) ∷ marks_of count (bits / 2)
 
--- the places of the bits that are set in a number of 64 bits
-unfoldable pub numbers_of : ℕ → List ℕ
-numbers_of bits = marked 0 (marks_of 64 bits)
+-- the marks of one word: 64 of them
+unfoldable pub marks_of_word : ℕ → List Bool
+marks_of_word word = marks_of 64 word
+
+-- the marks of words, those of the first word first
+abbrev pub marks_in : List ℕ → List Bool
+marks_in [] = []
+marks_in (word ∷ words) = marks_of_word word ++ marks_in words
+
+-- the places that are marked
+unfoldable pub numbers_of : List ℕ → List ℕ
+numbers_of words = marked 0 (marks_in words)
+
+-- there are words for all servers of the tree, and none but those of servers are marked
+pub record AreWordsOf (levels : ℕ) (words : List ℕ) : Type 0 where
+  pub room : 2 ^ levels ≤ 64 * length words
+  pub short : 64 * length words ≤ 1024
+  pub servers : All (IsServer levels) (numbers_of words)
+
+-- the numbers that are left to walk: those of a word, whose first place has a number, and of the words behind it
+unfoldable pub numbers_left : ℕ → ℕ → List ℕ → List ℕ
+numbers_left base word rest = marked base (marks_in (word ∷ rest))
+
+-- the same, of servers of a tree
+pub record AreLeft (levels base word : ℕ) (rest : List ℕ) : Type 0 where
+  pub short : base + 64 * (1 + length rest) ≤ 1024
+  pub servers : All (IsServer levels) (numbers_left base word rest)

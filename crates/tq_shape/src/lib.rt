@@ -12,6 +12,7 @@ mod server;
 mod server_set;
 mod shared;
 mod shared_list;
+mod words;
 
 pub use entry::Entry;
 pub use level::{Levels, MOST_LEVELS};

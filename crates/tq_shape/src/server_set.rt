@@ -1,54 +1,53 @@
-ghost use Rattle.std.specs.Prelude.{◌≡◌, ◌++◌, ◌<◌, ◌%◌, ◌^◌, ◌↔◌, not, [], ◌∷◌, All, IfOk, IsTrue};
+ghost use Rattle.std.specs.Prelude.{◌≡◌, ◌++◌, ◌<◌, ◌/◌, ◌%◌, ◌^◌, ◌↔◌, not, [], ◌∷◌, All, IfOk, IsTrue};
 ghost use Rattle.tq_shape.specs.Tree.{IsServer};
-ghost use Rattle.tq_shape.specs.ServerSet.{Ascends, has_number, with_number, without_number, numbered, numbers_of, first_of};
+ghost use Rattle.tq_shape.specs.ServerSet.{Ascends, has_number, with_number, without_number, numbered, first_of};
 
+use crate::words::Words;
 use crate::{Levels, Memory, ServerId};
 use std::alloc::{AllocError, Global};
-use std::marker::{Model, PhantomData};
+use std::marker::Model;
 
 /// A set of servers of one tree, walked upwards.
 ///
 /// Contracts see it as the levels of the tree and the ascending list of its servers' numbers.
-#[derive(Debug)]
 pub struct ServerSet {
     levels: Levels,
-    /// The bit at a server's number says whether it is in the set. No other bit is set.
-    bits: u64,
+    /// The bit `number % 64` of the word `number / 64` says whether the server is in the set. No other bit is set.
+    words: Words,
 }
 
 // Written out, so that a crate above lets go of one by a call.
 impl Drop for ServerSet {
     fn drop(self) {
-        let Self { levels: _, bits: _ } = self;
+        let Self {
+            levels: _,
+            words: _,
+        } = self;
     }
 }
 
 impl Model for ServerSet {
-    ghost use Rattle.std.specs.Prelude.{◌≡◌, ◌%◌, ◌^◌, ◌<◌};
-    ghost use Rattle.tq_shape.specs.ServerSet.{Servers, numbers_of};
+    ghost use Rattle.tq_shape.specs.ServerSet.{Servers, AreWordsOf, numbers_of};
 
     ghost Value = { Servers };
 
-    ghost view = { λ set. record { levels = set.levels; numbers = numbers_of set.bits } };
+    ghost view = { λ set. record { levels = set.levels; numbers = numbers_of set.words } };
 
-    ghost invariant = { λ set. (set.bits % 2 ≡ 0) × (set.bits < 2 ^ (2 ^ set.levels)) };
+    ghost invariant = { λ set. AreWordsOf set.levels set.words };
 }
 
 impl ServerSet {
-    /// The set of no server of a tree of that many levels. Neither it nor what is put in and taken out later needs memory.
-    pub fn new(_alloc: Global, levels: Levels) -> Result<ServerSet, Memory>
+    /// The set of no server of a tree of that many levels. It takes memory where the tree has more than six levels; what is
+    /// put in and taken out later takes none.
+    ///
+    /// # Errors
+    ///
+    /// Refuses where there is no memory for it.
+    pub fn new(alloc: Global, levels: Levels) -> Result<ServerSet, Memory>
         ensures { IfOk result (λ set. set ≡ record { levels = levels; numbers = [] }) }
     {
-        Ok(ServerSet { levels, bits: 0 })
-    }
-
-    /// The servers of a tree whose bits are set, each at its number. No other bit is set.
-    pub fn of_bits(levels: Levels, bits: u64) -> ServerSet
-        requires numbered { bits % 2 ≡ 0 }
-        requires of_tree { bits < 2 ^ (2 ^ levels) }
-        ensures { result ≡ record { levels = levels; numbers = numbers_of bits } }
-    {
-        ServerSet { levels, bits }
+        let words = Words::zeros(alloc, (levels.servers() / 64) as usize)?;
+        Ok(ServerSet { levels, words })
     }
 
     /// The levels of the tree.
@@ -63,7 +62,7 @@ impl ServerSet {
         requires { server.levels ≡ self.now.levels }
         ensures { result ≡ has_number self.now.numbers server.number }
     {
-        self.bits & bit_of(server) != 0
+        self.words.get(place_of(server)) & bit_of(server) != 0
     }
 
     /// Puts a server of the set's tree in, and answers whether it was not there before.
@@ -73,9 +72,11 @@ impl ServerSet {
         ensures after { self.new ≡ record { levels = self.old.levels; numbers = with_number server.number self.old.numbers } }
         ensures last { All (λ number. number < server.number) self.old.numbers → self.new ≡ record { levels = self.old.levels; numbers = self.old.numbers ++ server.number ∷ [] } }
     {
-        let is_new = !self.contains(server);
-        self.bits |= bit_of(server);
-        is_new
+        let place = place_of(server);
+        let bit = bit_of(server);
+        let word = self.words.get(place);
+        self.words.put(place, word | bit);
+        word & bit == 0
     }
 
     /// Takes a server of the set's tree out, and answers whether it was there.
@@ -84,9 +85,18 @@ impl ServerSet {
         ensures old { result ≡ has_number self.old.numbers server.number }
         ensures after { self.new ≡ record { levels = self.old.levels; numbers = without_number server.number self.old.numbers } }
     {
-        let was_there = self.contains(server);
-        self.bits &= !bit_of(server);
-        was_there
+        let place = place_of(server);
+        let bit = bit_of(server);
+        let word = self.words.get(place);
+        self.words.put(place, word & !bit);
+        word & bit != 0
+    }
+
+    /// Takes all servers out.
+    pub fn clear(&mut self)
+        ensures { self.new ≡ record { levels = self.old.levels; numbers = [] } }
+    {
+        self.words.clear();
     }
 
     /// The least server of the set.
@@ -111,8 +121,9 @@ impl ServerSet {
     {
         ServerSetIter {
             levels: self.levels,
-            bits: self.bits,
-            of_set: PhantomData,
+            base: 0,
+            word: self.words.first(),
+            rest: self.words.more(),
         }
     }
 }
@@ -121,21 +132,24 @@ impl ServerSet {
 #[derive(Drop)]
 pub struct ServerSetIter<'a> {
     levels: Levels,
-    /// The bits of the servers that are left, as in the set.
-    bits: u64,
-    of_set: PhantomData<&'a ServerSet>,
+    /// The number of the first place of the word.
+    base: u64,
+    /// What is left of a word of the set.
+    word: u64,
+    /// The words behind it.
+    rest: &'a [u64],
 }
 
 impl<'a> Model for ServerSetIter<'a> {
-    ghost use Rattle.std.specs.Prelude.{◌≡◌, ◌%◌, ◌<◌, ◌^◌, List};
+    ghost use Rattle.std.specs.Prelude.{List};
     ghost use Rattle.tq_shape.specs.Tree.{Server};
-    ghost use Rattle.tq_shape.specs.ServerSet.{numbered, numbers_of};
+    ghost use Rattle.tq_shape.specs.ServerSet.{AreLeft, numbered, numbers_left};
 
     ghost Value = { List Server };
 
-    ghost view = { λ it. numbered it.levels (numbers_of it.bits) };
+    ghost view = { λ it. numbered it.levels (numbers_left it.base it.word it.rest.now) };
 
-    ghost invariant = { λ it. (it.bits % 2 ≡ 0) × (it.bits < 2 ^ (2 ^ it.levels)) };
+    ghost invariant = { λ it. AreLeft it.levels it.base it.word it.rest.now };
 }
 
 impl<'a> Iterator for ServerSetIter<'a> {
@@ -148,24 +162,36 @@ impl<'a> Iterator for ServerSetIter<'a> {
     ghost remaining = { item_count (λ rest. rest) };
 
     fn next(&mut self) -> Option<ServerId> {
-        if self.bits == 0 {
-            return None;
+        let mut base = self.base;
+        let mut word = self.word;
+        let mut rest = self.rest;
+        while word == 0 {
+            let (next, behind) = rest.split_first()?;
+            base += 64;
+            word = *next;
+            rest = behind;
         }
-        let number = u64::from(self.bits.trailing_zeros());
-        self.bits &= self.bits - 1;
+        self.base = base;
+        self.word = word & (word - 1);
+        self.rest = rest;
+        let number = base + u64::from(word.trailing_zeros());
         Some(ServerId::new(self.levels, number))
     }
 }
 
-/// The bit of a server.
-fn bit_of(server: ServerId) -> u64
-    ensures bit { result ≡ 2 ^ server.number }
+/// The place of the word that has a server's bit.
+fn place_of(server: ServerId) -> usize
+    ensures place { result ≡ server.number / 64 }
     ensures within { IsServer server.levels server.number }
-    ensures small { server.number < 64 }
 {
-    let levels = server.levels();
-    let _ = &levels.count;
-    1 << server.number()
+    (server.number() / 64) as usize
+}
+
+/// The bit of a server in its word.
+fn bit_of(server: ServerId) -> u64
+    ensures { result ≡ 2 ^ (server.number % 64) }
+{
+    1 << (server.number() % 64)
 }
 
 impl Clone for ServerSet {
@@ -176,7 +202,7 @@ impl Clone for ServerSet {
     fn clone(&self) -> Result<Self, AllocError> {
         Ok(ServerSet {
             levels: self.levels,
-            bits: self.bits,
+            words: self.words.clone()?,
         })
     }
 }

@@ -15,6 +15,8 @@ use Rattle.tq_desk.specs.DeskStep as desk
 use Rattle.tq_desk.specs.Views.{desk_code}
 use Rattle.tq_desk.specs.DeskJournal.{DeskBounds, IsLegalDesk, DeskEntry}
 use Rattle.tq_live.specs.Live.{Live}
+use Rattle.tq_live.specs.Costs.{costs_code}
+use Rattle.tq_live.specs.declared.costs.Costs.{Costs}
 use Rattle.tq_live.specs.View.{view_state, IsLegalView}
 use Rattle.tq_tables.specs.Journals.{JournalsView, ViewEntry}
 
@@ -76,7 +78,7 @@ pub record AreLegal (journals : JournalsView) : Type 0 where
 
 -- codes, by which a proof tells values apart
 abbrev pub live_code : Coded Live
-live_code = code_by (ℕ × (List ℕ × List Bool)) (coded× coded_ℕ (coded× (coded_list coded_ℕ) (coded_list coded_bool))) (λ l. (l.levels, (l.costs, l.up))) (λ p. record { levels = p.0; costs = p.1.0; up = p.1.1 }) (λ _. refl)
+live_code = code_by (ℕ × (List Costs × List Bool)) (coded× coded_ℕ (coded× (coded_list costs_code) (coded_list coded_bool))) (λ l. (l.levels, (l.costs, l.up))) (λ p. record { levels = p.0; costs = p.1.0; up = p.1.1 }) (λ _. refl)
 
 abbrev pub parts_code : Coded Record → Coded OpenVote → Coded Verdict → Coded PartsView
 parts_code record_code vote_code verdict_code =

@@ -19,6 +19,7 @@ use Rattle.tq_desk.specs.DeskJournal.{Commit, DeskEntry, count, final}
 use Rattle.tq_desk.specs.DecisionLog.{is_txn, is_written}
 use Rattle.tq_live.specs.Live.{Live, best, cost_of}
 use Rattle.tq_live.specs.View.{upwards}
+use Rattle.tq_live.specs.declared.purpose.Purpose.TheVariants.{Read}
 use Rattle.tq_live.specs.declared.least.Least.{Least}
 use Rattle.tq_tables.specs.declared.file_row.FileRow.{FileRow}
 use Rattle.tq_tables.specs.declared.lock_row.LockRow.{LockRow}
@@ -33,13 +34,13 @@ server_of node = record { number = node.server; levels = node.levels }
 
 -- ---- the least quorums
 
--- a least quorum of these servers of the tree, with its cost
+-- a least quorum of these servers of the tree, with its cost to read from
 abbrev pub least_of : Live → List ℕ → Least
-least_of live servers = record { cost = sum_by (cost_of live) servers; servers = record { levels = live.levels; numbers = servers } }
+least_of live servers = record { cost = sum_by (cost_of live Read) servers; servers = record { levels = live.levels; numbers = servers } }
 
--- the best of the server's subtree, as cost and servers; none where there is none
+-- the best of the server's subtree to read from, as cost and servers; none where there is none
 abbrev pub quorum_row : Live → ℕ → Option Least
-quorum_row live server = option_map (least_of live) (best live server)
+quorum_row live server = option_map (least_of live) (best live Read server)
 
 -- for each server upwards
 abbrev pub quorum_rows : Live → List (Option Least)

@@ -1,6 +1,6 @@
 use std::alloc::Global;
 use tq_check::{Wrong, check};
-use tq_live::{Choice, Least, LiveTree, Turns, View, ViewAsk, ViewReply};
+use tq_live::{Choice, Least, LiveTree, Purpose, Turns, View, ViewAsk, ViewReply};
 use tq_part::{Fault, Journaled, foresee};
 use tq_shape::{Entry, Levels, Memory, ServerId, ServerSet};
 
@@ -17,9 +17,9 @@ fn bits_of(servers: &[ServerId]) -> u64 {
     bits
 }
 
-/// Whether the tree chooses the servers of these bits at that cost, where a cost of 0 stands for a blocker.
-fn takes(alloc: Global, tree: &LiveTree, servers: u64, wanted: u64) -> bool {
-    match tree.choose(alloc) {
+/// Whether the tree chooses the servers of these bits at that cost for the purpose, where a cost of 0 stands for a blocker.
+fn takes_for(alloc: Global, tree: &LiveTree, purpose: Purpose, servers: u64, wanted: u64) -> bool {
+    match tree.choose(alloc, purpose) {
         Ok(Choice::Quorum { quorum, cost }) => {
             bits_of(quorum.servers()) == servers && cost == wanted
         }
@@ -28,14 +28,25 @@ fn takes(alloc: Global, tree: &LiveTree, servers: u64, wanted: u64) -> bool {
     }
 }
 
-/// Sets a cost. Answers whether it wrote so many caches, and none where it is refused.
-fn sets_cost(tree: &mut LiveTree, number: u64, cost: u64, caches: u64) -> bool {
+/// Whether it chooses them for each purpose.
+fn takes(alloc: Global, tree: &LiveTree, servers: u64, wanted: u64) -> bool {
+    takes_for(alloc, tree, Purpose::Read, servers, wanted)
+        && takes_for(alloc, tree, Purpose::Write, servers, wanted)
+}
+
+/// Sets the costs. Answers whether it wrote so many caches, and none where they are refused.
+fn sets_costs(tree: &mut LiveTree, number: u64, read: u64, write: u64, caches: u64) -> bool {
     let Some(server) = tree.levels().server(number) else {
         return false;
     };
     let mut turns = Turns::new();
-    let allowed = tree.set_cost(server, cost, &mut turns).is_ok();
+    let allowed = tree.set_cost(server, read, write, &mut turns).is_ok();
     allowed == (caches > 0) && turns.count() == caches
+}
+
+/// The same for each purpose.
+fn sets_cost(tree: &mut LiveTree, number: u64, cost: u64, caches: u64) -> bool {
+    sets_costs(tree, number, cost, cost, caches)
 }
 
 /// Marks a server up or down. Answers whether it wrote so many caches.
@@ -50,7 +61,10 @@ fn sets_mark(tree: &mut LiveTree, number: u64, up: bool, caches: u64) -> bool {
 
 fn has_best_cost(tree: &LiveTree, number: u64, cost: u64) -> bool {
     match tree.levels().server(number) {
-        Some(server) => tree.best_cost(server) == Some(cost),
+        Some(server) => {
+            tree.best_cost(Purpose::Read, server) == Some(cost)
+                && tree.best_cost(Purpose::Write, server) == Some(cost)
+        }
         None => false,
     }
 }
@@ -130,6 +144,32 @@ fn each_depth_writes_one_cache_more(rt: HostRuntime) -> Result<(), Wrong> {
     check(changes_each(rt.alloc(), &mut tree), "another offer")
 }
 
+/// Two costs are told to the servers above, a refused one of the two writes no cache, and each purpose has a quorum of its own.
+fn tells_two_costs(alloc: Global, tree: &mut LiveTree) -> bool {
+    sets_costs(tree, 1, 5, 1, 1)
+        && sets_costs(tree, 2, 1, 0, 0)
+        && sets_costs(tree, 2, 0, 1, 0)
+        && sets_costs(tree, 2, 1_000_001, 1, 0)
+        && sets_costs(tree, 2, 1, 1_000_001, 0)
+        && takes_for(alloc, tree, Purpose::Read, bit(2) | bit(3), 2)
+        && takes_for(alloc, tree, Purpose::Write, bit(1) | bit(2), 2)
+}
+
+/// Where no quorum is up the blocker is the same for each purpose.
+fn blocks_each(alloc: Global, tree: &mut LiveTree) -> bool {
+    sets_costs(tree, 2, 9, 2, 2)
+        && sets_mark(tree, 1, false, 1)
+        && sets_mark(tree, 2, false, 2)
+        && takes(alloc, tree, bit(1) | bit(2), 0)
+}
+
+#[test]
+fn each_purpose_has_a_quorum_of_its_own(rt: HostRuntime) -> Result<(), Wrong> {
+    let mut tree = LiveTree::new(rt.alloc(), Levels::new(2).unwrap())?;
+    let holds = tells_two_costs(rt.alloc(), &mut tree) && blocks_each(rt.alloc(), &mut tree);
+    check(holds, "another offer")
+}
+
 // ---- rows
 
 /// The servers of a set as the bits of a number.
@@ -146,13 +186,15 @@ fn is_of(row: &Least, servers: u64, cost: u64) -> bool {
 }
 
 /// Whether a row is written as the best of the server's subtree is told, and left as it was where there is none.
-fn writes_best(alloc: Global, tree: &LiveTree, number: u64) -> bool {
+fn writes_best(alloc: Global, tree: &LiveTree, purpose: Purpose, number: u64) -> bool {
     let Some(server) = tree.levels().server(number) else {
         return false;
     };
-    let mut row = Least::new(tree.levels());
-    let written = tree.best_into(server, &mut row);
-    match tree.best(alloc, server) {
+    let Ok(mut row) = Least::new(alloc, tree.levels()) else {
+        return false;
+    };
+    let written = tree.best_into(purpose, server, &mut row);
+    match tree.best(alloc, purpose, server) {
         Ok(Some(least)) => written && is_of(&row, bits_in(&least.servers), least.cost),
         Ok(None) => !written && is_of(&row, 0, 0),
         Err(_) => false,
@@ -161,7 +203,10 @@ fn writes_best(alloc: Global, tree: &LiveTree, number: u64) -> bool {
 
 fn writes_each_best(alloc: Global, tree: &LiveTree) -> bool {
     for number in 1..8u64 {
-        if !writes_best(alloc, tree, number) {
+        if !writes_best(alloc, tree, Purpose::Read, number) {
+            return false;
+        }
+        if !writes_best(alloc, tree, Purpose::Write, number) {
             return false;
         }
     }
@@ -169,14 +214,23 @@ fn writes_each_best(alloc: Global, tree: &LiveTree) -> bool {
 }
 
 /// Whether a row is written over with these servers at that cost, for the server, and then left for one that is down.
-fn has_row(tree: &LiveTree, number: u64, down: u64, servers: u64, cost: u64) -> bool {
+fn has_row(
+    alloc: Global,
+    tree: &LiveTree,
+    number: u64,
+    down: u64,
+    servers: u64,
+    cost: u64,
+) -> bool {
     let levels = tree.levels();
     let (Some(server), Some(down)) = (levels.server(number), levels.server(down)) else {
         return false;
     };
-    let mut row = Least::new(levels);
-    tree.best_into(server, &mut row)
-        && !tree.best_into(down, &mut row)
+    let Ok(mut row) = Least::new(alloc, levels) else {
+        return false;
+    };
+    tree.best_into(Purpose::Read, server, &mut row)
+        && !tree.best_into(Purpose::Read, down, &mut row)
         && is_of(&row, servers, cost)
 }
 
@@ -186,8 +240,8 @@ fn rows_are_written_where_a_quorum_is_up(rt: HostRuntime) -> Result<(), Wrong> {
     let holds = writes_each_best(rt.alloc(), &tree)
         && sets_mark(&mut tree, 4, false, 3)
         && writes_each_best(rt.alloc(), &tree)
-        && has_row(&tree, 1, 4, bit(1) | bit(2) | bit(5), 3)
-        && has_row(&tree, 2, 4, bit(2) | bit(5), 2);
+        && has_row(rt.alloc(), &tree, 1, 4, bit(1) | bit(2) | bit(5), 3)
+        && has_row(rt.alloc(), &tree, 2, 4, bit(2) | bit(5), 2);
     check(holds, "another row")
 }
 
@@ -260,7 +314,7 @@ fn is_set(reply: Result<ViewReply, Memory>) -> bool {
 }
 
 fn costs(view: &View) -> u64 {
-    view.tree().cost(view.tree().levels().root())
+    view.tree().costs(view.tree().levels().root()).read
 }
 
 /// Whether a cost is foreseen to be set, as of any part and as of a view, and is not set.

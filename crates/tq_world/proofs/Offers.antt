@@ -4,6 +4,7 @@ use Rattle.std.specs.Option.{unwrap_or}
 use Rattle.std.proofs.lemmas.Bool.{false≢true}
 use Rattle.tq_live.specs.Live.{Live, cost_of, best, blocker}
 use Rattle.tq_live.specs.Choice.{IsChoice}
+use Rattle.tq_live.specs.declared.purpose.Purpose.TheVariants.{Read}
 use Rattle.tq_live.specs.declared.choice.Choice.TheVariants as choices
 use Rattle.tq_live.specs.declared.view.ViewAsk.TheVariants as asks
 use Rattle.tq_live.specs.View.{choice_reply, view_reply}
@@ -26,18 +27,18 @@ true_from_not : (b : Bool) → false ≡ not b → b ≡ true
 true_from_not true e = refl
 true_from_not false e = absurd (false≢true e)
 
-offer : (live : Live) (least : Option (List ℕ)) → best live 1 ≡ least → IsOffer live (replies.View (choice_reply live least))
+offer : (live : Live) (least : Option (List ℕ)) → best live Read 1 ≡ least → IsOffer live (replies.View (choice_reply live Read least))
 offer live (Some servers) is =
-    let choice : IsChoice live (choices.Quorum (record { servers = servers; levels = live.levels }) (sum_by (cost_of live) servers)) = (is, refl, refl) in
-    (choice, first-choice live (choices.Quorum (record { servers = servers; levels = live.levels }) (sum_by (cost_of live) servers)) choice)
+    let choice : IsChoice live Read (choices.Quorum (record { servers = servers; levels = live.levels }) (sum_by (cost_of live Read) servers)) = (is, refl, refl) in
+    (choice, first-choice live Read (choices.Quorum (record { servers = servers; levels = live.levels }) (sum_by (cost_of live Read) servers)) choice)
 offer live None is =
-    let blocked : is_some (blocker live) ≡ true = true_from_not (is_some (blocker live)) (sym (ap is_some is) ∙ has-either live) in
-    let choice : IsChoice live (choices.Blocked (record { servers = unwrap_or (blocker live) []; levels = live.levels })) = (is, found_one (blocker live) [] blocked, refl) in
-    (choice, first-choice live (choices.Blocked (record { servers = unwrap_or (blocker live) []; levels = live.levels })) choice)
+    let blocked : is_some (blocker live) ≡ true = true_from_not (is_some (blocker live)) (sym (ap is_some is) ∙ has-either live Read) in
+    let choice : IsChoice live Read (choices.Blocked (record { servers = unwrap_or (blocker live) []; levels = live.levels })) = (is, found_one (blocker live) [] blocked, refl) in
+    (choice, first-choice live Read (choices.Blocked (record { servers = unwrap_or (blocker live) []; levels = live.levels })) choice)
 
 -- the answer of a view that was asked to choose
 pub choose_offers : (live : Live) (reply : Reply) → reply ≡ replies.View (view_reply live asks.Choose) → IsOffer live reply
-choose_offers live reply is = subst (IsOffer live) (sym is) (offer live (best live 1) refl)
+choose_offers live reply is = subst (IsOffer live) (sym is) (offer live (best live Read 1) refl)
 
 pub view_offers : (world : JournalsView) (ask : ViewAsk) (answered : Answer) → answered ≡ answer world (steps.View ask) → OffersBest world (steps.View ask) answered
 view_offers world asks.Choose answered is = choose_offers (view_at world.levels world.view) answered.reply (ap (λ (a : Answer). a.reply) is)

@@ -2,6 +2,7 @@
 use Rattle.std.specs.Prelude.{⊤}
 use Rattle.tq_live.specs.Live.{Live}
 use Rattle.tq_live.specs.Choice.{IsChoice, IsFirstChoice}
+use Rattle.tq_live.specs.declared.purpose.Purpose.TheVariants.{Read}
 use Rattle.tq_live.specs.declared.choice.Choice.TheVariants as choices
 use Rattle.tq_live.specs.declared.view.ViewAsk.TheVariants as asks
 use Rattle.tq_live.specs.declared.view.ViewReply.TheVariants.{Chosen, Refused}
@@ -14,11 +15,11 @@ use Rattle.tq_world.specs.declared.answer.Step.{Step}
 use Rattle.tq_world.specs.declared.answer.Step.TheVariants as steps
 use Rattle.tq_world.specs.World.{view_at}
 
--- a quorum is handed out: of the quorums whose servers are all marked up it is the first of least cost, with that cost;
+-- a quorum is handed out, to read from: of the quorums whose servers are all marked up it is the first of least cost, with that cost;
 -- or it is refused with a blocker, all marked down: then no quorum is up
 abbrev pub IsOffer : Live → Reply → Type 0
-IsOffer live (replies.View (Chosen quorum cost)) = IsChoice live (choices.Quorum quorum cost) × IsFirstChoice live (choices.Quorum quorum cost)
-IsOffer live (replies.View (Refused (Blocked blocked))) = IsChoice live (choices.Blocked blocked) × IsFirstChoice live (choices.Blocked blocked)
+IsOffer live (replies.View (Chosen quorum cost)) = IsChoice live Read (choices.Quorum quorum cost) × IsFirstChoice live Read (choices.Quorum quorum cost)
+IsOffer live (replies.View (Refused (Blocked blocked))) = IsChoice live Read (choices.Blocked blocked) × IsFirstChoice live Read (choices.Blocked blocked)
 IsOffer live other = ⊥
 
 -- the answer to a Choose is an offer

@@ -11,8 +11,8 @@ loop-below-preserved c =
     let live = c.args.tree.now in
     let below = c.loop-below.below in
     let after : below + 1 ≡ 1 + below = omega arith in
-    let row : c.quorum_row.result ≡ spec.quorum_row live (1 + below) =
-    c.quorum_row.ensures ∙ ap (λ (s : Server). spec.quorum_row live s.number) c.new-server.ensures ∙ ap (spec.quorum_row live) after in
+    let row : c.in_ok-row.row ≡ spec.quorum_row live (1 + below) =
+    c.in_ok-row.ensures ∙ ap (λ (s : Server). spec.quorum_row live s.number) c.new-server.ensures ∙ ap (spec.quorum_row live) after in
     c.in_ok-push.ensures.items
     ∙ (λ j. c.loop-below.invariant j ++ row j ∷ [])
     ∙ sym (map-append (spec.quorum_row live) (upwards 1 below) ((1 + below) ∷ []))

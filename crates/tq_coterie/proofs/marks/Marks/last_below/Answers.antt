@@ -1,22 +1,32 @@
-use Rattle.std.proofs.Common.{ℕ, ◌<◌, ◌-◌, ◌*◌, ◌^◌, ◌%◌, ◌∙◌, arith, ap, sym, subst, bit_and}
-use Rattle.std.proofs.lemmas.Nat.{one_shl}
-use Rattle.tq_coterie.proofs.Marked.{IsLastMark, none-below, last-mark}
-use Rattle.std.specs.Int.Count.{count_leading_zeros}
+use Rattle.std.proofs.Common.{◌-◌, ◌*◌, ◌^◌, ◌%◌, arith}
+use Rattle.std.proofs.lemmas.Nat.{one_shl, and_le_l, leading_top}
+use Rattle.tq_coterie.proofs.Marked.{looked-first, looked-more, looked-last}
 use Rattle.tq_coterie.proofs.marks.Marks.last_below.Goals as goal
 
-pub returns-then-below-eq0-clause-last : goal.returns-then-below-eq0-clause-last
-returns-then-below-eq0-clause-last c other above under =
-    none-below c.args.self.bits c.args.server other under
-    (ap (λ n. bit_and c.args.self.bits (n - 1)) (sym (one_shl c.args.server 64 c.requires.within)) ∙ c.if-below-eq0.true)
+pub loop-word-init : goal.loop-word-init
+loop-word-init c =
+    let is = one_shl (c.args.server % 64) 64 (omega arith) in
+    record {
+      within = omega (arith, c.requires.within);
+      small = omega (arith, c.word.type_inv, and_le_l c.word.result (1 * 2 ^ (c.args.server % 64) % 2 ^ 64 - 1));
+      looked = rw (c.word.ensures, is) (looked-first c.args.self.now.words c.args.server);
+    }
 
-last : (c : goal.Else-below-eq0) → IsLastMark c.args.self.bits c.args.server (63 - count_leading_zeros 64 (bit_and c.args.self.bits (1 * 2 ^ c.args.server % 2 ^ 64 - 1)))
-last c =
-    let P : ℕ → Type 0 = λ n. 0 < bit_and c.args.self.bits (n - 1) in
-    let is = one_shl c.args.server 64 c.requires.within in
-    rw is (last-mark c.args.self.bits c.args.server c.requires.within (subst P is (omega (arith, c.if-below-eq0.false))))
+pub loop-word-preserved : goal.loop-word-preserved
+loop-word-preserved c = record {
+  within = omega (arith, c.loop-word.invariant.within);
+  small = c.word-word.type_inv;
+  looked = looked-more c.args.self.now.words c.args.server c.loop-word.place c.loop-word.word c.word-word.result c.loop-word.invariant.looked
+      c.loop-word-test.true (omega (arith, c.if-place-eq0.false)) c.word-word.ensures c.word-word.type_inv;
+}
+
+pub overflow_sub-result : goal.overflow_sub-result
+overflow_sub-result c = omega (arith, (leading_top 64 c.loop-word.word (omega (arith, c.loop-word-test.false)) c.loop-word.invariant.small).1)
 
 pub returns-clause-below : goal.returns-clause-below
-returns-clause-below c = (last c).below
+returns-clause-below c =
+    (looked-last c.args.self.now.words c.args.server c.loop-word.place c.loop-word.word c.loop-word.invariant.looked (omega (arith, c.loop-word-test.false)) c.loop-word.invariant.small).below
 
 pub returns-clause-last : goal.returns-clause-last
-returns-clause-last c = (last c).last
+returns-clause-last c =
+    (looked-last c.args.self.now.words c.args.server c.loop-word.place c.loop-word.word c.loop-word.invariant.looked (omega (arith, c.loop-word-test.false)) c.loop-word.invariant.small).last

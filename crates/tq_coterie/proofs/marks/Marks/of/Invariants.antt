@@ -3,4 +3,4 @@ use Rattle.tq_coterie.specs.Marks.{AreMarksOf}
 use Rattle.tq_coterie.proofs.marks.Marks.of.Given as goal
 
 abbrev pub invariant-loop-server : goal.invariant-loop-server
-invariant-loop-server l = AreMarksOf l.marks.bits (take l.server-index l.servers)
+invariant-loop-server l = AreMarksOf l.marks.words (take l.server-index l.servers)

@@ -1,24 +1,41 @@
-use Rattle.std.proofs.Common.{◌≡◌, [], ◌-◌, ap, ◌∙◌, arith, rules}
-use Rattle.tq_shape.specs.ServerSet.{numbered, numbers_of}
-use Rattle.tq_shape.proofs.SetBits.{OfTree-fewer, next_number, next_servers, numbers_of-zero}
+use Rattle.std.proofs.Common.{rules, ◌≡◌, [], ◌+◌, ◌-◌, ap, sym, ◌∙◌, arith, bit_and}
+use Rattle.tq_shape.specs.ServerSet.{numbered}
+use Rattle.tq_shape.proofs.SetWords.{AreLeft-skip, left-end, left-skip, next-left, next_servers}
 use Rattle.tq_shape.proofs.server_set.ServerSetIterIterator.next.Goals as goal
 
-none : (c : goal.Then-self-eq0) → c.args.self.now ≡ []
-none c = rw (← c.self.view_is) (ap (numbered c.self.inside.levels) (ap numbers_of c.if-self-eq0.true ∙ numbers_of-zero))
+none : (c : goal.After-from_residual) → c.args.self.now ≡ []
+none c =
+    rw (← c.self.view_is)
+    (ap (numbered c.self.inside.levels)
+    (sym c.loop-word.invariant.same ∙ left-end c.loop-word.base c.loop-word.word c.loop-word.rest.now c.loop-word-test.true c.in_err-next.ensures.cases))
 
-pub returns-then-self-eq0-clause-steps : goal.returns-then-self-eq0-clause-steps
-returns-then-self-eq0-clause-steps c = (none c, none c)
+pub returns-in_err-next-clause-steps : goal.returns-in_err-next-clause-steps
+returns-in_err-next-clause-steps c = rw c.from_residual.ensures (none c, none c)
+
+pub loop-word-preserved : goal.loop-word-preserved
+loop-word-preserved c = record {
+  left = AreLeft-skip c.self.inside.levels c.loop-word.base c.loop-word.word c.in_ok-next.next.now c.loop-word.rest.now c.in_ok-next.behind.now
+      c.loop-word-test.true c.in_ok-next.ensures.cases.0 c.loop-word.invariant.left;
+  same = sym (left-skip c.loop-word.base c.loop-word.word c.in_ok-next.next.now c.loop-word.rest.now c.in_ok-next.behind.now c.loop-word-test.true c.in_ok-next.ensures.cases.0)
+      ∙ c.loop-word.invariant.same;
+}
 
 pub new-requires : goal.new-requires
-new-requires c = let found = next_number c.self.inside.levels c.self.inside.bits c.from-number.result c.self.invariant (omega (arith, c.if-self-eq0.false)) (omega arith) c.from-number.ensures in (found.0, found.1)
+new-requires c =
+    let next = next-left c.self.inside.levels c.loop-word.base c.loop-word.word c.from.result c.loop-word.rest.now c.loop-word.invariant.left (omega (arith, c.loop-word-test.false)) (omega arith) c.from.ensures in
+    next.server
 
 pub invariant_of-self : goal.invariant_of-self
-invariant_of-self c = OfTree-fewer c.self.inside.levels c.self.inside.bits (c.self.inside.bits - 1) c.self.invariant
+invariant_of-self c =
+    let next = next-left c.self.inside.levels c.loop-word.base c.loop-word.word c.from.result c.loop-word.rest.now c.loop-word.invariant.left (omega (arith, c.loop-word-test.false)) (omega arith) c.from.ensures in
+    next.left
 
 pub returns-clause-steps : goal.returns-clause-steps
 returns-clause-steps c =
-    let found = next_number c.self.inside.levels c.self.inside.bits c.from-number.result c.self.invariant (omega (arith, c.if-self-eq0.false)) (omega arith) c.from-number.ensures in
-    rw (← c.self.view_is) (next_servers c.self.inside.levels c.self.inside.bits c.from-number.result c.new.result found.2 c.new.ensures)
+    let next = next-left c.self.inside.levels c.loop-word.base c.loop-word.word c.from.result c.loop-word.rest.now c.loop-word.invariant.left (omega (arith, c.loop-word-test.false)) (omega arith) c.from.ensures in
+    rw (← c.self.view_is)
+    (ap (numbered c.self.inside.levels) (sym c.loop-word.invariant.same)
+    ∙ next_servers c.self.inside.levels c.loop-word.base c.loop-word.word (c.loop-word.base + c.from.result) (bit_and c.loop-word.word (c.loop-word.word - 1)) c.loop-word.rest.now c.new.result next.is c.new.ensures)
 
 pub returns-clause-goes : goal.returns-clause-goes
 returns-clause-goes c = rw (returns-clause-steps c) (search rules)

@@ -28,6 +28,12 @@ loop-server-init c =
       same = refl;
     }
 
+pub bounds-nodes-place : goal.bounds-nodes-place
+bounds-nodes-place c =
+    let nodes = c.args.nodes.now in
+    let place = All-head (IsPlace (length nodes)) c.in-Some.server c.next.new.self (subst (λ (servers : List Server). All (IsPlace (length nodes)) servers) c.in-Some.ensures.steps c.loop-server.invariant.places) in
+    omega (arith, place.0, place.1, c.number.ensures.value)
+
 pub stand-requires-clause-current : goal.stand-requires-clause-current
 stand-requires-clause-current c =
     let nodes = c.args.nodes.now in

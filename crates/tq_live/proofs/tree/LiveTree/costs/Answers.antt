@@ -1,5 +1,5 @@
 use Rattle.std.proofs.Common.{rules}
-use Rattle.tq_shape.proofs.server_set.ServerSet.first.Goals as goal
+use Rattle.tq_live.proofs.tree.LiveTree.costs.Goals as goal
 
 pub returns : goal.returns
 returns c = search rules

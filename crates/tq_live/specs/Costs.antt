@@ -1,0 +1,30 @@
+-- What a server costs for each purpose.
+use Rattle.std.specs.Prelude.{ℕ, ◌≤◌, refl}
+use Rattle.std.specs.Coded.{Coded, code_by, coded×, coded_ℕ}
+use Rattle.tq_live.specs.declared.purpose.Purpose.{Purpose}
+use Rattle.tq_live.specs.declared.purpose.Purpose.TheVariants.{Read, Write}
+use Rattle.tq_live.specs.declared.costs.Costs.{Costs}
+
+-- the cost for that purpose
+abbrev pub cost_to : Purpose → Costs → ℕ
+cost_to Read costs = costs.read
+cost_to Write costs = costs.write
+
+-- the same for both
+abbrev pub even_costs : ℕ → Costs
+even_costs cost = record { read = cost; write = cost }
+
+-- what is seen of a server outside the tree
+abbrev pub no_costs : Costs
+no_costs = even_costs 0
+
+-- each is at most a million
+abbrev pub AreLow : Costs → Type 0
+AreLow costs = (costs.read ≤ 1000000) × (costs.write ≤ 1000000)
+
+pub low : (costs : Costs) → AreLow costs → (purpose : Purpose) → cost_to purpose costs ≤ 1000000
+low costs are Read = are.0
+low costs are Write = are.1
+
+abbrev pub costs_code : Coded Costs
+costs_code = code_by (ℕ × ℕ) (coded× coded_ℕ coded_ℕ) (λ c. (c.read, c.write)) (λ p. record { read = p.0; write = p.1 }) (λ _. refl)
