@@ -1,4 +1,5 @@
 use crate::costs::Costs;
+use crate::purpose::Purpose;
 use tq_coterie::Quorum;
 use tq_shape::ServerId;
 
@@ -11,6 +12,7 @@ pub enum ViewChange {
     Cost { server: ServerId, costs: Costs },
     /// The server has this mark.
     Mark { server: ServerId, up: bool },
-    /// Costs and marks stay. This quorum was chosen, and the next choice of the same one shares its list.
-    Keep { quorum: Quorum },
+    /// Costs and marks stay. This quorum was chosen for the purpose, and the next choice of the same one for it shares its
+    /// list.
+    Keep { purpose: Purpose, quorum: Quorum },
 }

@@ -34,3 +34,10 @@ pub fn is_cost(cost: u64) -> bool
 {
     1 <= cost && cost <= MOST_COST
 }
+
+/// Whether a server may have both costs.
+pub(crate) fn are_costs(read: u64, write: u64) -> bool
+    ensures { result ≡ spec.are_costs read write }
+{
+    is_cost(read) && is_cost(write)
+}

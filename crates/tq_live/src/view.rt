@@ -2,7 +2,7 @@ ghost use Rattle.std.specs.Prelude.{◌≡◌, ◌++◌, ◌∷◌, [], List, �
 
 use crate::change::ViewChange;
 use crate::choice::Choice;
-use crate::costs::{Costs, is_cost};
+use crate::costs::{Costs, are_costs};
 use crate::purpose::Purpose;
 use crate::tree::LiveTree;
 use crate::turns::Turns;
@@ -15,22 +15,22 @@ use tq_shape::{ExactClone, Levels, Memory};
 /// What a view is asked.
 #[derive(Clone, Copy, Debug, PartialEq, Eq)]
 pub enum ViewAsk {
-    /// The server is to have this cost for each purpose.
-    SetCost { server: u64, cost: u64 },
+    /// The server is to have these costs.
+    SetCost { server: u64, read: u64, write: u64 },
     /// The server is to be marked up or down.
     Mark { server: u64, up: bool },
-    /// Which quorum to read from is up at least cost.
-    Choose,
+    /// Which quorum is up at least cost for the purpose.
+    Choose { purpose: Purpose },
 }
 
 /// What a view answers.
 #[derive(Clone, Drop, PartialEq)]
 pub enum ViewReply {
-    /// The server has this cost for each purpose from now on.
+    /// The server has these costs from now on.
     CostSet,
     /// The server has this mark from now on; it may have had it before.
     Marked,
-    /// The first quorum of least cost to read from among those that are up, with its cost.
+    /// The first quorum of least cost for the purpose among those that are up, with its cost.
     Chosen { quorum: Quorum, cost: u64 },
     /// Nothing has changed.
     Refused(ViewRefusal),
@@ -41,7 +41,7 @@ pub enum ViewReply {
 pub enum ViewRefusal {
     /// The tree has no server of that number.
     NoSuchServer,
-    /// The cost is not from 1 to 1,000,000.
+    /// One of the costs is not from 1 to 1,000,000.
     BadCost,
     /// No quorum is up: these servers, all down, have one in common with every quorum.
     Blocked(Blocker),
@@ -69,8 +69,11 @@ impl ExactClone for ViewReply {
 pub struct View {
     levels: Levels,
     tree: LiveTree,
-    /// The quorum that was chosen last: the next choice of the same one shares its list. Contracts do not see it.
-    kept: Option<Quorum>,
+    /// The quorum that was chosen last to read from: the next choice of the same one for that purpose shares its list.
+    /// Contracts do not see it.
+    kept_read: Option<Quorum>,
+    /// The same to write to.
+    kept_write: Option<Quorum>,
 }
 
 // Written out, so that a crate above lets go of one by a call.
@@ -79,7 +82,8 @@ impl Drop for View {
         let Self {
             levels: _,
             tree: _,
-            kept: _,
+            kept_read: _,
+            kept_write: _,
         } = self;
     }
 }
@@ -101,7 +105,7 @@ impl View {
     ghost use Rattle.tq_live.specs.Live.{HasQuorumOrBlocker};
     ghost use Rattle.tq_live.specs.View.{view_reply, view_after, view_state, IsFirstReply, ReplaysJournals};
     ghost use Rattle.tq_live.specs.ViewChanges.{view_change, view_changed, ViewFits};
-    ghost use Rattle.tq_live.specs.declared.purpose.Purpose.TheVariants.{Read};
+    ghost use Rattle.tq_live.specs.declared.purpose.Purpose.{Purpose};
 
     /// Every server at cost 1 for each purpose and up. From there, asks and replies lead where their journal says.
     pub fn new(alloc: Global, levels: Levels) -> Result<View, Memory>
@@ -112,7 +116,8 @@ impl View {
         Ok(View {
             levels,
             tree,
-            kept: None,
+            kept_read: None,
+            kept_write: None,
         })
     }
 
@@ -128,8 +133,8 @@ impl View {
     /// with this ask and reply leaves it.
     pub fn answer(&mut self, alloc: Global, ask: &ViewAsk) -> Result<ViewReply, Memory>
         ensures reply { IfOk result (λ reply. reply ≡ view_reply self.old ask.now) }
-        ensures first { IfOk result (λ reply. IsFirstReply self.old reply) }
-        ensures either { HasQuorumOrBlocker self.old Read }
+        ensures first { IfOk result (λ reply. IsFirstReply self.old ask.now reply) }
+        ensures either { (purpose : Purpose) → HasQuorumOrBlocker self.old purpose }
         ensures after { OnOk result (self.new ≡ view_after self.old ask.now) }
         ensures unchanged { OnErr result (self.new ≡ self.old) }
         ensures journal { IfOk result (λ reply. (levels : ℕ) → (journal : List (Entry ViewAsk ViewReply)) → self.old ≡ view_state levels journal
@@ -156,9 +161,13 @@ impl View {
         ensures change { IfOk result (λ plan. plan.change ≡ view_change self.now ask.now) }
     {
         match *ask {
-            ViewAsk::SetCost { server, cost } => Ok(self.plan_cost(server, cost)),
+            ViewAsk::SetCost {
+                server,
+                read,
+                write,
+            } => Ok(self.plan_cost(server, read, write)),
             ViewAsk::Mark { server, up } => Ok(self.plan_mark(server, up)),
-            ViewAsk::Choose => self.plan_choice(alloc),
+            ViewAsk::Choose { purpose } => self.plan_choice(alloc, purpose),
         }
     }
 
@@ -176,7 +185,10 @@ impl View {
             ViewChange::Mark { server, up } => {
                 self.tree.set_mark(server, up, &mut Turns::new());
             }
-            ViewChange::Keep { quorum } => self.kept = Some(quorum),
+            ViewChange::Keep { purpose, quorum } => match purpose {
+                Purpose::Read => self.kept_read = Some(quorum),
+                Purpose::Write => self.kept_write = Some(quorum),
+            },
         }
     }
 
@@ -189,23 +201,24 @@ impl View {
         Ok(View {
             levels,
             tree,
-            kept: None,
+            kept_read: None,
+            kept_write: None,
         })
     }
 
-    /// The plan of a new cost.
+    /// The plan of new costs.
     #[inline(always)]
-    fn plan_cost(&self, server: u64, cost: u64) -> Plan<ViewReply, ViewChange>
-        ensures reply { result.reply ≡ view_reply self.now (ViewAsk.SetCost server cost) }
-        ensures change { result.change ≡ view_change self.now (ViewAsk.SetCost server cost) }
+    fn plan_cost(&self, server: u64, read: u64, write: u64) -> Plan<ViewReply, ViewChange>
+        ensures reply { result.reply ≡ view_reply self.now (ViewAsk.SetCost server read write) }
+        ensures change { result.change ≡ view_change self.now (ViewAsk.SetCost server read write) }
     {
         match self.levels.server(server) {
             None => refused(ViewRefusal::NoSuchServer),
-            Some(server) if is_cost(cost) => Plan {
+            Some(server) if are_costs(read, write) => Plan {
                 reply: ViewReply::CostSet,
                 change: ViewChange::Cost {
                     server,
-                    costs: Costs::even(cost),
+                    costs: Costs { read, write },
                 },
             },
             Some(_) => refused(ViewRefusal::BadCost),
@@ -228,19 +241,27 @@ impl View {
     }
 
     /// The plan of a choice: a quorum is kept.
-    fn plan_choice(&self, alloc: Global) -> Result<Plan<ViewReply, ViewChange>, Memory>
-        ensures reply { IfOk result (λ plan. plan.reply ≡ view_reply self.now ViewAsk.Choose) }
-        ensures change { IfOk result (λ plan. plan.change ≡ view_change self.now ViewAsk.Choose) }
+    fn plan_choice(
+        &self,
+        alloc: Global,
+        purpose: Purpose,
+    ) -> Result<Plan<ViewReply, ViewChange>, Memory>
+        ensures reply { IfOk result (λ plan. plan.reply ≡ view_reply self.now (ViewAsk.Choose purpose)) }
+        ensures change { IfOk result (λ plan. plan.change ≡ view_change self.now (ViewAsk.Choose purpose)) }
     {
-        match self
-            .tree
-            .choose_or_share(alloc, Purpose::Read, self.kept.as_ref())?
-        {
+        let kept = match purpose {
+            Purpose::Read => self.kept_read.as_ref(),
+            Purpose::Write => self.kept_write.as_ref(),
+        };
+        match self.tree.choose_or_share(alloc, purpose, kept)? {
             Choice::Quorum { quorum, cost } => {
                 let kept = quorum.clone()?;
                 Ok(Plan {
                     reply: ViewReply::Chosen { quorum, cost },
-                    change: ViewChange::Keep { quorum: kept },
+                    change: ViewChange::Keep {
+                        purpose,
+                        quorum: kept,
+                    },
                 })
             }
             Choice::Blocked(blocker) => Ok(refused(ViewRefusal::Blocked(blocker))),

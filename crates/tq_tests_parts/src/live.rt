@@ -153,6 +153,11 @@ fn tells_two_costs(alloc: Global, tree: &mut LiveTree) -> bool {
         && sets_costs(tree, 2, 1, 1_000_001, 0)
         && takes_for(alloc, tree, Purpose::Read, bit(2) | bit(3), 2)
         && takes_for(alloc, tree, Purpose::Write, bit(1) | bit(2), 2)
+        && has_best_cost(tree, 1, 2)
+        && has_best_cost(tree, 2, 1)
+        && has_best_cost(tree, 3, 1)
+        && writes_best(alloc, tree, Purpose::Read, 1)
+        && writes_best(alloc, tree, Purpose::Write, 1)
 }
 
 /// Where no quorum is up the blocker is the same for each purpose.
@@ -256,37 +261,48 @@ fn cost_of(reply: &ViewReply) -> u64 {
 }
 
 fn dear() -> ViewAsk {
-    ViewAsk::SetCost { server: 1, cost: 5 }
+    ViewAsk::SetCost {
+        server: 1,
+        read: 5,
+        write: 7,
+    }
 }
 
-/// Whether a cost is set under the number 1, and a choice with it is told under the number 2.
+fn choose(purpose: Purpose) -> ViewAsk {
+    ViewAsk::Choose { purpose }
+}
+
+/// Whether costs are set under the number 1, and a choice to write to with them is told under the number 2.
 fn fills(alloc: Global, view: &mut Journaled<View>) -> bool {
-    match (view.ask(alloc, dear()), view.ask(alloc, ViewAsk::Choose)) {
+    match (
+        view.ask(alloc, dear()),
+        view.ask(alloc, choose(Purpose::Write)),
+    ) {
         (Ok(first), Ok(second)) => {
             first.number == 1
                 && matches!(first.reply, ViewReply::CostSet)
                 && second.number == 2
-                && cost_of(&second.reply) == 5
+                && cost_of(&second.reply) == 7
         }
         _ => false,
     }
 }
 
 fn is_full(alloc: Global, view: &mut Journaled<View>) -> bool {
-    match view.ask(alloc, ViewAsk::Choose) {
+    match view.ask(alloc, choose(Purpose::Read)) {
         Err(fault) => matches!(fault, Fault::JournalFull),
         Ok(_) => false,
     }
 }
 
-/// Whether the entries are a cost that was set and a choice with it.
+/// Whether the entries are costs that were set and a choice with them.
 fn are_the_two(entries: &[Entry<ViewAsk, ViewReply>]) -> bool {
     match entries {
         [first, second] => {
             first.ask == dear()
                 && matches!(first.reply, ViewReply::CostSet)
-                && second.ask == ViewAsk::Choose
-                && cost_of(&second.reply) == 5
+                && second.ask == choose(Purpose::Write)
+                && cost_of(&second.reply) == 7
         }
         _ => false,
     }
