@@ -1,5 +1,11 @@
 //! A session of the shell of a tree of servers, line by line: the service that lines are asked of, what each line asks,
 //! the lines of transactions and of operators, and what is answered.
+//!
+//! Files: `shell.rt` any line; `answering.rt` a line of a transaction: `operations.rt`, `errands.rt`, `decisions.rt`,
+//! `endings.rt`, over `kept.rt` and `states.rt`; `operators.rt` refresh and board; `recorder.rt`, `told.rt` the service
+//! asked.
+//! Definitions: `specs/Asked` and `TxnAsked` (what lines ask), `Operators`, `Answer`, `Possible`; `Recorded` is the code's
+//! own word.
 #![tactic(auto)]
 
 mod answering;

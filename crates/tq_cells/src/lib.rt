@@ -1,4 +1,8 @@
 //! Parts under a lock each, so that many threads may ask them at once.
+//!
+//! Files: `cell.rt` the lock; `held.rt` what lies under it; `pass.rt`, `receipt.rt` what a caller was answered; `gate.rt`
+//! who is notified of a call.
+//! Definitions: `specs/Passes` (receipts and passes, and the legal journals that they come from).
 #![tactic(auto)]
 
 mod cell;

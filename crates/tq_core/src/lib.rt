@@ -1,4 +1,7 @@
 //! All parts of a system as one service, which journals every ask with its reply.
+//!
+//! Files: `service.rt` the service; `unfounded.rt` the first citation that is not founded.
+//! Definitions: `specs/Service` (its tables are those of its journals), `Asked`.
 #![tactic(auto)]
 
 mod service;

@@ -5,6 +5,10 @@
 //! right side. The quorums of a tree are the members of server 1. Any two of them have a server in common.
 //!
 //! Nothing here lists the members: a tree of six levels has over four billion.
+//!
+//! Files: `quorum.rt`, `blocker.rt` the two public types over `member.rt`; `membership.rt`, `marks.rt` the test;
+//! `holding.rt`, `part.rt` whether a set holds a quorum; `meeting.rt` where two meet.
+//! Definitions: `specs/Coterie`; `Parts` and `Marks` are the code's own words.
 #![tactic(auto)]
 
 mod blocker;

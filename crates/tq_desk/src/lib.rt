@@ -1,4 +1,8 @@
 //! The desk: it begins transactions and keeps how each ended.
+//!
+//! Files: `ask.rt` asks and replies; `desk.rt` the desk by plan and `change.rt`; `finals.rt`, `files.rt` the tables of ends
+//! and of files written.
+//! Definitions: `specs/DeskStep` (the step), `DeskJournal` and `DecisionLog` (the decision log).
 #![tactic(auto)]
 
 mod answers;

@@ -1,4 +1,8 @@
 //! The evidence that a commit rests on: operations with their grants, and votes; and the rules that it has to keep.
+//!
+//! Files: `grant.rt`, `op.rt`, `vote.rt` what a commit cites; `evidence.rt` the rules in order, one rule a file below it;
+//! `grants.rt` a list of grants.
+//! Definitions: `specs/Evidence`, `Rules`; `Held` and `InOrder` are the code's own words.
 #![tactic(auto)]
 
 mod evidence;

@@ -1,4 +1,8 @@
 //! The journals of a system from their text: the form of journal files, and its reader.
+//!
+//! Files: `read.rt` `journals_from_json`; `frame.rt` the file; `entries.rt`, `journals.rt` lists; one file for each kind of
+//! ask and reply; `commits.rt`, `locking.rt` their parts; `formed.rt` lists of values.
+//! Definitions: `specs/Frame` and one for each kind of object; `Faults` what a reader answers.
 #![tactic(auto)]
 
 mod commits;

@@ -1,4 +1,7 @@
 //! What stands in an object of a journal file at a name: names of files, contents, and numbers.
+//!
+//! Files: `content.rt` names of files and contents; `member.rt` numbers and words.
+//! Definitions: `specs/Format` (what differs between formats), `Member`, `Content`.
 #![tactic(auto)]
 
 mod content;

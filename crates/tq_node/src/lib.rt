@@ -1,4 +1,9 @@
 //! A server: its copies, locks and votes, and what it answers to each ask.
+//!
+//! Files: `node.rt` the server, by plan and change; `change.rt` what an ask changes and what a stop leaves;
+//! `node/telling.rt` the same asks answered at once; `votes.rt` what a vote lists.
+//! Definitions: `specs/Records` (the step as a function), `Cases` (by cases), `Node`, `NodeJournal`; `Walks` is the code's
+//! own word.
 #![tactic(auto)]
 
 mod answers;

@@ -1,4 +1,7 @@
 //! What the journals of a server say: laws, with nothing to compute.
+//!
+//! Files: `laws.rt` functions without a body, whose contracts are the laws.
+//! Definitions: `specs/NodeLaws`; `proofs/Frames`, `StepFrames`, `StopFrames` one entry, `Lawful` all of a journal.
 #![tactic(auto)]
 
 mod laws;

@@ -1,6 +1,10 @@
 //! What the program calls: client scripts run in threads, from their text to the journals of all parts; the audit of a journal
 //! file, whether one sequential run explains it; and, handed on, the session of a shell, the words of the command line and the
 //! devices that they read and write.
+//!
+//! Files: `threading.rt` over `input.rt`, `running.rt`, `outcome.rt` client scripts in threads; `auditing.rt` over
+//! `reading.rt`, `judging.rt`, `verdict.rt` the audit.
+//! Definitions: `specs/Running`, `Outcome`, `Threads`, `Input`; `Verdicts`, `Texts`, `Audit`, `Reading`.
 #![tactic(auto)]
 
 mod auditing;

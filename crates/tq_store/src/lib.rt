@@ -1,4 +1,8 @@
 //! Files: their names, their contents, and the copies that a server keeps of them.
+//!
+//! Files: `file_name.rt` names; `content.rt` contents; `write.rt` what a transaction writes to a file; `copies.rt` the
+//! copies of a server.
+//! Definitions: `specs/Names`, `Copies`.
 #![tactic(auto)]
 
 mod content;

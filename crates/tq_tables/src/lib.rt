@@ -1,5 +1,10 @@
 //! The journals of a system: what each server, the desk and the view were asked and what they answered; and the tables
 //! that say how the system stands after them.
+//!
+//! Files: `journals.rt` the journals of all parts; `parts.rt`, `replay.rt` the parts after them; `tables.rt` over
+//! `followed.rt` the tables; `file_table.rt` the rows of files; one file for each other list of rows.
+//! Definitions: `specs/Journals`, `Parts`, `Rows`, `Tables`; `Counted`, `Files`, `NamesApart`, `DeskStates` are the code's
+//! own words.
 #![tactic(auto)]
 
 mod file_names;

@@ -1,4 +1,8 @@
 //! A JSON text as a tree that borrows from it, seen as the data that `serde_json` reads.
+//!
+//! Files: `reading.rt` from bytes to a tree; `look.rt`, `number.rt` what stands in it; `range.rt` numbers that `serde_json`
+//! refuses; `fault.rt` why nothing is read.
+//! Definitions: `specs/View`, `Reads`.
 #![tactic(auto)]
 
 mod fault;

@@ -1,6 +1,10 @@
 //! Steps of a system of parts, what they are told, and the world of journals that they leave: the laws of all runs, the
 //! law of committed reads among them, and the tests of what an entry says. What carries the steps out stands in a crate
 //! above.
+//!
+//! Files: `answer.rt` steps, answers, refusals; `citation.rt`, `founded.rt` an entry that an ask cites, and whether it says
+//! so; `item.rt` the entry of a number.
+//! Definitions: `specs/World`, `Founded`, `Steps`, `Offered`, `CommittedReads`, `Headline`.
 #![tactic(auto)]
 
 mod answer;
