@@ -1,9 +1,10 @@
 -- What the bytes of a line of client scripts ask for. Its words, numbers, files and texts are those of the shell's lines.
 use Rattle.std.specs.Prelude.{ℕ, Bool, true, false, nat_lt, cond, List, [], ◌∷◌, Option, Some, None, length, codes}
 use Rattle.std.specs.Str.{bytes_eq}
+use Rattle.tq_live.specs.declared.purpose.Purpose.{Purpose}
 use Rattle.tq_lines.specs.Word.{word_of, rest_of}
-use Rattle.tq_lines.specs.Line.{one_number, two_numbers, file_of, text_of}
-use Rattle.tq_lines.specs.declared.operands.Numbers.{Numbers}
+use Rattle.tq_lines.specs.Line.{one_number, cost_words, chosen_for, file_of, text_of}
+use Rattle.tq_lines.specs.declared.operands.CostWords.{CostWords}
 use Rattle.tq_lines.specs.declared.client.ClientLine.{ClientLine}
 use Rattle.tq_lines.specs.declared.client.ClientLine.TheVariants.{Empty, Bad, Client, Cost, Mark, Choose, Begin, Read, Write, Commit, Abort}
 
@@ -16,9 +17,13 @@ abbrev pub mark_line : Bool → Option ℕ → ClientLine
 mark_line up None = Bad
 mark_line up (Some server) = Mark server up
 
-abbrev pub cost_line : Option Numbers → ClientLine
+abbrev pub cost_line : Option CostWords → ClientLine
 cost_line None = Bad
-cost_line (Some numbers) = Cost numbers.first numbers.second
+cost_line (Some words) = Cost words.server words.read words.write
+
+abbrev pub choose_line : Option Purpose → ClientLine
+choose_line None = Bad
+choose_line (Some purpose) = Choose purpose
 
 abbrev pub read_by : Option (List ℕ) → ClientLine
 read_by None = Bad
@@ -42,8 +47,8 @@ write_line (Some words) = write_by (file_of (word_of words)) (text_of (rest_of w
 -- the lines that concern no transaction
 abbrev pub operator_by : List ℕ → Option (List ℕ) → ClientLine
 operator_by verb rest =
-    cond (bytes_eq verb (codes "choose")) (alone Choose rest)
-    (cond (bytes_eq verb (codes "cost")) (cost_line (two_numbers rest))
+    cond (bytes_eq verb (codes "choose")) (choose_line (chosen_for rest))
+    (cond (bytes_eq verb (codes "cost")) (cost_line (cost_words rest))
     (cond (bytes_eq verb (codes "down")) (mark_line false (one_number rest))
     (cond (bytes_eq verb (codes "up")) (mark_line true (one_number rest)) Bad)))
 

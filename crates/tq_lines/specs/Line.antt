@@ -3,11 +3,15 @@ use Rattle.std.specs.Prelude.{ℕ, Bool, true, false, nat_lt, nat_le, ◌&&◌, 
 use Rattle.std.specs.List.{list_all}
 use Rattle.std.specs.Option.{option_and_then}
 use Rattle.std.specs.Str.{bytes_eq}
+use Rattle.tq_live.specs.Purposes.{purpose_of}
+use Rattle.tq_live.specs.declared.purpose.Purpose.{Purpose}
+use Rattle.tq_live.specs.declared.purpose.Purpose.TheVariants as purposes
 use Rattle.tq_store.specs.Names.{is_file_name}
 use Rattle.tq_lines.specs.Word.{number_of, word_of, rest_of}
 use Rattle.tq_lines.specs.declared.line.Line.{Line}
 use Rattle.tq_lines.specs.declared.line.Line.TheVariants.{Empty, Bad, Cost, Mark, Choose, Begin, Refresh, Board, Txn}
 use Rattle.tq_lines.specs.declared.line.TxnLine.TheVariants.{Read, Write, Prepare, Decide, Apply, Commit, Abort, Resolve, PrepareCrash, ApplyCrash}
+use Rattle.tq_lines.specs.declared.operands.CostWords.{CostWords}
 use Rattle.tq_lines.specs.declared.operands.Numbers.{Numbers}
 use Rattle.tq_lines.specs.declared.operands.Stop.{Stop}
 use Rattle.tq_lines.specs.declared.operands.Target.{Target}
@@ -26,6 +30,29 @@ both_numbers (Some first) (Some second) = Some (record { first = first; second =
 abbrev pub two_numbers : Option (List ℕ) → Option Numbers
 two_numbers None = None
 two_numbers (Some words) = both_numbers (number_of (word_of words)) (one_number (rest_of words))
+
+abbrev pub three_by : Option ℕ → Option Numbers → Option CostWords
+three_by None costs = None
+three_by (Some server) None = None
+three_by (Some server) (Some costs) = Some (record { server = server; read = costs.first; write = costs.second })
+
+-- a server, its cost in a quorum that is read from, and that in one that is written to
+abbrev pub three_numbers : Option (List ℕ) → Option CostWords
+three_numbers None = None
+three_numbers (Some words) = three_by (number_of (word_of words)) (two_numbers (rest_of words))
+
+abbrev pub cost_by : Option Numbers → Option CostWords → Option CostWords
+cost_by None three = three
+cost_by (Some numbers) three = Some (record { server = numbers.first; read = numbers.second; write = numbers.second })
+
+-- what follows `cost`: a server and its cost for both purposes, or one for each
+abbrev pub cost_words : Option (List ℕ) → Option CostWords
+cost_words rest = cost_by (two_numbers rest) (three_numbers rest)
+
+-- what follows `choose`: a purpose, and reading where nothing follows
+abbrev pub chosen_for : Option (List ℕ) → Option Purpose
+chosen_for None = Some purposes.Read
+chosen_for (Some words) = purpose_of words
 
 abbrev pub file_of : List ℕ → Option (List ℕ)
 file_of word = cond (is_file_name word) (Some word) None
@@ -92,9 +119,13 @@ abbrev pub with_number : (ℕ → Line) → Option ℕ → Line
 with_number line None = Bad
 with_number line (Some number) = line number
 
-abbrev pub with_numbers : (ℕ → ℕ → Line) → Option Numbers → Line
-with_numbers line None = Bad
-with_numbers line (Some numbers) = line numbers.first numbers.second
+abbrev pub cost_line : Option CostWords → Line
+cost_line None = Bad
+cost_line (Some words) = Cost words.server words.read words.write
+
+abbrev pub choose_line : Option Purpose → Line
+choose_line None = Bad
+choose_line (Some purpose) = Choose purpose
 
 abbrev pub with_stop : (ℕ → ℕ → ℕ → Line) → Option Stop → Line
 with_stop line None = Bad
@@ -166,9 +197,9 @@ txn_by verb rest =
 
 abbrev pub line_by : List ℕ → Option (List ℕ) → Line
 line_by verb rest =
-    cond (bytes_eq verb (codes "choose")) (alone Choose rest)
+    cond (bytes_eq verb (codes "choose")) (choose_line (chosen_for rest))
     (cond (bytes_eq verb (codes "begin")) (alone Begin rest)
-    (cond (bytes_eq verb (codes "cost")) (with_numbers Cost (two_numbers rest))
+    (cond (bytes_eq verb (codes "cost")) (cost_line (cost_words rest))
     (cond (bytes_eq verb (codes "down")) (with_number (λ server. Mark server false) (one_number rest))
     (cond (bytes_eq verb (codes "up")) (with_number (λ server. Mark server true) (one_number rest)) (txn_by verb rest)))))
 

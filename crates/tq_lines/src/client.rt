@@ -1,12 +1,13 @@
 ghost use Rattle.std.specs.Prelude.{◌≡◌, IfOk};
 ghost use Rattle.tq_lines.specs.ClientLine as spec;
-ghost use Rattle.tq_lines.specs.Line.{one_number, two_numbers};
+ghost use Rattle.tq_lines.specs.Line.{one_number, cost_words, chosen_for};
 ghost use Rattle.tq_lines.specs.Word.{options_now};
 
 use crate::line::{LINE_LIMIT, is_same};
-use crate::operands::{file_of, one_number, text_of, two_numbers};
+use crate::operands::{chosen_for, cost_words, file_of, one_number, text_of};
 use crate::word::first_word;
 use std::alloc::Global;
+use tq_live::Purpose;
 use tq_shape::Memory;
 use tq_store::{Content, FileName};
 
@@ -19,9 +20,9 @@ pub enum ClientLine {
     Bad,
     /// The next client's script begins.
     Client,
-    Cost { server: u64, cost: u64 },
+    Cost { server: u64, read: u64, write: u64 },
     Mark { server: u64, up: bool },
-    Choose,
+    Choose { purpose: Purpose },
     Begin,
     Read { file: FileName },
     Write { file: FileName, content: Content },
@@ -78,7 +79,7 @@ impl ClientLine {
         ensures { result ≡ spec.operator_by verb.now (options_now rest.entry) }
     {
         if is_same(verb, b"choose") {
-            return alone(rest, ClientLine::Choose);
+            return choose(rest);
         }
         if is_same(verb, b"cost") {
             return cost(rest);
@@ -112,14 +113,24 @@ fn mark(rest: Option<&[u8]>, up: bool) -> ClientLine
 }
 
 fn cost(rest: Option<&[u8]>) -> ClientLine
-    ensures { result ≡ spec.cost_line (two_numbers (options_now rest.entry)) }
+    ensures { result ≡ spec.cost_line (cost_words (options_now rest.entry)) }
 {
-    match two_numbers(rest) {
+    match cost_words(rest) {
         None => ClientLine::Bad,
-        Some(numbers) => ClientLine::Cost {
-            server: numbers.first,
-            cost: numbers.second,
+        Some(words) => ClientLine::Cost {
+            server: words.server,
+            read: words.read,
+            write: words.write,
         },
+    }
+}
+
+fn choose(rest: Option<&[u8]>) -> ClientLine
+    ensures { result ≡ spec.choose_line (chosen_for (options_now rest.entry)) }
+{
+    match chosen_for(rest) {
+        None => ClientLine::Bad,
+        Some(purpose) => ClientLine::Choose { purpose },
     }
 }
 

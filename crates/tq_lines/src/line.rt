@@ -3,9 +3,12 @@ ghost use Rattle.std.specs.Prelude.{◌≡◌, IfOk};
 ghost use Rattle.tq_lines.specs.Line as spec;
 ghost use Rattle.tq_lines.specs.Word.{options_now};
 
-use crate::operands::{one_number, stop_of, target_of, text_of, two_numbers};
+use crate::operands::{
+    chosen_for, cost_words, one_number, stop_of, target_of, text_of, two_numbers,
+};
 use crate::word::first_word;
 use std::alloc::Global;
+use tq_live::Purpose;
 use tq_shape::Memory;
 use tq_store::{Content, FileName};
 
@@ -16,9 +19,10 @@ pub enum Line {
     Empty,
     /// The line is none of those that the shell knows.
     Bad,
-    Cost { server: u64, cost: u64 },
+    /// What a server costs in a quorum that is read from, and in one that is written to.
+    Cost { server: u64, read: u64, write: u64 },
     Mark { server: u64, up: bool },
-    Choose,
+    Choose { purpose: Purpose },
     Begin,
     /// The stale copies that can be mended now are mended.
     Refresh,
@@ -67,7 +71,7 @@ impl Line {
         ensures { IfOk result (λ line. line ≡ spec.line_by verb.now (options_now rest.entry)) }
     {
         if is_same(verb, b"choose") {
-            return Ok(alone(rest, Line::Choose));
+            return Ok(choose(rest));
         }
         if is_same(verb, b"begin") {
             return Ok(alone(rest, Line::Begin));
@@ -168,14 +172,24 @@ fn mark(rest: Option<&[u8]>, up: bool) -> Line
 }
 
 fn cost(rest: Option<&[u8]>) -> Line
-    ensures { result ≡ spec.with_numbers Line.Cost (spec.two_numbers (options_now rest.entry)) }
+    ensures { result ≡ spec.cost_line (spec.cost_words (options_now rest.entry)) }
 {
-    match two_numbers(rest) {
+    match cost_words(rest) {
         None => Line::Bad,
-        Some(numbers) => Line::Cost {
-            server: numbers.first,
-            cost: numbers.second,
+        Some(words) => Line::Cost {
+            server: words.server,
+            read: words.read,
+            write: words.write,
         },
+    }
+}
+
+fn choose(rest: Option<&[u8]>) -> Line
+    ensures { result ≡ spec.choose_line (spec.chosen_for (options_now rest.entry)) }
+{
+    match chosen_for(rest) {
+        None => Line::Bad,
+        Some(purpose) => Line::Choose { purpose },
     }
 }
 

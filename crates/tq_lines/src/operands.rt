@@ -6,6 +6,7 @@ ghost use Rattle.tq_lines.specs.Word.{options_now, number_of};
 use crate::line::is_same;
 use crate::word::{first_word, number_of};
 use std::alloc::Global;
+use tq_live::Purpose;
 use tq_shape::Memory;
 use tq_store::{Content, FileName, MAX_CONTENT};
 
@@ -14,6 +15,14 @@ use tq_store::{Content, FileName, MAX_CONTENT};
 pub(crate) struct Numbers {
     pub(crate) first: u64,
     pub(crate) second: u64,
+}
+
+/// A server, and what it costs in a quorum that is read from and in one that is written to.
+#[derive(Clone, Copy)]
+pub(crate) struct CostWords {
+    pub(crate) server: u64,
+    pub(crate) read: u64,
+    pub(crate) write: u64,
 }
 
 /// A transaction, a server, and behind how many records it stops.
@@ -55,6 +64,51 @@ pub(crate) fn two_numbers(rest: Option<&[u8]>) -> Option<Numbers>
     match one_number(more) {
         Some(second) => Some(Numbers { first, second }),
         None => None,
+    }
+}
+
+/// The server and its cost for both purposes, or one for each, that follow.
+pub(crate) fn cost_words(rest: Option<&[u8]>) -> Option<CostWords>
+    ensures { result ≡ spec.cost_words (options_now rest.entry) }
+{
+    match two_numbers(rest) {
+        Some(numbers) => Some(CostWords {
+            server: numbers.first,
+            read: numbers.second,
+            write: numbers.second,
+        }),
+        None => three_numbers(rest),
+    }
+}
+
+/// The server and its two costs that follow.
+fn three_numbers(rest: Option<&[u8]>) -> Option<CostWords>
+    ensures { result ≡ spec.three_numbers (options_now rest.entry) }
+{
+    let Some(words) = rest else {
+        return None;
+    };
+    let (word, more) = first_word(words);
+    let Some(server) = number_of(word) else {
+        return None;
+    };
+    match two_numbers(more) {
+        Some(costs) => Some(CostWords {
+            server,
+            read: costs.first,
+            write: costs.second,
+        }),
+        None => None,
+    }
+}
+
+/// The purpose that follows: reading, where nothing does.
+pub(crate) fn chosen_for(rest: Option<&[u8]>) -> Option<Purpose>
+    ensures { result ≡ spec.chosen_for (options_now rest.entry) }
+{
+    match rest {
+        None => Some(Purpose::Read),
+        Some(words) => Purpose::of(words),
     }
 }
 
