@@ -47,20 +47,19 @@ impl Model for Ended {
 }
 
 impl Ended {
-    /// The transaction as the desk's answer ends it.
-    pub(crate) fn of(alloc: Global, txn: &Open, told: &DeskTold) -> Result<Ended, TxnFault>
-        ensures value { IfOk result (λ ended. spec.IsEnd txn.now told.now ended) }
-        ensures fault { IfErr result (λ fault. open_spec.ComesOf (spec.end_fault txn.now told.now) fault) }
+    /// The transaction as a verdict ends it, which the desk's entry of that number told. It takes no memory.
+    pub(crate) fn of(txn: Open, verdict: Verdict, cite: u64) -> Ended
+        ensures { result ≡ spec.ended_with txn cite verdict }
     {
-        match verdict_in(alloc, txn.txn(), told)? {
-            Some(verdict) => Ok(Ended {
-                levels: txn.levels(),
-                txn: txn.txn(),
-                verdict,
-                cite: told.number,
-                servers: txn.touched()?,
-            }),
-            None => Err(TxnFault::NotMyVerdict),
+        let levels = txn.levels();
+        let number = txn.txn();
+        let servers = txn.into_touched();
+        Ended {
+            levels,
+            txn: number,
+            verdict,
+            cite,
+            servers,
         }
     }
 
@@ -114,8 +113,19 @@ impl Ended {
     }
 }
 
+/// The verdict on a transaction that an answer of the desk tells, once more; with none the answer does not end it.
+pub(crate) fn verdict_of(alloc: Global, txn: u64, told: &DeskTold) -> Result<Verdict, TxnFault>
+    ensures value { IfOk result (λ verdict. spec.verdict_in txn told.now ≡ Some verdict) }
+    ensures fault { IfErr result (λ fault. open_spec.ComesOf (spec.fault_without (spec.verdict_in txn told.now)) fault) }
+{
+    match verdict_in(alloc, txn, told)? {
+        Some(verdict) => Ok(verdict),
+        None => Err(TxnFault::NotMyVerdict),
+    }
+}
+
 /// The verdict on a transaction that an answer of the desk tells.
-pub(crate) fn verdict_in(
+fn verdict_in(
     alloc: Global,
     txn: u64,
     told: &DeskTold,
@@ -171,7 +181,7 @@ fn resolve_verdict(reply: &DeskReply) -> Result<Option<Verdict>, Memory>
 }
 
 /// The votes as a commit's record cites them.
-fn cited(alloc: Global, votes: &[Vote]) -> Result<Vec<CitedVote>, Memory>
+pub(crate) fn cited(alloc: Global, votes: &[Vote]) -> Result<Vec<CitedVote>, Memory>
     ensures { IfOk result (λ list. list.items ≡ log.cited votes.now) }
 {
     votes.iter().map(|vote| citation(vote)).collect(alloc)

@@ -12,11 +12,13 @@ ghost use Rattle.tq_states.specs.Ended as ending;
 ghost use Rattle.tq_states.specs.Open as spec;
 ghost use Rattle.tq_states.specs.Voting as voting;
 
+use crate::ended::verdict_of;
 use crate::grants::{grants_of, read_copy};
 use crate::servers::Servers;
 use crate::{DeskTold, Ended, NodeTold, Noting, TxnFault, Voting};
 use std::alloc::Global;
 use std::marker::Model;
+use tq_asks::Verdict;
 use tq_coterie::is_quorum;
 use tq_desk::{Grant, Op, OpKind};
 use tq_evidence::{granters, greatest_version};
@@ -341,22 +343,37 @@ impl Open {
         ensures value { IfOk result (λ ended. ending.IsEnd self told.now ended) }
         ensures fault { IfErr result (λ back. (back.0 ≡ self) × spec.ComesOf (ending.end_fault self told.now) back.1) }
     {
-        match Ended::of(alloc, &self, told) {
-            Ok(ended) => Ok(ended),
+        match verdict_of(alloc, self.txn(), told) {
+            Ok(verdict) => Ok(self.end_by(verdict, told.number)),
             Err(fault) => Err((self, fault)),
         }
+    }
+
+    /// Ends the transaction by a verdict on it, which the desk's entry of that number told. It takes no memory.
+    pub fn end_by(self, verdict: Verdict, cite: u64) -> Ended
+        ensures { result ≡ ending.ended_with self cite verdict }
+    {
+        Ended::of(self, verdict, cite)
     }
 
     pub(crate) fn allocator(&self) -> Global {
         *self.ops.allocator()
     }
 
-    /// A copy of the set of the servers that granted it a lock.
-    pub(crate) fn touched(&self) -> Result<Servers, Memory>
-        ensures servers { IfOk result (λ all. all.servers ≡ self.now.touched) }
-        ensures levels { IfOk result (λ all. all.levels ≡ self.now.levels) }
+    /// The set of the servers that granted it a lock.
+    pub(crate) fn into_touched(self) -> Servers
+        ensures servers { result.servers ≡ self.touched }
+        ensures levels { result.levels ≡ self.levels }
     {
-        self.touched.copy()
+        let Self {
+            levels: _,
+            limits: _,
+            txn: _,
+            ops: _,
+            voters: _,
+            touched,
+        } = self;
+        touched
     }
 
     pub(crate) fn copy_ops(&self) -> Result<SharedSeq<Op>, Memory>

@@ -1,15 +1,18 @@
 ghost use Rattle.std.specs.Prelude.{◌≡◌, List, IfOk, IfErr, None, true};
+ghost use Rattle.tq_desk.specs.DeskStep as log;
 ghost use Rattle.tq_evidence.specs.Evidence as evidence;
 ghost use Rattle.tq_states.specs.Cited.{CitesOnly, VotesOnly};
 ghost use Rattle.tq_states.specs.Ended as ending;
 ghost use Rattle.tq_states.specs.Open as open_spec;
 ghost use Rattle.tq_states.specs.Voting as spec;
 
+use crate::ended::{cited, verdict_of};
 use crate::{DeskTold, Ended, NodeTold, TxnFault, Voting};
 use std::alloc::Global;
 use std::marker::Model;
+use tq_asks::{CitedVote, Verdict};
 use tq_desk::DeskAsk;
-use tq_shape::Memory;
+use tq_shape::{Memory, Seq};
 
 /// A transaction with the votes of all its voters.
 pub struct Ready {
@@ -75,14 +78,29 @@ impl Ready {
         })
     }
 
+    /// The votes as the commit's record cites them: made before the commit is asked for, so that the answer takes no
+    /// memory.
+    pub fn citations(&self, alloc: Global) -> Result<Seq<CitedVote>, Memory>
+        ensures { IfOk result (λ list. list ≡ log.cited self.now.votes) }
+    {
+        Ok(Seq::from_vec(cited(alloc, self.voting.votes())?))
+    }
+
     /// Ends the transaction by the desk's verdict on it, and hands it back after a fault.
     pub fn end(self, alloc: Global, told: &DeskTold) -> Result<Ended, (Ready, TxnFault)>
         ensures value { IfOk result (λ ended. ending.IsEnd self.txn told.now ended) }
         ensures fault { IfErr result (λ back. (back.0 ≡ self) × open_spec.ComesOf (ending.end_fault self.txn told.now) back.1) }
     {
-        match Ended::of(alloc, self.voting.txn(), told) {
-            Ok(ended) => Ok(ended),
+        match verdict_of(alloc, self.voting.txn().txn(), told) {
+            Ok(verdict) => Ok(self.end_by(verdict, told.number)),
             Err(fault) => Err((self, fault)),
         }
+    }
+
+    /// Ends the transaction by a verdict on it, which the desk's entry of that number told. It takes no memory.
+    pub fn end_by(self, verdict: Verdict, cite: u64) -> Ended
+        ensures { result ≡ ending.ended_with self.txn cite verdict }
+    {
+        self.into_voting().end_by(verdict, cite)
     }
 }

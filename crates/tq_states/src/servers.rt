@@ -53,18 +53,6 @@ impl Servers {
         self.ids.as_slice()
     }
 
-    /// An equal set.
-    pub(crate) fn copy(&self) -> Result<Servers, Memory>
-        ensures servers { IfOk result (λ all. all.servers ≡ self.now.servers) }
-        ensures levels { IfOk result (λ all. all.levels ≡ self.now.levels) }
-    {
-        let ids = ServerIds::from_slice(*self.ids.allocator(), self.ids.as_slice())?;
-        Ok(Servers {
-            levels: self.levels,
-            ids,
-        })
-    }
-
     /// Makes room for as many servers more.
     pub(crate) fn reserve(&mut self, more: usize) -> Result<(), Memory>
         ensures room { OnOk result (more ≤ self.new.room) }

@@ -7,6 +7,7 @@ ghost use Rattle.tq_states.specs.Open as open_spec;
 ghost use Rattle.tq_states.specs.Sets as sets;
 ghost use Rattle.tq_states.specs.Voting as spec;
 
+use crate::ended::verdict_of;
 use crate::open::copy_of;
 use crate::votes::{
     are_writes_at, has_vote, has_votes, is_ask_at, is_server_of, lost, place_of_server, put_vote,
@@ -15,7 +16,7 @@ use crate::votes::{
 use crate::{DeskTold, Ended, NodeTold, Open, Ready, TxnFault};
 use std::alloc::Global;
 use std::marker::Model;
-use tq_asks::{NodeAsk, WorkAsk};
+use tq_asks::{NodeAsk, Verdict, WorkAsk};
 use tq_desk::{Op, Vote};
 use tq_shape::{Memory, ServerId, Shared, SharedSeq};
 
@@ -237,9 +238,21 @@ impl Voting {
         ensures value { IfOk result (λ ended. ending.IsEnd self.txn told.now ended) }
         ensures fault { IfErr result (λ back. (back.0 ≡ self) × open_spec.ComesOf (ending.end_fault self.txn told.now) back.1) }
     {
-        match Ended::of(alloc, &self.txn, told) {
-            Ok(ended) => Ok(ended),
+        match verdict_of(alloc, self.txn.txn(), told) {
+            Ok(verdict) => Ok(self.end_by(verdict, told.number)),
             Err(fault) => Err((self, fault)),
         }
+    }
+
+    /// Ends the transaction by a verdict on it, which the desk's entry of that number told. It takes no memory.
+    pub fn end_by(self, verdict: Verdict, cite: u64) -> Ended
+        ensures { result ≡ ending.ended_with self.txn cite verdict }
+    {
+        let Self {
+            txn,
+            votes: _,
+            asked: _,
+        } = self;
+        Ended::of(txn, verdict, cite)
     }
 }
