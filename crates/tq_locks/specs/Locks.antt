@@ -15,6 +15,7 @@ use Rattle.tq_locks.specs.declared.table.LockOutcome.TheVariants.{Granted, Held}
 use Rattle.tq_shape.specs.Steps.{state_at}
 use Rattle.tq_store.specs.Names.{same_name}
 use Rattle.tq_shape.specs.Journal.{is_empty}
+use Rattle.slab.specs.Slab.{Slab, slab_code}
 
 -- a file and a transaction
 abbrev pub LockKey : Type 0
@@ -133,3 +134,11 @@ locks_code = fin.code (coded× (coded_list coded_ℕ) coded_ℕ) lock_code
 
 abbrev pub lock_entry_code : Coded (LockKey × Lock)
 lock_entry_code = coded× (coded× (coded_list coded_ℕ) coded_ℕ) lock_code
+
+-- what contracts see of a table: the set of locks, and the slab that has each of them under its key
+pub record LocksView : Type 0 where
+  pub locks : Locks
+  pub slab : Slab (LockKey × Lock)
+
+abbrev pub view_code : Coded LocksView
+view_code = code_by (Locks × Slab (LockKey × Lock)) (coded× locks_code (slab_code lock_entry_code)) (λ v. (v.locks, v.slab)) (λ p. record { locks = p.0; slab = p.1 }) (λ _. refl)

@@ -62,26 +62,28 @@ impl Drop for LockTable {
 }
 
 impl Model for LockTable {
-    ghost use Rattle.tq_locks.specs.Locks.{HasNoConflict, Locks, locks_code};
+    ghost use Rattle.tq_locks.specs.Locks.{HasNoConflict, LocksView, view_code};
 
-    ghost Value = { Locks };
+    ghost Value = { LocksView };
 
-    ghost coded = { locks_code };
+    ghost coded = { view_code };
 
     ghost use Rattle.tq_locks.specs.Kept.{locks_in, Agrees};
 
-    ghost view = { λ a. locks_in a.kept };
+    ghost view = { λ a. record { locks = locks_in a.kept; slab = a.kept.entries } };
 
     ghost invariant = { λ a. Agrees a.kept (locks_in a.kept) × HasNoConflict (locks_in a.kept) };
 }
 
 impl LockTable {
     ghost use Rattle.tq_locks.specs.Locks.{HasNoConflict, IsFree, IsLeastBlocker, IsTold, asked, blocker, granted, held_of, holds_nothing, kept, only_stable, outcome, released};
-    ghost use Rattle.tq_locks.specs.Kept.{on_file, HasOneKeyEach};
+    ghost use Rattle.slab.specs.Slab.{get};
+    ghost use Rattle.std.specs.Option.{option_copied};
+    ghost use Rattle.tq_locks.specs.Kept.{on_file, AreKeysOf, HasOneKeyEach};
 
     /// No transaction holds a lock.
     pub fn new(alloc: Global) -> LockTable
-        ensures { result ≡ fin.empty }
+        ensures { result.locks ≡ fin.empty }
     {
         LockTable {
             kept: KeyedLocks::new(alloc),
@@ -90,7 +92,7 @@ impl LockTable {
 
     /// An equal table, with memory of its own.
     pub fn copy(&self, _alloc: Global) -> Result<LockTable, AllocError>
-        ensures { IfOk result (λ copy. copy ≡ self.now) }
+        ensures { IfOk result (λ copy. copy.locks ≡ self.now.locks) }
     {
         let kept = self.kept.copy()?;
         Ok(LockTable { kept })
@@ -98,39 +100,42 @@ impl LockTable {
 
     /// All locks, ascending by file and then by transaction.
     pub fn entries(&self, alloc: Global) -> Result<Vec<LockEntry>, AllocError>
-        ensures { IfOk result (λ all. all.items ≡ fin.entries self.now) }
+        ensures { IfOk result (λ all. all.items ≡ fin.entries self.now.locks) }
     {
         let mut all = self.kept.unsorted(alloc)?;
         all.sort_unstable_by_key(|entry| (entry.file, entry.txn));
         Ok(all)
     }
 
-    /// The keys of the locks on a file, each once, ascending by transaction.
+    /// The keys of exactly the locks on a file, each once, ascending by transaction.
     pub fn keys_of_file(&self, file: &FileName) -> &[usize]
-        ensures { HasOneKeyEach result.now (on_file self.now file.now) }
+        ensures entries { AreKeysOf self.now.slab result.now (on_file self.now.locks file.now) }
+        ensures once { HasOneKeyEach result.now (on_file self.now.locks file.now) }
     {
         self.kept.keys_of_file(file)
     }
 
-    /// The keys of a transaction's locks, each once, ascending by file.
+    /// The keys of exactly a transaction's locks, each once, ascending by file.
     pub fn keys_of_txn(&self, txn: u64) -> &[usize]
-        ensures { HasOneKeyEach result.now (held_of self.now txn) }
+        ensures entries { AreKeysOf self.now.slab result.now (held_of self.now.locks txn) }
+        ensures once { HasOneKeyEach result.now (held_of self.now.locks txn) }
     {
         self.kept.keys_of_txn(txn)
     }
 
-    /// The lock under a key.
+    /// The lock that is kept under a key, None where there is none.
     pub fn entry(&self, key: usize) -> Option<&LockEntry>
-        ensures { IfSome result (λ entry. fin.get self.now entry.now.0 ≡ Some entry.now.1) }
+        ensures entry { option_copied result ≡ get self.now.slab key }
+        ensures lock { IfSome result (λ entry. fin.get self.now.locks entry.now.0 ≡ Some entry.now.1) }
     {
         self.kept.entry(key)
     }
 
     /// The least transaction, other than this one, whose lock on the file conflicts with the mode.
     pub fn blocker(&self, txn: u64, file: FileName, mode: Mode) -> Option<u64>
-        ensures value { result ≡ blocker self.now file txn mode }
-        ensures least { IfSome result (IsLeastBlocker self.now file txn mode) }
-        ensures free { IfNone result (IsFree self.now file txn mode) }
+        ensures value { result ≡ blocker self.now.locks file txn mode }
+        ensures least { IfSome result (IsLeastBlocker self.now.locks file txn mode) }
+        ensures free { IfNone result (IsFree self.now.locks file txn mode) }
     {
         // Locks on a file are in no conflict, so the first of another transaction decides for all.
         let keys = self.kept.keys_of_file(&file);
@@ -139,8 +144,8 @@ impl LockTable {
 
     /// The lock of a transaction on a file. No two locks of the table are in conflict.
     pub fn get(&self, txn: u64, file: FileName) -> Option<Lock>
-        ensures value { result ≡ fin.get self.now (file, txn) }
-        ensures no_conflict { HasNoConflict self.now }
+        ensures value { result ≡ fin.get self.now.locks (file, txn) }
+        ensures no_conflict { HasNoConflict self.now.locks }
     {
         self.kept.lock_at(self.kept.find(&file, txn).key)
     }
@@ -154,10 +159,10 @@ impl LockTable {
         number: u64,
         version: u64,
     ) -> Result<(), AllocError>
-        requires { blocker self.old file txn mode ≡ None }
-        ensures ok { OnOk result (self.new ≡ granted self.old file txn mode number version) }
-        ensures no_conflict { HasNoConflict self.new }
-        ensures err { OnErr result (self.new ≡ self.old) }
+        requires { blocker self.old.locks file txn mode ≡ None }
+        ensures ok { OnOk result (self.new.locks ≡ granted self.old.locks file txn mode number version) }
+        ensures no_conflict { HasNoConflict self.new.locks }
+        ensures err { OnErr result (self.new.locks ≡ self.old.locks) }
     {
         let found = self.kept.find(&file, txn);
         let lock = Lock::after(self.kept.lock_at(found.key), mode, number, version);
@@ -180,11 +185,11 @@ impl LockTable {
         number: u64,
         version: u64,
     ) -> Result<LockOutcome, AllocError>
-        ensures outcome { IfOk result (λ told. told ≡ outcome (blocker self.old file.now txn mode)) }
-        ensures told { IfOk result (IsTold self.old file.now txn mode) }
-        ensures after { OnOk result (self.new ≡ asked self.old file.now txn mode number version) }
-        ensures no_conflict { HasNoConflict self.new }
-        ensures err { OnErr result (self.new ≡ self.old) }
+        ensures outcome { IfOk result (λ told. told ≡ outcome (blocker self.old.locks file.now txn mode)) }
+        ensures told { IfOk result (IsTold self.old.locks file.now txn mode) }
+        ensures after { OnOk result (self.new.locks ≡ asked self.old.locks file.now txn mode number version) }
+        ensures no_conflict { HasNoConflict self.new.locks }
+        ensures err { OnErr result (self.new.locks ≡ self.old.locks) }
     {
         let found = self.kept.find(file, txn);
         let lock = Lock::after(self.kept.lock_at(found.key), mode, number, version);
@@ -205,14 +210,14 @@ impl LockTable {
 
     /// A walk of a transaction's locks, ascending by file.
     pub fn locks_of(&self, txn: u64) -> HeldLocks<'_>
-        ensures { result ≡ held_of self.now txn }
+        ensures { result ≡ held_of self.now.locks txn }
     {
         self.kept.listed(self.kept.keys_of_txn(txn))
     }
 
     /// The locks of a transaction, ascending by file.
     pub fn held(&self, alloc: Global, txn: u64) -> Result<Vec<LockEntry>, AllocError>
-        ensures { IfOk result (λ held. held.items ≡ held_of self.now txn) }
+        ensures { IfOk result (λ held. held.items ≡ held_of self.now.locks txn) }
     {
         let keys = self.kept.keys_of_txn(txn);
         let mut held = Vec::with_capacity(alloc, keys.len())?;
@@ -224,28 +229,28 @@ impl LockTable {
 
     /// Makes the locks of a transaction stable.
     pub fn keep(&mut self, txn: u64)
-        ensures { self.new ≡ kept self.old txn }
+        ensures { self.new.locks ≡ kept self.old.locks txn }
     {
         self.kept.keep(txn);
     }
 
     /// Whether a transaction holds no lock.
     pub fn holds_nothing(&self, txn: u64) -> bool
-        ensures { result ≡ holds_nothing self.now txn }
+        ensures { result ≡ holds_nothing self.now.locks txn }
     {
         self.kept.keys_of_txn(txn).is_empty()
     }
 
     /// Ends the locks of a transaction.
     pub fn release(&mut self, txn: u64)
-        ensures { self.new ≡ released self.old txn }
+        ensures { self.new.locks ≡ released self.old.locks txn }
     {
         self.kept.release(txn);
     }
 
     /// Ends the locks that aren't stable.
     pub fn drop_unstable(&mut self)
-        ensures { self.new ≡ only_stable self.old }
+        ensures { self.new.locks ≡ only_stable self.old.locks }
     {
         self.kept.drop_unstable();
     }

@@ -61,13 +61,13 @@ impl Model for Node {
       levels = a.server.levels;
       server = a.server.number;
       state = record {
-        records = record { copies = a.copies.files; locks = a.locks; votes = kept_votes a.intents.records; down = a.down };
+        records = record { copies = a.copies.files; locks = a.locks.locks; votes = kept_votes a.intents.records; down = a.down };
         stable = a.intents.records;
       };
       last = a.last;
     } };
 
-    ghost invariant = { λ a. IsSound a.intents.records a.last a.copies.files a.locks };
+    ghost invariant = { λ a. IsSound a.intents.records a.last a.copies.files a.locks.locks };
 }
 
 impl Node {
@@ -118,7 +118,7 @@ impl Node {
 
     /// The locks held at it.
     pub fn locks(&self) -> &LockTable
-        ensures { result.now ≡ self.now.state.records.locks }
+        ensures { result.now.locks ≡ self.now.state.records.locks }
     {
         &self.locks
     }

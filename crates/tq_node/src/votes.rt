@@ -17,8 +17,8 @@ pub(crate) fn locks_of(
     table: &LockTable,
     txn: u64,
 ) -> Result<(SharedSeq<HeldLock>, VoteLocks), Memory>
-    ensures held { IfOk result (λ locks. locks.0 ≡ map spec.held_lock (held_of table.now txn)) }
-    ensures kept { IfOk result (λ locks. locks.1 ≡ map spec.kept_lock (held_of table.now txn)) }
+    ensures held { IfOk result (λ locks. locks.0 ≡ map spec.held_lock (held_of table.now.locks txn)) }
+    ensures kept { IfOk result (λ locks. locks.1 ≡ map spec.kept_lock (held_of table.now.locks txn)) }
 {
     let count = table.keys_of_txn(txn).len();
     let mut held = Vec::with_capacity(alloc, count)?;

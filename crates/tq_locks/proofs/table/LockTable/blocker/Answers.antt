@@ -1,6 +1,6 @@
 use Rattle.std.proofs.Common.{ℕ, Option, Some, refl, IfNone, IfSome, ◌≡◌, None, map, ap, sym, subst, ◌∙◌}
 use Rattle.slab.specs.Slab.{get}
-use Rattle.tq_locks.specs.Locks.{blocker, IsFree, IsLeastBlocker}
+use Rattle.tq_locks.specs.Locks.{blocker, IsFree, IsLeastBlocker, LocksView}
 use Rattle.tq_locks.specs.Kept.{decided, locks_in, on_file}
 use Rattle.tq_locks.proofs.Applied.{told-listed}
 use Rattle.tq_locks.proofs.Locked.{decided-blocker, least_blocker, no_blocker}
@@ -13,14 +13,14 @@ returns-clause-value c =
     c.held_by.ensures
     ∙ ap (decided c.args.txn c.args.mode) all
     ∙ decided-blocker (locks_in kept) c.args.file c.args.txn c.args.mode c.self.invariant.1
-    ∙ ap (λ m. blocker m c.args.file c.args.txn c.args.mode) c.self.view_is
+    ∙ ap (λ m. blocker m c.args.file c.args.txn c.args.mode) (ap (λ (v : LocksView). v.locks) c.self.view_is)
 
 pub returns-clause-least : goal.returns-clause-least
 returns-clause-least c =
-    subst (λ (o : Option ℕ). IfSome o (IsLeastBlocker c.args.self.now c.args.file c.args.txn c.args.mode)) (sym (returns-clause-value c)) (least_blocker c.args.self.now c.args.file c.args.txn c.args.mode)
+    subst (λ (o : Option ℕ). IfSome o (IsLeastBlocker c.args.self.now.locks c.args.file c.args.txn c.args.mode)) (sym (returns-clause-value c)) (least_blocker c.args.self.now.locks c.args.file c.args.txn c.args.mode)
 
 pub returns-clause-free : goal.returns-clause-free
-returns-clause-free c = subst (λ (o : Option ℕ). IfNone o (IsFree c.args.self.now c.args.file c.args.txn c.args.mode)) (sym (returns-clause-value c)) (none_free (blocker c.args.self.now c.args.file c.args.txn c.args.mode) (no_blocker c.args.self.now c.args.file c.args.txn c.args.mode))
+returns-clause-free c = subst (λ (o : Option ℕ). IfNone o (IsFree c.args.self.now.locks c.args.file c.args.txn c.args.mode)) (sym (returns-clause-value c)) (none_free (blocker c.args.self.now.locks c.args.file c.args.txn c.args.mode) (no_blocker c.args.self.now.locks c.args.file c.args.txn c.args.mode))
   where
     none_free : {P : Type 0} (o : Option ℕ) → (o ≡ None → P) → IfNone o P
     none_free None f = f refl

@@ -1,6 +1,6 @@
 use Rattle.std.proofs.Common.{map, ap, ◌∙◌}
 use Rattle.slab.specs.Slab.{get}
-use Rattle.tq_locks.specs.Locks.{held_of}
+use Rattle.tq_locks.specs.Locks.{held_of, LocksView}
 use Rattle.tq_locks.specs.Kept.{locks_in}
 use Rattle.tq_locks.proofs.Applied.{told-listed}
 use Rattle.tq_locks.proofs.table.LockTable.locks_of.Goals as goal
@@ -9,4 +9,4 @@ pub returns : goal.returns
 returns c =
     let kept = c.self.inside.kept in
     let all = told-listed (get kept.entries) c.keys_of_txn.result.now (held_of (locks_in kept) c.args.txn) (ap (map (get kept.entries)) c.keys_of_txn.ensures ∙ c.self.invariant.0.of_txn c.args.txn) in
-    c.listed.ensures ∙ all ∙ ap (λ m. held_of m c.args.txn) c.self.view_is
+    c.listed.ensures ∙ all ∙ ap (λ m. held_of m c.args.txn) (ap (λ (v : LocksView). v.locks) c.self.view_is)

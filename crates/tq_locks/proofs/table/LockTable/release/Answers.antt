@@ -1,5 +1,5 @@
 use Rattle.std.proofs.Common.{ap, ◌∙◌}
-use Rattle.tq_locks.specs.Locks.{released}
+use Rattle.tq_locks.specs.Locks.{released, LocksView}
 use Rattle.tq_locks.specs.Kept.{locks_in}
 use Rattle.tq_locks.proofs.Changed.{closed, locks_in-agreed}
 use Rattle.tq_locks.proofs.Locked.{HasNoConflict-released}
@@ -9,4 +9,4 @@ pub invariant_of-self : goal.invariant_of-self
 invariant_of-self c = closed c.release.new.self (released (locks_in c.self.inside.kept) c.args.txn) c.release.ensures (HasNoConflict-released (locks_in c.self.inside.kept) c.args.txn c.self.invariant.1)
 
 pub returns : goal.returns
-returns c = locks_in-agreed c.release.new.self (released (locks_in c.self.inside.kept) c.args.txn) c.release.ensures ∙ ap (λ m. released m c.args.txn) c.self.view_is
+returns c = locks_in-agreed c.release.new.self (released (locks_in c.self.inside.kept) c.args.txn) c.release.ensures ∙ ap (λ m. released m c.args.txn) (ap (λ (v : LocksView). v.locks) c.self.view_is)

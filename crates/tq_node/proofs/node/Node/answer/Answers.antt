@@ -16,7 +16,7 @@ returns-clause-only c =
 pub returns-clause-kept : goal.returns-clause-kept
 returns-clause-kept c =
     let inside = c.self.inside in
-    subst (λ (v : NodeView). IsKept v.state) c.self.view_is (kept_is inside.intents.records inside.last inside.copies.files inside.locks c.self.invariant inside.down)
+    subst (λ (v : NodeView). IsKept v.state) c.self.view_is (kept_is inside.intents.records inside.last inside.copies.files inside.locks.locks c.self.invariant inside.down)
 
 pub returns-clause-crashed : goal.returns-clause-crashed
 returns-clause-crashed c =

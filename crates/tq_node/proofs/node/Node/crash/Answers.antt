@@ -8,7 +8,7 @@ pub invariant_of-self : goal.invariant_of-self
 invariant_of-self c =
     let inside = c.self.inside in
     subst (λ (table : Locks). IsSound inside.intents.records inside.last inside.copies.files table) (sym c.drop_unstable.ensures)
-    (sound-crashed inside.intents.records inside.last inside.copies.files inside.locks c.self.invariant)
+    (sound-crashed inside.intents.records inside.last inside.copies.files inside.locks.locks c.self.invariant)
 
 pub returns : goal.returns
 returns c = search rules

@@ -20,7 +20,7 @@ invariant_of-self-2 c =
     let is_open : IsSome (fin.get (kept_votes inside.intents.records) c.args.txn) = subst (λ v. IsSome (fin.get v.state.records.votes c.args.txn)) (sym c.self.view_is) c.requires.open in
     let newer : c.args.newer ≡ filter (is_newer inside.copies.files) c.args.writes.now =
     c.requires.newer ∙ ap (λ v. filter (is_newer v.state.records.copies) c.args.writes.now) (sym c.self.view_is) in
-    sound-as (sound-installed inside.intents.records inside.last inside.copies.files inside.locks c.self.invariant c.args.txn c.args.writes.now is_open)
+    sound-as (sound-installed inside.intents.records inside.last inside.copies.files inside.locks.locks c.self.invariant c.args.txn c.args.writes.now is_open)
     (c.finish.ensures.records ∙ ap (λ list. list ++ Gone c.args.txn (vote_at (kept_votes list) c.args.txn).number ∷ [])
     (c.install_copies.ensures.records ∙ (λ i. c.in_ok-reserve-2.ensures.records i ++ map Copy (newer i))))
     (c.install_copies.ensures.files ∙ (λ i. installed_all (c.in_ok-reserve.ensures.files i) (newer i)) ∙ installed_all-newer inside.copies.files c.args.writes.now)

@@ -9,5 +9,5 @@ pub invariant_of-self-2 : goal.invariant_of-self-2
 invariant_of-self-2 c =
     let inside = c.self.inside in
     subst (λ (table : Locks). IsSound inside.intents.records inside.last inside.copies.files table) (sym c.in_ok-grant.ensures.ok)
-    (sound-granted inside.intents.records inside.last inside.copies.files inside.locks c.self.invariant c.args.file c.args.txn c.args.mode c.args.number _
+    (sound-granted inside.intents.records inside.last inside.copies.files inside.locks.locks c.self.invariant c.args.file c.args.txn c.args.mode c.args.number _
     (ap (λ v. fin.get v.state.records.votes c.args.txn) c.self.view_is ∙ c.requires.closed))

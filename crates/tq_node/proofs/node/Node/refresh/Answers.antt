@@ -9,7 +9,7 @@ invariant_of-self-2 c =
     let inside = c.self.inside in
     let write = c.args.write in
     let stored : c.in_ok-kept.kept ≡ c.args.write.content = search rules in
-    sound-as (sound-copies inside.intents.records inside.last inside.copies.files inside.locks c.self.invariant (write ∷ []))
+    sound-as (sound-copies inside.intents.records inside.last inside.copies.files inside.locks.locks c.self.invariant (write ∷ []))
     (c.push_copy.ensures.records ∙ (λ i. c.in_ok-reserve-2.ensures.records i ++ Copy (c.in_ok-written.ensures i) ∷ []))
     (c.install.ensures.files ∙ (λ i. installed (c.in_ok-reserve.ensures.files i) write.file (record { version = write.version; content = stored i })))
     refl

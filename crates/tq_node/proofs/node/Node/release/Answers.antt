@@ -9,5 +9,5 @@ pub invariant_of-self : goal.invariant_of-self
 invariant_of-self c =
     let inside = c.self.inside in
     subst (λ (table : Locks). IsSound inside.intents.records inside.last inside.copies.files table) (sym c.release.ensures)
-    (sound-released inside.intents.records inside.last inside.copies.files inside.locks c.self.invariant c.args.txn
+    (sound-released inside.intents.records inside.last inside.copies.files inside.locks.locks c.self.invariant c.args.txn
     (ap (λ v. fin.get v.state.records.votes c.args.txn) c.self.view_is ∙ c.requires))

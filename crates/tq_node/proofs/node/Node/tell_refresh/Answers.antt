@@ -13,7 +13,7 @@ invariant_of-self-2 c =
     let stored : c.in_ok-kept.kept ≡ c.args.content.now = search rules in
     let shared : c.in_ok-clone.field-0 ≡ c.args.ask.now = search rules in
     let told : c.told-written.result ≡ write = c.told-written.ensures ∙ ap told_write (shared ∙ c.requires.ask) in
-    sound-as (sound-copies inside.intents.records inside.last inside.copies.files inside.locks c.self.invariant (write ∷ []))
+    sound-as (sound-copies inside.intents.records inside.last inside.copies.files inside.locks.locks c.self.invariant (write ∷ []))
     (c.push_copy.ensures.records ∙ (λ i. c.in_ok-reserve-2.ensures.records i ++ Copy (told i) ∷ []))
     (c.install_newer.ensures.files ∙ (λ i. installed (c.in_ok-reserve.ensures.files i) write.file (record { version = write.version; content = stored i })))
     refl

@@ -11,7 +11,7 @@ invariant_of-self-2 c =
     let inside = c.self.inside in
     let rises : inside.last < c.args.number = grind (arith, c.requires.rises, c.self.view_is) in
     let is_kept = c.requires.locks ∙ ap (λ v. map kept_lock (held_of v.state.records.locks c.args.txn)) (sym c.self.view_is) in
-    sound-as (sound-prepared inside.intents.records inside.last inside.copies.files inside.locks c.self.invariant c.args.txn c.args.number c.args.writes rises
+    sound-as (sound-prepared inside.intents.records inside.last inside.copies.files inside.locks.locks c.self.invariant c.args.txn c.args.number c.args.writes rises
     (ap (λ v. fin.get v.state.records.votes c.args.txn) c.self.view_is ∙ c.requires.closed))
     (c.in_ok-prepare.ensures.records ∙ (λ i. inside.intents.records ++ vote_records c.args.txn c.args.number c.args.writes (is_kept i)))
     refl c.keep.ensures
