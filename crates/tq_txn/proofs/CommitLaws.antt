@@ -2,7 +2,6 @@
 use Rattle.std.proofs.Common.{◌≡◌, ℕ, true, false, not, cond, List, ◌∷◌, Option, Some, None, Result, Ok, Err, refl, sym, ◌∙◌, subst}
 use Rattle.tq_shape.specs.Tree.{Server}
 use Rattle.tq_coterie.specs.Coterie.{numbers_of}
-use Rattle.tq_asks.specs.declared.ask.Verdict.{Verdict}
 use Rattle.tq_desk.specs.declared.ask.DeskAsk.{DeskAsk}
 use Rattle.tq_txn.specs.declared.asker.Exchange.{Exchange}
 use Rattle.tq_txn.specs.declared.fault.LineFault.{LineFault}
@@ -12,13 +11,12 @@ use Rattle.tq_states.specs.declared.fault.TxnFault.TheVariants as txn_faults
 use Rattle.tq_states.specs.declared.told.DeskTold.{DeskTold}
 use Rattle.tq_txn.specs.declared.txn.Txn.{Txn}
 use Rattle.tq_txn.specs.declared.txn.Txn.TheVariants as states
-use Rattle.tq_txn.specs.Commits.{prepares_line, committed, decided_by, decided, ready_line, decide_line, commit_end, decide_and_end_line, commit_line, IsDecision, IsUndecided}
-use Rattle.tq_states.specs.Ended.{EndedView, IsEnd, end_fault, fault_without, verdict_in, ended_with}
+use Rattle.tq_txn.specs.Commits.{prepares_line, committed, decided, ready_line, decide_line, commit_end, decide_and_end_line, commit_line}
+use Rattle.tq_states.specs.Ended.{EndedView}
 use Rattle.tq_txn.specs.Dialogue.{Dialogue, LineEnd, Follows, done, ended_by, fault_of_txn, desk_line}
 use Rattle.tq_txn.specs.Lines.{answers, prepare_line, ending_line}
-use Rattle.tq_states.specs.Open.{ComesOf}
 use Rattle.tq_states.specs.Voting.{VotingView, has_votes, ready_fault, evidence_of}
-use Rattle.tq_txn.proofs.LineLaws.{follows_memory, follows_end, follows_answer, follows_on, follows_off}
+use Rattle.tq_txn.proofs.LineLaws.{follows_end, follows_answer, follows_on, follows_off}
 
 module _ (servers rest : List Server) (server : Server) (old new : VotingView) (is : servers ≡ server ∷ rest) where
   pub prepares_off : (fault : LineFault) (told after : List Exchange) → Follows (prepare_line old server.number) told after (ended_by (Err fault) new) → Follows (prepares_line (numbers_of servers) old) told after (ended_by (Err fault) new)
@@ -29,38 +27,11 @@ module _ (servers rest : List Server) (server : Server) (old new : VotingView) (
   prepares_on told mid after end first more =
       rw is (follows_on (prepare_line old server.number) (λ s. s) (λ all s. prepares_line (numbers_of rest) s) tt new told mid after end first more)
 
-pub decision_of : (old : VotingView) (told : DeskTold) (answer : Result ℕ LineFault) (after : Txn) → answer ≡ committed told.reply → after ≡ decided old told → IsDecision old told answer after
-decision_of old told (Ok serial) after is leaves = (is, leaves)
-decision_of old told (Err faults.Memory) after is leaves = tt
-decision_of old told (Err fault) after is leaves = (is, leaves)
-
-pub ended_is : (old : VotingView) (told : DeskTold) (ended : EndedView) → IsEnd old.txn told ended → states.Ended ended ≡ decided old told
-ended_is old told ended is =
-    let same : ended ≡ ended_with old.txn told.number ended.verdict = λ i. record { levels = is.levels i; txn = is.txn i; verdict = ended.verdict; cite = is.cite i; servers = is.servers i } in
-    let P : Option Verdict → Type 0 = λ v. states.Ended ended ≡ decided_by old told.number v in
-    subst P (sym is.verdict) (λ i. states.Ended (same i))
-
-no_verdict : (found : Option Verdict) (fault : TxnFault) → fault_without found ≡ Some fault → found ≡ None
-no_verdict None fault is = refl
-no_verdict (Some verdict) fault is = cc
-
-undecided : (old : VotingView) (told : DeskTold) (fault : TxnFault) → end_fault old.txn told ≡ Some fault → states.Voting old ≡ decided old told
-undecided old told fault is =
-    let P : Option Verdict → Type 0 = λ v. states.Voting old ≡ decided_by old told.number v in
-    subst P (sym (no_verdict (verdict_in old.txn.txn told) fault is)) refl
-
-pub undecided_decision : (old : VotingView) (told : DeskTold) (fault : TxnFault) (answer : Result ℕ LineFault) (after : Txn) → ComesOf (end_fault old.txn told) fault → IsUndecided old told.reply fault answer after → IsDecision old told answer after
-undecided_decision old told txn_faults.Memory answer after is so =
-    let P : Result ℕ LineFault → Type 0 = λ a. IsDecision old told a after in
-    subst P (sym so.0) tt
-undecided_decision old told fault answer after is so = decision_of old told answer after so.0 (so.1 ∙ undecided old told fault is)
-
-decision_follows : (old : VotingView) (told : DeskTold) (answer : Result ℕ LineFault) (after : Txn) (exchanges : List Exchange) → IsDecision old told answer after → Follows (answers (committed told.reply) (decided old told)) exchanges exchanges (ended_by answer after)
-decision_follows old told (Err faults.Memory) after exchanges is = let line : Dialogue (LineEnd ℕ Txn) = answers (committed told.reply) (decided old told) in follows_memory line exchanges
-decision_follows old told answer after exchanges is =
+decision_follows : (old : VotingView) (told : DeskTold) (answer : Result ℕ LineFault) (after : Txn) (exchanges : List Exchange) → answer ≡ committed told.reply → after ≡ decided old told → Follows (answers (committed told.reply) (decided old told)) exchanges exchanges (ended_by answer after)
+decision_follows old told answer after exchanges is leaves =
     let P : Result ℕ LineFault → Type 0 = λ a. Follows (answers (committed told.reply) (decided old told)) exchanges exchanges (ended_by a (decided old told)) in
     let Q : Txn → Type 0 = λ t. Follows (answers (committed told.reply) (decided old told)) exchanges exchanges (ended_by answer t) in
-    subst Q (sym is.1) (subst P (sym is.0) (follows_answer (committed told.reply) (decided old told) exchanges))
+    subst Q (sym leaves) (subst P (sym is) (follows_answer (committed told.reply) (decided old told) exchanges))
 
 module _ (old : VotingView) (ask : DeskAsk) (asks : ask ≡ evidence_of old) where
   asked : (exchanges after : List Exchange) (end : Option (LineEnd DeskTold (Unit {0}))) → Follows (desk_line ask) exchanges after end → Follows (desk_line (evidence_of old)) exchanges after end
@@ -70,10 +41,10 @@ module _ (old : VotingView) (ask : DeskAsk) (asks : ask ≡ evidence_of old) whe
   ready_off fault exchanges after first =
       follows_off (desk_line (evidence_of old)) (λ none. states.Voting old) (λ told none. answers (committed told.reply) (decided old told)) fault tt (states.Voting old) exchanges after refl (asked exchanges after (ended_by (Err fault) tt) first)
 
-  pub ready_on : (told : DeskTold) (answer : Result ℕ LineFault) (left : Txn) (exchanges after : List Exchange) → Follows (desk_line ask) exchanges after (Some (record { answer = Ok told; after = tt })) → IsDecision old told answer left → Follows (ready_line old) exchanges after (ended_by answer left)
-  ready_on told answer left exchanges after first is =
+  pub ready_on : (told : DeskTold) (answer : Result ℕ LineFault) (left : Txn) (exchanges after : List Exchange) → Follows (desk_line ask) exchanges after (Some (record { answer = Ok told; after = tt })) → answer ≡ committed told.reply → left ≡ decided old told → Follows (ready_line old) exchanges after (ended_by answer left)
+  ready_on told answer left exchanges after first is leaves =
       follows_on (desk_line (evidence_of old)) (λ none. states.Voting old) (λ t none. answers (committed t.reply) (decided old t)) told tt exchanges after after (ended_by answer left)
-      (asked exchanges after (Some (record { answer = Ok told; after = tt })) first) (decision_follows old told answer left after is)
+      (asked exchanges after (Some (record { answer = Ok told; after = tt })) first) (decision_follows old told answer left after is leaves)
 
 missing : (old : VotingView) (fault : TxnFault) → ready_fault old ≡ Some fault → (has_votes old ≡ false) × (fault ≡ txn_faults.VotesMissing)
 missing old fault is =

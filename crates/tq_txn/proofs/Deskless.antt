@@ -1,7 +1,9 @@
 -- The parts of a line that ask servers alone.
-use Rattle.std.proofs.Common.{ℕ, Bool, true, false, cond, List, [], ◌∷◌, ◌++◌, Option, Some, None, Result, Ok, Err, sym, subst, inl, inr}
+use Rattle.std.specs.List.{list_any}
+use Rattle.std.proofs.Common.{◌≡◌, ap, ◌∙◌, ℕ, Bool, true, false, cond, List, [], ◌∷◌, ◌++◌, Option, Some, None, Result, Ok, Err, sym, subst, inl, inr}
 use Rattle.tq_asks.specs.declared.ask.NodeReply.{NodeReply}
 use Rattle.tq_asks.specs.declared.ask.NodeRefusal.{NodeRefusal}
+use Rattle.tq_desk.specs.declared.ask.DeskReply.{DeskReply}
 use Rattle.tq_live.specs.declared.view.ViewReply.{ViewReply}
 use Rattle.tq_states.specs.declared.fault.TxnFault.{TxnFault}
 use Rattle.tq_states.specs.declared.told.NodeTold.{NodeTold}
@@ -12,10 +14,12 @@ use Rattle.tq_txn.specs.declared.asker.Exchange.TheVariants as exchanges
 use Rattle.tq_txn.specs.declared.fault.LineFault.{LineFault}
 use Rattle.tq_txn.specs.declared.txn.Txn.{Txn}
 use Rattle.tq_txn.specs.declared.txn.Txn.TheVariants as states
+use Rattle.tq_txn.specs.Aborts.{is_abort, aborted, end_aborted, abort_end}
 use Rattle.tq_txn.specs.Commits.{prepares_line, commit_end}
 use Rattle.tq_txn.specs.Dialogue.{Told, Dialogue, Ends, AsksNode, AsksDesk, AsksView, Makes, Begins, Follows, LineEnd, then_line, done, go_on, and_then, unless, on_told, node_line}
-use Rattle.tq_txn.specs.Lines.{refusal_in, refused_at, voted, first_prepare, prepare_line, any_line, is_nothing_here, release_line, end_line, ending_line}
-use Rattle.tq_txn.specs.Told.{CitesTold, CitesSince}
+use Rattle.tq_txn.specs.Lines.{answers, refusal_in, refused_at, voted, first_prepare, prepare_line, any_line, is_nothing_here, release_line, end_line, ending_line}
+use Rattle.tq_txn.specs.Told.{CitesTold, CitesSince, tells_end}
+use Rattle.tq_txn.proofs.EndLaws.{Untold}
 
 -- the desk is not asked
 abbrev pub IsDeskless : {A : Type 0} → Dialogue A → Type 0
@@ -49,6 +53,32 @@ begins_cites (AsksView ask next) before more none begun =
 pub deskless_cites : {A : Type 0} (line : Dialogue A) (old new : List Exchange) (end : Option A) → IsDeskless line → Follows line old new end → CitesSince old new
 deskless_cites line old new None none follows = (follows.0, follows.1, begins_cites line old follows.0 none follows.2)
 deskless_cites line old new (Some end) none follows = (follows.0, follows.1, makes_cites line old follows.0 end none follows.2)
+
+-- so it tells of no end
+module _ (number : ℕ) where
+  makes_untold : {A : Type 0} (line : Dialogue A) (more : List Exchange) (end : A) → IsDeskless line → Makes line more end → list_any (tells_end number) more ≡ false
+  makes_untold (Ends a) more end none made = ap (list_any (tells_end number)) made.0
+  makes_untold (AsksNode server ask next) more end none made = ap (list_any (tells_end number)) made.2 ∙ makes_untold (next made.0) made.1 end (none made.0) made.3
+  makes_untold (AsksDesk ask next) more end none made = absurd none
+  makes_untold (AsksView ask next) more end none made = ap (list_any (tells_end number)) made.2 ∙ makes_untold (next made.0) made.1 end (none made.0) made.3
+
+  begins_untold : {A : Type 0} (line : Dialogue A) (more : List Exchange) → IsDeskless line → Begins line more → list_any (tells_end number) more ≡ false
+  begins_untold (Ends a) more none begun = ap (list_any (tells_end number)) begun
+  begins_untold (AsksNode server ask next) more none begun =
+      elim begun [
+        | inl nothing ↦ ap (list_any (tells_end number)) nothing
+        | inr some ↦ ap (list_any (tells_end number)) some.2 ∙ begins_untold (next some.0) some.1 (none some.0) some.3
+      ]
+  begins_untold (AsksDesk ask next) more none begun = absurd none
+  begins_untold (AsksView ask next) more none begun =
+      elim begun [
+        | inl nothing ↦ ap (list_any (tells_end number)) nothing
+        | inr some ↦ ap (list_any (tells_end number)) some.2 ∙ begins_untold (next some.0) some.1 (none some.0) some.3
+      ]
+
+  pub deskless_untold : {A : Type 0} (line : Dialogue A) (old new : List Exchange) (end : Option A) → IsDeskless line → Follows line old new end → Untold number old new
+  deskless_untold line old new None none follows = (follows.0, follows.1, begins_untold line follows.0 none follows.2)
+  deskless_untold line old new (Some end) none follows = (follows.0, follows.1, makes_untold line follows.0 end none follows.2)
 
 -- ---- parts after one another
 
@@ -118,3 +148,15 @@ pub deskless_commit_end : (serial : ℕ) (txn : Txn) → IsDeskless (commit_end 
 deskless_commit_end serial (states.Ended ended) = deskless_on (ending_line ended ended.servers) (λ none. states.Ended ended) (λ all none. done serial (states.Ended ended)) (deskless_ending ended ended.servers) (λ all none. tt)
 deskless_commit_end serial (states.Open old) = tt
 deskless_commit_end serial (states.Voting old) = tt
+
+deskless_end_aborted : (reply : DeskReply) (txn : Txn) → IsDeskless (end_aborted reply txn)
+deskless_end_aborted reply (states.Ended ended) = deskless_on (ending_line ended ended.servers) (λ none. states.Ended ended) (λ all none. done tt (states.Ended ended)) (deskless_ending ended ended.servers) (λ all none. tt)
+deskless_end_aborted reply (states.Open old) = tt
+deskless_end_aborted reply (states.Voting old) = tt
+
+pub deskless_abort_end : (reply : DeskReply) (txn : Txn) → IsDeskless (abort_end reply txn)
+deskless_abort_end reply txn =
+    elim (is_abort reply) as (λ b. IsDeskless (cond b (end_aborted reply txn) (answers (aborted reply) txn))) [
+      | true ↦ deskless_end_aborted reply txn
+      | false ↦ tt
+    ]

@@ -4,6 +4,7 @@ pub mod StopLaws
 pub mod KeptVotes
 pub mod ToldLaws
 pub mod KnownLaws
+pub mod EndLaws
 pub mod Deskless
 pub mod CommitLaws
 pub mod AbortLaws

@@ -5,6 +5,7 @@ use Rattle.tq_asks.specs.declared.ask.NodeAsk.{NodeAsk}
 use Rattle.tq_asks.specs.declared.ask.NodeReply.{NodeReply}
 use Rattle.tq_desk.specs.declared.ask.DeskAsk.{DeskAsk}
 use Rattle.tq_desk.specs.declared.ask.DeskReply.{DeskReply}
+use Rattle.tq_live.specs.declared.purpose.Purpose.{Purpose}
 use Rattle.tq_live.specs.declared.view.ViewAsk.{ViewAsk}
 use Rattle.tq_live.specs.declared.view.ViewReply.{ViewReply}
 use Rattle.std.specs.Prelude.{IfOk}
@@ -23,7 +24,7 @@ use Rattle.tq_locks.specs.declared.mode.Mode.{Mode}
 use Rattle.tq_shape.specs.Tree.{Server}
 use Rattle.tq_coterie.specs.Coterie.{numbers_of}
 use Rattle.tq_states.specs.Ended.{EndedView, decide_ask}
-use Rattle.tq_txn.specs.Lines.{LocksView, choose_line, next_lock, locks_line, quorum_line, read_end, quorum_read, read_line, write_end, quorum_write, write_line, refusal_in, voted, prepare_line, any_line, is_nothing_here, release_line, end_line, ending_line}
+use Rattle.tq_txn.specs.Lines.{LocksView, purpose_of, choose_line, next_lock, locks_line, quorum_line, read_end, quorum_read, read_line, write_end, quorum_write, write_line, refusal_in, voted, prepare_line, any_line, is_nothing_here, release_line, end_line, ending_line}
 use Rattle.tq_store.specs.declared.copies.FileCopy.{FileCopy}
 use Rattle.tq_evidence.specs.declared.op.OpKind.TheVariants as kinds
 use Rattle.tq_evidence.specs.Evidence.{greatest}
@@ -216,16 +217,19 @@ module _ (file : List ℕ) (mode : Mode) (servers rest : List Server) (server : 
   locks_on told mid after end first more =
       rw is (follows_on (next_lock file mode server.number old) (λ s. s) (λ all s. locks_line file mode (numbers_of rest) s) tt new told mid after end first more)
 
-module _ (file : List ℕ) (mode : Mode) (levels : ℕ) (old : OpenView) (same : levels ≡ old.levels) where
-  chosen_line : (told after : List Exchange) (end : Option (LineEnd (List ℕ) (Unit {0}))) → Follows (choose_line levels) told after end → Follows (choose_line old.levels) told after end
-  chosen_line told after end first = let P : ℕ → Type 0 = λ l. Follows (choose_line l) told after end in subst P same first
+module _ (file : List ℕ) (mode : Mode) (levels : ℕ) (old : OpenView) (same : levels ≡ old.levels) (purpose : Purpose) (fits : purpose ≡ purpose_of mode) where
+  chosen_line : (told after : List Exchange) (end : Option (LineEnd (List ℕ) (Unit {0}))) → Follows (choose_line levels purpose) told after end → Follows (choose_line old.levels (purpose_of mode)) told after end
+  chosen_line told after end first =
+      let P : ℕ → Type 0 = λ l. Follows (choose_line l (purpose_of mode)) told after end in
+      let Q : Purpose → Type 0 = λ p. Follows (choose_line levels p) told after end in
+      subst P same (subst Q fits first)
 
-  pub quorum_off : (fault : LineFault) (told after : List Exchange) → Follows (choose_line levels) told after (ended_by (Err fault) tt) → Follows (quorum_line file mode old) told after (ended_by (Err fault) old)
+  pub quorum_off : (fault : LineFault) (told after : List Exchange) → Follows (choose_line levels purpose) told after (ended_by (Err fault) tt) → Follows (quorum_line file mode old) told after (ended_by (Err fault) old)
   quorum_off fault told after first =
-      follows_off (choose_line old.levels) (λ none. old) (λ servers none. and_then (locks_line file mode servers (record { answers = []; txn = old })) (λ new. new.txn) (λ all new. done new.answers new.txn)) fault tt old told after refl
+      follows_off (choose_line old.levels (purpose_of mode)) (λ none. old) (λ servers none. and_then (locks_line file mode servers (record { answers = []; txn = old })) (λ new. new.txn) (λ all new. done new.answers new.txn)) fault tt old told after refl
       (chosen_line told after (ended_by (Err fault) tt) first)
 
-  module _ (servers : List ℕ) (ids : List Server) (none : List NodeTold) (numbers : numbers_of ids ≡ servers) (empty : none ≡ []) (told mid : List Exchange) (first : Follows (choose_line levels) told mid (Some (record { answer = Ok servers; after = tt }))) where
+  module _ (servers : List ℕ) (ids : List Server) (none : List NodeTold) (numbers : numbers_of ids ≡ servers) (empty : none ≡ []) (told mid : List Exchange) (first : Follows (choose_line levels purpose) told mid (Some (record { answer = Ok servers; after = tt }))) where
     locked : (after : List Exchange) (end : Option (LineEnd (Unit {0}) LocksView)) → Follows (locks_line file mode (numbers_of ids) (record { answers = none; txn = old })) mid after end → Follows (locks_line file mode servers (record { answers = []; txn = old })) mid after end
     locked after end more =
         let P : List ℕ → List NodeTold → Type 0 = λ ns xs. Follows (locks_line file mode ns (record { answers = xs; txn = old })) mid after end in
@@ -233,13 +237,13 @@ module _ (file : List ℕ) (mode : Mode) (levels : ℕ) (old : OpenView) (same :
 
     pub quorum_stopped : (fault : LineFault) (new : LocksView) (after : List Exchange) → Follows (locks_line file mode (numbers_of ids) (record { answers = none; txn = old })) mid after (ended_by (Err fault) new) → Follows (quorum_line file mode old) told after (ended_by (Err fault) new.txn)
     quorum_stopped fault new after more =
-        follows_on (choose_line old.levels) (λ none. old) (λ servers none. and_then (locks_line file mode servers (record { answers = []; txn = old })) (λ s. s.txn) (λ all s. done s.answers s.txn)) servers tt told mid after (ended_by (Err fault) new.txn)
+        follows_on (choose_line old.levels (purpose_of mode)) (λ none. old) (λ servers none. and_then (locks_line file mode servers (record { answers = []; txn = old })) (λ s. s.txn) (λ all s. done s.answers s.txn)) servers tt told mid after (ended_by (Err fault) new.txn)
         (chosen_line told mid (Some record { answer = Ok servers; after = tt }) first)
         (follows_off (locks_line file mode servers (record { answers = []; txn = old })) (λ s. s.txn) (λ all s. done s.answers s.txn) fault new new.txn mid after refl (locked after (ended_by (Err fault) new) more))
 
     pub quorum_locked : (new : LocksView) (after : List Exchange) → Follows (locks_line file mode (numbers_of ids) (record { answers = none; txn = old })) mid after (Some (record { answer = Ok tt; after = new })) → Follows (quorum_line file mode old) told after (Some (record { answer = Ok new.answers; after = new.txn }))
     quorum_locked new after more =
-        follows_on (choose_line old.levels) (λ none. old) (λ servers none. and_then (locks_line file mode servers (record { answers = []; txn = old })) (λ s. s.txn) (λ all s. done s.answers s.txn)) servers tt told mid after (Some (record { answer = Ok new.answers; after = new.txn }))
+        follows_on (choose_line old.levels (purpose_of mode)) (λ none. old) (λ servers none. and_then (locks_line file mode servers (record { answers = []; txn = old })) (λ s. s.txn) (λ all s. done s.answers s.txn)) servers tt told mid after (Some (record { answer = Ok new.answers; after = new.txn }))
         (chosen_line told mid (Some record { answer = Ok servers; after = tt }) first)
         (follows_on (locks_line file mode servers (record { answers = []; txn = old })) (λ s. s.txn) (λ all s. done s.answers s.txn) tt new mid after after (Some (record { answer = Ok new.answers; after = new.txn })) (locked after (Some record { answer = Ok tt; after = new }) more) (follows_end _ after))
 

@@ -1,14 +1,12 @@
 -- The line that aborts a transaction.
-use Rattle.std.specs.Prelude.{ℕ, Bool, true, false, if◌then◌else◌, Option, Some, None, Result, Err}
+use Rattle.std.specs.Prelude.{ℕ, Bool, false, not, if◌then◌else◌, Option, Some, None, Result, Err}
 use Rattle.tq_shape.specs.declared.part.Part.TheVariants as parts
-use Rattle.tq_asks.specs.declared.ask.Verdict.TheVariants as verdicts
 use Rattle.tq_desk.specs.declared.ask.DeskAsk.TheVariants as asks
 use Rattle.tq_desk.specs.declared.ask.DeskReply.{DeskReply}
 use Rattle.tq_desk.specs.declared.ask.DeskReply.TheVariants as replies
-use Rattle.tq_desk.specs.declared.ask.DeskRefusal.TheVariants.{Decided}
 use Rattle.tq_txn.specs.declared.fault.LineFault.{LineFault}
 use Rattle.tq_txn.specs.declared.fault.LineFault.TheVariants as faults
-use Rattle.tq_txn.specs.Dialogue.{Dialogue, LineEnd, done, and_then, desk_line}
+use Rattle.tq_txn.specs.Dialogue.{Dialogue, LineEnd, done, and_then, desk_line, is_commit, fault_of_desk}
 use Rattle.tq_txn.specs.Lines.{answers, ending_line}
 use Rattle.tq_asks.specs.declared.ask.Verdict.{Verdict}
 use Rattle.tq_states.specs.declared.told.DeskTold.{DeskTold}
@@ -29,14 +27,20 @@ resolved (states.Open old) told = resolved_by (states.Open old) old told.number 
 resolved (states.Voting old) told = resolved_by (states.Voting old) old.txn told.number (verdict_in old.txn.txn told)
 resolved (states.Ended old) told = states.Ended old
 
+-- the same by the verdict that the answer tells of it
+abbrev pub resolved_with : Txn → ℕ → Option Verdict → Txn
+resolved_with (states.Open old) cite verdict = resolved_by (states.Open old) old cite verdict
+resolved_with (states.Voting old) cite verdict = resolved_by (states.Voting old) old.txn cite verdict
+resolved_with (states.Ended old) cite verdict = states.Ended old
+
 -- an answer that is no abort
 abbrev pub aborted : DeskReply → Result (Unit {0}) LineFault
-aborted (replies.Verdict verdict) = Err (faults.Desk (Decided verdict))
-aborted (replies.Refused refusal) = Err (faults.Desk refusal)
+aborted (replies.Verdict verdict) = Err (faults.Ended (is_commit verdict))
+aborted (replies.Refused refusal) = Err (fault_of_desk refusal)
 aborted reply = Err (faults.WrongReply parts.Desk)
 
 abbrev pub is_abort : DeskReply → Bool
-is_abort (replies.Verdict verdicts.Abort) = true
+is_abort (replies.Verdict verdict) = not (is_commit verdict)
 is_abort reply = false
 
 abbrev pub ending_of : EndedView → Dialogue (LineEnd (Unit {0}) Txn)

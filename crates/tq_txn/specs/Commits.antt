@@ -1,18 +1,16 @@
 -- The lines that end a transaction: decide and commit.
-use Rattle.std.specs.Prelude.{◌≡◌, ℕ, List, [], ◌∷◌, Option, Some, None, Result, Ok, Err, if◌then◌else◌}
+use Rattle.std.specs.Prelude.{ℕ, List, [], ◌∷◌, Result, Ok, Err, if◌then◌else◌}
 use Rattle.tq_shape.specs.declared.part.Part.TheVariants as parts
-use Rattle.tq_asks.specs.declared.ask.Verdict.{Verdict}
 use Rattle.tq_desk.specs.declared.ask.DeskReply.{DeskReply}
 use Rattle.tq_desk.specs.declared.ask.DeskReply.TheVariants as replies
 use Rattle.tq_txn.specs.declared.fault.LineFault.{LineFault}
 use Rattle.tq_txn.specs.declared.fault.LineFault.TheVariants as faults
-use Rattle.tq_states.specs.declared.fault.TxnFault.{TxnFault}
 use Rattle.tq_states.specs.declared.fault.TxnFault.TheVariants as txn_faults
 use Rattle.tq_states.specs.declared.told.DeskTold.{DeskTold}
 use Rattle.tq_txn.specs.declared.txn.Txn.{Txn}
 use Rattle.tq_txn.specs.declared.txn.Txn.TheVariants as states
-use Rattle.tq_states.specs.Ended.{verdict_in, ended_with}
-use Rattle.tq_txn.specs.Dialogue.{Dialogue, LineEnd, done, failed, and_then, desk_line}
+use Rattle.tq_txn.specs.Aborts.{resolved}
+use Rattle.tq_txn.specs.Dialogue.{Dialogue, LineEnd, done, failed, and_then, desk_line, fault_of_desk}
 use Rattle.tq_txn.specs.Lines.{answers, prepare_line, ending_line}
 use Rattle.tq_states.specs.Voting.{VotingView, has_votes, evidence_of}
 
@@ -23,16 +21,12 @@ prepares_line (server ∷ servers) old = and_then (prepare_line old server) (λ 
 
 abbrev pub committed : DeskReply → Result ℕ LineFault
 committed (replies.Committed serial) = Ok serial
-committed (replies.Refused refusal) = Err (faults.Desk refusal)
+committed (replies.Refused refusal) = Err (fault_of_desk refusal)
 committed reply = Err (faults.WrongReply parts.Desk)
 
 -- an answer that tells how the transaction ended ends it
-abbrev pub decided_by : VotingView → ℕ → Option Verdict → Txn
-decided_by old cite None = states.Voting old
-decided_by old cite (Some verdict) = states.Ended (ended_with old.txn cite verdict)
-
 abbrev pub decided : VotingView → DeskTold → Txn
-decided old told = decided_by old told.number (verdict_in old.txn.txn told)
+decided old told = resolved (states.Voting old) told
 
 -- the commit at the desk
 abbrev pub ready_line : VotingView → Dialogue (LineEnd ℕ Txn)
@@ -41,15 +35,6 @@ ready_line old = and_then (desk_line (evidence_of old)) (λ none. states.Voting 
 -- the commit, where each voter's vote is there
 abbrev pub decide_line : VotingView → Dialogue (LineEnd ℕ Txn)
 decide_line old = if has_votes old then ready_line old else failed (faults.Txn txn_faults.VotesMissing) (states.Voting old)
-
--- what a call makes of the desk's answer, unless memory runs out
-abbrev pub IsDecision : VotingView → DeskTold → Result ℕ LineFault → Txn → Type 0
-IsDecision old told (Err faults.Memory) after = Unit {0}
-IsDecision old told answer after = (answer ≡ committed told.reply) × (after ≡ decided old told)
-
-abbrev pub IsUndecided : VotingView → DeskReply → TxnFault → Result ℕ LineFault → Txn → Type 0
-IsUndecided old reply txn_faults.Memory answer after = (answer ≡ Err faults.Memory) × (after ≡ states.Voting old)
-IsUndecided old reply fault answer after = (answer ≡ committed reply) × (after ≡ states.Voting old)
 
 -- after the commit, the ending
 abbrev pub commit_end : ℕ → Txn → Dialogue (LineEnd ℕ Txn)

@@ -1,8 +1,12 @@
 -- What a line asks and answers: a tree of asks with a branch for each answer, and at its ends what the line answers.
-use Rattle.std.specs.Prelude.{◌≡◌, ◌⊎◌, ℕ, List, [], ◌∷◌, ◌++◌, Option, Some, None, Result, Ok, Err}
+use Rattle.std.specs.Prelude.{◌≡◌, ◌⊎◌, ℕ, Bool, true, false, List, [], ◌∷◌, ◌++◌, Option, Some, None, Result, Ok, Err}
 use Rattle.tq_asks.specs.declared.ask.NodeAsk.{NodeAsk}
 use Rattle.tq_asks.specs.declared.ask.NodeReply.{NodeReply}
 use Rattle.tq_desk.specs.declared.ask.DeskAsk.{DeskAsk}
+use Rattle.tq_asks.specs.declared.ask.Verdict.{Verdict}
+use Rattle.tq_asks.specs.declared.ask.Verdict.TheVariants as verdicts
+use Rattle.tq_desk.specs.declared.ask.DeskRefusal.{DeskRefusal}
+use Rattle.tq_desk.specs.declared.ask.DeskRefusal.TheVariants.{Decided}
 use Rattle.tq_desk.specs.declared.ask.DeskReply.{DeskReply}
 use Rattle.tq_live.specs.declared.view.ViewAsk.{ViewAsk}
 use Rattle.tq_live.specs.declared.view.ViewReply.{ViewReply}
@@ -105,6 +109,16 @@ line_result (Err fault) = Err (fault_of_ask fault)
 abbrev pub fault_of_txn : TxnFault → LineFault
 fault_of_txn txn_faults.Memory = faults.Memory
 fault_of_txn fault = faults.Txn fault
+
+-- whether the transaction ended by a commit
+abbrev pub is_commit : Verdict → Bool
+is_commit verdicts.Abort = false
+is_commit (verdicts.Commit votes) = true
+
+-- what the desk refuses for; where it tells that the transaction has ended, its state tells the verdict
+abbrev pub fault_of_desk : DeskRefusal → LineFault
+fault_of_desk (Decided verdict) = faults.Ended (is_commit verdict)
+fault_of_desk refusal = faults.Desk refusal
 
 -- ---- one ask
 

@@ -19,6 +19,8 @@ use Rattle.tq_evidence.specs.declared.grant.Grant.{Grant}
 use Rattle.tq_evidence.specs.declared.op.Op.{Op}
 use Rattle.tq_evidence.specs.declared.op.OpKind.TheVariants as kinds
 use Rattle.tq_evidence.specs.Evidence.{greatest}
+use Rattle.tq_live.specs.declared.purpose.Purpose.{Purpose}
+use Rattle.tq_live.specs.declared.purpose.Purpose.TheVariants as purposes
 use Rattle.tq_live.specs.declared.view.ViewAsk.TheVariants.{Choose, Mark}
 use Rattle.tq_live.specs.declared.view.ViewReply.{ViewReply}
 use Rattle.tq_live.specs.declared.view.ViewReply.TheVariants as view_replies
@@ -52,8 +54,14 @@ abbrev pub servers_of : Result ServerList LineFault → Result (List ℕ) LineFa
 servers_of (Ok quorum) = Ok quorum.servers
 servers_of (Err fault) = Err fault
 
-abbrev pub choose_line : ℕ → Dialogue (LineEnd (List ℕ) (Unit {0}))
-choose_line levels = and_then (view_line Choose) (λ none. none) (λ told none. answers (chosen levels told.reply) none)
+-- shared locks are for reading, exclusive ones for writing
+abbrev pub purpose_of : Mode → Purpose
+purpose_of Shared = purposes.Read
+purpose_of Exclusive = purposes.Write
+
+-- the view is asked for a quorum for this purpose
+abbrev pub choose_line : ℕ → Purpose → Dialogue (LineEnd (List ℕ) (Unit {0}))
+choose_line levels purpose = and_then (view_line (Choose purpose)) (λ none. none) (λ told none. answers (chosen levels told.reply) none)
 
 -- ---- locks at its servers
 
@@ -107,10 +115,10 @@ abbrev pub locks_line : List ℕ → Mode → List ℕ → LocksView → Dialogu
 locks_line file mode [] old = done tt old
 locks_line file mode (server ∷ servers) old = and_then (next_lock file mode server old) (λ new. new) (λ all new. locks_line file mode servers new)
 
--- a quorum from the view, and a lock at each of its servers: their answers
+-- a quorum from the view for what the locks are for, and a lock at each of its servers: their answers
 abbrev pub quorum_line : List ℕ → Mode → OpenView → Dialogue (LineEnd (List NodeTold) OpenView)
 quorum_line file mode old =
-    and_then (choose_line old.levels) (λ none. old)
+    and_then (choose_line old.levels (purpose_of mode)) (λ none. old)
     (λ servers none. and_then (locks_line file mode servers (record { answers = []; txn = old })) (λ new. new.txn) (λ all new. done new.answers new.txn))
 
 -- ---- read

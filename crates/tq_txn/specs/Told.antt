@@ -1,6 +1,6 @@
 -- What the answers that were told tie down of a transaction: how it ended, what it knows, and what its commit cites.
-use Rattle.std.specs.Prelude.{◌≡◌, List, [], ◌∷◌, ◌++◌, Option, Some, None, Ok}
-use Rattle.std.specs.List.{All, Contains, filter_map}
+use Rattle.std.specs.Prelude.{◌≡◌, ℕ, Bool, true, false, is_some, List, [], ◌∷◌, ◌++◌, Option, Some, None, Ok}
+use Rattle.std.specs.List.{All, Contains, filter_map, list_any}
 use Rattle.tq_desk.specs.declared.ask.DeskAsk.{DeskAsk}
 use Rattle.tq_desk.specs.declared.ask.DeskReply.{DeskReply}
 use Rattle.tq_states.specs.declared.told.DeskTold.{DeskTold}
@@ -30,6 +30,19 @@ abbrev pub IsAnswered : Txn → DeskTold → Txn → Type 0
 IsAnswered (states.Ended before) told after = after ≡ states.Ended before
 IsAnswered before told (states.Ended ended) = (verdict_in ended.txn told ≡ Some ended.verdict) × (ended.cite ≡ told.number)
 IsAnswered before told after = after ≡ before
+
+abbrev pub is_ended : Txn → Bool
+is_ended (states.Ended ended) = true
+is_ended txn = false
+
+-- the desk told there how the transaction of this number ended
+abbrev pub tells_end : ℕ → Exchange → Bool
+tells_end number (exchanges.Desk ask (Ok answered)) = is_some (verdict_by number ask answered.reply)
+tells_end number exchange = false
+
+-- where the desk told since how the transaction of this number ended, it has ended
+abbrev pub EndsWhereTold : ℕ → List Exchange → List Exchange → Txn → Type 0
+EndsWhereTold number old new after = (more : List Exchange) × (new ≡ old ++ more) × (list_any (tells_end number) more ≡ true → is_ended after ≡ true)
 
 -- ---- what a transaction knows
 

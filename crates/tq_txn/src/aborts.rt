@@ -1,73 +1,88 @@
-ghost use Rattle.std.specs.Prelude.{◌≡◌, IfOk, IfErr};
+ghost use Rattle.std.specs.Prelude.{◌≡◌, Some};
+ghost use Rattle.tq_states.specs.Ended as ending;
 ghost use Rattle.tq_txn.specs.Aborts as spec;
 ghost use Rattle.tq_txn.specs.Dialogue as line;
 ghost use Rattle.tq_txn.specs.States as states;
-ghost use Rattle.tq_txn.specs.Told.{EndsAsTold, IsAnswered, Knows};
+ghost use Rattle.tq_txn.specs.Told.{EndsAsTold, EndsWhereTold, Knows};
 
 use crate::endings::end_at_each;
-use crate::{Abortion, Asker, DeskTold, Ended, LineFault, Open, Txn, TxnFault, Voting};
+use crate::fault::is_commit;
+use crate::{Abortion, Asker, DeskTold, Ended, LineFault, Open, Txn, Voting};
 use std::alloc::Global;
 use tq_asks::Verdict;
-use tq_desk::{DeskAsk, DeskRefusal, DeskReply};
+use tq_desk::{DeskAsk, DeskReply};
 use tq_shape::Part;
 
-/// The open transaction after the desk's answer. Out of memory hands it back.
-fn resolved_open(alloc: Global, txn: Open, told: &DeskTold) -> Result<Txn, Txn>
-    ensures ok { IfOk result (λ new. new ≡ spec.resolved (Txn.Open txn) told.now) }
-    ensures tree { IfOk result (λ new. states.levels_of new ≡ txn.levels) }
-    ensures still { IfOk result (λ new. states.IsOf txn new) }
-    ensures verdict { IfOk result (λ new. IsAnswered (Txn.Open txn) told.now new) }
-    ensures err { IfErr result (λ new. new ≡ Txn.Open txn) }
+/// The open transaction after the desk's answer, which may tell the verdict on it.
+fn resolved_open(txn: Open, verdict: Option<Verdict>, cite: u64) -> Txn
+    ensures { result ≡ spec.resolved_by (Txn.Open txn) txn cite verdict }
 {
-    match txn.end(alloc, told) {
-        Ok(ended) => Ok(Txn::Ended(ended)),
-        Err(back) => match back.1 {
-            TxnFault::Memory => Err(Txn::Open(back.0)),
-            _ => Ok(Txn::Open(back.0)),
-        },
+    match verdict {
+        Some(verdict) => Txn::Ended(txn.end_by(verdict, cite)),
+        None => Txn::Open(txn),
     }
 }
 
-/// The transaction that gathers votes after the desk's answer. Out of memory hands it back.
-fn resolved_voting(alloc: Global, voting: Voting, told: &DeskTold) -> Result<Txn, Txn>
-    ensures ok { IfOk result (λ txn. txn ≡ spec.resolved (Txn.Voting voting) told.now) }
-    ensures tree { IfOk result (λ new. states.levels_of new ≡ voting.txn.levels) }
-    ensures still { IfOk result (λ new. states.IsGathered voting new) }
-    ensures verdict { IfOk result (λ new. IsAnswered (Txn.Voting voting) told.now new) }
-    ensures err { IfErr result (λ txn. txn ≡ Txn.Voting voting) }
+/// The transaction that gathers votes after the desk's answer, which may tell the verdict on it.
+pub(crate) fn resolved_voting(voting: Voting, verdict: Option<Verdict>, cite: u64) -> Txn
+    ensures { result ≡ spec.resolved_by (Txn.Voting voting) voting.txn cite verdict }
 {
-    match voting.end(alloc, told) {
-        Ok(ended) => Ok(Txn::Ended(ended)),
-        Err(back) => match back.1 {
-            TxnFault::Memory => Err(Txn::Voting(back.0)),
-            _ => Ok(Txn::Voting(back.0)),
-        },
+    match verdict {
+        Some(verdict) => Txn::Ended(voting.end_by(verdict, cite)),
+        None => Txn::Voting(voting),
     }
 }
 
-/// The transaction after the desk's answer. Out of memory hands it back.
-fn resolved(alloc: Global, txn: Txn, told: &DeskTold) -> Result<Txn, Txn>
-    ensures ok { IfOk result (λ new. new ≡ spec.resolved txn told.now) }
-    ensures tree { IfOk result (λ new. states.levels_of new ≡ states.levels_of txn) }
-    ensures still { IfOk result (λ new. states.IsStill txn new) }
-    ensures verdict { IfOk result (λ new. IsAnswered txn told.now new) }
-    ensures err { IfErr result (λ new. new ≡ txn) }
+/// The transaction after the desk's answer. It takes no memory: what the desk told stands in its state.
+fn resolved(txn: Txn, verdict: Option<Verdict>, cite: u64) -> Txn
+    ensures { result ≡ spec.resolved_with txn cite verdict }
 {
     match txn {
-        Txn::Open(open) => resolved_open(alloc, open, told),
-        Txn::Voting(voting) => resolved_voting(alloc, voting, told),
-        Txn::Ended(ended) => Ok(Txn::Ended(ended)),
+        Txn::Open(open) => resolved_open(open, verdict, cite),
+        Txn::Voting(voting) => resolved_voting(voting, verdict, cite),
+        Txn::Ended(ended) => Txn::Ended(ended),
     }
 }
 
-/// What an answer that is no abort says.
-fn aborted(reply: DeskReply) -> Result<(), LineFault>
-    ensures { result ≡ spec.aborted reply }
+/// What the desk's answer to a resolve says: whether it is an abort, what it answers where it is none, and the verdict
+/// that it tells.
+#[derive(Drop)]
+struct Resolution {
+    aborts: bool,
+    answer: Result<(), LineFault>,
+    verdict: Option<Verdict>,
+}
+
+fn resolution_in(reply: DeskReply) -> Resolution
+    ensures aborts { result.aborts ≡ spec.is_abort reply }
+    ensures answer { result.answer ≡ spec.aborted reply }
+    ensures verdict { result.verdict ≡ ending.resolve_verdict reply }
 {
     match reply {
-        DeskReply::Verdict(verdict) => Err(LineFault::Desk(DeskRefusal::Decided(verdict))),
-        DeskReply::Refused(refusal) => Err(LineFault::Desk(refusal)),
-        _ => Err(LineFault::WrongReply { part: Part::Desk }),
+        DeskReply::Verdict(verdict) => told_verdict(verdict),
+        DeskReply::Refused(refusal) => Resolution {
+            aborts: false,
+            answer: Err(LineFault::from(refusal)),
+            verdict: None,
+        },
+        _ => Resolution {
+            aborts: false,
+            answer: Err(LineFault::WrongReply { part: Part::Desk }),
+            verdict: None,
+        },
+    }
+}
+
+fn told_verdict(verdict: Verdict) -> Resolution
+    ensures aborts { result.aborts ≡ spec.is_abort (DeskReply.Verdict verdict) }
+    ensures answer { result.answer ≡ spec.aborted (DeskReply.Verdict verdict) }
+    ensures verdict { result.verdict ≡ Some verdict }
+{
+    let committed = is_commit(&verdict);
+    Resolution {
+        aborts: !committed,
+        answer: Err(LineFault::Ended { committed }),
+        verdict: Some(verdict),
     }
 }
 
@@ -91,37 +106,31 @@ fn end_aborted<A: Asker>(asker: &mut A, alloc: Global, ended: Ended) -> Abortion
 }
 
 /// The ending, where the desk's answer is an abort.
-fn end_where_aborted<A: Asker>(asker: &mut A, alloc: Global, reply: DeskReply, txn: Txn) -> Abortion
+fn end_where_aborted<A: Asker>(
+    asker: &mut A,
+    alloc: Global,
+    aborts: bool,
+    answer: Result<(), LineFault>,
+    txn: Txn,
+) -> Abortion
     requires { states.levels_of txn ≡ A.levels asker.old }
-    ensures asks { line.Follows (spec.abort_end reply txn) (A.told asker.old) (A.told asker.new) (line.ended_by result.answer result.txn) }
+    ensures asks { (reply : DeskReply) → aborts ≡ spec.is_abort reply → answer ≡ spec.aborted reply → line.Follows (spec.abort_end reply txn) (A.told asker.old) (A.told asker.new) (line.ended_by result.answer result.txn) }
     ensures same { result.txn ≡ txn }
     ensures tree { A.levels asker.new ≡ A.levels asker.old }
 {
-    if !is_abort(&reply) {
-        return Abortion {
-            answer: aborted(reply),
-            txn,
-        };
+    if !aborts {
+        return Abortion { answer, txn };
     }
     match txn {
         Txn::Ended(ended) => end_aborted(asker, alloc, ended),
         Txn::Voting(voting) => Abortion {
-            answer: aborted(reply),
+            answer,
             txn: Txn::Voting(voting),
         },
         Txn::Open(open) => Abortion {
-            answer: aborted(reply),
+            answer,
             txn: Txn::Open(open),
         },
-    }
-}
-
-fn is_abort(reply: &DeskReply) -> bool
-    ensures { result ≡ spec.is_abort reply.now }
-{
-    match reply {
-        DeskReply::Verdict(Verdict::Abort) => true,
-        _ => false,
     }
 }
 
@@ -134,6 +143,7 @@ pub fn abort<A: Asker>(asker: &mut A, alloc: Global, txn: Txn) -> Abortion
     ensures levels { states.levels_of result.txn ≡ states.levels_of txn }
     ensures still { states.IsStill txn result.txn }
     ensures verdict { EndsAsTold txn (A.told asker.old) (A.told asker.new) result.txn }
+    ensures ends { EndsWhereTold (states.number_of txn) (A.told asker.old) (A.told asker.new) result.txn }
     ensures knows { Knows (A.told asker.old) txn → Knows (A.told asker.new) result.txn }
     ensures tree { A.levels asker.new ≡ A.levels asker.old }
 {
@@ -149,18 +159,22 @@ pub fn abort<A: Asker>(asker: &mut A, alloc: Global, txn: Txn) -> Abortion
 
 /// The transaction after the desk's answer, and the ending, where that is an abort.
 fn resolve_and_end<A: Asker>(asker: &mut A, alloc: Global, txn: Txn, told: DeskTold) -> Abortion
-    requires { states.levels_of txn ≡ A.levels asker.old }
+    requires tree { states.levels_of txn ≡ A.levels asker.old }
+    requires asked { told.ask ≡ DeskAsk.Resolve (states.number_of txn) }
     ensures asks { line.Follows (spec.abort_end told.reply (spec.resolved txn told)) (A.told asker.old) (A.told asker.new) (line.ended_by result.answer result.txn) }
-    ensures levels { states.levels_of result.txn ≡ states.levels_of txn }
-    ensures still { states.IsStill txn result.txn }
-    ensures verdict { IsAnswered txn told result.txn }
+    ensures value { result.txn ≡ spec.resolved txn told }
     ensures tree { A.levels asker.new ≡ A.levels asker.old }
 {
-    match resolved(alloc, txn, &told) {
-        Ok(txn) => end_where_aborted(asker, alloc, told.reply, txn),
-        Err(txn) => Abortion {
-            answer: Err(LineFault::Memory),
-            txn,
-        },
-    }
+    let DeskTold {
+        number,
+        ask: _,
+        reply,
+    } = told;
+    let Resolution {
+        aborts,
+        answer,
+        verdict,
+    } = resolution_in(reply);
+    let txn = resolved(txn, verdict, number);
+    end_where_aborted(asker, alloc, aborts, answer, txn)
 }

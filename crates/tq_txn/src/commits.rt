@@ -1,17 +1,23 @@
-ghost use Rattle.std.specs.Prelude.{◌≡◌, ◌==◌, true, IfOk};
+ghost use Rattle.std.specs.Prelude.{◌≡◌, ◌==◌, List, Err, true, IfOk};
 ghost use Rattle.std.specs.List.{list_all};
 ghost use Rattle.tq_coterie.specs.Coterie.{numbers_of};
-ghost use Rattle.tq_states.specs.Voting.{IsVotedOn};
+ghost use Rattle.tq_desk.specs.DeskStep as log;
+ghost use Rattle.tq_evidence.specs.declared.vote.Vote.{Vote};
+ghost use Rattle.tq_states.specs.Ended as ending;
+ghost use Rattle.tq_states.specs.Voting.{IsVotedOn, evidence_of};
 ghost use Rattle.tq_txn.specs.Commits as spec;
 ghost use Rattle.tq_txn.specs.Dialogue as line;
 ghost use Rattle.tq_txn.specs.States as states;
-ghost use Rattle.tq_txn.specs.Told.{CitesSince, EndsAsTold, IsAnswered, Knows};
+ghost use Rattle.tq_txn.specs.Told.{CitesSince, EndsAsTold, EndsWhereTold, Knows};
 
+use crate::aborts::resolved_voting;
 use crate::endings::{end_at_each, prepare_at};
-use crate::{Asker, Decision, DeskTold, LineFault, Ready, Txn, TxnFault, Voting};
+use crate::fault::is_commit;
+use crate::{Asker, Decision, DeskTold, LineFault, Ready, Txn, Voting};
 use std::alloc::Global;
-use tq_desk::DeskReply;
-use tq_shape::{Memory, Part, ServerId};
+use tq_asks::{CitedVote, Verdict};
+use tq_desk::{DeskRefusal, DeskReply};
+use tq_shape::{Memory, Part, Seq, ServerId};
 
 /// The votes of the servers, in their order; the first refusal ends it. No vote gathered is lost.
 fn prepare_each<A: Asker>(
@@ -33,46 +39,64 @@ fn prepare_each<A: Asker>(
     Ok(())
 }
 
-/// What the desk's answer to a commit says.
-fn committed(reply: DeskReply) -> Result<u64, LineFault>
-    ensures { result ≡ spec.committed reply }
+/// What the desk's answer to a commit says, and the verdict that it tells.
+#[derive(Drop)]
+struct Ruling {
+    answer: Result<u64, LineFault>,
+    verdict: Option<Verdict>,
+}
+
+/// What the desk's answer to a commit says, which cites these votes. It takes no memory.
+fn ruling_in(reply: DeskReply, cited: Seq<CitedVote>) -> Ruling
+    ensures answer { result.answer ≡ spec.committed reply }
+    ensures verdict { (votes : List Vote) → cited ≡ log.cited votes → result.verdict ≡ ending.commit_verdict votes reply }
 {
     match reply {
-        DeskReply::Committed { serial } => Ok(serial),
-        DeskReply::Refused(refusal) => Err(LineFault::Desk(refusal)),
-        _ => Err(LineFault::WrongReply { part: Part::Desk }),
-    }
-}
-
-/// The transaction after the desk's answer to its commit.
-fn decided(alloc: Global, ready: Ready, told: DeskTold) -> Decision
-    ensures decision { spec.IsDecision ready told result.answer result.txn }
-    ensures levels { states.levels_of result.txn ≡ ready.txn.levels }
-    ensures kept { states.IsGathered ready result.txn }
-    ensures verdict { IsAnswered (Txn.Voting ready) told result.txn }
-{
-    match ready.end(alloc, &told) {
-        Ok(ended) => Decision {
-            answer: committed(told.reply),
-            txn: Txn::Ended(ended),
+        DeskReply::Committed { serial } => Ruling {
+            answer: Ok(serial),
+            verdict: Some(Verdict::Commit { votes: cited }),
         },
-        Err(back) => undecided(told.reply, back.0, back.1),
+        DeskReply::Refused(refusal) => refused(refusal),
+        _ => Ruling {
+            answer: Err(LineFault::WrongReply { part: Part::Desk }),
+            verdict: None,
+        },
     }
 }
 
-/// The transaction as it was before an answer that does not end it.
-fn undecided(reply: DeskReply, ready: Ready, fault: TxnFault) -> Decision
-    ensures undecided { spec.IsUndecided ready reply fault result.answer result.txn }
-    ensures txn { result.txn ≡ Txn.Voting ready }
+fn refused(refusal: DeskRefusal) -> Ruling
+    ensures answer { result.answer ≡ Err (line.fault_of_desk refusal) }
+    ensures verdict { (votes : List Vote) → result.verdict ≡ ending.commit_verdict votes (DeskReply.Refused refusal) }
 {
-    let answer = match fault {
-        TxnFault::Memory => Err(LineFault::Memory),
-        _ => committed(reply),
-    };
-    Decision {
-        answer,
-        txn: Txn::Voting(ready.into_voting()),
+    match refusal {
+        DeskRefusal::Decided(verdict) => Ruling {
+            answer: Err(LineFault::Ended {
+                committed: is_commit(&verdict),
+            }),
+            verdict: Some(verdict),
+        },
+        _ => Ruling {
+            answer: Err(LineFault::Desk(refusal)),
+            verdict: None,
+        },
     }
+}
+
+/// The transaction after the desk's answer to its commit. It takes no memory: what the desk told stands in its state.
+fn decided(ready: Ready, told: DeskTold, cited: Seq<CitedVote>) -> Decision
+    requires asked { told.ask ≡ evidence_of ready }
+    requires cited { cited ≡ log.cited ready.votes }
+    ensures answer { result.answer ≡ spec.committed told.reply }
+    ensures txn { result.txn ≡ spec.decided ready told }
+{
+    let DeskTold {
+        number,
+        ask: _,
+        reply,
+    } = told;
+    let Ruling { answer, verdict } = ruling_in(reply, cited);
+    let txn = resolved_voting(ready.into_voting(), verdict, number);
+    Decision { answer, txn }
 }
 
 /// Asks the desk to commit a transaction whose votes are all there. After a fault the transaction comes back with what
@@ -82,6 +106,8 @@ pub fn decide<A: Asker>(asker: &mut A, alloc: Global, voting: Voting) -> Decisio
     ensures levels { states.levels_of result.txn ≡ voting.txn.levels }
     ensures kept { states.IsGathered voting result.txn }
     ensures verdict { EndsAsTold (Txn.Voting voting) (A.told asker.old) (A.told asker.new) result.txn }
+    ensures unasked { line.IsUnasked result.answer (A.told asker.old) (A.told asker.new) }
+    ensures ends { EndsWhereTold voting.txn.txn (A.told asker.old) (A.told asker.new) result.txn }
     ensures knows { Knows (A.told asker.old) (Txn.Voting voting) → Knows (A.told asker.new) result.txn }
     ensures cited { Knows (A.told asker.old) (Txn.Voting voting) → CitesSince (A.told asker.old) (A.told asker.new) }
     ensures tree { A.levels asker.new ≡ A.levels asker.old }
@@ -100,8 +126,15 @@ pub fn decide<A: Asker>(asker: &mut A, alloc: Global, voting: Voting) -> Decisio
             txn: Txn::Voting(ready.into_voting()),
         },
     };
+    let cited = match ready.citations(alloc) {
+        Ok(cited) => cited,
+        Err(_) => return Decision {
+            answer: Err(LineFault::Memory),
+            txn: Txn::Voting(ready.into_voting()),
+        },
+    };
     match asker.desk(alloc, ask) {
-        Ok(told) => decided(alloc, ready, told),
+        Ok(told) => decided(ready, told, cited),
         Err(fault) => Decision {
             answer: Err(LineFault::from(fault)),
             txn: Txn::Voting(ready.into_voting()),
@@ -127,6 +160,7 @@ pub fn commit<A: Asker>(asker: &mut A, alloc: Global, voting: Voting) -> Decisio
     ensures levels { states.levels_of result.txn ≡ voting.txn.levels }
     ensures kept { states.IsGathered voting result.txn }
     ensures verdict { EndsAsTold (Txn.Voting voting) (A.told asker.old) (A.told asker.new) result.txn }
+    ensures ends { EndsWhereTold voting.txn.txn (A.told asker.old) (A.told asker.new) result.txn }
     ensures knows { Knows (A.told asker.old) (Txn.Voting voting) → Knows (A.told asker.new) result.txn }
     ensures cited { Knows (A.told asker.old) (Txn.Voting voting) → CitesSince (A.told asker.old) (A.told asker.new) }
     ensures tree { A.levels asker.new ≡ A.levels asker.old }

@@ -1,10 +1,11 @@
 ghost use Rattle.std.specs.Prelude.{◌≡◌};
+ghost use Rattle.tq_txn.specs.Dialogue as spec;
 ghost use Rattle.tq_txn.specs.declared.fault.LineFault.TheVariants as line_faults;
 
 use crate::{AskFault, TxnFault};
 use std::alloc::{AllocError, AllocFailed};
 use thiserror::Error;
-use tq_asks::NodeRefusal;
+use tq_asks::{NodeRefusal, Verdict};
 use tq_desk::DeskRefusal;
 use tq_live::ViewRefusal;
 use tq_shape::Part;
@@ -24,6 +25,9 @@ pub enum LineFault {
     Server { server: u64, refusal: NodeRefusal },
     #[error("the desk refused: {0:?}")]
     Desk(DeskRefusal),
+    /// The transaction has ended: whether by a commit. Its state tells the verdict.
+    #[error("the transaction has ended; by a commit: {committed}")]
+    Ended { committed: bool },
     #[error("the view refused: {0:?}")]
     View(ViewRefusal),
     /// The part gave a reply of another kind than the ask has.
@@ -59,6 +63,32 @@ impl From<AskFault> for LineFault {
             AskFault::JournalFull { part } => LineFault::JournalFull { part },
             AskFault::Unfounded { part, number } => LineFault::Unfounded { part, number },
         }
+    }
+}
+
+impl From<DeskRefusal> for LineFault {
+    ghost use Rattle.std.specs.Prelude.{◌≡◌};
+    ghost use Rattle.tq_txn.specs.Dialogue.{fault_of_desk};
+
+    ghost from_gives = { λ refusal fault. fault ≡ fault_of_desk refusal };
+
+    fn from(refusal: DeskRefusal) -> LineFault {
+        match refusal {
+            DeskRefusal::Decided(verdict) => LineFault::Ended {
+                committed: is_commit(&verdict),
+            },
+            _ => LineFault::Desk(refusal),
+        }
+    }
+}
+
+/// Whether the transaction ended by a commit.
+pub(crate) fn is_commit(verdict: &Verdict) -> bool
+    ensures { result ≡ spec.is_commit verdict.now }
+{
+    match verdict {
+        Verdict::Abort => false,
+        Verdict::Commit { .. } => true,
     }
 }
 

@@ -14,7 +14,7 @@ use std::alloc::Global;
 use tq_asks::{NodeAsk, NodeReply, WorkAsk};
 use tq_coterie::Quorum;
 use tq_evidence::Grant;
-use tq_live::{ViewAsk, ViewReply};
+use tq_live::{Purpose, ViewAsk, ViewReply};
 use tq_locks::Mode;
 use tq_shape::{Levels, Memory, Part, Seq, ServerId, Shared};
 use tq_states::Noting;
@@ -47,13 +47,28 @@ fn chosen(levels: Levels, reply: ViewReply) -> Result<Quorum, LineFault>
     }
 }
 
-/// A quorum from the view.
-fn choose<A: Asker>(asker: &mut A, alloc: Global, levels: Levels) -> Result<Quorum, LineFault>
-    ensures asks { line.Follows (spec.choose_line levels) (A.told asker.old) (A.told asker.new) (line.ended_by (spec.servers_of result) tt) }
+/// What a quorum of locks of this mode is chosen for: shared ones to read, exclusive ones to write.
+fn purpose_of(mode: Mode) -> Purpose
+    ensures { result ≡ spec.purpose_of mode }
+{
+    match mode {
+        Mode::Shared => Purpose::Read,
+        Mode::Exclusive => Purpose::Write,
+    }
+}
+
+/// A quorum from the view, for this purpose.
+fn choose<A: Asker>(
+    asker: &mut A,
+    alloc: Global,
+    levels: Levels,
+    purpose: Purpose,
+) -> Result<Quorum, LineFault>
+    ensures asks { line.Follows (spec.choose_line levels purpose) (A.told asker.old) (A.told asker.new) (line.ended_by (spec.servers_of result) tt) }
     ensures quorum { IfOk result (λ quorum. quorum.levels ≡ levels) }
     ensures tree { A.levels asker.new ≡ A.levels asker.old }
 {
-    match asker.view(alloc, ViewAsk::Choose) {
+    match asker.view(alloc, ViewAsk::Choose { purpose }) {
         Ok(told) => chosen(levels, told.reply),
         Err(fault) => Err(LineFault::from(fault)),
     }
@@ -212,7 +227,7 @@ fn lock_ask(alloc: Global, open: &Open, file: &FileName, mode: Mode) -> Result<N
     Ok(NodeAsk::Work(Shared::new(alloc, lock)?))
 }
 
-/// A quorum from the view, and a lock at each of its servers: their grants.
+/// A quorum from the view for what the mode is for, and a lock at each of its servers: their grants.
 fn lock_quorum<A: Asker>(
     asker: &mut A,
     alloc: Global,
@@ -230,7 +245,7 @@ fn lock_quorum<A: Asker>(
     ensures tree { A.levels asker.new ≡ A.levels asker.old }
 {
     let ask = lock_ask(alloc, open, file, mode)?;
-    let quorum = match choose(asker, alloc, open.levels()) {
+    let quorum = match choose(asker, alloc, open.levels(), purpose_of(mode)) {
         Ok(quorum) => quorum,
         Err(fault) => return Err(fault),
     };

@@ -1,14 +1,23 @@
-use Rattle.tq_txn.proofs.ToldLaws.{answered_same}
-use Rattle.tq_txn.proofs.KeptVotes.{still_same}
-use Rattle.tq_txn.specs.Aborts.{abort_end, resolved}
-use Rattle.tq_txn.proofs.LineLaws.{follows_memory}
+use Rattle.std.proofs.Common.{◌≡◌, ◌∙◌, ap, sym, subst}
+use Rattle.tq_txn.specs.Aborts.{abort_end, resolved_with, resolved}
+use Rattle.tq_txn.specs.Dialogue.{Follows, ended_by}
+use Rattle.tq_txn.specs.States.{levels_of}
+use Rattle.tq_txn.specs.declared.txn.Txn.{Txn}
+use Rattle.tq_txn.proofs.EndLaws.{resolved_told, resolved_levels}
 use Rattle.tq_txn.proofs.aborts.resolve_and_end.Goals as goal
 
-pub returns-in-Err-clause-asks : goal.returns-in-Err-clause-asks
-returns-in-Err-clause-asks g c = follows_memory (abort_end c.args.told.reply (resolved c.args.txn c.args.told)) (g.A.Asker.told c.args.asker.now)
+pub end_where_aborted-requires : goal.end_where_aborted-requires
+end_where_aborted-requires g c =
+    let is = c.resolved-txn.ensures ∙ ap (resolved_with c.args.txn c.args.told.number) c.resolution_in-aborts.ensures.verdict ∙ resolved_told c.args.txn c.args.told c.requires.asked in
+    ap levels_of is ∙ resolved_levels c.args.txn c.args.told ∙ c.requires.tree
 
-pub returns-in-Err-clause-still : goal.returns-in-Err-clause-still
-returns-in-Err-clause-still g c = still_same c.args.txn c.in-Err.txn c.in-Err.ensures.err
+pub returns-clause-value : goal.returns-clause-value
+returns-clause-value g c =
+    c.end_where_aborted.ensures.same ∙ c.resolved-txn.ensures ∙ ap (resolved_with c.args.txn c.args.told.number) c.resolution_in-aborts.ensures.verdict ∙ resolved_told c.args.txn c.args.told c.requires.asked
 
-pub returns-in-Err-clause-verdict : goal.returns-in-Err-clause-verdict
-returns-in-Err-clause-verdict g c = answered_same c.args.txn c.in-Err.txn c.args.told c.in-Err.ensures.err
+pub returns-clause-asks : goal.returns-clause-asks
+returns-clause-asks g c =
+    let is = c.resolved-txn.ensures ∙ ap (resolved_with c.args.txn c.args.told.number) c.resolution_in-aborts.ensures.verdict ∙ resolved_told c.args.txn c.args.told c.requires.asked in
+    let reply = c.args.told.reply in
+    let P : Txn → Type 0 = λ t. Follows (abort_end reply t) (g.A.Asker.told c.args.asker.now) (g.A.Asker.told c.end_where_aborted.new.asker) (ended_by c.end_where_aborted.result.answer c.end_where_aborted.result.txn) in
+    subst P is (c.end_where_aborted.ensures.asks reply c.resolution_in-aborts.ensures.aborts c.resolution_in-aborts.ensures.answer)

@@ -1,7 +1,9 @@
-use Rattle.tq_txn.proofs.Deskless.{deskless_cites, deskless_prepares, deskless_commit_end}
+use Rattle.tq_txn.proofs.Deskless.{deskless_cites, deskless_untold, deskless_prepares, deskless_commit_end}
+use Rattle.tq_txn.proofs.EndLaws.{ends_nothing, ends_after, ends_before}
+use Rattle.tq_states.specs.Open.{OpenView}
 use Rattle.tq_txn.proofs.KnownLaws.{cites_on}
 use Rattle.tq_txn.specs.declared.txn.Txn.TheVariants as states
-use Rattle.tq_txn.specs.Told.{EndsAsTold}
+use Rattle.tq_txn.specs.Told.{EndsAsTold, EndsWhereTold}
 use Rattle.tq_txn.specs.Commits.{prepares_line, commit_end}
 use Rattle.std.proofs.Common.{[], append-nil}
 use Rattle.tq_txn.proofs.ToldLaws.{grown_along, ends_within}
@@ -97,3 +99,43 @@ returns-in-Ok-answer-clause-cited g c =
     let txn = c.decide-answer.result.txn in
     let ending = deskless_cites (commit_end serial txn) last new (ended_by c.end_committed.result.answer c.end_committed.result.txn) (deskless_commit_end serial txn) c.end_committed.ensures.asks in
     λ is. cites_on now mid new votes (cites_on mid last new (c.decide-answer.ensures.cited (c.prepare_each.ensures.knows is)) ending)
+
+pub returns-in-Err-clause-ends : goal.returns-in-Err-clause-ends
+returns-in-Err-clause-ends g c = ends_nothing c.args.voting.txn.txn (g.A.Asker.told c.args.asker.now) (states.Voting c.args.voting)
+
+pub returns-in-Err-prepare_each-clause-ends : goal.returns-in-Err-prepare_each-clause-ends
+returns-in-Err-prepare_each-clause-ends g c =
+    let now = g.A.Asker.told c.args.asker.now in
+    let mid = g.A.Asker.told c.prepare_each.new.asker in
+    let numbers = numbers_of c.as_slice.result.now in
+    let number = c.args.voting.txn.txn in
+    let after = states.Voting c.prepare_each.new.voting in
+    let votes = deskless_untold number (prepares_line numbers c.args.voting) now mid (ended_by c.prepare_each.result c.prepare_each.new.voting) (deskless_prepares numbers c.args.voting) c.prepare_each.ensures.asks in
+    ends_after number now mid mid after votes (ends_nothing number mid after)
+
+pub returns-clause-ends : goal.returns-clause-ends
+returns-clause-ends g c =
+    let now = g.A.Asker.told c.args.asker.now in
+    let mid = g.A.Asker.told c.prepare_each.new.asker in
+    let new = g.A.Asker.told c.decide-answer.new.asker in
+    let numbers = numbers_of c.as_slice.result.now in
+    let number = c.args.voting.txn.txn in
+    let after = c.decide-answer.result.txn in
+    let votes = deskless_untold number (prepares_line numbers c.args.voting) now mid (ended_by c.prepare_each.result c.prepare_each.new.voting) (deskless_prepares numbers c.args.voting) c.prepare_each.ensures.asks in
+    ends_after number now mid new after votes (subst (λ (txn : OpenView). EndsWhereTold txn.txn mid new after) c.prepare_each.ensures.txn c.decide-answer.ensures.ends)
+
+pub returns-in-Ok-answer-clause-ends : goal.returns-in-Ok-answer-clause-ends
+returns-in-Ok-answer-clause-ends g c =
+    let now = g.A.Asker.told c.args.asker.now in
+    let mid = g.A.Asker.told c.prepare_each.new.asker in
+    let last = g.A.Asker.told c.decide-answer.new.asker in
+    let new = g.A.Asker.told c.end_committed.new.asker in
+    let numbers = numbers_of c.as_slice.result.now in
+    let number = c.args.voting.txn.txn in
+    let txn = c.decide-answer.result.txn in
+    let serial = c.in-Ok-answer.serial in
+    let votes = deskless_untold number (prepares_line numbers c.args.voting) now mid (ended_by c.prepare_each.result c.prepare_each.new.voting) (deskless_prepares numbers c.args.voting) c.prepare_each.ensures.asks in
+    let ending = deskless_untold number (commit_end serial txn) last new (ended_by c.end_committed.result.answer c.end_committed.result.txn) (deskless_commit_end serial txn) c.end_committed.ensures.asks in
+    let ends = subst (λ (t : OpenView). EndsWhereTold t.txn mid last txn) c.prepare_each.ensures.txn c.decide-answer.ensures.ends in
+    let P : Txn → Type 0 = λ t. EndsWhereTold number now new t in
+    subst P (sym c.end_committed.ensures.same) (ends_before number now last new txn (ends_after number now mid last txn votes ends) ending)

@@ -4,9 +4,14 @@ use Rattle.tq_txn.specs.Dialogue.{desk_exchange}
 use Rattle.std.proofs.Common.{Ok, Err}
 use Rattle.tq_txn.proofs.KnownLaws.{knows_grow, knows_answered, cites_ask}
 use Rattle.tq_txn.specs.declared.txn.Txn.TheVariants as states
-use Rattle.tq_txn.specs.Told.{EndsAsTold}
+use Rattle.tq_txn.specs.States.{levels_of, IsGathered}
+use Rattle.tq_txn.specs.Told.{EndsAsTold, EndsWhereTold, IsAnswered, is_ended}
+use Rattle.tq_txn.proofs.LineLaws.{told_desk}
+use Rattle.tq_txn.proofs.CommitLaws.{decide_ready, ready_on}
+use Rattle.tq_txn.proofs.EndLaws.{resolved_answered, resolved_still, resolved_levels, resolved_ends, ends_nothing, ends_refused, ends_answered, unasked_refused, unasked_answered}
 use Rattle.tq_states.specs.Voting.{VotingView}
-use Rattle.std.proofs.Common.{[], sym, subst, append-nil}
+use Rattle.std.proofs.Common.{◌≡◌, is_some, true, [], sym, subst, append-nil, ap}
+use Rattle.tq_states.specs.Ended.{verdict_in}
 use Rattle.tq_txn.proofs.ToldLaws.{ends_as_told}
 use Rattle.std.proofs.Common.{◌∙◌}
 use Rattle.tq_txn.proofs.KeptVotes.{voted_on_same}
@@ -21,13 +26,78 @@ returns-in-Err-evidence-clause-kept g c = voted_on_same c.args.voting c.into_vot
 pub returns-in-Err-desk-clause-kept : goal.returns-in-Err-desk-clause-kept
 returns-in-Err-desk-clause-kept g c = voted_on_same c.args.voting c.into_voting-in-Err-desk.result (c.into_voting-in-Err-desk.ensures ∙ c.in-Ok.ensures.succeeds.1)
 
+pub decided-requires-clause-asked : goal.decided-requires-clause-asked
+decided-requires-clause-asked g c = c.in-Ok-desk.ensures.same ∙ c.in-Ok-evidence.ensures.value
+
 pub returns-in-Ok-desk-clause-verdict : goal.returns-in-Ok-desk-clause-verdict
 returns-in-Ok-desk-clause-verdict g c =
     let now = g.A.Asker.told c.args.asker.now in
     let new = g.A.Asker.told c.desk.new.self in
-    let P : VotingView → Type 0 = λ v. EndsAsTold (states.Voting v) now new c.decided.result.txn in
+    let after = c.decided.result.txn in
+    let told = c.in-Ok-desk.told in
+    let P : VotingView → Type 0 = λ v. EndsAsTold (states.Voting v) now new after in
+    let answered = subst (IsAnswered (states.Voting c.in-Ok.ready) told) (sym c.decided.ensures.txn) (resolved_answered (states.Voting c.in-Ok.ready) told) in
     subst P c.in-Ok.ensures.succeeds.1
-    (ends_as_told c.in-Ok-evidence.ask c.in-Ok-desk.told c.in-Ok-desk.ensures.same now new new c.in-Ok-desk.ensures.exchanges ([], sym (append-nil new)) (states.Voting c.in-Ok.ready) c.decided.result.txn c.decided.ensures.verdict)
+    (ends_as_told c.in-Ok-evidence.ask told c.in-Ok-desk.ensures.same now new new c.in-Ok-desk.ensures.exchanges ([], sym (append-nil new)) (states.Voting c.in-Ok.ready) after answered)
+
+pub returns-in-Ok-desk-clause-kept : goal.returns-in-Ok-desk-clause-kept
+returns-in-Ok-desk-clause-kept g c =
+    let ready = c.in-Ok.ready in
+    let P : VotingView → Type 0 = λ v. IsGathered v c.decided.result.txn in
+    subst P c.in-Ok.ensures.succeeds.1 (subst (IsGathered ready) (sym c.decided.ensures.txn) (resolved_still (states.Voting ready) c.in-Ok-desk.told))
+
+pub returns-in-Ok-desk-clause-levels : goal.returns-in-Ok-desk-clause-levels
+returns-in-Ok-desk-clause-levels g c =
+    ap levels_of c.decided.ensures.txn ∙ resolved_levels (states.Voting c.in-Ok.ready) c.in-Ok-desk.told ∙ ap (λ (v : VotingView). v.txn.levels) c.in-Ok.ensures.succeeds.1
+
+pub returns-in-Ok-desk-clause-asks : goal.returns-in-Ok-desk-clause-asks
+returns-in-Ok-desk-clause-asks g c =
+    let now = g.A.Asker.told c.args.asker.now in
+    let new = g.A.Asker.told c.desk.new.self in
+    let ready = c.in-Ok.ready in
+    let ask = c.in-Ok-evidence.ask in
+    let told = c.in-Ok-desk.told in
+    decide_ready c.args.voting ready c.decided.result.answer c.decided.result.txn now new c.in-Ok.ensures.succeeds.0 c.in-Ok.ensures.succeeds.1
+    (ready_on ready ask c.in-Ok-evidence.ensures.value told c.decided.result.answer c.decided.result.txn now new
+    (told_desk ask told now new c.in-Ok-desk.ensures.exchanges c.in-Ok-desk.ensures.same) c.decided.ensures.answer c.decided.ensures.txn)
+
+pub returns-in-Ok-desk-clause-unasked : goal.returns-in-Ok-desk-clause-unasked
+returns-in-Ok-desk-clause-unasked g c =
+    unasked_answered c.in-Ok-desk.told.reply c.decided.result.answer (g.A.Asker.told c.args.asker.now) (g.A.Asker.told c.desk.new.self) c.decided.ensures.answer
+
+pub returns-in-Err-desk-clause-unasked : goal.returns-in-Err-desk-clause-unasked
+returns-in-Err-desk-clause-unasked g c =
+    unasked_refused c.in-Ok-evidence.ask c.in-Err-desk.fault c.from-in-Err-desk.result (g.A.Asker.told c.args.asker.now) (g.A.Asker.told c.desk.new.self) c.from-in-Err-desk.ensures c.in-Err-desk.ensures.exchanges
+
+pub returns-in-Err-clause-ends : goal.returns-in-Err-clause-ends
+returns-in-Err-clause-ends g c = ends_nothing c.args.voting.txn.txn (g.A.Asker.told c.args.asker.now) (states.Voting c.in-Err.back.0)
+
+pub returns-in-Err-evidence-clause-ends : goal.returns-in-Err-evidence-clause-ends
+returns-in-Err-evidence-clause-ends g c = ends_nothing c.args.voting.txn.txn (g.A.Asker.told c.args.asker.now) (states.Voting c.into_voting.result)
+
+pub returns-in-Err-citations-clause-ends : goal.returns-in-Err-citations-clause-ends
+returns-in-Err-citations-clause-ends g c = ends_nothing c.args.voting.txn.txn (g.A.Asker.told c.args.asker.now) (states.Voting c.into_voting-in-Err-citations.result)
+
+pub returns-in-Err-desk-clause-ends : goal.returns-in-Err-desk-clause-ends
+returns-in-Err-desk-clause-ends g c =
+    ends_refused c.args.voting.txn.txn c.in-Ok-evidence.ask c.in-Err-desk.fault (g.A.Asker.told c.args.asker.now) (g.A.Asker.told c.desk.new.self) (states.Voting c.into_voting-in-Err-desk.result) c.in-Err-desk.ensures.exchanges
+
+pub returns-in-Ok-desk-clause-ends : goal.returns-in-Ok-desk-clause-ends
+returns-in-Ok-desk-clause-ends g c =
+    let now = g.A.Asker.told c.args.asker.now in
+    let new = g.A.Asker.told c.desk.new.self in
+    let ready = c.in-Ok.ready in
+    let told = c.in-Ok-desk.told in
+    let after = c.decided.result.txn in
+    let P : VotingView → Type 0 = λ v. EndsWhereTold v.txn.txn now new after in
+    let ends : is_some (verdict_in ready.txn.txn told) ≡ true → is_ended after ≡ true = λ some. ap is_ended c.decided.ensures.txn ∙ resolved_ends (states.Voting ready) told some in
+    subst P c.in-Ok.ensures.succeeds.1 (ends_answered ready.txn.txn c.in-Ok-evidence.ask told now new after c.in-Ok-desk.ensures.same c.in-Ok-desk.ensures.exchanges ends)
+
+pub returns-in-Err-citations-clause-kept : goal.returns-in-Err-citations-clause-kept
+returns-in-Err-citations-clause-kept g c = voted_on_same c.args.voting c.into_voting-in-Err-citations.result (c.into_voting-in-Err-citations.ensures ∙ c.in-Ok.ensures.succeeds.1)
+
+pub returns-in-Err-citations-clause-knows : goal.returns-in-Err-citations-clause-knows
+returns-in-Err-citations-clause-knows g c = λ is. subst (VotesOnly (answers_in (g.A.Asker.told c.args.asker.now))) (sym (c.into_voting-in-Err-citations.ensures ∙ c.in-Ok.ensures.succeeds.1)) is
 
 pub returns-in-Err-clause-knows : goal.returns-in-Err-clause-knows
 returns-in-Err-clause-knows g c = λ is. subst (VotesOnly (answers_in (g.A.Asker.told c.args.asker.now))) (sym c.in-Err.ensures.fault.0) is
@@ -47,7 +117,9 @@ returns-in-Ok-desk-clause-knows g c =
     let now = g.A.Asker.told c.args.asker.now in
     let new = g.A.Asker.told c.desk.new.self in
     let more = knows_grow now new (desk_exchange c.in-Ok-evidence.ask (Ok c.in-Ok-desk.told), c.in-Ok-desk.ensures.exchanges) (states.Voting c.args.voting) in
-    λ is. knows_answered new (states.Voting c.in-Ok.ready) c.decided.result.txn c.in-Ok-desk.told c.decided.ensures.verdict (subst (VotesOnly (answers_in new)) (sym c.in-Ok.ensures.succeeds.1) (more is))
+    let ready = states.Voting c.in-Ok.ready in
+    let answered = subst (IsAnswered ready c.in-Ok-desk.told) (sym c.decided.ensures.txn) (resolved_answered ready c.in-Ok-desk.told) in
+    λ is. knows_answered new ready c.decided.result.txn c.in-Ok-desk.told answered (subst (VotesOnly (answers_in new)) (sym c.in-Ok.ensures.succeeds.1) (more is))
 
 pub returns-in-Ok-desk-clause-cited : goal.returns-in-Ok-desk-clause-cited
 returns-in-Ok-desk-clause-cited g c =

@@ -1,23 +1,15 @@
-use Rattle.tq_txn.specs.declared.txn.Txn.TheVariants as states
-use Rattle.std.proofs.Common.{◌∙◌}
-use Rattle.tq_txn.proofs.ToldLaws.{answered_end, answered_same}
-use Rattle.tq_txn.proofs.KeptVotes.{gathered_same}
-use Rattle.std.proofs.Common.{subst}
-use Rattle.tq_txn.specs.Commits.{IsUndecided}
+use Rattle.std.proofs.Common.{◌≡◌, ◌∙◌, ap, sym, Option}
+use Rattle.tq_asks.specs.declared.ask.Verdict.{Verdict}
 use Rattle.tq_states.specs.Voting.{VotingView}
-use Rattle.tq_txn.proofs.CommitLaws.{undecided_decision}
+use Rattle.tq_txn.specs.Aborts.{resolved_by}
+use Rattle.tq_txn.specs.declared.txn.Txn.TheVariants as states
+use Rattle.tq_txn.proofs.EndLaws.{commit_told}
 use Rattle.tq_txn.proofs.commits.decided.Goals as goal
 
-pub returns-clause-decision : goal.returns-clause-decision
-returns-clause-decision c =
-    let P : VotingView → Type 0 = λ v. IsUndecided v c.args.told.reply c.in-Err.back.1 c.undecided.result.answer c.undecided.result.txn in
-    undecided_decision c.args.ready c.args.told c.in-Err.back.1 c.undecided.result.answer c.undecided.result.txn c.in-Err.ensures.fault.1 (subst P c.in-Err.ensures.fault.0 c.undecided.ensures.undecided)
-
-pub returns-clause-kept : goal.returns-clause-kept
-returns-clause-kept c = gathered_same c.args.ready c.in-Err.back.0 c.undecided.result.txn c.undecided.ensures.txn c.in-Err.ensures.fault.0
-
-pub returns-in-Ok-clause-verdict : goal.returns-in-Ok-clause-verdict
-returns-in-Ok-clause-verdict c = answered_end c.args.ready.txn c.args.told c.in-Ok.ended c.in-Ok.ensures.value
-
-pub returns-clause-verdict : goal.returns-clause-verdict
-returns-clause-verdict c = answered_same (states.Voting c.args.ready) c.undecided.result.txn c.args.told (c.undecided.ensures.txn ∙ (λ i. states.Voting (c.in-Err.ensures.fault.0 i)))
+pub returns-clause-txn : goal.returns-clause-txn
+returns-clause-txn c =
+    let told = c.args.told in
+    let ready = c.args.ready in
+    let verdict = c.ruling_in-answer.ensures.verdict ready.votes c.requires.cited ∙ sym (commit_told ready told c.requires.asked) in
+    c.resolved_voting-txn.ensures ∙ ap (λ (v : VotingView). resolved_by (states.Voting v) v.txn told.number c.ruling_in-answer.result.verdict) c.into_voting.ensures
+    ∙ ap (resolved_by (states.Voting ready) ready.txn told.number) verdict

@@ -27,7 +27,7 @@ started file mode servers none start old same mid after end first =
 
 pub returns-in-Err-clause-asks : goal.returns-in-Err-clause-asks
 returns-in-Err-clause-asks g c =
-    quorum_off c.args.file.now c.args.mode c.levels.result c.args.open.now c.levels.ensures c.in-Err.fault (g.A.Asker.told c.args.asker.now) (g.A.Asker.told c.choose.new.asker) c.in-Err.ensures.asks
+    quorum_off c.args.file.now c.args.mode c.levels.result c.args.open.now c.levels.ensures c.purpose_of.result c.purpose_of.ensures c.in-Err.fault (g.A.Asker.told c.args.asker.now) (g.A.Asker.told c.choose.new.asker) c.in-Err.ensures.asks
 
 pub lock_each-locked-requires-clause-of_tree : goal.lock_each-locked-requires-clause-of_tree
 lock_each-locked-requires-clause-of_tree g c =
@@ -38,13 +38,13 @@ lock_each-locked-requires-clause-of_tree g c =
 pub returns-in-Err-with_capacity-clause-asks : goal.returns-in-Err-with_capacity-clause-asks
 returns-in-Err-with_capacity-clause-asks g c =
     let told = g.A.Asker.told c.choose.new.asker in
-    quorum_stopped c.args.file.now c.args.mode c.levels.result c.args.open.now c.levels.ensures c.in-Ok.quorum.servers c.servers-servers.result.now [] c.servers-servers.ensures.numbers refl
+    quorum_stopped c.args.file.now c.args.mode c.levels.result c.args.open.now c.levels.ensures c.purpose_of.result c.purpose_of.ensures c.in-Ok.quorum.servers c.servers-servers.result.now [] c.servers-servers.ensures.numbers refl
     (g.A.Asker.told c.args.asker.now) told c.in-Ok.ensures.asks Memory record { answers = []; txn = c.args.open.now } told (follows_memory _ told)
 
 pub returns-in-Err-room_for-clause-asks : goal.returns-in-Err-room_for-clause-asks
 returns-in-Err-room_for-clause-asks g c =
     let told = g.A.Asker.told c.choose.new.asker in
-    quorum_stopped c.args.file.now c.args.mode c.levels.result c.args.open.now c.levels.ensures c.in-Ok.quorum.servers c.servers-servers.result.now [] c.servers-servers.ensures.numbers refl
+    quorum_stopped c.args.file.now c.args.mode c.levels.result c.args.open.now c.levels.ensures c.purpose_of.result c.purpose_of.ensures c.in-Ok.quorum.servers c.servers-servers.result.now [] c.servers-servers.ensures.numbers refl
     (g.A.Asker.told c.args.asker.now) told c.in-Ok.ensures.asks Memory record { answers = []; txn = c.args.open.now } told (follows_memory _ told)
 
 pub lock_each-locked-requires-clause-same : goal.lock_each-locked-requires-clause-same
@@ -69,7 +69,7 @@ returns-in-Ok-locked-clause-asks g c =
     let same : handed.txn ≡ old.txn = ap (λ (v : OpenView). v.txn) c.in-Ok-room_for.ensures.value in
     let new : LocksView = record { answers = answers_of handed.txn file c.lock_each-locked.new.grants.items; txn = noted handed c.lock_each-locked.new.noting } in
     let locked = started file c.args.mode (numbers_of c.servers-servers.result.now) none (noted handed c.in-Ok-room_for.noting) old c.in-Ok-room_for.ensures.value mid after (Some (record { answer = Ok tt; after = new })) c.in-Ok-locked.ensures.asks in
-    let all = quorum_locked file c.args.mode c.levels.result old c.levels.ensures c.in-Ok.quorum.servers c.servers-servers.result.now none c.servers-servers.ensures.numbers empty told mid c.in-Ok.ensures.asks new after locked in
+    let all = quorum_locked file c.args.mode c.levels.result old c.levels.ensures c.purpose_of.result c.purpose_of.ensures c.in-Ok.quorum.servers c.servers-servers.result.now none c.servers-servers.ensures.numbers empty told mid c.in-Ok.ensures.asks new after locked in
     let P : List NodeTold → OpenView → Type 0 = λ xs txn. Follows (quorum_line file c.args.mode old) told after (Some (record { answer = Ok xs; after = txn })) in
     let Q : List NodeTold → Type 0 = λ xs. P xs c.take_back.new.self in
     let answers : new.answers ≡ answers_of old.txn file c.from_vec.result = λ i. answers_of (same i) file (sym c.from_vec.ensures i) in
@@ -87,7 +87,7 @@ returns-clause-asks g c =
     let empty : none ≡ [] = ap (answers_of handed.txn file) c.in-Ok-with_capacity.ensures.items in
     let new : LocksView = record { answers = answers_of handed.txn file c.lock_each-locked.new.grants.items; txn = noted handed c.lock_each-locked.new.noting } in
     let locked = started file c.args.mode (numbers_of c.servers-servers.result.now) none (noted handed c.in-Ok-room_for.noting) old c.in-Ok-room_for.ensures.value mid after (ended_by (Err c.in-Err-locked.fault) new) c.in-Err-locked.ensures.asks in
-    let all = quorum_stopped file c.args.mode c.levels.result old c.levels.ensures c.in-Ok.quorum.servers c.servers-servers.result.now none c.servers-servers.ensures.numbers empty told mid c.in-Ok.ensures.asks c.in-Err-locked.fault new after locked in
+    let all = quorum_stopped file c.args.mode c.levels.result old c.levels.ensures c.purpose_of.result c.purpose_of.ensures c.in-Ok.quorum.servers c.servers-servers.result.now none c.servers-servers.ensures.numbers empty told mid c.in-Ok.ensures.asks c.in-Err-locked.fault new after locked in
     let P : OpenView → Type 0 = λ txn. Follows (quorum_line file c.args.mode old) told after (ended_by (Err c.in-Err-locked.fault) txn) in
     subst P (sym c.take_back.ensures.after) all
 

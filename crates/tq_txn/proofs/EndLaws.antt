@@ -1,0 +1,164 @@
+-- What the desk's answer makes of a transaction, and where it was told how the transaction ended.
+use Rattle.std.proofs.Common.{◌≡◌, ◌==◌, ◌||◌, ℕ, Bool, true, false, cond, is_some, List, [], ◌∷◌, ◌++◌, Option, Some, None, Result, Ok, Err, refl, sym, ap, ◌∙◌, subst, append-nil, rules}
+use Rattle.std.specs.List.{list_any}
+use Rattle.std.proofs.lemmas.Bool.{eq-eqb}
+use Rattle.std.proofs.lemmas.List.Folds.{list_any-append}
+use Rattle.tq_part.specs.declared.fault.AskFault.{AskFault}
+use Rattle.tq_part.specs.declared.fault.AskFault.TheVariants as ask_faults
+use Rattle.tq_asks.specs.declared.ask.Verdict.{Verdict}
+use Rattle.tq_desk.specs.declared.ask.DeskAsk.{DeskAsk}
+use Rattle.tq_desk.specs.declared.ask.DeskAsk.TheVariants as asks
+use Rattle.tq_desk.specs.declared.ask.DeskRefusal.{DeskRefusal}
+use Rattle.tq_desk.specs.declared.ask.DeskRefusal.TheVariants.{Decided}
+use Rattle.tq_desk.specs.declared.ask.DeskReply.{DeskReply}
+use Rattle.tq_desk.specs.declared.ask.DeskReply.TheVariants as replies
+use Rattle.tq_states.specs.declared.told.DeskTold.{DeskTold}
+use Rattle.tq_states.specs.Ended.{EndedView, verdict_in, verdict_by, commit_verdict, resolve_verdict}
+use Rattle.tq_states.specs.Open.{OpenView}
+use Rattle.tq_states.specs.Voting.{VotingView, evidence_of}
+use Rattle.tq_txn.specs.declared.asker.Exchange.{Exchange}
+use Rattle.tq_txn.specs.declared.asker.Exchange.TheVariants as exchanges
+use Rattle.tq_txn.specs.declared.fault.LineFault.{LineFault}
+use Rattle.tq_txn.specs.declared.fault.LineFault.TheVariants as faults
+use Rattle.tq_txn.specs.declared.txn.Txn.{Txn}
+use Rattle.tq_txn.specs.declared.txn.Txn.TheVariants as states
+use Rattle.tq_txn.specs.Aborts.{resolved_by, resolved_with, resolved}
+use Rattle.tq_txn.specs.Commits.{committed}
+use Rattle.tq_txn.specs.Dialogue.{IsUnasked, fault_of_ask, fault_of_desk, desk_exchange}
+use Rattle.tq_txn.specs.States.{number_of, levels_of, IsStill}
+use Rattle.tq_txn.specs.Told.{IsAnswered, is_ended, tells_end, EndsWhereTold}
+use Rattle.tq_txn.proofs.LineLaws.{further}
+use Rattle.tq_txn.proofs.KeptVotes.{voted_on_same}
+use Rattle.tq_txn.proofs.ToldLaws.{Grown}
+
+-- ---- the verdict in an answer
+
+module _ (number : ℕ) (told : DeskTold) where
+  resolve_told : told.ask ≡ asks.Resolve number → verdict_in number told ≡ resolve_verdict told.reply
+  resolve_told asked = ap (λ ask. verdict_by number ask told.reply) asked ∙ ap (λ b. cond b (resolve_verdict told.reply) None) (eq-eqb number number refl)
+
+pub commit_told : (old : VotingView) (told : DeskTold) → told.ask ≡ evidence_of old → verdict_in old.txn.txn told ≡ commit_verdict old.votes told.reply
+commit_told old told asked =
+    ap (λ ask. verdict_by old.txn.txn ask told.reply) asked ∙ ap (λ b. cond b (commit_verdict old.votes told.reply) None) (eq-eqb old.txn.txn old.txn.txn refl)
+
+pub resolved_told : (txn : Txn) (told : DeskTold) → told.ask ≡ asks.Resolve (number_of txn) → resolved_with txn told.number (resolve_verdict told.reply) ≡ resolved txn told
+resolved_told (states.Open old) told asked = ap (resolved_by (states.Open old) old told.number) (sym (resolve_told old.txn told asked))
+resolved_told (states.Voting old) told asked = ap (resolved_by (states.Voting old) old.txn told.number) (sym (resolve_told old.txn.txn told asked))
+resolved_told (states.Ended old) told asked = refl
+
+-- ---- the transaction after it
+
+open_answered : (old : OpenView) (told : DeskTold) (verdict : Option Verdict) → verdict_in old.txn told ≡ verdict → IsAnswered (states.Open old) told (resolved_by (states.Open old) old told.number verdict)
+open_answered old told None is = refl
+open_answered old told (Some verdict) is = (is, refl)
+
+voting_answered : (old : VotingView) (told : DeskTold) (verdict : Option Verdict) → verdict_in old.txn.txn told ≡ verdict → IsAnswered (states.Voting old) told (resolved_by (states.Voting old) old.txn told.number verdict)
+voting_answered old told None is = refl
+voting_answered old told (Some verdict) is = (is, refl)
+
+pub resolved_answered : (txn : Txn) (told : DeskTold) → IsAnswered txn told (resolved txn told)
+resolved_answered (states.Open old) told = open_answered old told (verdict_in old.txn told) refl
+resolved_answered (states.Voting old) told = voting_answered old told (verdict_in old.txn.txn told) refl
+resolved_answered (states.Ended old) told = refl
+
+open_still : (old : OpenView) (cite : ℕ) (verdict : Option Verdict) → IsStill (states.Open old) (resolved_by (states.Open old) old cite verdict)
+open_still old cite None = refl
+open_still old cite (Some verdict) = record { levels = refl; txn = refl; servers = refl }
+
+voting_still : (old : VotingView) (cite : ℕ) (verdict : Option Verdict) → IsStill (states.Voting old) (resolved_by (states.Voting old) old.txn cite verdict)
+voting_still old cite None = voted_on_same old old refl
+voting_still old cite (Some verdict) = record { levels = refl; txn = refl; servers = refl }
+
+pub resolved_still : (txn : Txn) (told : DeskTold) → IsStill txn (resolved txn told)
+resolved_still (states.Open old) told = open_still old told.number (verdict_in old.txn told)
+resolved_still (states.Voting old) told = voting_still old told.number (verdict_in old.txn.txn told)
+resolved_still (states.Ended old) told = refl
+
+by_levels : (before : Txn) (old : OpenView) (cite : ℕ) (verdict : Option Verdict) → levels_of before ≡ old.levels → levels_of (resolved_by before old cite verdict) ≡ levels_of before
+by_levels before old cite None same = refl
+by_levels before old cite (Some verdict) same = sym same
+
+pub resolved_levels : (txn : Txn) (told : DeskTold) → levels_of (resolved txn told) ≡ levels_of txn
+resolved_levels (states.Open old) told = by_levels (states.Open old) old told.number (verdict_in old.txn told) refl
+resolved_levels (states.Voting old) told = by_levels (states.Voting old) old.txn told.number (verdict_in old.txn.txn told) refl
+resolved_levels (states.Ended old) told = refl
+
+by_ends : (before : Txn) (old : OpenView) (cite : ℕ) (verdict : Option Verdict) → is_some verdict ≡ true → is_ended (resolved_by before old cite verdict) ≡ true
+by_ends before old cite None some = cc
+by_ends before old cite (Some verdict) some = refl
+
+pub resolved_ends : (txn : Txn) (told : DeskTold) → is_some (verdict_in (number_of txn) told) ≡ true → is_ended (resolved txn told) ≡ true
+resolved_ends (states.Open old) told some = by_ends (states.Open old) old told.number (verdict_in old.txn told) some
+resolved_ends (states.Voting old) told some = by_ends (states.Voting old) old.txn told.number (verdict_in old.txn.txn told) some
+resolved_ends (states.Ended old) told some = refl
+
+-- ---- where it was told
+
+pub ends_nothing : (number : ℕ) (old : List Exchange) (after : Txn) → EndsWhereTold number old old after
+ends_nothing number old after = ([], sym (append-nil old), λ told. cc)
+
+pub ends_refused : (number : ℕ) (ask : DeskAsk) (fault : AskFault) (old new : List Exchange) (after : Txn) → new ≡ old ++ desk_exchange ask (Err fault) → EndsWhereTold number old new after
+ends_refused number ask ask_faults.Memory old new after grown = ([], grown, λ told. cc)
+ends_refused number ask (ask_faults.JournalFull part) old new after grown = (desk_exchange ask (Err (ask_faults.JournalFull part)), grown, λ told. cc)
+ends_refused number ask (ask_faults.Unfounded part n) old new after grown = (desk_exchange ask (Err (ask_faults.Unfounded part n)), grown, λ told. cc)
+
+-- nothing was told of how the transaction of this number ended
+abbrev pub Untold : ℕ → List Exchange → List Exchange → Type 0
+Untold number old new = (more : List Exchange) × (new ≡ old ++ more) × (list_any (tells_end number) more ≡ false)
+
+pub untold_nothing : (number : ℕ) (old : List Exchange) → Untold number old old
+untold_nothing number old = ([], sym (append-nil old), refl)
+
+neither : (a b : Bool) → a ≡ false → (a || b) ≡ b
+neither true b none = cc
+neither false b none = refl
+
+either : (a b : Bool) → b ≡ false → (a || b) ≡ a
+either true b none = refl
+either false b none = none
+
+module _ (number : ℕ) (old mid new : List Exchange) (after : Txn) where
+  pub ends_after : Untold number old mid → EndsWhereTold number mid new after → EndsWhereTold number old new after
+  ends_after first rest =
+      let same = list_any-append (tells_end number) first.0 rest.0 ∙ neither (list_any (tells_end number) first.0) (list_any (tells_end number) rest.0) first.2 in
+      (first.0 ++ rest.0, further old mid new first.0 rest.0 first.1 rest.1, λ told. rest.2 (sym same ∙ told))
+
+  pub ends_before : EndsWhereTold number old mid after → Untold number mid new → EndsWhereTold number old new after
+  ends_before first rest =
+      let same = list_any-append (tells_end number) first.0 rest.0 ∙ either (list_any (tells_end number) first.0) (list_any (tells_end number) rest.0) rest.2 in
+      (first.0 ++ rest.0, further old mid new first.0 rest.0 first.1 rest.1, λ told. first.2 (sym same ∙ told))
+
+or_none : (b : Bool) → (b || false) ≡ b
+or_none true = refl
+or_none false = refl
+
+-- the desk's answer
+pub ends_answered : (number : ℕ) (ask : DeskAsk) (told : DeskTold) (old new : List Exchange) (after : Txn) → told.ask ≡ ask → new ≡ old ++ desk_exchange ask (Ok told)
+    → (is_some (verdict_in number told) ≡ true → is_ended after ≡ true) → EndsWhereTold number old new after
+ends_answered number ask told old new after asked grown ends =
+    let same : is_some (verdict_in number told) ≡ list_any (tells_end number) (desk_exchange ask (Ok told)) =
+    ap (λ a. is_some (verdict_by number a told.reply)) asked ∙ sym (or_none (is_some (verdict_by number ask told.reply))) in
+    (desk_exchange ask (Ok told), grown, λ some. ends (same ∙ some))
+
+-- ---- where memory ran out
+
+pub unasked_refused : (ask : DeskAsk) (fault : AskFault) (line_fault : LineFault) (old new : List Exchange) → line_fault ≡ fault_of_ask fault → new ≡ old ++ desk_exchange ask (Err fault) → IsUnasked {A = ℕ} (Err line_fault) old new
+unasked_refused ask fault line_fault old new is grown = subst (λ f. IsUnasked {A = ℕ} (Err f) old new) (sym is) (by fault grown)
+  where
+    by : (fault : AskFault) → new ≡ old ++ desk_exchange ask (Err fault) → IsUnasked {A = ℕ} (Err (fault_of_ask fault)) old new
+    by ask_faults.Memory grown = grown ∙ append-nil old
+    by (ask_faults.JournalFull part) grown = tt
+    by (ask_faults.Unfounded part n) grown = tt
+
+unasked_desk : (refusal : DeskRefusal) (old new : List Exchange) → IsUnasked {A = ℕ} (Err (fault_of_desk refusal)) old new
+unasked_desk (Decided verdict) old new = tt
+unasked_desk refusal old new = tt
+
+unasked_committed : (reply : DeskReply) (old new : List Exchange) → IsUnasked (committed reply) old new
+unasked_committed (replies.Committed serial) old new = tt
+unasked_committed (replies.Refused refusal) old new = unasked_desk refusal old new
+unasked_committed (replies.Txn number) old new = tt
+unasked_committed (replies.Verdict verdict) old new = tt
+
+pub unasked_answered : (reply : DeskReply) (answer : Result ℕ LineFault) (old new : List Exchange) → answer ≡ committed reply → IsUnasked answer old new
+unasked_answered reply answer old new is = subst (λ a. IsUnasked a old new) (sym is) (unasked_committed reply old new)
