@@ -1,5 +1,5 @@
 -- What a caller of a cell was told.
-use Rattle.std.specs.Prelude.{◌≡◌, ◌≤◌, ◌-◌, ℕ, List, [], ◌∷◌, ◌++◌, slice_get, Some}
+use Rattle.std.specs.Prelude.{◌≡◌, ◌≤◌, ◌-◌, ◌+◌, ℕ, zero, suc, List, [], ◌∷◌, ◌++◌, slice_get, Some}
 use Rattle.tq_shape.specs.declared.entry.Entry.{Entry}
 use Rattle.tq_shape.specs.declared.part.Part.{Part}
 use Rattle.tq_shape.specs.Journal.{IsLegalFrom, entry}
@@ -21,6 +21,12 @@ pub record Seen (A R : Type 0) : Type 0 where
 
 abbrev pub seen_by : {A R : Type 0} → List (Told A R) → ℕ → Seen A R
 seen_by receipts seen = record { receipts = receipts; seen = seen }
+
+-- the number of the last of so many entries behind a number, 0 where there are none: with it the greatest number that one was
+-- told rises to it, or stays
+abbrev pub last_behind : ℕ → ℕ → ℕ
+last_behind number zero = 0
+last_behind number (suc more) = number + suc more
 
 -- the receipts of the passes, pass by pass
 abbrev pub receipts_of : {A R : Type 0} → List (Seen A R) → List (Told A R)

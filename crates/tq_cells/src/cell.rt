@@ -1,7 +1,7 @@
-ghost use Rattle.std.specs.Prelude.{◌≡◌, ◌+◌, ◌∷◌, ◌++◌, [], ◌≤◌, ◌<◌, List, drop, vec_len, IfOk, OnErr};
+ghost use Rattle.std.specs.Prelude.{◌≡◌, ◌+◌, ◌∷◌, ◌++◌, [], ◌≤◌, ◌<◌, List, drop, max, vec_len, IfOk, OnErr};
 ghost use Rattle.tq_shape.specs.declared.entry.Entry.{Entry};
 ghost use Rattle.tq_shape.specs.Journal.{IsLegalFrom};
-ghost use Rattle.tq_cells.specs.Passes.{IsToldBy, seen_by, receipts_of};
+ghost use Rattle.tq_cells.specs.Passes.{IsToldBy, last_behind, seen_by, receipts_of};
 
 use crate::CallFault;
 use crate::gate::Gate;
@@ -52,9 +52,9 @@ impl<P: Answers> Cell<P> {
     }
 
     /// Asks the part, once it has its lock, under the next number of the journal. The receipt says the number and the
-    /// reply; one like it is the last of the pass. The gate is told once the lock is held, and once it is given back,
-    /// also where the answer is a fault. Answers `JournalFull` where the journal has as many entries as it may have,
-    /// and `Memory` where memory is refused: then part, journal and pass are as they were.
+    /// reply; one like it is the last of the pass, which was then told of that number. The gate is told once the lock is
+    /// held, and once it is given back, also where the answer is a fault. Answers `JournalFull` where the journal has as
+    /// many entries as it may have, and `Memory` where memory is refused: then part, journal and pass are as they were.
     pub fn call<R: Wait, G: Gate>(
         &self,
         rt: &R,
@@ -66,8 +66,7 @@ impl<P: Answers> Cell<P> {
         ensures asked { IfOk result (λ r. (r.part ≡ self.now) × (r.ask ≡ ask)) }
         ensures reply { IfOk result (λ r. IsToldBy P.reply P.after P.opening r.number r.ask r.reply) }
         ensures pass { IfOk result (λ r. pass.new.receipts ≡ pass.old.receipts ++ r ∷ []) }
-        ensures told { IfOk result (λ r. r.number ≤ pass.new.seen) }
-        ensures seen { pass.old.seen ≤ pass.new.seen }
+        ensures seen { IfOk result (λ r. pass.new.seen ≡ max pass.old.seen r.number) }
         ensures err { OnErr result (pass.new ≡ pass.old) }
     {
         let mut held = self.held.lock(rt);
@@ -78,8 +77,8 @@ impl<P: Answers> Cell<P> {
         receipt
     }
 
-    /// The entries after a number, none where the journal has fewer; the greatest number that the pass was told is then
-    /// at least that of the last of them. Answers an error only where memory is refused, and the pass is as it was.
+    /// The entries after a number, none where the journal has fewer; the greatest number that the pass was told rises to
+    /// that of the last of them. Answers an error only where memory is refused, and the pass is as it was.
     pub fn since<R: Wait>(
         &self,
         rt: &R,
@@ -89,8 +88,7 @@ impl<P: Answers> Cell<P> {
     ) -> Result<Vec<Entry<P::Ask, P::Reply>>, Memory>
         ensures entries { IfOk result (λ v. (s : P) × (journal : List (Entry P.Ask P.Reply)) × IsLegalFrom P.reply P.after (P.opening s) 1 journal × (v.items ≡ drop number journal)) }
         ensures receipts { pass.new.receipts ≡ pass.old.receipts }
-        ensures seen { pass.old.seen ≤ pass.new.seen }
-        ensures told { IfOk result (λ v. (0 < vec_len v) → (number + vec_len v ≤ pass.new.seen)) }
+        ensures seen { IfOk result (λ v. pass.new.seen ≡ max pass.old.seen (last_behind number (vec_len v))) }
         ensures err { OnErr result (pass.new ≡ pass.old) }
     {
         self.held.lock(rt).since(alloc, pass, number)

@@ -1,7 +1,7 @@
-ghost use Rattle.std.specs.Prelude.{◌≡◌, ◌+◌, ◌∷◌, ◌++◌, [], ◌≤◌, ◌<◌, ◌↔◌, length, drop, vec_len, IfOk, OnErr, IsErrOf};
+ghost use Rattle.std.specs.Prelude.{◌≡◌, ◌+◌, ◌∷◌, ◌++◌, [], ◌≤◌, ◌<◌, ◌↔◌, length, drop, max, vec_len, IfOk, OnErr, IsErrOf};
 ghost use Rattle.tq_shape.specs.Journal.{IsLegalFrom, entry};
 ghost use Rattle.tq_part.specs.Agrees.{standing};
-ghost use Rattle.tq_cells.specs.Passes.{told};
+ghost use Rattle.tq_cells.specs.Passes.{last_behind, told};
 
 use crate::pass::Pass;
 use crate::receipt::Receipt;
@@ -55,8 +55,7 @@ impl<P: Answers> Held<P> {
         ensures receipt { IfOk result (λ r. r ≡ told part (length self.old.journal + 1) ask (P.reply self.old.part (length self.old.journal + 1) ask)) }
         ensures journal { IfOk result (λ r. self.new ≡ standing (P.after self.old.part r.number ask) (self.old.journal ++ entry ask r.reply ∷ []) self.old.limit) }
         ensures pass { IfOk result (λ r. pass.new.receipts ≡ pass.old.receipts ++ r ∷ []) }
-        ensures told { IfOk result (λ r. r.number ≤ pass.new.seen) }
-        ensures seen { pass.old.seen ≤ pass.new.seen }
+        ensures seen { IfOk result (λ r. pass.new.seen ≡ max pass.old.seen r.number) }
         ensures legal { IsLegalFrom P.reply P.after (P.opening self.new.part) 1 self.new.journal }
         ensures err { OnErr result ((self.new ≡ self.old) × (pass.new ≡ pass.old)) }
         ensures full { IsErrOf result Fault.JournalFull ↔ (length self.old.journal ≡ self.old.limit) }
@@ -72,7 +71,7 @@ impl<P: Answers> Held<P> {
         let told = Receipt::new(alloc, part, number, &ask, &plan.reply)?;
         self.journaled.enter(alloc, ask, plan)?;
         pass.receipts.push_reserved(kept);
-        pass.seen = number.max(pass.seen);
+        pass.seen = pass.seen.max(number);
         Ok(told)
     }
 
@@ -86,8 +85,7 @@ impl<P: Answers> Held<P> {
         ensures entries { IfOk result (λ v. v.items ≡ drop number self.now.journal) }
         ensures legal { IsLegalFrom P.reply P.after (P.opening self.now.part) 1 self.now.journal }
         ensures receipts { pass.new.receipts ≡ pass.old.receipts }
-        ensures seen { pass.old.seen ≤ pass.new.seen }
-        ensures told { IfOk result (λ v. (0 < vec_len v) → (number + vec_len v ≤ pass.new.seen)) }
+        ensures seen { IfOk result (λ v. pass.new.seen ≡ max pass.old.seen (last_behind number (vec_len v))) }
         ensures err { OnErr result (pass.new ≡ pass.old) }
     {
         let entries = self.journaled.entries();
@@ -96,7 +94,7 @@ impl<P: Answers> Held<P> {
             return Ok(Vec::new(alloc));
         }
         let copied = copied::<P>(alloc, &entries[number as usize..])?;
-        pass.seen = last.max(pass.seen);
+        pass.seen = pass.seen.max(last);
         Ok(copied)
     }
 

@@ -1,4 +1,4 @@
-ghost use Rattle.std.specs.Prelude.{◌≡◌, ◌++◌, ◌<◌, ◌↔◌, [], length, option_to_list, IsSome};
+ghost use Rattle.std.specs.Prelude.{◌≡◌, ◌++◌, ◌<◌, ◌↔◌, [], length, max, option_to_list, IsSome};
 ghost use Rattle.tq_cells.specs.Passes.{seen_by};
 
 use crate::receipt::Receipt;
@@ -53,6 +53,14 @@ impl<P: Answers> Pass<P> {
         ensures seen { self.new.seen ≡ self.old.seen }
     {
         self.receipts.pop()
+    }
+
+    /// Has seen what another pass of the same cell has seen, too. The receipts stay.
+    pub fn see(&mut self, other: &Pass<P>)
+        ensures receipts { self.new.receipts ≡ self.old.receipts }
+        ensures seen { self.new.seen ≡ max self.old.seen other.now.seen }
+    {
+        self.seen = self.seen.max(other.seen);
     }
 
     pub(crate) fn into_receipts(self) -> Vec<Receipt<P>>

@@ -7,3 +7,4 @@ pub mod Seen
 pub mod Pulled
 pub mod Callers
 pub mod Crossing
+pub mod Came

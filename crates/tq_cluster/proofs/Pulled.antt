@@ -54,14 +54,14 @@ grown-limits prefixes part more = refl
 -- ---- what was seen of the parts before
 
 -- another server's prefix, and what was seen of it, is as it was
-other-prefix : (prefixes : JournalsView) (there number : ℕ) (more : Entries) → number - 1 ≢ there - 1
+pub other-prefix : (prefixes : JournalsView) (there number : ℕ) (more : Entries) → number - 1 ≢ there - 1
     → prefix_length (grown prefixes (parts.Server there) more) (parts.Server number) ≡ prefix_length prefixes (parts.Server number)
 other-prefix prefixes there number (entries.Server more) other =
     ap length (get_or-set_other prefixes.servers (there - 1) (number - 1) (server_prefix prefixes there ++ more) [] other)
 other-prefix prefixes there number (entries.Desk more) other = refl
 other-prefix prefixes there number (entries.View more) other = refl
 
-other-seen : (caller : CallerView) (there number seen : ℕ) → number - 1 ≢ there - 1 → seen_of (having_seen caller (parts.Server there) seen) (parts.Server number) ≡ seen_of caller (parts.Server number)
+pub other-seen : (caller : CallerView) (there number seen : ℕ) → number - 1 ≢ there - 1 → seen_of (having_seen caller (parts.Server there) seen) (parts.Server number) ≡ seen_of caller (parts.Server number)
 other-seen caller there number seen other = get_or-set_other caller.seen.servers (there - 1) (number - 1) seen 0 other
 
 -- the next server was pulled
@@ -130,11 +130,6 @@ pub continues-after : {T : Type 0} (start old new : JournalsView) (part : Part) 
     → Continues start old → Continues start new
 continues-after start old new part (Ok x) grew same before = subst (λ (o : JournalsView). Continues start o) (sym grew.1) (continues-grown start old part grew.0 before)
 continues-after start old new part (Err f) grew same before = subst (λ (o : JournalsView). Continues start o) (sym same) before
-
-pub fault-after : {T : Type 0} (old new : JournalsView) (caller : CallerView) (part : Part) (r : Result T PullFault) → IfErr r (λ f. (more : Entries) × IsPullFault old part more (seen_of caller part) f) → OnErr r (new ≡ old)
-    → IfErr r (λ f. (there : Part) × (more : Entries) × IsPullFault new there more (seen_of caller there) f)
-fault-after old new caller part (Ok x) is same = tt
-fault-after old new caller part (Err f) is same = (part, is.0, subst (λ (o : JournalsView). IsPullFault o part is.0 (seen_of caller part) f) (sym same) is.1)
 
 pub seen-after : {T : Type 0} (start : JournalsView) (first : CallerView) (levels : ℕ) (of_desk : Entries) (seen_desk seen_view : ℕ) (middle last : JournalsView) (second third : CallerView) (r : Result T PullFault)
     → HasSeenServers start first (2 ^ levels - 1) → middle ≡ grown start parts.Desk of_desk → second ≡ having_seen first parts.Desk seen_desk

@@ -1,8 +1,8 @@
 -- What a caller has seen of servers.
-use Rattle.std.proofs.Common.{◌≡◌, ◌≤◌, ◌<◌, ◌+◌, ◌-◌, ◌^◌, ℕ, zero, suc, List, [], ◌∷◌, ◌++◌, length, map, set, get_or, replicate, sym, ap, subst, ◌∙◌, arith}
+use Rattle.std.proofs.Common.{◌≡◌, ◌≤◌, ◌<◌, ◌+◌, ◌-◌, ◌^◌, ℕ, zero, suc, List, [], ◌∷◌, ◌++◌, length, map, max, set, get_or, replicate, refl, sym, ap, subst, ◌∙◌, arith}
 use Rattle.std.proofs.lemmas.List.{length-map, map-set, map-append, get_or-map, get_or-set_same, set-get_or, replicate_more}
 use Rattle.std.specs.Prelude.{Result, Ok, Err, IfOk, IfErr, OnOk, OnErr}
-use Rattle.tq_cells.specs.Passes.{Seen}
+use Rattle.tq_cells.specs.Passes.{Seen, last_behind}
 use Rattle.tq_shape.specs.Tree.{IsServer}
 use Rattle.tq_shape.specs.declared.part.Part.{Part}
 use Rattle.tq_shape.specs.declared.part.Part.TheVariants as parts
@@ -16,6 +16,7 @@ use Rattle.tq_prefixes.specs.declared.fault.PullFault.{PullFault}
 use Rattle.tq_prefixes.specs.declared.fault.PullFault.TheVariants as faults
 use Rattle.tq_prefixes.specs.Prefixes.{IsPartOf, IsPullFault, grown, prefix_length}
 use Rattle.tq_cluster.specs.Told.{CallerView, SeesOn, seen_of, having_seen}
+use Rattle.tq_cluster.specs.Pulls.{seen_then}
 
 module _ {A R : Type 0} where
   abbrev numbers : List (Seen A R) → List ℕ
@@ -27,11 +28,6 @@ module _ {A R : Type 0} where
       let count : length (numbers passes) ≡ length passes = length-map passes (λ (p : Seen A R). p.seen) in
       ap (λ (l : List ℕ). get_or l place 0) (map-set (λ (p : Seen A R). p.seen) passes place pass)
       ∙ get_or-set_same (numbers passes) place pass.seen 0 (omega (arith, less, count))
-
-  pub seen_there : (passes : List (Seen A R)) (number server : ℕ) (pass : Seen A R) → number ≡ server → number - 1 < length passes
-      → get_or (map (λ (p : Seen A R). p.seen) (set passes (number - 1) pass)) (server - 1) 0 ≡ pass.seen
-  seen_there passes number server pass named less =
-      subst (λ (n : ℕ). get_or (map (λ (p : Seen A R). p.seen) (set passes (number - 1) pass)) (n - 1) 0 ≡ pass.seen) named (seen_here passes (number - 1) pass less)
 
   -- of a server whose pass is as it was
   pub seen_before : (passes : List (Seen A R)) (place : ℕ) (pass : Seen A R) → place < length passes → pass ≡ get_or passes place pass → get_or (map (λ (p : Seen A R). p.seen) passes) place 0 ≡ pass.seen
@@ -53,44 +49,79 @@ caller_saw levels told passes desk view number pass old same =
     (λ i. record { levels = levels; told = told; seen = record { servers = map-set (λ (p : Seen NodeAsk NodeReply). p.seen) passes (number - 1) pass i; desk = desk; view = view } })
     ∙ ap (λ (o : CallerView). having_seen o (parts.Server number) pass.seen) same
 
--- ---- what was seen after an ask: of the other parts what was seen before
+-- ---- what was seen after an ask, or after a pull of a part: of the other parts what was seen before
 
--- a server was asked, by the pass at its place
-pub server_saw : (levels : ℕ) (told : List Exchange) (passes : List (Seen NodeAsk NodeReply)) (desk view number server : ℕ) (before after : Seen NodeAsk NodeReply) (old : CallerView)
-    → seeing levels told passes desk view ≡ old → length passes + 1 ≡ 2 ^ levels → IsServer old.levels number → number ≡ server → before ≡ get_or passes (number - 1) before → before.seen ≤ after.seen
-    → (seen : ℕ) × (seen_of old (parts.Server server) ≤ seen) × ((seeing levels told (set passes (number - 1) after) desk view).seen ≡ (having_seen old (parts.Server server) seen).seen)
-server_saw levels told passes desk view number server before after old same count within named is more =
-    let of_tree : IsServer levels number = subst (λ (o : CallerView). IsServer o.levels number) (sym same) within in
-    let least = of_tree.0 in
-    let most = of_tree.1 in
-    let less : number - 1 < length passes = omega (arith, count, least, most) in
-    let was : get_or old.seen.servers (number - 1) 0 ≡ before.seen = ap (λ (v : CallerView). get_or v.seen.servers (number - 1) 0) (sym same) ∙ seen_before passes (number - 1) before less is in (
-      after.seen,
-      subst (λ (n : ℕ). seen_of old (parts.Server n) ≤ after.seen) named (omega (arith, was, more)),
-      subst (λ (n : ℕ). (seeing levels told (set passes (number - 1) after) desk view).seen ≡ (having_seen old (parts.Server n) after.seen).seen) named
-          (ap (λ (v : CallerView). v.seen) (caller_saw levels told passes desk view number after old same)),
-    )
+-- the caller had seen the one number of the part, and has seen the other
+pub record SawOne (old new : CallerView) (part : Part) (before after : ℕ) : Type 0 where
+  pub was : seen_of old part ≡ before
+  pub here : seen_of new part ≡ after
+  pub others : new ≡ having_seen old part after
+
+-- of a server, by the pass at its place
+pub server_saw : (levels : ℕ) (told : List Exchange) (passes : List (Seen NodeAsk NodeReply)) (desk view number : ℕ) (part : Part) (before after : Seen NodeAsk NodeReply) (old : CallerView)
+    → seeing levels told passes desk view ≡ old → number - 1 < length passes → part ≡ parts.Server number → before ≡ get_or passes (number - 1) before
+    → SawOne old (seeing levels told (set passes (number - 1) after) desk view) part before.seen after.seen
+server_saw levels told passes desk view number part before after old same less named is =
+    subst (λ (p : Part). SawOne old (seeing levels told (set passes (number - 1) after) desk view) p before.seen after.seen) (sym named)
+    (record {
+      was = ap (λ (v : CallerView). get_or v.seen.servers (number - 1) 0) (sym same) ∙ seen_before passes (number - 1) before less is;
+      here = seen_here passes (number - 1) after less;
+      others = caller_saw levels told passes desk view number after old same;
+    })
+
+-- of the desk, and of the view
+pub desk_saw : (levels : ℕ) (told : List Exchange) (passes : List (Seen NodeAsk NodeReply)) (before after view : ℕ) (part : Part) (old : CallerView) → seeing levels told passes before view ≡ old → part ≡ parts.Desk
+    → SawOne old (seeing levels told passes after view) part before after
+desk_saw levels told passes before after view part old same named =
+    subst (λ (p : Part). SawOne old (seeing levels told passes after view) p before after) (sym named)
+    (record { was = ap (λ (o : CallerView). seen_of o parts.Desk) (sym same); here = refl; others = ap (λ (o : CallerView). having_seen o parts.Desk after) same })
+
+pub view_saw : (levels : ℕ) (told : List Exchange) (passes : List (Seen NodeAsk NodeReply)) (desk before after : ℕ) (part : Part) (old : CallerView) → seeing levels told passes desk before ≡ old → part ≡ parts.View
+    → SawOne old (seeing levels told passes desk after) part before after
+view_saw levels told passes desk before after part old same named =
+    subst (λ (p : Part). SawOne old (seeing levels told passes desk after) p before after) (sym named)
+    (record { was = ap (λ (o : CallerView). seen_of o parts.View) (sym same); here = refl; others = ap (λ (o : CallerView). having_seen o parts.View after) same })
+
+-- what was seen of a part, seen once more
+seen_again : (caller : CallerView) (part : Part) → (having_seen caller part (seen_of caller part)).seen ≡ caller.seen
+seen_again caller (parts.Server number) = λ i. record { servers = set-get_or caller.seen.servers (number - 1) 0 i; desk = caller.seen.desk; view = caller.seen.view }
+seen_again caller parts.Desk = refl
+seen_again caller parts.View = refl
+
+-- the part was asked, and told a number or nothing
+pub asked_seen : {T E : Type 0} (number : T → ℕ) (r : Result T E) (old new : CallerView) (part : Part) (before after : ℕ) → SawOne old new part before after
+    → IfOk r (λ t. after ≡ max before (number t)) → IfOk r (λ t. seen_of new part ≡ max (seen_of old part) (number t))
+asked_seen number (Ok t) old new part before after saw told = saw.here ∙ told ∙ ap (λ (n : ℕ). max n (number t)) (sym saw.was)
+asked_seen number (Err f) old new part before after saw told = tt
+
+pub asked_none : {T E : Type 0} (r : Result T E) (old new : CallerView) (part : Part) (before after : ℕ) → SawOne old new part before after → OnErr r (after ≡ before) → OnErr r (new.seen ≡ old.seen)
+asked_none (Ok t) old new part before after saw told = tt
+asked_none (Err f) old new part before after saw told =
+    ap (λ (c : CallerView). c.seen) saw.others ∙ ap (λ (n : ℕ). (having_seen old part n).seen) (told ∙ sym saw.was) ∙ seen_again old part
+
+pub asked_others : (old new : CallerView) (part : Part) (before after : ℕ) → SawOne old new part before after → new.seen ≡ (having_seen old part (seen_of new part)).seen
+asked_others old new part before after saw = ap (λ (c : CallerView). c.seen) saw.others ∙ ap (λ (n : ℕ). (having_seen old part n).seen) (sym saw.here)
 
 -- it was not asked
-pub server_not_asked : (old new : CallerView) (server : ℕ) → new.seen ≡ old.seen → (seen : ℕ) × (seen_of old (parts.Server server) ≤ seen) × (new.seen ≡ (having_seen old (parts.Server server) seen).seen)
-server_not_asked old new server same = (
-  seen_of old (parts.Server server),
-  omega arith,
-  same ∙ (λ i. record { servers = sym (set-get_or old.seen.servers (server - 1) 0) i; desk = old.seen.desk; view = old.seen.view }),
-)
+pub not_asked : (old new : CallerView) (part : Part) → new ≡ old → new.seen ≡ (having_seen old part (seen_of new part)).seen
+not_asked old new part same = subst (λ (o : CallerView). new.seen ≡ (having_seen o part (seen_of new part)).seen) same (sym (seen_again new part))
 
--- the desk was asked, and the view
-pub desk_saw : (levels : ℕ) (told : List Exchange) (passes : List (Seen NodeAsk NodeReply)) (before after view : ℕ) (old : CallerView) → seeing levels told passes before view ≡ old → before ≤ after
-    → (seen : ℕ) × (seen_of old parts.Desk ≤ seen) × ((seeing levels told passes after view).seen ≡ (having_seen old parts.Desk seen).seen)
-desk_saw levels told passes before after view old same more =
-    (after, subst (λ (o : CallerView). seen_of o parts.Desk ≤ after) same more, ap (λ (o : CallerView). (having_seen o parts.Desk after).seen) same)
+pub on_err : {T E : Type 0} (P : Type 0) (r : Result T E) → P → OnErr r P
+on_err P (Ok x) holds = tt
+on_err P (Err f) holds = holds
 
-pub view_saw : (levels : ℕ) (told : List Exchange) (passes : List (Seen NodeAsk NodeReply)) (desk before after : ℕ) (old : CallerView) → seeing levels told passes desk before ≡ old → before ≤ after
-    → (seen : ℕ) × (seen_of old parts.View ≤ seen) × ((seeing levels told passes desk after).seen ≡ (having_seen old parts.View seen).seen)
-view_saw levels told passes desk before after old same more =
-    (after, subst (λ (o : CallerView). seen_of o parts.View ≤ after) same more, ap (λ (o : CallerView). (having_seen o parts.View after).seen) same)
+-- the part was pulled: the caller was told of what came
+pub pulled_saw : (old new : CallerView) (part there : Part) (before after : ℕ) (prefixes start grew : JournalsView) → SawOne old new part before after → part ≡ there → prefixes ≡ start
+    → after ≡ max before (last_behind (prefix_length prefixes there) (prefix_length grew there - prefix_length prefixes there)) → seen_of new part ≡ seen_then start grew old part
+pulled_saw old new part there before after prefixes start grew saw named same told =
+    let at_start : after ≡ max before (last_behind (prefix_length start there) (prefix_length grew there - prefix_length start there)) =
+    subst (λ (o : JournalsView). after ≡ max before (last_behind (prefix_length o there) (prefix_length grew there - prefix_length o there))) same told in
+    let at_part : after ≡ max before (last_behind (prefix_length start part) (prefix_length grew part - prefix_length start part)) =
+    subst (λ (p : Part). after ≡ max before (last_behind (prefix_length start p) (prefix_length grew p - prefix_length start p))) (sym named) at_start in
+    saw.here ∙ at_part ∙ ap (λ (n : ℕ). max n (last_behind (prefix_length start part) (prefix_length grew part - prefix_length start part))) (sym saw.was)
 
--- ---- what was seen after a pull of a part
+pub pulled_others : (old new : CallerView) (part : Part) (before after : ℕ) → SawOne old new part before after → new ≡ having_seen old part (seen_of new part)
+pulled_others old new part before after saw = saw.others ∙ ap (λ (n : ℕ). having_seen old part n) (sym saw.here)
 
 -- the pass of the server that the part is lies within the passes
 pub has_pass : (passes : List (Seen NodeAsk NodeReply)) (levels number : ℕ) (part : Part) (old : CallerView) → IsPartOf levels part → part ≡ parts.Server number → old.levels ≡ levels → length passes + 1 ≡ 2 ^ old.levels
@@ -100,28 +131,6 @@ has_pass passes levels number part old within named same count =
     let least = of_tree.0 in
     let most : number < 2 ^ old.levels = subst (λ (l : ℕ). number < 2 ^ l) (sym same) of_tree.1 in
     omega (arith, count, least, most)
-
--- a server was pulled, by the pass at its place
-pub server_pulled : (levels : ℕ) (told : List Exchange) (passes : List (Seen NodeAsk NodeReply)) (desk view number : ℕ) (part : Part) (before after : Seen NodeAsk NodeReply) (old : CallerView)
-    → seeing levels told passes desk view ≡ old → number - 1 < length passes → part ≡ parts.Server number → before ≡ get_or passes (number - 1) before → before.seen ≤ after.seen
-    → (seen : ℕ) × (seen_of old part ≤ seen) × (seeing levels told (set passes (number - 1) after) desk view ≡ having_seen old part seen)
-server_pulled levels told passes desk view number part before after old same less named is more =
-    let was : get_or old.seen.servers (number - 1) 0 ≡ before.seen = ap (λ (v : CallerView). get_or v.seen.servers (number - 1) 0) (sym same) ∙ seen_before passes (number - 1) before less is in
-    subst (λ (p : Part). (seen : ℕ) × (seen_of old p ≤ seen) × (seeing levels told (set passes (number - 1) after) desk view ≡ having_seen old p seen)) (sym named)
-    (after.seen, omega (arith, was, more), caller_saw levels told passes desk view number after old same)
-
--- the desk was pulled, and the view
-pub desk_pulled : (levels : ℕ) (told : List Exchange) (passes : List (Seen NodeAsk NodeReply)) (before after view : ℕ) (part : Part) (old : CallerView) → seeing levels told passes before view ≡ old → part ≡ parts.Desk → before ≤ after
-    → (seen : ℕ) × (seen_of old part ≤ seen) × (seeing levels told passes after view ≡ having_seen old part seen)
-desk_pulled levels told passes before after view part old same named more =
-    subst (λ (p : Part). (seen : ℕ) × (seen_of old p ≤ seen) × (seeing levels told passes after view ≡ having_seen old p seen)) (sym named)
-    (after, subst (λ (o : CallerView). seen_of o parts.Desk ≤ after) same more, ap (λ (o : CallerView). having_seen o parts.Desk after) same)
-
-pub view_pulled : (levels : ℕ) (told : List Exchange) (passes : List (Seen NodeAsk NodeReply)) (desk before after : ℕ) (part : Part) (old : CallerView) → seeing levels told passes desk before ≡ old → part ≡ parts.View → before ≤ after
-    → (seen : ℕ) × (seen_of old part ≤ seen) × (seeing levels told passes desk after ≡ having_seen old part seen)
-view_pulled levels told passes desk before after part old same named more =
-    subst (λ (p : Part). (seen : ℕ) × (seen_of old p ≤ seen) × (seeing levels told passes desk after ≡ having_seen old p seen)) (sym named)
-    (after, subst (λ (o : CallerView). seen_of o parts.View ≤ after) same more, ap (λ (o : CallerView). having_seen o parts.View after) same)
 
 module _ {T : Type 0} (r : Result T PullFault) (part there : Part) (prefixes old new : JournalsView) (named : part ≡ there) (same : prefixes ≡ old) where
   -- the board grew by the entries of the part of that name

@@ -1,10 +1,14 @@
 -- What pulls do to the prefixes on a board.
-use Rattle.std.specs.Prelude.{◌≡◌, ◌≤◌, ◌<◌, ℕ, List, [], ◌∷◌, ◌++◌, ⊤}
+use Rattle.std.specs.Prelude.{◌≡◌, ◌≤◌, ◌<◌, ◌-◌, ℕ, max, List, [], ◌∷◌, ◌++◌, ⊤}
 use Rattle.tq_shape.specs.declared.part.Part.{Part}
 use Rattle.tq_shape.specs.declared.part.Part.TheVariants as parts
 use Rattle.tq_desk.specs.DeskJournal.{DeskEntry}
 use Rattle.tq_tables.specs.Journals.{JournalsView, ViewEntry}
-use Rattle.tq_prefixes.specs.Prefixes.{IsPartOf, prefix_length}
+use Rattle.tq_cells.specs.Passes.{last_behind}
+use Rattle.tq_prefixes.specs.declared.entries.Entries.{Entries}
+use Rattle.tq_prefixes.specs.declared.fault.PullFault.{PullFault}
+use Rattle.tq_prefixes.specs.Prefixes.{IsPartOf, IsPullFault, prefix_length}
+use Rattle.tq_prefixes.specs.Astray.{ComesBefore}
 use Rattle.tq_cluster.specs.Told.{CallerView, seen_of}
 
 -- each list is the one at its place before with more behind it
@@ -28,3 +32,24 @@ HasSeenAll prefixes caller = (part : Part) → IsPartOf prefixes.levels part →
 -- of the first servers, so many of them
 abbrev pub HasSeenServers : JournalsView → CallerView → ℕ → Type 0
 HasSeenServers prefixes caller count = (number : ℕ) → 0 < number → number ≤ count → seen_of caller (parts.Server number) ≤ prefix_length prefixes (parts.Server number)
+
+-- the greatest number that a caller was told of a part, once what was pulled of it went from the one to the other: that of the
+-- last of the entries that came, or as before
+abbrev pub seen_then : JournalsView → JournalsView → CallerView → Part → ℕ
+seen_then old new caller part = max (seen_of caller part) (last_behind (prefix_length old part) (prefix_length new part - prefix_length old part))
+
+-- of each part the caller was told just of the entries that came onto the board
+abbrev pub SawWhatCame : JournalsView → JournalsView → CallerView → CallerView → Type 0
+SawWhatCame old new before after = (part : Part) → seen_of after part ≡ seen_then old new before part
+
+-- of each part before that one
+abbrev pub HasSeenBefore : JournalsView → CallerView → Part → Type 0
+HasSeenBefore prefixes caller part = (before : Part) → IsPartOf prefixes.levels before → ComesBefore before part → seen_of caller before ≤ prefix_length prefixes before
+
+-- a pull of all parts ended with a fault at a part of the system, whose entries were not taken; those before it were pulled
+pub record EndedAt (prefixes : JournalsView) (caller : CallerView) (fault : PullFault) : Type 0 where
+  pub part : Part
+  pub is_part : IsPartOf prefixes.levels part
+  pub before : HasSeenBefore prefixes caller part
+  pub more : Entries
+  pub why : IsPullFault prefixes part more (seen_of caller part) fault

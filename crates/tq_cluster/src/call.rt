@@ -1,4 +1,4 @@
-ghost use Rattle.std.specs.Prelude.{◌≡◌, ◌≤◌, IfOk};
+ghost use Rattle.std.specs.Prelude.{◌≡◌, max, IfOk, OnErr};
 ghost use Rattle.tq_cells.specs.Passes.{IsToldBy};
 
 use std::alloc::Global;
@@ -25,8 +25,8 @@ pub(crate) fn call<P: Answers, R: Wait, G: Gate>(
 ) -> Result<Receipts<P>, CallFault>
     ensures same { IfOk result (λ r. r.kept ≡ r.told) }
     ensures asked { IfOk result (λ r. (r.told.part ≡ cell.now) × (r.told.ask ≡ ask)) }
-    ensures seen { IfOk result (λ r. r.told.number ≤ pass.new.seen) }
-    ensures grows { pass.old.seen ≤ pass.new.seen }
+    ensures seen { IfOk result (λ r. pass.new.seen ≡ max pass.old.seen r.told.number) }
+    ensures not_told { OnErr result (pass.new.seen ≡ pass.old.seen) }
     ensures reply { IfOk result (λ r. IsToldBy P.reply P.after P.opening r.told.number r.told.ask r.told.reply) }
 {
     let told = cell.call(rt, alloc, pass, gate, ask)?;

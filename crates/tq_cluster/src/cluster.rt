@@ -1,4 +1,4 @@
-ghost use Rattle.std.specs.Prelude.{◌≡◌, ◌≤◌, ◌<◌, ◌+◌, ◌^◌, ◌++◌, ◌⊎◌, ℕ, [], length, map, replicate, IfOk, IfErr, vec_len, vec_capacity};
+ghost use Rattle.std.specs.Prelude.{◌≡◌, ◌≤◌, ◌<◌, ◌+◌, ◌^◌, ◌++◌, ◌⊎◌, ℕ, [], length, map, max, replicate, IfOk, IfErr, OnErr, vec_len, vec_capacity};
 ghost use Rattle.tq_txn.specs.Dialogue.{node_exchange, desk_exchange, view_exchange};
 ghost use Rattle.tq_tables.specs.Parts.{AreLegal};
 ghost use Rattle.tq_cluster.specs.Told.{IsToldByServer, IsToldByDesk, IsToldByView, exchange_of, having_seen, nothing_seen, seen_of};
@@ -137,8 +137,8 @@ impl<G: Gate + Drop> Cluster<G> {
         } = self;
         let entries = limits.entries();
         let servers = server_journals(alloc, entries, servers, room);
-        let desk = desk_journal(alloc, levels, limits, desk)?;
-        let view = view_journal(alloc, levels, entries, view);
+        let desk = desk_journal(alloc, levels, limits, desk.into_journaled())?;
+        let view = view_journal(alloc, levels, entries, view.into_journaled());
         Ok(Journals::new(levels, limits, servers, desk, view))
     }
 
@@ -156,9 +156,10 @@ impl<G: Gate + Drop> Cluster<G> {
         ensures exchanges { caller.new.told ≡ caller.old.told ++ node_exchange server.number ask result }
         ensures same { IfOk result (λ t. (t.server ≡ server.number) × (t.ask ≡ ask)) }
         ensures reply { IfOk result (λ t. IsToldByServer t.number t.ask t.reply) }
-        ensures seen { IfOk result (λ t. t.number ≤ seen_of caller.new (Part.Server server.number)) }
+        ensures seen { IfOk result (λ t. seen_of caller.new (Part.Server server.number) ≡ max (seen_of caller.old (Part.Server server.number)) t.number) }
+        ensures not_told { OnErr result (caller.new.seen ≡ caller.old.seen) }
         ensures fault { IfErr result (λ f. (f ≡ AskFault.Memory) ⊎ (f ≡ AskFault.JournalFull (Part.Server server.number))) }
-        ensures saw { (seen : ℕ) × (seen_of caller.old (Part.Server server.number) ≤ seen) × (caller.new.seen ≡ (having_seen caller.old (Part.Server server.number) seen).seen) }
+        ensures others { caller.new.seen ≡ (having_seen caller.old (Part.Server server.number) (seen_of caller.new (Part.Server server.number))).seen }
         ensures tree { caller.new.levels ≡ caller.old.levels }
     {
         let number = server.number();
@@ -184,9 +185,10 @@ impl<G: Gate + Drop> Cluster<G> {
         ensures exchanges { caller.new.told ≡ caller.old.told ++ desk_exchange ask result }
         ensures same { IfOk result (λ t. t.ask ≡ ask) }
         ensures reply { IfOk result (λ t. IsToldByDesk t.number t.ask t.reply) }
-        ensures seen { IfOk result (λ t. t.number ≤ seen_of caller.new Part.Desk) }
+        ensures seen { IfOk result (λ t. seen_of caller.new Part.Desk ≡ max (seen_of caller.old Part.Desk) t.number) }
+        ensures not_told { OnErr result (caller.new.seen ≡ caller.old.seen) }
         ensures fault { IfErr result (λ f. (f ≡ AskFault.Memory) ⊎ (f ≡ AskFault.JournalFull Part.Desk)) }
-        ensures saw { (seen : ℕ) × (seen_of caller.old Part.Desk ≤ seen) × (caller.new.seen ≡ (having_seen caller.old Part.Desk seen).seen) }
+        ensures others { caller.new.seen ≡ (having_seen caller.old Part.Desk (seen_of caller.new Part.Desk)).seen }
         ensures tree { caller.new.levels ≡ caller.old.levels }
     {
         let copy = ask.clone()?;
@@ -207,9 +209,10 @@ impl<G: Gate + Drop> Cluster<G> {
         ensures exchanges { caller.new.told ≡ caller.old.told ++ view_exchange ask result }
         ensures same { IfOk result (λ t. t.ask ≡ ask) }
         ensures reply { IfOk result (λ t. IsToldByView t.number t.ask t.reply) }
-        ensures seen { IfOk result (λ t. t.number ≤ seen_of caller.new Part.View) }
+        ensures seen { IfOk result (λ t. seen_of caller.new Part.View ≡ max (seen_of caller.old Part.View) t.number) }
+        ensures not_told { OnErr result (caller.new.seen ≡ caller.old.seen) }
         ensures fault { IfErr result (λ f. (f ≡ AskFault.Memory) ⊎ (f ≡ AskFault.JournalFull Part.View)) }
-        ensures saw { (seen : ℕ) × (seen_of caller.old Part.View ≤ seen) × (caller.new.seen ≡ (having_seen caller.old Part.View seen).seen) }
+        ensures others { caller.new.seen ≡ (having_seen caller.old Part.View (seen_of caller.new Part.View)).seen }
         ensures tree { caller.new.levels ≡ caller.old.levels }
     {
         caller.heard.reserve(1)?;
@@ -275,7 +278,8 @@ fn hear_node(
     ensures exchanges { map exchange_of heard.new.items ≡ map exchange_of heard.old.items ++ node_exchange server ask result }
     ensures same { IfOk result (λ t. (t.server ≡ server) × (t.ask ≡ ask)) }
     ensures reply { IfOk called (λ r. IsToldByServer r.told.number r.told.ask r.told.reply) → IfOk result (λ t. IsToldByServer t.number t.ask t.reply) }
-    ensures seen { (seen : ℕ) → IfOk called (λ r. r.told.number ≤ seen) → IfOk result (λ t. t.number ≤ seen) }
+    ensures seen { (old new : ℕ) → IfOk called (λ r. new ≡ max old r.told.number) → IfOk result (λ t. new ≡ max old t.number) }
+    ensures not_told { (old new : ℕ) → OnErr called (new ≡ old) → OnErr result (new ≡ old) }
     ensures fault { IfErr result (λ f. (f ≡ AskFault.Memory) ⊎ (f ≡ AskFault.JournalFull (Part.Server server))) }
 {
     match called {
@@ -313,7 +317,8 @@ fn hear_desk(
     ensures exchanges { map exchange_of heard.new.items ≡ map exchange_of heard.old.items ++ desk_exchange ask result }
     ensures same { IfOk result (λ t. t.ask ≡ ask) }
     ensures reply { IfOk called (λ r. IsToldByDesk r.told.number r.told.ask r.told.reply) → IfOk result (λ t. IsToldByDesk t.number t.ask t.reply) }
-    ensures seen { (seen : ℕ) → IfOk called (λ r. r.told.number ≤ seen) → IfOk result (λ t. t.number ≤ seen) }
+    ensures seen { (old new : ℕ) → IfOk called (λ r. new ≡ max old r.told.number) → IfOk result (λ t. new ≡ max old t.number) }
+    ensures not_told { (old new : ℕ) → OnErr called (new ≡ old) → OnErr result (new ≡ old) }
     ensures fault { IfErr result (λ f. (f ≡ AskFault.Memory) ⊎ (f ≡ AskFault.JournalFull Part.Desk)) }
 {
     match called {
@@ -348,7 +353,8 @@ fn hear_view(
     ensures exchanges { map exchange_of heard.new.items ≡ map exchange_of heard.old.items ++ view_exchange ask result }
     ensures same { IfOk result (λ t. t.ask ≡ ask) }
     ensures reply { IfOk called (λ r. IsToldByView r.told.number r.told.ask r.told.reply) → IfOk result (λ t. IsToldByView t.number t.ask t.reply) }
-    ensures seen { (seen : ℕ) → IfOk called (λ r. r.told.number ≤ seen) → IfOk result (λ t. t.number ≤ seen) }
+    ensures seen { (old new : ℕ) → IfOk called (λ r. new ≡ max old r.told.number) → IfOk result (λ t. new ≡ max old t.number) }
+    ensures not_told { (old new : ℕ) → OnErr called (new ≡ old) → OnErr result (new ≡ old) }
     ensures fault { IfErr result (λ f. (f ≡ AskFault.Memory) ⊎ (f ≡ AskFault.JournalFull Part.View)) }
 {
     match called {

@@ -39,7 +39,7 @@ pub(crate) fn server_journals(
     journals
 }
 
-/// The journal of the server of that number, of at most that many entries. That another server lay in its cell, or a
+/// The journal of the server of that number, of at most that many entries, all of it. That another server lay in its cell, or a
 /// longer journal, cannot be; but no fact of what was under a lock says so. The journal would be empty then.
 fn server_journal(
     alloc: Global,
@@ -49,6 +49,7 @@ fn server_journal(
 ) -> Vec<NodeEntry>
     ensures legal { IsLegalNode number (reverse result.items) }
     ensures fits { vec_len result ≤ entries }
+    ensures whole { journaled.part.server ≡ number → length journaled.journal ≤ entries → result.items ≡ journaled.journal }
 {
     let there = journaled.part().server().number();
     let journal = journaled.into_entries();
@@ -61,32 +62,20 @@ fn server_journal(
     journal
 }
 
-/// The journal of the desk in this cell, of the desk of those levels and limits, as that of a server. Answers an error
-/// only where memory is refused.
+/// The journal of the desk, of the desk of those levels and limits, all of it. That its cell held a desk of other levels or
+/// limits cannot be; but no fact of what was under a lock says so, and the desk tells neither: so it is asked again. There
+/// would be no entries then. Answers an error only where memory is refused.
 pub(crate) fn desk_journal(
     alloc: Global,
     levels: Levels,
     limits: Limits,
-    cell: Cell<Desk>,
+    journaled: Journaled<Desk>,
 ) -> Result<Vec<DeskEntry>, Memory>
     ensures legal { IfOk result (λ entries. IsLegalDesk (bounds_of levels limits) (reverse entries.items)) }
     ensures fits { IfOk result (λ entries. vec_len entries ≤ limits.entries) }
+    ensures whole { IsLegalDesk (bounds_of levels limits) (reverse journaled.journal) → length journaled.journal ≤ limits.entries → IfOk result (λ entries. entries.items ≡ journaled.journal) }
 {
-    desk_entries(alloc, levels, limits, cell.into_journaled().into_entries())
-}
-
-/// These entries of the desk, all of them. That its cell held a desk of other levels or limits cannot be; but no fact of
-/// what was under a lock says so, and the desk tells neither: so it is asked again. There would be no entries then.
-fn desk_entries(
-    alloc: Global,
-    levels: Levels,
-    limits: Limits,
-    journal: Vec<DeskEntry>,
-) -> Result<Vec<DeskEntry>, Memory>
-    ensures legal { IfOk result (λ entries. IsLegalDesk (bounds_of levels limits) (reverse entries.items)) }
-    ensures fits { IfOk result (λ entries. vec_len entries ≤ limits.entries) }
-    ensures whole { IsLegalDesk (bounds_of levels limits) (reverse journal.items) → vec_len journal ≤ limits.entries → IfOk result (λ entries. entries.items ≡ journal.items) }
-{
+    let journal = journaled.into_entries();
     if journal.len() > limits.entries() as usize {
         return Ok(Vec::new(alloc));
     }
@@ -96,18 +85,18 @@ fn desk_entries(
     Ok(journal)
 }
 
-/// The journal of the view in this cell, of a tree of those levels, as that of a server.
+/// The journal of the view, of a tree of those levels, as that of a server.
 pub(crate) fn view_journal(
     alloc: Global,
     levels: Levels,
     entries: u32,
-    cell: Cell<View>,
+    journaled: Journaled<View>,
 ) -> Vec<ViewEntry>
     ensures legal { IsLegalView levels result.items }
     ensures of_tree { All (λ entry. IsOfTree levels entry.reply) result.items }
     ensures fits { vec_len result ≤ entries }
+    ensures whole { journaled.part.levels ≡ levels → length journaled.journal ≤ entries → result.items ≡ journaled.journal }
 {
-    let journaled = cell.into_journaled();
     let there = journaled.part().tree().levels();
     let journal = journaled.into_entries();
     if there != levels {

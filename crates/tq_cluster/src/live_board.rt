@@ -1,10 +1,11 @@
-ghost use Rattle.std.specs.Prelude.{◌≡◌, ◌≤◌, ◌-◌, ◌^◌, ℕ, IfOk, IfErr, OnOk, OnErr};
+ghost use Rattle.std.specs.Prelude.{◌≡◌, ◌≤◌, ◌-◌, ◌^◌, max, IfOk, IfErr, OnOk, OnErr};
 ghost use Rattle.tq_shape.specs.Tree.{IsServer};
 ghost use Rattle.tq_tables.specs.Parts.{AreLegal};
 ghost use Rattle.tq_tables.specs.Tables.{tables_of};
 ghost use Rattle.tq_prefixes.specs.Prefixes.{IsPartOf, IsPullFault, grown, nothing_pulled, prefix_length, server_prefix};
 ghost use Rattle.tq_cluster.specs.Told.{SeesOn, having_seen, seen_of};
-ghost use Rattle.tq_cluster.specs.Pulls.{Continues, HasSeenAll, HasSeenServers};
+ghost use Rattle.tq_cells.specs.Passes.{last_behind};
+ghost use Rattle.tq_cluster.specs.Pulls.{Continues, EndedAt, HasSeenAll, HasSeenServers, SawWhatCame, seen_then};
 
 use crate::caller::Caller;
 use crate::cluster::Cluster;
@@ -94,10 +95,11 @@ impl LiveBoard {
     }
 
     /// Pulls a part: asks it through the caller for the entries after those that were pulled of it, and takes them; the
-    /// tables are then those over all that was pulled. What the caller has seen of the part is then on the board.
+    /// tables are then those over all that was pulled, and the caller was told of them. What it has seen of the part is then on
+    /// the board.
     /// Answers `Foreign` with the entries where the part, where the entries that were pulled of it leave it, would not
     /// give them, or where with them there are fewer than the caller has seen, and `Memory` where memory is refused: then
-    /// the board is as it was.
+    /// the board is as it was, and so is what the caller has seen.
     pub fn pull_part<R: Wait, G: Gate + Drop>(
         &mut self,
         rt: &R,
@@ -114,7 +116,8 @@ impl LiveBoard {
         ensures seen { OnOk result (seen_of caller.new part ≤ prefix_length self.new part) }
         ensures err { OnErr result (self.new ≡ self.old) }
         ensures fault { IfErr result (λ fault. (more : Entries) × IsPullFault self.old part more (seen_of caller.new part) fault) }
-        ensures caller { (seen : ℕ) × (seen_of caller.old part ≤ seen) × (caller.new ≡ having_seen caller.old part seen) }
+        ensures saw { seen_of caller.new part ≡ seen_then self.old self.new caller.old part }
+        ensures others { caller.new ≡ having_seen caller.old part (seen_of caller.new part) }
     {
         match part {
             Part::Server(number) => {
@@ -148,7 +151,8 @@ impl LiveBoard {
         requires limits { self.old.limits ≡ cluster.now.limits }
         ensures continues { Continues self.old self.new }
         ensures seen { OnOk result (HasSeenAll self.new caller.new) }
-        ensures fault { IfErr result (λ fault. (part : Part) × (more : Entries) × IsPullFault self.new part more (seen_of caller.new part) fault) }
+        ensures fault { IfErr result (EndedAt self.new caller.new) }
+        ensures saw { SawWhatCame self.old self.new caller.old caller.new }
         ensures told { caller.new.told ≡ caller.old.told }
         ensures grows { SeesOn caller.old caller.new }
         ensures tree { caller.new.levels ≡ caller.old.levels }
@@ -177,7 +181,8 @@ impl LiveBoard {
         requires limits { self.old.limits ≡ cluster.now.limits }
         ensures continues { Continues self.old self.new }
         ensures seen { OnOk result (HasSeenServers self.new caller.new (2 ^ cluster.now.levels - 1)) }
-        ensures fault { IfErr result (λ fault. (part : Part) × (more : Entries) × IsPullFault self.new part more (seen_of caller.new part) fault) }
+        ensures fault { IfErr result (EndedAt self.new caller.new) }
+        ensures saw { SawWhatCame self.old self.new caller.old caller.new }
         ensures told { caller.new.told ≡ caller.old.told }
         ensures grows { SeesOn caller.old caller.new }
         ensures tree { caller.new.levels ≡ caller.old.levels }
@@ -206,12 +211,19 @@ fn pull_server<R: Wait>(
     ensures seen { OnOk result (pass.new.seen ≤ prefix_length prefixes.new (Part.Server number)) }
     ensures err { OnErr result (prefixes.new ≡ prefixes.old) }
     ensures fault { IfErr result (λ fault. (more : Entries) × IsPullFault prefixes.old (Part.Server number) more pass.new.seen fault) }
-    ensures saw { pass.old.seen ≤ pass.new.seen }
+    ensures saw { pass.new.seen ≡ max pass.old.seen (last_behind (prefix_length prefixes.old (Part.Server number)) (prefix_length prefixes.new (Part.Server number) - prefix_length prefixes.old (Part.Server number))) }
 {
     let known = prefixes.server(number).len() as u64;
-    let entries = cell.since(rt, alloc, pass, known)?;
+    let mut fresh = cell.pass(alloc);
+    let entries = cell.since(rt, alloc, &mut fresh, known)?;
     let seen = pass.seen();
-    prefixes.take_server(alloc, number, entries, seen)
+    match prefixes.take_server(alloc, number, entries, seen) {
+        Ok(()) => {
+            pass.see(&fresh);
+            Ok(())
+        }
+        Err(fault) => Err(fault),
+    }
 }
 
 /// Pulls the desk, as `pull_server` does a server.
@@ -226,12 +238,19 @@ fn pull_desk<R: Wait>(
     ensures seen { OnOk result (pass.new.seen ≤ prefix_length prefixes.new Part.Desk) }
     ensures err { OnErr result (prefixes.new ≡ prefixes.old) }
     ensures fault { IfErr result (λ fault. (more : Entries) × IsPullFault prefixes.old Part.Desk more pass.new.seen fault) }
-    ensures saw { pass.old.seen ≤ pass.new.seen }
+    ensures saw { pass.new.seen ≡ max pass.old.seen (last_behind (prefix_length prefixes.old Part.Desk) (prefix_length prefixes.new Part.Desk - prefix_length prefixes.old Part.Desk)) }
 {
     let known = prefixes.desk().len() as u64;
-    let entries = cell.since(rt, alloc, pass, known)?;
+    let mut fresh = cell.pass(alloc);
+    let entries = cell.since(rt, alloc, &mut fresh, known)?;
     let seen = pass.seen();
-    prefixes.take_desk(alloc, entries, seen)
+    match prefixes.take_desk(alloc, entries, seen) {
+        Ok(()) => {
+            pass.see(&fresh);
+            Ok(())
+        }
+        Err(fault) => Err(fault),
+    }
 }
 
 /// Pulls the view, as `pull_server` does a server.
@@ -246,10 +265,17 @@ fn pull_view<R: Wait>(
     ensures seen { OnOk result (view_pass.new.seen ≤ prefix_length prefixes.new Part.View) }
     ensures err { OnErr result (prefixes.new ≡ prefixes.old) }
     ensures fault { IfErr result (λ fault. (more : Entries) × IsPullFault prefixes.old Part.View more view_pass.new.seen fault) }
-    ensures saw { view_pass.old.seen ≤ view_pass.new.seen }
+    ensures saw { view_pass.new.seen ≡ max view_pass.old.seen (last_behind (prefix_length prefixes.old Part.View) (prefix_length prefixes.new Part.View - prefix_length prefixes.old Part.View)) }
 {
     let known = prefixes.view().len() as u64;
-    let entries = cell.since(rt, alloc, view_pass, known)?;
+    let mut fresh = cell.pass(alloc);
+    let entries = cell.since(rt, alloc, &mut fresh, known)?;
     let seen = view_pass.seen();
-    prefixes.take_view(alloc, entries, seen)
+    match prefixes.take_view(alloc, entries, seen) {
+        Ok(()) => {
+            view_pass.see(&fresh);
+            Ok(())
+        }
+        Err(fault) => Err(fault),
+    }
 }

@@ -1,7 +1,10 @@
-ghost use Rattle.std.specs.Prelude.{◌≡◌, ◌≤◌, ◌+◌, ℕ, [], ◌∷◌, ◌++◌, List, false, vec_len, vec_capacity};
+ghost use Rattle.std.specs.Prelude.{◌≡◌, ◌≤◌, ◌<◌, ◌+◌, ℕ, [], ◌∷◌, ◌++◌, List, false, map, vec_len, vec_capacity};
+ghost use Rattle.std.specs.Bool.{OnTrue};
 ghost use Rattle.crossbeam_channel.specs.Claims.{view};
 ghost use Rattle.crossbeam_channel.specs.Ends.{sends_on};
 ghost use Rattle.tq_cluster.specs.declared.workers.Message.{Message};
+ghost use Rattle.tq_refresh.specs.Plan.{plan_of};
+ghost use Rattle.tq_tables.specs.Tables.{tables_of};
 ghost use Rattle.tq_cluster.specs.Told.{CallerView};
 ghost use Rattle.tq_cluster.specs.Backwards.{WorkBackwards};
 
@@ -16,14 +19,58 @@ use tq_prefixes::PullFault;
 use tq_queue::Putter;
 use tq_refresh::{Job, plan};
 
-/// Puts the jobs, in their order.
-fn put_jobs<R: Wait>(rt: &R, putter: &mut Putter<Message>, jobs: &[Job])
+/// How a round ended.
+#[derive(Clone, Copy)]
+pub(crate) enum Round {
+    /// The jobs of the plan were put, all of them, where there are workers.
+    Put,
+    /// The queue took one of them no more, which it does where no one is left who takes.
+    Refused,
+    /// Entries that do not continue the board were pulled: no job was put.
+    Foreign,
+    /// Memory was refused: no job was put.
+    Memory,
+}
+
+/// Puts the jobs, in their order. False where the queue took one of them no more: the first of them were put then.
+fn put_jobs<R: Wait>(rt: &R, putter: &mut Putter<Message>, jobs: &[Job]) -> bool
+    ensures put { OnTrue result ((view putter.new.pass).put ≡ (view putter.old.pass).put ++ map (λ job. Message.Job job) jobs.now) }
     ensures channel { sends_on putter.new.sender ≡ sends_on putter.old.sender }
     ensures parts { (view putter.new.pass).parts ≡ (view putter.old.pass).parts }
     ensures taken { (view putter.new.pass).taken ≡ (view putter.old.pass).taken }
 {
     for job in jobs {
-        putter.put(rt, Message::Job(*job));
+        if !putter.put(rt, Message::Job(*job)) {
+            return false;
+        }
+    }
+    true
+}
+
+/// Plans over the board, and puts the jobs where there are workers.
+fn put_plan<R: Wait>(
+    rt: &R,
+    alloc: Global,
+    board: &LiveBoard,
+    workers: u32,
+    putter: &mut Putter<Message>,
+) -> Round
+    ensures put { result ≡ Round.Put → 0 < workers → (view putter.new.pass).put ≡ (view putter.old.pass).put ++ map (λ job. Message.Job job) (plan_of (tables_of board.now) (tables_of board.now).view) }
+    ensures channel { sends_on putter.new.sender ≡ sends_on putter.old.sender }
+    ensures parts { (view putter.new.pass).parts ≡ (view putter.old.pass).parts }
+    ensures taken { (view putter.new.pass).taken ≡ (view putter.old.pass).taken }
+{
+    let tables = board.tables();
+    let Ok(jobs) = plan(alloc, tables, tables.view()) else {
+        return Round::Memory;
+    };
+    if workers == 0 {
+        return Round::Put;
+    }
+    if put_jobs(rt, putter, jobs.as_slice()) {
+        Round::Put
+    } else {
+        Round::Refused
     }
 }
 
@@ -39,7 +86,7 @@ pub(crate) fn stop<R: Wait>(rt: &R, putter: &mut Putter<Message>, workers: u32)
 }
 
 /// One round: pulls the board, plans, and puts the jobs where there are workers. Entries that do not continue the board
-/// give none. Whether memory was refused: then the round is given up.
+/// give none, and where memory is refused the round is given up.
 fn run_round<R: Wait, G: Gate + Drop>(
     rt: &R,
     alloc: Global,
@@ -48,10 +95,11 @@ fn run_round<R: Wait, G: Gate + Drop>(
     board: &mut LiveBoard,
     caller: &mut Caller,
     putter: &mut Putter<Message>,
-) -> bool
+) -> Round
     requires caller { caller.old.levels ≡ cluster.now.levels }
     requires levels { board.old.levels ≡ cluster.now.levels }
     requires limits { board.old.limits ≡ cluster.now.limits }
+    ensures put { result ≡ Round.Put → 0 < workers → (view putter.new.pass).put ≡ (view putter.old.pass).put ++ map (λ job. Message.Job job) (plan_of (tables_of board.new) (tables_of board.new).view) }
     ensures told { caller.new.told ≡ caller.old.told }
     ensures tree { caller.new.levels ≡ caller.old.levels }
     ensures levels { board.new.levels ≡ board.old.levels }
@@ -61,23 +109,15 @@ fn run_round<R: Wait, G: Gate + Drop>(
     ensures taken { (view putter.new.pass).taken ≡ (view putter.old.pass).taken }
 {
     match board.pull(rt, alloc, cluster, caller) {
-        Ok(()) => {}
-        Err(PullFault::Memory) => return true,
+        Ok(()) => put_plan(rt, alloc, board, workers, putter),
+        Err(PullFault::Memory) => Round::Memory,
         Err(
             PullFault::Foreign {
                 part: _,
                 entries: _,
             },
-        ) => return false,
+        ) => Round::Foreign,
     }
-    let tables = board.tables();
-    let Ok(jobs) = plan(alloc, tables, tables.view()) else {
-        return true;
-    };
-    if workers > 0 {
-        put_jobs(rt, putter, jobs.as_slice());
-    }
-    false
 }
 
 /// Pulls the board so often as the team says, by a caller of its own, and puts the jobs of each round; then it puts a
@@ -108,7 +148,7 @@ pub(crate) fn run_rounds<R: Wait, G: Gate + Drop>(
     };
     let mut memory = false;
     for _ in 0..team.rounds {
-        if run_round(
+        let round = run_round(
             rt,
             alloc,
             cluster,
@@ -116,7 +156,8 @@ pub(crate) fn run_rounds<R: Wait, G: Gate + Drop>(
             &mut board,
             &mut caller,
             putter,
-        ) {
+        );
+        if matches!(round, Round::Memory) {
             memory = true;
         }
     }

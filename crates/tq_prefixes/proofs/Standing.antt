@@ -31,7 +31,7 @@ use Rattle.tq_tables.specs.Parts.{AreLegal, AreLegalServers, bounds_of, node_aft
 use Rattle.tq_tables.specs.Tables.{TablesView, tables_of}
 use Rattle.tq_prefixes.specs.declared.entries.Entries.{Entries}
 use Rattle.tq_prefixes.specs.declared.entries.Entries.TheVariants as entries
-use Rattle.tq_prefixes.specs.Prefixes.{IsForeign, IsPartOf, nothing_pulled, prefix_length, server_prefix, grown}
+use Rattle.tq_prefixes.specs.Prefixes.{IsForeign, IsPartOf, count_of, nothing_pulled, prefix_length, server_prefix, grown}
 use Rattle.tq_prefixes.specs.Kept.{AreAhead, AreKept, prefixes_in}
 use Rattle.tq_prefixes.proofs.Led.{Grows, Led, legal-joined, state-joined}
 
@@ -206,6 +206,18 @@ server_none w number =
     ap (λ (all : List (List NodeEntry)). let o : JournalsView = record w { servers = all } in o)
     (ap (set w.servers (number - 1)) (append-nil (server_prefix w number)) ∙ set-get_or w.servers (number - 1) [])
 
+pub desk_empty : (w : JournalsView) (more : List DeskEntry) → length more ≡ 0 → w ≡ grown w parts.Desk (entries.Desk more)
+desk_empty w [] none = sym (desk_none w)
+desk_empty w (e ∷ more) none = absurd (omega (arith, none))
+
+pub view_empty : (w : JournalsView) (more : List ViewEntry) → length more ≡ 0 → w ≡ grown w parts.View (entries.View more)
+view_empty w [] none = sym (view_none w)
+view_empty w (e ∷ more) none = absurd (omega (arith, none))
+
+pub server_empty : (w : JournalsView) (number : ℕ) (more : List NodeEntry) → length more ≡ 0 → w ≡ grown w (parts.Server number) (entries.Server more)
+server_empty w number [] none = sym (server_none w number)
+server_empty w number (e ∷ more) none = absurd (omega (arith, none))
+
 -- ---- tables that are led on
 
 abbrev pub DeskLed : JournalsView → TablesView → List DeskEntry → Type 0
@@ -265,6 +277,21 @@ enough_grown tables ahead w kept parts.Desk (entries.View more) least of_tree le
 enough_grown tables ahead w kept parts.View (entries.Server more) least of_tree led = absurd led.gives
 enough_grown tables ahead w kept parts.View (entries.Desk more) least of_tree led = absurd led.gives
 
+-- there are so many more of the part
+count_grown : (tables ahead : TablesView) (w : JournalsView) → AreKept tables w → (part : Part) (more : Entries) (least : ℕ) → IsPartOf w.levels part → AreAhead ahead w part more least → prefix_length (grown w part more) part ≡ prefix_length w part + count_of more
+count_grown tables ahead w kept (parts.Server number) (entries.Server more) least of_tree led =
+    let sum = length-append (server_prefix w number) more in
+    let count = ap (λ (es : List NodeEntry). length es) (entries_with w kept.one_each number of_tree more) in
+    omega (arith, sum, count)
+count_grown tables ahead w kept parts.Desk (entries.Desk more) least of_tree led = length-append w.desk more
+count_grown tables ahead w kept parts.View (entries.View more) least of_tree led = length-append w.view more
+count_grown tables ahead w kept (parts.Server number) (entries.Desk more) least of_tree led = absurd led.gives
+count_grown tables ahead w kept (parts.Server number) (entries.View more) least of_tree led = absurd led.gives
+count_grown tables ahead w kept parts.Desk (entries.Server more) least of_tree led = absurd led.gives
+count_grown tables ahead w kept parts.Desk (entries.View more) least of_tree led = absurd led.gives
+count_grown tables ahead w kept parts.View (entries.Server more) least of_tree led = absurd led.gives
+count_grown tables ahead w kept parts.View (entries.Desk more) least of_tree led = absurd led.gives
+
 -- these are kept, and are those prefixes
 pub record Stands (tables : TablesView) (kept prefixes : JournalsView) : Type 0 where
   pub keeps : AreKept tables kept
@@ -278,6 +305,7 @@ pub record Taken (tables : TablesView) (kept old : JournalsView) (part : Part) (
   pub keeps : AreKept tables kept
   pub leads : kept ≡ grown old part more
   pub enough : least ≤ prefix_length kept part
+  pub count : prefix_length kept part ≡ prefix_length old part + count_of more
 
 taken_at : (tables ahead : TablesView) (kept old : JournalsView) → AreKept tables old → (part : Part) (more : Entries) (least : ℕ) → IsPartOf old.levels part → AreAhead ahead old part more least
     → kept ≡ grown old part more → Taken ahead kept old part more least
@@ -286,6 +314,7 @@ taken_at tables ahead kept old was part more least of_tree led leads =
       keeps = subst (λ (w : JournalsView). AreKept ahead w) (sym leads) (kept_grown tables ahead old was part more least of_tree led);
       leads = leads;
       enough = subst (λ (w : JournalsView). least ≤ prefix_length w part) (sym leads) (enough_grown tables ahead old was part more least of_tree led);
+      count = subst (λ (w : JournalsView). prefix_length w part ≡ prefix_length old part + count_of more) (sym leads) (count_grown tables ahead old was part more least of_tree led);
     }
 
 module _ (tables ahead : TablesView) (limits : LimitsView) (servers : List (List NodeEntry)) (now : List DeskEntry) (view : List ViewEntry) (old : JournalsView)

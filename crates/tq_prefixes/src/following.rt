@@ -1,5 +1,5 @@
 //! The tables as they stand once a part was asked what further entries of its journal ask.
-ghost use Rattle.std.specs.Prelude.{◌+◌, ◌<◌, ◌^◌, ◌↔◌, length, IsTrue, IfOk, MatchOption};
+ghost use Rattle.std.specs.Prelude.{◌≡◌, ◌+◌, ◌<◌, ◌≤◌, ◌^◌, ◌↔◌, length, IsTrue, IfOk, MatchOption};
 ghost use Rattle.tq_shape.specs.Tree.{IsServer};
 ghost use Rattle.tq_prefixes.specs.Kept.{AreAhead};
 ghost use Rattle.tq_prefixes.specs.Prefixes.{IsForeign, server_prefix};
@@ -100,4 +100,14 @@ fn are_few(known: usize, more: usize, least: u64) -> bool
     let known = known as u64;
     let more = more as u64;
     known < least && more < least - known
+}
+
+/// Whether there are no more entries, and `least` are known already: then there is nothing to take.
+pub(crate) fn has_nothing_new(known: usize, more: usize, least: u64) -> bool
+    ensures { IsTrue result ↔ (more ≡ 0) × (least ≤ known) }
+{
+    if more > 0 {
+        return false;
+    }
+    least <= known as u64
 }

@@ -1,4 +1,4 @@
-ghost use Rattle.std.specs.Prelude.{◌≡◌, ◌≤◌, ◌-◌, ◌^◌, [], map, replicate, IfOk, IfErr, OnOk, OnErr};
+ghost use Rattle.std.specs.Prelude.{◌≡◌, ◌≤◌, ◌+◌, ◌-◌, ◌^◌, [], length, map, replicate, IfOk, IfErr, OnOk, OnErr};
 ghost use Rattle.tq_shape.specs.Tree.{IsServer};
 ghost use Rattle.tq_tables.specs.Parts.{AreLegal};
 ghost use Rattle.tq_tables.specs.Tables.{tables_of};
@@ -7,6 +7,7 @@ ghost use Rattle.tq_prefixes.specs.Prefixes.{IsPullFault, grown, nothing_pulled,
 
 use crate::entries::Entries;
 use crate::fault::PullFault;
+use crate::following::has_nothing_new;
 use std::alloc::Global;
 use std::marker::Model;
 use tq_desk::Desk;
@@ -132,9 +133,13 @@ impl Prefixes {
         requires { IsServer self.old.levels number }
         ensures grown { OnOk result (self.new ≡ grown self.old (Part.Server number) (Entries.Server entries.items)) }
         ensures least { OnOk result (least ≤ prefix_length self.new (Part.Server number)) }
+        ensures count { OnOk result (prefix_length self.new (Part.Server number) ≡ prefix_length self.old (Part.Server number) + length entries.items) }
         ensures err { OnErr result (self.new ≡ self.old) }
         ensures fault { IfErr result (IsPullFault self.old (Part.Server number) (Entries.Server entries.items) least) }
     {
+        if has_nothing_new(self.server(number).len(), entries.len(), least) {
+            return Ok(());
+        }
         let Some(ahead) = self.ahead_of_server(alloc, number, entries.as_slice(), least)? else {
             return Err(PullFault::Foreign {
                 part: Part::Server(number),
@@ -150,7 +155,8 @@ impl Prefixes {
 
     /// Takes the entries that come next behind those that were pulled of the desk; the tables are then those over all of
     /// them. Answers `Foreign` with the entries where the desk, where its prefix leaves it, would not give them, or where
-    /// with them there are fewer than `least`, and `Memory` where memory is refused. At a fault all is as it was.
+    /// with them there are fewer than `least`, and `Memory` where memory is refused. At a fault all is as it was. Where there
+    /// is nothing new nothing is copied.
     pub fn take_desk(
         &mut self,
         alloc: Global,
@@ -159,9 +165,13 @@ impl Prefixes {
     ) -> Result<(), PullFault>
         ensures grown { OnOk result (self.new ≡ grown self.old Part.Desk (Entries.Desk entries.items)) }
         ensures least { OnOk result (least ≤ prefix_length self.new Part.Desk) }
+        ensures count { OnOk result (prefix_length self.new Part.Desk ≡ prefix_length self.old Part.Desk + length entries.items) }
         ensures err { OnErr result (self.new ≡ self.old) }
         ensures fault { IfErr result (IsPullFault self.old Part.Desk (Entries.Desk entries.items) least) }
     {
+        if has_nothing_new(self.desk().len(), entries.len(), least) {
+            return Ok(());
+        }
         let Some(ahead) = self.ahead_of_desk(alloc, entries.as_slice(), least)? else {
             return Err(PullFault::Foreign {
                 part: Part::Desk,
@@ -183,9 +193,13 @@ impl Prefixes {
     ) -> Result<(), PullFault>
         ensures grown { OnOk result (self.new ≡ grown self.old Part.View (Entries.View entries.items)) }
         ensures least { OnOk result (least ≤ prefix_length self.new Part.View) }
+        ensures count { OnOk result (prefix_length self.new Part.View ≡ prefix_length self.old Part.View + length entries.items) }
         ensures err { OnErr result (self.new ≡ self.old) }
         ensures fault { IfErr result (IsPullFault self.old Part.View (Entries.View entries.items) least) }
     {
+        if has_nothing_new(self.view().len(), entries.len(), least) {
+            return Ok(());
+        }
         let Some(ahead) = self.ahead_of_view(alloc, entries.as_slice(), least)? else {
             return Err(PullFault::Foreign {
                 part: Part::View,

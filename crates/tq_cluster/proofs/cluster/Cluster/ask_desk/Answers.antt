@@ -1,24 +1,17 @@
-use Rattle.std.proofs.Common.{◌≡◌, ◌∙◌, ◌++◌, map, ap, subst, arith, rules}
+use Rattle.std.proofs.Common.{◌≡◌, ◌∙◌, ◌++◌, map, ap, refl, subst, arith, rules}
 use Rattle.tq_cluster.specs.Told.{CallerView, exchange_of}
 use Rattle.std.specs.Prelude.{IfOk}
 use Rattle.tq_cluster.proofs.Names.{told_of_copy}
-use Rattle.tq_cluster.proofs.Seen.{desk_saw}
+use Rattle.tq_shape.specs.declared.part.Part.TheVariants as parts
+use Rattle.tq_states.specs.declared.told.DeskTold.{DeskTold}
+use Rattle.tq_cluster.proofs.Seen.{SawOne, asked_none, asked_others, asked_seen, desk_saw, not_asked, on_err, seeing}
 use Rattle.tq_desk.specs.declared.ask.DeskAsk.{DeskAsk}
 use Rattle.tq_txn.specs.Dialogue.{desk_exchange}
 use Rattle.tq_cluster.proofs.Exchanges.{heard_more}
 use Rattle.tq_cluster.proofs.cluster.Cluster.ask_desk.Goals as goal
 
-pub returns-clause-seen : goal.returns-clause-seen
-returns-clause-seen g c = c.hear_desk.ensures.seen c.call-called.new.pass.seen c.call-called.ensures.seen
-
 pub returns-clause-reply : goal.returns-clause-reply
 returns-clause-reply g c = c.hear_desk.ensures.reply c.call-called.ensures.reply
-
-pub returns-clause-saw : goal.returns-clause-saw
-returns-clause-saw g c = desk_saw c.caller.inside.levels (map exchange_of c.caller.inside.heard.items) c.caller.inside.servers.items c.caller.inside.desk.seen c.call-called.new.pass.seen c.caller.inside.view.seen c.args.caller.now c.caller.view_is c.call-called.ensures.grows
-
-pub returns-in_err-reserve-clause-saw : goal.returns-in_err-reserve-clause-saw
-returns-in_err-reserve-clause-saw g c = desk_saw c.caller.inside.levels (map exchange_of c.caller.inside.heard.items) c.caller.inside.servers.items c.caller.inside.desk.seen c.caller.inside.desk.seen c.caller.inside.view.seen c.args.caller.now c.caller.view_is (omega arith)
 
 pub hear_desk-requires-clause-told : goal.hear_desk-requires-clause-told
 hear_desk-requires-clause-told g c =
@@ -41,3 +34,34 @@ returns-clause-fault g c = c.hear_desk.ensures.fault
 
 pub returns-clause-tree : goal.returns-clause-tree
 returns-clause-tree g c = ap (λ (v : CallerView). v.levels) c.caller.view_is
+
+pub returns-clause-seen : goal.returns-clause-seen
+returns-clause-seen g c =
+    let own = c.caller.inside in
+    asked_seen (λ (t : DeskTold). t.number) c.hear_desk.result c.args.caller.now (seeing own.levels (map exchange_of own.heard.items) own.servers.items c.call-called.new.pass.seen own.view.seen) parts.Desk own.desk.seen c.call-called.new.pass.seen
+    (desk_saw own.levels (map exchange_of own.heard.items) own.servers.items own.desk.seen c.call-called.new.pass.seen own.view.seen parts.Desk c.args.caller.now c.caller.view_is refl)
+    (c.hear_desk.ensures.seen own.desk.seen c.call-called.new.pass.seen c.call-called.ensures.seen)
+
+pub returns-clause-not_told : goal.returns-clause-not_told
+returns-clause-not_told g c =
+    let own = c.caller.inside in
+    asked_none c.hear_desk.result c.args.caller.now (seeing own.levels (map exchange_of own.heard.items) own.servers.items c.call-called.new.pass.seen own.view.seen) parts.Desk own.desk.seen c.call-called.new.pass.seen
+    (desk_saw own.levels (map exchange_of own.heard.items) own.servers.items own.desk.seen c.call-called.new.pass.seen own.view.seen parts.Desk c.args.caller.now c.caller.view_is refl)
+    (c.hear_desk.ensures.not_told own.desk.seen c.call-called.new.pass.seen c.call-called.ensures.not_told)
+
+pub returns-clause-others : goal.returns-clause-others
+returns-clause-others g c =
+    let own = c.caller.inside in
+    asked_others c.args.caller.now (seeing own.levels (map exchange_of own.heard.items) own.servers.items c.call-called.new.pass.seen own.view.seen) parts.Desk own.desk.seen c.call-called.new.pass.seen
+    (desk_saw own.levels (map exchange_of own.heard.items) own.servers.items own.desk.seen c.call-called.new.pass.seen own.view.seen parts.Desk c.args.caller.now c.caller.view_is refl)
+
+pub returns-in_err-copy-clause-others : goal.returns-in_err-copy-clause-others
+returns-in_err-copy-clause-others g c = not_asked c.args.caller.now c.args.caller.now parts.Desk refl
+
+pub returns-in_err-reserve-clause-not_told : goal.returns-in_err-reserve-clause-not_told
+returns-in_err-reserve-clause-not_told g c = on_err _ _ (ap (λ (v : CallerView). v.seen) c.caller.view_is)
+
+pub returns-in_err-reserve-clause-others : goal.returns-in_err-reserve-clause-others
+returns-in_err-reserve-clause-others g c =
+    let own = c.caller.inside in
+    not_asked c.args.caller.now (seeing own.levels (map exchange_of own.heard.items) own.servers.items own.desk.seen own.view.seen) parts.Desk c.caller.view_is

@@ -1,4 +1,4 @@
-use Rattle.std.proofs.Common.{refl, ◌≡◌, ◌≤◌, ◌<◌, ◌-◌, ◌∙◌, ◌++◌, ℕ, length, map, ap, sym, subst, arith, rules}
+use Rattle.std.proofs.Common.{refl, ◌≡◌, ◌≤◌, ◌<◌, ◌-◌, ◌∙◌, ◌++◌, ℕ, length, map, set, ap, sym, subst, arith, rules}
 use Rattle.std.specs.Prelude.{IfOk, IfErr, ◌⊎◌}
 use Rattle.tq_part.specs.declared.fault.AskFault.TheVariants as faults
 use Rattle.tq_shape.specs.Tree.{IsServer}
@@ -6,25 +6,12 @@ use Rattle.tq_shape.specs.declared.part.Part.TheVariants as parts
 use Rattle.tq_cluster.specs.Cluster.{ClusterView}
 use Rattle.tq_cluster.specs.Told.{CallerView, exchange_of}
 use Rattle.tq_cluster.proofs.Names.{asked_by, named_by, told_of_copy}
-use Rattle.tq_cluster.proofs.Seen.{seeing, seen_there, server_saw, server_not_asked}
+use Rattle.tq_states.specs.declared.told.NodeTold.{NodeTold}
+use Rattle.tq_cluster.proofs.Seen.{SawOne, asked_none, asked_others, asked_seen, not_asked, on_err, seeing, server_saw}
 use Rattle.tq_asks.specs.declared.ask.NodeAsk.{NodeAsk}
 use Rattle.tq_txn.specs.Dialogue.{node_exchange}
 use Rattle.tq_cluster.proofs.Exchanges.{heard_more}
 use Rattle.tq_cluster.proofs.cluster.Cluster.ask_node.Goals as goal
-
-pub returns-clause-saw : goal.returns-clause-saw
-returns-clause-saw g c =
-    server_saw c.caller.inside.levels (map exchange_of c.caller.inside.heard.items) c.caller.inside.servers.items c.caller.inside.desk.seen c.caller.inside.view.seen c.number-number.result c.args.server.number
-    c.index_mut.result.now c.call-called.new.pass c.args.caller.now c.caller.view_is c.caller.invariant (subst (λ (l : ℕ). IsServer l c.number-number.result) (c.requires.server ∙ sym c.requires.levels) c.number-number.ensures.within)
-    c.number-number.ensures.value c.index_mut.ensures.value c.call-called.ensures.grows
-
-pub returns-in_err-copy-clause-saw : goal.returns-in_err-copy-clause-saw
-returns-in_err-copy-clause-saw g c = server_not_asked c.args.caller.now c.args.caller.now c.args.server.number refl
-
-pub returns-in_err-reserve-clause-saw : goal.returns-in_err-reserve-clause-saw
-returns-in_err-reserve-clause-saw g c =
-    server_not_asked c.args.caller.now (seeing c.caller.inside.levels (map exchange_of c.caller.inside.heard.items) c.caller.inside.servers.items c.caller.inside.desk.seen c.caller.inside.view.seen) c.args.server.number
-    (ap (λ (v : CallerView). v.seen) c.caller.view_is)
 
 pub hear_node-requires-clause-part : goal.hear_node-requires-clause-part
 hear_node-requires-clause-part g c =
@@ -37,18 +24,6 @@ hear_node-requires-clause-part g c =
 
 pub returns-clause-reply : goal.returns-clause-reply
 returns-clause-reply g c = c.hear_node.ensures.reply c.call-called.ensures.reply
-
-pub returns-clause-seen : goal.returns-clause-seen
-returns-clause-seen g c =
-    let passes = c.caller.inside.servers.items in
-    let number = c.number-number.result in
-    let of_tree = subst (λ (l : ℕ). IsServer l number) (c.requires.server ∙ sym c.requires.levels ∙ ap (λ (v : CallerView). v.levels) (sym c.caller.view_is)) c.number-number.ensures.within in
-    let least = of_tree.0 in
-    let most = of_tree.1 in
-    let count = c.caller.invariant in
-    let less : number - 1 < length passes = omega arith in
-    let there = seen_there passes number c.args.server.number c.call-called.new.pass c.number-number.ensures.value less in
-    subst (λ (n : ℕ). IfOk c.hear_node.result (λ t. t.number ≤ n)) (sym there) (c.hear_node.ensures.seen c.call-called.new.pass.seen c.call-called.ensures.seen)
 
 pub hear_node-requires-clause-told : goal.hear_node-requires-clause-told
 hear_node-requires-clause-told g c =
@@ -72,3 +47,58 @@ returns-clause-fault g c = subst (λ (n : ℕ). IfErr c.hear_node.result (λ f. 
 
 pub returns-clause-tree : goal.returns-clause-tree
 returns-clause-tree g c = ap (λ (v : CallerView). v.levels) c.caller.view_is
+
+pub returns-clause-seen : goal.returns-clause-seen
+returns-clause-seen g c =
+    let own = c.caller.inside in
+    let passes = own.servers.items in
+    let number = c.number-number.result in
+    let of_tree = subst (λ (l : ℕ). IsServer l number) (c.requires.server ∙ sym c.requires.levels ∙ ap (λ (v : CallerView). v.levels) (sym c.caller.view_is)) c.number-number.ensures.within in
+    let least = of_tree.0 in
+    let most = of_tree.1 in
+    let count = c.caller.invariant in
+    let less : number - 1 < length passes = omega arith in
+    asked_seen (λ (t : NodeTold). t.number) c.hear_node.result c.args.caller.now (seeing own.levels (map exchange_of own.heard.items) (set passes (number - 1) c.call-called.new.pass) own.desk.seen own.view.seen) (parts.Server c.args.server.number) c.index_mut.result.now.seen c.call-called.new.pass.seen
+    (server_saw own.levels (map exchange_of own.heard.items) passes own.desk.seen own.view.seen number (parts.Server c.args.server.number) c.index_mut.result.now c.call-called.new.pass c.args.caller.now c.caller.view_is less
+    (ap parts.Server (sym c.number-number.ensures.value)) c.index_mut.ensures.value)
+    (c.hear_node.ensures.seen c.index_mut.result.now.seen c.call-called.new.pass.seen c.call-called.ensures.seen)
+
+pub returns-clause-not_told : goal.returns-clause-not_told
+returns-clause-not_told g c =
+    let own = c.caller.inside in
+    let passes = own.servers.items in
+    let number = c.number-number.result in
+    let of_tree = subst (λ (l : ℕ). IsServer l number) (c.requires.server ∙ sym c.requires.levels ∙ ap (λ (v : CallerView). v.levels) (sym c.caller.view_is)) c.number-number.ensures.within in
+    let least = of_tree.0 in
+    let most = of_tree.1 in
+    let count = c.caller.invariant in
+    let less : number - 1 < length passes = omega arith in
+    asked_none c.hear_node.result c.args.caller.now (seeing own.levels (map exchange_of own.heard.items) (set passes (number - 1) c.call-called.new.pass) own.desk.seen own.view.seen) (parts.Server c.args.server.number) c.index_mut.result.now.seen c.call-called.new.pass.seen
+    (server_saw own.levels (map exchange_of own.heard.items) passes own.desk.seen own.view.seen number (parts.Server c.args.server.number) c.index_mut.result.now c.call-called.new.pass c.args.caller.now c.caller.view_is less
+    (ap parts.Server (sym c.number-number.ensures.value)) c.index_mut.ensures.value)
+    (c.hear_node.ensures.not_told c.index_mut.result.now.seen c.call-called.new.pass.seen c.call-called.ensures.not_told)
+
+pub returns-clause-others : goal.returns-clause-others
+returns-clause-others g c =
+    let own = c.caller.inside in
+    let passes = own.servers.items in
+    let number = c.number-number.result in
+    let of_tree = subst (λ (l : ℕ). IsServer l number) (c.requires.server ∙ sym c.requires.levels ∙ ap (λ (v : CallerView). v.levels) (sym c.caller.view_is)) c.number-number.ensures.within in
+    let least = of_tree.0 in
+    let most = of_tree.1 in
+    let count = c.caller.invariant in
+    let less : number - 1 < length passes = omega arith in
+    asked_others c.args.caller.now (seeing own.levels (map exchange_of own.heard.items) (set passes (number - 1) c.call-called.new.pass) own.desk.seen own.view.seen) (parts.Server c.args.server.number) c.index_mut.result.now.seen c.call-called.new.pass.seen
+    (server_saw own.levels (map exchange_of own.heard.items) passes own.desk.seen own.view.seen number (parts.Server c.args.server.number) c.index_mut.result.now c.call-called.new.pass c.args.caller.now c.caller.view_is less
+    (ap parts.Server (sym c.number-number.ensures.value)) c.index_mut.ensures.value)
+
+pub returns-in_err-copy-clause-others : goal.returns-in_err-copy-clause-others
+returns-in_err-copy-clause-others g c = not_asked c.args.caller.now c.args.caller.now (parts.Server c.args.server.number) refl
+
+pub returns-in_err-reserve-clause-not_told : goal.returns-in_err-reserve-clause-not_told
+returns-in_err-reserve-clause-not_told g c = on_err _ _ (ap (λ (v : CallerView). v.seen) c.caller.view_is)
+
+pub returns-in_err-reserve-clause-others : goal.returns-in_err-reserve-clause-others
+returns-in_err-reserve-clause-others g c =
+    let own = c.caller.inside in
+    not_asked c.args.caller.now (seeing own.levels (map exchange_of own.heard.items) own.servers.items own.desk.seen own.view.seen) (parts.Server c.args.server.number) c.caller.view_is

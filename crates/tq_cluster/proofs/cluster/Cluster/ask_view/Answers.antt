@@ -3,17 +3,13 @@ use Rattle.tq_cluster.specs.Told.{CallerView, exchange_of}
 use Rattle.tq_txn.specs.Dialogue.{view_exchange}
 use Rattle.tq_cluster.proofs.Exchanges.{heard_more}
 use Rattle.tq_cluster.proofs.Names.{told_of_copy}
-use Rattle.tq_cluster.proofs.Seen.{view_saw}
+use Rattle.tq_shape.specs.declared.part.Part.TheVariants as parts
+use Rattle.tq_txn.specs.declared.asker.ViewTold.{ViewTold}
+use Rattle.tq_cluster.proofs.Seen.{SawOne, asked_none, asked_others, asked_seen, not_asked, on_err, seeing, view_saw}
 use Rattle.tq_cluster.proofs.cluster.Cluster.ask_view.Goals as goal
-
-pub returns-clause-seen : goal.returns-clause-seen
-returns-clause-seen g c = c.hear_view.ensures.seen c.call-called.new.pass.seen c.call-called.ensures.seen
 
 pub returns-clause-reply : goal.returns-clause-reply
 returns-clause-reply g c = c.hear_view.ensures.reply c.call-called.ensures.reply
-
-pub returns-clause-saw : goal.returns-clause-saw
-returns-clause-saw g c = view_saw c.caller.inside.levels (map exchange_of c.caller.inside.heard.items) c.caller.inside.servers.items c.caller.inside.desk.seen c.caller.inside.view.seen c.call-called.new.pass.seen c.args.caller.now c.caller.view_is c.call-called.ensures.grows
 
 pub returns-clause-exchanges : goal.returns-clause-exchanges
 returns-clause-exchanges g c =
@@ -31,5 +27,30 @@ returns-clause-same g c = c.hear_view.ensures.same
 pub hear_view-requires-clause-told : goal.hear_view-requires-clause-told
 hear_view-requires-clause-told g c = told_of_copy c.call-called.result c.args.ask c.args.ask c.self.inside.view refl c.call-called.ensures.same c.call-called.ensures.asked
 
-pub returns-in_err-reserve-clause-saw : goal.returns-in_err-reserve-clause-saw
-returns-in_err-reserve-clause-saw g c = view_saw c.caller.inside.levels (map exchange_of c.caller.inside.heard.items) c.caller.inside.servers.items c.caller.inside.desk.seen c.caller.inside.view.seen c.caller.inside.view.seen c.args.caller.now c.caller.view_is (omega arith)
+pub returns-clause-seen : goal.returns-clause-seen
+returns-clause-seen g c =
+    let own = c.caller.inside in
+    asked_seen (λ (t : ViewTold). t.number) c.hear_view.result c.args.caller.now (seeing own.levels (map exchange_of own.heard.items) own.servers.items own.desk.seen c.call-called.new.pass.seen) parts.View own.view.seen c.call-called.new.pass.seen
+    (view_saw own.levels (map exchange_of own.heard.items) own.servers.items own.desk.seen own.view.seen c.call-called.new.pass.seen parts.View c.args.caller.now c.caller.view_is refl)
+    (c.hear_view.ensures.seen own.view.seen c.call-called.new.pass.seen c.call-called.ensures.seen)
+
+pub returns-clause-not_told : goal.returns-clause-not_told
+returns-clause-not_told g c =
+    let own = c.caller.inside in
+    asked_none c.hear_view.result c.args.caller.now (seeing own.levels (map exchange_of own.heard.items) own.servers.items own.desk.seen c.call-called.new.pass.seen) parts.View own.view.seen c.call-called.new.pass.seen
+    (view_saw own.levels (map exchange_of own.heard.items) own.servers.items own.desk.seen own.view.seen c.call-called.new.pass.seen parts.View c.args.caller.now c.caller.view_is refl)
+    (c.hear_view.ensures.not_told own.view.seen c.call-called.new.pass.seen c.call-called.ensures.not_told)
+
+pub returns-clause-others : goal.returns-clause-others
+returns-clause-others g c =
+    let own = c.caller.inside in
+    asked_others c.args.caller.now (seeing own.levels (map exchange_of own.heard.items) own.servers.items own.desk.seen c.call-called.new.pass.seen) parts.View own.view.seen c.call-called.new.pass.seen
+    (view_saw own.levels (map exchange_of own.heard.items) own.servers.items own.desk.seen own.view.seen c.call-called.new.pass.seen parts.View c.args.caller.now c.caller.view_is refl)
+
+pub returns-in_err-reserve-clause-not_told : goal.returns-in_err-reserve-clause-not_told
+returns-in_err-reserve-clause-not_told g c = on_err _ _ (ap (λ (v : CallerView). v.seen) c.caller.view_is)
+
+pub returns-in_err-reserve-clause-others : goal.returns-in_err-reserve-clause-others
+returns-in_err-reserve-clause-others g c =
+    let own = c.caller.inside in
+    not_asked c.args.caller.now (seeing own.levels (map exchange_of own.heard.items) own.servers.items own.desk.seen own.view.seen) parts.View c.caller.view_is

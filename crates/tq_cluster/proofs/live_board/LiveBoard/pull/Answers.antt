@@ -5,7 +5,8 @@ use Rattle.tq_prefixes.specs.Prefixes.{IsPullFault}
 use Rattle.tq_cluster.specs.Told.{CallerView, seen_of}
 use Rattle.tq_cluster.specs.Pulls.{Continues}
 use Rattle.tq_cluster.proofs.Seen.{sees-on-after}
-use Rattle.tq_cluster.proofs.Pulled.{continues-grown, continues-after, fault-after, seen-after}
+use Rattle.tq_cluster.proofs.Pulled.{continues-grown, continues-after, seen-after}
+use Rattle.tq_cluster.proofs.Came.{before-desk, came, ended-after, goes-after, goes-grown, goes-same, rises}
 use Rattle.tq_cluster.proofs.live_board.LiveBoard.pull.Goals as goal
 
 pub returns-clause-continues : goal.returns-clause-continues
@@ -15,41 +16,67 @@ returns-clause-continues g c =
     continues-after c.args.self.now c.pull_part.new.self c.pull_part-2.new.self parts.View c.pull_part-2.result c.pull_part-2.ensures.grown c.pull_part-2.ensures.err middle
 
 pub returns-in-Err-pull_part-clause-grows : goal.returns-in-Err-pull_part-clause-grows
-returns-in-Err-pull_part-clause-grows g c = sees-on-after c.args.caller.now c.pull_servers.new.caller c.pull_part.new.caller parts.Desk c.pull_servers.ensures.grows c.pull_part.ensures.caller
+returns-in-Err-pull_part-clause-grows g c = sees-on-after c.args.caller.now c.pull_servers.new.caller c.pull_part.new.caller parts.Desk c.pull_servers.ensures.grows (rises c.pull_servers.new.self c.pull_part.new.self c.pull_servers.new.caller c.pull_part.new.caller parts.Desk c.pull_part.ensures.saw c.pull_part.ensures.others)
 
 pub returns-clause-grows : goal.returns-clause-grows
 returns-clause-grows g c =
-    let desk = sees-on-after c.args.caller.now c.pull_servers.new.caller c.pull_part.new.caller parts.Desk c.pull_servers.ensures.grows c.pull_part.ensures.caller in
-    sees-on-after c.args.caller.now c.pull_part.new.caller c.pull_part-2.new.caller parts.View desk c.pull_part-2.ensures.caller
+    let desk = sees-on-after c.args.caller.now c.pull_servers.new.caller c.pull_part.new.caller parts.Desk c.pull_servers.ensures.grows (rises c.pull_servers.new.self c.pull_part.new.self c.pull_servers.new.caller c.pull_part.new.caller parts.Desk c.pull_part.ensures.saw c.pull_part.ensures.others) in
+    sees-on-after c.args.caller.now c.pull_part.new.caller c.pull_part-2.new.caller parts.View desk (rises c.pull_part.new.self c.pull_part-2.new.self c.pull_part.new.caller c.pull_part-2.new.caller parts.View c.pull_part-2.ensures.saw c.pull_part-2.ensures.others)
 
 pub returns-clause-seen : goal.returns-clause-seen
 returns-clause-seen g c =
     let grew = c.in-Ok-pull_part.ensures.grown in
-    let saw = c.in-Ok-pull_part.ensures.caller in
-    let saw_more = c.pull_part-2.ensures.caller in
+    let saw = (rises c.pull_servers.new.self c.pull_part.new.self c.pull_servers.new.caller c.pull_part.new.caller parts.Desk c.pull_part.ensures.saw c.pull_part.ensures.others) in
+    let saw_more = (rises c.pull_part.new.self c.pull_part-2.new.self c.pull_part.new.caller c.pull_part-2.new.caller parts.View c.pull_part-2.ensures.saw c.pull_part-2.ensures.others) in
     seen-after c.pull_servers.new.self c.pull_servers.new.caller c.args.cluster.now.levels grew.0 saw.0 saw_more.0 c.pull_part.new.self c.pull_part-2.new.self c.pull_part.new.caller c.pull_part-2.new.caller c.pull_part-2.result
     c.in-Ok.ensures.seen grew.1 saw.2 c.pull_part-2.ensures.grown saw_more.2 c.in-Ok-pull_part.ensures.seen c.pull_part-2.ensures.seen ((returns-clause-continues g c).levels ∙ c.requires.levels)
 
-pub returns-clause-fault : goal.returns-clause-fault
-returns-clause-fault g c =
-    fault-after c.pull_part.new.self c.pull_part-2.new.self c.pull_part-2.new.caller parts.View c.pull_part-2.result c.pull_part-2.ensures.fault c.pull_part-2.ensures.err
-
 pub returns-clause-told : goal.returns-clause-told
-returns-clause-told g c = ap (λ (v : CallerView). v.told) c.pull_part-2.ensures.caller.2 ∙ ap (λ (v : CallerView). v.told) c.pull_part.ensures.caller.2 ∙ c.pull_servers.ensures.told
+returns-clause-told g c = ap (λ (v : CallerView). v.told) c.pull_part-2.ensures.others ∙ ap (λ (v : CallerView). v.told) c.pull_part.ensures.others ∙ c.pull_servers.ensures.told
 
 pub returns-clause-tree : goal.returns-clause-tree
-returns-clause-tree g c = ap (λ (v : CallerView). v.levels) c.pull_part-2.ensures.caller.2 ∙ ap (λ (v : CallerView). v.levels) c.pull_part.ensures.caller.2 ∙ c.pull_servers.ensures.tree
+returns-clause-tree g c = ap (λ (v : CallerView). v.levels) c.pull_part-2.ensures.others ∙ ap (λ (v : CallerView). v.levels) c.pull_part.ensures.others ∙ c.pull_servers.ensures.tree
 
 pub returns-in-Err-pull_part-clause-told : goal.returns-in-Err-pull_part-clause-told
-returns-in-Err-pull_part-clause-told g c = ap (λ (v : CallerView). v.told) c.pull_part.ensures.caller.2 ∙ c.pull_servers.ensures.told
+returns-in-Err-pull_part-clause-told g c = ap (λ (v : CallerView). v.told) c.pull_part.ensures.others ∙ c.pull_servers.ensures.told
 
 pub returns-in-Err-pull_part-clause-tree : goal.returns-in-Err-pull_part-clause-tree
-returns-in-Err-pull_part-clause-tree g c = ap (λ (v : CallerView). v.levels) c.pull_part.ensures.caller.2 ∙ c.pull_servers.ensures.tree
+returns-in-Err-pull_part-clause-tree g c = ap (λ (v : CallerView). v.levels) c.pull_part.ensures.others ∙ c.pull_servers.ensures.tree
 
 pub returns-in-Err-pull_part-clause-continues : goal.returns-in-Err-pull_part-clause-continues
 returns-in-Err-pull_part-clause-continues g c = subst (λ (o : JournalsView). Continues c.args.self.now o) (sym c.in-Err-pull_part.ensures.err) c.pull_servers.ensures.continues
 
+pub returns-clause-fault : goal.returns-clause-fault
+returns-clause-fault g c =
+    let grew = c.in-Ok-pull_part.ensures.grown in
+    ended-after c.pull_servers.new.self c.pull_part.new.self c.pull_part-2.new.self c.pull_servers.new.caller c.pull_part.new.caller c.pull_part-2.new.caller c.args.cluster.now.levels grew.0 (seen_of c.pull_part.new.caller parts.Desk) c.pull_part-2.result
+    c.in-Ok.ensures.seen grew.1 c.pull_part.ensures.others c.in-Ok-pull_part.ensures.seen c.pull_part-2.ensures.err c.pull_part-2.ensures.others
+    (ap (λ (o : JournalsView). o.levels) grew.1 ∙ (continues-grown c.args.self.now c.pull_servers.new.self parts.Desk grew.0 c.pull_servers.ensures.continues).levels ∙ c.requires.levels)
+    c.pull_part-2.ensures.fault
+
 pub returns-in-Err-pull_part-clause-fault : goal.returns-in-Err-pull_part-clause-fault
 returns-in-Err-pull_part-clause-fault g c =
     let fault = c.in-Err-pull_part.ensures.fault in
-    (parts.Desk, fault.0, subst (λ (o : JournalsView). IsPullFault o parts.Desk fault.0 (seen_of c.pull_part.new.caller parts.Desk) c.in-Err-pull_part.fault) (sym c.in-Err-pull_part.ensures.err) fault.1)
+    record {
+      part = parts.Desk;
+      is_part = tt;
+      before = before-desk c.pull_servers.new.self c.pull_part.new.self c.pull_servers.new.caller c.pull_part.new.caller c.args.cluster.now.levels (seen_of c.pull_part.new.caller parts.Desk) c.in-Ok.ensures.seen c.in-Err-pull_part.ensures.err
+          c.pull_part.ensures.others (ap (λ (o : JournalsView). o.levels) c.in-Err-pull_part.ensures.err ∙ c.pull_servers.ensures.continues.levels ∙ c.requires.levels);
+      more = fault.0;
+      why = subst (λ (o : JournalsView). IsPullFault o parts.Desk fault.0 (seen_of c.pull_part.new.caller parts.Desk) c.in-Err-pull_part.fault) (sym c.in-Err-pull_part.ensures.err) fault.1;
+    }
+
+pub returns-in-Err-pull_part-clause-saw : goal.returns-in-Err-pull_part-clause-saw
+returns-in-Err-pull_part-clause-saw g c =
+    came c.args.self.now c.pull_servers.new.self c.pull_part.new.self c.args.caller.now c.pull_servers.new.caller c.pull_part.new.caller c.pull_servers.ensures.saw c.pull_servers.ensures.continues
+    parts.Desk (goes-same c.pull_servers.new.self c.pull_part.new.self parts.Desk c.in-Err-pull_part.ensures.err) c.pull_part.ensures.saw c.pull_part.ensures.others
+
+pub returns-clause-saw : goal.returns-clause-saw
+returns-clause-saw g c =
+    let grew = c.in-Ok-pull_part.ensures.grown in
+    let with_desk =
+    came c.args.self.now c.pull_servers.new.self c.pull_part.new.self c.args.caller.now c.pull_servers.new.caller c.pull_part.new.caller c.pull_servers.ensures.saw c.pull_servers.ensures.continues
+    parts.Desk (goes-grown c.pull_servers.new.self c.pull_part.new.self parts.Desk grew.0 grew.1) c.pull_part.ensures.saw c.pull_part.ensures.others in
+    let middle = subst (λ (o : JournalsView). Continues c.args.self.now o) (sym grew.1) (continues-grown c.args.self.now c.pull_servers.new.self parts.Desk grew.0 c.pull_servers.ensures.continues) in
+    came c.args.self.now c.pull_part.new.self c.pull_part-2.new.self c.args.caller.now c.pull_part.new.caller c.pull_part-2.new.caller with_desk middle
+    parts.View (goes-after c.pull_part.new.self c.pull_part-2.new.self parts.View c.pull_part-2.result c.pull_part-2.ensures.grown c.pull_part-2.ensures.err) c.pull_part-2.ensures.saw c.pull_part-2.ensures.others

@@ -1,6 +1,6 @@
 use Rattle.std.proofs.Common.{◌≡◌}
 use Rattle.tq_cluster.specs.Told.{SeesOn}
-use Rattle.tq_cluster.specs.Pulls.{Continues, HasSeenServers}
+use Rattle.tq_cluster.specs.Pulls.{Continues, HasSeenServers, SawWhatCame}
 use Rattle.tq_cluster.proofs.live_board.LiveBoard.pull_servers.Given as goal
 
 -- the servers so far were pulled, and the board has what the caller has seen of them
@@ -10,5 +10,6 @@ invariant-loop-place g l = record {
   seen : HasSeenServers l.self l.caller l.place;
   told : l.caller.told ≡ l.initial.caller.told;
   grows : SeesOn l.initial.caller l.caller;
+  saw : SawWhatCame l.initial.self l.self l.initial.caller l.caller;
   tree : l.caller.levels ≡ l.initial.caller.levels;
 }

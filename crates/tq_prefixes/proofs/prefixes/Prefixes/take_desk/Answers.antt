@@ -27,3 +27,12 @@ returns-clause-least c =
     (desk_taken c.self.inside.tables c.in-Some.ahead c.self.inside.limits (map (λ journal. journal.items) c.self.inside.servers.items) c.self.inside.desk.items c.self.inside.view.items c.args.self.now
     c.self.view_is c.self.invariant c.append.new.self.items c.args.entries.items c.args.least
     (found_ahead c.in_ok-ahead.field-0 c.in-Some.ahead c.args.self.now parts.Desk entries.Desk c.as_slice.result.now c.args.entries.items c.args.least c.as_slice.ensures.value c.in-Some.is c.in_ok-ahead.ensures) c.in_ok-append.ensures.items).enough
+
+pub returns-clause-count : goal.returns-clause-count
+returns-clause-count c =
+    (desk_taken c.self.inside.tables c.in-Some.ahead c.self.inside.limits (map (λ journal. journal.items) c.self.inside.servers.items) c.self.inside.desk.items c.self.inside.view.items c.args.self.now
+    c.self.view_is c.self.invariant c.append.new.self.items c.args.entries.items c.args.least
+    (found_ahead c.in_ok-ahead.field-0 c.in-Some.ahead c.args.self.now parts.Desk entries.Desk c.as_slice.result.now c.args.entries.items c.args.least c.as_slice.ensures.value c.in-Some.is c.in_ok-ahead.ensures) c.in_ok-append.ensures.items).count
+
+pub returns-in_err-append-clause-count : goal.returns-in_err-append-clause-count
+returns-in_err-append-clause-count c = never_on_ok _ _ c.from_residual-in_err-append.result c.from_residual-in_err-append.ensures.1

@@ -51,3 +51,13 @@ returns-clause-least c =
     c.index_mut.result.now c.append.new.self c.index_mut.ensures.value c.in-Some.ahead c.args.entries.items c.args.least
     (found_ahead c.in_ok-ahead.field-0 c.in-Some.ahead c.args.self.now (parts.Server c.args.number) entries.Server c.as_slice.result.now c.args.entries.items c.args.least c.as_slice.ensures.value c.in-Some.is c.in_ok-ahead.ensures)
     c.in_ok-append.ensures.items).enough
+
+pub returns-clause-count : goal.returns-clause-count
+returns-clause-count c =
+    (server_followed (λ journal. journal.items) c.self.inside.tables c.self.inside.limits c.self.inside.servers.items c.self.inside.desk.items c.self.inside.view.items c.args.self.now c.self.view_is c.self.invariant c.args.number c.requires
+    c.index_mut.result.now c.append.new.self c.index_mut.ensures.value c.in-Some.ahead c.args.entries.items c.args.least
+    (found_ahead c.in_ok-ahead.field-0 c.in-Some.ahead c.args.self.now (parts.Server c.args.number) entries.Server c.as_slice.result.now c.args.entries.items c.args.least c.as_slice.ensures.value c.in-Some.is c.in_ok-ahead.ensures)
+    c.in_ok-append.ensures.items).count
+
+pub returns-in_err-append-clause-count : goal.returns-in_err-append-clause-count
+returns-in_err-append-clause-count c = never_on_ok _ _ c.from_residual-in_err-append.result c.from_residual-in_err-append.ensures.1
