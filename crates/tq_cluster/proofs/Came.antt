@@ -1,7 +1,7 @@
 -- What came onto a board by pulls, and what its caller was told of it.
-use Rattle.std.proofs.Common.{◌≡◌, ◌≢◌, ◌⊎◌, ◌≤◌, ◌<◌, ◌+◌, ◌-◌, ◌^◌, ℕ, zero, suc, List, [], ◌∷◌, ◌++◌, length, max, get_or, inl, inr, refl, sym, ap, subst, ◌∙◌, arith, length-append}
+use Rattle.std.proofs.Common.{◌≡◌, ◌≢◌, ◌≤◌, ◌+◌, ◌-◌, ◌^◌, ℕ, zero, suc, List, [], ◌∷◌, length, max, get_or, inl, inr, refl, sym, ap, subst, ◌∙◌, arith, length-append}
 use Rattle.std.specs.Prelude.{Result, Ok, Err, IfErr, OnOk, OnErr, ⊤}
-use Rattle.std.proofs.Math.Nat.{max-zero, zero-max, max-le, max-eq_right, le-max_left, le-max_right}
+use Rattle.std.proofs.Math.Nat.{max-zero, zero-max, max-le, le-max_left, le-max_right}
 use Rattle.std.proofs.lemmas.Bool.{cases_eq}
 use Rattle.tq_cells.specs.Passes.{last_behind}
 use Rattle.tq_shape.specs.Tree.{IsServer}
@@ -11,8 +11,7 @@ use Rattle.tq_tables.specs.Journals.{JournalsView}
 use Rattle.tq_prefixes.specs.declared.entries.Entries.{Entries}
 use Rattle.tq_prefixes.specs.declared.entries.Entries.TheVariants as entries
 use Rattle.tq_prefixes.specs.declared.fault.PullFault.{PullFault}
-use Rattle.tq_prefixes.specs.Prefixes.{IsPartOf, IsPullFault, grown, prefix_length}
-use Rattle.tq_prefixes.specs.Astray.{ComesBefore}
+use Rattle.tq_prefixes.specs.Prefixes.{IsPullFault, grown, prefix_length}
 use Rattle.tq_cluster.specs.Told.{CallerView, having_seen, seen_of}
 use Rattle.tq_cluster.specs.Pulls.{Continues, EachContinues, EndedAt, HasSeenBefore, HasSeenServers, SawWhatCame, seen_then}
 use Rattle.tq_cluster.proofs.Pulled.{continues-grown, continues-same, other-prefix, other-seen, servers-desk}

@@ -1,6 +1,6 @@
 -- Prefixes that pulls continue.
 use Rattle.std.proofs.Common.{◌≡◌, ◌≢◌, ◌⊎◌, ◌≤◌, ◌+◌, ◌-◌, ◌^◌, ℕ, zero, suc, List, [], ◌∷◌, ◌++◌, length, set, get_or, inl, inr, refl, sym, ap, subst, ◌∙◌, arith, append_assoc, append-nil}
-use Rattle.std.specs.Prelude.{Result, Ok, Err, IfErr, OnOk, OnErr}
+use Rattle.std.specs.Prelude.{Result, Ok, Err, OnOk, OnErr}
 use Rattle.std.proofs.lemmas.List.{get_or-set_other}
 use Rattle.std.proofs.lemmas.Bool.{cases_eq}
 use Rattle.tq_shape.specs.Tree.{IsServer}
@@ -10,7 +10,7 @@ use Rattle.tq_tables.specs.Journals.{JournalsView}
 use Rattle.tq_prefixes.specs.declared.entries.Entries.{Entries}
 use Rattle.tq_prefixes.specs.declared.entries.Entries.TheVariants as entries
 use Rattle.tq_prefixes.specs.declared.fault.PullFault.{PullFault}
-use Rattle.tq_prefixes.specs.Prefixes.{IsPartOf, IsPullFault, prefix_length, server_prefix, grown}
+use Rattle.tq_prefixes.specs.Prefixes.{IsPartOf, prefix_length, server_prefix, grown}
 use Rattle.tq_cluster.specs.Told.{CallerView, seen_of, having_seen}
 use Rattle.tq_cluster.specs.Pulls.{EachContinues, Continues, HasSeenAll, HasSeenServers}
 

@@ -1,10 +1,10 @@
-use Rattle.std.proofs.Common.{◌≡◌, ◌∙◌, ◌++◌, map, ap, refl, subst, arith, rules}
+use Rattle.std.proofs.Common.{◌≡◌, ◌∙◌, ◌++◌, map, ap, refl, subst, rules}
 use Rattle.tq_cluster.specs.Told.{CallerView, exchange_of}
 use Rattle.std.specs.Prelude.{IfOk}
 use Rattle.tq_cluster.proofs.Names.{told_of_copy}
 use Rattle.tq_shape.specs.declared.part.Part.TheVariants as parts
 use Rattle.tq_states.specs.declared.told.DeskTold.{DeskTold}
-use Rattle.tq_cluster.proofs.Seen.{SawOne, asked_none, asked_others, asked_seen, desk_saw, not_asked, on_err, seeing}
+use Rattle.tq_cluster.proofs.Seen.{asked_none, asked_others, asked_seen, desk_saw, not_asked, on_err, seeing}
 use Rattle.tq_desk.specs.declared.ask.DeskAsk.{DeskAsk}
 use Rattle.tq_txn.specs.Dialogue.{desk_exchange}
 use Rattle.tq_cluster.proofs.Exchanges.{heard_more}

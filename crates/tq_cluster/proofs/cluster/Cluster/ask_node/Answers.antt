@@ -1,4 +1,4 @@
-use Rattle.std.proofs.Common.{refl, ◌≡◌, ◌≤◌, ◌<◌, ◌-◌, ◌∙◌, ◌++◌, ℕ, length, map, set, ap, sym, subst, arith, rules}
+use Rattle.std.proofs.Common.{refl, ◌≡◌, ◌<◌, ◌-◌, ◌∙◌, ◌++◌, ℕ, length, map, set, ap, sym, subst, arith, rules}
 use Rattle.std.specs.Prelude.{IfOk, IfErr, ◌⊎◌}
 use Rattle.tq_part.specs.declared.fault.AskFault.TheVariants as faults
 use Rattle.tq_shape.specs.Tree.{IsServer}
@@ -7,7 +7,7 @@ use Rattle.tq_cluster.specs.Cluster.{ClusterView}
 use Rattle.tq_cluster.specs.Told.{CallerView, exchange_of}
 use Rattle.tq_cluster.proofs.Names.{asked_by, named_by, told_of_copy}
 use Rattle.tq_states.specs.declared.told.NodeTold.{NodeTold}
-use Rattle.tq_cluster.proofs.Seen.{SawOne, asked_none, asked_others, asked_seen, not_asked, on_err, seeing, server_saw}
+use Rattle.tq_cluster.proofs.Seen.{asked_none, asked_others, asked_seen, not_asked, on_err, seeing, server_saw}
 use Rattle.tq_asks.specs.declared.ask.NodeAsk.{NodeAsk}
 use Rattle.tq_txn.specs.Dialogue.{node_exchange}
 use Rattle.tq_cluster.proofs.Exchanges.{heard_more}

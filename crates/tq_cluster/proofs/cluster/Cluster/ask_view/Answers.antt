@@ -1,11 +1,11 @@
-use Rattle.std.proofs.Common.{refl, map, ap, arith}
+use Rattle.std.proofs.Common.{refl, map, ap}
 use Rattle.tq_cluster.specs.Told.{CallerView, exchange_of}
 use Rattle.tq_txn.specs.Dialogue.{view_exchange}
 use Rattle.tq_cluster.proofs.Exchanges.{heard_more}
 use Rattle.tq_cluster.proofs.Names.{told_of_copy}
 use Rattle.tq_shape.specs.declared.part.Part.TheVariants as parts
 use Rattle.tq_txn.specs.declared.asker.ViewTold.{ViewTold}
-use Rattle.tq_cluster.proofs.Seen.{SawOne, asked_none, asked_others, asked_seen, not_asked, on_err, seeing, view_saw}
+use Rattle.tq_cluster.proofs.Seen.{asked_none, asked_others, asked_seen, not_asked, on_err, seeing, view_saw}
 use Rattle.tq_cluster.proofs.cluster.Cluster.ask_view.Goals as goal
 
 pub returns-clause-reply : goal.returns-clause-reply

@@ -1,7 +1,7 @@
 use Rattle.std.proofs.Common.{refl, ◌-◌, ◌^◌, ◌∙◌, map, set, ap}
 use Rattle.tq_shape.specs.declared.part.Part.TheVariants as parts
 use Rattle.tq_cluster.specs.Told.{CallerView, exchange_of}
-use Rattle.tq_cluster.proofs.Seen.{SawOne, seeing, seen_here, has_pass, server_saw, desk_saw, view_saw, pulled_saw, pulled_others, pulled_grown, pulled_err, pulled_seen, pulled_fault}
+use Rattle.tq_cluster.proofs.Seen.{seeing, seen_here, has_pass, server_saw, desk_saw, view_saw, pulled_saw, pulled_others, pulled_grown, pulled_err, pulled_seen, pulled_fault}
 use Rattle.tq_cluster.proofs.live_board.LiveBoard.pull_part.Goals as goal
 
 pub returns-in-Server-clause-seen : goal.returns-in-Server-clause-seen
