@@ -10,10 +10,11 @@ use Rattle.tq_live.specs.declared.sought.Sought.{Sought}
 use Rattle.tq_live.specs.declared.sought.Sought.TheVariants.{Quorum, Blocker}
 use Rattle.tq_live.specs.declared.weight.Form.{Form}
 use Rattle.tq_live.specs.declared.weight.Form.TheVariants.{WithLeft}
+use Rattle.tq_live.specs.declared.purpose.Purpose.{Purpose}
 use Rattle.tq_live.specs.declared.purpose.Purpose.TheVariants.{Read, Write}
 use Rattle.tq_live.specs.declared.costs.Costs.{Costs}
-use Rattle.tq_live.specs.declared.cache.Cache.{Cache}
-use Rattle.tq_live.specs.declared.cache.Column.{Column}
+use Rattle.tq_live.specs.declared.tree.cache.Cache.{Cache}
+use Rattle.tq_live.specs.declared.tree.cache.Column.{Column}
 use Rattle.tq_live.specs.declared.setting.Setting.{Setting}
 use Rattle.tq_live.specs.declared.setting.Setting.TheVariants.{Cost, Mark}
 
@@ -44,6 +45,16 @@ cache_of tree = record {
   write_form = form_in (Quorum Write) tree;
   blocker = form_in Blocker tree;
 }
+
+-- the weight in it for a purpose, and the form in it of what is sought
+abbrev pub least_kept : Purpose → Cache → Option ℕ
+least_kept Read cache = cache.read
+least_kept Write cache = cache.write
+
+abbrev pub form_kept : Sought → Cache → Form
+form_kept (Quorum Read) cache = cache.read_form
+form_kept (Quorum Write) cache = cache.write_form
+form_kept Blocker cache = cache.blocker
 
 -- a blocker weighs nothing, and is there where no quorum is
 abbrev pub other_weight : Option ℕ → Option ℕ

@@ -6,7 +6,6 @@
 #![tactic(auto)]
 
 mod answers;
-mod cache;
 mod change;
 mod choice;
 mod costs;
@@ -17,7 +16,6 @@ mod purpose;
 mod setting;
 mod sought;
 mod tree;
-mod turns;
 mod view;
 mod weight;
 
@@ -26,6 +24,5 @@ pub use choice::Choice;
 pub use costs::{BadCost, Costs, MOST_COST, is_cost};
 pub use least::Least;
 pub use purpose::Purpose;
-pub use tree::LiveTree;
-pub use turns::Turns;
+pub use tree::{LiveTree, Turns};
 pub use view::{View, ViewAsk, ViewRefusal, ViewReply};

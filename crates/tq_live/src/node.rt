@@ -10,12 +10,11 @@ ghost use Rattle.tq_live.specs.Costs.{AreLow, no_costs};
 ghost use Rattle.tq_live.specs.declared.purpose.Purpose.{Purpose};
 ghost use Rattle.tq_live.specs.declared.sought.Sought.TheVariants as soughts;
 
-use crate::cache::{Cache, Column};
 use crate::costs::Costs;
 use crate::purpose::Purpose;
 use crate::setting::Setting;
 use crate::sought::Sought;
-use crate::turns::Turns;
+use crate::tree::cache::{Cache, Count, repair};
 use crate::weight::{Form, Weight};
 use std::alloc::Global;
 use std::marker::Model;
@@ -33,7 +32,7 @@ pub(crate) struct Node {
 
 #[cycle(node)]
 #[derive(Drop)]
-enum Below {
+pub(crate) enum Below {
     Nothing,
     Over(Box<Sides>),
 }
@@ -41,9 +40,9 @@ enum Below {
 /// The two sides of a server, in one block.
 #[cycle(node)]
 #[derive(Drop)]
-struct Sides {
-    left: Node,
-    right: Node,
+pub(crate) struct Sides {
+    pub(crate) left: Node,
+    pub(crate) right: Node,
 }
 
 impl Model for Node {
@@ -72,13 +71,25 @@ impl Node {
         requires { 2 ^ height ≤ 512 }
         ensures { IfOk result (λ node. node ≡ even height) }
     {
+        let costs = Costs::even(1);
+        let cache = Cache::even(alloc, height);
         if height == 0 {
-            return Ok(made(Costs::even(1), true, Below::Nothing));
+            return Ok(Node {
+                costs,
+                up: true,
+                cache,
+                below: Below::Nothing,
+            });
         }
         let left = Node::new(alloc, height - 1)?;
         let right = Node::new(alloc, height - 1)?;
         let sides = Box::new(alloc, Sides { left, right })?;
-        Ok(made(Costs::even(1), true, Below::Over(sides)))
+        Ok(Node {
+            costs,
+            up: true,
+            cache,
+            below: Below::Over(sides),
+        })
     }
 
     /// An equal subtree.
@@ -87,13 +98,24 @@ impl Node {
     {
         let costs = self.costs;
         let up = self.up;
+        let cache = self.cache.copy(alloc);
         match &self.below {
-            Below::Nothing => Ok(made(costs, up, Below::Nothing)),
+            Below::Nothing => Ok(Node {
+                costs,
+                up,
+                cache,
+                below: Below::Nothing,
+            }),
             Below::Over(sides) => {
                 let left = sides.left.copy(alloc)?;
                 let right = sides.right.copy(alloc)?;
                 let sides = Box::new(alloc, Sides { left, right })?;
-                Ok(made(costs, up, Below::Over(sides)))
+                Ok(Node {
+                    costs,
+                    up,
+                    cache,
+                    below: Below::Over(sides),
+                })
             }
         }
     }
@@ -109,13 +131,7 @@ impl Node {
     fn form(&self, sought: Sought) -> Form
         ensures { result ≡ form_in sought self.now }
     {
-        match sought {
-            Sought::Quorum(purpose) => match purpose {
-                Purpose::Read => self.cache.read_form,
-                Purpose::Write => self.cache.write_form,
-            },
-            Sought::Blocker => self.cache.blocker,
-        }
+        self.cache.form(sought)
     }
 
     /// Puts the servers of the first least member into the set, where there is one. The node is that of the server of the
@@ -152,10 +168,7 @@ impl Node {
         ensures bounded { IfSome result (λ weight. weight ≤ 1000000 * leaves self.now) }
         ensures small { leaves self.now ≤ 512 }
     {
-        match purpose {
-            Purpose::Read => self.cache.read,
-            Purpose::Write => self.cache.write,
-        }
+        self.cache.least(purpose)
     }
 
     /// The subtree of a server that stands so many steps below.
@@ -176,7 +189,7 @@ impl Node {
     }
 
     /// Makes the change at a server that stands so many steps below, and repairs the caches on the way back up.
-    pub(crate) fn change(&mut self, steps: u32, number: u64, change: &Setting, turns: &mut Turns)
+    pub(crate) fn change(&mut self, steps: u32, number: u64, change: &Setting, turns: &mut Count)
         requires cost { AreLow (costs_after change.now no_costs) }
         requires steps { steps ≤ 64 }
         requires room { turns.old + steps + 1 < 2 ^ 64 }
@@ -208,29 +221,6 @@ impl Node {
     }
 }
 
-/// A node with its cache.
-fn made(costs: Costs, up: bool, below: Below) -> Node
-    requires cost { AreLow costs }
-    requires small { leaves (subtree_of costs up below) ≤ 512 }
-    ensures { result ≡ subtree_of costs up below }
-{
-    let mut cache = Cache {
-        read: Weight::missing(),
-        write: Weight::missing(),
-        read_form: Form::WithLeft,
-        write_form: Form::WithLeft,
-        blocker: Form::WithLeft,
-    };
-    let mut turns = Turns::new();
-    repair(&mut cache, costs, up, &below, &mut turns);
-    Node {
-        costs,
-        up,
-        cache,
-        below,
-    }
-}
-
 /// Puts the server of that number into the set, one of the set's tree.
 fn put(set: &mut ServerSet, number: u64)
     requires { IsServer set.old.levels number }
@@ -246,112 +236,4 @@ fn is_left(number: u64, steps: u32) -> bool
     ensures { result ≡ turns_left number steps }
 {
     (number >> steps) % 2 == 0
-}
-
-/// Writes the cache of a node from its costs, its mark and the caches of its sides, and counts it.
-fn repair(cache: &mut Cache, costs: Costs, up: bool, below: &Below, turns: &mut Turns)
-    requires cost { AreLow costs }
-    requires small { leaves (subtree_of costs up below.now) ≤ 512 }
-    requires room { turns.old + 1 < 2 ^ 64 }
-    ensures cache { cache.new ≡ cache_of (subtree_of costs up below.now) }
-    ensures bounded { (purpose : Purpose) → IfSome (weight_of (soughts.Quorum purpose) (subtree_of costs up below.now)) (λ weight. weight ≤ 1000000 * leaves (subtree_of costs up below.now)) }
-    ensures turns { turns.new ≡ turns.old + 1 }
-{
-    *cache = match below {
-        Below::Nothing => Cache {
-            read: weight(costs.read, up),
-            write: weight(costs.write, up),
-            read_form: Form::WithLeft,
-            write_form: Form::WithLeft,
-            blocker: Form::WithLeft,
-        },
-        Below::Over(sides) => over(costs, up, sides),
-    };
-    turns.count += 1;
-}
-
-/// What a server of those costs and that mark keeps, from the caches of its sides.
-fn over(costs: Costs, up: bool, sides: &Sides) -> Cache
-    requires cost { AreLow costs }
-    ensures cache { result ≡ cache_of (Over costs up sides.now.left sides.now.right) }
-    ensures bounded { (purpose : Purpose) → IfSome (weight_of (soughts.Quorum purpose) (Over costs up sides.now.left sides.now.right)) (λ weight. weight ≤ 1000000 * leaves (Over costs up sides.now.left sides.now.right)) }
-{
-    let left = sides.left.least(Purpose::Read);
-    let right = sides.right.least(Purpose::Read);
-    let read = column(weight(costs.read, up), left, right);
-    let write_left = sides.left.least(Purpose::Write);
-    let write_right = sides.right.least(Purpose::Write);
-    let write = column(weight(costs.write, up), write_left, write_right);
-    let blocker = blocker_form(up, left.is_there(), right.is_there());
-    Cache {
-        read: read.least,
-        write: write.least,
-        read_form: read.form,
-        write_form: write.form,
-        blocker,
-    }
-}
-
-/// What a server of that weight keeps for one purpose, from the weights of its sides. Which of them is less, and which are
-/// there, is as good as random, so values are chosen and no way is taken.
-fn column(here: Weight, left: Weight, right: Weight) -> Column
-    requires here { IfSome here (λ w. w < 2 ^ 62) }
-    requires left { IfSome left (λ w. w < 2 ^ 62) }
-    requires right { IfSome right (λ w. w < 2 ^ 62) }
-    ensures { result ≡ column_over here left right }
-{
-    let with_left = here.with(left);
-    let with_right = here.with(right);
-    let both = left.with(right);
-    let goes_right = with_right.is_less(with_left);
-    let one_side = if goes_right { with_right } else { with_left };
-    let takes_both = both.is_less(one_side);
-    let least = if takes_both { both } else { one_side };
-    let form = form_taken(goes_right, takes_both);
-    Column { least, form }
-}
-
-/// The form that is taken where the side that is better is the right one or not, and both sides are better than that or not.
-fn form_taken(goes_right: bool, takes_both: bool) -> Form
-    ensures { result ≡ cond takes_both Form.BothSides (cond goes_right Form.WithRight Form.WithLeft) }
-{
-    let one_side = if goes_right {
-        Form::WithRight
-    } else {
-        Form::WithLeft
-    };
-    if takes_both {
-        Form::BothSides
-    } else {
-        one_side
-    }
-}
-
-/// The form of the first member that is all down, from whether a quorum is up at the top and in its sides.
-fn blocker_form(here: bool, left: bool, right: bool) -> Form
-    ensures { result ≡ form_of (cond here None (Some 0)) (cond left None (Some 0)) (cond right None (Some 0)) }
-{
-    let top_alone = here && !left;
-    let left_alone = left && !here;
-    let without_right = if top_alone {
-        Form::BothSides
-    } else if left_alone {
-        Form::WithRight
-    } else {
-        Form::WithLeft
-    };
-    if right { Form::WithLeft } else { without_right }
-}
-
-/// The weight of a server, if it may be taken.
-fn weight(cost: u64, up: bool) -> Weight
-    requires { cost ≤ 1000000 }
-    ensures value { result ≡ cond up (Some cost) None }
-    ensures bounded { IfSome result (λ w. w ≤ 1000000) }
-{
-    if up {
-        Weight::of(cost)
-    } else {
-        Weight::missing()
-    }
 }

@@ -3,6 +3,8 @@ ghost use Rattle.std.specs.Bool.{OnTrue, OnFalse};
 ghost use Rattle.tq_shape.specs.Depth.{depth_of};
 ghost use Rattle.tq_coterie.specs.Coterie.{IsMemberList, is_same, servers_of, numbers_of};
 
+pub(crate) mod cache;
+
 use crate::choice::Choice;
 use crate::costs::{BadCost, Costs, is_cost};
 use crate::least::Least;
@@ -11,7 +13,7 @@ use crate::node::Node;
 use crate::purpose::Purpose;
 use crate::setting::Setting;
 use crate::sought::Sought;
-use crate::turns::Turns;
+pub use cache::Turns;
 use std::alloc::Global;
 use std::marker::Model;
 use tq_coterie::{Blocker, Quorum, ServerIds};
@@ -155,7 +157,7 @@ impl LiveTree {
         let _levels = self.levels.count();
         let steps = server.depth();
         let number = server.number();
-        self.root.change(steps, number, &change, turns);
+        self.root.change(steps, number, &change, &mut turns.count);
     }
 
     /// The node of the server.

@@ -5,7 +5,7 @@ use Rattle.tq_live.specs.declared.sought.Sought.TheVariants as soughts
 use Rattle.tq_live.specs.declared.purpose.Purpose.{Purpose}
 use Rattle.tq_live.specs.declared.purpose.Purpose.TheVariants.{Read, Write}
 use Rattle.tq_live.proofs.Repair.{column_over-is, blocker_over-is, cache_over-is, over-at_most}
-use Rattle.tq_live.proofs.node.over.Goals as goal
+use Rattle.tq_live.proofs.tree.cache.over.Goals as goal
 
 pub returns-clause-cache : goal.returns-clause-cache
 returns-clause-cache c =
@@ -13,9 +13,9 @@ returns-clause-cache c =
     let up = c.args.up in
     let left = c.args.sides.now.left in
     let right = c.args.sides.now.right in
-    cache_over-is costs up left right c.column-read.result.least c.column-write.result.least c.column-read.result.form c.column-write.result.form c.blocker_form-blocker.result
-    (column_over-is Read costs up left right c.weight.result c.least-left.result c.least-right.result c.column-read.result c.weight.ensures.value c.least-left.ensures.value c.least-right.ensures.value c.column-read.ensures)
-    (column_over-is Write costs up left right c.weight-2.result c.least-write_left.result c.least-write_right.result c.column-write.result c.weight-2.ensures.value c.least-write_left.ensures.value c.least-write_right.ensures.value c.column-write.ensures)
+    cache_over-is costs up left right c.column_of-read.result.least c.column_of-write.result.least c.column_of-read.result.form c.column_of-write.result.form c.blocker_form-blocker.result
+    (column_over-is Read costs up left right c.weight.result c.least-left.result c.least-right.result c.column_of-read.result c.weight.ensures.value c.least-left.ensures.value c.least-right.ensures.value c.column_of-read.ensures)
+    (column_over-is Write costs up left right c.weight-2.result c.least-write_left.result c.least-write_right.result c.column_of-write.result c.weight-2.ensures.value c.least-write_left.ensures.value c.least-write_right.ensures.value c.column_of-write.ensures)
     (blocker_over-is costs up left right c.blocker_form-blocker.result c.least-left.result c.least-right.result c.is_there.result c.is_there-2.result c.least-left.ensures.value c.least-right.ensures.value c.is_there.ensures c.is_there-2.ensures c.blocker_form-blocker.ensures)
 
 pub returns-clause-bounded : goal.returns-clause-bounded
