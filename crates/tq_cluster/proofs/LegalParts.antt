@@ -1,8 +1,8 @@
 -- The journals that come out of cells are those of a system.
-use Rattle.std.proofs.Common.{◌≡◌, ◌≤◌, ◌+◌, ◌^◌, ℕ, Bool, true, false, cond, List, [], ◌∷◌, ◌++◌, length, map, Option, Some, None, refl, sym, ap, subst, ◌∙◌, arith}
+use Rattle.std.proofs.Common.{◌≡◌, ◌≤◌, ◌+◌, ◌^◌, ℕ, List, [], ◌∷◌, ◌++◌, length, map, sym, ap, subst, ◌∙◌, arith}
 use Rattle.std.specs.Prelude.{reverse}
 use Rattle.std.specs.List.{All}
-use Rattle.std.proofs.lemmas.List.Elements.{All-nil, All-cons, All-push}
+use Rattle.std.proofs.lemmas.List.Elements.{All-push}
 use Rattle.std.proofs.lemmas.List.{length-map, map-append}
 use Rattle.tq_shape.specs.Journal.{IsLegalFrom}
 use Rattle.tq_shape.proofs.Joined.{legal-reverse}
@@ -15,14 +15,6 @@ use Rattle.tq_desk.specs.declared.ask.DeskAsk.{DeskAsk}
 use Rattle.tq_desk.specs.DeskStep.{DeskView, desk_reply, desk_after}
 use Rattle.tq_desk.specs.DeskStep as desk
 use Rattle.tq_desk.specs.DeskJournal.{DeskBounds, DeskEntry, IsLegalDesk, step_reply, step_after, opened}
-use Rattle.tq_live.specs.Live.{Live, best}
-use Rattle.tq_live.specs.ViewLaws.{keeps_levels}
-use Rattle.tq_live.specs.View.{view_state, view_reply, view_reply_at, view_after_at, IsLegalView, is_server, is_cost, choice_reply}
-use Rattle.tq_live.specs.declared.purpose.Purpose.TheVariants.{Read}
-use Rattle.tq_live.specs.declared.view.ViewAsk.{ViewAsk}
-use Rattle.tq_live.specs.declared.view.ViewAsk.TheVariants.{SetCost, Mark, Choose}
-use Rattle.tq_live.specs.declared.view.ViewReply.TheVariants.{CostSet, Marked, Refused}
-use Rattle.tq_live.specs.declared.view.ViewRefusal.TheVariants.{NoSuchServer, BadCost}
 use Rattle.tq_shape.specs.Limits.{LimitsView}
 use Rattle.tq_tables.specs.Journals.{IsOfTree, ViewEntry, AreJournals}
 use Rattle.tq_tables.specs.Parts.{AreLegalServers}
@@ -53,37 +45,6 @@ pub desk_legal : (s : DeskView) (entries : List DeskEntry) → IsLegalFrom (λ (
 desk_legal s entries legal =
     let bounds : DeskBounds = record { levels = s.levels; limits = s.limits } in
     (bounds, legal-reverse step_reply step_after (opened bounds) entries legal)
-
--- ---- the view
-
-cost_of_tree : (levels : ℕ) (there good : Bool) → IsOfTree levels (cond there (cond good CostSet (Refused BadCost)) (Refused NoSuchServer))
-cost_of_tree levels true true = tt
-cost_of_tree levels true false = tt
-cost_of_tree levels false good = tt
-
-mark_of_tree : (levels : ℕ) (there : Bool) → IsOfTree levels (cond there Marked (Refused NoSuchServer))
-mark_of_tree levels true = tt
-mark_of_tree levels false = tt
-
-choice_of_tree : (live : Live) (least : Option (List ℕ)) → IsOfTree live.levels (choice_reply live Read least)
-choice_of_tree live None = refl
-choice_of_tree live (Some servers) = refl
-
-reply_of_tree : (live : Live) (ask : ViewAsk) → IsOfTree live.levels (view_reply live ask)
-reply_of_tree live (SetCost server cost) = cost_of_tree live.levels (is_server live.levels server) (is_cost cost)
-reply_of_tree live (Mark server up) = mark_of_tree live.levels (is_server live.levels server)
-reply_of_tree live Choose = choice_of_tree live (best live Read 1)
-
-from_tree : (levels : ℕ) (live : Live) (n : ℕ) (entries : List ViewEntry) → live.levels ≡ levels → IsLegalFrom view_reply_at view_after_at live n entries
-    → All (λ (entry : ViewEntry). IsOfTree levels entry.reply) entries
-from_tree levels live n [] same legal = All-nil (λ (entry : ViewEntry). IsOfTree levels entry.reply)
-from_tree levels live n (e ∷ entries) same legal =
-    All-cons (λ (entry : ViewEntry). IsOfTree levels entry.reply) e entries
-    (subst (λ (l : ℕ). IsOfTree l e.reply) same (subst (IsOfTree live.levels) (sym legal.0) (reply_of_tree live e.ask)))
-    (from_tree levels (view_after_at live n e.ask) (n + 1) entries (keeps_levels live e.ask ∙ same) legal.1)
-
-pub view_of_tree : (levels : ℕ) (entries : List ViewEntry) → IsLegalView levels entries → All (λ (entry : ViewEntry). IsOfTree levels entry.reply) entries
-view_of_tree levels entries legal = from_tree levels (view_state levels []) 1 entries refl legal
 
 -- ---- journals put together
 

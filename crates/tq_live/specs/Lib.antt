@@ -18,3 +18,4 @@ pub mod LiveOf
 pub mod Collected
 pub mod ViewChanges
 pub mod ViewLaws
+pub mod ViewTree

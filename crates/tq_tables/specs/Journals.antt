@@ -1,12 +1,11 @@
 -- The journals of a system, one for each part.
-use Rattle.std.specs.Prelude.{◌≡◌, ◌≤◌, ◌+◌, ◌^◌, ℕ, List, [], ◌∷◌, ◌++◌, length, ⊤}
+use Rattle.std.specs.Prelude.{◌≡◌, ◌≤◌, ◌+◌, ◌^◌, ℕ, List, [], ◌∷◌, ◌++◌, length}
 use Rattle.std.specs.List.{All}
 use Rattle.tq_shape.specs.Limits.{LimitsView}
 use Rattle.tq_shape.specs.declared.entry.Entry.{Entry}
 use Rattle.tq_live.specs.declared.view.ViewAsk.{ViewAsk}
 use Rattle.tq_live.specs.declared.view.ViewReply.{ViewReply}
-use Rattle.tq_live.specs.declared.view.ViewReply.TheVariants.{Chosen, Refused}
-use Rattle.tq_live.specs.declared.view.ViewRefusal.TheVariants.{Blocked}
+pub use Rattle.tq_live.specs.ViewTree.{IsOfTree}
 use Rattle.tq_node.specs.NodeJournal.{NodeEntry}
 use Rattle.tq_desk.specs.DeskJournal.{DeskEntry}
 
@@ -22,12 +21,6 @@ pub record JournalsView : Type 0 where
   pub servers : List (List NodeEntry)
   pub desk : List DeskEntry
   pub view : List ViewEntry
-
--- the reply names no quorum and no blocker of a tree of other levels
-abbrev pub IsOfTree : ℕ → ViewReply → Type 0
-IsOfTree levels (Chosen quorum cost) = quorum.levels ≡ levels
-IsOfTree levels (Refused (Blocked blocker)) = blocker.levels ≡ levels
-IsOfTree levels other = ⊤
 
 -- there is one journal for each server, none has more entries than the limit, and each quorum and blocker is of the tree
 pub record AreJournals (journals : JournalsView) : Type 0 where
