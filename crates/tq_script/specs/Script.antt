@@ -126,10 +126,10 @@ in_open line (Some txn) = line txn
 
 -- a line, and the transaction that it leaves open
 abbrev pub line_asked : ℕ → LimitsView → Line → Option OpenView → Dialogue (Option OpenView)
-line_asked levels limits (is.Cost server cost) txn = leaving txn (view_asked (view_asks.SetCost server cost))
+line_asked levels limits (is.Cost server read write) txn = leaving txn (view_asked (view_asks.SetCost server read write))
 line_asked levels limits (is.Down server) txn = leaving txn (mark_asked levels server false)
 line_asked levels limits (is.Up server) txn = leaving txn (mark_asked levels server true)
-line_asked levels limits is.Choose txn = leaving txn (view_asked view_asks.Choose)
+line_asked levels limits (is.Choose purpose) txn = leaving txn (view_asked (view_asks.Choose purpose))
 line_asked levels limits is.Begin txn = begin_asked levels limits txn
 line_asked levels limits (is.Read file) txn = in_open (read_asked file) txn
 line_asked levels limits (is.Write file content) txn = in_open (write_asked file content) txn

@@ -49,16 +49,24 @@ fn run_line<A: Asker>(
     ensures tree { A.levels asker.new ≡ A.levels asker.old }
 {
     match line {
-        Line::Cost { server, cost } => {
+        Line::Cost {
+            server,
+            read,
+            write,
+        } => {
             let ask = ViewAsk::SetCost {
                 server: *server,
-                cost: *cost,
+                read: *read,
+                write: *write,
             };
             view_beside(asker, alloc, open_txn, ask)
         }
         Line::Down { server } => mark_beside(asker, alloc, levels, open_txn, *server, false),
         Line::Up { server } => mark_beside(asker, alloc, levels, open_txn, *server, true),
-        Line::Choose => view_beside(asker, alloc, open_txn, ViewAsk::Choose),
+        Line::Choose { purpose } => {
+            let ask = ViewAsk::Choose { purpose: *purpose };
+            view_beside(asker, alloc, open_txn, ask)
+        }
         Line::Begin => begin(asker, alloc, levels, limits, open_txn),
         Line::Read { file } => read(asker, alloc, open_txn, file),
         Line::Write { file, content } => write(asker, alloc, open_txn, file, content),

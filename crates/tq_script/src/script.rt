@@ -1,19 +1,20 @@
 ghost use Rattle.std.specs.Prelude.{◌≡◌};
 
 use std::marker::Model;
+use tq_live::Purpose;
 use tq_store::{Content, FileName};
 
 /// A line of a client's script. Those of a transaction concern the one that the client has open.
 #[derive(Drop)]
 pub enum Line {
-    /// The view notes what a server costs.
-    Cost { server: u64, cost: u64 },
+    /// The view notes what a server costs in a quorum that is read from, and in one that is written to.
+    Cost { server: u64, read: u64, write: u64 },
     /// A server crashes, and is marked down.
     Down { server: u64 },
     /// A server returns, and is marked up.
     Up { server: u64 },
-    /// The view chooses a quorum.
-    Choose,
+    /// The view chooses a quorum for the purpose.
+    Choose { purpose: Purpose },
     /// A transaction begins. One that is open is aborted first.
     Begin,
     Read { file: FileName },
