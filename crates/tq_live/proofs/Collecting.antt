@@ -68,6 +68,11 @@ with-swap one other set =
           ]
     ]
 
+-- one put in before the others is one put in behind them
+pub with_all-after : (number : ℕ) (servers set : List ℕ) → with_all servers (with_number number set) ≡ with_number number (with_all servers set)
+with_all-after number [] set = refl
+with_all-after number (first ∷ rest) set = ap (with_number first) (with_all-after number rest set) ∙ with-swap first number (with_all rest set)
+
 -- one more in its place is one more put in
 with_all-with_server : (server : ℕ) (servers set : List ℕ) → with_all (with_server server servers) set ≡ with_number server (with_all servers set)
 with_all-with_server server [] set = refl

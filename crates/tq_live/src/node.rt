@@ -147,12 +147,12 @@ impl Node {
             Below::Nothing => put(set, number),
             Below::Over(sides) => match form {
                 Form::WithLeft => {
-                    sides.left.gather(sought, 2 * number, set);
                     put(set, number);
+                    sides.left.gather(sought, 2 * number, set);
                 }
                 Form::WithRight => {
-                    sides.right.gather(sought, 2 * number + 1, set);
                     put(set, number);
+                    sides.right.gather(sought, 2 * number + 1, set);
                 }
                 Form::BothSides => {
                     sides.right.gather(sought, 2 * number + 1, set);
