@@ -51,19 +51,23 @@ pub(crate) fn push_writes(text: &mut String, writes: &[FileVersion]) -> Result<(
     Ok(())
 }
 
-/// Puts a space and a number behind the text, digit by digit where it has at most two, as that of a server mostly has.
+/// Puts a space and a number behind the text.
 fn push_spaced(text: &mut String, number: u64) -> Result<(), Memory>
     ensures { OnOk result (string_bytes text.new ≡ string_bytes text.old ++ 32 ∷ decimal number) }
 {
     text.push(' ')?;
+    push_digits(text, number)
+}
+
+/// Puts the digits of a number behind the text.
+fn push_digits(text: &mut String, number: u64) -> Result<(), Memory>
+    ensures { OnOk result (string_bytes text.new ≡ string_bytes text.old ++ decimal number) }
+{
     if number < 10 {
         return text.push(digit(number));
     }
-    if number < 100 {
-        text.push(digit(number / 10))?;
-        return text.push(digit(number % 10));
-    }
-    write!(text, "{number}")
+    push_digits(text, number / 10)?;
+    text.push(digit(number % 10))
 }
 
 /// The character of a digit.
