@@ -23,6 +23,11 @@ part_text (Server number) = codes "server " ++ decimal number
 part_text Desk = codes "desk"
 part_text View = codes "view"
 
+-- how a transaction ended, which was to go on
+abbrev pub ended_text : Bool → List ℕ
+ended_text true = codes "decided commit"
+ended_text false = codes "decided abort"
+
 -- how a transaction ended
 abbrev pub decided_text : Verdict → List ℕ
 decided_text Abort = codes "decided abort"
@@ -71,6 +76,7 @@ fault_text servers (faults.Unfounded part number) = codes "unfounded " ++ part_t
 fault_text servers (faults.Txn fault) = txn_fault_text servers fault
 fault_text servers (faults.Server server refusal) = server_refusal_text server refusal
 fault_text servers (faults.Desk refusal) = desk_refusal_text refusal
+fault_text servers (faults.Ended committed) = ended_text committed
 fault_text servers (faults.View refusal) = view_refusal_text refusal
 fault_text servers (faults.WrongReply part) = codes "bad answer"
 

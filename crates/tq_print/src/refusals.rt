@@ -88,6 +88,17 @@ fn push_server_refusal(text: &mut Vec<u8>, server: u64, refusal: NodeRefusal) ->
     Ok(())
 }
 
+/// Puts behind the text how a transaction ended that was to go on.
+fn push_ended(text: &mut Vec<u8>, committed: bool) -> Result<(), Memory>
+    ensures { OnOk result (text.new.items ≡ text.old.items ++ spec.ended_text committed) }
+{
+    match committed {
+        true => text.extend_from_slice(b"decided commit")?,
+        false => text.extend_from_slice(b"decided abort")?,
+    }
+    Ok(())
+}
+
 /// Puts a desk's refusal behind the text.
 pub fn push_desk_refusal(text: &mut Vec<u8>, refusal: &DeskRefusal) -> Result<(), Memory>
     ensures { OnOk result (text.new.items ≡ text.old.items ++ spec.desk_refusal_text refusal.now) }
@@ -183,6 +194,7 @@ pub fn say_fault(text: &mut Vec<u8>, servers: &[u64], fault: LineFault) -> Resul
         LineFault::Txn(fault) => push_txn_fault(text, servers, fault)?,
         LineFault::Server { server, refusal } => push_server_refusal(text, server, refusal)?,
         LineFault::Desk(refusal) => push_desk_refusal(text, &refusal)?,
+        LineFault::Ended { committed } => push_ended(text, committed)?,
         LineFault::View(refusal) => push_view_refusal(text, &refusal)?,
         LineFault::WrongReply { .. } => text.extend_from_slice(b"bad answer")?,
     }

@@ -122,9 +122,9 @@ follows gathering next line.Empty few may = empty_may gathering next few may
 follows gathering next line.Bad few may = absurd cc
 follows gathering next line.Client few may =
     client_may gathering.ended gathering.going next (nat_lt (length (scripts_so_far gathering)) 16) (λ fits. grind (arith, fits)) may
-follows gathering next (line.Cost server cost) few may = said_may gathering.ended gathering.going next (line.Cost server cost) (says.Cost server cost) refl (λ clients. refl) few may
+follows gathering next (line.Cost server read write) few may = said_may gathering.ended gathering.going next (line.Cost server read write) (says.Cost server read write) refl (λ clients. refl) few may
 follows gathering next (line.Mark server up) few may = said_may gathering.ended gathering.going next (line.Mark server up) (mark_of server up) refl (mark_is server up) few may
-follows gathering next line.Choose few may = said_may gathering.ended gathering.going next line.Choose says.Choose refl (λ clients. refl) few may
+follows gathering next (line.Choose purpose) few may = said_may gathering.ended gathering.going next (line.Choose purpose) (says.Choose purpose) refl (λ clients. refl) few may
 follows gathering next line.Begin few may = said_may gathering.ended gathering.going next line.Begin says.Begin refl (λ clients. refl) few may
 follows gathering next (line.Read file) few may = said_may gathering.ended gathering.going next (line.Read file) (says.Read file) refl (λ clients. refl) few may
 follows gathering next (line.Write file content) few may = said_may gathering.ended gathering.going next (line.Write file content) (says.Write file content) refl (λ clients. refl) few may
@@ -152,9 +152,9 @@ refused gathering line.Empty not = absurd cc
 refused gathering line.Bad not = refl
 refused gathering line.Client not =
     client_not gathering (nat_lt (length (scripts_so_far gathering)) 16) (going (scripts_so_far gathering) []) (λ fits. grind (arith, fits)) not
-refused gathering (line.Cost server cost) not = said_not gathering.ended gathering.going (line.Cost server cost) (says.Cost server cost) refl (λ clients. refl) not
+refused gathering (line.Cost server read write) not = said_not gathering.ended gathering.going (line.Cost server read write) (says.Cost server read write) refl (λ clients. refl) not
 refused gathering (line.Mark server up) not = said_not gathering.ended gathering.going (line.Mark server up) (mark_of server up) refl (mark_is server up) not
-refused gathering line.Choose not = said_not gathering.ended gathering.going line.Choose says.Choose refl (λ clients. refl) not
+refused gathering (line.Choose purpose) not = said_not gathering.ended gathering.going (line.Choose purpose) (says.Choose purpose) refl (λ clients. refl) not
 refused gathering line.Begin not = said_not gathering.ended gathering.going line.Begin says.Begin refl (λ clients. refl) not
 refused gathering (line.Read file) not = said_not gathering.ended gathering.going (line.Read file) (says.Read file) refl (λ clients. refl) not
 refused gathering (line.Write file content) not = said_not gathering.ended gathering.going (line.Write file content) (says.Write file content) refl (λ clients. refl) not

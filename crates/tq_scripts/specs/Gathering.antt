@@ -43,9 +43,9 @@ abbrev pub gathered_with : Gathering → ClientLine → Option Gathering
 gathered_with gathering line.Empty = Some gathering
 gathered_with gathering line.Bad = None
 gathered_with gathering line.Client = next_client gathering
-gathered_with gathering (line.Cost server cost) = said_more gathering (says.Cost server cost)
+gathered_with gathering (line.Cost server read write) = said_more gathering (says.Cost server read write)
 gathered_with gathering (line.Mark server up) = said_more gathering (mark_of server up)
-gathered_with gathering line.Choose = said_more gathering says.Choose
+gathered_with gathering (line.Choose purpose) = said_more gathering (says.Choose purpose)
 gathered_with gathering line.Begin = said_more gathering says.Begin
 gathered_with gathering (line.Read file) = said_more gathering (says.Read file)
 gathered_with gathering (line.Write file content) = said_more gathering (says.Write file content)

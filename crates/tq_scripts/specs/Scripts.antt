@@ -15,9 +15,9 @@ use Rattle.tq_scripts.specs.declared.fault.ScriptFault.TheVariants.{Memory, Bad}
 
 -- what a line says to the client whose script it stands in. An empty one says nothing, nor does one that is no line of a client
 abbrev pub said_by : ClientLine → List Line
-said_by (line.Cost server cost) = says.Cost server cost ∷ []
+said_by (line.Cost server read write) = says.Cost server read write ∷ []
 said_by (line.Mark server up) = mark_of server up ∷ []
-said_by line.Choose = says.Choose ∷ []
+said_by (line.Choose purpose) = says.Choose purpose ∷ []
 said_by line.Begin = says.Begin ∷ []
 said_by (line.Read file) = says.Read file ∷ []
 said_by (line.Write file content) = says.Write file content ∷ []
