@@ -24,6 +24,8 @@ use Rattle.tq_asks.specs.declared.ask.Verdict.TheVariants as verdicts
 use Rattle.tq_asks.specs.declared.ask.WorkAsk.{WorkAsk}
 use Rattle.tq_asks.specs.declared.ask.WorkAsk.TheVariants as work
 use Rattle.tq_desk.specs.declared.ask.DeskAsk.TheVariants as desk_asks
+use Rattle.tq_desk.specs.declared.ask.DeskRefusal.{DeskRefusal}
+use Rattle.tq_desk.specs.declared.ask.DeskRefusal.TheVariants as desk_refusals
 use Rattle.tq_desk.specs.declared.ask.DeskReply.{DeskReply}
 use Rattle.tq_desk.specs.declared.ask.DeskReply.TheVariants as desk_replies
 use Rattle.tq_evidence.specs.declared.grant.Grant.{Grant}
@@ -47,12 +49,12 @@ use Rattle.tq_txn.specs.declared.fault.LineFault.TheVariants as faults
 use Rattle.tq_txn.specs.declared.reading.Reading.TheVariants.{Copy}
 use Rattle.tq_txn.specs.declared.txn.Txn.{Txn}
 use Rattle.tq_txn.specs.declared.txn.Txn.TheVariants as states
-use Rattle.tq_txn.specs.Dialogue.{done, failed, and_then, node_line}
+use Rattle.tq_txn.specs.Dialogue.{done, failed, and_then, node_line, fault_of_desk}
 use Rattle.tq_txn.specs.Lines.{LocksView, answers, chosen, choose_line, lock_ask, granted, lock_line, next_lock, locks_line, quorum_line, read_end, quorum_read, first_read, read_again, read_line, write_end, quorum_write, first_write, written_again, write_line, voted, first_prepare, prepare_line, any_line, is_nothing_here, release_line, end_line, ending_line, applied, apply_line, down_line, stop_line, first_prepare_stop, prepare_stop_line}
 use Rattle.tq_txn.specs.Commits.{prepares_line, committed, decided, ready_line, decide_line, commit_end, decide_and_end_line, commit_line}
 use Rattle.tq_txn.specs.Aborts.{resolved, end_aborted, abort_end, abort_line}
 use Rattle.tq_txn.specs.States.{number_of}
-use Rattle.tq_answering.specs.PossibleTxn.{IsOfOwn}
+use Rattle.tq_answering.specs.PossibleTxn.{IsOfOwn, IsPossible}
 use Rattle.tq_answering.proofs.Replies.{IsWorkReply, IsDeskReply, IsViewReply, refuse_all, refuse_for_all, or_else_all}
 use Rattle.tq_answering.proofs.EndsIn.{EndsIn, Answers, IsWell, Any, ends_and, ends_unless, ends_node, ends_desk, ends_view, any_ends}
 
@@ -331,9 +333,13 @@ ending_ends levels old (server ∷ servers) =
 
 -- ---- decide and commit
 
+desk_possible : (refusal : DeskRefusal) → IsPossible (fault_of_desk refusal)
+desk_possible (desk_refusals.Decided verdict) = tt
+desk_possible refusal = tt
+
 committed_well : (reply : DeskReply) (txn : ℕ) (ops : List Op) (votes : List Vote) (after : Txn) → IsDeskReply reply (desk_asks.Commit txn ops votes) → Answers Any (committed reply) after
 committed_well (desk_replies.Committed serial) txn ops votes after is = tt
-committed_well (desk_replies.Refused refusal) txn ops votes after is = tt
+committed_well (desk_replies.Refused refusal) txn ops votes after is = desk_possible refusal
 committed_well (desk_replies.Txn number) txn ops votes after is = absurd is
 committed_well (desk_replies.Verdict verdict) txn ops votes after is = absurd is
 
@@ -374,7 +380,7 @@ ended_by_abort levels (states.Voting voting) = tt
 abort_ends : (levels number : ℕ) (reply : DeskReply) (txn : Txn) → IsDeskReply reply (desk_asks.Resolve number) → EndsIn levels (IsWell Any) (abort_end reply txn)
 abort_ends levels number (desk_replies.Verdict verdicts.Abort) txn is = ended_by_abort levels txn
 abort_ends levels number (desk_replies.Verdict (verdicts.Commit votes)) txn is = tt
-abort_ends levels number (desk_replies.Refused refusal) txn is = tt
+abort_ends levels number (desk_replies.Refused refusal) txn is = desk_possible refusal
 abort_ends levels number (desk_replies.Txn begun) txn is = absurd is
 abort_ends levels number (desk_replies.Committed serial) txn is = absurd is
 

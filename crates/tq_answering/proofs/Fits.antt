@@ -1,6 +1,6 @@
 -- Texts that can come are none of those that cannot.
 use Rattle.std.specs.Prelude.{◌==◌}
-use Rattle.std.proofs.Common.{◌≡◌, ℕ, true, false, List, [], ◌∷◌, ◌++◌, Option, refl, sym, ap, subst, ◌∙◌, codes}
+use Rattle.std.proofs.Common.{◌≡◌, ℕ, Bool, true, false, List, [], ◌∷◌, ◌++◌, Option, refl, sym, ap, subst, ◌∙◌, codes}
 use Rattle.std.proofs.lemmas.Bool.{eq-eqb, false≢true}
 use Rattle.tq_shape.specs.declared.part.Part.{Part}
 use Rattle.tq_shape.specs.declared.part.Part.TheVariants as parts
@@ -24,7 +24,7 @@ use Rattle.tq_txn.specs.declared.fault.LineFault.TheVariants as faults
 use Rattle.tq_txn.specs.declared.reading.Reading.{Reading}
 use Rattle.tq_txn.specs.declared.reading.Reading.TheVariants as readings
 use Rattle.tq_print.specs.Print.{numbers_text, op_servers, bracketed, version_text, reading_text, applied_text, verdict_text}
-use Rattle.tq_print.specs.Refusals.{decided_text, server_refusal_text, desk_refusal_text, view_refusal_text, txn_fault_text, fault_text}
+use Rattle.tq_print.specs.Refusals.{ended_text, decided_text, server_refusal_text, desk_refusal_text, view_refusal_text, txn_fault_text, fault_text}
 use Rattle.tq_answering.specs.PossibleTxn.{IsOfWork, IsOfOwn, IsOfChoice, IsPossible, Saying, Reads, Writes, Votes, Commits, Aborts, Resolves, Applies, Closed, Undecided, Stops, OffTree, Fails, saying_text, CanCome, IsFit}
 
 -- ---- texts that differ at some place
@@ -93,6 +93,10 @@ fit_desk desk.TooManyOps = fit (desk_refusal_text desk.TooManyOps) refl refl ref
 fit_desk (desk.BadEvidence rule) = fit (desk_refusal_text (desk.BadEvidence rule)) refl refl refl
 fit_desk desk.TooManyFiles = fit (desk_refusal_text desk.TooManyFiles) refl refl refl
 
+fit_ended : (committed : Bool) → IsFit (ended_text committed)
+fit_ended true = fit (ended_text true) refl refl refl
+fit_ended false = fit (ended_text false) refl refl refl
+
 fit_view : (refusal : ViewRefusal) → IsOfChoice refusal → IsFit (view_refusal_text refusal)
 fit_view (view.Blocked blocker) is = fit (view_refusal_text (view.Blocked blocker)) refl refl refl
 fit_view view.NoSuchServer is = absurd is
@@ -124,6 +128,7 @@ fit_fault servers (faults.Unfounded part number) is = fit_unfounded servers part
 fit_fault servers (faults.Txn fault) is = fit_own servers fault is
 fit_fault servers (faults.Server server refusal) is = fit_server server refusal is
 fit_fault servers (faults.Desk refusal) is = fit_desk refusal
+fit_fault servers (faults.Ended committed) is = fit_ended committed
 fit_fault servers (faults.View refusal) is = fit_view refusal is
 fit_fault servers (faults.WrongReply part) is = absurd is
 

@@ -50,6 +50,7 @@ IsPossible (faults.Unfounded part number) = Unit {0}
 IsPossible (faults.Txn fault) = IsOfOwn fault
 IsPossible (faults.Server server refusal) = IsOfWork refusal
 IsPossible (faults.Desk refusal) = Unit {0}
+IsPossible (faults.Ended committed) = Unit {0}
 IsPossible (faults.View refusal) = IsOfChoice refusal
 IsPossible (faults.WrongReply part) = ⊥
 
