@@ -4,3 +4,4 @@ pub mod Closes
 pub mod Pulls
 pub mod Clients
 pub mod Backwards
+pub mod Rounds

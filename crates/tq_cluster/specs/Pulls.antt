@@ -33,10 +33,13 @@ HasSeenAll prefixes caller = (part : Part) → IsPartOf prefixes.levels part →
 abbrev pub HasSeenServers : JournalsView → CallerView → ℕ → Type 0
 HasSeenServers prefixes caller count = (number : ℕ) → 0 < number → number ≤ count → seen_of caller (parts.Server number) ≤ prefix_length prefixes (parts.Server number)
 
--- the greatest number that a caller was told of a part, once what was pulled of it went from the one to the other: that of the
--- last of the entries that came, or as before
+-- the number of the last entry that came of a part, where what was pulled of it went from the one to the other; 0 where none came
+abbrev pub last_come : JournalsView → JournalsView → Part → ℕ
+last_come old new part = last_behind (prefix_length old part) (prefix_length new part - prefix_length old part)
+
+-- the greatest number that a caller was told of the part then
 abbrev pub seen_then : JournalsView → JournalsView → CallerView → Part → ℕ
-seen_then old new caller part = max (seen_of caller part) (last_behind (prefix_length old part) (prefix_length new part - prefix_length old part))
+seen_then old new caller part = max (seen_of caller part) (last_come old new part)
 
 -- of each part the caller was told just of the entries that came onto the board
 abbrev pub SawWhatCame : JournalsView → JournalsView → CallerView → CallerView → Type 0

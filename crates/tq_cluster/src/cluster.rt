@@ -156,7 +156,8 @@ impl<G: Gate + Drop> Cluster<G> {
         ensures exchanges { caller.new.told ≡ caller.old.told ++ node_exchange server.number ask result }
         ensures same { IfOk result (λ t. (t.server ≡ server.number) × (t.ask ≡ ask)) }
         ensures reply { IfOk result (λ t. IsToldByServer t.number t.ask t.reply) }
-        ensures seen { IfOk result (λ t. seen_of caller.new (Part.Server server.number) ≡ max (seen_of caller.old (Part.Server server.number)) t.number) }
+        ensures seen { IfOk result (λ t. seen_of caller.new (Part.Server server.number)
+            ≡ max (seen_of caller.old (Part.Server server.number)) t.number) }
         ensures not_told { OnErr result (caller.new.seen ≡ caller.old.seen) }
         ensures fault { IfErr result (λ f. (f ≡ AskFault.Memory) ⊎ (f ≡ AskFault.JournalFull (Part.Server server.number))) }
         ensures others { caller.new.seen ≡ (having_seen caller.old (Part.Server server.number) (seen_of caller.new (Part.Server server.number))).seen }
@@ -185,7 +186,8 @@ impl<G: Gate + Drop> Cluster<G> {
         ensures exchanges { caller.new.told ≡ caller.old.told ++ desk_exchange ask result }
         ensures same { IfOk result (λ t. t.ask ≡ ask) }
         ensures reply { IfOk result (λ t. IsToldByDesk t.number t.ask t.reply) }
-        ensures seen { IfOk result (λ t. seen_of caller.new Part.Desk ≡ max (seen_of caller.old Part.Desk) t.number) }
+        ensures seen { IfOk result (λ t. seen_of caller.new Part.Desk
+            ≡ max (seen_of caller.old Part.Desk) t.number) }
         ensures not_told { OnErr result (caller.new.seen ≡ caller.old.seen) }
         ensures fault { IfErr result (λ f. (f ≡ AskFault.Memory) ⊎ (f ≡ AskFault.JournalFull Part.Desk)) }
         ensures others { caller.new.seen ≡ (having_seen caller.old Part.Desk (seen_of caller.new Part.Desk)).seen }
@@ -209,7 +211,8 @@ impl<G: Gate + Drop> Cluster<G> {
         ensures exchanges { caller.new.told ≡ caller.old.told ++ view_exchange ask result }
         ensures same { IfOk result (λ t. t.ask ≡ ask) }
         ensures reply { IfOk result (λ t. IsToldByView t.number t.ask t.reply) }
-        ensures seen { IfOk result (λ t. seen_of caller.new Part.View ≡ max (seen_of caller.old Part.View) t.number) }
+        ensures seen { IfOk result (λ t. seen_of caller.new Part.View
+            ≡ max (seen_of caller.old Part.View) t.number) }
         ensures not_told { OnErr result (caller.new.seen ≡ caller.old.seen) }
         ensures fault { IfErr result (λ f. (f ≡ AskFault.Memory) ⊎ (f ≡ AskFault.JournalFull Part.View)) }
         ensures others { caller.new.seen ≡ (having_seen caller.old Part.View (seen_of caller.new Part.View)).seen }

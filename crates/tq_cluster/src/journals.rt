@@ -49,7 +49,8 @@ fn server_journal(
 ) -> Vec<NodeEntry>
     ensures legal { IsLegalNode number (reverse result.items) }
     ensures fits { vec_len result ≤ entries }
-    ensures whole { journaled.part.server ≡ number → length journaled.journal ≤ entries → result.items ≡ journaled.journal }
+    ensures whole { journaled.part.server ≡ number → length journaled.journal ≤ entries
+        → result.items ≡ journaled.journal }
 {
     let there = journaled.part().server().number();
     let journal = journaled.into_entries();
@@ -73,7 +74,9 @@ pub(crate) fn desk_journal(
 ) -> Result<Vec<DeskEntry>, Memory>
     ensures legal { IfOk result (λ entries. IsLegalDesk (bounds_of levels limits) (reverse entries.items)) }
     ensures fits { IfOk result (λ entries. vec_len entries ≤ limits.entries) }
-    ensures whole { IsLegalDesk (bounds_of levels limits) (reverse journaled.journal) → length journaled.journal ≤ limits.entries → IfOk result (λ entries. entries.items ≡ journaled.journal) }
+    ensures whole { IsLegalDesk (bounds_of levels limits) (reverse journaled.journal)
+        → length journaled.journal ≤ limits.entries
+        → IfOk result (λ entries. entries.items ≡ journaled.journal) }
 {
     let journal = journaled.into_entries();
     if journal.len() > limits.entries() as usize {
@@ -95,7 +98,8 @@ pub(crate) fn view_journal(
     ensures legal { IsLegalView levels result.items }
     ensures of_tree { All (λ entry. IsOfTree levels entry.reply) result.items }
     ensures fits { vec_len result ≤ entries }
-    ensures whole { journaled.part.levels ≡ levels → length journaled.journal ≤ entries → result.items ≡ journaled.journal }
+    ensures whole { journaled.part.levels ≡ levels → length journaled.journal ≤ entries
+        → result.items ≡ journaled.journal }
 {
     let there = journaled.part().tree().levels();
     let journal = journaled.into_entries();

@@ -4,8 +4,7 @@ ghost use Rattle.tq_tables.specs.Parts.{AreLegal};
 ghost use Rattle.tq_tables.specs.Tables.{tables_of};
 ghost use Rattle.tq_prefixes.specs.Prefixes.{IsPartOf, IsPullFault, grown, nothing_pulled, prefix_length, server_prefix};
 ghost use Rattle.tq_cluster.specs.Told.{SeesOn, having_seen, seen_of};
-ghost use Rattle.tq_cells.specs.Passes.{last_behind};
-ghost use Rattle.tq_cluster.specs.Pulls.{Continues, EndedAt, HasSeenAll, HasSeenServers, SawWhatCame, seen_then};
+ghost use Rattle.tq_cluster.specs.Pulls.{Continues, EndedAt, HasSeenAll, HasSeenServers, SawWhatCame, last_come, seen_then};
 
 use crate::caller::Caller;
 use crate::cluster::Cluster;
@@ -211,7 +210,7 @@ fn pull_server<R: Wait>(
     ensures seen { OnOk result (pass.new.seen ≤ prefix_length prefixes.new (Part.Server number)) }
     ensures err { OnErr result (prefixes.new ≡ prefixes.old) }
     ensures fault { IfErr result (λ fault. (more : Entries) × IsPullFault prefixes.old (Part.Server number) more pass.new.seen fault) }
-    ensures saw { pass.new.seen ≡ max pass.old.seen (last_behind (prefix_length prefixes.old (Part.Server number)) (prefix_length prefixes.new (Part.Server number) - prefix_length prefixes.old (Part.Server number))) }
+    ensures saw { pass.new.seen ≡ max pass.old.seen (last_come prefixes.old prefixes.new (Part.Server number)) }
 {
     let known = prefixes.server(number).len() as u64;
     let mut fresh = cell.pass(alloc);
@@ -238,7 +237,7 @@ fn pull_desk<R: Wait>(
     ensures seen { OnOk result (pass.new.seen ≤ prefix_length prefixes.new Part.Desk) }
     ensures err { OnErr result (prefixes.new ≡ prefixes.old) }
     ensures fault { IfErr result (λ fault. (more : Entries) × IsPullFault prefixes.old Part.Desk more pass.new.seen fault) }
-    ensures saw { pass.new.seen ≡ max pass.old.seen (last_behind (prefix_length prefixes.old Part.Desk) (prefix_length prefixes.new Part.Desk - prefix_length prefixes.old Part.Desk)) }
+    ensures saw { pass.new.seen ≡ max pass.old.seen (last_come prefixes.old prefixes.new Part.Desk) }
 {
     let known = prefixes.desk().len() as u64;
     let mut fresh = cell.pass(alloc);
@@ -265,7 +264,7 @@ fn pull_view<R: Wait>(
     ensures seen { OnOk result (view_pass.new.seen ≤ prefix_length prefixes.new Part.View) }
     ensures err { OnErr result (prefixes.new ≡ prefixes.old) }
     ensures fault { IfErr result (λ fault. (more : Entries) × IsPullFault prefixes.old Part.View more view_pass.new.seen fault) }
-    ensures saw { view_pass.new.seen ≡ max view_pass.old.seen (last_behind (prefix_length prefixes.old Part.View) (prefix_length prefixes.new Part.View - prefix_length prefixes.old Part.View)) }
+    ensures saw { view_pass.new.seen ≡ max view_pass.old.seen (last_come prefixes.old prefixes.new Part.View) }
 {
     let known = prefixes.view().len() as u64;
     let mut fresh = cell.pass(alloc);

@@ -1,10 +1,9 @@
-ghost use Rattle.std.specs.Prelude.{◌≡◌, ◌≤◌, ◌<◌, ◌+◌, ℕ, [], ◌∷◌, ◌++◌, List, false, map, vec_len, vec_capacity};
+ghost use Rattle.std.specs.Prelude.{◌≡◌, ◌≤◌, ◌<◌, ◌+◌, ℕ, [], ◌∷◌, ◌++◌, List, false, vec_len, vec_capacity};
 ghost use Rattle.std.specs.Bool.{OnTrue};
 ghost use Rattle.crossbeam_channel.specs.Claims.{view};
 ghost use Rattle.crossbeam_channel.specs.Ends.{sends_on};
 ghost use Rattle.tq_cluster.specs.declared.workers.Message.{Message};
-ghost use Rattle.tq_refresh.specs.Plan.{plan_of};
-ghost use Rattle.tq_tables.specs.Tables.{tables_of};
+ghost use Rattle.tq_cluster.specs.Rounds.{planned_on, with_jobs};
 ghost use Rattle.tq_cluster.specs.Told.{CallerView};
 ghost use Rattle.tq_cluster.specs.Backwards.{WorkBackwards};
 
@@ -34,7 +33,7 @@ pub(crate) enum Round {
 
 /// Puts the jobs, in their order. False where the queue took one of them no more: the first of them were put then.
 fn put_jobs<R: Wait>(rt: &R, putter: &mut Putter<Message>, jobs: &[Job]) -> bool
-    ensures put { OnTrue result ((view putter.new.pass).put ≡ (view putter.old.pass).put ++ map (λ job. Message.Job job) jobs.now) }
+    ensures put { OnTrue result ((view putter.new.pass).put ≡ with_jobs (view putter.old.pass).put jobs.now) }
     ensures channel { sends_on putter.new.sender ≡ sends_on putter.old.sender }
     ensures parts { (view putter.new.pass).parts ≡ (view putter.old.pass).parts }
     ensures taken { (view putter.new.pass).taken ≡ (view putter.old.pass).taken }
@@ -55,7 +54,8 @@ fn put_plan<R: Wait>(
     workers: u32,
     putter: &mut Putter<Message>,
 ) -> Round
-    ensures put { result ≡ Round.Put → 0 < workers → (view putter.new.pass).put ≡ (view putter.old.pass).put ++ map (λ job. Message.Job job) (plan_of (tables_of board.now) (tables_of board.now).view) }
+    ensures put { result ≡ Round.Put → 0 < workers
+        → (view putter.new.pass).put ≡ with_jobs (view putter.old.pass).put (planned_on board.now) }
     ensures channel { sends_on putter.new.sender ≡ sends_on putter.old.sender }
     ensures parts { (view putter.new.pass).parts ≡ (view putter.old.pass).parts }
     ensures taken { (view putter.new.pass).taken ≡ (view putter.old.pass).taken }
@@ -99,7 +99,8 @@ fn run_round<R: Wait, G: Gate + Drop>(
     requires caller { caller.old.levels ≡ cluster.now.levels }
     requires levels { board.old.levels ≡ cluster.now.levels }
     requires limits { board.old.limits ≡ cluster.now.limits }
-    ensures put { result ≡ Round.Put → 0 < workers → (view putter.new.pass).put ≡ (view putter.old.pass).put ++ map (λ job. Message.Job job) (plan_of (tables_of board.new) (tables_of board.new).view) }
+    ensures put { result ≡ Round.Put → 0 < workers
+        → (view putter.new.pass).put ≡ with_jobs (view putter.old.pass).put (planned_on board.new) }
     ensures told { caller.new.told ≡ caller.old.told }
     ensures tree { caller.new.levels ≡ caller.old.levels }
     ensures levels { board.new.levels ≡ board.old.levels }
