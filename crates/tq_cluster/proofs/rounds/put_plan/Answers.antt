@@ -1,0 +1,13 @@
+use Rattle.std.proofs.Common.{◌∙◌, ap}
+use Rattle.crossbeam_channel.specs.Claims.{view}
+use Rattle.tq_refresh.specs.Plan.{plan_of}
+use Rattle.tq_tables.specs.Tables.{TablesView}
+use Rattle.tq_cluster.specs.Rounds.{with_jobs}
+use Rattle.tq_cluster.proofs.rounds.put_plan.Goals as goal
+
+pub returns-then-put_jobs-clause-put : goal.returns-then-put_jobs-clause-put
+returns-then-put_jobs-clause-put g c = λ is some.
+    let over = c.tables-tables.ensures.value in
+    let shown = c.view.ensures.value ∙ ap (λ (t : TablesView). t.view) over in
+    c.if-put_jobs.ensures.put
+    ∙ ap (with_jobs (view c.args.putter.now.pass).put) (c.as_slice.ensures.value ∙ c.in-Ok.ensures.value ∙ (λ i. plan_of (over i) (shown i)))
