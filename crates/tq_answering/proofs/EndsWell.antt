@@ -34,6 +34,7 @@ use Rattle.tq_evidence.specs.declared.op.OpKind.{OpKind}
 use Rattle.tq_evidence.specs.declared.op.OpKind.TheVariants as kinds
 use Rattle.tq_evidence.specs.declared.vote.Vote.{Vote}
 use Rattle.tq_evidence.specs.Evidence.{is_write, writes_file, granters, rises, has_server, is_server_of, is_write_of, has_writes, greatest}
+use Rattle.tq_live.specs.declared.purpose.Purpose.{Purpose}
 use Rattle.tq_live.specs.declared.view.ViewAsk.TheVariants as view_asks
 use Rattle.tq_live.specs.declared.view.ViewReply.{ViewReply}
 use Rattle.tq_live.specs.declared.view.ViewReply.TheVariants as view_replies
@@ -50,7 +51,7 @@ use Rattle.tq_txn.specs.declared.reading.Reading.TheVariants.{Copy}
 use Rattle.tq_txn.specs.declared.txn.Txn.{Txn}
 use Rattle.tq_txn.specs.declared.txn.Txn.TheVariants as states
 use Rattle.tq_txn.specs.Dialogue.{done, failed, and_then, node_line, fault_of_desk}
-use Rattle.tq_txn.specs.Lines.{LocksView, answers, chosen, choose_line, lock_ask, granted, lock_line, next_lock, locks_line, quorum_line, read_end, quorum_read, first_read, read_again, read_line, write_end, quorum_write, first_write, written_again, write_line, voted, first_prepare, prepare_line, any_line, is_nothing_here, release_line, end_line, ending_line, applied, apply_line, down_line, stop_line, first_prepare_stop, prepare_stop_line}
+use Rattle.tq_txn.specs.Lines.{LocksView, answers, chosen, choose_line, purpose_of, lock_ask, granted, lock_line, next_lock, locks_line, quorum_line, read_end, quorum_read, first_read, read_again, read_line, write_end, quorum_write, first_write, written_again, write_line, voted, first_prepare, prepare_line, any_line, is_nothing_here, release_line, end_line, ending_line, applied, apply_line, down_line, stop_line, first_prepare_stop, prepare_stop_line}
 use Rattle.tq_txn.specs.Commits.{prepares_line, committed, decided, ready_line, decide_line, commit_end, decide_and_end_line, commit_line}
 use Rattle.tq_txn.specs.Aborts.{resolved, end_aborted, abort_end, abort_line}
 use Rattle.tq_txn.specs.States.{number_of}
@@ -63,18 +64,18 @@ use Rattle.tq_answering.proofs.EndsIn.{EndsIn, Answers, IsWell, Any, ends_and, e
 abbrev IsChosen : ℕ → List ℕ → Unit {0} → Type 0
 IsChosen levels servers none = Contains (coterie levels) servers
 
-chosen_well : (levels : ℕ) (reply : ViewReply) → IsViewReply levels reply view_asks.Choose → Answers (IsChosen levels) (chosen levels reply) tt
-chosen_well levels (view_replies.Chosen quorum cost) is = rw (eq-eqb quorum.levels levels is.0) is.1
-chosen_well levels (view_replies.Refused (view_refusals.Blocked blocker)) is = tt
-chosen_well levels (view_replies.Refused view_refusals.NoSuchServer) is = is
-chosen_well levels (view_replies.Refused view_refusals.BadCost) is = is
-chosen_well levels view_replies.CostSet is = absurd is
-chosen_well levels view_replies.Marked is = absurd is
+chosen_well : (levels : ℕ) (purpose : Purpose) (reply : ViewReply) → IsViewReply levels reply (view_asks.Choose purpose) → Answers (IsChosen levels) (chosen levels reply) tt
+chosen_well levels purpose (view_replies.Chosen quorum cost) is = rw (eq-eqb quorum.levels levels is.0) is.1
+chosen_well levels purpose (view_replies.Refused (view_refusals.Blocked blocker)) is = tt
+chosen_well levels purpose (view_replies.Refused view_refusals.NoSuchServer) is = is
+chosen_well levels purpose (view_replies.Refused view_refusals.BadCost) is = is
+chosen_well levels purpose view_replies.CostSet is = absurd is
+chosen_well levels purpose view_replies.Marked is = absurd is
 
-choose_ends : (levels : ℕ) → EndsIn levels (IsWell (IsChosen levels)) (choose_line levels)
-choose_ends levels =
-    ends_view levels (IsChosen levels) view_asks.Choose (λ none. none) (λ told none. answers (chosen levels told.reply) none)
-    (λ number reply is. chosen_well levels reply is)
+choose_ends : (levels : ℕ) (purpose : Purpose) → EndsIn levels (IsWell (IsChosen levels)) (choose_line levels purpose)
+choose_ends levels purpose =
+    ends_view levels (IsChosen levels) (view_asks.Choose purpose) (λ none. none) (λ told none. answers (chosen levels told.reply) none)
+    (λ number reply is. chosen_well levels purpose reply is)
 
 -- ---- locks
 
@@ -152,9 +153,9 @@ IsQuorumTold start file mode told now = (servers : List ℕ) × Contains (coteri
 
 quorum_ends : (old : OpenView) (file : List ℕ) (mode : Mode) → EndsIn old.levels (IsWell (IsQuorumTold old file mode)) (quorum_line file mode old)
 quorum_ends old file mode =
-    ends_and old.levels (IsChosen old.levels) (IsQuorumTold old file mode) (choose_line old.levels) (λ none. old)
+    ends_and old.levels (IsChosen old.levels) (IsQuorumTold old file mode) (choose_line old.levels (purpose_of mode)) (λ none. old)
     (λ servers none. and_then (locks_line file mode servers (record { answers = []; txn = old })) (λ new. new.txn) (λ all new. done new.answers new.txn))
-    (choose_ends old.levels)
+    (choose_ends old.levels (purpose_of mode))
     (λ servers none member.
     ends_and old.levels (λ none new. IsLocked old file mode servers new) (IsQuorumTold old file mode) (locks_line file mode servers (record { answers = []; txn = old })) (λ new. new.txn) (λ all new. done new.answers new.txn)
     (locks_ends old.levels old file mode servers [] servers (record { answers = []; txn = old }) refl (record { one = record { levels = refl; txn = refl; ops = refl }; locks = tt }))

@@ -29,8 +29,8 @@ use Rattle.tq_evidence.specs.declared.grant.Grant.{Grant}
 use Rattle.tq_evidence.specs.declared.op.Op.{Op}
 use Rattle.tq_evidence.specs.declared.vote.Vote.{Vote}
 use Rattle.tq_live.specs.Live.{Live, cost_of, is_up, best}
-use Rattle.tq_live.specs.View.{is_server, is_cost, choice_reply, view_reply}
-use Rattle.tq_live.specs.declared.purpose.Purpose.TheVariants as purposes
+use Rattle.tq_live.specs.View.{is_server, are_costs, choice_reply, view_reply}
+use Rattle.tq_live.specs.declared.purpose.Purpose.{Purpose}
 use Rattle.tq_live.specs.declared.view.ViewAsk.{ViewAsk}
 use Rattle.tq_live.specs.declared.view.ViewAsk.TheVariants as view_asks
 use Rattle.tq_live.specs.declared.view.ViewReply.{ViewReply}
@@ -218,36 +218,36 @@ desk_replies_so old (desk_asks.Resolve txn) = desk_answered (desk_refusal old (d
 
 -- ---- the view
 
--- a quorum is one of the tree; a server or a cost is refused only where it is bad
+-- a quorum is one of the tree; a server or costs are refused only where they are bad
 abbrev pub IsViewReply : ℕ → ViewReply → ViewAsk → Type 0
-IsViewReply levels view_replies.CostSet (view_asks.SetCost server cost) = Unit {0}
-IsViewReply levels (view_replies.Refused view_refusals.BadCost) (view_asks.SetCost server cost) = is_cost cost ≡ false
-IsViewReply levels (view_replies.Refused view_refusals.NoSuchServer) (view_asks.SetCost server cost) = is_server levels server ≡ false
+IsViewReply levels view_replies.CostSet (view_asks.SetCost server read write) = Unit {0}
+IsViewReply levels (view_replies.Refused view_refusals.BadCost) (view_asks.SetCost server read write) = are_costs read write ≡ false
+IsViewReply levels (view_replies.Refused view_refusals.NoSuchServer) (view_asks.SetCost server read write) = is_server levels server ≡ false
 IsViewReply levels view_replies.Marked (view_asks.Mark server up) = Unit {0}
 IsViewReply levels (view_replies.Refused view_refusals.NoSuchServer) (view_asks.Mark server up) = is_server levels server ≡ false
-IsViewReply levels (view_replies.Chosen quorum cost) view_asks.Choose = (quorum.levels ≡ levels) × Contains (coterie levels) quorum.servers
-IsViewReply levels (view_replies.Refused (view_refusals.Blocked blocker)) view_asks.Choose = Unit {0}
+IsViewReply levels (view_replies.Chosen quorum cost) (view_asks.Choose purpose) = (quorum.levels ≡ levels) × Contains (coterie levels) quorum.servers
+IsViewReply levels (view_replies.Refused (view_refusals.Blocked blocker)) (view_asks.Choose purpose) = Unit {0}
 IsViewReply levels reply ask = ⊥
 
-cost_replied : (levels server cost : ℕ) (there good : Bool) → is_server levels server ≡ there → is_cost cost ≡ good
-    → IsViewReply levels (cond there (cond good view_replies.CostSet (view_replies.Refused view_refusals.BadCost)) (view_replies.Refused view_refusals.NoSuchServer)) (view_asks.SetCost server cost)
-cost_replied levels server cost true true p q = tt
-cost_replied levels server cost true false p q = q
-cost_replied levels server cost false good p q = p
+cost_replied : (levels server read write : ℕ) (there good : Bool) → is_server levels server ≡ there → are_costs read write ≡ good
+    → IsViewReply levels (cond there (cond good view_replies.CostSet (view_replies.Refused view_refusals.BadCost)) (view_replies.Refused view_refusals.NoSuchServer)) (view_asks.SetCost server read write)
+cost_replied levels server read write true true p q = tt
+cost_replied levels server read write true false p q = q
+cost_replied levels server read write false good p q = p
 
 mark_replied : (levels server : ℕ) (up there : Bool) → is_server levels server ≡ there
     → IsViewReply levels (cond there view_replies.Marked (view_replies.Refused view_refusals.NoSuchServer)) (view_asks.Mark server up)
 mark_replied levels server up true p = tt
 mark_replied levels server up false p = p
 
-choice_replied : (live : Live) (o : Option (List ℕ)) → best live purposes.Read 1 ≡ o → IsViewReply live.levels (choice_reply live purposes.Read o) view_asks.Choose
-choice_replied live (Some servers) is = (refl, found_in_tree (cost_of live purposes.Read) (is_up live) live.levels servers is)
-choice_replied live None is = tt
+choice_replied : (live : Live) (purpose : Purpose) (o : Option (List ℕ)) → best live purpose 1 ≡ o → IsViewReply live.levels (choice_reply live purpose o) (view_asks.Choose purpose)
+choice_replied live purpose (Some servers) is = (refl, found_in_tree (cost_of live purpose) (is_up live) live.levels servers is)
+choice_replied live purpose None is = tt
 
 view_replies_so : (live : Live) (ask : ViewAsk) → IsViewReply live.levels (view_reply live ask) ask
-view_replies_so live (view_asks.SetCost server cost) = cost_replied live.levels server cost (is_server live.levels server) (is_cost cost) refl refl
+view_replies_so live (view_asks.SetCost server read write) = cost_replied live.levels server read write (is_server live.levels server) (are_costs read write) refl refl
 view_replies_so live (view_asks.Mark server up) = mark_replied live.levels server up (is_server live.levels server) refl
-view_replies_so live view_asks.Choose = choice_replied live (best live purposes.Read 1) refl
+view_replies_so live (view_asks.Choose purpose) = choice_replied live purpose (best live purpose 1) refl
 
 -- ---- in any world
 

@@ -10,6 +10,7 @@ use Rattle.tq_desk.specs.declared.ask.DeskAsk.TheVariants as desk_asks
 use Rattle.tq_desk.specs.declared.ask.DeskReply.{DeskReply}
 use Rattle.tq_desk.specs.declared.ask.DeskReply.TheVariants as desk_replies
 use Rattle.tq_live.specs.View.{is_server, is_cost}
+use Rattle.tq_live.specs.declared.purpose.Purpose.{Purpose}
 use Rattle.tq_live.specs.declared.view.ViewAsk.TheVariants as view_asks
 use Rattle.tq_live.specs.declared.view.ViewReply.{ViewReply}
 use Rattle.tq_live.specs.declared.view.ViewReply.TheVariants as view_replies
@@ -54,25 +55,25 @@ shown_by {A} {S} P text step known end well = by end.answer end.after well
 
 -- ---- the lines of the parts
 
-chosen_says : (levels : ℕ) (reply : ViewReply) → IsViewReply levels reply view_asks.Choose → (saying : Saying) × CanCome saying × (choice_text reply ≡ saying_text saying)
-chosen_says levels (view_replies.Chosen quorum cost) is = (Chosen quorum.servers cost, tt, refl)
-chosen_says levels (view_replies.Refused (view_refusals.Blocked blocker)) is = (OfTxn (Fails [] (faults.View (view_refusals.Blocked blocker))), tt, refl)
-chosen_says levels (view_replies.Refused view_refusals.NoSuchServer) is = absurd is
-chosen_says levels (view_replies.Refused view_refusals.BadCost) is = absurd is
-chosen_says levels view_replies.CostSet is = absurd is
-chosen_says levels view_replies.Marked is = absurd is
+chosen_says : (levels : ℕ) (purpose : Purpose) (reply : ViewReply) → IsViewReply levels reply (view_asks.Choose purpose) → (saying : Saying) × CanCome saying × (choice_text reply ≡ saying_text saying)
+chosen_says levels purpose (view_replies.Chosen quorum cost) is = (Chosen quorum.servers cost, tt, refl)
+chosen_says levels purpose (view_replies.Refused (view_refusals.Blocked blocker)) is = (OfTxn (Fails [] (faults.View (view_refusals.Blocked blocker))), tt, refl)
+chosen_says levels purpose (view_replies.Refused view_refusals.NoSuchServer) is = absurd is
+chosen_says levels purpose (view_replies.Refused view_refusals.BadCost) is = absurd is
+chosen_says levels purpose view_replies.CostSet is = absurd is
+chosen_says levels purpose view_replies.Marked is = absurd is
 
-choose_says : (levels : ℕ) (known : Known) → EndsIn levels Shows (choose_asked known)
-choose_says levels known =
-    ends_then levels (IsWell (λ (told : ViewTold) none. IsViewReply levels told.reply view_asks.Choose)) Shows (view_line view_asks.Choose)
-    (λ end. Ends (record { text = printed (result_text [] chosen_text end.answer); known = known })) (view_ends levels view_asks.Choose)
-    (shown_by (λ (told : ViewTold) none. IsViewReply levels told.reply view_asks.Choose) chosen_text (λ told none so. chosen_says levels told.reply so) known)
+choose_says : (levels : ℕ) (purpose : Purpose) (known : Known) → EndsIn levels Shows (choose_asked known purpose)
+choose_says levels purpose known =
+    ends_then levels (IsWell (λ (told : ViewTold) none. IsViewReply levels told.reply (view_asks.Choose purpose))) Shows (view_line (view_asks.Choose purpose))
+    (λ end. Ends (record { text = printed (result_text [] chosen_text end.answer); known = known })) (view_ends levels (view_asks.Choose purpose))
+    (shown_by (λ (told : ViewTold) none. IsViewReply levels told.reply (view_asks.Choose purpose)) chosen_text (λ told none so. chosen_says levels purpose told.reply so) known)
 
-cost_says : (levels server cost : ℕ) (known : Known) → EndsIn levels Shows (cost_asked known server cost)
-cost_says levels server cost known =
-    ends_then levels (IsWell (λ (told : ViewTold) none. IsViewReply levels told.reply (view_asks.SetCost server cost))) Shows (view_line (view_asks.SetCost server cost))
-    (λ end. Ends (record { text = printed (result_text [] ok_text end.answer); known = known })) (view_ends levels (view_asks.SetCost server cost))
-    (shown_by (λ (told : ViewTold) none. IsViewReply levels told.reply (view_asks.SetCost server cost)) ok_text (λ told none so. (CostSet, tt, refl)) known)
+cost_says : (levels server read write : ℕ) (known : Known) → EndsIn levels Shows (cost_asked known server read write)
+cost_says levels server read write known =
+    ends_then levels (IsWell (λ (told : ViewTold) none. IsViewReply levels told.reply (view_asks.SetCost server read write))) Shows (view_line (view_asks.SetCost server read write))
+    (λ end. Ends (record { text = printed (result_text [] ok_text end.answer); known = known })) (view_ends levels (view_asks.SetCost server read write))
+    (shown_by (λ (told : ViewTold) none. IsViewReply levels told.reply (view_asks.SetCost server read write)) ok_text (λ told none so. (CostSet, tt, refl)) known)
 
 mark_says : (levels server : ℕ) (up : Bool) (known : Known) → EndsIn levels Shows (mark_asked known server up)
 mark_says levels server up known =
@@ -156,17 +157,21 @@ said_of w of.Empty before after all is = is ∙ append-nil before
 said_of w of.Refresh before after all is = tt
 said_of w of.Board before after all is = tt
 said_of w of.Bad before after all is = said_as before after (record { text = printed (codes "bad line"); known = w.known }) is (BadLine, tt, refl)
-said_of w (of.Cost server cost) before after all is =
+said_of w (of.Cost server read write) before after all is =
     let levels = w.known.levels in
-    let line = cond (is_server levels server) (cond (is_cost cost) (cost_asked w.known server cost) (said w.known (codes "bad cost " ++ decimal cost))) (said w.known (codes "no such server " ++ decimal server)) in
+    let good = cond (is_cost write) (cost_asked w.known server read write) (said w.known (codes "bad cost " ++ decimal write)) in
+    let line = cond (is_server levels server) (cond (is_cost read) good (said w.known (codes "bad cost " ++ decimal read))) (said w.known (codes "no such server " ++ decimal server)) in
     said_as before after (run_line w.journals line).end is
     (ends_so Shows line w.journals
-    (if_server w.journals.levels (is_server levels server) server w.known _ (if_cost w.journals.levels (is_cost cost) cost w.known _ (cost_says w.journals.levels server cost w.known))))
+    (if_server w.journals.levels (is_server levels server) server w.known _
+    (if_cost w.journals.levels (is_cost read) read w.known _
+    (if_cost w.journals.levels (is_cost write) write w.known _ (cost_says w.journals.levels server read write w.known)))))
 said_of w (of.Mark server up) before after all is =
     let line = cond (is_server w.known.levels server) (mark_asked w.known server up) (said w.known (codes "no such server " ++ decimal server)) in
     said_as before after (run_line w.journals line).end is
     (ends_so Shows line w.journals (if_server w.journals.levels (is_server w.known.levels server) server w.known _ (mark_says w.journals.levels server up w.known)))
-said_of w of.Choose before after all is = said_as before after (run_line w.journals (choose_asked w.known)).end is (ends_so Shows (choose_asked w.known) w.journals (choose_says w.journals.levels w.known))
+said_of w (of.Choose purpose) before after all is =
+    said_as before after (run_line w.journals (choose_asked w.known purpose)).end is (ends_so Shows (choose_asked w.known purpose) w.journals (choose_says w.journals.levels purpose w.known))
 said_of w of.Begin before after all is = said_as before after (run_line w.journals (begin_asked w.known)).end is (ends_so Shows (begin_asked w.known) w.journals (begin_says w.journals.levels w.known))
 said_of w (of.Txn number line) before after all is =
     let asks = of_txn w.known number (item_at w.known.txns number) (line_asked w.known.levels line) in

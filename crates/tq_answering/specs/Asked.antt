@@ -8,6 +8,7 @@ use Rattle.tq_desk.specs.declared.ask.DeskAsk.TheVariants as desk_asks
 use Rattle.tq_desk.specs.declared.ask.DeskReply.{DeskReply}
 use Rattle.tq_desk.specs.declared.ask.DeskReply.TheVariants as desk_replies
 use Rattle.tq_live.specs.View.{is_server, is_cost}
+use Rattle.tq_live.specs.declared.purpose.Purpose.{Purpose}
 use Rattle.tq_live.specs.declared.view.ViewAsk.TheVariants as view_asks
 use Rattle.tq_tables.specs.Journals.{JournalsView}
 use Rattle.tq_world.specs.World.{item_at}
@@ -59,9 +60,9 @@ marked_text server up told = mark_word up ++ decimal server
 abbrev pub view_end : Known → (ViewTold → List ℕ) → LineEnd ViewTold (Unit {0}) → LineAnswer
 view_end known text end = record { text = printed (result_text [] text end.answer); known = known }
 
-abbrev pub cost_asked : Known → ℕ → ℕ → asks.Dialogue LineAnswer
-cost_asked known server cost =
-    then_line (view_line (view_asks.SetCost server cost)) (λ end. Ends (record { text = printed (result_text [] ok_text end.answer); known = known }))
+abbrev pub cost_asked : Known → ℕ → ℕ → ℕ → asks.Dialogue LineAnswer
+cost_asked known server read write =
+    then_line (view_line (view_asks.SetCost server read write)) (λ end. Ends (record { text = printed (result_text [] ok_text end.answer); known = known }))
 
 abbrev pub mark_ask : Bool → NodeAsk
 mark_ask up = cond up Return Crash
@@ -73,9 +74,9 @@ mark_asked known server up =
     then_line (view_line (view_asks.Mark server up)) (λ end.
     Ends (record { text = printed (result_text [] (marked_text server up) end.answer); known = known })))
 
-abbrev pub choose_asked : Known → asks.Dialogue LineAnswer
-choose_asked known =
-    then_line (view_line view_asks.Choose) (λ end. Ends (record { text = printed (result_text [] chosen_text end.answer); known = known }))
+abbrev pub choose_asked : Known → Purpose → asks.Dialogue LineAnswer
+choose_asked known purpose =
+    then_line (view_line (view_asks.Choose purpose)) (λ end. Ends (record { text = printed (result_text [] chosen_text end.answer); known = known }))
 
 abbrev pub begun : Known → DeskReply → LineAnswer
 begun known (desk_replies.Txn number) = record { text = printed (codes "begun " ++ decimal number); known = with_begun known number }
@@ -101,17 +102,20 @@ refresh_line journals known = then_line (refresh_asked journals) (λ text. Ends 
 abbrev pub board_line : JournalsView → Known → asks.Dialogue LineAnswer
 board_line journals known = Ends (shown known (board_of journals))
 
--- ---- all lines: the transaction is looked at first, then the server, then the state, then the rest
+-- ---- all lines: the transaction is looked at first, then the server, then the state, then the rest; of two costs that to
+-- read from first
 
 abbrev pub asked : JournalsView → Known → Line → asks.Dialogue LineAnswer
 asked journals known is.Empty = Ends (record { text = []; known = known })
 asked journals known is.Bad = said known (codes "bad line")
-asked journals known (is.Cost server cost) =
+asked journals known (is.Cost server read write) =
     cond (is_server known.levels server)
-    (cond (is_cost cost) (cost_asked known server cost) (said known (codes "bad cost " ++ decimal cost)))
+    (cond (is_cost read)
+    (cond (is_cost write) (cost_asked known server read write) (said known (codes "bad cost " ++ decimal write)))
+    (said known (codes "bad cost " ++ decimal read)))
     (said known (codes "no such server " ++ decimal server))
 asked journals known (is.Mark server up) = cond (is_server known.levels server) (mark_asked known server up) (said known (codes "no such server " ++ decimal server))
-asked journals known is.Choose = choose_asked known
+asked journals known (is.Choose purpose) = choose_asked known purpose
 asked journals known is.Begin = begin_asked known
 asked journals known is.Refresh = refresh_line journals known
 asked journals known is.Board = board_line journals known

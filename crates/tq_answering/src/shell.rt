@@ -17,7 +17,7 @@ use tq_asks::NodeAsk;
 use tq_core::Service;
 use tq_desk::{DeskAsk, DeskReply};
 use tq_lines::{Line, TxnLine};
-use tq_live::{ViewAsk, is_cost};
+use tq_live::{Purpose, ViewAsk, is_cost};
 use tq_print::{push_desk_refusal, say_choice, say_fault, say_line, say_number};
 use tq_shape::{Levels, Limits, Memory, ServerId};
 use tq_txn::{AskFault, Asker, DeskTold, LineFault, Open, Txn, ViewTold, ask_any};
@@ -94,9 +94,13 @@ impl Shell {
         match line {
             Line::Empty => Ok(()),
             Line::Bad => say_line(text, b"bad line"),
-            Line::Cost { server, cost } => self.cost(alloc, server, cost, text),
+            Line::Cost {
+                server,
+                read,
+                write,
+            } => self.cost(alloc, server, read, write, text),
             Line::Mark { server, up } => self.mark(alloc, server, up, text),
-            Line::Choose => self.choose(alloc, text),
+            Line::Choose { purpose } => self.choose(alloc, purpose, text),
             Line::Begin => self.begin(alloc, text),
             Line::Refresh => self.refresh(alloc, text),
             Line::Board => self.board(alloc, text),
@@ -108,33 +112,43 @@ impl Shell {
         &mut self,
         alloc: Global,
         server: u64,
-        cost: u64,
+        read: u64,
+        write: u64,
         text: &mut Vec<u8>,
     ) -> Result<(), Memory>
-        ensures text { OnOk result (text.new.items ≡ text.old.items ++ (answer self.old (Line.Cost server cost)).text) }
-        ensures after { OnOk result (self.new ≡ (answer self.old (Line.Cost server cost)).after) }
+        ensures text { OnOk result (text.new.items ≡ text.old.items ++ (answer self.old (Line.Cost server read write)).text) }
+        ensures after { OnOk result (self.new ≡ (answer self.old (Line.Cost server read write)).after) }
     {
         if self.levels.server(server).is_none() {
             return say_number(text, b"no such server ", server);
         }
-        if !is_cost(cost) {
-            return say_number(text, b"bad cost ", cost);
+        if !is_cost(read) {
+            return say_number(text, b"bad cost ", read);
         }
-        self.set_cost(alloc, server, cost, text)
+        if !is_cost(write) {
+            return say_number(text, b"bad cost ", write);
+        }
+        self.set_cost(alloc, server, read, write, text)
     }
 
     fn set_cost(
         &mut self,
         alloc: Global,
         server: u64,
-        cost: u64,
+        read: u64,
+        write: u64,
         text: &mut Vec<u8>,
     ) -> Result<(), Memory>
-        ensures text { OnOk result (text.new.items ≡ text.old.items ++ (answered (run_line self.old.journals (asked.cost_asked self.old.known server cost))).text) }
-        ensures after { OnOk result (self.new ≡ (answered (run_line self.old.journals (asked.cost_asked self.old.known server cost))).after) }
+        ensures text { OnOk result (text.new.items ≡ text.old.items ++ (answered (run_line self.old.journals (asked.cost_asked self.old.known server read write))).text) }
+        ensures after { OnOk result (self.new ≡ (answered (run_line self.old.journals (asked.cost_asked self.old.known server read write))).after) }
     {
         self.recorder.replayed();
-        let answer = self.recorder.view(alloc, ViewAsk::SetCost { server, cost });
+        let ask = ViewAsk::SetCost {
+            server,
+            read,
+            write,
+        };
+        let answer = self.recorder.view(alloc, ask);
         self.recorder.replayed();
         say_ok(text, &answer)?;
         Ok(())
@@ -178,12 +192,12 @@ impl Shell {
         Ok(())
     }
 
-    fn choose(&mut self, alloc: Global, text: &mut Vec<u8>) -> Result<(), Memory>
-        ensures text { OnOk result (text.new.items ≡ text.old.items ++ (answer self.old Line.Choose).text) }
-        ensures after { OnOk result (self.new ≡ (answer self.old Line.Choose).after) }
+    fn choose(&mut self, alloc: Global, purpose: Purpose, text: &mut Vec<u8>) -> Result<(), Memory>
+        ensures text { OnOk result (text.new.items ≡ text.old.items ++ (answer self.old (Line.Choose purpose)).text) }
+        ensures after { OnOk result (self.new ≡ (answer self.old (Line.Choose purpose)).after) }
     {
         self.recorder.replayed();
-        let answer = self.recorder.view(alloc, ViewAsk::Choose);
+        let answer = self.recorder.view(alloc, ViewAsk::Choose { purpose });
         self.recorder.replayed();
         say_chosen(text, &answer)?;
         Ok(())

@@ -23,8 +23,8 @@ use Rattle.tq_desk.specs.declared.ask.DeskReply.{DeskReply}
 use Rattle.tq_desk.specs.DeskJournal.{DeskEntry}
 use Rattle.tq_desk.specs.DeskStep.{desk_reply}
 use Rattle.tq_live.specs.Live.{Live, best}
-use Rattle.tq_live.specs.View.{view_reply, is_server, is_cost, choice_reply}
-use Rattle.tq_live.specs.declared.purpose.Purpose.TheVariants.{Read}
+use Rattle.tq_live.specs.View.{view_reply, is_server, are_costs, choice_reply}
+use Rattle.tq_live.specs.declared.purpose.Purpose.{Purpose}
 use Rattle.tq_live.specs.declared.view.ViewAsk.{ViewAsk}
 use Rattle.tq_live.specs.declared.view.ViewAsk.TheVariants.{SetCost, Mark, Choose}
 use Rattle.tq_live.specs.declared.view.ViewReply.{ViewReply}
@@ -157,14 +157,14 @@ mark_of_tree : (levels : ℕ) (there : Bool) → IsOfTree levels (cond there Mar
 mark_of_tree levels true = tt
 mark_of_tree levels false = tt
 
-choice_of_tree : (live : Live) (least : Option (List ℕ)) → IsOfTree live.levels (choice_reply live Read least)
-choice_of_tree live None = refl
-choice_of_tree live (Some servers) = refl
+choice_of_tree : (live : Live) (purpose : Purpose) (least : Option (List ℕ)) → IsOfTree live.levels (choice_reply live purpose least)
+choice_of_tree live purpose None = refl
+choice_of_tree live purpose (Some servers) = refl
 
 reply_of_tree : (live : Live) (ask : ViewAsk) → IsOfTree live.levels (view_reply live ask)
-reply_of_tree live (SetCost server cost) = cost_of_tree live.levels (is_server live.levels server) (is_cost cost)
+reply_of_tree live (SetCost server read write) = cost_of_tree live.levels (is_server live.levels server) (are_costs read write)
 reply_of_tree live (Mark server up) = mark_of_tree live.levels (is_server live.levels server)
-reply_of_tree live Choose = choice_of_tree live (best live Read 1)
+reply_of_tree live (Choose purpose) = choice_of_tree live purpose (best live purpose 1)
 
 module _ (tables new : TablesView) (world given : JournalsView) (here : world ≡ given) (service : IsService tables world) (after : List ViewEntry) (ask : ViewAsk) where
   view_journals : refusal world (steps.View ask) ≡ None → AreJournals (grown world (steps.View ask))

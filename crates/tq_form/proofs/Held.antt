@@ -15,7 +15,7 @@ use Rattle.tq_live.specs.declared.view.ViewRefusal.TheVariants.{Blocked}
 use Rattle.tq_node.specs.NodeJournal.{NodeEntry}
 use Rattle.tq_desk.specs.DeskJournal.{DeskEntry}
 use Rattle.tq_tables.specs.Journals.{ViewEntry, IsOfTree, AreJournals}
-use Rattle.tq_members.specs.Format.{one}
+use Rattle.tq_members.specs.Format.{two}
 use Rattle.tq_members.specs.Member.{◌>>=◌, text_at, number_at, items_at, each}
 use Rattle.tq_form.specs.Views as views
 use Rattle.tq_form.specs.Entries.{count, few, within, journal, node_entry, desk_entry, view_entry}
@@ -126,23 +126,23 @@ lists-counted levels value =
     next-gives (λ xs. count xs + 1 ≡ 2 ^ levels) (items_at (codes "servers") value) (λ values. frame.one_each levels values) (λ values. by_one (count values + 1 == 2 ^ levels) levels values refl)
 
 abbrev lists : ℕ → Items → Option (List (List NodeEntry))
-lists limit values = each (journal (node_entry one) limit) values
+lists limit values = each (journal (node_entry two) limit) values
 
-servers-counted : (levels limit : ℕ) (value : Data) → Gives (frame.servers_at one levels limit value) (λ xs. length xs + 1 ≡ 2 ^ levels)
+servers-counted : (levels limit : ℕ) (value : Data) → Gives (frame.servers_at two levels limit value) (λ xs. length xs + 1 ≡ 2 ^ levels)
 servers-counted levels limit value =
     let L : List (List NodeEntry) → Type 0 = λ xs. length xs + 1 ≡ 2 ^ levels in
     then-gives (λ values. count values + 1 ≡ 2 ^ levels) L (frame.server_lists_at levels value) (λ values. lists limit values) (lists-counted levels value) (λ values e.
-    weaker (λ xs. length xs ≡ count values) L (lists limit values) (λ xs same. ap (λ n. n + 1) same ∙ e) (each-length (journal (node_entry one) limit) values))
+    weaker (λ xs. length xs ≡ count values) L (lists limit values) (λ xs same. ap (λ n. n + 1) same ∙ e) (each-length (journal (node_entry two) limit) values))
 
-servers-fit : (levels limit : ℕ) (value : Data) → Gives (frame.servers_at one levels limit value) (All (λ xs. length xs ≤ limit))
+servers-fit : (levels limit : ℕ) (value : Data) → Gives (frame.servers_at two levels limit value) (All (λ xs. length xs ≤ limit))
 servers-fit levels limit value =
     let L : List NodeEntry → Type 0 = λ xs. length xs ≤ limit in
     next-gives (All L) (frame.server_lists_at levels value) (λ values. lists limit values) (λ values.
-    each-all L (journal (node_entry one) limit) (λ inner. journal-fits (node_entry one) limit inner) values)
+    each-all L (journal (node_entry two) limit) (λ inner. journal-fits (node_entry two) limit inner) values)
 
-desk-fits : (limit : ℕ) (value : Data) → Gives (frame.desk_at one limit value) (λ xs. length xs ≤ limit)
+desk-fits : (limit : ℕ) (value : Data) → Gives (frame.desk_at two limit value) (λ xs. length xs ≤ limit)
 desk-fits limit value =
-    next-gives (λ (xs : List DeskEntry). length xs ≤ limit) (get (codes "desk") value) (λ inner. journal (desk_entry one) limit inner) (λ inner. journal-fits (desk_entry one) limit inner)
+    next-gives (λ (xs : List DeskEntry). length xs ≤ limit) (get (codes "desk") value) (λ inner. journal (desk_entry two) limit inner) (λ inner. journal-fits (desk_entry two) limit inner)
 
 view-fits : (levels limit : ℕ) (value : Data) → Gives (frame.view_at levels limit value) (λ xs. length xs ≤ limit)
 view-fits levels limit value =
@@ -154,17 +154,17 @@ view-of-tree levels limit value =
     next-gives (All P) (get (codes "view") value) (λ inner. journal (view_entry levels) limit inner) (λ inner. journal-all P (view_entry levels) (entry-of-tree levels) limit inner)
 
 pub read-are-journals : (levels : ℕ) (limits : LimitsView) (limit : ℕ) (value : Data) (servers : List (List NodeEntry)) (desk : List DeskEntry) (view : List ViewEntry) → limit ≡ limits.entries
-    → Some servers ≡ frame.servers_at one levels limit value → Some desk ≡ frame.desk_at one limit value → Some view ≡ frame.view_at levels limit value
+    → Some servers ≡ frame.servers_at two levels limit value → Some desk ≡ frame.desk_at two limit value → Some view ≡ frame.view_at levels limit value
     → AreJournals (record { levels = levels; limits = limits; servers = servers; desk = desk; view = view })
 read-are-journals levels limits limit value servers desk view same s d v =
     let most = limits.entries in
-    let s' = subst (λ n. Some servers ≡ frame.servers_at one levels n value) same s in
-    let d' = subst (λ n. Some desk ≡ frame.desk_at one n value) same d in
+    let s' = subst (λ n. Some servers ≡ frame.servers_at two levels n value) same s in
+    let d' = subst (λ n. Some desk ≡ frame.desk_at two n value) same d in
     let v' = subst (λ n. Some view ≡ frame.view_at levels n value) same v in
     record {
-      one_each = held_of (λ xs. length xs + 1 ≡ 2 ^ levels) (frame.servers_at one levels most value) servers s' (servers-counted levels most value);
-      servers_fit = held_of (All (λ xs. length xs ≤ most)) (frame.servers_at one levels most value) servers s' (servers-fit levels most value);
-      desk_fits = held_of (λ xs. length xs ≤ most) (frame.desk_at one most value) desk d' (desk-fits most value);
+      one_each = held_of (λ xs. length xs + 1 ≡ 2 ^ levels) (frame.servers_at two levels most value) servers s' (servers-counted levels most value);
+      servers_fit = held_of (All (λ xs. length xs ≤ most)) (frame.servers_at two levels most value) servers s' (servers-fit levels most value);
+      desk_fits = held_of (λ xs. length xs ≤ most) (frame.desk_at two most value) desk d' (desk-fits most value);
       view_fits = held_of (λ xs. length xs ≤ most) (frame.view_at levels most value) view v' (view-fits levels most value);
       of_tree = held_of (All (λ entry. IsOfTree levels entry.reply)) (frame.view_at levels most value) view v' (view-of-tree levels most value);
     }

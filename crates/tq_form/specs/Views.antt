@@ -3,6 +3,8 @@ use Rattle.std.specs.Prelude.{ℕ, ◌==◌, List, Option, Some, None, cond, cod
 use Rattle.std.specs.Str.{bytes_eq}
 use Rattle.serde_json.specs.Data.{Data}
 use Rattle.tq_coterie.specs.Coterie.{ServerList, is_quorum}
+use Rattle.tq_live.specs.Purposes.{purpose_of}
+use Rattle.tq_live.specs.declared.purpose.Purpose.{Purpose}
 use Rattle.tq_live.specs.declared.view.ViewAsk.{ViewAsk}
 use Rattle.tq_live.specs.declared.view.ViewAsk.TheVariants.{SetCost, Mark, Choose}
 use Rattle.tq_live.specs.declared.view.ViewReply.{ViewReply}
@@ -14,9 +16,10 @@ use Rattle.tq_members.specs.Member.{◌>>=◌, text_at, number_at, number_of, fl
 
 abbrev pub set_cost : Data → Option ViewAsk
 set_cost value = do
-  cost ← number_at (codes "cost") value
+  read ← number_at (codes "read") value
   server ← number_at (codes "server") value
-  Some (SetCost server cost)
+  write ← number_at (codes "write") value
+  Some (SetCost server read write)
 
 abbrev pub mark : Data → Option ViewAsk
 mark value = do
@@ -24,11 +27,22 @@ mark value = do
   up ← flag_at (codes "up") value
   Some (Mark server up)
 
+-- the purpose that the object names
+abbrev pub purpose_at : Data → Option Purpose
+purpose_at value = do
+  text ← text_at (codes "purpose") value
+  purpose_of text
+
+abbrev pub choose : Data → Option ViewAsk
+choose value = do
+  purpose ← purpose_at value
+  Some (Choose purpose)
+
 abbrev pub view_ask_by : List ℕ → Data → Option ViewAsk
 view_ask_by kind value =
     cond (bytes_eq kind (codes "setcost")) (set_cost value)
     (cond (bytes_eq kind (codes "mark")) (mark value)
-    (cond (bytes_eq kind (codes "choose")) (Some Choose) None))
+    (cond (bytes_eq kind (codes "choose")) (choose value) None))
 
 -- the ask that a value of the form is
 abbrev pub view_ask : Data → Option ViewAsk

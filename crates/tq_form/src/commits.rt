@@ -11,9 +11,9 @@ use tq_shape::Memory;
 use tq_value::{Value, number_at, text_at};
 
 impl FromValue for Grant {
-    ghost use Rattle.tq_members.specs.Format.{one};
+    ghost use Rattle.tq_members.specs.Format.{two};
 
-    ghost form = { spec.grant one };
+    ghost form = { spec.grant two };
 
     fn from_value(alloc: Global, value: &Value<'_>) -> Result<Option<Grant>, Memory> {
         let Some(mode) = mode_at(value) else {
@@ -61,9 +61,9 @@ fn kind_of(text: &str) -> Option<OpKind>
 }
 
 impl FromValue for Op {
-    ghost use Rattle.tq_members.specs.Format.{one};
+    ghost use Rattle.tq_members.specs.Format.{two};
 
-    ghost form = { spec.op one };
+    ghost form = { spec.op two };
 
     fn from_value(alloc: Global, value: &Value<'_>) -> Result<Option<Op>, Memory> {
         let Some(file) = file_at(value, "file") else {
@@ -92,9 +92,9 @@ impl FromValue for Op {
 }
 
 impl FromValue for Vote {
-    ghost use Rattle.tq_members.specs.Format.{one};
+    ghost use Rattle.tq_members.specs.Format.{two};
 
-    ghost form = { spec.vote one };
+    ghost form = { spec.vote two };
 
     fn from_value(alloc: Global, value: &Value<'_>) -> Result<Option<Vote>, Memory> {
         let Some(number) = number_at(value, "number") else {

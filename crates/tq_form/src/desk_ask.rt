@@ -1,6 +1,6 @@
 ghost use Rattle.std.specs.Prelude.{◌≡◌, IfOk};
 ghost use Rattle.tq_value.specs.View.{view};
-ghost use Rattle.tq_members.specs.Format.{one};
+ghost use Rattle.tq_members.specs.Format.{two};
 ghost use Rattle.tq_form.specs.Desks as spec;
 
 use crate::formed::{FromValue, shared_at};
@@ -11,7 +11,7 @@ use tq_shape::Memory;
 use tq_value::{Value, number_at, text_at};
 
 impl FromValue for DeskAsk {
-    ghost form = { spec.desk_ask one };
+    ghost form = { spec.desk_ask two };
 
     fn from_value(alloc: Global, value: &Value<'_>) -> Result<Option<DeskAsk>, Memory> {
         let Some(kind) = text_at(value, "is") else {
@@ -22,7 +22,7 @@ impl FromValue for DeskAsk {
 }
 
 fn desk_ask_by(alloc: Global, kind: &str, value: &Value<'_>) -> Result<Option<DeskAsk>, Memory>
-    ensures { IfOk result (λ ask. ask ≡ spec.desk_ask_by one kind.now (view value.now)) }
+    ensures { IfOk result (λ ask. ask ≡ spec.desk_ask_by two kind.now (view value.now)) }
 {
     if is_text(kind, "begin") {
         return Ok(Some(DeskAsk::Begin));
@@ -37,7 +37,7 @@ fn desk_ask_by(alloc: Global, kind: &str, value: &Value<'_>) -> Result<Option<De
 }
 
 fn commit_ask(alloc: Global, value: &Value<'_>) -> Result<Option<DeskAsk>, Memory>
-    ensures { IfOk result (λ ask. ask ≡ spec.commit_ask one (view value.now)) }
+    ensures { IfOk result (λ ask. ask ≡ spec.commit_ask two (view value.now)) }
 {
     let Some(txn) = number_at(value, "txn") else {
         return Ok(None);

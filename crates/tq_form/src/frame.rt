@@ -1,7 +1,7 @@
 ghost use Rattle.std.specs.Prelude.{◌≡◌, ◌≤◌, IfOk, IfSome, map};
 ghost use Rattle.std.specs.Option.{option_map};
 ghost use Rattle.tq_value.specs.View.{view, items_view};
-ghost use Rattle.tq_members.specs.Format.{one};
+ghost use Rattle.tq_members.specs.Format.{two};
 ghost use Rattle.tq_form.specs.Frame as spec;
 
 use crate::journals::{journal, journals, view_journal};
@@ -26,7 +26,7 @@ fn up_to_at(most: u32, name: &str, value: &Value<'_>) -> Option<u32>
 }
 
 fn levels_at(value: &Value<'_>) -> Option<Levels>
-    ensures { result ≡ spec.levels_at one (view value.now) }
+    ensures { result ≡ spec.levels_at two (view value.now) }
 {
     let count = up_to_at(MOST_LEVELS, "levels", value)?;
     Levels::new(count)
@@ -71,7 +71,7 @@ fn servers_at(
     limit: u32,
     value: &Value<'_>,
 ) -> Result<Option<Vec<Vec<NodeEntry>>>, Memory>
-    ensures { IfOk result (λ answer. option_map (λ v. map (λ journal. journal.items) v.items) answer ≡ spec.servers_at one levels limit (view value.now)) }
+    ensures { IfOk result (λ answer. option_map (λ v. map (λ journal. journal.items) v.items) answer ≡ spec.servers_at two levels limit (view value.now)) }
 {
     let Some(values) = server_lists_at(levels, value) else {
         return Ok(None);
@@ -80,7 +80,7 @@ fn servers_at(
 }
 
 fn desk_at(alloc: Global, limit: u32, value: &Value<'_>) -> Result<Option<Vec<DeskEntry>>, Memory>
-    ensures { IfOk result (λ answer. option_map (λ v. v.items) answer ≡ spec.desk_at one limit (view value.now)) }
+    ensures { IfOk result (λ answer. option_map (λ v. v.items) answer ≡ spec.desk_at two limit (view value.now)) }
 {
     let Some(inner) = get(value, "desk") else {
         return Ok(None);
@@ -102,9 +102,9 @@ fn view_at(
     view_journal(alloc, levels, limit, inner)
 }
 
-/// The journals that the value is in format 1, whatever number it gives for its format.
-fn journals_in_one(alloc: Global, value: &Value<'_>) -> Result<Option<Journals>, Memory>
-    ensures { IfOk result (λ journals. journals ≡ spec.journals_in one (view value.now)) }
+/// The journals that the value is in format 2, whatever number it gives for its format.
+fn journals_in_two(alloc: Global, value: &Value<'_>) -> Result<Option<Journals>, Memory>
+    ensures { IfOk result (λ journals. journals ≡ spec.journals_in two (view value.now)) }
 {
     let Some(levels) = levels_at(value) else {
         return Ok(None);
@@ -138,8 +138,8 @@ pub(crate) fn journals_of(alloc: Global, value: &Value<'_>) -> Result<Option<Jou
 fn journals_by(alloc: Global, number: u64, value: &Value<'_>) -> Result<Option<Journals>, Memory>
     ensures { IfOk result (λ journals. journals ≡ spec.journals_by number (view value.now)) }
 {
-    if number == 1 {
-        return journals_in_one(alloc, value);
+    if number == 2 {
+        return journals_in_two(alloc, value);
     }
     Ok(None)
 }

@@ -49,9 +49,9 @@ fn held_lock(value: &Value<'_>) -> Option<HeldLock>
 }
 
 impl FromValue for Write {
-    ghost use Rattle.tq_members.specs.Format.{one};
+    ghost use Rattle.tq_members.specs.Format.{two};
 
-    ghost form = { spec.write one };
+    ghost form = { spec.write two };
 
     fn from_value(alloc: Global, value: &Value<'_>) -> Result<Option<Write>, Memory> {
         let Some(file) = file_at(value, "file") else {

@@ -1,6 +1,6 @@
 ghost use Rattle.std.specs.Prelude.{◌≡◌, IfOk};
 ghost use Rattle.tq_value.specs.View.{view};
-ghost use Rattle.tq_members.specs.Format.{one};
+ghost use Rattle.tq_members.specs.Format.{two};
 ghost use Rattle.tq_form.specs.NodeAsks as spec;
 
 use crate::formed::{FromValue, shared_at};
@@ -12,7 +12,7 @@ use tq_shape::{Memory, Shared};
 use tq_value::{Value, get, number_at, text_at};
 
 impl FromValue for NodeAsk {
-    ghost form = { spec.node_ask one };
+    ghost form = { spec.node_ask two };
 
     fn from_value(alloc: Global, value: &Value<'_>) -> Result<Option<NodeAsk>, Memory> {
         let Some(kind) = text_at(value, "is") else {
@@ -23,7 +23,7 @@ impl FromValue for NodeAsk {
 }
 
 fn node_ask_by(alloc: Global, kind: &str, value: &Value<'_>) -> Result<Option<NodeAsk>, Memory>
-    ensures { IfOk result (λ ask. ask ≡ spec.node_ask_by one kind.now (view value.now)) }
+    ensures { IfOk result (λ ask. ask ≡ spec.node_ask_by two kind.now (view value.now)) }
 {
     if is_text(kind, "crash") {
         return Ok(Some(NodeAsk::Crash));
@@ -39,7 +39,7 @@ fn node_ask_by(alloc: Global, kind: &str, value: &Value<'_>) -> Result<Option<No
 
 /// A stop: in which work, and behind how many of its records.
 fn stop(alloc: Global, value: &Value<'_>) -> Result<Option<NodeAsk>, Memory>
-    ensures { IfOk result (λ ask. ask ≡ spec.stop one (view value.now)) }
+    ensures { IfOk result (λ ask. ask ≡ spec.stop two (view value.now)) }
 {
     let Some(after) = count_at(value) else {
         return Ok(None);
@@ -68,7 +68,7 @@ fn count_at(value: &Value<'_>) -> Option<u32>
 }
 
 fn work_at(alloc: Global, value: &Value<'_>) -> Result<Option<WorkAsk>, Memory>
-    ensures { IfOk result (λ ask. ask ≡ spec.work_at one (view value.now)) }
+    ensures { IfOk result (λ ask. ask ≡ spec.work_at two (view value.now)) }
 {
     let Some(kind) = text_at(value, "is") else {
         return Ok(None);
@@ -77,7 +77,7 @@ fn work_at(alloc: Global, value: &Value<'_>) -> Result<Option<WorkAsk>, Memory>
 }
 
 fn work(alloc: Global, kind: &str, value: &Value<'_>) -> Result<Option<NodeAsk>, Memory>
-    ensures { IfOk result (λ ask. ask ≡ spec.work one kind.now (view value.now)) }
+    ensures { IfOk result (λ ask. ask ≡ spec.work two kind.now (view value.now)) }
 {
     let Some(ask) = work_by(alloc, kind, value)? else {
         return Ok(None);
@@ -87,7 +87,7 @@ fn work(alloc: Global, kind: &str, value: &Value<'_>) -> Result<Option<NodeAsk>,
 }
 
 fn work_by(alloc: Global, kind: &str, value: &Value<'_>) -> Result<Option<WorkAsk>, Memory>
-    ensures { IfOk result (λ ask. ask ≡ spec.work_by one kind.now (view value.now)) }
+    ensures { IfOk result (λ ask. ask ≡ spec.work_by two kind.now (view value.now)) }
 {
     if is_text(kind, "lock") {
         return Ok(lock(value));
@@ -120,7 +120,7 @@ fn lock(value: &Value<'_>) -> Option<WorkAsk>
 }
 
 fn prepare(alloc: Global, value: &Value<'_>) -> Result<Option<WorkAsk>, Memory>
-    ensures { IfOk result (λ ask. ask ≡ spec.prepare one (view value.now)) }
+    ensures { IfOk result (λ ask. ask ≡ spec.prepare two (view value.now)) }
 {
     let Some(txn) = number_at(value, "txn") else {
         return Ok(None);
@@ -168,7 +168,7 @@ fn from_at(value: &Value<'_>) -> Option<CitedVote>
 }
 
 fn refresh(alloc: Global, value: &Value<'_>) -> Result<Option<WorkAsk>, Memory>
-    ensures { IfOk result (λ ask. ask ≡ spec.refresh one (view value.now)) }
+    ensures { IfOk result (λ ask. ask ≡ spec.refresh two (view value.now)) }
 {
     let Some(file) = file_at(value, "file") else {
         return Ok(None);

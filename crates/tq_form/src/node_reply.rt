@@ -1,6 +1,6 @@
 ghost use Rattle.std.specs.Prelude.{◌≡◌, IfOk};
 ghost use Rattle.tq_value.specs.View.{view};
-ghost use Rattle.tq_members.specs.Format.{one};
+ghost use Rattle.tq_members.specs.Format.{two};
 ghost use Rattle.tq_form.specs.NodeReplies as spec;
 
 use crate::formed::{FromValue, shared_at};
@@ -11,7 +11,7 @@ use tq_shape::Memory;
 use tq_value::{Value, number_at, text_at};
 
 impl FromValue for NodeReply {
-    ghost form = { spec.node_reply one };
+    ghost form = { spec.node_reply two };
 
     fn from_value(alloc: Global, value: &Value<'_>) -> Result<Option<NodeReply>, Memory> {
         let Some(kind) = text_at(value, "is") else {
@@ -22,7 +22,7 @@ impl FromValue for NodeReply {
 }
 
 fn node_reply_by(alloc: Global, kind: &str, value: &Value<'_>) -> Result<Option<NodeReply>, Memory>
-    ensures { IfOk result (λ reply. reply ≡ spec.node_reply_by one kind.now (view value.now)) }
+    ensures { IfOk result (λ reply. reply ≡ spec.node_reply_by two kind.now (view value.now)) }
 {
     if is_text(kind, "granted") {
         return granted(alloc, value);
@@ -65,7 +65,7 @@ fn bare_reply(kind: &str) -> Option<NodeReply>
 }
 
 fn granted(alloc: Global, value: &Value<'_>) -> Result<Option<NodeReply>, Memory>
-    ensures { IfOk result (λ reply. reply ≡ spec.granted one (view value.now)) }
+    ensures { IfOk result (λ reply. reply ≡ spec.granted two (view value.now)) }
 {
     let Some(version) = number_at(value, "version") else {
         return Ok(None);
@@ -77,7 +77,7 @@ fn granted(alloc: Global, value: &Value<'_>) -> Result<Option<NodeReply>, Memory
 }
 
 fn copy(alloc: Global, value: &Value<'_>) -> Result<Option<NodeReply>, Memory>
-    ensures { IfOk result (λ reply. reply ≡ spec.copy one (view value.now)) }
+    ensures { IfOk result (λ reply. reply ≡ spec.copy two (view value.now)) }
 {
     let Some(version) = number_at(value, "version") else {
         return Ok(None);
@@ -89,7 +89,7 @@ fn copy(alloc: Global, value: &Value<'_>) -> Result<Option<NodeReply>, Memory>
 }
 
 fn yes_vote(alloc: Global, value: &Value<'_>) -> Result<Option<NodeReply>, Memory>
-    ensures { IfOk result (λ reply. reply ≡ spec.yes_vote one (view value.now)) }
+    ensures { IfOk result (λ reply. reply ≡ spec.yes_vote two (view value.now)) }
 {
     let Some(held) = shared_at(alloc, value, "held")? else {
         return Ok(None);

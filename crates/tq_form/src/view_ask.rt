@@ -2,7 +2,7 @@ ghost use Rattle.std.specs.Prelude.{◌≡◌};
 ghost use Rattle.tq_value.specs.View.{view};
 ghost use Rattle.tq_form.specs.Views as spec;
 
-use tq_live::ViewAsk;
+use tq_live::{Purpose, ViewAsk};
 use tq_members::is_text;
 use tq_value::{Value, flag_at, number_at, text_at};
 
@@ -24,7 +24,7 @@ fn view_ask_by(kind: &str, value: &Value<'_>) -> Option<ViewAsk>
         return mark(value);
     }
     if is_text(kind, "choose") {
-        return Some(ViewAsk::Choose);
+        return choose(value);
     }
     None
 }
@@ -32,9 +32,14 @@ fn view_ask_by(kind: &str, value: &Value<'_>) -> Option<ViewAsk>
 fn set_cost(value: &Value<'_>) -> Option<ViewAsk>
     ensures { result ≡ spec.set_cost (view value.now) }
 {
-    let cost = number_at(value, "cost")?;
+    let read = number_at(value, "read")?;
     let server = number_at(value, "server")?;
-    Some(ViewAsk::SetCost { server, cost })
+    let write = number_at(value, "write")?;
+    Some(ViewAsk::SetCost {
+        server,
+        read,
+        write,
+    })
 }
 
 fn mark(value: &Value<'_>) -> Option<ViewAsk>
@@ -43,4 +48,19 @@ fn mark(value: &Value<'_>) -> Option<ViewAsk>
     let server = number_at(value, "server")?;
     let up = flag_at(value, "up")?;
     Some(ViewAsk::Mark { server, up })
+}
+
+fn choose(value: &Value<'_>) -> Option<ViewAsk>
+    ensures { result ≡ spec.choose (view value.now) }
+{
+    let purpose = purpose_at(value)?;
+    Some(ViewAsk::Choose { purpose })
+}
+
+/// The purpose that the object names.
+fn purpose_at(value: &Value<'_>) -> Option<Purpose>
+    ensures { result ≡ spec.purpose_at (view value.now) }
+{
+    let text = text_at(value, "purpose")?;
+    Purpose::of(text.as_bytes())
 }

@@ -7,9 +7,9 @@ pub record Format : Type 0 where
   pub most_levels : ℕ
   pub most_content : ℕ
 
-abbrev pub one : Format
-one = record { number = 1; most_levels = 6; most_content = 1000 }
+abbrev pub two : Format
+two = record { number = 2; most_levels = 6; most_content = 1000 }
 
 -- the format of that number
 abbrev pub format_of : ℕ → Option Format
-format_of number = cond (number == one.number) (Some one) None
+format_of number = cond (number == two.number) (Some two) None

@@ -1,6 +1,6 @@
 ghost use Rattle.std.specs.Prelude.{◌≡◌, IfOk};
 ghost use Rattle.tq_value.specs.View.{view};
-ghost use Rattle.tq_members.specs.Format.{one};
+ghost use Rattle.tq_members.specs.Format.{two};
 ghost use Rattle.tq_members.specs.Content as spec;
 
 use hex::FromHexError;
@@ -26,7 +26,7 @@ fn name_of(text: &str) -> Option<FileName>
 
 /// The content that the object has at the name.
 pub fn content_at(alloc: Global, value: &Value<'_>, name: &str) -> Result<Option<Content>, Memory>
-    ensures { IfOk result (λ content. content ≡ spec.content_at one name.now (view value.now)) }
+    ensures { IfOk result (λ content. content ≡ spec.content_at two name.now (view value.now)) }
 {
     let Some(text) = text_at(value, name) else {
         return Ok(None);
@@ -36,7 +36,7 @@ pub fn content_at(alloc: Global, value: &Value<'_>, name: &str) -> Result<Option
 
 /// The content that the text is. A text with more digits than a content has takes no memory.
 fn content_of(alloc: Global, text: &str) -> Result<Option<Content>, Memory>
-    ensures { IfOk result (λ content. content ≡ spec.content_of one text.now) }
+    ensures { IfOk result (λ content. content ≡ spec.content_of two text.now) }
 {
     if text.len() > 2 * MAX_CONTENT {
         return Ok(None);

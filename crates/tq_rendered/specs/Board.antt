@@ -2,11 +2,12 @@
 use Rattle.std.specs.Prelude.{ℕ, ◌-◌, ◌^◌, Bool, true, false, List, [], ◌∷◌, ◌++◌, map, Option, Some, None, codes, slice_index_or}
 use Rattle.std.specs.List.{flat_map}
 use Rattle.std.specs.Fmt.{decimal}
-use Rattle.tq_live.specs.Live.{Live, cost_of, is_up}
+use Rattle.tq_live.specs.Live.{Live, costs_of, is_up}
 use Rattle.tq_live.specs.View.{upwards}
-use Rattle.tq_live.specs.declared.purpose.Purpose.TheVariants.{Read}
+use Rattle.tq_live.specs.declared.costs.Costs.{Costs}
 use Rattle.tq_live.specs.declared.least.Least.{Least}
 use Rattle.tq_tables.specs.Tables.{TablesView}
+use Rattle.tq_tables.specs.declared.quorum_row.QuorumRow.{QuorumRow}
 use Rattle.tq_tables.specs.declared.file_row.FileRow.{FileRow}
 use Rattle.tq_tables.specs.declared.lock_row.LockRow.{LockRow}
 use Rattle.tq_tables.specs.declared.intent_row.FileVersion.{FileVersion}
@@ -58,13 +59,20 @@ abbrev pub least_text : Option Least → List ℕ
 least_text None = codes "none"
 least_text (Some least) = decimal least.cost ++ codes " by" ++ servers_text least.servers.numbers
 
--- a server: its cost to read from and its mark in the view, and the least quorum of its subtree
-abbrev pub server_text : Live → Option Least → ℕ → List ℕ
-server_text view least server =
-    codes "server " ++ decimal server
-    ++ codes " cost " ++ decimal (cost_of view Read server)
+-- a server, and what it costs in a quorum that is read from and in one that is written to
+abbrev pub costs_text : ℕ → Costs → List ℕ
+costs_text server costs = codes "server " ++ decimal server ++ codes " cost " ++ decimal costs.read ++ codes " " ++ decimal costs.write
+
+-- the least quorums of a subtree to read from and to write to
+abbrev pub leasts_text : QuorumRow → List ℕ
+leasts_text row = codes " read " ++ least_text row.read ++ codes " write " ++ least_text row.write
+
+-- a server: its costs and its mark in the view, and the least quorums of its subtree
+abbrev pub server_text : Live → QuorumRow → ℕ → List ℕ
+server_text view row server =
+    costs_text server (costs_of view server)
     ++ codes " " ++ mark_text (is_up view server)
-    ++ codes " least " ++ least_text least
+    ++ leasts_text row
 
 abbrev pub file_text : FileRow → List ℕ
 file_text row =
@@ -92,9 +100,13 @@ intent_text row =
 
 -- ---- the board
 
+-- what is seen of a place behind the last row
+abbrev pub no_quorums : QuorumRow
+no_quorums = record { read = None; write = None }
+
 -- the line of a server, with the row of the quorums' table at its place
 abbrev pub server_line : TablesView → Live → ℕ → List ℕ
-server_line tables view server = as_line (server_text view (slice_index_or tables.quorums (server - 1) None) server)
+server_line tables view server = as_line (server_text view (slice_index_or tables.quorums (server - 1) no_quorums) server)
 
 -- a line for each server upwards
 abbrev pub server_lines : TablesView → Live → List ℕ

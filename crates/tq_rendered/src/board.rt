@@ -7,7 +7,7 @@ use tq_live::View;
 use tq_shape::{Memory, ServerId};
 use tq_tables::{FileRow, IntentRow, LockRow, Tables};
 
-/// The text of the board: the head, a line for each server upwards with its cost and mark in the view, a line for each
+/// The text of the board: the head, a line for each server upwards with its costs and mark in the view, a line for each
 /// row of the tables, and the end. The tables and the view are of one tree.
 ///
 /// # Errors
@@ -33,12 +33,12 @@ pub fn render(alloc: Global, tables: &Tables, view: &View) -> Result<String, Mem
     Ok(text)
 }
 
-/// Room for the text, so that it is not moved as it grows: a line for each server and each file, few of them longer than 64
-/// bytes and three for each server that it may name.
+/// Room for the text, so that it is not moved as it grows: a line for each server and each file, few of them longer than 80
+/// bytes and three for each server that it may name, once to read from and once to write to.
 fn room_of(tables: &Tables) -> usize {
     let servers = tables.levels().servers() as usize;
     let lines = servers.saturating_add(tables.files().len());
-    lines.saturating_mul(64 + 3 * servers)
+    lines.saturating_mul(80 + 6 * servers)
 }
 
 /// Puts a line for each server upwards behind the text.

@@ -1,26 +1,44 @@
 ghost use Rattle.std.specs.Prelude.{◌≡◌, ◌++◌, OnOk, string_bytes};
-ghost use Rattle.tq_rendered.specs.Board.{as_line, file_text, intent_text, least_text, lock_text, server_text};
+ghost use Rattle.tq_rendered.specs.Board.{as_line, costs_text, file_text, intent_text, least_text, leasts_text, lock_text, server_text};
 
 use crate::word::{mark_word, push_set, push_writes, state_word};
-use tq_live::{Least, LiveTree};
+use tq_live::{Costs, Least, LiveTree};
 use tq_shape::{Memory, ServerId};
-use tq_tables::{FileRow, IntentRow, LockRow};
+use tq_tables::{FileRow, IntentRow, LockRow, QuorumRow};
 
-/// Puts the line of a server of the tree behind the text, with the least quorum of its subtree.
+/// Puts the line of a server of the tree behind the text, with the least quorums of its subtree to read from and to write
+/// to.
 pub fn push_server(
     text: &mut String,
     tree: &LiveTree,
     server: ServerId,
-    least: &Option<Least>,
+    row: &QuorumRow,
 ) -> Result<(), Memory>
     requires { server.levels ≡ tree.now.levels }
-    ensures { OnOk result (string_bytes text.new ≡ string_bytes text.old ++ as_line (server_text tree.now least.now server.number)) }
+    ensures { OnOk result (string_bytes text.new ≡ string_bytes text.old ++ as_line (server_text tree.now row.now server.number)) }
 {
-    let cost = tree.costs(server).read;
     let mark = mark_word(tree.is_up(server));
-    write!(text, "server {} cost {cost} {mark} least ", server.number())?;
-    push_least(text, least)?;
+    push_costs(text, server.number(), tree.costs(server))?;
+    write!(text, " {mark}")?;
+    push_leasts(text, row)?;
     text.push_str("\n")
+}
+
+/// Puts the number of a server and its costs behind the text.
+fn push_costs(text: &mut String, server: u64, costs: Costs) -> Result<(), Memory>
+    ensures { OnOk result (string_bytes text.new ≡ string_bytes text.old ++ costs_text server costs) }
+{
+    write!(text, "server {server} cost {} {}", costs.read, costs.write)
+}
+
+/// Puts the least quorums to read from and to write to behind the text.
+fn push_leasts(text: &mut String, row: &QuorumRow) -> Result<(), Memory>
+    ensures { OnOk result (string_bytes text.new ≡ string_bytes text.old ++ leasts_text row.now) }
+{
+    text.push_str(" read ")?;
+    push_least(text, &row.read)?;
+    text.push_str(" write ")?;
+    push_least(text, &row.write)
 }
 
 /// Puts the cost and the servers of a least quorum behind the text, or `none` where there is none.

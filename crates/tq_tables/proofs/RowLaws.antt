@@ -12,11 +12,11 @@ use Rattle.tq_desk.specs.DeskJournal.{commits, with_commit, DeskEntry}
 use Rattle.tq_live.specs.BestOf.{IsBestOf}
 use Rattle.tq_live.specs.Live.{Live}
 use Rattle.tq_live.specs.View.{upwards}
-use Rattle.tq_live.specs.declared.purpose.Purpose.TheVariants.{Read}
+use Rattle.tq_live.specs.declared.purpose.Purpose.{Purpose}
 use Rattle.tq_live.specs.declared.least.Least.{Least}
 use Rattle.tq_node.specs.Node.{NodeView}
 use Rattle.tq_tables.specs.Parts.{AreOfTree}
-use Rattle.tq_tables.specs.Rows.{least_of, quorum_row, row_at, servers_where}
+use Rattle.tq_tables.specs.Rows.{least_of, least_row, row_at, servers_where}
 
 -- ---- lists
 
@@ -39,11 +39,11 @@ upwards-push first count = ap (upwards first) (one count) ∙ by first count
     by first zero = ap (λ (n : ℕ). n ∷ []) (omega arith)
     by first (suc count) = ap (λ rest. first ∷ rest) (by (first + 1) count ∙ ap (λ (n : ℕ). upwards (first + 1) count ++ n ∷ []) (omega arith))
 
-pub quorum_row-is : (live : Live) (server : ℕ) (told : Option Least) → IsBestOf live Read server told → told ≡ quorum_row live server
-quorum_row-is live server None is = sym (ap (option_map (least_of live)) is)
-quorum_row-is live server (Some least) is =
+pub least_row-is : (live : Live) (purpose : Purpose) (server : ℕ) (told : Option Least) → IsBestOf live purpose server told → told ≡ least_row live purpose server
+least_row-is live purpose server None is = sym (ap (option_map (least_of live purpose)) is)
+least_row-is live purpose server (Some least) is =
     (λ i. Some (record { cost = is.2 i; servers = record { levels = is.1 i; numbers = least.servers.numbers } }))
-    ∙ sym (ap (option_map (least_of live)) is.0)
+    ∙ sym (ap (option_map (least_of live purpose)) is.0)
 
 -- ---- files
 

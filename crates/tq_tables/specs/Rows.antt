@@ -19,10 +19,12 @@ use Rattle.tq_desk.specs.DeskJournal.{Commit, DeskEntry, count, final}
 use Rattle.tq_desk.specs.DecisionLog.{is_txn, is_written}
 use Rattle.tq_live.specs.Live.{Live, best, cost_of}
 use Rattle.tq_live.specs.View.{upwards}
-use Rattle.tq_live.specs.declared.purpose.Purpose.TheVariants.{Read}
+use Rattle.tq_live.specs.declared.purpose.Purpose.{Purpose}
+use Rattle.tq_live.specs.declared.purpose.Purpose.TheVariants as purposes
 use Rattle.tq_live.specs.declared.least.Least.{Least}
 use Rattle.tq_tables.specs.declared.file_row.FileRow.{FileRow}
 use Rattle.tq_tables.specs.declared.lock_row.LockRow.{LockRow}
+use Rattle.tq_tables.specs.declared.quorum_row.QuorumRow.{QuorumRow}
 use Rattle.tq_tables.specs.declared.intent_row.FileVersion.{FileVersion}
 use Rattle.tq_tables.specs.declared.intent_row.IntentRow.{IntentRow}
 use Rattle.tq_tables.specs.declared.intent_row.IntentState.{IntentState}
@@ -34,16 +36,21 @@ server_of node = record { number = node.server; levels = node.levels }
 
 -- ---- the least quorums
 
--- a least quorum of these servers of the tree, with its cost to read from
-abbrev pub least_of : Live → List ℕ → Least
-least_of live servers = record { cost = sum_by (cost_of live Read) servers; servers = record { levels = live.levels; numbers = servers } }
+-- a least quorum of these servers of the tree, with its cost for the purpose
+abbrev pub least_of : Live → Purpose → List ℕ → Least
+least_of live purpose servers =
+    record { cost = sum_by (cost_of live purpose) servers; servers = record { levels = live.levels; numbers = servers } }
 
--- the best of the server's subtree to read from, as cost and servers; none where there is none
-abbrev pub quorum_row : Live → ℕ → Option Least
-quorum_row live server = option_map (least_of live) (best live Read server)
+-- the best of the server's subtree for the purpose, as cost and servers; none where there is none
+abbrev pub least_row : Live → Purpose → ℕ → Option Least
+least_row live purpose server = option_map (least_of live purpose) (best live purpose server)
+
+-- the best of the server's subtree to read from, and the best to write to
+abbrev pub quorum_row : Live → ℕ → QuorumRow
+quorum_row live server = record { read = least_row live purposes.Read server; write = least_row live purposes.Write server }
 
 -- for each server upwards
-abbrev pub quorum_rows : Live → List (Option Least)
+abbrev pub quorum_rows : Live → List QuorumRow
 quorum_rows live = map (quorum_row live) (upwards 1 (2 ^ live.levels - 1))
 
 -- ---- the files that commits write (a list of commits has the newest first)

@@ -9,7 +9,7 @@ use Rattle.tq_desk.specs.DeskStep.{DeskView}
 use Rattle.tq_desk.specs.Views.{desk_code}
 use Rattle.tq_desk.specs.DeskJournal.{commits, DeskEntry}
 use Rattle.tq_live.specs.Live.{Live}
-use Rattle.tq_live.specs.declared.least.Least.{Least}
+use Rattle.tq_tables.specs.declared.quorum_row.QuorumRow.{QuorumRow}
 use Rattle.tq_tables.specs.declared.file_row.FileRow.{FileRow}
 use Rattle.tq_tables.specs.declared.lock_row.LockRow.{LockRow}
 use Rattle.tq_tables.specs.declared.intent_row.IntentRow.{IntentRow}
@@ -19,7 +19,7 @@ use Rattle.tq_tables.specs.Journals.{JournalsView, with_desk}
 use Rattle.tq_tables.specs.Parts.{AreLegal, PartsView, live_code, parts_of}
 use Rattle.tq_tables.specs.Rows.{quorum_rows, file_rows, lock_rows, intent_state, intent_rows}
 
--- the servers, the desk and the view that the tables follow, and of them: for each server upwards the least quorum of its
+-- the servers, the desk and the view that the tables follow, and of them: for each server upwards the least quorums of its
 -- subtree, the files that commits wrote, the locks, and the open intentions; last the entry that a note will take with no
 -- memory, where one was reserved
 pub record TablesView : Type 0 where
@@ -27,7 +27,7 @@ pub record TablesView : Type 0 where
   pub nodes : List NodeView
   pub desk : DeskView
   pub view : Live
-  pub quorums : List (Option Least)
+  pub quorums : List QuorumRow
   pub files : List FileRow
   pub locks : List LockRow
   pub intentions : List IntentRow
@@ -76,11 +76,11 @@ pub record IsNextOfDesk (tables : TablesView) (entry : DeskEntry) : Type 0 where
   pub few : length journals.desk + 1 < 2 ^ 64
 
 -- codes, by which a proof tells values apart
-abbrev pub tables_code : Coded Record → Coded OpenVote → Coded Verdict → Coded Least → Coded FileRow → Coded LockRow → Coded IntentRow → Coded ReadyEntry → Coded TablesView
-tables_code record_code vote_code verdict_code least_code file_code lock_code intent_code ready_code =
-    code_by (ℕ × (List NodeView × (DeskView × (Live × (List (Option Least) × (List FileRow × (List LockRow × (List IntentRow × Option ReadyEntry))))))))
+abbrev pub tables_code : Coded Record → Coded OpenVote → Coded Verdict → Coded QuorumRow → Coded FileRow → Coded LockRow → Coded IntentRow → Coded ReadyEntry → Coded TablesView
+tables_code record_code vote_code verdict_code quorum_code file_code lock_code intent_code ready_code =
+    code_by (ℕ × (List NodeView × (DeskView × (Live × (List QuorumRow × (List FileRow × (List LockRow × (List IntentRow × Option ReadyEntry))))))))
     (coded× coded_ℕ (coded× (coded_list (node_code record_code vote_code)) (coded× (desk_code verdict_code) (coded× live_code
-    (coded× (coded_list (coded_option least_code)) (coded× (coded_list file_code) (coded× (coded_list lock_code) (coded× (coded_list intent_code) (coded_option ready_code)))))))))
+    (coded× (coded_list quorum_code) (coded× (coded_list file_code) (coded× (coded_list lock_code) (coded× (coded_list intent_code) (coded_option ready_code)))))))))
     (λ t. (t.levels, (t.nodes, (t.desk, (t.view, (t.quorums, (t.files, (t.locks, (t.intentions, t.ready)))))))))
     (λ p. record { levels = p.0; nodes = p.1.0; desk = p.1.1.0; view = p.1.1.1.0; quorums = p.1.1.1.1.0; files = p.1.1.1.1.1.0; locks = p.1.1.1.1.1.1.0; intentions = p.1.1.1.1.1.1.1.0; ready = p.1.1.1.1.1.1.1.1 })
     (λ _. refl)

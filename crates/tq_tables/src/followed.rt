@@ -2,7 +2,8 @@ ghost use Rattle.std.specs.Prelude.{◌≡◌, ◌+◌, ◌^◌, true, None, len
 ghost use Rattle.std.specs.List.{All};
 ghost use Rattle.tq_desk.specs.DeskJournal.{IsLegalDesk, desk_state};
 ghost use Rattle.tq_desk.specs.DeskStep.{desk_reply};
-ghost use Rattle.tq_live.specs.View.{view_reply};
+ghost use Rattle.tq_live.specs.Live.{Live};
+ghost use Rattle.tq_live.specs.View.{view_after, view_reply};
 ghost use Rattle.tq_node.specs.Records.{node_reply};
 ghost use Rattle.tq_shape.specs.Journal.{entry};
 ghost use Rattle.tq_shape.specs.Journal as journal;
@@ -16,13 +17,14 @@ use crate::lock_rows::lock_rows;
 use crate::quorum_rows::quorum_rows;
 use crate::replies::{Replies, twice};
 use crate::{
-    DeskEntry, FileRow, IntentRow, Journals, LockRow, NodeEntry, PartEntry, Parts, ViewEntry,
+    DeskEntry, FileRow, IntentRow, Journals, LockRow, NodeEntry, PartEntry, Parts, QuorumRow,
+    ViewEntry,
 };
 use std::alloc::Global;
 use std::marker::Model;
 use tq_asks::{NodeAsk, NodeReply};
 use tq_desk::{Desk, DeskAsk, DeskReply, Op};
-use tq_live::{Least, View, ViewAsk, ViewReply};
+use tq_live::{View, ViewAsk, ViewReply};
 use tq_node::{Node, Telling};
 use tq_shape::{Levels, Memory, Part};
 
@@ -48,7 +50,7 @@ impl Model for Followed {
     ghost use Rattle.tq_intents.specs.contracts.record.Record as record_type;
     ghost use Rattle.tq_intents.specs.contracts.record.OpenVote as vote_type;
     ghost use Rattle.tq_asks.specs.contracts.ask.Verdict as verdict_type;
-    ghost use Rattle.tq_live.specs.contracts.least.Least as least_type;
+    ghost use Rattle.tq_tables.specs.contracts.quorum_row.QuorumRow as quorum_type;
     ghost use Rattle.tq_tables.specs.contracts.file_row.FileRow as file_type;
     ghost use Rattle.tq_tables.specs.contracts.lock_row.LockRow as lock_type;
     ghost use Rattle.tq_tables.specs.contracts.intent_row.IntentRow as intent_type;
@@ -57,7 +59,7 @@ impl Model for Followed {
 
     ghost Value = { TablesView };
 
-    ghost coded = { tables_code record_type.the_row.coded vote_type.the_row.coded verdict_type.the_row.coded least_type.the_row.coded file_type.the_row.coded lock_type.the_row.coded intent_type.the_row.coded ready_type.the_row.coded };
+    ghost coded = { tables_code record_type.the_row.coded vote_type.the_row.coded verdict_type.the_row.coded quorum_type.the_row.coded file_type.the_row.coded lock_type.the_row.coded intent_type.the_row.coded ready_type.the_row.coded };
 
     ghost view = { λ a. tables_at a.parts.value a.files.value.rows };
 
@@ -296,9 +298,9 @@ impl Followed {
         self.parts.view()
     }
 
-    /// For each server, upwards from server 1, the first quorum of least cost of its subtree among those that are up;
-    /// none where none is. They are read off the view's tree.
-    pub(crate) fn quorums(&self, alloc: Global) -> Result<Vec<Option<Least>>, Memory>
+    /// For each server, upwards from server 1, the first quorums of least cost of its subtree among those that are up, to
+    /// read from and to write to; none where none is up. They are read off the view's tree.
+    pub(crate) fn quorums(&self, alloc: Global) -> Result<Vec<QuorumRow>, Memory>
         ensures value { IfOk result (λ rows. rows.items ≡ self.now.quorums) }
         ensures one_each { IfOk result (λ rows. length rows.items + 1 ≡ 2 ^ self.now.levels) }
     {
@@ -333,9 +335,9 @@ impl Followed {
 
 /// Whether the ask leaves costs and marks as they are, whatever they are.
 fn changes_nothing(ask: &ViewAsk) -> bool
-    ensures { result ≡ true → ask.now ≡ ViewAsk.Choose }
+    ensures { result ≡ true → (live : Live) → view_after live ask.now ≡ live }
 {
-    matches!(ask, ViewAsk::Choose)
+    matches!(ask, ViewAsk::Choose { .. })
 }
 
 /// The ops of the commit that the desk replied to so, none where it replied otherwise.

@@ -1,12 +1,13 @@
 ghost use Rattle.std.specs.Prelude.{◌≡◌, IfOk};
 ghost use Rattle.tq_tables.specs.Rows as spec;
 
+use crate::QuorumRow;
 use std::alloc::Global;
 use tq_live::{Least, LiveTree, Purpose};
 use tq_shape::{Memory, ServerId};
 
-/// For each server upwards the best of its subtree to read from, none where there is none.
-pub fn quorum_rows(alloc: Global, tree: &LiveTree) -> Result<Vec<Option<Least>>, Memory>
+/// For each server upwards the bests of its subtree, to read from and to write to.
+pub fn quorum_rows(alloc: Global, tree: &LiveTree) -> Result<Vec<QuorumRow>, Memory>
     ensures { IfOk result (λ rows. rows.items ≡ spec.quorum_rows tree.now) }
 {
     let levels = tree.levels();
@@ -19,13 +20,28 @@ pub fn quorum_rows(alloc: Global, tree: &LiveTree) -> Result<Vec<Option<Least>>,
     Ok(rows)
 }
 
-/// The best of the server's subtree to read from, none where there is none.
-fn quorum_row(alloc: Global, tree: &LiveTree, server: ServerId) -> Result<Option<Least>, Memory>
+/// The bests of the server's subtree, to read from and to write to.
+fn quorum_row(alloc: Global, tree: &LiveTree, server: ServerId) -> Result<QuorumRow, Memory>
     requires { server.levels ≡ tree.now.levels }
     ensures { IfOk result (λ row. row ≡ spec.quorum_row tree.now server.number) }
 {
+    let read = least_row(alloc, tree, Purpose::Read, server)?;
+    let write = least_row(alloc, tree, Purpose::Write, server)?;
+    Ok(QuorumRow { read, write })
+}
+
+/// The best of the server's subtree for the purpose, none where there is none.
+fn least_row(
+    alloc: Global,
+    tree: &LiveTree,
+    purpose: Purpose,
+    server: ServerId,
+) -> Result<Option<Least>, Memory>
+    requires { server.levels ≡ tree.now.levels }
+    ensures { IfOk result (λ row. row ≡ spec.least_row tree.now purpose server.number) }
+{
     let mut row = Least::new(alloc, tree.levels())?;
-    if tree.best_into(Purpose::Read, server, &mut row) {
+    if tree.best_into(purpose, server, &mut row) {
         Ok(Some(row))
     } else {
         Ok(None)

@@ -12,12 +12,12 @@ ghost use Rattle.tq_tables.specs.Reserved.{ready_entry};
 use crate::followed::Followed;
 use crate::ready::Ready;
 use crate::replies::Replies;
-use crate::{DeskEntry, FileRow, IntentRow, Journals, LockRow, PartEntry, Parts};
+use crate::{DeskEntry, FileRow, IntentRow, Journals, LockRow, PartEntry, Parts, QuorumRow};
 use std::alloc::Global;
 use std::marker::Model;
 use tq_asks::{NodeAsk, NodeReply};
 use tq_desk::{Desk, DeskAsk, DeskReply};
-use tq_live::{Least, View, ViewAsk, ViewReply};
+use tq_live::{View, ViewAsk, ViewReply};
 use tq_node::Node;
 use tq_shape::{Levels, Memory, Part};
 
@@ -47,7 +47,7 @@ impl Model for Tables {
     ghost use Rattle.tq_intents.specs.contracts.record.Record as record_type;
     ghost use Rattle.tq_intents.specs.contracts.record.OpenVote as vote_type;
     ghost use Rattle.tq_asks.specs.contracts.ask.Verdict as verdict_type;
-    ghost use Rattle.tq_live.specs.contracts.least.Least as least_type;
+    ghost use Rattle.tq_tables.specs.contracts.quorum_row.QuorumRow as quorum_type;
     ghost use Rattle.tq_tables.specs.contracts.file_row.FileRow as file_type;
     ghost use Rattle.tq_tables.specs.contracts.lock_row.LockRow as lock_type;
     ghost use Rattle.tq_tables.specs.contracts.intent_row.IntentRow as intent_type;
@@ -57,7 +57,7 @@ impl Model for Tables {
 
     ghost Value = { TablesView };
 
-    ghost coded = { tables_code record_type.the_row.coded vote_type.the_row.coded verdict_type.the_row.coded least_type.the_row.coded file_type.the_row.coded lock_type.the_row.coded intent_type.the_row.coded ready_type.the_row.coded };
+    ghost coded = { tables_code record_type.the_row.coded vote_type.the_row.coded verdict_type.the_row.coded quorum_type.the_row.coded file_type.the_row.coded lock_type.the_row.coded intent_type.the_row.coded ready_type.the_row.coded };
 
     ghost view = { λ a. with_ready a.followed (option_map (λ ready. ready.value.entry) a.ready) };
 
@@ -233,9 +233,9 @@ impl Tables {
         self.followed.view()
     }
 
-    /// For each server, upwards from server 1, the first quorum of least cost of its subtree among those that are up;
-    /// none where none is. They are read off the view's tree.
-    pub fn quorums(&self, alloc: Global) -> Result<Vec<Option<Least>>, Memory>
+    /// For each server, upwards from server 1, the first quorums of least cost of its subtree among those that are up, to
+    /// read from and to write to; none where none is up. They are read off the view's tree.
+    pub fn quorums(&self, alloc: Global) -> Result<Vec<QuorumRow>, Memory>
         ensures value { IfOk result (λ rows. rows.items ≡ self.now.quorums) }
         ensures one_each { IfOk result (λ rows. length rows.items + 1 ≡ 2 ^ self.now.levels) }
     {

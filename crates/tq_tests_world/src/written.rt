@@ -22,7 +22,7 @@ const TEXT: &str = "\
 {\"ask\":{\"is\":\"commit\",\"ops\":[],\"txn\":1,\"votes\":[]},\"reply\":{\"code\":23,\"is\":\"refused\",\"rule\":5}},\
 {\"ask\":{\"is\":\"commit\",\"ops\":[{\"content\":\"68656c6c6f\",\"file\":\"a\",\"grants\":[{\"content\":\"\",\"mode\":\"exclusive\",\"number\":1,\"server\":1,\"version\":0}],\"kind\":\"write\",\"version\":1},{\"content\":\"\",\"file\":\"b\",\"grants\":[],\"kind\":\"read\",\"version\":0}],\"txn\":1,\"votes\":[{\"held\":[{\"file\":\"a\",\"mode\":\"exclusive\",\"since\":1}],\"number\":2,\"server\":1,\"writes\":[{\"content\":\"68656c6c6f\",\"file\":\"a\",\"version\":1}]},{\"held\":[],\"number\":9,\"server\":63,\"writes\":[]}]},\"reply\":{\"code\":23,\"is\":\"refused\",\"rule\":6}},\
 {\"ask\":{\"is\":\"begin\"},\"reply\":{\"code\":24,\"is\":\"refused\"}},\
-{\"ask\":{\"is\":\"resolve\",\"txn\":1},\"reply\":{\"code\":25,\"is\":\"refused\"}}],\"format\":1,\"levels\":2,\"limits\":{\"entries\":20,\"files\":2,\"ops\":3},\"servers\":[\
+{\"ask\":{\"is\":\"resolve\",\"txn\":1},\"reply\":{\"code\":25,\"is\":\"refused\"}}],\"format\":2,\"levels\":2,\"limits\":{\"entries\":20,\"files\":2,\"ops\":3},\"servers\":[\
 [{\"ask\":{\"file\":\"a\",\"is\":\"lock\",\"mode\":\"shared\",\"txn\":1},\"reply\":{\"content\":\"\",\"is\":\"granted\",\"version\":0}},\
 {\"ask\":{\"file\":\"a-b_c.0\",\"is\":\"lock\",\"mode\":\"exclusive\",\"txn\":18446744073709551615},\"reply\":{\"content\":\"68656c6c6f\",\"is\":\"granted\",\"version\":3}},\
 {\"ask\":{\"is\":\"prepare\",\"txn\":1,\"writes\":[]},\"reply\":{\"held\":[],\"is\":\"yes\",\"writes\":[]}},\
@@ -43,12 +43,12 @@ const TEXT: &str = "\
 {\"ask\":{\"cite\":2,\"is\":\"decide\",\"txn\":1,\"verdict\":{\"is\":\"abort\"}},\"reply\":{\"code\":17,\"is\":\"refused\"}},\
 {\"ask\":{\"cite\":2,\"is\":\"decide\",\"txn\":1,\"verdict\":{\"is\":\"commit\",\"votes\":[{\"number\":4,\"server\":1},{\"number\":0,\"server\":900}]}},\"reply\":{\"code\":18,\"is\":\"refused\"}},\
 {\"ask\":{\"is\":\"release\",\"txn\":0},\"reply\":{\"code\":19,\"is\":\"refused\"}}]],\"view\":[\
-{\"ask\":{\"cost\":5,\"is\":\"setcost\",\"server\":2},\"reply\":{\"is\":\"costset\"}},\
+{\"ask\":{\"is\":\"setcost\",\"read\":5,\"server\":2,\"write\":7},\"reply\":{\"is\":\"costset\"}},\
 {\"ask\":{\"is\":\"mark\",\"server\":2,\"up\":false},\"reply\":{\"is\":\"marked\"}},\
 {\"ask\":{\"is\":\"mark\",\"server\":18446744073709551615,\"up\":true},\"reply\":{\"cost\":2,\"is\":\"chosen\",\"servers\":[1,2]}},\
-{\"ask\":{\"is\":\"choose\"},\"reply\":{\"code\":31,\"is\":\"refused\"}},\
-{\"ask\":{\"cost\":5,\"is\":\"setcost\",\"server\":2},\"reply\":{\"code\":32,\"is\":\"refused\"}},\
-{\"ask\":{\"is\":\"mark\",\"server\":2,\"up\":false},\"reply\":{\"code\":33,\"is\":\"refused\",\"servers\":[2,3]}}]}\n";
+{\"ask\":{\"is\":\"choose\",\"purpose\":\"read\"},\"reply\":{\"code\":31,\"is\":\"refused\"}},\
+{\"ask\":{\"is\":\"setcost\",\"read\":5,\"server\":2,\"write\":7},\"reply\":{\"code\":32,\"is\":\"refused\"}},\
+{\"ask\":{\"is\":\"choose\",\"purpose\":\"write\"},\"reply\":{\"code\":33,\"is\":\"refused\",\"servers\":[2,3]}}]}\n";
 
 fn is_written(alloc: Global, journals: &Journals) -> bool {
     match journals_to_json(alloc, journals) {

@@ -130,4 +130,4 @@ all_offered world (step ∷ steps) (result ∷ results) told =
 
 pub headline : (world : JournalsView) (tables : TablesView) → tables ≡ tables_of world → HasCommittedReads world → Headline world tables
 headline world tables same reads =
-    record { rows = same; choice = view_offers world asks.Choose (answer world (steps.View asks.Choose)) refl; reads = reads }
+    record { rows = same; choice = λ purpose. view_offers world (asks.Choose purpose) (answer world (steps.View (asks.Choose purpose))) refl; reads = reads }

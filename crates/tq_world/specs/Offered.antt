@@ -2,7 +2,7 @@
 use Rattle.std.specs.Prelude.{⊤}
 use Rattle.tq_live.specs.Live.{Live}
 use Rattle.tq_live.specs.Choice.{IsChoice, IsFirstChoice}
-use Rattle.tq_live.specs.declared.purpose.Purpose.TheVariants.{Read}
+use Rattle.tq_live.specs.declared.purpose.Purpose.{Purpose}
 use Rattle.tq_live.specs.declared.choice.Choice.TheVariants as choices
 use Rattle.tq_live.specs.declared.view.ViewAsk.TheVariants as asks
 use Rattle.tq_live.specs.declared.view.ViewReply.TheVariants.{Chosen, Refused}
@@ -15,14 +15,16 @@ use Rattle.tq_world.specs.declared.answer.Step.{Step}
 use Rattle.tq_world.specs.declared.answer.Step.TheVariants as steps
 use Rattle.tq_world.specs.World.{view_at}
 
--- a quorum is handed out, to read from: of the quorums whose servers are all marked up it is the first of least cost, with that cost;
--- or it is refused with a blocker, all marked down: then no quorum is up
-abbrev pub IsOffer : Live → Reply → Type 0
-IsOffer live (replies.View (Chosen quorum cost)) = IsChoice live Read (choices.Quorum quorum cost) × IsFirstChoice live Read (choices.Quorum quorum cost)
-IsOffer live (replies.View (Refused (Blocked blocked))) = IsChoice live Read (choices.Blocked blocked) × IsFirstChoice live Read (choices.Blocked blocked)
-IsOffer live other = ⊥
+-- a quorum is handed out for the purpose: of the quorums whose servers are all marked up it is the first of least cost for it,
+-- with that cost; or it is refused with a blocker, all marked down: then no quorum is up
+abbrev pub IsOffer : Live → Purpose → Reply → Type 0
+IsOffer live purpose (replies.View (Chosen quorum cost)) =
+    IsChoice live purpose (choices.Quorum quorum cost) × IsFirstChoice live purpose (choices.Quorum quorum cost)
+IsOffer live purpose (replies.View (Refused (Blocked blocked))) =
+    IsChoice live purpose (choices.Blocked blocked) × IsFirstChoice live purpose (choices.Blocked blocked)
+IsOffer live purpose other = ⊥
 
--- the answer to a Choose is an offer
+-- the answer to a Choose is an offer for its purpose
 abbrev pub OffersBest : JournalsView → Step → Answer → Type 0
-OffersBest world (steps.View asks.Choose) answered = IsOffer (view_at world.levels world.view) answered.reply
+OffersBest world (steps.View (asks.Choose purpose)) answered = IsOffer (view_at world.levels world.view) purpose answered.reply
 OffersBest world step answered = ⊤

@@ -9,7 +9,7 @@ use Rattle.serde_json.specs.Written.{compact_text}
 use Rattle.tq_shape.specs.Limits.{LimitsView}
 use Rattle.tq_node.specs.NodeJournal.{NodeEntry}
 use Rattle.tq_tables.specs.Journals.{JournalsView, IsOfTree}
-use Rattle.tq_members.specs.Format.{one}
+use Rattle.tq_members.specs.Format.{two}
 use Rattle.tq_form.specs.Entries.{count, journal, node_entry, desk_entry, view_entry}
 use Rattle.tq_form.specs.Frame as frame
 use Rattle.tq_members.specs.Member.{◌>>=◌, each}
@@ -40,11 +40,11 @@ one-each-again : (levels : ℕ) (values : Items) → count values + 1 ≡ 2 ^ le
 one-each-again levels values e = ap (λ b. cond b (Some values) None) (eq-eqb (count values + 1) (2 ^ levels) e)
 
 servers-again : (levels limit : ℕ) (servers : List (List NodeEntry)) → length servers + 1 ≡ 2 ^ levels → AllByRecursion (λ entries. length entries ≤ limit) servers → AllByRecursion (AllByRecursion IsNodeEntry) servers
-    → (frame.one_each levels (listed (list_value node_entry_value) servers) >>= each (journal (node_entry one) limit)) ≡ Some servers
+    → (frame.one_each levels (listed (list_value node_entry_value) servers) >>= each (journal (node_entry two) limit)) ≡ Some servers
 servers-again levels limit servers e few sound =
-    ap (λ o. o >>= each (journal (node_entry one) limit)) (one-each-again levels (listed (list_value node_entry_value) servers) (ap (λ n. n + 1) (count-listed (list_value node_entry_value) servers) ∙ e))
-    ∙ each-again (journal (node_entry one) limit) (list_value node_entry_value) (λ entries. (length entries ≤ limit) × AllByRecursion IsNodeEntry entries)
-    (λ entries h. journal-again (node_entry one) node_entry_value IsNodeEntry node-entry-again limit entries h.0 h.1)
+    ap (λ o. o >>= each (journal (node_entry two) limit)) (one-each-again levels (listed (list_value node_entry_value) servers) (ap (λ n. n + 1) (count-listed (list_value node_entry_value) servers) ∙ e))
+    ∙ each-again (journal (node_entry two) limit) (list_value node_entry_value) (λ entries. (length entries ≤ limit) × AllByRecursion IsNodeEntry entries)
+    (λ entries h. journal-again (node_entry two) node_entry_value IsNodeEntry node-entry-again limit entries h.0 h.1)
     servers (both (λ entries. length entries ≤ limit) (AllByRecursion IsNodeEntry) servers few sound)
 
 journals-again : (journals : JournalsView) → AreSound journals → frame.journals_of (journals_value journals) ≡ Some journals
@@ -53,7 +53,7 @@ journals-again journals h =
     let levels = within 6 journals.levels h.levels.0 h.levels.1 in
     let limits = limits-again journals.limits h.limits in
     let servers = servers-again journals.levels limit journals.servers h.fit.one_each (recursion_from_All (λ entries. length entries ≤ limit) journals.servers h.fit.servers_fit) h.servers in
-    let desk = journal-again (desk_entry one) desk_entry_value IsDeskEntry desk-entry-again limit journals.desk h.fit.desk_fits h.desk in
+    let desk = journal-again (desk_entry two) desk_entry_value IsDeskEntry desk-entry-again limit journals.desk h.fit.desk_fits h.desk in
     let of_tree = both IsViewEntry (λ entry. IsOfTree journals.levels entry.reply) journals.view h.view (recursion_from_All (λ entry. IsOfTree journals.levels entry.reply) journals.view h.fit.of_tree) in
     let view = journal-again (view_entry journals.levels) view_entry_value (λ entry. IsViewEntry entry × IsOfTree journals.levels entry.reply) (view-entry-again journals.levels) limit journals.view h.fit.view_fits of_tree in
     rw (levels, limits, servers, desk, view)

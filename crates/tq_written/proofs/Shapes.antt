@@ -159,9 +159,9 @@ servers-shaped : (list : ServerList) → IsShaped (views.servers_value list) 123
 servers-shaped list = list-shaped whole 123 (omega arith) (λ n. tt) list.servers
 
 view-ask-shaped : (a : ViewAsk) → IsShaped (views.view_ask_value a) 124
-view-ask-shaped (view.SetCost server cost) = (omega arith, (tt, (tt, (tt, tt))), refl)
+view-ask-shaped (view.SetCost server read write) = (omega arith, (tt, (tt, (tt, (tt, tt)))), refl)
 view-ask-shaped (view.Mark server up) = (omega arith, (tt, (tt, (tt, tt))), refl)
-view-ask-shaped view.Choose = kind-shaped 124 (omega arith) _
+view-ask-shaped (view.Choose purpose) = (omega arith, (tt, (tt, tt)), refl)
 
 view-refusal-shaped : (r : ViewRefusal) → IsShaped (views.view_refusal_value r) 124
 view-refusal-shaped view_refusal.NoSuchServer = code-shaped 124 (omega arith) 31

@@ -2,6 +2,8 @@
 use Rattle.std.specs.Prelude.{codes}
 use Rattle.serde_json.specs.Data.{Data, object, member, no_members, string, boolean}
 use Rattle.tq_coterie.specs.Coterie.{ServerList}
+use Rattle.tq_live.specs.Purposes.{purpose_text}
+use Rattle.tq_live.specs.declared.purpose.Purpose.{Purpose}
 use Rattle.tq_live.specs.declared.view.ViewAsk.{ViewAsk}
 use Rattle.tq_live.specs.declared.view.ViewAsk.TheVariants.{SetCost, Mark, Choose}
 use Rattle.tq_live.specs.declared.view.ViewReply.{ViewReply}
@@ -15,16 +17,23 @@ use Rattle.tq_written.specs.Values.{whole, list_value, kind_value, code_value, e
 abbrev pub servers_value : ServerList → Data
 servers_value list = list_value whole list.servers
 
+-- a purpose by its word
+abbrev pub purpose_value : Purpose → Data
+purpose_value purpose = string (purpose_text purpose)
+
 abbrev pub view_ask_value : ViewAsk → Data
-view_ask_value (SetCost server cost) =
-    object (member (codes "cost") (whole cost)
-    (member (codes "is") (string (codes "setcost"))
-    (member (codes "server") (whole server) no_members)))
+view_ask_value (SetCost server read write) =
+    object (member (codes "is") (string (codes "setcost"))
+    (member (codes "read") (whole read)
+    (member (codes "server") (whole server)
+    (member (codes "write") (whole write) no_members))))
 view_ask_value (Mark server up) =
     object (member (codes "is") (string (codes "mark"))
     (member (codes "server") (whole server)
     (member (codes "up") (boolean up) no_members)))
-view_ask_value Choose = kind_value (codes "choose")
+view_ask_value (Choose purpose) =
+    object (member (codes "is") (string (codes "choose"))
+    (member (codes "purpose") (purpose_value purpose) no_members))
 
 abbrev pub view_refusal_value : ViewRefusal → Data
 view_refusal_value NoSuchServer = code_value 31

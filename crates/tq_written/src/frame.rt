@@ -22,7 +22,7 @@ use tq_shape::{Limits, Memory};
 use tq_tables::{Journals, NodeEntry};
 
 /// The number of the form that is written.
-pub const FORMAT: u64 = 1;
+pub const FORMAT: u64 = 2;
 
 impl Formed for Limits {
     ghost use Rattle.tq_written.specs.Form.{limits_value};

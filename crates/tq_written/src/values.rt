@@ -7,6 +7,7 @@ ghost use Rattle.tq_written.specs.Written.{Adds, spelled};
 use crate::formed::{Formed, close_member, open_member, put_list};
 use json::Writer;
 use std::alloc::Global;
+use tq_live::Purpose;
 use tq_locks::Mode;
 use tq_shape::{Entry, Memory, Seq, ServerId, SharedSeq};
 use tq_store::{Content, FileName};
@@ -86,6 +87,20 @@ impl Formed for Mode {
     ghost use Rattle.tq_written.specs.Sound.{IsAny};
 
     ghost value = { mode_value };
+
+    ghost sound = { IsAny };
+
+    fn put(&self, _alloc: Global, out: &mut Writer<Global>) -> Result<(), Memory> {
+        out.string(self.word())?;
+        Ok(())
+    }
+}
+
+impl Formed for Purpose {
+    ghost use Rattle.tq_written.specs.Views.{purpose_value};
+    ghost use Rattle.tq_written.specs.Sound.{IsAny};
+
+    ghost value = { purpose_value };
 
     ghost sound = { IsAny };
 

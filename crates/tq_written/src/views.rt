@@ -17,7 +17,7 @@ use crate::formed::{
 use json::Writer;
 use std::alloc::Global;
 use tq_coterie::{Blocker, Quorum};
-use tq_live::{ViewAsk, ViewRefusal, ViewReply};
+use tq_live::{Purpose, ViewAsk, ViewRefusal, ViewReply};
 use tq_shape::{Memory, ServerId};
 
 /// The numbers of the servers.
@@ -61,14 +61,16 @@ fn put_set_cost(
     alloc: Global,
     out: &mut Writer<Global>,
     server: u64,
-    cost: u64,
+    read: u64,
+    write: u64,
 ) -> Result<(), Memory>
-    ensures adds { Adds result out.old out.new (spelled (view_ask_value (ViewAsk.SetCost server cost))) }
-    ensures fits { OnOk result (IsFitting (view_ask_value (ViewAsk.SetCost server cost))) }
+    ensures adds { Adds result out.old out.new (spelled (view_ask_value (ViewAsk.SetCost server read write))) }
+    ensures fits { OnOk result (IsFitting (view_ask_value (ViewAsk.SetCost server read write))) }
 {
-    open_member(alloc, out, "cost", &cost)?;
-    put_kind(out, "setcost")?;
-    close_member(alloc, out, "server", &server)?;
+    open_kind(out, "setcost")?;
+    put_member(alloc, out, "read", &read)?;
+    put_member(alloc, out, "server", &server)?;
+    close_member(alloc, out, "write", &write)?;
     Ok(())
 }
 
@@ -82,6 +84,15 @@ fn put_mark(alloc: Global, out: &mut Writer<Global>, server: u64, up: bool) -> R
     Ok(())
 }
 
+fn put_choose(alloc: Global, out: &mut Writer<Global>, purpose: Purpose) -> Result<(), Memory>
+    ensures adds { Adds result out.old out.new (spelled (view_ask_value (ViewAsk.Choose purpose))) }
+    ensures fits { OnOk result (IsFitting (view_ask_value (ViewAsk.Choose purpose))) }
+{
+    open_kind(out, "choose")?;
+    close_member(alloc, out, "purpose", &purpose)?;
+    Ok(())
+}
+
 impl Formed for ViewAsk {
     ghost use Rattle.tq_written.specs.Views.{view_ask_value};
     ghost use Rattle.tq_written.specs.Sound.{IsAny};
@@ -92,9 +103,13 @@ impl Formed for ViewAsk {
 
     fn put(&self, alloc: Global, out: &mut Writer<Global>) -> Result<(), Memory> {
         match *self {
-            ViewAsk::SetCost { server, cost } => put_set_cost(alloc, out, server, cost),
+            ViewAsk::SetCost {
+                server,
+                read,
+                write,
+            } => put_set_cost(alloc, out, server, read, write),
             ViewAsk::Mark { server, up } => put_mark(alloc, out, server, up),
-            ViewAsk::Choose => put_only_kind(out, "choose"),
+            ViewAsk::Choose { purpose } => put_choose(alloc, out, purpose),
         }
     }
 }

@@ -1,4 +1,6 @@
-use Rattle.std.proofs.Common.{◌≡◌, ◌+◌, ◌++◌, List, Some, filter, length, refl, ap, sym, ◌∙◌, arith, rules}
+use Rattle.std.proofs.Common.{◌≡◌, ◌+◌, ◌++◌, List, Some, filter, length, refl, ap, sym, subst, ◌∙◌, arith, rules}
+use Rattle.std.specs.List.{All}
+use Rattle.std.proofs.lemmas.List.Elements.{All-head}
 use Rattle.tq_shape.specs.ServerSet.{has_number}
 use Rattle.tq_shape.specs.Tree.{Server}
 use Rattle.tq_refresh.specs.declared.job.Job.{Job}
@@ -7,6 +9,13 @@ use Rattle.tq_refresh.proofs.Walked.{left_of_tree, of_one_tree, walks-passed, wa
 use Rattle.tq_answering.specs.Operators.{job_text}
 use Rattle.tq_answering.proofs.Operating.{counted_fits, leads_from, longer, one_on}
 use Rattle.tq_answering.proofs.operators.mend_file.Goals as goal
+
+pub mend-requires-clause-of_tree : goal.mend-requires-clause-of_tree
+mend-requires-clause-of_tree c =
+    let before = c.loop-server.invariant in
+    let On : Server → Type 0 = λ server. server.levels ≡ c.args.up.now.levels in
+    let left = subst (All On) c.in-Some.ensures.steps before.of_tree in
+    (All-head On _ _ left ∙ c.requires.up ∙ sym before.tree, c.requires.planned.1 ∙ sym before.tree)
 
 pub mend-requires-clause-peek : goal.mend-requires-clause-peek
 mend-requires-clause-peek c = c.in_ok-ask.ensures ∙ c.loop-server.invariant.peek

@@ -1,7 +1,7 @@
 use Rattle.tq_value.specs.View.{view}
 use Rattle.tq_form.proofs.Held.{read-are-journals}
 use Rattle.tq_form.proofs.Joined.{joined}
-use Rattle.tq_form.proofs.frame.journals_in_one.Goals as goal
+use Rattle.tq_form.proofs.frame.journals_in_two.Goals as goal
 
 pub new-requires : goal.new-requires
 new-requires c =
