@@ -93,8 +93,9 @@ ASKS = {
     "crash in": lambda work, after: {"after": after, "ask": said(ASKS, work)},
     "commit": lambda txn, ops, votes: {"ops": list(map(op, ops)), "txn": txn, "votes": list(map(vote, votes))},
     "resolve": lambda txn: {"txn": txn},
-    "set cost": lambda server, cost: {"cost": cost, "server": server},
+    "set cost": lambda server, read, write: {"read": read, "server": server, "write": write},
     "mark": lambda server, up: {"server": server, "up": up},
+    "choose": lambda purpose: {"purpose": purpose},
 }
 REPLIES = {
     "granted": lambda version, text: {"content": content(text), "version": version},
@@ -131,7 +132,7 @@ def file_of(levels, journals):
     lists = {part: [entry(*one) for one in journals[part]] for part in journals}
     limits = {"entries": plain.MOST_ENTRIES, "files": plain.MOST_FILES, "ops": plain.MOST_OPS}
     servers = [lists[server] for server in range(1, 2**levels)]
-    return {"desk": lists["desk"], "format": 1, "levels": levels, "limits": limits, "servers": servers, "view": lists["view"]}
+    return {"desk": lists["desk"], "format": 2, "levels": levels, "limits": limits, "servers": servers, "view": lists["view"]}
 
 
 def text_of(file):

@@ -16,6 +16,7 @@ import sys
 from typing import NamedTuple
 
 MOST_LEVELS, LISTED_LEVELS = 6, 4
+PURPOSES = ["read", "write"]
 MOST_COST = 1_000_000
 MOST_FILES, MOST_OPS, MOST_ENTRIES = 1_000, 64, 1_000_000
 MOST_NUMBER, MOST_COUNT = 2**64 - 1, 2**32 - 1
@@ -153,12 +154,12 @@ def is_under(top, server):
 # The view
 
 
-def costs(levels, view):
-    """Each server's cost: that of its last SetCost answered CostSet, 1 where there is none."""
+def costs(levels, view, purpose):
+    """Each server's cost for this purpose, "read" or "write": that of its last SetCost answered CostSet, 1 where there is none."""
     cost = dict.fromkeys(range(1, 2**levels), 1)
     for ask, reply in view:
         if ask[0] == "set cost" and reply[0] == "cost set":
-            cost[ask[1]] = ask[2]
+            cost[ask[1]] = ask[2 + PURPOSES.index(purpose)]
     return cost
 
 
@@ -174,17 +175,17 @@ def marked_up(levels, view):
 def view_reply(levels, view, ask):
     """What the view replies after the entries of its journal."""
     if ask[0] == "choose":
-        return choice(levels, view)
+        return choice(levels, view, ask[1])
     if not 1 <= ask[1] < 2**levels:
         return "refused", NO_SERVER
     if ask[0] == "mark":
         return ("marked",)
-    return ("cost set",) if 1 <= ask[2] <= MOST_COST else ("refused", BAD_COST)
+    return ("cost set",) if all(1 <= cost <= MOST_COST for cost in ask[2:]) else ("refused", BAD_COST)
 
 
-def choice(levels, view):
-    """The best quorum with its cost, or the first member that is all down."""
-    cost, up = costs(levels, view), marked_up(levels, view)
+def choice(levels, view, purpose):
+    """The best quorum for this purpose with its cost, or the first member that is all down."""
+    cost, up = costs(levels, view, purpose), marked_up(levels, view)
     quorum = best(levels, 1, cost, up)
     if quorum:
         return "chosen", tuple(sorted(quorum)), sum(cost[server] for server in quorum)
@@ -617,20 +618,21 @@ def listed(items):
     return " ".join(map(str, items)) or "-"
 
 
-def least_text(cost, quorum):
+def least_text(purpose, cost, quorum):
     if not quorum:
-        return "least none"
-    return f"least {sum(cost[server] for server in quorum)} by {listed(sorted(quorum))}"
+        return f"{purpose} none"
+    return f"{purpose} {sum(cost[server] for server in quorum)} by {listed(sorted(quorum))}"
 
 
 def board(world):
     """The lines of the board."""
     view = world.journals["view"]
-    cost, up = costs(world.levels, view), marked_up(world.levels, view)
+    both, up = {purpose: costs(world.levels, view, purpose) for purpose in PURPOSES}, marked_up(world.levels, view)
     lines = [f"board levels {world.levels}"]
     for server in world.servers:
         mark = "up" if server in up else "down"
-        lines.append(f"server {server} cost {cost[server]} {mark} {least_text(cost, best(world.levels, server, cost, up))}")
+        least = [least_text(purpose, cost, best(world.levels, server, cost, up)) for purpose, cost in both.items()]
+        lines.append(f"server {server} cost {both['read'][server]} {both['write'][server]} {mark} {' '.join(least)}")
     for file, version, current, stale in file_rows(world):
         lines.append(f"file {file} version {version} current {listed(current)} stale {listed(stale)}")
     for server, file, txn, mode, since, version in lock_rows(world):
@@ -748,11 +750,12 @@ class Shell:
 
     # Lines of operators
 
-    def line_cost(self, server, cost):
+    def line_cost(self, server, read, write):
         self.check_server(server)
-        if not 1 <= cost <= MOST_COST:
-            raise Ends(f"bad cost {cost}")
-        self.ask("view", ("set cost", server, cost))
+        for cost in (read, write):
+            if not 1 <= cost <= MOST_COST:
+                raise Ends(f"bad cost {cost}")
+        self.ask("view", ("set cost", server, read, write))
         return ["ok"]
 
     def line_down(self, server):
@@ -767,8 +770,8 @@ class Shell:
         self.ask("view", ("mark", server, True))
         return [f"up {server}"]
 
-    def line_choose(self):
-        _, (_, quorum, cost) = self.ask("view", ("choose",))
+    def line_choose(self, purpose):
+        _, (_, quorum, cost) = self.ask("view", ("choose", purpose))
         return [f"quorum {listed(quorum)} cost {cost}"]
 
     def line_board(self):
@@ -826,7 +829,7 @@ class Shell:
         if len(txn.ops) >= MOST_OPS:
             raise Ends("too many operations")
         mode = "exclusive" if kind == "write" else "shared"
-        _, (_, quorum, _) = self.ask("view", ("choose",))
+        _, (_, quorum, _) = self.ask("view", ("choose", kind))
         grants = []
         for server in quorum:
             number, (_, version, content) = self.ask(server, ("lock", txn.number, file, mode))
@@ -964,11 +967,15 @@ def read_text(word):
     return word if len(word) <= TEXT_LIMIT else None
 
 
+def read_purpose(word):
+    return word if word in PURPOSES else None
+
+
 FORMS = {
-    "cost": [read_number, read_number],
+    "cost": [read_number, read_number, read_number],
     "down": [read_number],
     "up": [read_number],
-    "choose": [],
+    "choose": [read_purpose],
     "begin": [],
     "read": [read_number, read_name],
     "write": [read_number, read_name, read_text],
@@ -995,6 +1002,10 @@ def read_line(line):
         words = [*words[:3], " ".join(words[3:])]
     if words[3:4] == ["crash"] and words[0] in ("prepare", "apply"):
         words = [f"{words[0]} crash", *words[1:3], *words[4:]]
+    if words[0] == "cost" and len(words) == 3:
+        words = [*words, words[2]]
+    if words == ["choose"]:
+        words = ["choose", "read"]
     form = FORMS.get(words[0])
     if form is None or len(form) != len(words) - 1:
         return None
