@@ -3,10 +3,11 @@
 
 usage: bench/run.py [--turns N] [--only NAME] [OTHER [WORD..]]
 
-The inputs are the same at every run. Three have 16,777,216 bytes of lines at 6 levels: `marks` has
+The inputs are the same at every run. Four have 16,777,216 bytes of lines at 6 levels: `marks` has
 the lines `cost`, `down` and `up`, and a few that are refused; in `choices` half of the lines are
-`choose`; `transactions` has clients that begin, read, write and commit or abort, some of them step
-by step, while servers fail and return. `board` and `refresh` time one such line, on a service of 63
+`choose`; in `purposes` the costs are two, one for reading and one for writing, and half of the
+lines are choices for the one or the other; `transactions` has clients that begin, read, write and
+commit or abort, some of them step by step, while servers fail and return. `board` and `refresh` time one such line, on a service of 63
 servers and 1,000 files: the time of a run with these lines less that of one without. `mixed` has
 4,000,000 bytes of lines of all kinds at 1, 3, 5 and 6 levels, as the other program makes them.
 OTHER WORD.. is a program that takes the words `shell --levels 6` after these, and makes lines by
@@ -44,13 +45,13 @@ class Draw:
         return (self.state >> 33) % limit
 
 
-def change(draw):
+def change(draw, costs=1):
     """A line that changes a server's cost or mark, or now and then one that is refused."""
     # Half of the servers drawn are near the root, where each quorum has some.
     server = 1 + draw.below(7 if draw.below(2) else 2**LEVELS - 1)
     kind = draw.below(100)
     if kind < 50:
-        return f"cost {server} {1 + draw.below(1_000_000)}"
+        return f"cost {server} {' '.join(str(1 + draw.below(1_000_000)) for _ in range(costs))}"
     if kind < 70:
         return f"down {server}"
     if kind < 97:
@@ -83,6 +84,12 @@ def choices():
     draw = Draw(1)
     while True:
         yield "choose" if draw.below(2) else change(draw)
+
+
+def purposes():
+    draw = Draw(1)
+    while True:
+        yield ("choose read", "choose write")[draw.below(2)] if draw.below(2) else change(draw, 2)
 
 
 TEXT = "the quick brown fox jumps over the lazy dog "
@@ -253,7 +260,7 @@ def main():
     tq = [program, *shell(LEVELS)]
     other = asked.other and [*asked.other, *shell(LEVELS)]
     with tempfile.TemporaryDirectory() as folder:
-        for name, made in [("marks", marks), ("choices", choices), ("transactions", transactions)]:
+        for name, made in [("marks", marks), ("choices", choices), ("purposes", purposes), ("transactions", transactions)]:
             if asked.only in name:
                 whole(name, as_many(made()), tq, other, asked.turns, folder)
         for name, times in [("board", 10), ("refresh", 1)]:
