@@ -167,7 +167,8 @@ fn top_command<'a>(alloc: Global) -> Command<'a>
 {
     Command::new(alloc, "tq")
         .about(ABOUT)
-        .after_help(LINES)
+        .long_about(TREE)
+        .after_help(FIRST)
         .version("0.1.0")
         .subcommand_required(true)
         .disable_help_subcommand(true)
@@ -180,7 +181,8 @@ fn shell_command<'a>(alloc: Global) -> Result<Command<'a>, AllocError>
 {
     Command::new(alloc, "shell")
         .about("Reads lines from standard input and answers each")
-        .after_help(LINES)
+        .after_help(SHORT_LINES)
+        .after_long_help(LINES)
         .arg(levels_argument(alloc))
 }
 
@@ -209,7 +211,8 @@ fn threads_with_levels<'a>(alloc: Global) -> Result<Command<'a>, AllocError>
 {
     Command::new(alloc, "threads")
         .about("Reads scripts of clients from standard input and runs them in threads")
-        .after_help(SCRIPTS)
+        .after_help(SHORT_SCRIPTS)
+        .after_long_help(SCRIPTS)
         .arg(levels_argument(alloc))
 }
 
@@ -219,8 +222,10 @@ fn audit_command<'a>(alloc: Global) -> Command<'a>
     ensures local { (out-Command result).has_globals ≡ false }
 {
     Command::new(alloc, "audit")
-        .about("Reads a journal file from standard input and says whether one run explains it")
-        .after_help(AUDITS)
+        .about("Reads a journal file and says whether one run explains it")
+        .override_usage("tq audit < FILE")
+        .after_help(SHORT_AUDITS)
+        .after_long_help(AUDITS)
 }
 
 fn levels_argument<'a>(alloc: Global) -> Arg<'a>
@@ -243,7 +248,7 @@ fn workers_argument<'a>(alloc: Global) -> Arg<'a>
     Arg::new(alloc, "workers")
         .long("workers")
         .value_name("W")
-        .help("The threads that mend stale copies, 0 to 2 (0 where not given)")
+        .help("Threads that mend stale copies, 0 to 2 (default 0)")
         .action(ArgAction::Set)
         .value_parser(clap::value_parser!(u32).range(0..=2))
 }
@@ -255,12 +260,16 @@ fn rounds_argument<'a>(alloc: Global) -> Arg<'a>
     Arg::new(alloc, "rounds")
         .long("rounds")
         .value_name("R")
-        .help("How often stale copies are looked for, 0 to 1000 (0 where not given)")
+        .help("How often they look for such copies, 0 to 1000 (default 0)")
         .action(ArgAction::Set)
         .value_parser(clap::value_parser!(u32).range(0..=1_000))
 }
 
 const ABOUT: &str = "\
+Keeps whole files in copies on the servers of a tree, and runs transactions
+over its quorums.";
+
+const TREE: &str = "\
 Keeps whole files in copies on the servers of a tree, and runs transactions
 over its quorums.
 
@@ -269,24 +278,69 @@ A tree of N levels has the servers 1 to 2^N - 1, and under server S the servers
 quorum of each side without it; a server with no sides is a quorum by itself.
 Any two quorums have a server in common.";
 
+const FIRST: &str = "\
+A first session:
+  printf 'begin\\nwrite 1 plan v1\\ncommit 1\\n' | tq shell --levels 2
+prints
+  begun 1
+  write plan version 1 at 1 2
+  committed 1
+
+'tq shell --help' has the lines of the shell and the rules for names and texts.";
+
+const SHORT_LINES: &str = "\
+Lines (T a transaction, F a file, S a server; tq shell --help explains each):
+  begin                                    a transaction: begun T
+  read T F      write T F TEXT             at the quorum of least cost
+  commit T      abort T      resolve T     its end
+  prepare T S   decide T     apply T S     the steps of commit, one by one
+  prepare T S crash K   apply T S crash K  the server stops inside that step
+  down S        up S                       the server crashes or returns
+  cost S C      cost S R W                 its costs for reading and writing
+  choose [read|write]                      the quorum that is taken next
+  board         refresh                    the tables; mends stale copies
+F is 1 to 32 of a-z 0-9 . _ -, the first a letter; TEXT is the rest of its line.
+Each line is answered as soon as it is read; bad line says that it is none of
+these. Ctrl-D ends the session.";
+
 const LINES: &str = "\
-Lines of the shell (T a transaction, F a file, S a server, C a cost):
+Lines of the shell (T a transaction, F a file, S a server; C, R and W costs):
   begin             begins a transaction, and answers its number
-  read T F          reads a file under shared locks at the least-cost quorum
-  write T F TEXT    writes the text to a file under exclusive locks there
+  read T F          reads a file under shared locks at the quorum of least cost
+                    for reading
+  write T F TEXT    writes the text to a file under exclusive locks at the
+                    quorum of least cost for writing
   commit T          gathers the votes, asks the desk, and tells the servers
   abort T           ends the transaction, and releases its locks
   prepare T S       asks one server for its vote
   decide T          asks the desk to commit, once all votes are there
   apply T S         tells one server how the transaction ended
+  prepare T S crash K, apply T S crash K
+                    the server stops inside that step, behind the first K of
+                    the stable records that it writes, and is marked down
   resolve T         asks the desk how it ended: what is not decided is aborted
   down S, up S      the server crashes or returns, and is marked so
   cost S C          the server costs C from now on, 1 to 1000000 (at first 1)
-  choose            the quorum of least cost among the servers that are up, with
-                    its cost, or, where no quorum is up, the servers that block
-                    every one
+  cost S R W        it costs R for reading and W for writing
+  choose            the quorum of least cost for reading among the servers that
+  choose read       are up, with its cost, or, where no quorum is up, the
+                    servers that block every one
+  choose write      the same for writing
   board             the tables: quorums, files, locks and open votes
   refresh           mends the stale copies that can be mended now
+
+Names and texts:
+  A file name has 1 to 32 bytes of a-z 0-9 . _ -, the first of them a letter.
+  TEXT is all that follows the one space behind F, 0 to 1000 bytes from space
+  to ~, and it may be empty. Words stand apart by one space; numbers have no
+  sign and no leading zeros. An empty line answers nothing.
+  bad line          the line is none of these, has another byte, or is longer
+                    than 1200 bytes; nothing was asked, and the next line goes on
+  A refusal ends its line, not the session: what was done before it stays.
+
+Lines are read from standard input, and each is answered as soon as it was read.
+The end of the input, Ctrl-D at a terminal, ends the session; what it kept is
+gone then.
 
 Example:
   printf 'begin\\nwrite 1 plan v1\\ncommit 1\\n' | tq shell --levels 2
@@ -295,25 +349,44 @@ prints
   write plan version 1 at 1 2
   committed 1
 
-Status: 0 at the end of the input, 1 after a fault (want of memory, a failed
-read or write, more than 16777216 bytes), 2 where the words are refused.";
+Status: 0 at the end of the input, whatever was refused; 1 after a fault, which
+is the last line: fault memory (it was refused), fault read or fault write (a
+device failed), fault too long (more than 16777216 bytes); 2 where the words of
+the command are refused. tq audit has the statuses 3 and 4 too.";
+
+const SHORT_SCRIPTS: &str = "\
+A line client begins the next client's script, 1 to 16 in all. Its lines:
+  begin         read F       write F TEXT    commit    abort
+  down S        up S         cost S C        cost S R W
+  choose        choose read  choose write
+When all have ended, the journals of all parts are printed as one line of JSON.
+
+Example:
+  printf 'client\\nbegin\\nwrite plan v1\\ncommit\\nclient\\nchoose\\n' |
+    tq threads --levels 2 | tq audit
+prints
+  explained 10";
 
 const SCRIPTS: &str = "\
 Each client runs its script in a thread of its own. A line client begins the
 next client's script, 1 to 16 in all; nothing but empty lines stands before the
-first. The lines of a script (F a file, S a server, C a cost):
+first. The lines of a script (F a file, S a server; C, R and W costs):
   begin             begins the client's transaction; one that is open is aborted
                     first
-  read F            reads a file under shared locks at the least-cost quorum
-  write F TEXT      writes the text to a file under exclusive locks there
+  read F            reads a file under shared locks at the quorum of least cost
+                    for reading
+  write F TEXT      writes the text to a file under exclusive locks at the
+                    quorum of least cost for writing
   commit            gathers the votes, asks the desk, and tells the servers
   abort             ends the transaction, and releases its locks
   down S, up S      the server crashes or returns, and is marked so
   cost S C          the server costs C from now on, 1 to 1000000 (at first 1)
-  choose            the view chooses a quorum
-Without an open transaction read, write, commit and abort do nothing. One that
-is refused a read, a write or its commit is aborted, and so is one that is open
-when its script ends.
+  cost S R W        it costs R for reading and W for writing
+  choose            the view chooses a quorum for reading; so does choose read
+  choose write      the view chooses a quorum for writing
+Names and texts are those of tq shell --help. Without an open transaction read,
+write, commit and abort do nothing. One that is refused a read, a write or its
+commit is aborted, and so is one that is open when its script ends.
 
 R times the journals of all parts are read on, and a job is put for each stale
 copy that can be mended; W threads do the jobs. When all threads have ended,
@@ -332,11 +405,25 @@ or for a bad script, where nothing is run and bad script line N is printed: a
 line is none of these, stands before the first client, begins a client too many,
 or passes 16777216 bytes in all. Where no client comes N is 1.";
 
+const SHORT_AUDITS: &str = "\
+Answers, in one line, with the status:
+  explained E                 0  one run makes all E entries
+  wrong P entry N             3  the part P does not give this reply
+  stuck C.. desk D view V     3  there is no order of the entries; at most so
+                                 many of each part have one
+  unreadable                  4  it is no journal file
+  fault ..                    1  want of memory, a failed device, too long
+
+Example:
+  echo client | tq threads --levels 1 | tq audit
+prints
+  explained 0";
+
 const AUDITS: &str = "\
 A journal file tells, as JSON, what each part of a system was asked and what it
 replied. One run explains it where each reply is the one that the part gives,
 and the asks can be put in one order so that each finds before it the entries
-of other parts that it cites.
+of other parts that it cites. The file is read from standard input.
 
 Answers, in one line:
   explained E                 such an order exists, of all E entries
@@ -346,5 +433,12 @@ Answers, in one line:
                               at most so many entries of each part have one
   unreadable                  it is no journal file
 
-Status: 0 explained, 3 wrong or stuck, 4 unreadable, 1 after a fault (want of
-memory, a failed read or write, more than 67108864 bytes).";
+Example:
+  printf 'client\\nbegin\\nwrite plan v1\\ncommit\\n' |
+    tq threads --levels 1 | tq audit
+prints
+  explained 6
+
+Status: 0 explained, 3 wrong or stuck, 4 unreadable, 1 after a fault, which is
+printed: fault memory, fault read, fault write, or fault too long (more than
+67108864 bytes); 2 where the words of the command are refused.";
