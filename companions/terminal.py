@@ -1,0 +1,85 @@
+"""Programs at a pseudo-terminal: a session of bin/live with typed lines, another size in the midst of one, Ctrl-C, Tab and Ctrl-D; what bin/tq says first."""
+import fcntl
+import os
+import pty
+import select
+import struct
+import subprocess
+import termios
+import time
+
+PATIENCE = 20
+
+
+def resize(descriptor, rows, columns):
+    fcntl.ioctl(descriptor, termios.TIOCSWINSZ, struct.pack("HHHH", rows, columns, 0, 0))
+
+
+def own_terminal():
+    os.setsid()
+    fcntl.ioctl(0, termios.TIOCSCTTY, 0)
+
+
+class Typist:
+    """Types at the one end of a pseudo-terminal, and reads what comes there."""
+
+    def __init__(self, words):
+        self.near, self.far = pty.openpty()
+        resize(self.near, 24, 80)
+        self.before = termios.tcgetattr(self.far)
+        how = dict(stdin=self.far, stdout=self.far, stderr=self.far, preexec_fn=own_terminal, env=os.environ | {"TERM": "xterm", "INPUTRC": os.devnull})
+        self.running, self.seen, self.all = subprocess.Popen(words, **how), b"", b""
+
+    def awaits(self, *texts):
+        """Whether these texts come, one behind the other; what stands behind them is kept for later."""
+        end = time.monotonic() + PATIENCE
+        for text in texts:
+            while text not in self.seen:
+                if time.monotonic() > end:
+                    return False
+                if select.select([self.near], [], [], 1)[0]:
+                    self.seen += (came := os.read(self.near, 65_536))
+                    self.all += came
+            self.seen = self.seen.split(text, 1)[1]
+        return True
+
+    def types(self, text):
+        os.write(self.near, text)
+
+    def ends(self):
+        """The status, and whether the terminal is as it was."""
+        try:
+            return self.running.wait(PATIENCE), termios.tcgetattr(self.far) == self.before
+        finally:
+            self.running.kill()
+            os.close(self.near)
+            os.close(self.far)
+
+
+def session(live, tq):
+    """What is not as it should be."""
+    typist = Typist([live, "--levels", "2", "--program", tq])
+    steps = [
+        ("the first frame", lambda: typist.awaits(b"levels 2  3 of 3 up", b"> ")),
+        ("a line", lambda: typist.types(b"begin\r") or typist.awaits(b"line 1", b"begun 1", b"> ")),
+        ("half a line", lambda: typist.types(b"wri") or typist.awaits(b"wri")),
+        ("another size", lambda: resize(typist.near, 20, 60) or typist.awaits(b"-" * 60 + b"\x1b[0m", b"> ", b"wri")),
+        ("the other half", lambda: typist.types(b"te 1 a x\r") or typist.awaits(b"line 2", b"write a version 1 at 1 2", b"> ")),
+        ("Ctrl-C", lambda: typist.types(b"comm\x03") or typist.awaits(b"Ctrl-D ends", b"> ")),
+        ("Tab", lambda: typist.types(b"comm\t 1\r") or typist.awaits(b"committed 1", b"> ")),
+        ("Ctrl-D", lambda: typist.types(b"\x04") or typist.awaits(b"\x1b[?1049l")),
+    ]
+    faults = [name for name, step in steps if not step()]
+    status, is_as_before = typist.ends()
+    if faults or status or not is_as_before:
+        yield f"bin/live at a terminal: failed at {faults}, status {status}, the terminal as it was: {is_as_before}"
+
+
+def start(words, said):
+    """Whether the program, which tells its words, says one line with this text before, or none."""
+    typist, wanted = Typist(words), " ".join(words[1:]).encode()
+    came = typist.awaits(wanted + b"\r\n")
+    before = typist.all.rsplit(wanted, 1)[0]
+    typist.ends()
+    if not came or before.count(b"\n") != bool(said) or said not in before:
+        yield f"{' '.join(words)} at a terminal says {before}"
