@@ -335,7 +335,7 @@ Names and texts:
   to ~, and it may be empty. Words stand apart by one space; numbers have no
   sign and no leading zeros. An empty line answers nothing.
   bad line          the line is none of these, has another byte, or is longer
-                    than 1200 bytes; nothing was asked, and the next line goes on
+                    than 1200 bytes; nothing was asked, the next line goes on
   A refusal ends its line, not the session: what was done before it stays.
 
 Lines are read from standard input, and each is answered as soon as it was read.
