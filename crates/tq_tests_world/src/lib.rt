@@ -1,6 +1,9 @@
 //! What no program calls or prints: a service that is given steps, the tables of whole journals, a board beside another
 //! view, each kind of entry written as it was read, answers that no part of a client's world gives,
 //! and an entry that is reserved.
+//!
+//! Files: `asked.rt` services, tables, boards, orders; `rows.rt` rows of files; `foreign.rt`, `unfounded.rt` answers that no
+//! part gives; `written.rt`, `board.rt` texts; `reserved.rt` an entry reserved.
 #![tactic(auto)]
 
 #[cfg(test)]
