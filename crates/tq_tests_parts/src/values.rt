@@ -2,7 +2,6 @@ use std::alloc::{AllocError, Global};
 use tq_check::{Wrong, check};
 use tq_coterie::{Quorum, holds_quorum, is_quorum, meet};
 use tq_intents::{Intents, Record, SharedWrite};
-use tq_locks::{LockOutcome, LockTable, Mode};
 use tq_shape::{Levels, ServerId, ServerSet};
 use tq_store::{Content, FileName, Write};
 
@@ -168,10 +167,6 @@ fn a() -> FileName {
     FileName::new(b"a").unwrap()
 }
 
-fn b() -> FileName {
-    FileName::new(b"b").unwrap()
-}
-
 fn is_shown(alloc: Global, name: FileName) -> bool {
     match format!(in alloc; "{name} {name:?}") {
         Ok(shown) => shown.as_str() == "a \"a\"",
@@ -182,86 +177,6 @@ fn is_shown(alloc: Global, name: FileName) -> bool {
 #[test]
 fn text_of_a_name(rt: HostRuntime) -> Result<(), Wrong> {
     check(is_shown(rt.alloc(), a()), "another text")
-}
-
-// ---- the lock table
-
-/// Asks for a lock under that number. Answers whether the outcome is the one wanted.
-fn comes_to(
-    locks: &mut LockTable,
-    alloc: Global,
-    txn: u64,
-    file: FileName,
-    mode: Mode,
-    number: u64,
-    wanted: LockOutcome,
-) -> bool {
-    match locks.ask(alloc, txn, &file, mode, number, 0) {
-        Ok(outcome) => outcome == wanted,
-        Err(_) => false,
-    }
-}
-
-fn shares(locks: &mut LockTable, alloc: Global, txn: u64, file: FileName, number: u64) -> bool {
-    comes_to(
-        locks,
-        alloc,
-        txn,
-        file,
-        Mode::Shared,
-        number,
-        LockOutcome::Granted,
-    )
-}
-
-/// Transactions 1 and 2 share `a`, where 4 is refused because of 1; 2 has `b` too. Then 2 ends, and 3 has `b`.
-fn locks_and_releases(locks: &mut LockTable, alloc: Global) -> bool {
-    let held = LockOutcome::Held { by: 1 };
-    let comes = shares(locks, alloc, 2, a(), 1)
-        && shares(locks, alloc, 1, a(), 2)
-        && shares(locks, alloc, 2, b(), 3)
-        && comes_to(locks, alloc, 4, a(), Mode::Exclusive, 4, held);
-    locks.release(2);
-    comes && shares(locks, alloc, 3, b(), 5)
-}
-
-/// Whether both indexes have the lock of 3 on `b` under the key of one that ended, and 1 has `a` alone under its own.
-fn uses_a_place_again(locks: &LockTable) -> bool {
-    match (
-        locks.keys_of_file(&a()),
-        locks.keys_of_file(&b()),
-        locks.keys_of_txn(3),
-    ) {
-        ([1], [of_file], [of_txn]) => {
-            of_file == of_txn
-                && *of_txn != 1
-                && locks.entry(*of_txn).is_some()
-                && locks.entry(3).is_none()
-                && locks.keys_of_txn(2).is_empty()
-        }
-        _ => false,
-    }
-}
-
-/// The same of a copy.
-fn copies_its_places(locks: &LockTable, alloc: Global) -> bool {
-    match locks.copy(alloc) {
-        Ok(copy) => uses_a_place_again(&copy),
-        Err(_) => false,
-    }
-}
-
-fn goes_with_each_call(alloc: Global) -> bool {
-    let mut locks = LockTable::new(alloc);
-    locks_and_releases(&mut locks, alloc)
-        && uses_a_place_again(&locks)
-        && copies_its_places(&locks, alloc)
-}
-
-/// A place in the slab is used again, and both indexes go with each call and with a copy.
-#[test]
-fn place_used_again(rt: HostRuntime) -> Result<(), Wrong> {
-    check(goes_with_each_call(rt.alloc()), "another place")
 }
 
 // ---- stable records
