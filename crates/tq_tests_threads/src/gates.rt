@@ -1,4 +1,4 @@
-//! A gate by which threads wait for one another, and one that counts.
+//! Gates by which threads wait for one another, and one that counts.
 
 use std::sync::atomic::{AtomicBool, AtomicU64, Ordering};
 use tq_cells::Gate;
@@ -7,44 +7,114 @@ use tq_shape::Part;
 /// How often a thread looks for what another does before it gives up.
 const TURNS: u64 = 1_000_000_000;
 
+/// Something that comes to be, and for which threads look.
+#[derive(Drop)]
+struct Sign(AtomicBool);
+
+impl Sign {
+    fn new() -> Sign {
+        Sign(AtomicBool::new(false))
+    }
+
+    fn give(&self) {
+        self.0.store(true, Ordering::SeqCst);
+    }
+
+    fn is_given(&self) -> bool {
+        self.0.load(Ordering::SeqCst)
+    }
+
+    /// Looks until it is given, or some thread has given up. One that looked too often gives up.
+    fn await_or(&self, gave_up: &Sign) {
+        for _ in 0..TURNS {
+            if self.is_given() || gave_up.is_given() {
+                return;
+            }
+        }
+        gave_up.give();
+    }
+}
+
+/// Holds a call at server 1, under its lock, until a call at server 2 was answered.
+#[derive(Drop)]
+pub(crate) struct Crossing {
+    /// A call holds the lock of server 1.
+    held: Sign,
+    /// A call at server 2 was answered, and has given its lock back.
+    answered: Sign,
+    gave_up: Sign,
+}
+
+impl Crossing {
+    pub(crate) fn new() -> Crossing {
+        Crossing {
+            held: Sign::new(),
+            answered: Sign::new(),
+            gave_up: Sign::new(),
+        }
+    }
+
+    /// Looks until a call holds the lock of server 1.
+    pub(crate) fn await_held(&self) {
+        self.held.await_or(&self.gave_up);
+    }
+
+    /// A call at server 2 was answered while one at server 1 was held.
+    pub(crate) fn has_crossed(&self) -> bool {
+        self.held.is_given() && self.answered.is_given() && !self.gave_up.is_given()
+    }
+}
+
+/// A crossing, as several may have it.
+#[derive(Clone, Copy)]
+pub(crate) struct Across<'a>(pub(crate) &'a Crossing);
+
+impl<'a> Gate for Across<'a> {
+    fn holding(&self, part: Part) {
+        if part == Part::Server(1) {
+            self.0.held.give();
+            self.0.answered.await_or(&self.0.gave_up);
+        }
+    }
+
+    fn answered(&self, part: Part) {
+        if part == Part::Server(2) {
+            self.0.answered.give();
+        }
+    }
+}
+
 /// Where it is shut: holds a call at server 1 or 2, under the lock of that server, until calls at both are held.
 #[derive(Drop)]
 pub(crate) struct Meeting {
-    shut: AtomicBool,
-    one: AtomicBool,
-    two: AtomicBool,
-    gave_up: AtomicBool,
+    shut: Sign,
+    one: Sign,
+    two: Sign,
+    gave_up: Sign,
 }
 
 impl Meeting {
     pub(crate) fn new() -> Meeting {
         Meeting {
-            shut: AtomicBool::new(false),
-            one: AtomicBool::new(false),
-            two: AtomicBool::new(false),
-            gave_up: AtomicBool::new(false),
+            shut: Sign::new(),
+            one: Sign::new(),
+            two: Sign::new(),
+            gave_up: Sign::new(),
         }
     }
 
     pub(crate) fn shut(&self) {
-        self.shut.store(true, Ordering::SeqCst);
+        self.shut.give();
     }
 
     /// Calls at both servers were held, each until the other was.
     pub(crate) fn has_met(&self) -> bool {
-        self.one.load(Ordering::SeqCst)
-            && self.two.load(Ordering::SeqCst)
-            && !self.gave_up.load(Ordering::SeqCst)
+        self.one.is_given() && self.two.is_given() && !self.gave_up.is_given()
     }
 
-    fn meet(&self, mine: &AtomicBool, other: &AtomicBool) {
-        mine.store(true, Ordering::SeqCst);
-        for _ in 0..TURNS {
-            if other.load(Ordering::SeqCst) {
-                return;
-            }
-        }
-        self.gave_up.store(true, Ordering::SeqCst);
+    fn meet(&self, mine: &Sign, other: &Sign) {
+        mine.give();
+        other.await_or(&self.gave_up);
     }
 }
 
@@ -55,7 +125,7 @@ pub(crate) struct At<'a>(pub(crate) &'a Meeting);
 impl<'a> Gate for At<'a> {
     fn holding(&self, part: Part) {
         let meeting = self.0;
-        if !meeting.shut.load(Ordering::SeqCst) {
+        if !meeting.shut.is_given() {
             return;
         }
         match part {
@@ -66,6 +136,64 @@ impl<'a> Gate for At<'a> {
     }
 
     fn answered(&self, _part: Part) {}
+}
+
+/// Where it is shut: holds the first call at server 1, under its lock, until a call holds the lock of the view; and whom
+/// the view has answered, until a call holds the lock of server 1.
+#[derive(Drop)]
+pub(crate) struct Beside {
+    shut: Sign,
+    server: Sign,
+    view: Sign,
+    gave_up: Sign,
+}
+
+impl Beside {
+    pub(crate) fn new() -> Beside {
+        Beside {
+            shut: Sign::new(),
+            server: Sign::new(),
+            view: Sign::new(),
+            gave_up: Sign::new(),
+        }
+    }
+
+    pub(crate) fn shut(&self) {
+        self.shut.give();
+    }
+
+    /// Calls at server 1 and at the view came, each before the other had ended.
+    pub(crate) fn has_met(&self) -> bool {
+        self.server.is_given() && self.view.is_given() && !self.gave_up.is_given()
+    }
+}
+
+/// Threads beside each other, as several may have them.
+#[derive(Clone, Copy)]
+pub(crate) struct By<'a>(pub(crate) &'a Beside);
+
+impl<'a> Gate for By<'a> {
+    fn holding(&self, part: Part) {
+        let beside = self.0;
+        if !beside.shut.is_given() {
+            return;
+        }
+        match part {
+            Part::Server(1) => {
+                beside.server.give();
+                beside.view.await_or(&beside.gave_up);
+            }
+            Part::View => beside.view.give(),
+            _ => {}
+        }
+    }
+
+    fn answered(&self, part: Part) {
+        let beside = self.0;
+        if beside.shut.is_given() && part == Part::View {
+            beside.server.await_or(&beside.gave_up);
+        }
+    }
 }
 
 /// Counts what a gate is told: each call that holds a lock, and by thousands each that gave it back.

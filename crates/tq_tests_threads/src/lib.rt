@@ -1,8 +1,9 @@
 //! Tests of what no output of the program shows: threads that wait for one another inside the locks of parts, what a cell
-//! tells, boards of a running cluster, small limits, and a second run over a device that failed.
+//! tells, a client that reads its own write, boards of a running cluster, small limits, and a second run over a device that
+//! failed.
 //!
-//! Files: `clients.rt` clients and workers in threads, by the gates of `gates.rt`; `boards.rt` pulls; `cells.rt` a cell that
-//! fills; `devices.rt` a second run.
+//! Files: `clients.rt` clients and workers in threads, by the gates of `gates.rt`; `boards.rt` a client and pulls;
+//! `cells.rt` a cell that fills; `devices.rt` a second run.
 #![tactic(auto)]
 
 #[cfg(test)]
