@@ -158,7 +158,7 @@ fn is_file_explained(alloc: Global, view: &View) -> bool {
 // ---- steps of a service
 
 /// A verdict that the desk never told.
-fn unfounded_ask(alloc: Global) -> Result<NodeAsk, Memory> {
+pub(crate) fn unfounded_ask(alloc: Global) -> Result<NodeAsk, Memory> {
     let decide = WorkAsk::Decide {
         txn: 1,
         verdict: Verdict::Abort,

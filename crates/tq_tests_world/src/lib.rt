@@ -1,9 +1,10 @@
-//! What no program calls or prints: a service that is given steps, the tables of whole journals, a board beside another
-//! view, each kind of entry written as it was read, answers that no part of a client's world gives,
-//! and an entry that is reserved.
+//! What no program calls or prints: a service that is given steps, its rows after each of them, the end of transactions
+//! after each stop of a server, stable records, the tables of whole journals, a board beside another view, each kind of
+//! entry written as it was read, answers that no part of a client's world gives, and an entry that is reserved.
 //!
-//! Files: `asked.rt` services, tables, boards, orders; `rows.rt` rows of files; `foreign.rt`, `unfounded.rt` answers that no
-//! part gives; `written.rt`, `board.rt` texts; `reserved.rt` an entry reserved.
+//! Files: `asked.rt` services, tables, boards, orders; `full.rt` a full journal; `stepped.rt` rows after each step of the
+//! runs of `runs.rt`; `stopped.rt` stops; `recorded.rt` stable records; `rows.rt` rows of files; `foreign.rt`,
+//! `unfounded.rt` answers that no part gives; `written.rt`, `board.rt` texts; `reserved.rt` an entry reserved.
 #![tactic(auto)]
 
 #[cfg(test)]
@@ -13,9 +14,19 @@ mod board;
 #[cfg(test)]
 mod foreign;
 #[cfg(test)]
+mod full;
+#[cfg(test)]
+mod recorded;
+#[cfg(test)]
 mod reserved;
 #[cfg(test)]
 mod rows;
+#[cfg(test)]
+mod runs;
+#[cfg(test)]
+mod stepped;
+#[cfg(test)]
+mod stopped;
 #[cfg(test)]
 mod unfounded;
 #[cfg(test)]
