@@ -125,11 +125,7 @@ pub(crate) fn verdict_of(alloc: Global, txn: u64, told: &DeskTold) -> Result<Ver
 }
 
 /// The verdict on a transaction that an answer of the desk tells.
-fn verdict_in(
-    alloc: Global,
-    txn: u64,
-    told: &DeskTold,
-) -> Result<Option<Verdict>, Memory>
+fn verdict_in(alloc: Global, txn: u64, told: &DeskTold) -> Result<Option<Verdict>, Memory>
     ensures { IfOk result (λ verdict. verdict ≡ spec.verdict_in txn told.now) }
 {
     match &told.ask {
