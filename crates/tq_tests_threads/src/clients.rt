@@ -174,24 +174,47 @@ fn worker_beside_client(rt: HostRuntime) {
     ends_current(&rt, alloc, cluster, &[b"a"]);
 }
 
+// ---- clusters that are closed
+
+/// The cluster closes with an order of its journals, and these callers were told each entry.
+fn closes_whole<R: Abort>(rt: &R, alloc: Global, cluster: Cluster<OpenGate>, callers: Vec<Caller>) {
+    let closed = cluster.close(alloc, callers);
+    assert!(rt; matches!(&closed, Ok(explained) if explained.unclaimed == 0));
+    forget(closed);
+}
+
+/// So often a text.
+fn repeated<R: Abort>(rt: &R, alloc: Global, text: &[u8], often: u32) -> Vec<u8> {
+    let mut all = Vec::new(alloc);
+    for _ in 0..often {
+        all.extend_from_slice(text).expect(rt, "memory");
+    }
+    all
+}
+
 /// Sixteen clients, which each read and write the files a, b and c, and two workers were told each entry of the journals.
 #[test]
 fn sixteen_clients_and_two_workers(rt: HostRuntime) {
     let alloc = rt.alloc();
     let cluster = cluster(&rt, alloc, OpenGate);
-    let mut text = Vec::new(alloc);
-    for _ in 0..16 {
-        text.extend_from_slice(
-            b"client\nbegin\nread a\nwrite b x\ncommit\nbegin\nread b\nwrite c y\ncommit\n\
-            begin\nread c\nwrite a z\ncommit\n",
-        )
-        .expect(&rt, "memory");
-    }
+    let script = b"client\nbegin\nread a\nwrite b x\ncommit\nbegin\nread b\nwrite c y\ncommit\n\
+        begin\nread c\nwrite a z\ncommit\n";
+    let text = repeated(&rt, alloc, script, 16);
     let callers = ran(&rt, alloc, &cluster, text.as_slice(), 2, 20);
     assert!(rt; callers.len() == 19);
-    let closed = cluster.close(alloc, callers);
-    assert!(rt; matches!(&closed, Ok(explained) if explained.unclaimed == 0));
-    forget(closed);
+    closes_whole(&rt, alloc, cluster, callers);
+}
+
+/// Four clients find the journals full, which have three entries at the most.
+#[test]
+fn four_clients_fill_the_journals(rt: HostRuntime) {
+    let alloc = rt.alloc();
+    let limits = Limits::new(1000, 64, 3).unwrap();
+    let levels = Levels::new(1).unwrap();
+    let cluster = Cluster::new(alloc, levels, limits, OpenGate).expect(&rt, "memory");
+    let text = repeated(&rt, alloc, b"client\nbegin\nwrite a x\ncommit\n", 4);
+    let callers = ran(&rt, alloc, &cluster, text.as_slice(), 0, 0);
+    closes_whole(&rt, alloc, cluster, callers);
 }
 
 // ---- small limits
