@@ -3,7 +3,7 @@
 //! Files: `cluster.rt` the cells and the three calls; `caller.rt`, `call.rt`, `heard.rt`, `asking.rt` a caller;
 //! `clients.rt`, `workers.rt`, `rounds.rt` threads; `live_board.rt` a board; `close.rt`, `explained.rt`, `journals.rt` the
 //! close.
-//! Definitions: `specs/Cluster`, `Told`, `Pulls`, `Clients`, `Closes`; `Backwards` is the code's own word.
+//! Definitions: `specs/Cluster`, `Told`, `Pulls`, `Rounds`, `Clients`, `Closes`; `Backwards` is the code's own word.
 #![tactic(auto)]
 
 mod asking;
