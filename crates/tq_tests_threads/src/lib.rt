@@ -1,9 +1,8 @@
 //! Tests of what no output of the program shows: threads that wait for one another inside the locks of parts, what a cell
-//! tells, a client that reads its own write, boards of a running cluster, small limits, and a second run over a device that
-//! failed.
+//! tells, a client that reads its own write, boards of a running cluster, and small limits.
 //!
 //! Files: `clients.rt` clients and workers in threads, by the gates of `gates.rt`; `boards.rt` a client and pulls;
-//! `cells.rt` a cell that fills; `devices.rt` a second run.
+//! `cells.rt` a cell that fills.
 #![tactic(auto)]
 
 #[cfg(test)]
@@ -12,7 +11,5 @@ mod boards;
 mod cells;
 #[cfg(test)]
 mod clients;
-#[cfg(test)]
-mod devices;
 #[cfg(test)]
 mod gates;
