@@ -51,11 +51,18 @@ pub(crate) fn push_writes(text: &mut String, writes: &[FileVersion]) -> Result<(
     Ok(())
 }
 
-/// Puts a space and a number behind the text.
+/// Puts a space and a number behind the text, at once where it has at most two digits, as that of a server mostly has.
 fn push_spaced(text: &mut String, number: u64) -> Result<(), Memory>
     ensures { OnOk result (string_bytes text.new ≡ string_bytes text.old ++ 32 ∷ decimal number) }
 {
     text.push(' ')?;
+    if number < 10 {
+        return text.push(digit(number));
+    }
+    if number < 100 {
+        text.push(digit(number / 10))?;
+        return text.push(digit(number % 10));
+    }
     push_digits(text, number)
 }
 

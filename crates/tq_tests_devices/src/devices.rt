@@ -1,4 +1,5 @@
 //! Devices in memory whose calls fail: what was written then, and a second run over them.
+ghost use Rattle.std.specs.Prelude.{◌≡◌, ◌<◌};
 
 use std::alloc::Global;
 use std::sync::Wait;
@@ -63,8 +64,16 @@ fn call<H: Threads + Wait + Sync>(
     let levels = Levels::new(2).unwrap();
     match called {
         Called::Run => run(alloc, levels, source, sink),
-        Called::Audit => audit(alloc, source, sink).map(|_| ()),
-        Called::Threads => threads(rt, alloc, levels, 0, 0, source, sink).map(|_| ()),
+        Called::Audit => done(audit(alloc, source, sink)),
+        Called::Threads => done(threads(rt, alloc, levels, 0, 0, source, sink)),
+    }
+}
+
+/// What was done, without its status.
+fn done(ended: Result<u8, RunFault>) -> Result<(), RunFault> {
+    match ended {
+        Ok(_status) => Ok(()),
+        Err(fault) => Err(fault),
     }
 }
 
