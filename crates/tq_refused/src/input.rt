@@ -2,9 +2,9 @@
 
 use crate::wrong::Wrong;
 use std::alloc::Global;
+use std::io::Read;
 use std::{env, io};
 use tq_board::{ReadFault, journals_from_json, journals_to_json};
-use tq_devices::{Reading, Source};
 use tq_tables::Journals;
 
 /// The only word.
@@ -40,19 +40,13 @@ pub(crate) fn journals(rt: &HostRuntime) -> Result<Journals, Wrong> {
 
 /// All bytes of the input.
 fn bytes(rt: &HostRuntime) -> Result<Vec<u8>, Wrong> {
-    let mut reader = Reading::new(rt.reader());
-    let mut buffer = [0; 65_536];
+    let mut reader = rt.reader();
     let mut bytes = Vec::new(rt.alloc());
-    while bytes.len() <= 67_108_864 {
-        let Ok(count) = reader.read(&mut buffer) else {
-            return Err(Wrong::Input);
-        };
-        if count == 0 {
-            return Ok(bytes);
-        }
-        bytes.extend_from_slice(&buffer[..count])?;
+    match reader.read_to_end(&mut bytes) {
+        Ok(_count) => Ok(bytes),
+        Err(error) if error.kind() == io::ErrorKind::OutOfMemory => Err(Wrong::Memory),
+        Err(_) => Err(Wrong::Input),
     }
-    Err(Wrong::Input)
 }
 
 /// The journals as text, written once more where memory is refused.

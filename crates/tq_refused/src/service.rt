@@ -48,7 +48,9 @@ fn take(
     journals: &Journals,
     order: &[Part],
     place: usize,
-) -> Result<(), Wrong> {
+) -> Result<(), Wrong>
+    requires { place < length order.now }
+{
     let step = step_at(journals, order, place)?;
     match service.step(alloc, step) {
         Ok(_) => return Ok(()),
@@ -86,10 +88,10 @@ pub(crate) fn step_at(journals: &Journals, order: &[Part], place: usize) -> Resu
     requires { place < length order.now }
 {
     let part = order[place];
-    let mut number = 1;
+    let mut number: u64 = 1;
     for other in &order[..place] {
         if *other == part {
-            number += 1;
+            number = number.saturating_add(1);
         }
     }
     let name = EntryName { part, number };
