@@ -49,6 +49,12 @@ def audited(program, text):
     return done.stdout, done.returncode
 
 
+def upgraded(program, text):
+    """What `PROGRAM.. upgrade` makes of a file, and its status."""
+    done = subprocess.run([*program, "upgrade"], cwd=ROOT, input=text, stdout=subprocess.PIPE)
+    return done.stdout, done.returncode
+
+
 # Journals as a file
 
 
@@ -135,6 +141,20 @@ def file_of(levels, journals):
     return {"desk": lists["desk"], "format": 2, "levels": levels, "limits": limits, "servers": servers, "view": lists["view"]}
 
 
+def as_old(journals):
+    """The journals with each cost for writing that for reading, and each choice for reading: those that a file of format 1 can tell of."""
+    asks = {"set cost": lambda server, read, _write: (server, read, read), "choose": lambda _purpose: ("read",)}
+    view = [((asked[0], *asks[asked[0]](*asked[1:])) if asked[0] in asks else asked, reply) for asked, reply in journals["view"]]
+    return journals | {"view": view}
+
+
+def old_of(file):
+    """The file in format 1, where its journals are such."""
+    asks = {"setcost": lambda ask: {"cost": ask["read"], "is": "setcost", "server": ask["server"]}, "choose": lambda _ask: {"is": "choose"}}
+    view = [one | {"ask": asks.get(one["ask"]["is"], dict)(one["ask"])} for one in file["view"]]
+    return file | {"format": 1, "view": view}
+
+
 def text_of(file):
     return json.dumps(file, separators=(",", ":"), sort_keys=True).encode() + b"\n"
 
@@ -142,7 +162,7 @@ def text_of(file):
 # What an audit is to say
 
 
-def first_wrong(levels, journals):
+def first_wrong(levels, journals, view_reply=plain.view_reply):
     """The first entry that its part would not give: servers upwards, then the desk, then the view."""
     for server in range(1, 2**levels):
         records = plain.Records()
@@ -150,7 +170,7 @@ def first_wrong(levels, journals):
             replied, records = plain.server_step(records, server, number, asked)
             if replied != reply:
                 return server, number
-    for part, reply_of in (("desk", plain.desk_reply), ("view", plain.view_reply)):
+    for part, reply_of in (("desk", plain.desk_reply), ("view", view_reply)):
         for number, (asked, reply) in enumerate(journals[part], 1):
             if reply_of(levels, journals[part][: number - 1], asked) != reply:
                 return part, number
@@ -176,6 +196,7 @@ def wrong_at(part, number):
 
 def wanted(levels, journals):
     wrong = first_wrong(levels, journals)
+    assert is_so_by_one(levels, journals, wrong), (journals, wrong)
     return wrong_at(*wrong) if wrong else of_counts(levels, journals, placed(levels, journals))
 
 
@@ -185,3 +206,53 @@ def of_counts(levels, journals, counts):
         return f"explained {sum(counts.values())}\n".encode(), 0
     servers = " ".join(str(counts[server]) for server in range(1, 2**levels))
     return f"stuck {servers} desk {counts['desk']} view {counts['view']}\n".encode(), 3
+
+
+# The view while a server had one cost
+
+
+def has_equal_costs(journals):
+    """Whether each SetCost has two equal costs."""
+    return all(ask[2] == ask[3] for ask, _ in journals["view"] if ask[0] == "set cost")
+
+
+def evened(levels, journals):
+    """The journals with the first cost of each SetCost for both purposes, and the view asked anew."""
+    view = []
+    for ask, _ in journals["view"]:
+        ask = (*ask[:3], ask[2]) if ask[0] == "set cost" else ask
+        view.append((ask, plain.view_reply(levels, view, ask)))
+    return journals | {"view": view}
+
+
+def cost_by_one(view, server):
+    """The server's cost: that of its last SetCost answered CostSet, 1 where there is none."""
+    told = [ask[2] for ask, reply in view if ask[:2] == ("set cost", server) and reply == ("cost set",)]
+    return told[-1] if told else 1
+
+
+def reply_by_one(levels, view, ask):
+    """What the view replied then: of a SetCost the first cost counts, of a Choose no purpose."""
+    if ask[0] == "choose":
+        return choice_by_one(levels, view)
+    if not 0 < ask[1] < 2**levels:
+        return "refused", plain.NO_SERVER
+    if ask[0] == "mark":
+        return ("marked",)
+    return ("cost set",) if 0 < ask[2] <= plain.MOST_COST else ("refused", plain.BAD_COST)
+
+
+def choice_by_one(levels, view):
+    """Of the quorums that are up the first of least cost, with its cost; where none is, the first that is all down."""
+    servers, up = range(1, 2**levels), plain.marked_up(levels, view)
+    cost = {server: cost_by_one(view, server) for server in servers}
+    quorum = plain.best(levels, 1, cost, up)
+    if quorum:
+        return "chosen", tuple(sorted(quorum)), sum(map(cost.get, quorum))
+    blocker = plain.best(levels, 1, dict.fromkeys(servers, 0), frozenset(servers) - up)
+    return "refused", plain.BLOCKED, tuple(sorted(blocker))
+
+
+def is_so_by_one(levels, journals, wrong):
+    """Whether a replay by one cost finds the same first wrong entry, where each SetCost has two equal costs."""
+    return not has_equal_costs(journals) or first_wrong(levels, journals, reply_by_one) == wrong

@@ -3,7 +3,7 @@
 
 It is written from the definitions in docs/DEFINITIONS.md and the lines in docs/OPERATORS.md, to compare sessions with. Nothing is clever in it:
 
-- A tree's quorums are a list; the best and the blocker are looked for in the whole of it (for 5 and 6 levels see `of_sides`).
+- A tree's quorums are a list; the best and the blocker are looked for in the whole of it (for more than 4 levels see `of_sides`).
 - Each part keeps the journal of its asks with its replies. Desk and view have nothing else: what they reply is read off their journals. Of a
   server the records after its journal are kept too, and `World.check` replays the journals from nothing and compares.
 - A server's copies and open votes are read off its list of stable records, the tables off all journals, each time that they are wanted.
@@ -15,12 +15,12 @@ import re
 import sys
 from typing import NamedTuple
 
-MOST_LEVELS, LISTED_LEVELS = 6, 4
+MOST_LEVELS, LISTED_LEVELS = 10, 4
 PURPOSES = ["read", "write"]
 MOST_COST = 1_000_000
 MOST_FILES, MOST_OPS, MOST_ENTRIES = 1_000, 64, 1_000_000
 MOST_NUMBER, MOST_COUNT = 2**64 - 1, 2**32 - 1
-LINE_LIMIT, TEXT_LIMIT, INPUT_LIMIT = 1_200, 1_000, 16_777_216
+LINE_LIMIT, TEXT_LIMIT, INPUT_LIMIT = 4_200, 4_000, 16_777_216
 
 FULL, UNFOUNDED, DOWN, ALREADY_UP, ALREADY_DOWN, HELD, PREPARED, NOT_LOCKED = 2, 3, 11, 12, 13, 14, 15, 16
 BAD_WRITES, NOT_NEWER, NOTHING_HERE, NO_TXN, DECIDED, BAD_EVIDENCE, MANY_OPS, MANY_FILES = 17, 18, 19, 21, 22, 23, 24, 25
@@ -104,7 +104,7 @@ def members(levels, server):
 
 
 def of_sides(levels, server, cost, allowed):
-    """In place of the list of members, which is too long for 5 and 6 levels: its three kinds, of each the first that is least.
+    """In place of the list of members, which is too long for more than 4 levels: its three kinds, of each the first that is least.
 
     The top's cost is the same in all of a kind, so its first least one has the first least member of the side. Of the pairs the least have a least
     member of each side, and the first of them the first of each, since the order is by the left one, then by the right one."""
@@ -134,7 +134,7 @@ def is_member(levels, server, servers):
 
 
 def fits_sides(levels, server, servers):
-    """Whether the set is a member of the subtree, by the kind that it has to be; in place of the list for 5 and 6 levels."""
+    """Whether the set is a member of the subtree, by the kind that it has to be; in place of the list for more than 4 levels."""
     left, right = 2 * server, 2 * server + 1
     if left >= 2**levels:
         return servers == {server}
@@ -1034,7 +1034,7 @@ def session(levels, data):
 
 def main(words):
     if words[:2] != ["shell", "--levels"] or len(words) != 3 or words[2] not in map(str, range(1, MOST_LEVELS + 1)):
-        print("usage: plain.py shell --levels N, N from 1 to 6")
+        print("usage: plain.py shell --levels N, N from 1 to 10")
         return 2
     printed, status = session(int(words[2]), sys.stdin.buffer.read())
     sys.stdout.buffer.write(printed)

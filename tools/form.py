@@ -5,9 +5,10 @@ where the bytes are no JSON, or the way to the member, as `desk[1].ask.txn`, whe
 import json
 import re
 
-MOST, MOST_COUNT, MOST_CONTENT, MOST_DEPTH, MOST_BYTES = 2**64 - 1, 2**32 - 1, 1_000, 127, 67_108_864
+MOST, MOST_COUNT, MOST_DEPTH, MOST_BYTES = 2**64 - 1, 2**32 - 1, 127, 67_108_864
 LIMITS = {"entries": 1_000_000, "files": 1_000, "ops": 64}
-MOST_LEVELS = 6
+# Of each format: the most levels of a tree, and the most bytes of a content.
+MOST_LEVELS, MOST_CONTENT = {1: 6, 2: 10}, {1: 1_000, 2: 4_000}
 
 
 class Unreadable(Exception):
@@ -103,10 +104,17 @@ def text(form, wanted):
 
 
 def content(value, place):
-    digits = text(r"([0-9a-fA-F]{2})*", "a text of hexadecimal digits, two for each byte")(value, place)
-    if len(digits) > 2 * MOST_CONTENT:
-        raise Unreadable(place, f"a content has at most {MOST_CONTENT} bytes, and this one {len(digits) // 2}")
-    return digits.lower()
+    return text(r"([0-9a-fA-F]{2})*", "a text of hexadecimal digits, two for each byte")(value, place).lower()
+
+
+def look_at_contents(value, place, most):
+    """Refuses contents of more bytes."""
+    if isinstance(value, dict) and len(value.get("content", "")) > 2 * most:
+        raise Unreadable(f"{place}.content", f"a content has at most {most} bytes, and this one {len(value['content']) // 2}")
+    for key, it in value.items() if isinstance(value, dict) else ():
+        look_at_contents(it, f"{place}.{key}".lstrip("."), most)
+    for at, it in enumerate(value if isinstance(value, list) else []):
+        look_at_contents(it, f"{place}[{at}]", most)
 
 
 def truth(value, place):
@@ -239,10 +247,13 @@ def read(data, formats=(1, 2)):
         raise Unreadable("the file", f"it has more than {MOST_BYTES} bytes")
     value = value_of(data)
     limits = record(**{key: number(1, most) for key, most in LIMITS.items()})
-    top = members(value, "", {"format": number(min(formats), max(formats)), "levels": number(1, MOST_LEVELS), "limits": limits})
+    top = members(value, "", {"format": number(min(formats), max(formats)), "levels": number(), "limits": limits})
+    number(1, MOST_LEVELS[top["format"]])(top["levels"], "levels")
     levels, most = top["levels"], top["limits"]["entries"]
     journal = lambda both: items(record(ask=both[0], reply=both[1]), most)
     if len(items(lambda it, _: it)(value.get("servers"), "servers")) != 2**levels - 1:
         raise Unreadable("servers", f"{levels} levels have {2**levels - 1} servers, and {len(value['servers'])} lists stand there")
     parts = {"desk": journal(DESK), "servers": items(journal(SERVER)), "view": journal(view(levels, top["format"]))}
-    return top | members(value, "", parts)
+    file = top | members(value, "", parts)
+    look_at_contents(file, "", MOST_CONTENT[top["format"]])
+    return file

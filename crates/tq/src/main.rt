@@ -1,5 +1,5 @@
-//! The program `tq`: the shell of a tree of servers, client scripts in threads and the audit of journal files, over the
-//! standard streams.
+//! The program `tq`: the shell of a tree of servers, client scripts in threads, and the audit and the upgrade of journal files,
+//! over the standard streams.
 #![tactic(auto)]
 
 ghost use Rattle.std.specs.Prelude.{◌≤◌, ℕ, List};
@@ -10,7 +10,7 @@ use std::sync::Wait;
 use std::thread::Threads;
 use std::{env, io};
 use tq_shape::Levels;
-use tq_shell::{Reading, RunFault, Words, WordsFault, Writing, audit, run, threads};
+use tq_shell::{Reading, RunFault, Words, WordsFault, Writing, audit, run, threads, upgrade};
 
 /// The status of what was done.
 const DONE: u8 = 0;
@@ -62,6 +62,7 @@ fn obey<H: Threads + Wait + Sync>(rt: &HostRuntime, handle: &H, words: Words) ->
             rounds,
         } => scripts(rt, handle, levels, workers, rounds),
         Words::Audit => audit_file(rt),
+        Words::Upgrade => upgrade_file(rt),
     }
 }
 
@@ -106,6 +107,16 @@ fn audit_file(rt: &HostRuntime) -> ExitCode {
     let mut reader = Reading::new(rt.reader());
     let mut writer = Writing::new(io::writer(rt));
     match audit(rt.alloc(), &mut reader, &mut writer) {
+        Ok(status) => ExitCode::from(status),
+        Err(fault) => say_fault(rt, fault),
+    }
+}
+
+/// Writes the journal file of the standard input in the format of today.
+fn upgrade_file(rt: &HostRuntime) -> ExitCode {
+    let mut reader = Reading::new(rt.reader());
+    let mut writer = Writing::new(io::writer(rt));
+    match upgrade(rt.alloc(), &mut reader, &mut writer) {
         Ok(status) => ExitCode::from(status),
         Err(fault) => say_fault(rt, fault),
     }

@@ -33,7 +33,8 @@ use Rattle.tq_desk.specs.declared.ask.DeskReply.{DeskReply}
 use Rattle.tq_desk.specs.declared.ask.DeskReply.TheVariants as desk_replies
 use Rattle.tq_store.specs.Names.{same_name}
 use Rattle.tq_store.proofs.SameName.{same_name-is, same_name-refl}
-use Rattle.tq_alike.specs.Same.{same_mode, same_lock, same_write, same_cited, same_verdict, same_work, same_node_ask, same_reason, same_node_reply, same_kind, same_grant, same_op, same_vote, same_desk_ask, same_desk_reason, same_desk_reply}
+use Rattle.tq_asks.specs.Same.{same_cited, same_verdict}
+use Rattle.tq_alike.specs.Same.{same_mode, same_lock, same_write, same_work, same_node_ask, same_reason, same_node_reply, same_kind, same_grant, same_op, same_vote, same_desk_ask, same_desk_reason, same_desk_reply}
 
 mode-is : (a b : Mode) → same_mode a b ≡ true → a ≡ b
 mode-is Shared Shared same = refl

@@ -4,10 +4,7 @@ use Rattle.std.specs.Cmp.Lexicographic.{pointwise}
 use Rattle.tq_store.specs.declared.write.Write.{Write}
 use Rattle.tq_locks.specs.declared.mode.Mode.{Mode}
 use Rattle.tq_locks.specs.declared.mode.Mode.TheVariants.{Shared, Exclusive}
-use Rattle.tq_asks.specs.declared.ask.CitedVote.{CitedVote}
 use Rattle.tq_asks.specs.declared.ask.HeldLock.{HeldLock}
-use Rattle.tq_asks.specs.declared.ask.Verdict.{Verdict}
-use Rattle.tq_asks.specs.declared.ask.Verdict.TheVariants as verdicts
 use Rattle.tq_asks.specs.declared.ask.WorkAsk.{WorkAsk}
 use Rattle.tq_asks.specs.declared.ask.WorkAsk.TheVariants as work
 use Rattle.tq_asks.specs.declared.ask.NodeAsk.{NodeAsk}
@@ -16,6 +13,7 @@ use Rattle.tq_asks.specs.declared.ask.NodeRefusal.{NodeRefusal}
 use Rattle.tq_asks.specs.declared.ask.NodeRefusal.TheVariants as reasons
 use Rattle.tq_asks.specs.declared.ask.NodeReply.{NodeReply}
 use Rattle.tq_asks.specs.declared.ask.NodeReply.TheVariants as replies
+use Rattle.tq_asks.specs.Same.{same_cited, same_verdict}
 use Rattle.tq_evidence.specs.declared.grant.Grant.{Grant}
 use Rattle.tq_evidence.specs.declared.op.Op.{Op}
 use Rattle.tq_evidence.specs.declared.op.OpKind.{OpKind}
@@ -40,14 +38,6 @@ same_lock a b = same_name a.file b.file && same_mode a.mode b.mode && a.since ==
 
 abbrev pub same_write : Write → Write → Bool
 same_write a b = same_name a.file b.file && a.version == b.version && same_name a.content b.content
-
-abbrev pub same_cited : CitedVote → CitedVote → Bool
-same_cited a b = a.server == b.server && a.number == b.number
-
-abbrev pub same_verdict : Verdict → Verdict → Bool
-same_verdict verdicts.Abort verdicts.Abort = true
-same_verdict (verdicts.Commit votes) (verdicts.Commit others) = pointwise same_cited votes others
-same_verdict a b = false
 
 -- ---- of a server
 

@@ -3,7 +3,6 @@ ghost use Rattle.std.specs.Cmp.Lexicographic.{pointwise};
 ghost use Rattle.tq_alike.specs.Same as spec;
 
 use crate::kinds::Alike;
-use crate::node::is_same_verdict;
 use tq_desk::{DeskAsk, DeskRefusal, DeskReply};
 use tq_evidence::{Op, Vote};
 use tq_shape::SharedSeq;
@@ -66,7 +65,7 @@ fn is_same_reason(one: &DeskRefusal, other: &DeskRefusal) -> bool
     match one {
         DeskRefusal::NoSuchTxn => matches!(other, DeskRefusal::NoSuchTxn),
         DeskRefusal::Decided(verdict) => match other {
-            DeskRefusal::Decided(ending) => is_same_verdict(verdict, ending),
+            DeskRefusal::Decided(ending) => verdict.is_same(ending),
             _ => false,
         },
         DeskRefusal::TooManyOps => matches!(other, DeskRefusal::TooManyOps),
@@ -88,7 +87,7 @@ fn test_of_reply(one: &DeskReply, other: &DeskReply) -> bool
             _ => false,
         },
         DeskReply::Verdict(verdict) => match other {
-            DeskReply::Verdict(ending) => is_same_verdict(verdict, ending),
+            DeskReply::Verdict(ending) => verdict.is_same(ending),
             _ => false,
         },
         DeskReply::Committed { serial } => match other {

@@ -2,7 +2,7 @@ ghost use Rattle.std.specs.Prelude.{◌≡◌};
 ghost use Rattle.tq_alike.specs.Same as spec;
 
 use crate::kinds::Alike;
-use tq_asks::{NodeAsk, NodeRefusal, NodeReply, Verdict, WorkAsk};
+use tq_asks::{NodeAsk, NodeRefusal, NodeReply, WorkAsk};
 
 /// A server's asks and replies.
 #[derive(Clone, Copy, Debug)]
@@ -19,19 +19,6 @@ impl Alike for OfServer {
 
     fn is_same_reply(one: &NodeReply, other: &NodeReply) -> bool {
         test_of_reply(one, other)
-    }
-}
-
-/// Whether the two verdicts are the same: both aborts, or commits of the same votes in the same order.
-pub(crate) fn is_same_verdict(one: &Verdict, other: &Verdict) -> bool
-    ensures { result ≡ spec.same_verdict one.now other.now }
-{
-    match one {
-        Verdict::Abort => matches!(other, Verdict::Abort),
-        Verdict::Commit { votes } => match other {
-            Verdict::Abort => false,
-            Verdict::Commit { votes: others } => *votes == *others,
-        },
     }
 }
 
@@ -60,7 +47,7 @@ fn test_of_work(one: &WorkAsk, other: &WorkAsk) -> bool
                 txn: by,
                 verdict: ending,
                 cite: number,
-            } => *txn == *by && is_same_verdict(verdict, ending) && *cite == *number,
+            } => *txn == *by && verdict.is_same(ending) && *cite == *number,
             _ => false,
         },
         WorkAsk::Release { txn } => match other {

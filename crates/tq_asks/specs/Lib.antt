@@ -1,2 +1,3 @@
 pub mod Citing
+pub mod Same
 pub mod Reasons

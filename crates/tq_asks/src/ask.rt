@@ -1,10 +1,13 @@
 ghost use Rattle.std.specs.Prelude.{◌≡◌, IfOk};
 ghost use Rattle.tq_asks.specs.Citing as spec;
+ghost use Rattle.tq_asks.specs.Same.{same_verdict};
 
 use crate::Reason;
 use std::alloc::Global;
+use std::fmt;
+use std::fmt::Debug;
 use tq_locks::Mode;
-use tq_shape::{ExactClone, Memory, Seq, Shared, SharedSeq};
+use tq_shape::{ExactClone, Memory, Shared, SharedSeq};
 use tq_store::{Content, FileName, Write};
 
 /// The most writes that a vote may have.
@@ -18,11 +21,11 @@ pub struct CitedVote {
 }
 
 /// How a transaction ended.
-#[derive(Debug, Drop, Clone, PartialEq)]
+#[derive(Drop, Clone, PartialEq)]
 pub enum Verdict {
     Abort,
-    /// With the votes that the desk saw, in the order of their servers.
-    Commit { votes: Seq<CitedVote> },
+    /// With the votes that the desk saw, in the order of their servers. Its clones share them.
+    Commit { votes: SharedSeq<CitedVote> },
 }
 
 /// A lock, as a vote lists it.
@@ -147,24 +150,62 @@ impl NodeReply {
 }
 
 impl Verdict {
+    /// Whether the two verdicts are the same: both aborts, or commits of the same votes in the same order.
+    pub fn is_same(&self, other: &Verdict) -> bool
+        ensures { result ≡ same_verdict self.now other.now }
+    {
+        match self {
+            Verdict::Abort => matches!(other, Verdict::Abort),
+            Verdict::Commit { votes } => match other {
+                Verdict::Abort => false,
+                Verdict::Commit { votes: others } => *votes == *others,
+            },
+        }
+    }
+
     /// Whether it is Commit and cites the vote that the entry of that number gave at the server.
     pub fn cites(&self, server: u64, number: u64) -> bool
         ensures { result ≡ spec.cites_vote self.now server number }
     {
         match self {
             Verdict::Abort => false,
-            Verdict::Commit { votes } => are_citing(votes.as_slice(), server, number),
+            Verdict::Commit { votes } => are_citing_vote(votes.as_slice(), server, number),
         }
     }
 }
 
-/// Whether the vote of this server with this number is among those cited.
+/// Whether the vote of this server with this number is among those cited: where they ascend, a search finds it.
+fn are_citing_vote(votes: &[CitedVote], server: u64, number: u64) -> bool
+    ensures { result ≡ spec.are_citing votes.now server number }
+{
+    let place = votes.partition_point(|vote| vote.server < server);
+    if let Some(vote) = votes.get(place) {
+        if vote.server == server && vote.number == number {
+            return true;
+        }
+    }
+    are_citing(votes, server, number)
+}
+
+/// The same, with a look at each.
 fn are_citing(votes: &[CitedVote], server: u64, number: u64) -> bool
     ensures { result ≡ spec.are_citing votes.now server number }
 {
     votes
         .iter()
         .any(|vote| vote.server == server && vote.number == number)
+}
+
+impl Debug for Verdict {
+    fn fmt<W: fmt::Write>(&self, f: &mut fmt::Formatter<W>) -> fmt::Result {
+        match self {
+            Verdict::Abort => f.write_str("Abort"),
+            Verdict::Commit { votes } => f
+                .debug_struct("Commit")
+                .field("votes", &votes.as_slice())
+                .finish(),
+        }
+    }
 }
 
 impl ExactClone for CitedVote {

@@ -5,6 +5,7 @@ pub mod Names
 pub mod Closing
 pub mod Seen
 pub mod Pulled
+pub mod Puts
 pub mod Callers
 pub mod Crossing
 pub mod Came

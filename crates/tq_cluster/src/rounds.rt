@@ -2,6 +2,7 @@ ghost use Rattle.std.specs.Prelude.{◌≡◌, ◌≤◌, ◌<◌, ◌+◌, ℕ,
 ghost use Rattle.std.specs.Bool.{OnTrue};
 ghost use Rattle.crossbeam_channel.specs.Claims.{view};
 ghost use Rattle.crossbeam_channel.specs.Ends.{sends_on};
+ghost use Rattle.tq_refresh.specs.Plan.{ArePlanned, jobs_in, jobs_of_plan};
 ghost use Rattle.tq_cluster.specs.declared.workers.Message.{Message};
 ghost use Rattle.tq_cluster.specs.Rounds.{planned_on, with_jobs};
 ghost use Rattle.tq_cluster.specs.Told.{CallerView};
@@ -16,7 +17,8 @@ use std::sync::Wait;
 use tq_cells::Gate;
 use tq_prefixes::PullFault;
 use tq_queue::Putter;
-use tq_refresh::{Job, plan};
+use tq_refresh::{FileJobs, Job, PlanByFile, plan_by_file};
+use tq_shape::ServerSet;
 
 /// How a round ended.
 #[derive(Clone, Copy)]
@@ -31,22 +33,53 @@ pub(crate) enum Round {
     Memory,
 }
 
-/// Puts the jobs, in their order. False where the queue took one of them no more: the first of them were put then.
-fn put_jobs<R: Wait>(rt: &R, putter: &mut Putter<Message>, jobs: &[Job]) -> bool
-    ensures put { OnTrue result ((view putter.new.pass).put ≡ with_jobs (view putter.old.pass).put jobs.now) }
+/// Puts the jobs of one file, upwards, where `up` is the set of the servers that are marked up. False where the queue took
+/// one of them no more: the first of them were put then.
+fn put_jobs_of<R: Wait>(
+    rt: &R,
+    putter: &mut Putter<Message>,
+    of_file: &FileJobs,
+    up: &ServerSet,
+) -> bool
+    requires { of_file.now.stale.levels ≡ up.now.levels }
+    ensures put { OnTrue result ((view putter.new.pass).put ≡ with_jobs (view putter.old.pass).put (jobs_in up.now of_file.now)) }
     ensures channel { sends_on putter.new.sender ≡ sends_on putter.old.sender }
     ensures parts { (view putter.new.pass).parts ≡ (view putter.old.pass).parts }
     ensures taken { (view putter.new.pass).taken ≡ (view putter.old.pass).taken }
 {
-    for job in jobs {
-        if !putter.put(rt, Message::Job(*job)) {
+    for stale in of_file.stale.iter() {
+        if up.contains(stale) {
+            let job = Job {
+                file: of_file.file,
+                server: stale,
+                source: of_file.source,
+            };
+            if !putter.put(rt, Message::Job(job)) {
+                return false;
+            }
+        }
+    }
+    true
+}
+
+/// Puts the jobs of a plan, file by file, as `put_jobs_of` those of one.
+fn put_jobs<R: Wait>(rt: &R, putter: &mut Putter<Message>, plan: &PlanByFile) -> bool
+    requires { ArePlanned plan.now.up.levels plan.now }
+    ensures put { OnTrue result ((view putter.new.pass).put ≡ with_jobs (view putter.old.pass).put (jobs_of_plan plan.now)) }
+    ensures channel { sends_on putter.new.sender ≡ sends_on putter.old.sender }
+    ensures parts { (view putter.new.pass).parts ≡ (view putter.old.pass).parts }
+    ensures taken { (view putter.new.pass).taken ≡ (view putter.old.pass).taken }
+{
+    for of_file in plan.files.as_slice() {
+        if !put_jobs_of(rt, putter, of_file, &plan.up) {
             return false;
         }
     }
     true
 }
 
-/// Plans over the board, and puts the jobs where there are workers.
+/// Plans over the board by files, in memory for its files and servers and not for each job, and puts the jobs where there
+/// are workers.
 fn put_plan<R: Wait>(
     rt: &R,
     alloc: Global,
@@ -61,13 +94,13 @@ fn put_plan<R: Wait>(
     ensures taken { (view putter.new.pass).taken ≡ (view putter.old.pass).taken }
 {
     let tables = board.tables();
-    let Ok(jobs) = plan(alloc, tables, tables.view()) else {
+    let Ok(plan) = plan_by_file(alloc, tables, tables.view()) else {
         return Round::Memory;
     };
     if workers == 0 {
         return Round::Put;
     }
-    if put_jobs(rt, putter, jobs.as_slice()) {
+    if put_jobs(rt, putter, &plan) {
         Round::Put
     } else {
         Round::Refused

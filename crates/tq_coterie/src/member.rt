@@ -11,8 +11,8 @@ use std::marker::Model;
 use std::sync::Arc;
 use tq_shape::{ExactClone, Levels, Memory, ServerId};
 
-/// The servers of a quorum or a blocker. Up to eight of them need no allocation.
-pub type ServerIds = SmallVec<ServerId, 8>;
+/// The servers of a quorum or a blocker. Up to sixteen of them need no allocation.
+pub type ServerIds = SmallVec<ServerId, 16>;
 
 /// The servers of a member, and the levels of their tree.
 #[derive(Debug, Drop)]

@@ -1,5 +1,5 @@
 use tq_asks::CitedVote;
-use tq_shape::Seq;
+use tq_shape::{Seq, SharedSeq};
 use tq_store::FileName;
 
 /// What an ask changes in a desk.
@@ -18,7 +18,7 @@ pub enum DeskChange {
     /// The transaction, which had not ended, commits on these votes and writes these files.
     Commit {
         txn: u64,
-        votes: Seq<CitedVote>,
+        votes: SharedSeq<CitedVote>,
         files: Seq<FileName>,
     },
 }

@@ -16,7 +16,7 @@ use std::marker::Model;
 use tq_asks::{CitedVote, Verdict};
 use tq_evidence::{Op, Vote, failed_rule};
 use tq_part::Plan;
-use tq_shape::{Levels, Limits, Memory, Seq};
+use tq_shape::{Levels, Limits, Memory, Seq, SharedSeq};
 use tq_store::FileName;
 
 /// The desk: it begins transactions and keeps how each ended.
@@ -297,7 +297,7 @@ impl Desk {
     fn accept(
         &mut self,
         txn: u64,
-        votes: Seq<CitedVote>,
+        votes: SharedSeq<CitedVote>,
         files: Seq<FileName>,
     ) -> Result<(), Memory>
         requires { fin.get self.old.finals txn ≡ None }
@@ -326,10 +326,10 @@ fn refused(reason: DeskRefusal) -> Plan<DeskReply, DeskChange>
 }
 
 /// The votes as a commit's record cites them.
-fn cited(alloc: Global, votes: &[Vote]) -> Result<Seq<CitedVote>, Memory>
+fn cited(alloc: Global, votes: &[Vote]) -> Result<SharedSeq<CitedVote>, Memory>
     ensures { IfOk result (λ list. list ≡ spec.cited votes.now) }
 {
-    Ok(Seq::from_vec(citations(alloc, votes)?))
+    Ok(SharedSeq::from_vec(citations(alloc, votes)?)?)
 }
 
 fn citations(alloc: Global, votes: &[Vote]) -> Result<Vec<CitedVote>, Memory>

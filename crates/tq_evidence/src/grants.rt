@@ -7,8 +7,8 @@ use smallvec::SmallVec;
 use std::alloc::Global;
 use tq_shape::Memory;
 
-/// Numbers of servers, of which eight need no memory.
-pub type Numbers = SmallVec<u64, 8>;
+/// Numbers of servers, of which sixteen need no memory.
+pub type Numbers = SmallVec<u64, 16>;
 
 /// The servers of the grants, in their order.
 pub fn granters(alloc: Global, grants: &[Grant]) -> Result<Numbers, Memory>

@@ -15,7 +15,7 @@ use Rattle.tq_live.specs.declared.view.ViewRefusal.TheVariants.{Blocked}
 use Rattle.tq_node.specs.NodeJournal.{NodeEntry}
 use Rattle.tq_desk.specs.DeskJournal.{DeskEntry}
 use Rattle.tq_tables.specs.Journals.{ViewEntry, IsOfTree, AreJournals}
-use Rattle.tq_members.specs.Format.{two}
+use Rattle.tq_members.specs.declared.format.Format.{Format}
 use Rattle.tq_members.specs.Member.{◌>>=◌, text_at, number_at, items_at, each}
 use Rattle.tq_form.specs.Views as views
 use Rattle.tq_form.specs.Entries.{count, few, within, journal, node_entry, desk_entry, view_entry}
@@ -107,11 +107,11 @@ reply-of-tree levels value =
     cond-gives P (bytes_eq kind (codes "costset")) _ _ tt (cond-gives P (bytes_eq kind (codes "marked")) _ _ tt
     (cond-gives P (bytes_eq kind (codes "chosen")) _ _ (chosen-of-tree levels value) (cond-gives P (bytes_eq kind (codes "refused")) _ _ (refused-of-tree levels value) tt))))
 
-entry-of-tree : (levels : ℕ) (value : Data) → Gives (view_entry levels value) (λ entry. IsOfTree levels entry.reply)
-entry-of-tree levels value =
+entry-of-tree : (format : Format) (levels : ℕ) (value : Data) → Gives (view_entry format levels value) (λ entry. IsOfTree levels entry.reply)
+entry-of-tree format levels value =
     let P : ViewEntry → Type 0 = λ entry. IsOfTree levels entry.reply in
-    next-gives P (get (codes "ask") value) (λ asked. views.view_ask asked >>= λ ask. get (codes "reply") value >>= λ replied. views.view_reply levels replied >>= λ reply. Some (record { ask = ask; reply = reply })) (λ asked.
-    next-gives P (views.view_ask asked) (λ ask. get (codes "reply") value >>= λ replied. views.view_reply levels replied >>= λ reply. Some (record { ask = ask; reply = reply })) (λ ask.
+    next-gives P (get (codes "ask") value) (λ asked. views.view_ask format asked >>= λ ask. get (codes "reply") value >>= λ replied. views.view_reply levels replied >>= λ reply. Some (record { ask = ask; reply = reply })) (λ asked.
+    next-gives P (views.view_ask format asked) (λ ask. get (codes "reply") value >>= λ replied. views.view_reply levels replied >>= λ reply. Some (record { ask = ask; reply = reply })) (λ ask.
     next-gives P (get (codes "reply") value) (λ replied. views.view_reply levels replied >>= λ reply. Some (record { ask = ask; reply = reply })) (λ replied.
     then-gives (IsOfTree levels) P (views.view_reply levels replied) (λ reply. Some (record { ask = ask; reply = reply })) (reply-of-tree levels replied) (λ reply h. h))))
 
@@ -125,46 +125,46 @@ lists-counted : (levels : ℕ) (value : Data) → Gives (frame.server_lists_at l
 lists-counted levels value =
     next-gives (λ xs. count xs + 1 ≡ 2 ^ levels) (items_at (codes "servers") value) (λ values. frame.one_each levels values) (λ values. by_one (count values + 1 == 2 ^ levels) levels values refl)
 
-abbrev lists : ℕ → Items → Option (List (List NodeEntry))
-lists limit values = each (journal (node_entry two) limit) values
+abbrev lists : Format → ℕ → Items → Option (List (List NodeEntry))
+lists format limit values = each (journal (node_entry format) limit) values
 
-servers-counted : (levels limit : ℕ) (value : Data) → Gives (frame.servers_at two levels limit value) (λ xs. length xs + 1 ≡ 2 ^ levels)
-servers-counted levels limit value =
+servers-counted : (format : Format) (levels limit : ℕ) (value : Data) → Gives (frame.servers_at format levels limit value) (λ xs. length xs + 1 ≡ 2 ^ levels)
+servers-counted format levels limit value =
     let L : List (List NodeEntry) → Type 0 = λ xs. length xs + 1 ≡ 2 ^ levels in
-    then-gives (λ values. count values + 1 ≡ 2 ^ levels) L (frame.server_lists_at levels value) (λ values. lists limit values) (lists-counted levels value) (λ values e.
-    weaker (λ xs. length xs ≡ count values) L (lists limit values) (λ xs same. ap (λ n. n + 1) same ∙ e) (each-length (journal (node_entry two) limit) values))
+    then-gives (λ values. count values + 1 ≡ 2 ^ levels) L (frame.server_lists_at levels value) (λ values. lists format limit values) (lists-counted levels value) (λ values e.
+    weaker (λ xs. length xs ≡ count values) L (lists format limit values) (λ xs same. ap (λ n. n + 1) same ∙ e) (each-length (journal (node_entry format) limit) values))
 
-servers-fit : (levels limit : ℕ) (value : Data) → Gives (frame.servers_at two levels limit value) (All (λ xs. length xs ≤ limit))
-servers-fit levels limit value =
+servers-fit : (format : Format) (levels limit : ℕ) (value : Data) → Gives (frame.servers_at format levels limit value) (All (λ xs. length xs ≤ limit))
+servers-fit format levels limit value =
     let L : List NodeEntry → Type 0 = λ xs. length xs ≤ limit in
-    next-gives (All L) (frame.server_lists_at levels value) (λ values. lists limit values) (λ values.
-    each-all L (journal (node_entry two) limit) (λ inner. journal-fits (node_entry two) limit inner) values)
+    next-gives (All L) (frame.server_lists_at levels value) (λ values. lists format limit values) (λ values.
+    each-all L (journal (node_entry format) limit) (λ inner. journal-fits (node_entry format) limit inner) values)
 
-desk-fits : (limit : ℕ) (value : Data) → Gives (frame.desk_at two limit value) (λ xs. length xs ≤ limit)
-desk-fits limit value =
-    next-gives (λ (xs : List DeskEntry). length xs ≤ limit) (get (codes "desk") value) (λ inner. journal (desk_entry two) limit inner) (λ inner. journal-fits (desk_entry two) limit inner)
+desk-fits : (format : Format) (limit : ℕ) (value : Data) → Gives (frame.desk_at format limit value) (λ xs. length xs ≤ limit)
+desk-fits format limit value =
+    next-gives (λ (xs : List DeskEntry). length xs ≤ limit) (get (codes "desk") value) (λ inner. journal (desk_entry format) limit inner) (λ inner. journal-fits (desk_entry format) limit inner)
 
-view-fits : (levels limit : ℕ) (value : Data) → Gives (frame.view_at levels limit value) (λ xs. length xs ≤ limit)
-view-fits levels limit value =
-    next-gives (λ (xs : List ViewEntry). length xs ≤ limit) (get (codes "view") value) (λ inner. journal (view_entry levels) limit inner) (λ inner. journal-fits (view_entry levels) limit inner)
+view-fits : (format : Format) (levels limit : ℕ) (value : Data) → Gives (frame.view_at format levels limit value) (λ xs. length xs ≤ limit)
+view-fits format levels limit value =
+    next-gives (λ (xs : List ViewEntry). length xs ≤ limit) (get (codes "view") value) (λ inner. journal (view_entry format levels) limit inner) (λ inner. journal-fits (view_entry format levels) limit inner)
 
-view-of-tree : (levels limit : ℕ) (value : Data) → Gives (frame.view_at levels limit value) (All (λ entry. IsOfTree levels entry.reply))
-view-of-tree levels limit value =
+view-of-tree : (format : Format) (levels limit : ℕ) (value : Data) → Gives (frame.view_at format levels limit value) (All (λ entry. IsOfTree levels entry.reply))
+view-of-tree format levels limit value =
     let P : ViewEntry → Type 0 = λ entry. IsOfTree levels entry.reply in
-    next-gives (All P) (get (codes "view") value) (λ inner. journal (view_entry levels) limit inner) (λ inner. journal-all P (view_entry levels) (entry-of-tree levels) limit inner)
+    next-gives (All P) (get (codes "view") value) (λ inner. journal (view_entry format levels) limit inner) (λ inner. journal-all P (view_entry format levels) (entry-of-tree format levels) limit inner)
 
-pub read-are-journals : (levels : ℕ) (limits : LimitsView) (limit : ℕ) (value : Data) (servers : List (List NodeEntry)) (desk : List DeskEntry) (view : List ViewEntry) → limit ≡ limits.entries
-    → Some servers ≡ frame.servers_at two levels limit value → Some desk ≡ frame.desk_at two limit value → Some view ≡ frame.view_at levels limit value
+pub read-are-journals : (format : Format) (levels : ℕ) (limits : LimitsView) (limit : ℕ) (value : Data) (servers : List (List NodeEntry)) (desk : List DeskEntry) (view : List ViewEntry) → limit ≡ limits.entries
+    → Some servers ≡ frame.servers_at format levels limit value → Some desk ≡ frame.desk_at format limit value → Some view ≡ frame.view_at format levels limit value
     → AreJournals (record { levels = levels; limits = limits; servers = servers; desk = desk; view = view })
-read-are-journals levels limits limit value servers desk view same s d v =
+read-are-journals format levels limits limit value servers desk view same s d v =
     let most = limits.entries in
-    let s' = subst (λ n. Some servers ≡ frame.servers_at two levels n value) same s in
-    let d' = subst (λ n. Some desk ≡ frame.desk_at two n value) same d in
-    let v' = subst (λ n. Some view ≡ frame.view_at levels n value) same v in
+    let s' = subst (λ n. Some servers ≡ frame.servers_at format levels n value) same s in
+    let d' = subst (λ n. Some desk ≡ frame.desk_at format n value) same d in
+    let v' = subst (λ n. Some view ≡ frame.view_at format levels n value) same v in
     record {
-      one_each = held_of (λ xs. length xs + 1 ≡ 2 ^ levels) (frame.servers_at two levels most value) servers s' (servers-counted levels most value);
-      servers_fit = held_of (All (λ xs. length xs ≤ most)) (frame.servers_at two levels most value) servers s' (servers-fit levels most value);
-      desk_fits = held_of (λ xs. length xs ≤ most) (frame.desk_at two most value) desk d' (desk-fits most value);
-      view_fits = held_of (λ xs. length xs ≤ most) (frame.view_at levels most value) view v' (view-fits levels most value);
-      of_tree = held_of (All (λ entry. IsOfTree levels entry.reply)) (frame.view_at levels most value) view v' (view-of-tree levels most value);
+      one_each = held_of (λ xs. length xs + 1 ≡ 2 ^ levels) (frame.servers_at format levels most value) servers s' (servers-counted format levels most value);
+      servers_fit = held_of (All (λ xs. length xs ≤ most)) (frame.servers_at format levels most value) servers s' (servers-fit format levels most value);
+      desk_fits = held_of (λ xs. length xs ≤ most) (frame.desk_at format most value) desk d' (desk-fits format most value);
+      view_fits = held_of (λ xs. length xs ≤ most) (frame.view_at format levels most value) view v' (view-fits format levels most value);
+      of_tree = held_of (All (λ entry. IsOfTree levels entry.reply)) (frame.view_at format levels most value) view v' (view-of-tree format levels most value);
     }

@@ -3,3 +3,4 @@ pub mod Counted
 pub mod Held
 pub mod Texts
 pub mod Joined
+pub mod Formats

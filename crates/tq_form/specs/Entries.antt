@@ -6,7 +6,7 @@ use Rattle.tq_shape.specs.declared.entry.Entry.{Entry}
 use Rattle.tq_node.specs.NodeJournal.{NodeEntry}
 use Rattle.tq_desk.specs.DeskJournal.{DeskEntry}
 use Rattle.tq_tables.specs.Journals.{ViewEntry}
-use Rattle.tq_members.specs.Format.{Format}
+use Rattle.tq_members.specs.declared.format.Format.{Format}
 use Rattle.tq_form.specs.NodeAsks.{node_ask}
 use Rattle.tq_form.specs.NodeReplies.{node_reply}
 use Rattle.tq_form.specs.Desks.{desk_ask, desk_reply}
@@ -29,8 +29,8 @@ abbrev pub desk_entry : Format → Data → Option DeskEntry
 desk_entry format = entry (desk_ask format) desk_reply
 
 -- in a tree of so many levels
-abbrev pub view_entry : ℕ → Data → Option ViewEntry
-view_entry levels = entry view_ask (view_reply levels)
+abbrev pub view_entry : Format → ℕ → Data → Option ViewEntry
+view_entry format levels = entry (view_ask format) (view_reply levels)
 
 -- how many values there are
 abbrev pub count : Items → ℕ

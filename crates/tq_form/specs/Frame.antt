@@ -1,12 +1,13 @@
 -- A file: its format, the levels of the tree, the limits, and the journals of all parts.
-use Rattle.std.specs.Prelude.{ℕ, ◌+◌, ◌^◌, ◌==◌, ◌&&◌, List, Option, Some, None, cond, codes, nat_le}
+use Rattle.std.specs.Prelude.{◌≡◌, ℕ, ◌+◌, ◌^◌, ◌==◌, ◌&&◌, List, Option, Some, None, cond, codes, nat_le}
 use Rattle.serde_json.specs.Data.{Data, Items}
 use Rattle.serde_json.specs.Find.{get}
 use Rattle.tq_shape.specs.Limits.{LimitsView}
 use Rattle.tq_node.specs.NodeJournal.{NodeEntry}
 use Rattle.tq_desk.specs.DeskJournal.{DeskEntry}
 use Rattle.tq_tables.specs.Journals.{JournalsView, ViewEntry}
-use Rattle.tq_members.specs.Format.{Format, format_of}
+use Rattle.tq_members.specs.declared.format.Format.{Format}
+use Rattle.tq_members.specs.Format.{format_of, format_number, most_levels}
 use Rattle.tq_members.specs.Member.{◌>>=◌, number_at, items_at, each}
 use Rattle.tq_form.specs.Entries.{journal, count, node_entry, desk_entry, view_entry}
 
@@ -17,7 +18,7 @@ up_to_at most name value = do
   cond (nat_le 1 number && nat_le number most) (Some number) None
 
 abbrev pub levels_at : Format → Data → Option ℕ
-levels_at format value = up_to_at format.most_levels (codes "levels") value
+levels_at format value = up_to_at (most_levels format) (codes "levels") value
 
 abbrev pub limits : Data → Option LimitsView
 limits value = do
@@ -51,10 +52,10 @@ desk_at format limit value = do
   inner ← get (codes "desk") value
   journal (desk_entry format) limit inner
 
-abbrev pub view_at : ℕ → ℕ → Data → Option (List ViewEntry)
-view_at levels limit value = do
+abbrev pub view_at : Format → ℕ → ℕ → Data → Option (List ViewEntry)
+view_at format levels limit value = do
   inner ← get (codes "view") value
-  journal (view_entry levels) limit inner
+  journal (view_entry format levels) limit inner
 
 -- the journals that a value is, in a format
 abbrev pub journals_in : Format → Data → Option JournalsView
@@ -63,7 +64,7 @@ journals_in format value = do
   limits ← limits_at value
   servers ← servers_at format levels limits.entries value
   desk ← desk_at format limits.entries value
-  view ← view_at levels limits.entries value
+  view ← view_at format levels limits.entries value
   Some (record { levels = levels; limits = limits; servers = servers; desk = desk; view = view })
 
 abbrev pub journals_by : ℕ → Data → Option JournalsView
@@ -71,7 +72,11 @@ journals_by number value = do
   format ← format_of number
   journals_in format value
 
--- the journals that a value of the form is
+-- the form of one format: a value of its number, and the journals that it is
+abbrev pub IsInFormat : Format → Data → JournalsView → Type 0
+IsInFormat format value journals = (number_at (codes "format") value ≡ Some (format_number format)) × (journals_in format value ≡ Some journals)
+
+-- the journals that a value of the form is, of either format
 abbrev pub journals_of : Data → Option JournalsView
 journals_of value = do
   number ← number_at (codes "format") value

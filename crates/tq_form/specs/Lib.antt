@@ -8,3 +8,4 @@ pub mod Views
 pub mod Entries
 pub mod Frame
 pub mod Faults
+pub mod Formats

@@ -10,7 +10,7 @@ use Rattle.tq_asks.specs.declared.ask.CitedVote.{CitedVote}
 use Rattle.tq_asks.specs.declared.ask.HeldLock.{HeldLock}
 use Rattle.tq_asks.specs.declared.ask.Verdict.{Verdict}
 use Rattle.tq_asks.specs.declared.ask.Verdict.TheVariants.{Abort, Commit}
-use Rattle.tq_members.specs.Format.{Format}
+use Rattle.tq_members.specs.declared.format.Format.{Format}
 use Rattle.tq_members.specs.Content.{file_at, content_at}
 use Rattle.tq_members.specs.Member.{◌>>=◌, text_at, number_at, items_at, each}
 

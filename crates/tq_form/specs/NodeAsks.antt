@@ -8,7 +8,7 @@ use Rattle.tq_asks.specs.declared.ask.NodeAsk.{NodeAsk}
 use Rattle.tq_asks.specs.declared.ask.NodeAsk.TheVariants.{Work, Crash, Return, CrashIn}
 use Rattle.tq_asks.specs.declared.ask.WorkAsk.{WorkAsk}
 use Rattle.tq_asks.specs.declared.ask.WorkAsk.TheVariants.{Lock, Prepare, Decide, Release, Peek, Refresh}
-use Rattle.tq_members.specs.Format.{Format}
+use Rattle.tq_members.specs.declared.format.Format.{Format}
 use Rattle.tq_members.specs.Content.{file_at, content_at}
 use Rattle.tq_form.specs.Locking.{mode_at, writes_at, verdict_at, citation}
 use Rattle.tq_members.specs.Member.{◌>>=◌, text_at, number_at}

@@ -6,7 +6,7 @@ use Rattle.tq_asks.specs.declared.ask.NodeRefusal.{NodeRefusal}
 use Rattle.tq_asks.specs.declared.ask.NodeRefusal.TheVariants.{Down, AlreadyUp, AlreadyDown, Held, Prepared, NotLocked, BadWrites, NotNewer, NothingHere}
 use Rattle.tq_asks.specs.declared.ask.NodeReply.{NodeReply}
 use Rattle.tq_asks.specs.declared.ask.NodeReply.TheVariants.{Granted, Yes, Installed, Discarded, Released, Copy, Refreshed, Crashed, Returned, Refused}
-use Rattle.tq_members.specs.Format.{Format}
+use Rattle.tq_members.specs.declared.format.Format.{Format}
 use Rattle.tq_members.specs.Content.{file_at, content_at}
 use Rattle.tq_form.specs.Locking.{held_at, writes_at}
 use Rattle.tq_members.specs.Member.{◌>>=◌, text_at, number_at}

@@ -5,21 +5,35 @@ use Rattle.serde_json.specs.Data.{Data}
 use Rattle.tq_coterie.specs.Coterie.{ServerList, is_quorum}
 use Rattle.tq_live.specs.Purposes.{purpose_of}
 use Rattle.tq_live.specs.declared.purpose.Purpose.{Purpose}
+use Rattle.tq_live.specs.declared.purpose.Purpose.TheVariants.{Read}
 use Rattle.tq_live.specs.declared.view.ViewAsk.{ViewAsk}
 use Rattle.tq_live.specs.declared.view.ViewAsk.TheVariants.{SetCost, Mark, Choose}
 use Rattle.tq_live.specs.declared.view.ViewReply.{ViewReply}
 use Rattle.tq_live.specs.declared.view.ViewReply.TheVariants.{CostSet, Marked, Chosen, Refused}
 use Rattle.tq_live.specs.declared.view.ViewRefusal.TheVariants.{NoSuchServer, BadCost, Blocked}
+use Rattle.tq_members.specs.declared.format.Format.{Format}
+use Rattle.tq_members.specs.declared.format.Format.TheVariants.{One, Two}
 use Rattle.tq_members.specs.Member.{◌>>=◌, text_at, number_at, number_of, flag_at, items_at, each}
 
 -- ---- asks
 
-abbrev pub set_cost : Data → Option ViewAsk
-set_cost value = do
+-- one cost, which is that for reading and that for writing
+abbrev pub set_one_cost : Data → Option ViewAsk
+set_one_cost value = do
+  cost ← number_at (codes "cost") value
+  server ← number_at (codes "server") value
+  Some (SetCost server cost cost)
+
+abbrev pub set_costs : Data → Option ViewAsk
+set_costs value = do
   read ← number_at (codes "read") value
   server ← number_at (codes "server") value
   write ← number_at (codes "write") value
   Some (SetCost server read write)
+
+abbrev pub set_cost : Format → Data → Option ViewAsk
+set_cost One value = set_one_cost value
+set_cost Two value = set_costs value
 
 abbrev pub mark : Data → Option ViewAsk
 mark value = do
@@ -33,22 +47,27 @@ purpose_at value = do
   text ← text_at (codes "purpose") value
   purpose_of text
 
-abbrev pub choose : Data → Option ViewAsk
-choose value = do
+abbrev pub choose_for : Data → Option ViewAsk
+choose_for value = do
   purpose ← purpose_at value
   Some (Choose purpose)
 
-abbrev pub view_ask_by : List ℕ → Data → Option ViewAsk
-view_ask_by kind value =
-    cond (bytes_eq kind (codes "setcost")) (set_cost value)
+-- without a purpose it is for reading
+abbrev pub choose : Format → Data → Option ViewAsk
+choose One value = Some (Choose Read)
+choose Two value = choose_for value
+
+abbrev pub view_ask_by : Format → List ℕ → Data → Option ViewAsk
+view_ask_by format kind value =
+    cond (bytes_eq kind (codes "setcost")) (set_cost format value)
     (cond (bytes_eq kind (codes "mark")) (mark value)
-    (cond (bytes_eq kind (codes "choose")) (choose value) None))
+    (cond (bytes_eq kind (codes "choose")) (choose format value) None))
 
 -- the ask that a value of the form is
-abbrev pub view_ask : Data → Option ViewAsk
-view_ask value = do
+abbrev pub view_ask : Format → Data → Option ViewAsk
+view_ask format value = do
   kind ← text_at (codes "is") value
-  view_ask_by kind value
+  view_ask_by format kind value
 
 -- ---- replies, in a tree of so many levels
 

@@ -6,16 +6,18 @@ use crate::formed::{FromValue, shared_at};
 use crate::locking::mode_at;
 use std::alloc::Global;
 use tq_evidence::{Grant, Op, OpKind, Vote};
-use tq_members::{content_at, file_at, is_text};
+use tq_members::{Format, content_at, file_at, is_text};
 use tq_shape::Memory;
 use tq_value::{Value, number_at, text_at};
 
 impl FromValue for Grant {
-    ghost use Rattle.tq_members.specs.Format.{two};
+    ghost form = { spec.grant };
 
-    ghost form = { spec.grant two };
-
-    fn from_value(alloc: Global, value: &Value<'_>) -> Result<Option<Grant>, Memory> {
+    fn from_value(
+        alloc: Global,
+        format: Format,
+        value: &Value<'_>,
+    ) -> Result<Option<Grant>, Memory> {
         let Some(mode) = mode_at(value) else {
             return Ok(None);
         };
@@ -28,7 +30,7 @@ impl FromValue for Grant {
         let Some(version) = number_at(value, "version") else {
             return Ok(None);
         };
-        let Some(content) = content_at(alloc, value, "content")? else {
+        let Some(content) = content_at(alloc, format, value, "content")? else {
             return Ok(None);
         };
         Ok(Some(Grant {
@@ -61,11 +63,9 @@ fn kind_of(text: &str) -> Option<OpKind>
 }
 
 impl FromValue for Op {
-    ghost use Rattle.tq_members.specs.Format.{two};
+    ghost form = { spec.op };
 
-    ghost form = { spec.op two };
-
-    fn from_value(alloc: Global, value: &Value<'_>) -> Result<Option<Op>, Memory> {
+    fn from_value(alloc: Global, format: Format, value: &Value<'_>) -> Result<Option<Op>, Memory> {
         let Some(file) = file_at(value, "file") else {
             return Ok(None);
         };
@@ -75,10 +75,10 @@ impl FromValue for Op {
         let Some(version) = number_at(value, "version") else {
             return Ok(None);
         };
-        let Some(content) = content_at(alloc, value, "content")? else {
+        let Some(content) = content_at(alloc, format, value, "content")? else {
             return Ok(None);
         };
-        let Some(grants) = shared_at(alloc, value, "grants")? else {
+        let Some(grants) = shared_at(alloc, format, value, "grants")? else {
             return Ok(None);
         };
         Ok(Some(Op {
@@ -92,21 +92,23 @@ impl FromValue for Op {
 }
 
 impl FromValue for Vote {
-    ghost use Rattle.tq_members.specs.Format.{two};
+    ghost form = { spec.vote };
 
-    ghost form = { spec.vote two };
-
-    fn from_value(alloc: Global, value: &Value<'_>) -> Result<Option<Vote>, Memory> {
+    fn from_value(
+        alloc: Global,
+        format: Format,
+        value: &Value<'_>,
+    ) -> Result<Option<Vote>, Memory> {
         let Some(number) = number_at(value, "number") else {
             return Ok(None);
         };
         let Some(server) = number_at(value, "server") else {
             return Ok(None);
         };
-        let Some(held) = shared_at(alloc, value, "held")? else {
+        let Some(held) = shared_at(alloc, format, value, "held")? else {
             return Ok(None);
         };
-        let Some(writes) = shared_at(alloc, value, "writes")? else {
+        let Some(writes) = shared_at(alloc, format, value, "writes")? else {
             return Ok(None);
         };
         Ok(Some(Vote {

@@ -7,14 +7,18 @@ use crate::locking::verdict_at;
 use std::alloc::Global;
 use tq_desk::{DeskRefusal, DeskReply};
 use tq_evidence::Rule;
-use tq_members::is_text;
+use tq_members::{Format, is_text};
 use tq_shape::Memory;
 use tq_value::{Value, number_at, text_at};
 
 impl FromValue for DeskReply {
-    ghost form = { spec.desk_reply };
+    ghost form = { λ format. spec.desk_reply };
 
-    fn from_value(alloc: Global, value: &Value<'_>) -> Result<Option<DeskReply>, Memory> {
+    fn from_value(
+        alloc: Global,
+        _format: Format,
+        value: &Value<'_>,
+    ) -> Result<Option<DeskReply>, Memory> {
         let Some(kind) = text_at(value, "is") else {
             return Ok(None);
         };

@@ -1,12 +1,12 @@
 ghost use Rattle.std.specs.Prelude.{◌≡◌, ◌≤◌, IfOk, IfSome, map};
 ghost use Rattle.std.specs.Option.{option_map};
 ghost use Rattle.tq_value.specs.View.{view, items_view};
-ghost use Rattle.tq_members.specs.Format.{two};
 ghost use Rattle.tq_form.specs.Frame as spec;
 
 use crate::journals::{journal, journals, view_journal};
 use std::alloc::Global;
-use tq_shape::{Levels, Limits, MOST_ENTRIES, MOST_FILES, MOST_LEVELS, MOST_OPS, Memory};
+use tq_members::Format;
+use tq_shape::{Levels, Limits, MOST_ENTRIES, MOST_FILES, MOST_OPS, Memory};
 use tq_tables::{DeskEntry, Journals, NodeEntry, ViewEntry};
 use tq_value::{Value, get, items_at, number_at};
 
@@ -25,10 +25,10 @@ fn up_to_at(most: u32, name: &str, value: &Value<'_>) -> Option<u32>
     Some(number as u32)
 }
 
-fn levels_at(value: &Value<'_>) -> Option<Levels>
-    ensures { result ≡ spec.levels_at two (view value.now) }
+fn levels_at(format: Format, value: &Value<'_>) -> Option<Levels>
+    ensures { result ≡ spec.levels_at format (view value.now) }
 {
-    let count = up_to_at(MOST_LEVELS, "levels", value)?;
+    let count = up_to_at(format.most_levels(), "levels", value)?;
     Levels::new(count)
 }
 
@@ -67,59 +67,66 @@ fn one_each<'t, 'a>(levels: Levels, values: &'t [Value<'a>]) -> Option<&'t [Valu
 
 fn servers_at(
     alloc: Global,
+    format: Format,
     levels: Levels,
     limit: u32,
     value: &Value<'_>,
 ) -> Result<Option<Vec<Vec<NodeEntry>>>, Memory>
-    ensures { IfOk result (λ answer. option_map (λ v. map (λ journal. journal.items) v.items) answer ≡ spec.servers_at two levels limit (view value.now)) }
+    ensures { IfOk result (λ answer. option_map (λ v. map (λ journal. journal.items) v.items) answer ≡ spec.servers_at format levels limit (view value.now)) }
 {
     let Some(values) = server_lists_at(levels, value) else {
         return Ok(None);
     };
-    journals(alloc, limit, values)
+    journals(alloc, format, limit, values)
 }
 
-fn desk_at(alloc: Global, limit: u32, value: &Value<'_>) -> Result<Option<Vec<DeskEntry>>, Memory>
-    ensures { IfOk result (λ answer. option_map (λ v. v.items) answer ≡ spec.desk_at two limit (view value.now)) }
+fn desk_at(
+    alloc: Global,
+    format: Format,
+    limit: u32,
+    value: &Value<'_>,
+) -> Result<Option<Vec<DeskEntry>>, Memory>
+    ensures { IfOk result (λ answer. option_map (λ v. v.items) answer ≡ spec.desk_at format limit (view value.now)) }
 {
     let Some(inner) = get(value, "desk") else {
         return Ok(None);
     };
-    journal(alloc, limit, inner)
+    journal(alloc, format, limit, inner)
 }
 
 fn view_at(
     alloc: Global,
+    format: Format,
     levels: Levels,
     limit: u32,
     value: &Value<'_>,
 ) -> Result<Option<Vec<ViewEntry>>, Memory>
-    ensures { IfOk result (λ answer. option_map (λ v. v.items) answer ≡ spec.view_at levels limit (view value.now)) }
+    ensures { IfOk result (λ answer. option_map (λ v. v.items) answer ≡ spec.view_at format levels limit (view value.now)) }
 {
     let Some(inner) = get(value, "view") else {
         return Ok(None);
     };
-    view_journal(alloc, levels, limit, inner)
+    view_journal(alloc, format, levels, limit, inner)
 }
 
-/// The journals that the value is in format 2, whatever number it gives for its format.
-fn journals_in_two(alloc: Global, value: &Value<'_>) -> Result<Option<Journals>, Memory>
-    ensures { IfOk result (λ journals. journals ≡ spec.journals_in two (view value.now)) }
+/// The journals that the value is in that format, whatever number it gives for its format.
+fn journals_in(alloc: Global, format: Format, value: &Value<'_>) -> Result<Option<Journals>, Memory>
+    ensures { IfOk result (λ journals. journals ≡ spec.journals_in format (view value.now)) }
 {
-    let Some(levels) = levels_at(value) else {
+    let Some(levels) = levels_at(format, value) else {
         return Ok(None);
     };
     let Some(limits) = limits_at(value) else {
         return Ok(None);
     };
     let limit = limits.entries();
-    let Some(servers) = servers_at(alloc, levels, limit, value)? else {
+    let Some(servers) = servers_at(alloc, format, levels, limit, value)? else {
         return Ok(None);
     };
-    let Some(desk) = desk_at(alloc, limit, value)? else {
+    let Some(desk) = desk_at(alloc, format, limit, value)? else {
         return Ok(None);
     };
-    let Some(view) = view_at(alloc, levels, limit, value)? else {
+    let Some(view) = view_at(alloc, format, levels, limit, value)? else {
         return Ok(None);
     };
     Ok(Some(Journals::new(levels, limits, servers, desk, view)))
@@ -138,8 +145,8 @@ pub(crate) fn journals_of(alloc: Global, value: &Value<'_>) -> Result<Option<Jou
 fn journals_by(alloc: Global, number: u64, value: &Value<'_>) -> Result<Option<Journals>, Memory>
     ensures { IfOk result (λ journals. journals ≡ spec.journals_by number (view value.now)) }
 {
-    if number == 2 {
-        return journals_in_two(alloc, value);
-    }
-    Ok(None)
+    let Some(format) = Format::of_number(number) else {
+        return Ok(None);
+    };
+    journals_in(alloc, format, value)
 }

@@ -2,11 +2,11 @@ ghost use Rattle.std.specs.Prelude.{◌≡◌, IfOk};
 ghost use Rattle.tq_value.specs.View.{view};
 ghost use Rattle.tq_form.specs.Locking as spec;
 
-use crate::formed::{FromValue, seq_at};
+use crate::formed::{FromValue, shared_at};
 use std::alloc::Global;
 use tq_asks::{CitedVote, HeldLock, Verdict};
 use tq_locks::Mode;
-use tq_members::{content_at, file_at, is_text};
+use tq_members::{Format, content_at, file_at, is_text};
 use tq_shape::Memory;
 use tq_store::Write;
 use tq_value::{Value, get, number_at, text_at};
@@ -32,9 +32,13 @@ fn mode_of(text: &str) -> Option<Mode>
 }
 
 impl FromValue for HeldLock {
-    ghost form = { spec.held_lock };
+    ghost form = { λ format. spec.held_lock };
 
-    fn from_value(_alloc: Global, value: &Value<'_>) -> Result<Option<HeldLock>, Memory> {
+    fn from_value(
+        _alloc: Global,
+        _format: Format,
+        value: &Value<'_>,
+    ) -> Result<Option<HeldLock>, Memory> {
         Ok(held_lock(value))
     }
 }
@@ -49,18 +53,20 @@ fn held_lock(value: &Value<'_>) -> Option<HeldLock>
 }
 
 impl FromValue for Write {
-    ghost use Rattle.tq_members.specs.Format.{two};
+    ghost form = { spec.write };
 
-    ghost form = { spec.write two };
-
-    fn from_value(alloc: Global, value: &Value<'_>) -> Result<Option<Write>, Memory> {
+    fn from_value(
+        alloc: Global,
+        format: Format,
+        value: &Value<'_>,
+    ) -> Result<Option<Write>, Memory> {
         let Some(file) = file_at(value, "file") else {
             return Ok(None);
         };
         let Some(version) = number_at(value, "version") else {
             return Ok(None);
         };
-        let Some(content) = content_at(alloc, value, "content")? else {
+        let Some(content) = content_at(alloc, format, value, "content")? else {
             return Ok(None);
         };
         Ok(Some(Write {
@@ -81,9 +87,13 @@ pub(crate) fn citation(value: &Value<'_>) -> Option<CitedVote>
 }
 
 impl FromValue for CitedVote {
-    ghost form = { spec.citation };
+    ghost form = { λ format. spec.citation };
 
-    fn from_value(_alloc: Global, value: &Value<'_>) -> Result<Option<CitedVote>, Memory> {
+    fn from_value(
+        _alloc: Global,
+        _format: Format,
+        value: &Value<'_>,
+    ) -> Result<Option<CitedVote>, Memory> {
         Ok(citation(value))
     }
 }
@@ -91,7 +101,8 @@ impl FromValue for CitedVote {
 fn commit(alloc: Global, value: &Value<'_>) -> Result<Option<Verdict>, Memory>
     ensures { IfOk result (λ verdict. verdict ≡ spec.commit (view value.now)) }
 {
-    let Some(votes) = seq_at(alloc, value, "votes")? else {
+    // Citations are the same in each format.
+    let Some(votes) = shared_at(alloc, Format::Two, value, "votes")? else {
         return Ok(None);
     };
     Ok(Some(Verdict::Commit { votes }))

@@ -1,29 +1,37 @@
 ghost use Rattle.std.specs.Prelude.{◌≡◌, IfOk};
 ghost use Rattle.tq_value.specs.View.{view};
-ghost use Rattle.tq_members.specs.Format.{two};
 ghost use Rattle.tq_form.specs.NodeAsks as spec;
 
 use crate::formed::{FromValue, shared_at};
 use crate::locking::{citation, mode_at, verdict_at};
 use std::alloc::Global;
 use tq_asks::{CitedVote, NodeAsk, WorkAsk};
-use tq_members::{content_at, file_at, is_text};
+use tq_members::{Format, content_at, file_at, is_text};
 use tq_shape::{Memory, Shared};
 use tq_value::{Value, get, number_at, text_at};
 
 impl FromValue for NodeAsk {
-    ghost form = { spec.node_ask two };
+    ghost form = { spec.node_ask };
 
-    fn from_value(alloc: Global, value: &Value<'_>) -> Result<Option<NodeAsk>, Memory> {
+    fn from_value(
+        alloc: Global,
+        format: Format,
+        value: &Value<'_>,
+    ) -> Result<Option<NodeAsk>, Memory> {
         let Some(kind) = text_at(value, "is") else {
             return Ok(None);
         };
-        node_ask_by(alloc, kind, value)
+        node_ask_by(alloc, format, kind, value)
     }
 }
 
-fn node_ask_by(alloc: Global, kind: &str, value: &Value<'_>) -> Result<Option<NodeAsk>, Memory>
-    ensures { IfOk result (λ ask. ask ≡ spec.node_ask_by two kind.now (view value.now)) }
+fn node_ask_by(
+    alloc: Global,
+    format: Format,
+    kind: &str,
+    value: &Value<'_>,
+) -> Result<Option<NodeAsk>, Memory>
+    ensures { IfOk result (λ ask. ask ≡ spec.node_ask_by format kind.now (view value.now)) }
 {
     if is_text(kind, "crash") {
         return Ok(Some(NodeAsk::Crash));
@@ -32,14 +40,14 @@ fn node_ask_by(alloc: Global, kind: &str, value: &Value<'_>) -> Result<Option<No
         return Ok(Some(NodeAsk::Return));
     }
     if is_text(kind, "crashin") {
-        return stop(alloc, value);
+        return stop(alloc, format, value);
     }
-    work(alloc, kind, value)
+    work(alloc, format, kind, value)
 }
 
 /// A stop: in which work, and behind how many of its records.
-fn stop(alloc: Global, value: &Value<'_>) -> Result<Option<NodeAsk>, Memory>
-    ensures { IfOk result (λ ask. ask ≡ spec.stop two (view value.now)) }
+fn stop(alloc: Global, format: Format, value: &Value<'_>) -> Result<Option<NodeAsk>, Memory>
+    ensures { IfOk result (λ ask. ask ≡ spec.stop format (view value.now)) }
 {
     let Some(after) = count_at(value) else {
         return Ok(None);
@@ -47,7 +55,7 @@ fn stop(alloc: Global, value: &Value<'_>) -> Result<Option<NodeAsk>, Memory>
     let Some(inside) = get(value, "ask") else {
         return Ok(None);
     };
-    let Some(work) = work_at(alloc, inside)? else {
+    let Some(work) = work_at(alloc, format, inside)? else {
         return Ok(None);
     };
     let ask = Shared::new(alloc, work)?;
@@ -67,33 +75,43 @@ fn count_at(value: &Value<'_>) -> Option<u32>
     Some(after as u32)
 }
 
-fn work_at(alloc: Global, value: &Value<'_>) -> Result<Option<WorkAsk>, Memory>
-    ensures { IfOk result (λ ask. ask ≡ spec.work_at two (view value.now)) }
+fn work_at(alloc: Global, format: Format, value: &Value<'_>) -> Result<Option<WorkAsk>, Memory>
+    ensures { IfOk result (λ ask. ask ≡ spec.work_at format (view value.now)) }
 {
     let Some(kind) = text_at(value, "is") else {
         return Ok(None);
     };
-    work_by(alloc, kind, value)
+    work_by(alloc, format, kind, value)
 }
 
-fn work(alloc: Global, kind: &str, value: &Value<'_>) -> Result<Option<NodeAsk>, Memory>
-    ensures { IfOk result (λ ask. ask ≡ spec.work two kind.now (view value.now)) }
+fn work(
+    alloc: Global,
+    format: Format,
+    kind: &str,
+    value: &Value<'_>,
+) -> Result<Option<NodeAsk>, Memory>
+    ensures { IfOk result (λ ask. ask ≡ spec.work format kind.now (view value.now)) }
 {
-    let Some(ask) = work_by(alloc, kind, value)? else {
+    let Some(ask) = work_by(alloc, format, kind, value)? else {
         return Ok(None);
     };
     let ask = Shared::new(alloc, ask)?;
     Ok(Some(NodeAsk::Work(ask)))
 }
 
-fn work_by(alloc: Global, kind: &str, value: &Value<'_>) -> Result<Option<WorkAsk>, Memory>
-    ensures { IfOk result (λ ask. ask ≡ spec.work_by two kind.now (view value.now)) }
+fn work_by(
+    alloc: Global,
+    format: Format,
+    kind: &str,
+    value: &Value<'_>,
+) -> Result<Option<WorkAsk>, Memory>
+    ensures { IfOk result (λ ask. ask ≡ spec.work_by format kind.now (view value.now)) }
 {
     if is_text(kind, "lock") {
         return Ok(lock(value));
     }
     if is_text(kind, "prepare") {
-        return prepare(alloc, value);
+        return prepare(alloc, format, value);
     }
     if is_text(kind, "decide") {
         return decide(alloc, value);
@@ -105,7 +123,7 @@ fn work_by(alloc: Global, kind: &str, value: &Value<'_>) -> Result<Option<WorkAs
         return Ok(peek(value));
     }
     if is_text(kind, "refresh") {
-        return refresh(alloc, value);
+        return refresh(alloc, format, value);
     }
     Ok(None)
 }
@@ -119,13 +137,13 @@ fn lock(value: &Value<'_>) -> Option<WorkAsk>
     Some(WorkAsk::Lock { txn, file, mode })
 }
 
-fn prepare(alloc: Global, value: &Value<'_>) -> Result<Option<WorkAsk>, Memory>
-    ensures { IfOk result (λ ask. ask ≡ spec.prepare two (view value.now)) }
+fn prepare(alloc: Global, format: Format, value: &Value<'_>) -> Result<Option<WorkAsk>, Memory>
+    ensures { IfOk result (λ ask. ask ≡ spec.prepare format (view value.now)) }
 {
     let Some(txn) = number_at(value, "txn") else {
         return Ok(None);
     };
-    let Some(writes) = shared_at(alloc, value, "writes")? else {
+    let Some(writes) = shared_at(alloc, format, value, "writes")? else {
         return Ok(None);
     };
     Ok(Some(WorkAsk::Prepare { txn, writes }))
@@ -167,8 +185,8 @@ fn from_at(value: &Value<'_>) -> Option<CitedVote>
     citation(cited)
 }
 
-fn refresh(alloc: Global, value: &Value<'_>) -> Result<Option<WorkAsk>, Memory>
-    ensures { IfOk result (λ ask. ask ≡ spec.refresh two (view value.now)) }
+fn refresh(alloc: Global, format: Format, value: &Value<'_>) -> Result<Option<WorkAsk>, Memory>
+    ensures { IfOk result (λ ask. ask ≡ spec.refresh format (view value.now)) }
 {
     let Some(file) = file_at(value, "file") else {
         return Ok(None);
@@ -179,7 +197,7 @@ fn refresh(alloc: Global, value: &Value<'_>) -> Result<Option<WorkAsk>, Memory>
     let Some(version) = number_at(value, "version") else {
         return Ok(None);
     };
-    let Some(content) = content_at(alloc, value, "content")? else {
+    let Some(content) = content_at(alloc, format, value, "content")? else {
         return Ok(None);
     };
     Ok(Some(WorkAsk::Refresh {

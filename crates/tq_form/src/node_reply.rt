@@ -1,37 +1,45 @@
 ghost use Rattle.std.specs.Prelude.{◌≡◌, IfOk};
 ghost use Rattle.tq_value.specs.View.{view};
-ghost use Rattle.tq_members.specs.Format.{two};
 ghost use Rattle.tq_form.specs.NodeReplies as spec;
 
 use crate::formed::{FromValue, shared_at};
 use std::alloc::Global;
 use tq_asks::{NodeRefusal, NodeReply};
-use tq_members::{content_at, file_at, is_text};
+use tq_members::{Format, content_at, file_at, is_text};
 use tq_shape::Memory;
 use tq_value::{Value, number_at, text_at};
 
 impl FromValue for NodeReply {
-    ghost form = { spec.node_reply two };
+    ghost form = { spec.node_reply };
 
-    fn from_value(alloc: Global, value: &Value<'_>) -> Result<Option<NodeReply>, Memory> {
+    fn from_value(
+        alloc: Global,
+        format: Format,
+        value: &Value<'_>,
+    ) -> Result<Option<NodeReply>, Memory> {
         let Some(kind) = text_at(value, "is") else {
             return Ok(None);
         };
-        node_reply_by(alloc, kind, value)
+        node_reply_by(alloc, format, kind, value)
     }
 }
 
-fn node_reply_by(alloc: Global, kind: &str, value: &Value<'_>) -> Result<Option<NodeReply>, Memory>
-    ensures { IfOk result (λ reply. reply ≡ spec.node_reply_by two kind.now (view value.now)) }
+fn node_reply_by(
+    alloc: Global,
+    format: Format,
+    kind: &str,
+    value: &Value<'_>,
+) -> Result<Option<NodeReply>, Memory>
+    ensures { IfOk result (λ reply. reply ≡ spec.node_reply_by format kind.now (view value.now)) }
 {
     if is_text(kind, "granted") {
-        return granted(alloc, value);
+        return granted(alloc, format, value);
     }
     if is_text(kind, "yes") {
-        return yes_vote(alloc, value);
+        return yes_vote(alloc, format, value);
     }
     if is_text(kind, "copy") {
-        return copy(alloc, value);
+        return copy(alloc, format, value);
     }
     if is_text(kind, "refused") {
         return refused(alloc, value);
@@ -64,37 +72,37 @@ fn bare_reply(kind: &str) -> Option<NodeReply>
     None
 }
 
-fn granted(alloc: Global, value: &Value<'_>) -> Result<Option<NodeReply>, Memory>
-    ensures { IfOk result (λ reply. reply ≡ spec.granted two (view value.now)) }
+fn granted(alloc: Global, format: Format, value: &Value<'_>) -> Result<Option<NodeReply>, Memory>
+    ensures { IfOk result (λ reply. reply ≡ spec.granted format (view value.now)) }
 {
     let Some(version) = number_at(value, "version") else {
         return Ok(None);
     };
-    let Some(content) = content_at(alloc, value, "content")? else {
+    let Some(content) = content_at(alloc, format, value, "content")? else {
         return Ok(None);
     };
     Ok(Some(NodeReply::Granted { version, content }))
 }
 
-fn copy(alloc: Global, value: &Value<'_>) -> Result<Option<NodeReply>, Memory>
-    ensures { IfOk result (λ reply. reply ≡ spec.copy two (view value.now)) }
+fn copy(alloc: Global, format: Format, value: &Value<'_>) -> Result<Option<NodeReply>, Memory>
+    ensures { IfOk result (λ reply. reply ≡ spec.copy format (view value.now)) }
 {
     let Some(version) = number_at(value, "version") else {
         return Ok(None);
     };
-    let Some(content) = content_at(alloc, value, "content")? else {
+    let Some(content) = content_at(alloc, format, value, "content")? else {
         return Ok(None);
     };
     Ok(Some(NodeReply::Copy { version, content }))
 }
 
-fn yes_vote(alloc: Global, value: &Value<'_>) -> Result<Option<NodeReply>, Memory>
-    ensures { IfOk result (λ reply. reply ≡ spec.yes_vote two (view value.now)) }
+fn yes_vote(alloc: Global, format: Format, value: &Value<'_>) -> Result<Option<NodeReply>, Memory>
+    ensures { IfOk result (λ reply. reply ≡ spec.yes_vote format (view value.now)) }
 {
-    let Some(held) = shared_at(alloc, value, "held")? else {
+    let Some(held) = shared_at(alloc, format, value, "held")? else {
         return Ok(None);
     };
-    let Some(writes) = shared_at(alloc, value, "writes")? else {
+    let Some(writes) = shared_at(alloc, format, value, "writes")? else {
         return Ok(None);
     };
     Ok(Some(NodeReply::Yes { held, writes }))

@@ -41,15 +41,15 @@ no_return_at (first ∷ bytes) isnt =
     no_return first bytes last
 
 -- what a line of some bytes asks for
-pub line_of-some : (bytes : List ℕ) → length bytes ≤ 1200 → (length bytes == 0) ≡ false → line_by (word_of bytes) (rest_of bytes) ≡ line_of bytes
+pub line_of-some : (bytes : List ℕ) → length bytes ≤ 4200 → (length bytes == 0) ≡ false → line_by (word_of bytes) (rest_of bytes) ≡ line_of bytes
 line_of-some [] few some = absurd (grind arith)
 line_of-some (byte ∷ bytes) few some =
-    let short : nat_lt 1200 (suc (length bytes)) ≡ false = grind arith in
+    let short : nat_lt 4200 (suc (length bytes)) ≡ false = grind arith in
     rw short refl
 
 -- and what one of a client's script does
-pub client_line_of-some : (bytes : List ℕ) → length bytes ≤ 1200 → (length bytes == 0) ≡ false → client.line_by (word_of bytes) (rest_of bytes) ≡ client.client_line_of bytes
+pub client_line_of-some : (bytes : List ℕ) → length bytes ≤ 4200 → (length bytes == 0) ≡ false → client.line_by (word_of bytes) (rest_of bytes) ≡ client.client_line_of bytes
 client_line_of-some [] few some = absurd (grind arith)
 client_line_of-some (byte ∷ bytes) few some =
-    let short : nat_lt 1200 (suc (length bytes)) ≡ false = grind arith in
+    let short : nat_lt 4200 (suc (length bytes)) ≡ false = grind arith in
     rw short refl

@@ -71,4 +71,4 @@ short_line (byte ∷ bytes) = line_by (word_of (byte ∷ bytes)) (rest_of (byte 
 
 -- a line of more bytes than the limit is a bad line
 abbrev pub client_line_of : List ℕ → ClientLine
-client_line_of bytes = cond (nat_lt 1200 (length bytes)) Bad (short_line bytes)
+client_line_of bytes = cond (nat_lt 4200 (length bytes)) Bad (short_line bytes)

@@ -72,7 +72,7 @@ is_printed byte = nat_le 32 byte && nat_le byte 126
 
 -- a text: not too many bytes, each of which can be printed
 abbrev pub is_text : List ℕ → Bool
-is_text text = nat_le (length text) 1000 && list_all is_printed text
+is_text text = nat_le (length text) 4000 && list_all is_printed text
 
 abbrev pub content_of : List ℕ → Option (List ℕ)
 content_of text = cond (is_text text) (Some text) None
@@ -209,4 +209,4 @@ short_line (byte ∷ bytes) = line_by (word_of (byte ∷ bytes)) (rest_of (byte 
 
 -- a line of more bytes than the limit is a bad line
 abbrev pub line_of : List ℕ → Line
-line_of bytes = cond (nat_lt 1200 (length bytes)) Bad (short_line bytes)
+line_of bytes = cond (nat_lt 4200 (length bytes)) Bad (short_line bytes)

@@ -50,7 +50,7 @@ pub enum TxnLine {
 }
 
 /// The most bytes of a line that is no bad line.
-pub const LINE_LIMIT: usize = 1_200;
+pub const LINE_LIMIT: usize = 4_200;
 
 impl Line {
     /// The line that the bytes spell.

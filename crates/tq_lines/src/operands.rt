@@ -68,6 +68,7 @@ pub(crate) fn two_numbers(rest: Option<&[u8]>) -> Option<Numbers>
 }
 
 /// The server and its cost for both purposes, or one for each, that follow.
+#[inline(always)]
 pub(crate) fn cost_words(rest: Option<&[u8]>) -> Option<CostWords>
     ensures { result ≡ spec.cost_words (options_now rest.entry) }
 {

@@ -1,4 +1,4 @@
-ghost use Rattle.std.specs.Prelude.{◌≡◌, ◌<◌, ◌^◌, ℕ, Some, List};
+ghost use Rattle.std.specs.Prelude.{◌≡◌, ◌+◌, ◌*◌, ◌<◌, ◌^◌, ℕ, IfSome, Some, List, length};
 ghost use Rattle.std.specs.Fmt.{decimal};
 ghost use Rattle.tq_lines.specs.Word.{number_of, digits_after, digit_after, word_of, rest_of, options_now, without_return};
 
@@ -29,6 +29,39 @@ pub(crate) fn number_of(word: &[u8]) -> Option<u64>
 }
 
 fn digits_of(word: &[u8]) -> Option<u64>
+    ensures { result ≡ digits_after 0 word.now }
+{
+    if word.len() < 20 {
+        return few_digits(word);
+    }
+    many_digits(word)
+}
+
+/// The number of at most nineteen digits, which has 64 bits.
+fn few_digits(word: &[u8]) -> Option<u64>
+    requires { length word.now < 20 }
+    ensures { result ≡ digits_after 0 word.now }
+{
+    let mut value: u64 = 0;
+    for digit in word {
+        value = with_low_digit(value, *digit)?;
+    }
+    Some(value)
+}
+
+fn with_low_digit(value: u64, digit: u8) -> Option<u64>
+    requires { value < 10 ^ 18 }
+    ensures value { result ≡ digit_after value digit }
+    ensures low { IfSome result (λ after. after < 10 * (value + 1)) }
+{
+    if digit < b'0' || digit > b'9' {
+        return None;
+    }
+    Some(10 * value + u64::from(digit - b'0'))
+}
+
+/// The number of any digits.
+fn many_digits(word: &[u8]) -> Option<u64>
     ensures { result ≡ digits_after 0 word.now }
 {
     let mut value: u64 = 0;

@@ -40,7 +40,7 @@ over-even : (w : ℕ) → 1 ≤ w → weight_over (Some 1) (Some w) (Some w) ≡
 over-even w some = rw (same-not_less (1 + w), double-not_less w some) refl
 
 form-over-even : (w : ℕ) → 1 ≤ w → form_of (Some 1) (Some w) (Some w) ≡ WithLeft
-form-over-even w some = rw (same-not_less (1 + w), double-not_less w some) refl
+form-over-even w some = rw (same-not_less (1 + w), double-not_less w some, same-not_less w) refl
 
 weight-even : (purpose : Purpose) (height : ℕ) → weight_of (Quorum purpose) (even height) ≡ Some (height + 1)
 weight-even Read zero = refl

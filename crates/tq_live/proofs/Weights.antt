@@ -6,7 +6,22 @@ use Rattle.tq_coterie.proofs.Sets.{sum_by-joined}
 use Rattle.tq_live.specs.Least.{least_member, changed, pair}
 use Rattle.tq_live.specs.Weights.{is_less, weight_by, plus, lesser}
 use Rattle.tq_live.proofs.Pick.{pick}
-use Rattle.tq_live.proofs.LeastMembers.{with_top, least_member-leaf, least_member-fork}
+use Rattle.tq_live.proofs.LeastMembers.{with_top, ltb-add, least_member-leaf, least_member-fork}
+
+-- ---- the top's weight is the same beside either side
+
+pub is_less-plus : (c : ℕ) (a b : Option ℕ) → is_less (plus (Some c) a) (plus (Some c) b) ≡ is_less a b
+is_less-plus c None b = refl
+is_less-plus c (Some a) None = refl
+is_less-plus c (Some a) (Some b) = ltb-add c a b
+
+pub plus-lesser : (top a b : Option ℕ) → plus top (lesser a b) ≡ lesser (plus top a) (plus top b)
+plus-lesser None a b = refl
+plus-lesser (Some c) a b = rw (is_less-plus c b a) (either (is_less b a))
+  where
+    either : (less : Bool) → plus (Some c) (cond less b a) ≡ cond less (plus (Some c) b) (plus (Some c) a)
+    either true = refl
+    either false = refl
 
 -- the weight of a server, if it may be taken
 abbrev pub top_weight : (ℕ → ℕ) → (ℕ → Bool) → ℕ → Option ℕ

@@ -198,26 +198,20 @@ impl Node {
         ensures leaves { leaves self.new ≡ leaves self.old }
         ensures on_way { caches_on_way self.old steps number ≤ steps + 1 }
     {
-        let (costs, up) = match &mut self.below {
+        match &mut self.below {
             Below::Over(sides) if steps > 0 => {
-                // Read before the way goes on down, so that the way back up need not wait for them.
-                let kept = (self.costs, self.up);
                 if is_left(number, steps - 1) {
                     sides.left.change(steps - 1, number, change, turns);
                 } else {
                     sides.right.change(steps - 1, number, change, turns);
                 }
-                kept
             }
-            _ => {
-                match *change {
-                    Setting::Cost(costs) => self.costs = costs,
-                    Setting::Mark(up) => self.up = up,
-                }
-                (self.costs, self.up)
-            }
-        };
-        repair(&mut self.cache, costs, up, &self.below, turns);
+            _ => match *change {
+                Setting::Cost(costs) => self.costs = costs,
+                Setting::Mark(up) => self.up = up,
+            },
+        }
+        repair(&mut self.cache, self.costs, self.up, &self.below, turns);
     }
 }
 

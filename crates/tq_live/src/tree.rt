@@ -1,7 +1,7 @@
-ghost use Rattle.std.specs.Prelude.{◌≡◌, ℕ, ◌+◌, ◌-◌, ◌*◌, ◌^◌, ◌<◌, ◌≤◌, ◌↔◌, IsOk, IfOk, IfSome, IsSome, OnOk, OnErr, slice_set, true, is_some, replicate, Some, [], List, All};
+ghost use Rattle.std.specs.Prelude.{◌≡◌, ℕ, ◌+◌, ◌-◌, ◌*◌, ◌^◌, ◌<◌, ◌≤◌, ◌↔◌, IsOk, IfOk, IfSome, IsSome, OnOk, OnErr, slice_set, true, is_some, replicate, Some, [], List, All, Contains};
 ghost use Rattle.std.specs.Bool.{OnTrue, OnFalse};
 ghost use Rattle.tq_shape.specs.Depth.{depth_of};
-ghost use Rattle.tq_coterie.specs.Coterie.{IsMemberList, is_same, servers_of, numbers_of};
+ghost use Rattle.tq_coterie.specs.Coterie.{coterie, is_same};
 
 pub(crate) mod cache;
 
@@ -282,8 +282,9 @@ impl LiveTree {
         let root = levels.root();
         match self.best_cost(purpose, root) {
             Some(cost) => {
-                let servers = self.gathered_list(alloc, Sought::Quorum(purpose), root)?;
-                let quorum = quorum_of(alloc, levels, servers, kept)?;
+                let mut servers = ServerSet::new(alloc, levels)?;
+                self.gather_into(Sought::Quorum(purpose), root, &mut servers);
+                let quorum = quorum_of(alloc, &servers, kept)?;
                 Ok(Choice::Quorum { quorum, cost })
             }
             None => {
@@ -297,30 +298,35 @@ impl LiveTree {
 
 /// The quorum of these servers, which are known to be one. It shares the list of the one that is kept, where that is of
 /// the same servers.
-fn quorum_of(
-    alloc: Global,
-    levels: Levels,
-    servers: ServerIds,
-    kept: Option<&Quorum>,
-) -> Result<Quorum, Memory>
-    requires { IsMemberList levels servers.items }
-    ensures { IfOk result (λ quorum. quorum ≡ record { servers = numbers_of servers.items; levels = levels }) }
+fn quorum_of(alloc: Global, servers: &ServerSet, kept: Option<&Quorum>) -> Result<Quorum, Memory>
+    requires { Contains (coterie servers.now.levels) servers.now.numbers }
+    ensures { IfOk result (λ quorum. quorum ≡ record { servers = servers.now.numbers; levels = servers.now.levels }) }
 {
     if let Some(quorum) = kept {
-        if is_of(quorum, levels, servers.as_slice()) {
+        if is_of(quorum, servers) {
             return Ok(quorum.clone()?);
         }
     }
-    Quorum::new(alloc, levels, servers)
+    let ids = listed(alloc, servers)?;
+    Quorum::new(alloc, servers.levels(), ids)
 }
 
-/// Whether the quorum is the one of these servers in a tree of those levels.
-fn is_of(quorum: &Quorum, levels: Levels, servers: &[ServerId]) -> bool
-    requires { IsMemberList levels servers.now }
-    ensures { result ≡ is_same quorum.now (record { servers = numbers_of servers.now; levels = levels }) }
+/// Whether the quorum is the one of these servers.
+fn is_of(quorum: &Quorum, servers: &ServerSet) -> bool
+    ensures { result ≡ is_same quorum.now (record { servers = servers.now.numbers; levels = servers.now.levels }) }
 {
-    if quorum.levels() != levels {
+    if quorum.levels() != servers.levels() {
         return false;
     }
-    quorum.servers() == servers
+    let mut left = quorum.servers();
+    for server in servers.iter() {
+        let Some((first, behind)) = left.split_first() else {
+            return false;
+        };
+        if first.number() != server.number() {
+            return false;
+        }
+        left = behind;
+    }
+    left.is_empty()
 }

@@ -4,7 +4,8 @@ use Rattle.std.specs.List.{list_all}
 use Rattle.hex.specs.Hex.{decode_of}
 use Rattle.serde_json.specs.Data.{Data}
 use Rattle.tq_store.specs.Names.{is_name_byte, starts_with_letter}
-use Rattle.tq_members.specs.Format.{Format}
+use Rattle.tq_members.specs.declared.format.Format.{Format}
+use Rattle.tq_members.specs.Format.{most_content}
 use Rattle.tq_members.specs.Member.{◌>>=◌, text_at}
 
 -- 1 to 32 bytes of `a-z 0-9 . _ -`, a letter first
@@ -26,7 +27,7 @@ decoded (Ok bytes) = Some bytes
 decoded (Err fault) = None
 
 abbrev pub short_enough : Format → List ℕ → Option (List ℕ)
-short_enough format bytes = cond (nat_le (length bytes) format.most_content) (Some bytes) None
+short_enough format bytes = cond (nat_le (length bytes) (most_content format)) (Some bytes) None
 
 -- the content that a text is: pairs of hexadecimal digits of either case, not too many
 abbrev pub content_of : Format → List ℕ → Option (List ℕ)

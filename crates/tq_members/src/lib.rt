@@ -1,11 +1,13 @@
 //! What stands in an object of a journal file at a name: names of files, contents, and numbers.
 //!
-//! Files: `content.rt` names of files and contents; `member.rt` numbers and words.
+//! Files: `format.rt` the formats that are read; `content.rt` names of files and contents; `member.rt` numbers and words.
 //! Definitions: `specs/Format` (what differs between formats), `Member`, `Content`.
 #![tactic(auto)]
 
 mod content;
+mod format;
 mod member;
 
 pub use content::{content_at, file_at};
+pub use format::Format;
 pub use member::{is_text, numbers};

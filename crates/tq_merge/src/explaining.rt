@@ -5,6 +5,7 @@ ghost use Rattle.tq_tables.specs.Journals.{AreJournals};
 ghost use Rattle.tq_tables.specs.Parts.{AreLegal};
 ghost use Rattle.tq_merge.specs.Order.{Explains, asks_of};
 ghost use Rattle.tq_merge.specs.Faults.{IsFault, BlamesNone};
+ghost use Rattle.tq_merge.specs.OneCost.{HasEqualCosts, AgreesByOne};
 
 use crate::Fault;
 use crate::placing::Placing;
@@ -19,6 +20,7 @@ pub type Order = Seq<Part>;
 /// An order of the entries of the journals in which each part's entries come as journaled and all that an entry cites stands
 /// before it. Or why there is none: an entry that its part would not have given, or, where all would be given, how many
 /// entries can be placed. Any entries may be handed in; nothing is known of them but their types.
+#[tactic(auto, using(crate::proofs::OneCost::agrees))]
 pub fn explain(alloc: Global, journals: &Journals) -> Result<Order, Fault>
     ensures order { IfOk result (λ order. Explains journals.now order) }
     ensures fault { IfErr result (IsFault journals.now) }
@@ -27,6 +29,9 @@ pub fn explain(alloc: Global, journals: &Journals) -> Result<Order, Fault>
     // The asks in that order, run one after another, make these journals; so what holds of each run holds of them.
     ensures run { IfOk result (λ order. run journals.now.levels journals.now.limits (asks_of journals.now order) ≡ journals.now) }
     ensures committed_reads { IfOk result (λ order. HasCommittedReads journals.now) }
+
+    // Where each SetCost has two equal costs, what is an order, a wrong entry or stuck is what it was while a server had one.
+    ensures one_cost { HasEqualCosts journals.now → AgreesByOne journals.now }
 {
     if let Some(entry) = first_wrong(alloc, journals)? {
         let WrongEntry { part, number } = entry;

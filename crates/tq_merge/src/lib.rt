@@ -1,10 +1,10 @@
 //! An order for journals: which entry came after which, so that all that an entry cites stood before it. And whether what
 //! callers were told stands in journals, each entry told once.
 //!
-//! Files: `explaining.rt` the search for an order; `placing.rt` what is placed; `wrong.rt` the replay; `cited.rt`,
-//! `stands.rt`, `ready.rt` citations; `compared.rt`, `told_stands.rt` what callers were told.
-//! Definitions: `specs/Order`, `Wrong`, `Faults`; of a closed cluster `Told`, `Kept`, `Closed`. `Cited` and `Placing` are
-//! the code's own words.
+//! Files: `explaining.rt` the search for an order; `placing.rt` what is placed, `waiting.rt` who waits for it; `wrong.rt`
+//! the replay; `cited.rt`, `stands.rt`, `ready.rt` citations; `compared.rt`, `told_stands.rt` what callers were told.
+//! Definitions: `specs/Order`, `Wrong`, `Faults`; as they stood while a server had one cost `OneCost`; of a closed cluster
+//! `Told`, `Kept`, `Closed`. `Cited` and `Placing` are the code's own words.
 #![tactic(auto)]
 
 mod cited;
@@ -21,6 +21,7 @@ mod placing;
 mod ready;
 mod stands;
 mod told_stands;
+mod waiting;
 mod wrong;
 
 pub use close_fault::CloseFault;

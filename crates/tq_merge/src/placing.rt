@@ -1,5 +1,5 @@
 //! Entries placed one after another, each once all that it cites is placed.
-ghost use Rattle.std.specs.Prelude.{◌≡◌, ◌<◌, ◌+◌, ◌++◌, ◌∷◌, ◌↔◌, [], suc, true, false, Ok, Some, IsTrue, IfOk, OnOk, length, map};
+ghost use Rattle.std.specs.Prelude.{◌≡◌, ◌<◌, ◌≤◌, ◌+◌, ◌++◌, ◌∷◌, ◌↔◌, [], suc, true, false, Ok, Some, IsTrue, IfOk, OnOk, length, map};
 ghost use Rattle.tq_shape.specs.declared.part.Part.{Part};
 ghost use Rattle.tq_shape.specs.declared.part.Part.TheVariants as parts;
 ghost use Rattle.tq_asks.specs.declared.ask.CitedVote.{CitedVote};
@@ -8,7 +8,8 @@ ghost use Rattle.tq_merge.specs.Placing as kept;
 
 use crate::Counts;
 use crate::cited::{Wanted, wanted_at};
-use crate::ready::{first_missing, is_ready};
+use crate::ready::{Cited, first_missing, is_ready, missing_in};
+use crate::waiting::Waiting;
 use std::alloc::Global;
 use std::marker::Model;
 use tq_asks::CitedVote;
@@ -116,6 +117,7 @@ impl<'a> Placing<'a> {
         ensures journals { IfOk result (λ moved. self.new.journals ≡ self.old.journals) }
         ensures moved { result ≡ Ok true → kept.left self.new.journals self.new.order < kept.left self.old.journals self.old.order }
         ensures still { result ≡ Ok false → self.new.order ≡ self.old.order }
+        ensures fewer { OnOk result (kept.left self.new.journals self.new.order ≤ kept.left self.old.journals self.old.order) }
         ensures blocked { IfOk result (λ moved. spec.IsNext self.new.journals self.new.order (parts.Server (suc place)) → ⊥) }
     {
         let mut moved = false;
@@ -126,6 +128,93 @@ impl<'a> Placing<'a> {
             }
             moved = true;
         }
+    }
+
+    /// Places entries of the desk as far as they go.
+    fn run_desk(&mut self, alloc: Global) -> Result<(), Memory>
+        ensures journals { OnOk result (self.new.journals ≡ self.old.journals) }
+        ensures fewer { OnOk result (kept.left self.new.journals self.new.order ≤ kept.left self.old.journals self.old.order) }
+    {
+        'entries: loop {
+            let placed = self.place_desk(alloc)?;
+            if !placed {
+                return Ok(());
+            }
+        }
+    }
+
+    /// Places entries of the server as far as they go, wakes the parts that waited for them, and has it wait for what its
+    /// next one cites.
+    fn turn_server(&mut self, waiting: &mut Waiting, place: usize) -> Result<(), Memory>
+        requires { place < length self.old.journals.servers }
+        ensures journals { OnOk result (self.new.journals ≡ self.old.journals) }
+        ensures fewer { OnOk result (kept.left self.new.journals self.new.order ≤ kept.left self.old.journals self.old.order) }
+    {
+        let before = self.placed_at(place);
+        let _moved = self.run_server(place)?;
+        waiting.wake(place, before, self.placed_at(place))?;
+        match self.missing_at(place) {
+            Some(Cited::Desk(number)) => waiting.wait(place, self.server_count(), number),
+            Some(Cited::Server(entry)) => wait_for(waiting, place, entry),
+            None => {}
+        }
+        Ok(())
+    }
+
+    /// The same for the desk.
+    fn turn_desk(&mut self, alloc: Global, waiting: &mut Waiting) -> Result<(), Memory>
+        ensures journals { OnOk result (self.new.journals ≡ self.old.journals) }
+        ensures fewer { OnOk result (kept.left self.new.journals self.new.order ≤ kept.left self.old.journals self.old.order) }
+    {
+        let place = self.server_count();
+        let before = self.desk;
+        self.run_desk(alloc)?;
+        waiting.wake(place, before, self.desk)?;
+        if let Some(entry) = self.wanted.get(self.met) {
+            wait_for(waiting, place, *entry);
+        }
+        Ok(())
+    }
+
+    /// The same for the part at the place: a server, or else the desk.
+    fn turn(&mut self, alloc: Global, waiting: &mut Waiting, place: usize) -> Result<(), Memory>
+        ensures journals { OnOk result (self.new.journals ≡ self.old.journals) }
+        ensures fewer { OnOk result (kept.left self.new.journals self.new.order ≤ kept.left self.old.journals self.old.order) }
+    {
+        if place < self.server_count() {
+            return self.turn_server(waiting, place);
+        }
+        self.turn_desk(alloc, waiting)
+    }
+
+    /// Places entries of the parts that are woken, until none is.
+    fn follow(&mut self, alloc: Global, waiting: &mut Waiting) -> Result<(), Memory>
+        ensures journals { OnOk result (self.new.journals ≡ self.old.journals) }
+        ensures fewer { OnOk result (kept.left self.new.journals self.new.order ≤ kept.left self.old.journals self.old.order) }
+    {
+        for _ in 0..u64::MAX {
+            let Some(place) = waiting.next() else {
+                return Ok(());
+            };
+            self.turn(alloc, waiting, place)?;
+        }
+        Ok(())
+    }
+
+    /// How many entries are placed of the server at the place.
+    fn placed_at(&self, place: usize) -> u64 {
+        match self.servers.get(place) {
+            Some(count) => *count,
+            None => 0,
+        }
+    }
+
+    /// What the next entry of the server cites, where that is not placed.
+    fn missing_at(&self, place: usize) -> Option<Cited> {
+        let count = self.placed_at(place);
+        let entries = self.journals.servers().get(place)?;
+        let entry = entries.as_slice().get(count as usize)?;
+        missing_in(self.servers.as_slice(), self.desk, &entry.ask)
     }
 
     /// Places entries of each part once, as far as they go. A round that places none leaves none that can be placed.
@@ -162,12 +251,15 @@ impl<'a> Placing<'a> {
         let _ = &self.order;
     }
 
-    /// Places entries until none is left that can be placed.
+    /// Places entries until none is left that can be placed: those of the parts that were woken, of all parts at first. That
+    /// none is left is told by a round that places none, the first one where no part was forgotten.
     pub(crate) fn place_all(&mut self, alloc: Global) -> Result<(), Memory>
         ensures journals { OnOk result (self.new.journals ≡ self.old.journals) }
         ensures done { OnOk result (kept.IsDone self.new.journals self.new.order) }
     {
+        let mut waiting = Waiting::new(alloc, self.journals)?;
         'rounds: loop {
+            self.follow(alloc, &mut waiting)?;
             let moved = self.round(alloc)?;
             if !moved {
                 return Ok(());
@@ -203,6 +295,13 @@ impl<'a> Placing<'a> {
             desk: self.desk,
             view: self.journals.view().len() as u64,
         }
+    }
+}
+
+/// The part at the place waits for the entry of a server.
+fn wait_for(waiting: &mut Waiting, place: usize, entry: CitedVote) {
+    if entry.server > 0 {
+        waiting.wait(place, (entry.server - 1) as usize, entry.number);
     }
 }
 

@@ -77,6 +77,37 @@ pub(crate) fn is_ready(journals: &Journals, counts: &[u64], desk: u64, ask: &Nod
     }
 }
 
+/// An entry that another one cites: of the desk, by its number, or of a server.
+#[derive(Drop)]
+pub(crate) enum Cited {
+    Desk(u64),
+    Server(CitedVote),
+}
+
+/// What the ask cites where that is not placed, where so many entries of each server and of the desk are.
+pub(crate) fn missing_in(counts: &[u64], desk: u64, ask: &NodeAsk) -> Option<Cited> {
+    match ask {
+        NodeAsk::Work(ask) => missing_in_work(counts, desk, ask.get()),
+        NodeAsk::CrashIn { ask, .. } => missing_in_work(counts, desk, ask.get()),
+        NodeAsk::Crash => None,
+        NodeAsk::Return => None,
+    }
+}
+
+fn missing_in_work(counts: &[u64], desk: u64, ask: &WorkAsk) -> Option<Cited> {
+    if is_placed_in_work(counts, desk, ask) {
+        return None;
+    }
+    match ask {
+        WorkAsk::Decide { cite, .. } => Some(Cited::Desk(*cite)),
+        WorkAsk::Refresh { from, .. } => Some(Cited::Server(*from)),
+        WorkAsk::Lock { .. } => None,
+        WorkAsk::Prepare { .. } => None,
+        WorkAsk::Release { .. } => None,
+        WorkAsk::Peek { .. } => None,
+    }
+}
+
 /// The first of the entries, from this place on, that is not placed; their number where all are.
 pub(crate) fn first_missing(wanted: &[CitedVote], from: usize, counts: &[u64]) -> usize
     requires { from ≤ length wanted.now }

@@ -1,8 +1,9 @@
 -- Prefixes that grow by entries of a part, beside the tables over them.
-use Rattle.std.proofs.Common.{◌≡◌, ◌<◌, ◌≤◌, ◌+◌, ◌-◌, ◌^◌, ◌↔◌, ℕ, zero, suc, Option, Some, Bool, false, IsTrue, List, [], ◌∷◌, ◌++◌, length, map, set, get_or, take, replicate, refl, sym, ap, subst, ◌∙◌, arith, append_assoc, append-nil}
-use Rattle.std.specs.Prelude.{reverse, MatchOption, OnErr, OnOk, Result, Ok, Err}
-use Rattle.std.specs.Result.{IsErrAnd}
-use Rattle.std.proofs.lemmas.List.{get_or-map, length-map, length-set, length-take-le, length-replicate, length_push, map-set, set-set, set-get_or, get_or-set_same, length-append}
+use Rattle.std.proofs.Common.{◌≡◌, ◌<◌, ◌≤◌, ◌+◌, ◌-◌, ◌^◌, ◌↔◌, ℕ, zero, suc, Option, None, Some, Bool, false, IsTrue, List, [], ◌∷◌, ◌++◌, length, map, set, get_or, take, drop, replicate, refl, sym, ap, inl, subst, ◌∙◌, arith, append_assoc, append-nil}
+use Rattle.std.specs.Prelude.{reverse, IfOk, IfSome, MatchOption, OnErr, OnOk, Result, Ok, Err}
+use Rattle.std.specs.Result.{IsErrAnd, result_unwrap_or}
+use Rattle.std.proofs.Math.Seq.{drop-append_seam}
+use Rattle.std.proofs.lemmas.List.{get_or-map, length-map, length-set, length-take-le, length-replicate, length_push, map-set, take_all, set-set, set-get_or, get_or-set_same, length-append}
 use Rattle.std.proofs.lemmas.Bool.{iff_false}
 use Rattle.std.proofs.lemmas.Nat.{pow_pos}
 use Rattle.tq_shape.specs.Limits.{LimitsView}
@@ -31,8 +32,8 @@ use Rattle.tq_tables.specs.Parts.{AreLegal, AreLegalServers, bounds_of, node_aft
 use Rattle.tq_tables.specs.Tables.{TablesView, tables_of}
 use Rattle.tq_prefixes.specs.declared.entries.Entries.{Entries}
 use Rattle.tq_prefixes.specs.declared.entries.Entries.TheVariants as entries
-use Rattle.tq_prefixes.specs.Prefixes.{IsForeign, IsPartOf, count_of, nothing_pulled, prefix_length, server_prefix, grown}
-use Rattle.tq_prefixes.specs.Kept.{AreAhead, AreKept, prefixes_in}
+use Rattle.tq_prefixes.specs.Prefixes.{GivesNext, IsForeign, IsPartOf, count_of, nothing_pulled, prefix_length, server_prefix, grown}
+use Rattle.tq_prefixes.specs.Kept.{AreAhead, AreKept, AreLed, prefixes_in}
 use Rattle.tq_prefixes.proofs.Led.{Grows, Led, legal-joined, state-joined}
 
 -- ---- legal journals of servers
@@ -245,6 +246,54 @@ enough few read kept more least same is plenty =
     let count = ap length same in
     grind (arith, never, count)
 
+-- with no least number there are always enough
+pub led_ahead : (tables : TablesView) (w : JournalsView) (part : Part) (more : Entries) → GivesNext w part more → tables ≡ tables_of (grown w part more) → AreAhead tables w part more 0
+led_ahead tables w part more gives stand = record { gives = gives; enough = omega arith; stand = stand }
+
+-- and where there are, what came of the entries is what was looked for
+pub ahead_with : (found : Option TablesView) (w : JournalsView) (part : Part) (more : Entries) (least : ℕ) → least ≤ prefix_length w part + count_of more → AreLed found w part more
+    → MatchOption found (IsForeign w part more least) (λ (t : TablesView). AreAhead t w part more least)
+ahead_with None w part more least many never = inl never
+ahead_with (Some ahead) w part more least many led = record { gives = led.gives; enough = many; stand = led.stand }
+
+-- ---- spare tables
+
+-- they are kept in the place of the tables
+pub spare_kept : (spare tables : TablesView) (kept w : JournalsView) → kept ≡ w → AreKept tables kept → spare ≡ tables → AreKept spare w
+spare_kept spare tables kept w leads keeps same =
+    subst (λ (t : TablesView). AreKept t w) (sym same) (subst (λ (o : JournalsView). AreKept tables o) leads keeps)
+
+-- those that are there are
+pub some_kept : (found : Option TablesView) (spare tables : TablesView) → IfSome found (λ (t : TablesView). t ≡ tables) → found ≡ Some spare → spare ≡ tables
+some_kept found spare tables same is = subst (λ (o : Option TablesView). IfSome o (λ (t : TablesView). t ≡ tables)) is same
+
+-- entries from a place on, as a slice has them
+abbrev pub from_on : {E : Type 0} → ℕ → List E → List E
+from_on known all = take (length all - known) (drop known all)
+
+-- behind so many stand those that came
+pub those_behind : {E : Type 0} (known : ℕ) (now more all : List E) → known ≡ length now → all ≡ now ++ more → from_on known all ≡ more
+those_behind known now more all count is =
+    let sum = length-append now more in
+    (λ i. from_on (count i) (is i))
+    ∙ ap (take (length (now ++ more) - length now)) (drop-append_seam now more)
+    ∙ take_all (length (now ++ more) - length now) more (omega (arith, sum))
+
+-- what comes of the tables that stood there by the same entries equals what came of the spare ones
+pub follow_alike : {E : Type 0} (of : List E → Entries) (found : Option TablesView) (ahead : TablesView) (w : JournalsView) (part : Part) (more fresh : List E) (least : ℕ) → fresh ≡ more
+    → AreLed found w part (of fresh) → AreAhead ahead w part (of more) least → IfSome found (λ (spare : TablesView). spare ≡ ahead)
+follow_alike of None ahead w part more fresh least same led there = tt
+follow_alike of (Some spare) ahead w part more fresh least same led there = led.stand ∙ ap (λ es. tables_of (grown w part (of es))) same ∙ sym there.stand
+
+pub spare_alike : {M E : Type 0} (P : Option TablesView → Type 0) (of : List E → Entries) (result : Result (Option TablesView) M) (spare : Option TablesView) (ahead : TablesView) (w : JournalsView) (part : Part) (more fresh : List E) (least : ℕ) → fresh ≡ more
+    → ((found : Option TablesView) → P found → AreLed found w part (of fresh)) → IfOk result P → spare ≡ result_unwrap_or result None → AreAhead ahead w part (of more) least
+    → IfSome spare (λ (t : TablesView). t ≡ ahead)
+spare_alike {M} {E} P of result spare ahead w part more fresh least same leads led is there = subst (λ (o : Option TablesView). IfSome o (λ (t : TablesView). t ≡ ahead)) (sym is) (by result led)
+  where
+    by : (r : Result (Option TablesView) M) → IfOk r P → IfSome (result_unwrap_or r None) (λ (t : TablesView). t ≡ ahead)
+    by (Ok found) holds = follow_alike of found ahead w part more fresh least same (leads found holds) there
+    by (Err fault) holds = tt
+
 -- ---- what is kept once a part followed more entries
 
 kept_grown : (tables ahead : TablesView) (w : JournalsView) → AreKept tables w → (part : Part) (more : Entries) (least : ℕ) → IsPartOf w.levels part → AreAhead ahead w part more least → AreKept ahead (grown w part more)
@@ -319,7 +368,7 @@ taken_at tables ahead kept old was part more least of_tree led leads =
 
 module _ (tables ahead : TablesView) (limits : LimitsView) (servers : List (List NodeEntry)) (now : List DeskEntry) (view : List ViewEntry) (old : JournalsView)
     (same : prefixes_in tables limits servers now view ≡ old) (kept : AreKept tables (prefixes_in tables limits servers now view)) where
-  kept_old : AreKept tables old
+  pub kept_old : AreKept tables old
   kept_old = subst (λ (w : JournalsView). AreKept tables w) same kept
 
   pub desk_taken : (after more : List DeskEntry) (least : ℕ) → AreAhead ahead old parts.Desk (entries.Desk more) least → after ≡ now ++ more
@@ -382,13 +431,6 @@ module _ {V : Type 0} (items : V → List NodeEntry) (tables : TablesView) (limi
       let count = length-map journals items in
       omega (arith, there, count)
 
-  -- its entries are few where those of each journal are
-  pub server_few : (d : V) → ((v : V) → length (items v) < 2 ^ 63) → length (server_prefix old number) < 2 ^ 63
-  server_few d few =
-      let is = get_or-map items journals (number - 1) d [] less in
-      subst (λ (w : JournalsView). length (server_prefix w number) < 2 ^ 63) same
-      (subst (λ (es : List NodeEntry). length es < 2 ^ 63) (sym is) (few (get_or journals (number - 1) d)))
-
   module _ (here after : V) (at : here ≡ get_or journals (number - 1) here) where
     read : get_or (map items journals) (number - 1) [] ≡ items here
     read = get_or-map items journals (number - 1) here [] less ∙ ap items (sym at)
@@ -399,6 +441,13 @@ module _ {V : Type 0} (items : V → List NodeEntry) (tables : TablesView) (limi
         server_taken tables ahead limits (map items journals) now view old same kept number of_tree (map items (set journals (number - 1) after)) more least led
         (map-set items journals (number - 1) after
         ∙ ap (set (map items journals) (number - 1)) (is ∙ ap (λ (es : List NodeEntry). es ++ more) (sym read)))
+
+    -- where it is read again, what came stands behind what was there
+    pub server_fresh : (known : ℕ) (again : V) (more all : List NodeEntry) → known ≡ length (server_prefix old number) → again ≡ get_or (set journals (number - 1) after) (number - 1) again
+        → items after ≡ items here ++ more → all ≡ items again → from_on known all ≡ more
+    server_fresh known again more all count there is lent =
+        let count_here : known ≡ length (items here) = count ∙ ap length (ap (λ (w : JournalsView). server_prefix w number) (sym same) ∙ read) in
+        those_behind known (items here) more all count_here (lent ∙ ap items (there ∙ get_or-set_same journals (number - 1) after again less) ∙ is)
 
     pub server_stays : items after ≡ items here → Stands tables (prefixes_in tables limits (map items (set journals (number - 1) after)) now view) old
     server_stays is =

@@ -1,4 +1,4 @@
-ghost use Rattle.std.specs.Prelude.{◌≡◌, ◌≤◌, ◌+◌, ◌-◌, ◌^◌, [], length, map, replicate, IfOk, IfErr, OnOk, OnErr};
+ghost use Rattle.std.specs.Prelude.{◌≡◌, ◌<◌, ◌≤◌, ◌+◌, ◌-◌, ◌^◌, [], length, map, replicate, IfOk, IfErr, OnOk, OnErr};
 ghost use Rattle.tq_shape.specs.Tree.{IsServer};
 ghost use Rattle.tq_tables.specs.Parts.{AreLegal};
 ghost use Rattle.tq_tables.specs.Tables.{tables_of};
@@ -7,9 +7,10 @@ ghost use Rattle.tq_prefixes.specs.Prefixes.{IsPullFault, grown, nothing_pulled,
 
 use crate::entries::Entries;
 use crate::fault::PullFault;
-use crate::following::has_nothing_new;
+use crate::following::{follow_desk, follow_server, follow_view, has_nothing_new};
 use std::alloc::Global;
 use std::marker::Model;
+use std::mem;
 use tq_desk::Desk;
 use tq_live::View;
 use tq_shape::{Levels, Limits, Memory, Part, Seq};
@@ -17,9 +18,14 @@ use tq_tables::{DeskEntry, NodeEntry, Parts, Tables, ViewEntry, replay_nodes};
 
 /// What was pulled of the journals of a system: of each part the first entries, and the tables over them, which alone
 /// keep how the parts stand. Contracts see it as these entries; the journals that have them alone are legal.
+///
+/// Spare tables, equal to these, may stand beside them. Entries that come are tried on the spare tables, which take the
+/// place of the tables where all is well; the tables that stood there follow then, and are the spare ones. So each entry is
+/// asked twice, and nothing is copied but where there are no spare tables.
 pub struct Prefixes {
     limits: Limits,
     tables: Tables,
+    spare: Option<Tables>,
     servers: Vec<Vec<NodeEntry>>,
     desk: Vec<DeskEntry>,
     view: Vec<ViewEntry>,
@@ -31,6 +37,7 @@ impl Drop for Prefixes {
         let Self {
             limits: _,
             tables: _,
+            spare: _,
             servers: _,
             desk: _,
             view: _,
@@ -39,7 +46,7 @@ impl Drop for Prefixes {
 }
 
 impl Model for Prefixes {
-    ghost use Rattle.std.specs.Prelude.{map};
+    ghost use Rattle.std.specs.Prelude.{◌≡◌, map, IfSome};
     ghost use Rattle.tq_tables.specs.Journals.{JournalsView};
     ghost use Rattle.tq_prefixes.specs.Kept.{AreKept, prefixes_in};
 
@@ -47,7 +54,8 @@ impl Model for Prefixes {
 
     ghost view = { λ a. prefixes_in a.tables a.limits (map (λ entries. entries.items) a.servers.items) a.desk.items a.view.items };
 
-    ghost invariant = { λ a. AreKept a.tables (prefixes_in a.tables a.limits (map (λ entries. entries.items) a.servers.items) a.desk.items a.view.items) };
+    ghost invariant = { λ a. AreKept a.tables (prefixes_in a.tables a.limits (map (λ entries. entries.items) a.servers.items) a.desk.items a.view.items)
+        × IfSome a.spare (λ spare. spare ≡ a.tables) };
 }
 
 impl Prefixes {
@@ -63,6 +71,7 @@ impl Prefixes {
         Ok(Prefixes {
             limits,
             tables,
+            spare: None,
             servers,
             desk: Vec::new(alloc),
             view: Vec::new(alloc),
@@ -99,6 +108,18 @@ impl Prefixes {
         &self.tables
     }
 
+    /// The spare tables, or a copy of the tables where there are none.
+    pub(crate) fn take_spare(&mut self, alloc: Global) -> Result<Tables, Memory>
+        ensures same { self.new ≡ self.old }
+        ensures spare { IfOk result (λ spare. AreKept spare self.old) }
+    {
+        let _ = &self.limits;
+        match self.spare.take() {
+            Some(spare) => Ok(spare),
+            None => self.tables.copy(alloc),
+        }
+    }
+
     /// What was pulled of the server of that number.
     pub fn server(&self, number: u64) -> &[NodeEntry]
         requires { IsServer self.now.levels number }
@@ -106,6 +127,16 @@ impl Prefixes {
     {
         let place = (number - 1) as usize;
         self.servers[place].as_slice()
+    }
+
+    /// How many entries were pulled of the server of that number.
+    fn server_count(&self, number: u64) -> usize
+        requires { IsServer self.now.levels number }
+        ensures value { result ≡ length (server_prefix self.now number) }
+        ensures few { result < 2 ^ 63 }
+    {
+        let place = (number - 1) as usize;
+        self.servers[place].len()
     }
 
     /// What was pulled of the desk.
@@ -137,7 +168,8 @@ impl Prefixes {
         ensures err { OnErr result (self.new ≡ self.old) }
         ensures fault { IfErr result (IsPullFault self.old (Part.Server number) (Entries.Server entries.items) least) }
     {
-        if has_nothing_new(self.server(number).len(), entries.len(), least) {
+        let known = self.server_count(number);
+        if has_nothing_new(known, entries.len(), least) {
             return Ok(());
         }
         let Some(ahead) = self.ahead_of_server(alloc, number, entries.as_slice(), least)? else {
@@ -149,14 +181,15 @@ impl Prefixes {
         let place = (number - 1) as usize;
         let mut next = entries;
         self.servers[place].append(&mut next)?;
-        self.tables = ahead;
+        let behind = mem::replace(&mut self.tables, ahead);
+        let fresh = &self.servers[place].as_slice()[known..];
+        self.spare = follow_server(alloc, behind, number, known, fresh).unwrap_or(None);
         Ok(())
     }
 
     /// Takes the entries that come next behind those that were pulled of the desk; the tables are then those over all of
     /// them. Answers `Foreign` with the entries where the desk, where its prefix leaves it, would not give them, or where
-    /// with them there are fewer than `least`, and `Memory` where memory is refused. At a fault all is as it was. Where there
-    /// is nothing new nothing is copied.
+    /// with them there are fewer than `least`, and `Memory` where memory is refused. At a fault all is as it was.
     pub fn take_desk(
         &mut self,
         alloc: Global,
@@ -178,9 +211,12 @@ impl Prefixes {
                 entries: Entries::Desk(Seq::from_vec(entries)),
             });
         };
+        let known = self.desk.len();
         let mut next = entries;
         self.desk.append(&mut next)?;
-        self.tables = ahead;
+        let behind = mem::replace(&mut self.tables, ahead);
+        let fresh = &self.desk.as_slice()[known..];
+        self.spare = follow_desk(alloc, behind, fresh).unwrap_or(None);
         Ok(())
     }
 
@@ -206,9 +242,12 @@ impl Prefixes {
                 entries: Entries::View(Seq::from_vec(entries)),
             });
         };
+        let known = self.view.len();
         let mut next = entries;
         self.view.append(&mut next)?;
-        self.tables = ahead;
+        let behind = mem::replace(&mut self.tables, ahead);
+        let fresh = &self.view.as_slice()[known..];
+        self.spare = follow_view(alloc, behind, fresh).unwrap_or(None);
         Ok(())
     }
 }

@@ -1,7 +1,8 @@
-ghost use Rattle.std.specs.Prelude.{◌≡◌, ◌++◌, IfOk, OnOk, string_bytes};
+ghost use Rattle.std.specs.Prelude.{◌≡◌, ◌++◌, ◌≤◌, IfOk, OnOk, string_bytes};
 ghost use Rattle.tq_rendered.specs.Board.{board_text, row_lines, server_lines};
 
-use crate::line::{push_file, push_intent, push_lock, push_server};
+use crate::line::{push_intent, push_lock, push_next_file, push_server};
+use crate::sets::SetsText;
 use std::alloc::Global;
 use tq_live::View;
 use tq_shape::{Memory, ServerId};
@@ -24,6 +25,7 @@ pub fn render(alloc: Global, tables: &Tables, view: &View) -> Result<String, Mem
     let locks = tables.locks(alloc)?;
     let intentions = tables.intentions(alloc)?;
     push_rows(
+        alloc,
         &mut text,
         tables.files(),
         locks.as_slice(),
@@ -33,12 +35,26 @@ pub fn render(alloc: Global, tables: &Tables, view: &View) -> Result<String, Mem
     Ok(text)
 }
 
-/// Room for the text, so that it is not moved as it grows: a line for each server and each file, few of them longer than 80
-/// bytes and three for each server that it may name, once to read from and once to write to.
+/// Room for the text, so that it is not moved as it grows: 128 bytes a server, and for each file 64 and a number of each
+/// server with a space before it. Few texts take more.
 fn room_of(tables: &Tables) -> usize {
     let servers = tables.levels().servers() as usize;
-    let lines = servers.saturating_add(tables.files().len());
-    lines.saturating_mul(80 + 6 * servers)
+    let file = 64 + number_width(servers) * servers;
+    tables
+        .files()
+        .len()
+        .saturating_mul(file)
+        .saturating_add(128 * servers)
+}
+
+/// How many bytes the greatest number of so many servers takes with a space before it.
+fn number_width(servers: usize) -> usize
+    ensures { result ≤ 5 }
+{
+    if servers < 100 {
+        return 3;
+    }
+    if servers < 1000 { 4 } else { 5 }
 }
 
 /// Puts a line for each server upwards behind the text.
@@ -64,6 +80,7 @@ fn push_server_lines(
 
 /// Puts a line for each file, for each lock and for each open intention behind the text.
 pub fn push_rows(
+    alloc: Global,
     text: &mut String,
     files: &[FileRow],
     locks: &[LockRow],
@@ -71,8 +88,9 @@ pub fn push_rows(
 ) -> Result<(), Memory>
     ensures { OnOk result (string_bytes text.new ≡ string_bytes text.old ++ row_lines files.now locks.now intentions.now) }
 {
+    let mut sets = SetsText::new(alloc);
     for row in files {
-        push_file(text, row)?;
+        push_next_file(text, row, &mut sets)?;
     }
     for lock in locks {
         push_lock(text, lock)?;

@@ -1,6 +1,8 @@
-ghost use Rattle.std.specs.Prelude.{◌≡◌, ◌++◌, OnOk, string_bytes};
+ghost use Rattle.std.specs.Prelude.{◌≡◌, ◌++◌, OnOk, codes, string_bytes};
+ghost use Rattle.std.specs.Fmt.{decimal};
 ghost use Rattle.tq_rendered.specs.Board.{as_line, costs_text, file_text, intent_text, least_text, leasts_text, lock_text, server_text};
 
+use crate::sets::{SetsText, push_sets};
 use crate::word::{mark_word, push_set, push_writes, state_word};
 use tq_live::{Costs, Least, LiveTree};
 use tq_shape::{Memory, ServerId};
@@ -58,11 +60,29 @@ fn push_least(text: &mut String, least: &Option<Least>) -> Result<(), Memory>
 pub fn push_file(text: &mut String, row: &FileRow) -> Result<(), Memory>
     ensures { OnOk result (string_bytes text.new ≡ string_bytes text.old ++ as_line (file_text row.now)) }
 {
-    write!(text, "file {} version {} current", row.file, row.version)?;
-    push_set(text, &row.current)?;
-    text.push_str(" stale")?;
-    push_set(text, &row.stale)?;
+    push_version(text, row)?;
+    push_sets(text, row)?;
     text.push_str("\n")
+}
+
+/// The same, where the text of the servers of a row before it is kept.
+pub(crate) fn push_next_file<'a>(
+    text: &mut String,
+    row: &'a FileRow,
+    sets: &mut SetsText<'a>,
+) -> Result<(), Memory>
+    ensures { OnOk result (string_bytes text.new ≡ string_bytes text.old ++ as_line (file_text row.now)) }
+{
+    push_version(text, row)?;
+    sets.put(text, row)?;
+    text.push_str("\n")
+}
+
+/// Puts the line of a file as far as its servers behind the text.
+fn push_version(text: &mut String, row: &FileRow) -> Result<(), Memory>
+    ensures { OnOk result (string_bytes text.new ≡ string_bytes text.old ++ codes "file " ++ row.now.file ++ codes " version " ++ decimal row.now.version ++ codes " current") }
+{
+    write!(text, "file {} version {} current", row.file, row.version)
 }
 
 /// Puts the line of a lock behind the text.

@@ -1,3 +1,4 @@
 mod StreamLaws
 mod Pieces
 mod RunLaws
+mod Fronts

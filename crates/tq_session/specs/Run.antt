@@ -16,6 +16,25 @@ IsRunText (Err Read) levels bytes text = text ≡ whole_text levels bytes
 IsRunText (Err Write) levels bytes text = (rest : List ℕ) × (text ++ rest ≡ text_of levels bytes)
 IsRunText (Err TooLong) levels bytes text = (16777216 < length bytes) × (text ≡ whole_text levels (take 16777216 bytes))
 
+-- what is written of the answers to a piece of what is read, and failures of the sink: all, whole answers to first lines, or
+-- a prefix
+abbrev pub IsPieceWritten : {T : Type 0} → Result T RunFault → Received → List ℕ → Option (List ℕ) → Option (List ℕ) → ℕ → ℕ → Type 0
+IsPieceWritten (Ok done) received piece taken taken_after failed failed_after =
+    Appends taken taken_after (answers_to received piece) × (failed_after ≡ failed)
+IsPieceWritten (Err Memory) received piece taken taken_after failed failed_after =
+    (count : ℕ) × Appends taken taken_after (answers_to received (take count piece)) × (failed_after ≡ failed)
+IsPieceWritten (Err Write) received piece taken taken_after failed failed_after =
+    (text : List ℕ) × (rest : List ℕ) × Appends taken taken_after text × (text ++ rest ≡ answers_to received piece) × (failed_after ≡ failed + 1)
+IsPieceWritten (Err Read) received piece taken taken_after failed failed_after = ⊥
+IsPieceWritten (Err TooLong) received piece taken taken_after failed failed_after = ⊥
+
+-- where a piece is answered in part: its front is received, what that says is written, and the rest is left
+pub record IsAnswering (start : Received) (piece : List ℕ) (taken taken_now : Option (List ℕ)) (received : Received) (left : List ℕ) : Type 0 where
+  pub front : List ℕ
+  pub parts : piece ≡ front ++ left
+  pub wrote : Appends taken taken_now (answers_to start front)
+  pub received_is : received ≡ received_all start front
+
 -- where a run stands before a read: what the source has given is received, and what that says is written
 pub record IsGoing (levels : ℕ) (given given_now taken taken_now : Option (List ℕ)) (received : Received) (left : ℕ) : Type 0 where
   pub bytes : List ℕ

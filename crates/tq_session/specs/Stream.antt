@@ -1,6 +1,6 @@
 -- Bytes that come in pieces: a machine that goes from byte to byte and keeps one line.
-use Rattle.std.specs.Prelude.{ℕ, ◌==◌, cond, List, [], ◌∷◌, ◌++◌, take}
-use Rattle.tq_session.specs.declared.receiver.TheConstants.{KEPT}
+use Rattle.std.specs.Prelude.{ℕ, ◌+◌, ◌==◌, ◌&&◌, nat_le, cond, List, [], ◌∷◌, ◌++◌, take, length}
+use Rattle.tq_session.specs.declared.receiver.TheConstants.{KEPT, FLUSH_AT}
 use Rattle.tq_lines.specs.Line.{line_of}
 use Rattle.tq_answering.specs.Answer.{World, Answer, opening, answer}
 use Rattle.tq_lines.specs.Word.{without_return}
@@ -42,6 +42,14 @@ received_all received (byte ∷ bytes) = received_all (received_byte received by
 abbrev pub answers_to : Received → List ℕ → List ℕ
 answers_to received [] = []
 answers_to received (byte ∷ bytes) = answer_to_byte received byte ++ answers_to (received_byte received byte) bytes
+
+-- how many of the bytes are received before answers are written, where there are answers of so many bytes: those up to the
+-- first line feed at which there are enough, or all
+abbrev pub taken_at_once : ℕ → Received → List ℕ → ℕ
+taken_at_once there received [] = 0
+taken_at_once there received (byte ∷ bytes) =
+    let answered = there + length (answer_to_byte received byte) in
+    1 + cond (byte == 10 && nat_le FLUSH_AT answered) 0 (taken_at_once answered (received_byte received byte) bytes)
 
 -- the answer to a last line without a line feed
 abbrev pub answer_to_rest : World → List ℕ → List ℕ

@@ -1,6 +1,10 @@
+ghost use Rattle.std.specs.Prelude.{◌≡◌, ◌++◌, [], OnOk, OnErr};
+ghost use Rattle.tq_answering.specs.Answer.{answer};
+
 use memchr::memchr;
 use std::alloc::Global;
 use std::marker::Model;
+use std::mem;
 use tq_answering::Shell;
 use tq_lines::{LINE_LIMIT, Line, without_return};
 use tq_shape::{Levels, Memory};
@@ -8,11 +12,16 @@ use tq_shape::{Levels, Memory};
 /// How many bytes are kept of a line. With these it is too long, also if the last is a carriage return that is dropped.
 const KEPT: usize = LINE_LIMIT + 2;
 
+/// How many bytes of answers are enough to be written.
+const FLUSH_AT: usize = 1_048_576;
+
 /// What was received of bytes that come in pieces: the lines that ended are answered, and the one that goes on is kept.
 #[derive(Drop)]
 pub(crate) struct Receiver {
     shell: Shell,
     line: Vec<u8>,
+    /// Room for the answer to a line.
+    answer: Vec<u8>,
 }
 
 impl Model for Receiver {
@@ -28,51 +37,75 @@ impl Model for Receiver {
 }
 
 impl Receiver {
-    ghost use Rattle.std.specs.Prelude.{◌≡◌, ◌++◌, [], IfOk, OnOk};
-    ghost use Rattle.tq_session.specs.Stream.{nothing_received, kept, grown, line_answer, received_all, answers_to, answer_to_last};
+    ghost use Rattle.std.specs.Prelude.{◌≡◌, ◌≤◌, ◌++◌, [], ℕ, length, take, IfOk, OnOk, OnErr};
+    ghost use Rattle.tq_session.specs.Stream.{nothing_received, kept, grown, line_answer, received_all, answers_to, answer_to_last, taken_at_once};
 
     pub(crate) fn new(alloc: Global, levels: Levels) -> Result<Receiver, Memory>
         ensures { IfOk result (λ receiver. receiver ≡ nothing_received levels) }
     {
         let shell = Shell::new(alloc, levels)?;
         let line = Vec::new(alloc);
-        Ok(Receiver { shell, line })
+        let answer = Vec::new(alloc);
+        Ok(Receiver {
+            shell,
+            line,
+            answer,
+        })
     }
 
-    /// Receives a piece, and puts the answers to the lines that it ends behind the text.
+    /// Receives a piece, or its front up to the line with which there are enough answers to be written, and tells how many
+    /// bytes it took. The answers to the lines that these end go behind the text; where memory is refused, those that are
+    /// whole do.
     pub(crate) fn receive(
         &mut self,
         alloc: Global,
         piece: &[u8],
         text: &mut Vec<u8>,
-    ) -> Result<(), Memory>
-        ensures text { OnOk result (text.new.items ≡ text.old.items ++ answers_to self.old piece.now) }
-        ensures after { OnOk result (self.new ≡ received_all self.old piece.now) }
+    ) -> Result<usize, Memory>
+        ensures taken { IfOk result (λ taken. taken ≡ taken_at_once (length text.old.items) self.old piece.now) }
+        ensures within { IfOk result (λ taken. taken ≤ length piece.now) }
+        ensures text { IfOk result (λ taken. text.new.items ≡ text.old.items ++ answers_to self.old (take taken piece.now)) }
+        ensures after { IfOk result (λ taken. self.new ≡ received_all self.old (take taken piece.now)) }
+        ensures whole { (count : ℕ) × (text.new.items ≡ text.old.items ++ answers_to self.old (take count piece.now)) }
     {
         let _ = &self.line;
         let mut left = piece;
         while let Some(place) = memchr(b'\n', left) {
             self.end_line(alloc, &left[..place], text)?;
             left = &left[place + 1..];
+            if text.len() >= FLUSH_AT {
+                return Ok(piece.len() - left.len());
+            }
         }
         self.keep(left)?;
-        Ok(())
+        Ok(piece.len())
     }
 
-    /// Answers the line that ends with these bytes, behind the text. What stands whole in a piece is not copied.
+    /// Answers the line that ends with these bytes, behind the text. What stands whole in a piece is not copied. Where memory
+    /// is refused, the text stays.
     fn end_line(&mut self, alloc: Global, bytes: &[u8], text: &mut Vec<u8>) -> Result<(), Memory>
         ensures text { OnOk result (text.new.items ≡ text.old.items ++ (line_answer self.old.world (kept self.old.line bytes.now)).text) }
         ensures after { OnOk result (self.new ≡ record { world = (line_answer self.old.world (kept self.old.line bytes.now)).after; line = [] }) }
+        ensures kept { OnErr result (text.new.items ≡ text.old.items) }
     {
         if self.line.is_empty() {
-            let whole = &bytes[..bytes.len().min(KEPT)];
-            let line = Line::of(alloc, without_return(whole))?;
-            self.shell.answer(alloc, line, text)?;
+            let line = Line::of(alloc, without_return(bytes))?;
+            push_answer(&mut self.shell, alloc, line, &mut self.answer, text)?;
             return Ok(());
         }
+        self.end_kept(alloc, bytes, text)
+    }
+
+    /// Answers the line that goes on and ends with these bytes, behind the text. Where memory is refused, the text stays.
+    #[inline(never)]
+    fn end_kept(&mut self, alloc: Global, bytes: &[u8], text: &mut Vec<u8>) -> Result<(), Memory>
+        ensures text { OnOk result (text.new.items ≡ text.old.items ++ (line_answer self.old.world (kept self.old.line bytes.now)).text) }
+        ensures after { OnOk result (self.new ≡ record { world = (line_answer self.old.world (kept self.old.line bytes.now)).after; line = [] }) }
+        ensures kept { OnErr result (text.new.items ≡ text.old.items) }
+    {
         self.keep(bytes)?;
         let line = Line::of(alloc, without_return(self.line.as_slice()))?;
-        self.shell.answer(alloc, line, text)?;
+        push_answer(&mut self.shell, alloc, line, &mut self.answer, text)?;
         self.line.clear();
         Ok(())
     }
@@ -95,4 +128,29 @@ impl Receiver {
         self.shell.answer(alloc, line, text)?;
         Ok(())
     }
+}
+
+/// Puts the answer to a line behind the text, by way of the room. Where memory is refused, the text stays.
+// Compiled into its callers: a call would move the line.
+#[inline(always)]
+fn push_answer(
+    shell: &mut Shell,
+    alloc: Global,
+    line: Line,
+    room: &mut Vec<u8>,
+    text: &mut Vec<u8>,
+) -> Result<(), Memory>
+    ensures text { OnOk result (text.new.items ≡ text.old.items ++ (answer shell.old line).text) }
+    ensures after { OnOk result (shell.new ≡ (answer shell.old line).after) }
+    ensures kept { OnErr result (text.new.items ≡ text.old.items) }
+{
+    room.clear();
+    shell.answer(alloc, line, room)?;
+    if text.is_empty() {
+        // The room becomes the text, and the text the room.
+        mem::swap(text, room);
+        return Ok(());
+    }
+    text.extend_from_slice(room.as_slice())?;
+    Ok(())
 }

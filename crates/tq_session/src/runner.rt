@@ -1,10 +1,11 @@
-ghost use Rattle.std.specs.Prelude.{◌≡◌, ◌+◌, ◌-◌, ◌^◌, ◌<◌, ◌≤◌, ◌++◌, ℕ, List, IsTrue, OnOk, OnErr, length, take};
+ghost use Rattle.std.specs.Prelude.{◌≡◌, ◌+◌, ◌-◌, ◌^◌, ◌<◌, ◌≤◌, ◌++◌, [], ℕ, List, IsTrue, OnOk, OnErr, length, take};
 ghost use Rattle.std.specs.Io.KnownBytes.{Appends};
 ghost use Rattle.tq_devices.specs.Faults.{IsRunCount};
-ghost use Rattle.tq_session.specs.Run.{IsRunText};
-ghost use Rattle.tq_session.specs.Stream.{nothing_received};
+ghost use Rattle.tq_session.specs.Run.{IsPieceWritten, IsRunText};
+ghost use Rattle.tq_session.specs.Stream.{nothing_received, received_all};
 
 use crate::receiver::Receiver;
+use memchr::memmem;
 use std::alloc::Global;
 use std::mem;
 use tq_devices::{RunFault, Sink, Source, write_out};
@@ -16,8 +17,9 @@ pub const INPUT_LIMIT: usize = 16_777_216;
 /// How many bytes are read at a time.
 const PIECE: usize = 65_536;
 
-/// Answers the lines of the source, and writes the answers to each piece of it before it reads the next. What the service
-/// kept is left to the end of the process, which takes it back at once: to free it entry by entry takes a tenth of a run.
+/// Answers the lines of the source, and writes the answers to each piece of it before it reads the next, and in the midst of
+/// a piece as soon as there are enough of them. What the service kept is left to the end of the process, which takes it back
+/// at once: to free it entry by entry takes a tenth of a run.
 pub fn run<R: Source, W: Sink>(
     alloc: Global,
     levels: Levels,
@@ -64,12 +66,49 @@ fn answer_pieces<R: Source, W: Sink>(
             receiver.finish(alloc, &mut text)?;
             return write_out(writer, text.as_slice());
         }
-        receiver.receive(alloc, &buffer[..count.min(left)], &mut text)?;
-        write_out(writer, text.as_slice())?;
+        let piece = &buffer[..count.min(left)];
+        answer_piece(alloc, receiver, piece, &mut text, writer)?;
         if count > left {
             return Err(RunFault::TooLong);
         }
-        text.clear();
         left -= count;
+    }
+}
+
+/// Answers a piece, and writes the answers each time that there are enough of them, and at the end. Where memory is refused,
+/// those that are whole are written. The text is room for them, and empty before and after.
+fn answer_piece<W: Sink>(
+    alloc: Global,
+    receiver: &mut Receiver,
+    piece: &[u8],
+    text: &mut Vec<u8>,
+    writer: &mut W,
+) -> Result<(), RunFault>
+    requires none { text.old.items ≡ [] }
+    requires writes { W.failed writer.old < 2 ^ 64 - 1 }
+    ensures wrote { IsPieceWritten result receiver.old piece.now (W.taken writer.old) (W.taken writer.new) (W.failed writer.old) (W.failed writer.new) }
+    ensures after { OnOk result (receiver.new ≡ received_all receiver.old piece.now) }
+    ensures none { OnOk result (text.new.items ≡ []) }
+{
+    let mut left = piece;
+    while !left.is_empty() {
+        let received = receiver.receive(alloc, &left[..at_once(left)], text);
+        write_out(writer, text.as_slice())?;
+        let taken = received?;
+        text.clear();
+        left = &left[taken..];
+    }
+    Ok(())
+}
+
+/// How many of the bytes are answered before answers are written: those before a line `refresh` that is not the first, since
+/// its answer is long, and is made in the room of a text that is empty.
+fn at_once(bytes: &[u8]) -> usize
+    requires { 0 < length bytes.now }
+    ensures { (0 < result) × (result ≤ length bytes.now) }
+{
+    match memmem::find(bytes, b"\nrefresh\n") {
+        Some(place) => place + 1,
+        None => bytes.len(),
     }
 }

@@ -162,6 +162,13 @@ impl<'a> Iterator for ServerSetIter<'a> {
     ghost remaining = { item_count (λ rest. rest) };
 
     fn next(&mut self) -> Option<ServerId> {
+        // The way of nearly every call: the word has a mark left, and nothing but the word changes.
+        let here = self.word;
+        if here != 0 {
+            self.word = here & (here - 1);
+            let number = self.base + u64::from(here.trailing_zeros());
+            return Some(ServerId::new(self.levels, number));
+        }
         let mut base = self.base;
         let mut word = self.word;
         let mut rest = self.rest;

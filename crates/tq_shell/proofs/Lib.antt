@@ -1,5 +1,5 @@
 pub mod ReadingLaws
-pub mod AuditLaws
+pub mod ReportLaws
 pub mod InputLaws
 pub mod ThreadsLaws
 pub mod FewScripts

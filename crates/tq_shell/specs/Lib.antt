@@ -1,7 +1,9 @@
 pub mod Reading
 pub mod Texts
 pub mod Verdicts
+pub mod Report
 pub mod Audit
+pub mod Upgrade
 pub mod Input
 pub mod Outcome
 pub mod Running

@@ -1,10 +1,10 @@
 //! What the program calls: client scripts run in threads, from their text to the journals of all parts; the audit of a journal
-//! file, whether one sequential run explains it; and, handed on, the session of a shell, the words of the command line and the
-//! devices that they read and write.
+//! file, whether one sequential run explains it; its upgrade to the format that is written now; and, handed on, the session of a
+//! shell, the words of the command line and the devices that they read and write.
 //!
 //! Files: `threading.rt` over `input.rt`, `running.rt`, `outcome.rt` client scripts in threads; `auditing.rt` over
-//! `reading.rt`, `judging.rt`, `verdict.rt` the audit.
-//! Definitions: `specs/Running`, `Outcome`, `Threads`, `Input`; `Verdicts`, `Texts`, `Audit`, `Reading`.
+//! `reading.rt`, `judging.rt`, `verdict.rt` the audit; `upgrading.rt` the upgrade.
+//! Definitions: `specs/Running`, `Outcome`, `Threads`, `Input`; `Verdicts`, `Texts`, `Report`, `Audit`, `Upgrade`, `Reading`.
 #![tactic(auto)]
 
 mod auditing;
@@ -14,6 +14,7 @@ mod outcome;
 mod reading;
 mod running;
 mod threading;
+mod upgrading;
 mod verdict;
 
 pub use auditing::audit;
@@ -26,4 +27,5 @@ pub use tq_devices::{Failed, MemorySink, MemorySource, Reading, RunFault, Sink, 
 pub use tq_lines::{LINE_LIMIT, Line, TxnLine, numbers_are_read_again};
 pub use tq_session::{INPUT_LIMIT, Shell, run};
 pub use tq_words::{Words, WordsFault};
+pub use upgrading::upgrade;
 pub use verdict::Verdict;

@@ -1,34 +1,49 @@
 -- A vote put at its place, and what a list of votes keeps.
-use Rattle.std.proofs.Common.{◌≡◌, ℕ, Bool, true, false, not, ◌&&◌, ◌==◌, cond, List, [], ◌∷◌, Some, None, map, set, nat_lt, refl, sym, ap, ◌∙◌}
-use Rattle.std.specs.List.{list_all, insert, position, find}
-use Rattle.std.specs.Option.{option_map}
+use Rattle.std.proofs.Common.{◌≡◌, ℕ, Bool, true, false, not, ◌&&◌, ◌==◌, cond, List, [], ◌∷◌, ◌++◌, Some, None, map, set, length, slice_get, nat_lt, ◌≤◌, refl, sym, ap, ◌∙◌}
+use Rattle.std.specs.List.{list_all, insert, find}
+use Rattle.std.specs.List.Sorted.{IsPartitionPoint}
+use Rattle.std.specs.Option.{option_map, option_map_or}
 use Rattle.std.proofs.lemmas.Bool.{eqb-true}
 use Rattle.tq_evidence.specs.declared.op.Op.{Op}
 use Rattle.tq_evidence.specs.declared.vote.Vote.{Vote}
 use Rattle.tq_evidence.specs.Evidence.{rises, votes_rise, has_writes, is_server_of}
-use Rattle.tq_states.specs.Places.{place_before}
 use Rattle.tq_states.specs.Sets.{put, changed}
 use Rattle.tq_states.specs.Voting.{VotingView, with_vote, covers_op, writes_in, has_vote, is_of_server, lost, IsVoting, IsGoodVote}
-use Rattle.tq_states.proofs.NumberSets.{has-map, map-put, rises-with_server}
-use Rattle.tq_states.proofs.Puts.{insert_before, set-changed, any-placed, none-placed, list_all-put, list_all-changed}
+use Rattle.tq_states.proofs.NumberSets.{has-map, map-put, rises-with_server, none_below, put_above}
+use Rattle.tq_states.proofs.Puts.{list_all-put, list_all-changed}
+use Rattle.tq_states.proofs.Searched.{found_at, put_at, changed_at}
 
--- a vote in place of that of its server
-pub placed : (vote d : Vote) (votes : List Vote) (place : ℕ) → position (is_of_server vote.server) votes ≡ Some place → set votes place vote ≡ with_vote vote votes
-placed vote d votes place is =
-    rw (any-placed (is_of_server vote.server) (λ other. vote) votes place is) (set-changed (is_of_server vote.server) (λ other. vote) votes place d is)
-
--- a vote of another server
-pub inserted : (vote : Vote) (votes : List Vote) → position (is_of_server vote.server) votes ≡ None → insert votes (place_before (λ other. nat_lt vote.server other.server) votes) vote ≡ with_vote vote votes
-inserted vote votes none =
-    rw (none-placed (is_of_server vote.server) (λ other. vote) votes none) (insert_before (λ other. nat_lt vote.server other.server) vote votes)
-
-servers_in : List Vote → List ℕ
-servers_in votes = map (λ vote. vote.server) votes
-
-votes_rise-map : (votes : List Vote) → votes_rise votes ≡ rises (map (λ vote. vote.server) votes)
+pub votes_rise-map : (votes : List Vote) → votes_rise votes ≡ rises (map (λ vote. vote.server) votes)
 votes_rise-map [] = refl
 votes_rise-map (first ∷ []) = refl
 votes_rise-map (first ∷ second ∷ rest) = ap (λ b. nat_lt first.server second.server && b) (votes_rise-map (second ∷ rest))
+
+-- where the votes of lesser servers end
+abbrev pub IsPlace : ℕ → List Vote → ℕ → Type 0
+IsPlace server votes place = IsPartitionPoint (λ vote. nat_lt vote.server server ≡ true) (λ vote. nat_lt vote.server server ≡ false) votes place
+
+-- the server's vote stands there, or nowhere
+pub found_vote : (server : ℕ) (votes : List Vote) (place : ℕ) → votes_rise votes ≡ true → IsPlace server votes place → has_vote votes server ≡ option_map_or (is_of_server server) (slice_get votes place) false
+found_vote server votes place up point = found_at (λ (vote : Vote). vote.server) server votes place (sym (votes_rise-map votes) ∙ up) point
+
+-- a vote in place of that of its server
+pub placed : (vote : Vote) (votes : List Vote) (place : ℕ) → votes_rise votes ≡ true → IsPlace vote.server votes place → option_map_or (is_of_server vote.server) (slice_get votes place) false ≡ true → set votes place vote ≡ with_vote vote votes
+placed vote votes place up point is =
+    rw (found_vote vote.server votes place up point ∙ is) (changed_at (λ (other : Vote). other.server) vote votes place point is)
+
+-- a vote of another server
+pub inserted : (vote : Vote) (votes : List Vote) (place : ℕ) → votes_rise votes ≡ true → place ≤ length votes → IsPlace vote.server votes place → option_map_or (is_of_server vote.server) (slice_get votes place) false ≡ false → insert votes place vote ≡ with_vote vote votes
+inserted vote votes place up within point none =
+    let absent = found_vote vote.server votes place up point ∙ none in
+    rw absent (put_at (λ (other : Vote). other.server) vote votes place within point absent)
+
+-- a vote of a server above the others
+pub appended : (vote : Vote) (votes : List Vote) → list_all (λ other. nat_lt other.server vote.server) votes ≡ true → votes ++ vote ∷ [] ≡ with_vote vote votes
+appended vote votes all =
+    rw (none_below (λ (v : Vote). v.server) vote.server votes all) (put_above (λ (v : Vote). v.server) vote votes all)
+
+servers_in : List Vote → List ℕ
+servers_in votes = map (λ vote. vote.server) votes
 
 same_servers : (vote : Vote) (votes : List Vote) → map (λ v. v.server) (changed (is_of_server vote.server) (λ other. vote) votes) ≡ map (λ v. v.server) votes
 same_servers vote [] = refl

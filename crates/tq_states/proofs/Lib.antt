@@ -1,6 +1,7 @@
 pub mod Puts
 pub mod NotedLaws
 pub mod NumberSets
+pub mod Searched
 pub mod Tested
 pub mod GoodGrants
 pub mod Granted
@@ -9,5 +10,6 @@ pub mod GoodVotes
 pub mod GoodEvidence
 pub mod KeptVotes
 pub mod CitedLaws
+pub mod CastLaws
 pub mod SameWrites
 pub mod OneGrant

@@ -64,6 +64,10 @@ pub rises-from : (first : ℕ) (rest : List ℕ) → rises (first ∷ rest) ≡ 
 rises-from first [] = refl
 rises-from first (second ∷ rest) = ap (λ b. nat_lt first second && b) (rises-from second rest)
 
+pub rises_rest : (first : ℕ) (rest : List ℕ) → rises (first ∷ rest) ≡ true → rises rest ≡ true
+rises_rest first [] up = refl
+rises_rest first (second ∷ rest) up = (and_parts (nat_lt first second) (rises (second ∷ rest)) up).1
+
 above : (a b : ℕ) → nat_lt a b ≡ false → (b == a) ≡ false → b < a
 above a b more other = grind (arith, nat_tests)
 
@@ -122,41 +126,46 @@ with_numbers-held set (number ∷ numbers) all =
     let parts = and_parts (has set number) (list_all (has set) numbers) all in
     ap (λ b. with_numbers (cond b set (with_server number set)) numbers) parts.0 ∙ with_numbers-held set numbers parts.1
 
-lower : (a b c : ℕ) → nat_lt a b ≡ true → nat_lt b c ≡ true → nat_lt a c ≡ true
+pub lower : (a b c : ℕ) → nat_lt a b ≡ true → nat_lt b c ≡ true → nat_lt a c ≡ true
 lower a b c less more = grind (arith, nat_tests)
 
-below_from : (first : Server) (rest : List Server) (last : Server) (number : ℕ) → rises (numbers_of (first ∷ rest)) ≡ true → slice_get (first ∷ rest) (length rest) ≡ Some last → nat_lt last.number number ≡ true → list_all (λ id. nat_lt id.number number) (first ∷ rest) ≡ true
-below_from first [] last number up is less =
-    let same : first ≡ last = cc in
-    and_from (nat_lt first.number number) true (subst (λ (id : Server). nat_lt id.number number ≡ true) (sym same) less) refl
-below_from first (second ∷ rest) last number up is less =
-    let parts = and_parts (nat_lt first.number second.number) (rises (numbers_of (second ∷ rest))) up in
-    let later = below_from second rest last number parts.1 is less in
-    let here = and_parts (nat_lt second.number number) (list_all (λ id. nat_lt id.number number) rest) later in
-    and_from (nat_lt first.number number) (list_all (λ id. nat_lt id.number number) (second ∷ rest)) (lower first.number second.number number parts.0 here.0) later
-
--- ascending servers are all below a number that the last of them is below
-pub below_last : (ids : List Server) (last : Server) (number : ℕ) → rises (numbers_of ids) ≡ true → slice_get ids (length ids - 1) ≡ Some last → nat_lt last.number number ≡ true → list_all (λ id. nat_lt id.number number) ids ≡ true
-below_last [] last number up is less = refl
-below_last (first ∷ rest) last number up is less =
-    let place : length (first ∷ rest) - 1 ≡ length rest = omega arith in
-    below_from first rest last number up (ap (slice_get (first ∷ rest)) (sym place) ∙ is) less
-
-other_below : (a b : ℕ) → nat_lt a b ≡ true → (a == b) ≡ false
+pub other_below : (a b : ℕ) → nat_lt a b ≡ true → (a == b) ≡ false
 other_below a b less = grind (arith, nat_tests)
 
-not_above : (a b : ℕ) → nat_lt a b ≡ true → nat_lt b a ≡ false
+pub not_above : (a b : ℕ) → nat_lt a b ≡ true → nat_lt b a ≡ false
 not_above a b less = grind (arith, nat_tests)
 
--- a server above all the others is not among them, and goes to the end
-pub put_above : (ids : List Server) (server : Server) → list_all (λ id. nat_lt id.number server.number) ids ≡ true → (has (numbers_of ids) server.number ≡ false) × (ids ++ server ∷ [] ≡ put (λ id. nat_lt server.number id.number) server ids)
-put_above [] server all = (refl, refl)
-put_above (first ∷ rest) server all =
-    let parts = and_parts (nat_lt first.number server.number) (list_all (λ id. nat_lt id.number server.number) rest) all in
-    let later = put_above rest server parts.1 in (
-      rw (other_below first.number server.number parts.0) later.0,
-      rw (not_above first.number server.number parts.0) (ap (λ ids. first ∷ ids) later.1),
-    )
+module _ {X : Type 0} (number : X → ℕ) where
+  below_from : (first : X) (rest : List X) (last : X) (n : ℕ) → rises (map number (first ∷ rest)) ≡ true → slice_get (first ∷ rest) (length rest) ≡ Some last → nat_lt (number last) n ≡ true → list_all (λ x. nat_lt (number x) n) (first ∷ rest) ≡ true
+  below_from first [] last n up is less =
+      let same : first ≡ last = cc in
+      and_from (nat_lt (number first) n) true (subst (λ (x : X). nat_lt (number x) n ≡ true) (sym same) less) refl
+  below_from first (second ∷ rest) last n up is less =
+      let parts = and_parts (nat_lt (number first) (number second)) (rises (map number (second ∷ rest))) up in
+      let later = below_from second rest last n parts.1 is less in
+      let here = and_parts (nat_lt (number second) n) (list_all (λ x. nat_lt (number x) n) rest) later in
+      and_from (nat_lt (number first) n) (list_all (λ x. nat_lt (number x) n) (second ∷ rest)) (lower (number first) (number second) n parts.0 here.0) later
+
+  -- values in ascending order are all below a number that the last of them is below
+  pub below_last : (xs : List X) (last : X) (n : ℕ) → rises (map number xs) ≡ true → slice_get xs (length xs - 1) ≡ Some last → nat_lt (number last) n ≡ true → list_all (λ x. nat_lt (number x) n) xs ≡ true
+  below_last [] last n up is less = refl
+  below_last (first ∷ rest) last n up is less =
+      let place : length (first ∷ rest) - 1 ≡ length rest = omega arith in
+      below_from first rest last n up (ap (slice_get (first ∷ rest)) (sym place) ∙ is) less
+
+  -- a number above all the others is not among them
+  pub none_below : (n : ℕ) (xs : List X) → list_all (λ x. nat_lt (number x) n) xs ≡ true → list_any (λ x. number x == n) xs ≡ false
+  none_below n [] all = refl
+  none_below n (first ∷ rest) all =
+      let parts = and_parts (nat_lt (number first) n) (list_all (λ x. nat_lt (number x) n) rest) all in
+      rw (other_below (number first) n parts.0) (none_below n rest parts.1)
+
+  -- a value above all the others goes to the end
+  pub put_above : (x : X) (xs : List X) → list_all (λ y. nat_lt (number y) (number x)) xs ≡ true → xs ++ x ∷ [] ≡ put (λ y. nat_lt (number x) (number y)) x xs
+  put_above x [] all = refl
+  put_above x (first ∷ rest) all =
+      let parts = and_parts (nat_lt (number first) (number x)) (list_all (λ y. nat_lt (number y) (number x)) rest) all in
+      rw (not_above (number first) (number x) parts.0) (ap (λ ys. first ∷ ys) (put_above x rest parts.1))
 
 from_ascends : (low : ℕ) (ns : List ℕ) → Ascends low ns → rises_from low ns ≡ true
 from_ascends low [] up = refl

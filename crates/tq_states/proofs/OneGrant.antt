@@ -10,7 +10,7 @@ use Rattle.tq_evidence.specs.declared.vote.Vote.{Vote}
 use Rattle.tq_evidence.specs.Evidence.{covers, granters, rises, servers_of, has_quorum, are_quorums}
 use Rattle.tq_coterie.specs.Coterie.{is_quorum}
 use Rattle.tq_states.specs.Voting.{covers_grant, have_order}
-use Rattle.tq_states.proofs.NumberSets.{rises_from, rises-from}
+use Rattle.tq_states.proofs.NumberSets.{rises_from, rises-from, rises_rest}
 use Rattle.tq_states.proofs.Puts.{any-placed, none-placed}
 
 between : (a b c : ℕ) → nat_lt a b ≡ true → nat_lt b c ≡ true → nat_lt a c ≡ true
@@ -50,10 +50,6 @@ further low (first ∷ rest) zero grant up at =
 further low (first ∷ rest) (suc place) grant up at =
     let parts = and_parts (nat_lt low first.server) (rises_from first.server (granters rest)) up in
     between low first.server grant.server parts.0 (further first.server rest place grant parts.1 at)
-
-rises_rest : (first : ℕ) (rest : List ℕ) → rises (first ∷ rest) ≡ true → rises rest ≡ true
-rises_rest first [] up = refl
-rises_rest first (second ∷ rest) up = (and_parts (nat_lt first second) (rises (second ∷ rest)) up).1
 
 covered_here : (a b : Bool) → a ≡ true → (not a || b) ≡ b
 covered_here a b same = ap (λ c. not c || b) same

@@ -4,3 +4,4 @@ pub mod Open
 pub mod Voting
 pub mod Cited
 pub mod Ended
+pub mod Ballots

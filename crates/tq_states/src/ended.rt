@@ -11,7 +11,7 @@ use std::alloc::Global;
 use std::marker::Model;
 use tq_asks::{CitedVote, NodeAsk, Verdict, WorkAsk};
 use tq_desk::{DeskAsk, DeskRefusal, DeskReply, Vote};
-use tq_shape::{Levels, Memory, Seq, ServerId, Shared};
+use tq_shape::{Levels, Memory, ServerId, Shared, SharedSeq};
 
 /// A transaction that has ended.
 pub struct Ended {
@@ -159,7 +159,7 @@ fn commit_verdict(
 {
     match reply {
         DeskReply::Committed { .. } => Ok(Some(Verdict::Commit {
-            votes: Seq::from_vec(cited(alloc, votes)?),
+            votes: SharedSeq::from_vec(cited(alloc, votes)?)?,
         })),
         DeskReply::Refused(DeskRefusal::Decided(verdict)) => Ok(Some(verdict.clone()?)),
         _ => Ok(None),

@@ -12,7 +12,7 @@ use std::alloc::Global;
 use std::marker::Model;
 use tq_asks::{CitedVote, Verdict};
 use tq_desk::DeskAsk;
-use tq_shape::{Memory, Seq};
+use tq_shape::{Memory, SharedSeq};
 
 /// A transaction with the votes of all its voters.
 pub struct Ready {
@@ -80,10 +80,10 @@ impl Ready {
 
     /// The votes as the commit's record cites them: made before the commit is asked for, so that the answer takes no
     /// memory.
-    pub fn citations(&self, alloc: Global) -> Result<Seq<CitedVote>, Memory>
+    pub fn citations(&self, alloc: Global) -> Result<SharedSeq<CitedVote>, Memory>
         ensures { IfOk result (λ list. list ≡ log.cited self.now.votes) }
     {
-        Ok(Seq::from_vec(cited(alloc, self.voting.votes())?))
+        Ok(SharedSeq::from_vec(cited(alloc, self.voting.votes())?)?)
     }
 
     /// Ends the transaction by the desk's verdict on it, and hands it back after a fault.

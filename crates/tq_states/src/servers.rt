@@ -1,9 +1,8 @@
-ghost use Rattle.std.specs.Prelude.{◌≡◌, ◌==◌, ◌+◌, ◌<◌, ◌≤◌, [], true, length, nat_lt, position, IfOk, IfSome, IsTrue, OnOk};
-ghost use Rattle.std.specs.List.{list_all, list_any};
+ghost use Rattle.std.specs.Prelude.{◌≡◌, ◌==◌, ◌+◌, ◌<◌, ◌≤◌, [], true, false, length, nat_lt, IfOk, IsTrue, OnOk};
+ghost use Rattle.std.specs.List.{insert, list_all, list_any};
 ghost use Rattle.tq_coterie.specs.Coterie.{has, is_quorum, numbers_of};
 ghost use Rattle.tq_evidence.specs.Evidence.{granters, rises};
 ghost use Rattle.tq_states.specs.Sets.{IsReady, IsServerSet, put, with_number, with_numbers};
-ghost use Rattle.tq_states.specs.Places.{place_before};
 
 use std::alloc::Global;
 use std::marker::Model;
@@ -153,10 +152,16 @@ fn is_above(ids: &[ServerId], number: u64) -> bool
     }
 }
 
+/// Whether the number is that of one of the servers, which ascend.
 fn has_number(ids: &[ServerId], number: u64) -> bool
+    requires { rises (numbers_of ids.now) ≡ true }
     ensures { result ≡ list_any (λ id. id.number == number) ids.now }
 {
-    ids.iter().any(|id| id.number() == number)
+    let place = ids.partition_point(|id| id.number() < number);
+    match ids.get(place) {
+        Some(id) => id.number() == number,
+        None => false,
+    }
 }
 
 /// Whether all the others are among the servers, as one walk along both finds them where both ascend.
@@ -195,9 +200,11 @@ fn have_all(ids: &[ServerId], grants: &[Grant]) -> bool
     }
 }
 
-/// Puts the server before the first above it, in a list that has room.
+/// Puts a server that is not there before the first above it, in a list that has room.
 fn put_in_order(ids: &mut ServerIds, server: ServerId)
-    requires { length ids.old.items + 1 ≤ ids.old.capacity }
+    requires rise { rises (numbers_of ids.old.items) ≡ true }
+    requires absent { list_any (λ id. id.number == server.number) ids.old.items ≡ false }
+    requires room { length ids.old.items + 1 ≤ ids.old.capacity }
     ensures items { ids.new.items ≡ put (λ id. nat_lt server.number id.number) server ids.old.items }
     ensures len { length ids.new.items ≡ length ids.old.items + 1 }
     ensures capacity { ids.new.capacity ≡ ids.old.capacity }
@@ -206,21 +213,12 @@ fn put_in_order(ids: &mut ServerIds, server: ServerId)
     let _room_was_made = ids.insert(place, server);
 }
 
-/// The place of the first server above this one, or the end.
+/// Where a server that is not there goes: before the first above it, or to the end.
 fn place_of(ids: &[ServerId], server: ServerId) -> usize
-    ensures value { result ≡ place_before (λ id. nat_lt server.number id.number) ids.now }
+    requires rise { rises (numbers_of ids.now) ≡ true }
+    requires absent { list_any (λ id. id.number == server.number) ids.now ≡ false }
+    ensures place { insert ids.now result server ≡ put (λ id. nat_lt server.number id.number) server ids.now }
     ensures within { result ≤ length ids.now }
 {
-    match first_above(ids, server) {
-        Some(place) => place,
-        None => ids.len(),
-    }
-}
-
-/// Where the first server above this one stands.
-fn first_above(ids: &[ServerId], server: ServerId) -> Option<usize>
-    ensures value { result ≡ position (λ id. nat_lt server.number id.number) ids.now }
-    ensures within { IfSome result (λ place. place < length ids.now) }
-{
-    ids.iter().position(|id| server.number() < id.number())
+    ids.partition_point(|id| id.number() < server.number())
 }

@@ -1,9 +1,10 @@
-ghost use Rattle.std.specs.Prelude.{◌≡◌, ◌==◌, ◌<◌, ◌≤◌, is_some, length, nat_lt, position, true, IfOk, IfSome, IsTrue, OnOk, OnErr};
-ghost use Rattle.std.specs.List.{list_all};
-ghost use Rattle.std.specs.Option.{option_copied};
+ghost use Rattle.std.specs.Prelude.{◌≡◌, ◌==◌, ◌<◌, ◌≤◌, is_some, length, nat_lt, position, slice_get, true, false, vec_capacity, vec_len, IfOk, IfSome, IsTrue};
+ghost use Rattle.std.specs.List.{list_all, list_any};
+ghost use Rattle.std.specs.List.Sorted.{IsPartitionPoint};
+ghost use Rattle.std.specs.Option.{option_copied, option_map, option_map_or};
 ghost use Rattle.tq_evidence.specs.Evidence as evidence;
+ghost use Rattle.tq_states.specs.Ballots as ballots_spec;
 ghost use Rattle.tq_states.specs.Open as open_spec;
-ghost use Rattle.tq_states.specs.Places as places;
 ghost use Rattle.tq_states.specs.Voting as spec;
 
 use crate::NodeTold;
@@ -13,32 +14,52 @@ use tq_desk::{Grant, Op, Vote};
 use tq_shape::{Memory, ServerId, SharedSeq};
 use tq_store::{FileName, Write};
 
+/// A vote, with the ask that it answers.
+#[derive(Drop)]
+pub(crate) struct Cast {
+    pub(crate) vote: Vote,
+    pub(crate) ask: NodeAsk,
+}
+
 /// The vote for the transaction that an answer tells of.
-#[inline(always)]
-pub(crate) fn vote_of(txn: u64, told: &NodeTold) -> Result<Option<Vote>, Memory>
-    ensures value { IfOk result (λ vote. vote ≡ spec.vote_of txn told.now) }
-    ensures server { IfOk result (λ vote. IfSome vote (λ v. v.server ≡ told.now.server)) }
+pub(crate) fn cast_in(txn: u64, told: NodeTold) -> Option<Cast>
+    ensures value { option_map (λ cast. cast.vote) result ≡ spec.vote_of txn told }
+    ensures server { IfSome result (λ cast. cast.vote.server ≡ told.server) }
 {
-    let NodeAsk::Work(work) = &told.ask else {
-        return Ok(None);
+    let NodeTold {
+        server,
+        number,
+        ask,
+        reply,
+    } = told;
+    if !is_prepare_of(txn, &ask) {
+        return None;
+    }
+    match reply {
+        NodeReply::Yes { held, writes } => Some(Cast {
+            vote: Vote {
+                server,
+                number,
+                held,
+                writes,
+            },
+            ask,
+        }),
+        _ => None,
+    }
+}
+
+/// Whether the ask is for a vote for the transaction.
+fn is_prepare_of(txn: u64, ask: &NodeAsk) -> bool
+    ensures { result ≡ ballots_spec.is_prepare_of txn ask.now }
+{
+    let NodeAsk::Work(work) = ask else {
+        return false;
     };
     let WorkAsk::Prepare { txn: voter, .. } = work.get() else {
-        return Ok(None);
+        return false;
     };
-    let NodeReply::Yes { held, writes } = &told.reply else {
-        return Ok(None);
-    };
-    if *voter != txn {
-        return Ok(None);
-    }
-    let held = held.clone()?;
-    let writes = writes.clone()?;
-    Ok(Some(Vote {
-        server: told.server,
-        number: told.number,
-        held,
-        writes,
-    }))
+    *voter == txn
 }
 
 pub(crate) fn is_server_of(ops: &[Op], server: u64) -> bool
@@ -68,8 +89,25 @@ fn place_in(op: &Op, server: u64) -> Option<usize>
     place_among(op.grants.as_slice(), server)
 }
 
-#[inline(always)]
+/// So many grants are looked at one by one.
+const FEW_GRANTS: usize = 16;
+
+/// Where the server's grant stands: of many a search finds it where they ascend by server, and else a look at each.
 fn place_among(grants: &[Grant], server: u64) -> Option<usize>
+    ensures { is_some result ≡ list_any (λ grant. grant.server == server) grants.now }
+{
+    if grants.len() > FEW_GRANTS {
+        let place = grants.partition_point(|grant| grant.server < server);
+        if let Some(grant) = grants.get(place) {
+            if grant.server == server {
+                return Some(place);
+            }
+        }
+    }
+    first_place_among(grants, server)
+}
+
+fn first_place_among(grants: &[Grant], server: u64) -> Option<usize>
     ensures { result ≡ position (λ grant. grant.server == server) grants.now }
 {
     grants.iter().position(|grant| grant.server == server)
@@ -220,59 +258,80 @@ fn covers_grant(vote: &Vote, file: FileName, grant: &Grant) -> bool
     vote.server != grant.server || vote.covers(file, grant)
 }
 
-/// Whether the server's vote is there.
+/// Whether the server is above those of all the votes, which ascend.
+fn is_above(votes: &[Vote], server: u64) -> bool
+    requires { evidence.votes_rise votes.now ≡ true }
+    ensures { IsTrue result → list_all (λ vote. nat_lt vote.server server) votes.now ≡ true }
+{
+    match votes.last() {
+        Some(vote) => vote.server < server,
+        None => true,
+    }
+}
+
+/// Whether the server's vote is there. The votes ascend: of a server above them the last tells, and another a search finds.
 pub(crate) fn has_vote(votes: &[Vote], server: u64) -> bool
+    requires { evidence.votes_rise votes.now ≡ true }
     ensures { result ≡ spec.has_vote votes.now server }
 {
-    votes.iter().any(|vote| vote.server == server)
+    if is_above(votes, server) {
+        return false;
+    }
+    let place = place_of_vote(votes, server);
+    stands_at(votes, server, place)
 }
 
 /// Whether the vote of each server is there.
 pub(crate) fn has_votes(votes: &[Vote], voters: &[ServerId]) -> bool
+    requires { evidence.votes_rise votes.now ≡ true }
     ensures { result ≡ list_all (λ voter. spec.has_vote votes.now voter.number) voters.now }
 {
-    voters.iter().all(|voter| has_vote(votes, voter.number()))
-}
-
-/// Puts a vote at its place, instead of one of its server that is there.
-#[inline(always)]
-pub(crate) fn put_vote(votes: &mut Vec<Vote>, vote: Vote) -> Result<(), Memory>
-    ensures ok { OnOk result (votes.new.items ≡ spec.with_vote vote votes.old.items) }
-    ensures err { OnErr result (votes.new.items ≡ votes.old.items) }
-{
-    match place_of_vote(votes.as_slice(), vote.server) {
-        Some(place) => votes[place] = vote,
-        None => {
-            let place = place_before(votes.as_slice(), vote.server);
-            votes.insert(place, vote)?;
+    match voters {
+        [] => true,
+        [voter, ..] => {
+            if !has_vote(votes, voter.number()) {
+                return false;
+            }
+            has_votes(votes, &voters[1..])
         }
     }
-    Ok(())
 }
 
-/// Where the vote of a server stands.
-fn place_of_vote(votes: &[Vote], server: u64) -> Option<usize>
-    ensures value { result ≡ position (spec.is_of_server server) votes.now }
-    ensures within { IfSome result (λ place. place < length votes.now) }
+/// Puts a vote at its place, instead of one of its server that is there, in a list that has room. One of a server above the
+/// others goes to the end.
+pub(crate) fn put_vote(votes: &mut Vec<Vote>, vote: Vote)
+    requires rise { evidence.votes_rise votes.old.items ≡ true }
+    requires room { vec_len votes.old < vec_capacity votes.old }
+    ensures { votes.new.items ≡ spec.with_vote vote votes.old.items }
 {
-    votes.iter().position(|vote| vote.server == server)
+    if is_above(votes.as_slice(), vote.server) {
+        votes.push_reserved(vote);
+        return;
+    }
+    let place = place_of_vote(votes.as_slice(), vote.server);
+    if stands_at(votes.as_slice(), vote.server, place) {
+        votes[place] = vote;
+        return;
+    }
+    let _room_was_made = votes.insert(place, vote);
 }
 
-/// The place of the first vote of a greater server, or the end.
-fn place_before(votes: &[Vote], server: u64) -> usize
-    ensures value { result ≡ places.place_before (λ vote. nat_lt server vote.server) votes.now }
+/// Where the votes of lesser servers end: the server's vote stands there, or goes there if it is not there.
+fn place_of_vote(votes: &[Vote], server: u64) -> usize
+    requires { evidence.votes_rise votes.now ≡ true }
+    ensures place { IsPartitionPoint (λ vote. nat_lt vote.server server ≡ true) (λ vote. nat_lt vote.server server ≡ false) votes.now result }
     ensures within { result ≤ length votes.now }
 {
-    match first_above(votes, server) {
-        Some(place) => place,
-        None => votes.len(),
-    }
+    votes.partition_point(|vote| vote.server < server)
 }
 
-/// Where the first vote of a greater server stands.
-fn first_above(votes: &[Vote], server: u64) -> Option<usize>
-    ensures value { result ≡ position (λ vote. nat_lt server vote.server) votes.now }
-    ensures within { IfSome result (λ place. place < length votes.now) }
+/// Whether the vote at the place is the server's.
+fn stands_at(votes: &[Vote], server: u64, place: usize) -> bool
+    ensures value { result ≡ option_map_or (spec.is_of_server server) (slice_get votes.now place) false }
+    ensures within { IsTrue result → place < length votes.now }
 {
-    votes.iter().position(|vote| server < vote.server)
+    match votes.get(place) {
+        Some(vote) => vote.server == server,
+        None => false,
+    }
 }

@@ -1,6 +1,7 @@
-ghost use Rattle.std.specs.Prelude.{◌≡◌, ◌<◌, ◌++◌, List, [], ◌∷◌, true, None, Some, IfOk, IfErr, IfSome, OnOk, OnErr};
+ghost use Rattle.std.specs.Prelude.{◌≡◌, ◌<◌, ◌≤◌, ◌++◌, List, [], ◌∷◌, true, None, Some, IfOk, IfErr, IfSome, OnOk, OnErr};
 ghost use Rattle.tq_coterie.specs.Coterie.{numbers_of};
 ghost use Rattle.tq_evidence.specs.Evidence as evidence;
+ghost use Rattle.tq_states.specs.Ballots.{with_ballots};
 ghost use Rattle.tq_states.specs.Cited.{VotesOnly};
 ghost use Rattle.tq_states.specs.Ended as ending;
 ghost use Rattle.tq_states.specs.Open as open_spec;
@@ -9,13 +10,15 @@ ghost use Rattle.tq_states.specs.Voting as spec;
 
 use crate::ended::verdict_of;
 use crate::open::copy_of;
+use crate::told::told_again;
 use crate::votes::{
-    are_writes_at, has_vote, has_votes, is_ask_at, is_server_of, lost, place_of_server, put_vote,
-    vote_of, writes_all_at, writes_at,
+    Cast, are_writes_at, cast_in, has_vote, has_votes, is_ask_at, is_server_of, lost,
+    place_of_server, put_vote, writes_all_at, writes_at,
 };
-use crate::{DeskTold, Ended, NodeTold, Open, Ready, TxnFault};
+use crate::{Ballots, DeskTold, Ended, NodeTold, Open, Ready, TxnFault};
 use std::alloc::Global;
 use std::marker::Model;
+use std::mem;
 use tq_asks::{NodeAsk, Verdict, WorkAsk};
 use tq_desk::{Op, Vote};
 use tq_shape::{Memory, ServerId, Shared, SharedSeq};
@@ -154,42 +157,23 @@ impl Voting {
         ensures fault { IfErr result (λ fault. open_spec.ComesOf (spec.vote_fault self.old told.now) fault) }
         ensures err { OnErr result (self.new ≡ self.old) }
     {
-        let ops = self.txn.ops();
-        let Some(place) = place_of_server(ops, told.server) else {
-            return Err(TxnFault::NotAVoter);
-        };
-        let Some(vote) = vote_of(self.txn.txn(), told)? else {
-            return Err(TxnFault::NotMyVote);
-        };
-        if !are_writes_at(vote.server, vote.writes.as_slice(), ops, place) {
-            return Err(TxnFault::NotMyVote);
-        }
-        if let Some(file) = lost(ops, &vote, place, 0) {
-            return Err(TxnFault::LostLock { file: *file });
-        }
-        self.put(vote, &told.ask)?;
-        Ok(())
+        let answer = told_again(told)?;
+        let ballots = self.room_for_vote()?;
+        self.vote_in(ballots, answer)
     }
 
-    pub(crate) fn copy_votes(&self) -> Result<SharedSeq<Vote>, Memory>
-        ensures { IfOk result (λ votes. votes ≡ self.now.votes) }
-    {
-        copy_of(&self.votes)
-    }
-
-    /// Puts a good vote at its place, and keeps the ask that it answers.
-    #[inline(always)]
-    fn put(&mut self, vote: Vote, asked: &NodeAsk) -> Result<(), Memory>
-        requires { spec.IsGoodVote self.old.txn.ops vote }
-        ensures after { OnOk result (self.new ≡ record self.old { votes = spec.with_vote vote self.old.votes }) }
+    /// Hands out the votes, with room for one more. Out of memory leaves the transaction as it was.
+    pub fn room_for_vote(&mut self) -> Result<Ballots, Memory>
+        ensures value { IfOk result (λ ballots. with_ballots self.new ballots ≡ self.old) }
+        ensures room { IfOk result (λ ballots. 1 ≤ ballots.room) }
+        ensures good { IfOk result (λ ballots. spec.IsVoting self.old) }
         ensures txn { self.new.txn ≡ self.old.txn }
-        ensures kept { OnOk result (spec.KeepsVotes self.old.votes self.new.votes) }
         ensures err { OnErr result (self.new ≡ self.old) }
     {
         self.make_room()?;
-        self.keep(vote.server, asked)?;
-        put_vote(&mut self.votes, vote)?;
-        Ok(())
+        self.votes.reserve(1)?;
+        let none = Vec::new(self.txn.allocator());
+        Ok(Ballots::new(mem::replace(&mut self.votes, none)))
     }
 
     /// Makes room for the votes of all voters, where there is none yet.
@@ -204,22 +188,100 @@ impl Voting {
         Ok(())
     }
 
-    /// Keeps the ask of a server, if it has all that the transaction writes and none is kept.
+    /// Takes the votes back as they were handed out. It takes no memory.
+    pub fn put_back(&mut self, ballots: Ballots)
+        requires { spec.IsVoting (with_ballots self.old ballots) }
+        ensures { self.new ≡ with_ballots self.old ballots }
+    {
+        self.votes = ballots.into_votes();
+    }
+
+    /// Takes the votes back, with the vote that an answer tells of, in place of one of its server that is there. It takes
+    /// no memory. A fault leaves the votes as they were handed out.
+    pub fn vote_in(&mut self, ballots: Ballots, told: NodeTold) -> Result<(), TxnFault>
+        requires good { spec.IsVoting (with_ballots self.old ballots) }
+        requires room { 1 ≤ ballots.room }
+        ensures succeeds { IfOk result (λ done. spec.vote_fault (with_ballots self.old ballots) told ≡ None) }
+        ensures after { OnOk result (self.new ≡ spec.vote_after (with_ballots self.old ballots) told) }
+        ensures cited { OnOk result ((before : List NodeTold) → VotesOnly before (with_ballots self.old ballots) → VotesOnly (before ++ told ∷ []) self.new) }
+        ensures txn { self.new.txn ≡ self.old.txn }
+        ensures kept { OnOk result (spec.KeepsVotes ballots.votes self.new.votes) }
+        ensures fault { IfErr result (λ fault. spec.vote_fault (with_ballots self.old ballots) told ≡ Some fault) }
+        ensures err { OnErr result (self.new ≡ with_ballots self.old ballots) }
+    {
+        match self.cast_by(told) {
+            Ok(cast) => {
+                self.put(ballots, cast);
+                Ok(())
+            }
+            Err(fault) => {
+                self.put_back(ballots);
+                Err(fault)
+            }
+        }
+    }
+
+    /// The vote that an answer tells of, if it is good evidence.
+    fn cast_by(&self, told: NodeTold) -> Result<Cast, TxnFault>
+        ensures good { IfOk result (λ cast. spec.IsGoodVote self.now.txn.ops cast.vote) }
+        ensures vote { IfOk result (λ cast. spec.vote_of self.now.txn.txn told ≡ Some cast.vote) }
+        ensures succeeds { IfOk result (λ cast. spec.vote_fault self.now told ≡ None) }
+        ensures fault { IfErr result (λ fault. spec.vote_fault self.now told ≡ Some fault) }
+    {
+        let ops = self.txn.ops();
+        let Some(place) = place_of_server(ops, told.server) else {
+            return Err(TxnFault::NotAVoter);
+        };
+        let Some(cast) = cast_in(self.txn.txn(), told) else {
+            return Err(TxnFault::NotMyVote);
+        };
+        let vote = &cast.vote;
+        if !are_writes_at(vote.server, vote.writes.as_slice(), ops, place) {
+            return Err(TxnFault::NotMyVote);
+        }
+        if let Some(file) = lost(ops, vote, place, 0) {
+            return Err(TxnFault::LostLock { file: *file });
+        }
+        Ok(cast)
+    }
+
+    pub(crate) fn copy_votes(&self) -> Result<SharedSeq<Vote>, Memory>
+        ensures { IfOk result (λ votes. votes ≡ self.now.votes) }
+    {
+        copy_of(&self.votes)
+    }
+
+    /// Takes the votes back with a good one more, at its place, and keeps the ask that it answers. It takes no memory.
+    fn put(&mut self, ballots: Ballots, cast: Cast)
+        requires all { spec.IsVoting (with_ballots self.old ballots) }
+        requires room { 1 ≤ ballots.room }
+        requires good { spec.IsGoodVote self.old.txn.ops cast.vote }
+        ensures after { self.new ≡ record self.old { votes = spec.with_vote cast.vote ballots.votes } }
+        ensures txn { self.new.txn ≡ self.old.txn }
+        ensures kept { spec.KeepsVotes ballots.votes self.new.votes }
+    {
+        let Cast { vote, ask } = cast;
+        self.keep(vote.server, ask);
+        let mut votes = ballots.into_votes();
+        put_vote(&mut votes, vote);
+        self.votes = votes;
+    }
+
+    /// Keeps the ask of a server, if it has all that the transaction writes and none is kept. It takes no memory.
     #[inline(always)]
-    fn keep(&mut self, server: u64, asked: &NodeAsk) -> Result<(), Memory>
+    fn keep(&mut self, server: u64, asked: NodeAsk)
         ensures { self.new ≡ self.old }
     {
         if self.asked.is_some() {
-            return Ok(());
+            return;
         }
         let ops = self.txn.ops();
         if !writes_all_at(ops, server, 0) {
-            return Ok(());
+            return;
         }
-        if is_ask_at(asked, self.txn.txn(), ops, server) {
-            self.asked = Some(asked.clone()?);
+        if is_ask_at(&asked, self.txn.txn(), ops, server) {
+            self.asked = Some(asked);
         }
-        Ok(())
     }
 
     /// Ends the voting, if each voter's vote is there. It takes no memory.

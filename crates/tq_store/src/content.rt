@@ -7,7 +7,7 @@ use std::sync::ArcSlice;
 use tq_shape::ExactClone;
 
 /// The most bytes that a content has.
-pub const MAX_CONTENT: usize = 1000;
+pub const MAX_CONTENT: usize = 4000;
 
 /// What a file holds: up to `MAX_CONTENT` bytes, of any kind. Clones share the bytes: a clone is a count, not a copy.
 pub struct Content {
@@ -35,7 +35,7 @@ impl Model for Content {
 
     ghost view = { λ a. option_map_or arc_slice_items a.bytes [] };
 
-    ghost invariant = { λ a. length (option_map_or arc_slice_items a.bytes []) ≤ 1000 };
+    ghost invariant = { λ a. length (option_map_or arc_slice_items a.bytes []) ≤ 4000 };
 }
 
 impl Content {
@@ -52,7 +52,7 @@ impl Content {
     ///
     /// Refuses where there is no memory for what clones will share.
     pub fn new(bytes: Vec<u8>) -> Result<Option<Content>, AllocError>
-        ensures exact { IfOk result (λ content. IsSome content ↔ (length bytes.items ≤ 1000)) }
+        ensures exact { IfOk result (λ content. IsSome content ↔ (length bytes.items ≤ 4000)) }
         ensures value { IfOk result (λ content. IfSome content (λ content. content ≡ bytes.items)) }
     {
         if bytes.len() > MAX_CONTENT {
@@ -68,7 +68,7 @@ impl Content {
     /// The bytes, in order.
     pub fn as_bytes(&self) -> &[u8]
         ensures value { result.now ≡ self.now }
-        ensures short { length self.now ≤ 1000 }
+        ensures short { length self.now ≤ 4000 }
     {
         match &self.bytes {
             Some(bytes) => bytes.as_slice(),
@@ -79,7 +79,7 @@ impl Content {
     /// How many bytes there are.
     pub fn len(&self) -> usize
         ensures value { result ≡ length self.now }
-        ensures short { result ≤ 1000 }
+        ensures short { result ≤ 4000 }
     {
         self.as_bytes().len()
     }

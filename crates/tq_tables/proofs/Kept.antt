@@ -110,7 +110,7 @@ stood_at-levels levels node file row has = by (same_name file row.file)
     by true = stood-levels levels node row has
     by false = has
 
-names-stood : (node : NodeView) (file : List ℕ) (rows : List FileRow) → names_in (map (stood_at node file) rows) ≡ names_in rows
+pub names-stood : (node : NodeView) (file : List ℕ) (rows : List FileRow) → names_in (map (stood_at node file) rows) ≡ names_in rows
 names-stood node file [] = refl
 names-stood node file (row ∷ rows) = λ i. stood_at-file node file row i ∷ names-stood node file rows i
 
@@ -130,12 +130,20 @@ absent-stood node file (row ∷ rows) none =
     let both = or_false (same_name file row.file) (is_in file (names_in rows)) none in
     λ i. cond (both.0 i) (stood node row) row ∷ absent-stood node file rows both.1 i
 
-no_row : (file : List ℕ) (rows : List FileRow) → lookup (same_name file) (by_file rows) ≡ None → is_in file (names_in rows) ≡ false
+pub no_row : (file : List ℕ) (rows : List FileRow) → lookup (same_name file) (by_file rows) ≡ None → is_in file (names_in rows) ≡ false
 no_row file [] none = refl
 no_row file (row ∷ rows) none = by (same_name file row.file) none (no_row file rows)
   where
     by : (b : Bool) → cond b (Some row) (lookup (same_name file) (by_file rows)) ≡ None → (lookup (same_name file) (by_file rows) ≡ None → is_in file (names_in rows) ≡ false) → (b || is_in file (names_in rows)) ≡ false
     by true h rest = cc
+    by false h rest = rest h
+
+pub a_row : (file : List ℕ) (rows : List FileRow) (row : FileRow) → lookup (same_name file) (by_file rows) ≡ Some row → is_in file (names_in rows) ≡ true
+a_row file [] row found = cc
+a_row file (first ∷ rows) row found = by (same_name file first.file) found (a_row file rows row)
+  where
+    by : (b : Bool) → cond b (Some first) (lookup (same_name file) (by_file rows)) ≡ Some row → (lookup (same_name file) (by_file rows) ≡ Some row → is_in file (names_in rows) ≡ true) → (b || is_in file (names_in rows)) ≡ true
+    by true h rest = refl
     by false h rest = rest h
 
 pub stand-none : (node : NodeView) (file : List ℕ) (rows : List FileRow) → lookup (same_name file) (by_file rows) ≡ None → map (stood_at node file) rows ≡ rows
@@ -199,7 +207,7 @@ version-none file rows none = sym (lookup-version file rows ∙ ap (λ o. unwrap
 
 -- ---- one file more
 
-all_stood-append : (node : NodeView) (rows : List FileRow) (files : List (List ℕ)) (file : List ℕ) → all_stood node rows (files ++ file ∷ []) ≡ map (stood_at node file) (all_stood node rows files)
+pub all_stood-append : (node : NodeView) (rows : List FileRow) (files : List (List ℕ)) (file : List ℕ) → all_stood node rows (files ++ file ∷ []) ≡ map (stood_at node file) (all_stood node rows files)
 all_stood-append node rows [] file = refl
 all_stood-append node rows (first ∷ files) file = all_stood-append node (map (stood_at node first) rows) files file
 

@@ -9,5 +9,6 @@ mod Placed
 pub mod Stood
 pub mod Written
 pub mod Restood
+pub mod Held
 pub mod Settled
 pub mod Beside

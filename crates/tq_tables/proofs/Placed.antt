@@ -50,7 +50,7 @@ module _ (file : List ℕ) (row : FileRow) where
       (ap (λ (r : FileRow). r.file) (sym same) ∙ ap (λ (p : List ℕ × FileRow). p.0) is, subst (HasLevels levels) same (All-head (HasLevels levels) first rows of_tree))
   at-row levels (first ∷ rows) (suc place) of_tree at = at-row levels rows place (All-tail (HasLevels levels) first rows of_tree) at
 
-  named-at : (rows : List FileRow) (place : ℕ) → slice_get (by_file rows) place ≡ Some (file, row) → is_in file (names_in rows) ≡ true
+  pub named-at : (rows : List FileRow) (place : ℕ) → slice_get (by_file rows) place ≡ Some (file, row) → is_in file (names_in rows) ≡ true
   named-at [] zero at = absurd (cc)
   named-at [] (suc place) at = absurd (cc)
   named-at (first ∷ rows) zero at =

@@ -23,13 +23,13 @@ lt-yes a b h = grind (arith, h)
 lt-not : (a b : ℕ) → b ≤ a → nat_lt a b ≡ false
 lt-not a b h = grind (arith, h)
 
-eq-self : (a : ℕ) → (a == a) ≡ true
+pub eq-self : (a : ℕ) → (a == a) ≡ true
 eq-self a = grind arith
 
-eq-above : (a b : ℕ) → a < b → (b == a) ≡ false
+pub eq-above : (a b : ℕ) → a < b → (b == a) ≡ false
 eq-above a b h = grind (arith, h)
 
-eq-below : (a b : ℕ) → a < b → (a == b) ≡ false
+pub eq-below : (a b : ℕ) → a < b → (a == b) ≡ false
 eq-below a b h = grind (arith, h)
 
 -- the numbers of the servers that pass a test
@@ -118,7 +118,7 @@ module _ (levels : ℕ) (test : NodeView → Bool) (node : NodeView) where
       ∙ ap (placed b node.server) (sym (numbers-if test n nodes (test n)))
 
 -- a server that passes as the one before it did, under the same number
-same-set : (test : NodeView → Bool) (nodes : List NodeView) (place : ℕ) (old node : NodeView) → place < length nodes → old ≡ get_or nodes place old → node.server ≡ old.server → test node ≡ test old
+pub same-set : (test : NodeView → Bool) (nodes : List NodeView) (place : ℕ) (old node : NodeView) → place < length nodes → old ≡ get_or nodes place old → node.server ≡ old.server → test node ≡ test old
     → passing test (set nodes place node) ≡ passing test nodes
 same-set test [] place old node less at number passes = absurd (omega (arith, less))
 same-set test (n ∷ nodes) zero old node less at number passes =

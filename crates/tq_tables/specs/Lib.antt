@@ -7,6 +7,7 @@ pub mod Counted
 pub mod DeskStates
 pub mod NamesApart
 pub mod Files
+pub mod Early
 pub mod NextOfServer
 pub mod Asked
 pub mod NextEntry

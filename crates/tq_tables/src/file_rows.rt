@@ -1,12 +1,15 @@
-ghost use Rattle.std.specs.Prelude.{◌≡◌, ◌+◌, ◌<◌, ◌^◌, ◌++◌, ℕ, List, map, IfOk, OnOk, reverse};
+ghost use Rattle.std.specs.Prelude.{◌≡◌, ◌+◌, ◌<◌, ◌≤◌, ◌^◌, ◌++◌, ℕ, List, true, length, map, IfOk, OnOk, reverse};
+ghost use Rattle.std.specs.List.{All};
 ghost use Rattle.tq_desk.specs.DeskJournal as log;
 ghost use Rattle.tq_tables.specs.Counted.{names_of};
+ghost use Rattle.tq_tables.specs.Early.{AreHolders, OthersLack};
 ghost use Rattle.tq_tables.specs.Files.{AreExact, version_in};
 ghost use Rattle.tq_tables.specs.Parts.{AreOfTree};
 ghost use Rattle.tq_tables.specs.Rows as spec;
 
 use crate::file_names::FileNames;
 use crate::file_table::FileTable;
+use crate::holders::Holders;
 use crate::write_counts::WriteCounts;
 use crate::{DeskEntry, FileRow};
 use std::alloc::Global;
@@ -37,18 +40,20 @@ pub fn file_rows(
 pub(crate) fn rows_written(
     alloc: Global,
     nodes: &[Node],
+    holders: &Holders,
     table: &FileTable,
     ops: &[Op],
 ) -> Result<Vec<FileRow>, Memory>
     requires of_tree { AreOfTree table.now.levels 1 nodes.now }
     requires exact { AreExact table.now.levels nodes.now table.now.rows }
+    requires holders { AreHolders table.now.levels nodes.now table.now.rows holders.now }
     requires room { (file : List ℕ) → version_in table.now.rows file + 1 < 2 ^ 64 }
     ensures { IfOk result (λ rows. rows.items
         ≡ map (λ file. spec.row_at table.now.levels nodes.now file (version_in table.now.rows file + 1)) (names_of ops.now)) }
 {
     match ops {
         [] => Ok(Vec::new(alloc)),
-        [_, ..] => rows_of_ops(alloc, nodes, table, ops),
+        [_, ..] => rows_of_ops(alloc, nodes, holders, table, ops),
     }
 }
 
@@ -56,11 +61,13 @@ pub(crate) fn rows_written(
 fn rows_of_ops(
     alloc: Global,
     nodes: &[Node],
+    holders: &Holders,
     table: &FileTable,
     ops: &[Op],
 ) -> Result<Vec<FileRow>, Memory>
     requires of_tree { AreOfTree table.now.levels 1 nodes.now }
     requires exact { AreExact table.now.levels nodes.now table.now.rows }
+    requires holders { AreHolders table.now.levels nodes.now table.now.rows holders.now }
     requires room { (file : List ℕ) → version_in table.now.rows file + 1 < 2 ^ 64 }
     ensures { IfOk result (λ rows. rows.items
         ≡ map (λ file. spec.row_at table.now.levels nodes.now file (version_in table.now.rows file + 1)) (names_of ops.now)) }
@@ -68,7 +75,7 @@ fn rows_of_ops(
     let names = FileNames::written(alloc, ops)?;
     let mut rows = Vec::new(alloc);
     for (file, _) in names.iter() {
-        rows.push(next_row(alloc, nodes, table, file)?)?;
+        rows.push(next_row(alloc, nodes, holders, table, file)?)?;
     }
     Ok(rows)
 }
@@ -77,18 +84,50 @@ fn rows_of_ops(
 fn next_row(
     alloc: Global,
     nodes: &[Node],
+    holders: &Holders,
     table: &FileTable,
     file: &FileName,
 ) -> Result<FileRow, Memory>
     requires of_tree { AreOfTree table.now.levels 1 nodes.now }
     requires exact { AreExact table.now.levels nodes.now table.now.rows }
+    requires holders { AreHolders table.now.levels nodes.now table.now.rows holders.now }
     requires room { version_in table.now.rows file.now + 1 < 2 ^ 64 }
     ensures { IfOk result (λ row. row ≡ spec.row_at table.now.levels nodes.now file.now (version_in table.now.rows file.now + 1)) }
 {
     match table.row(file) {
         Some(row) => row.of_next_commit(nodes),
-        None => file_row(alloc, table.levels(), nodes, *file, 1),
+        None => first_row(alloc, table.levels(), nodes, holders, *file),
     }
+}
+
+/// The row of a file that no commit before wrote. Only the servers that may have a copy are looked at.
+fn first_row(
+    alloc: Global,
+    levels: Levels,
+    nodes: &[Node],
+    holders: &Holders,
+    file: FileName,
+) -> Result<FileRow, Memory>
+    requires of_tree { AreOfTree levels 1 nodes.now }
+    requires early { holders.now.early.levels ≡ levels }
+    requires within { All (λ number. number ≤ length nodes.now) holders.now.early.numbers }
+    requires all { holders.now.all ≡ spec.servers_where levels (λ node. true) nodes.now }
+    requires others { OthersLack file holders.now.early.numbers nodes.now }
+    ensures { IfOk result (λ row. row ≡ spec.row_at levels nodes.now file 1) }
+{
+    let current = ServerSet::new(alloc, levels)?;
+    let stale = holders.all.clone()?;
+    let mut row = FileRow {
+        file,
+        version: 1,
+        current,
+        stale,
+    };
+    for server in holders.early.iter() {
+        let place = (server.number() - 1) as usize;
+        row.stand(&nodes[place], 0);
+    }
+    Ok(row)
 }
 
 /// Rows equal to these, with memory of their own.

@@ -8,6 +8,7 @@ ghost use Rattle.tq_store.specs.Copies.{copy_of};
 ghost use Rattle.tq_tables.specs.NamesApart.{Apart};
 ghost use Rattle.tq_tables.specs.Files as spec;
 ghost use Rattle.tq_tables.specs.Files.{AreOfLevels, HasRowAt};
+ghost use Rattle.tq_tables.specs.Early.{HaveRows, has_row};
 ghost use Rattle.indexmap.specs.IndexMap.{set_value_at};
 ghost use Rattle.tq_tables.specs.declared.file_row.FileRow.{FileRow};
 
@@ -142,46 +143,66 @@ impl FileTable {
     }
 
     /// In the row of the file, if it has one, the server, whose copy is at least of that version, stands where its copy
-    /// says. It takes no memory.
+    /// says. Answers whether it has one. It takes no memory.
     #[inline(never)]
-    fn stand(&mut self, node: &Node, file: &FileName, least: u64)
+    fn stand(&mut self, node: &Node, file: &FileName, least: u64) -> bool
         requires levels { node.now.levels ≡ self.old.levels }
         requires least { least ≤ (copy_of node.now.state.records.copies file.now).version }
         ensures levels { self.new.levels ≡ self.old.levels }
         ensures rows { self.new.rows ≡ map (spec.stood_at node.now file.now) self.old.rows }
+        ensures found { result ≡ has_row self.old.rows file.now }
     {
         let _levels = self.levels;
+        let mut found = false;
         if let Some(row) = self.rows.get_mut(file) {
             row.stand(node, least);
+            found = true;
         }
+        found
     }
 
     /// The same for a file that is likely to be that of the row that was found last, as where a refresh goes from server to
     /// server.
-    fn stand_again(&mut self, node: &Node, file: &FileName, least: u64)
+    fn stand_again(&mut self, node: &Node, file: &FileName, least: u64) -> bool
         requires levels { node.now.levels ≡ self.old.levels }
         requires least { least ≤ (copy_of node.now.state.records.copies file.now).version }
         ensures levels { self.new.levels ≡ self.old.levels }
         ensures rows { self.new.rows ≡ map (spec.stood_at node.now file.now) self.old.rows }
+        ensures found { result ≡ has_row self.old.rows file.now }
     {
         let _levels = self.levels;
         if has_row_at(&self.rows, self.last, file) {
             stand_at(&mut self.rows, self.last, node, least);
-            return;
+            return true;
         }
+        self.stand_elsewhere(node, file, least)
+    }
+
+    /// The same for a file whose row stands at another place, which is noted.
+    #[inline(never)]
+    fn stand_elsewhere(&mut self, node: &Node, file: &FileName, least: u64) -> bool
+        requires levels { node.now.levels ≡ self.old.levels }
+        requires least { least ≤ (copy_of node.now.state.records.copies file.now).version }
+        ensures levels { self.new.levels ≡ self.old.levels }
+        ensures rows { self.new.rows ≡ map (spec.stood_at node.now file.now) self.old.rows }
+        ensures found { result ≡ has_row self.old.rows file.now }
+    {
+        let _levels = self.levels;
         if let Some(place) = self.rows.get_index_of(file) {
             self.last = place;
         }
-        self.stand(node, file, least);
+        self.stand(node, file, least)
     }
 
-    /// In the rows of the files that the ask raised the server stands where its copies say. It takes no memory.
+    /// In the rows of the files that the ask raised the server stands where its copies say. Answers true only where each
+    /// of these files has a row. It takes no memory.
     #[inline(always)]
-    pub(crate) fn stand_all(&mut self, node: &Node, ask: &NodeAsk, raised: &Raised)
+    pub(crate) fn stand_all(&mut self, node: &Node, ask: &NodeAsk, raised: &Raised) -> bool
         requires levels { node.now.levels ≡ self.old.levels }
         requires reached { AreReached ask.now raised.now node.now.state.records.copies }
         ensures levels { self.new.levels ≡ self.old.levels }
         ensures rows { self.new.rows ≡ spec.all_stood node.now self.old.rows (raised_files ask.now raised.now) }
+        ensures found { OnTrue result (HaveRows self.old.rows (raised_files ask.now raised.now)) }
     {
         match raised {
             Raised::Written(writes) => self.stand_written(node, writes.as_slice()),
@@ -191,38 +212,44 @@ impl FileTable {
 
     /// The same for the file that a refresh offers.
     #[inline(never)]
-    fn stand_offered(&mut self, node: &Node, ask: &NodeAsk)
+    fn stand_offered(&mut self, node: &Node, ask: &NodeAsk) -> bool
         requires levels { node.now.levels ≡ self.old.levels }
         requires reached { HasOffered ask.now node.now.state.records.copies }
         ensures levels { self.new.levels ≡ self.old.levels }
         ensures rows { self.new.rows ≡ spec.all_stood node.now self.old.rows (offered_files ask.now) }
+        ensures found { OnTrue result (HaveRows self.old.rows (offered_files ask.now)) }
     {
         let _levels = self.levels;
         match ask {
             NodeAsk::Work(work) => match work.get() {
                 WorkAsk::Refresh { file, version, .. } => self.stand_again(node, file, *version),
-                WorkAsk::Lock { .. } => {}
-                WorkAsk::Prepare { .. } => {}
-                WorkAsk::Decide { .. } => {}
-                WorkAsk::Release { .. } => {}
-                WorkAsk::Peek { .. } => {}
+                WorkAsk::Lock { .. } => true,
+                WorkAsk::Prepare { .. } => true,
+                WorkAsk::Decide { .. } => true,
+                WorkAsk::Release { .. } => true,
+                WorkAsk::Peek { .. } => true,
             },
-            NodeAsk::Crash => {}
-            NodeAsk::Return => {}
-            NodeAsk::CrashIn { .. } => {}
+            NodeAsk::Crash => true,
+            NodeAsk::Return => true,
+            NodeAsk::CrashIn { .. } => true,
         }
     }
 
     /// The same for the files of the writes.
-    fn stand_written(&mut self, node: &Node, writes: &[Write])
+    fn stand_written(&mut self, node: &Node, writes: &[Write]) -> bool
         requires levels { node.now.levels ≡ self.old.levels }
         requires reached { AllByRecursion (λ write. write.version ≤ (copy_of node.now.state.records.copies write.file).version) writes.now }
         ensures levels { self.new.levels ≡ self.old.levels }
         ensures rows { self.new.rows ≡ spec.all_stood node.now self.old.rows (map (λ write. write.file) writes.now) }
+        ensures found { OnTrue result (HaveRows self.old.rows (map (λ write. write.file) writes.now)) }
     {
+        let mut found = true;
         for write in writes {
-            self.stand(node, &write.file, write.version);
+            if !self.stand(node, &write.file, write.version) {
+                found = false;
+            }
         }
+        found
     }
 }
 

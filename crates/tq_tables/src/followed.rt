@@ -12,6 +12,7 @@ ghost use Rattle.tq_tables.specs.Files as spec;
 
 use crate::file_rows::{file_rows, rows_written};
 use crate::file_table::FileTable;
+use crate::holders::Holders;
 use crate::intent_rows::intent_rows;
 use crate::lock_rows::lock_rows;
 use crate::quorum_rows::quorum_rows;
@@ -32,16 +33,22 @@ use tq_shape::{Levels, Memory, Part};
 ///
 /// The rows of files are kept, and an ask changes only those of the files that it is about. The other rows are read
 /// off the parts, which keep them in order: the best of each subtree, the lock tables, and the open votes.
-// Both are boxed, so that what is moved or let go of is two words and not a dozen containers.
+// All are boxed, so that what is moved or let go of is three words and not a dozen containers.
 pub(crate) struct Followed {
     parts: Box<Parts>,
     files: Box<FileTable>,
+    /// Each server that has a copy of a file with no row is one of these that may have.
+    holders: Box<Holders>,
 }
 
 // Written out, so that a crate above lets go of one by a call.
 impl Drop for Followed {
     fn drop(self) {
-        let Self { parts: _, files: _ } = self;
+        let Self {
+            parts: _,
+            files: _,
+            holders: _,
+        } = self;
     }
 }
 
@@ -55,6 +62,7 @@ impl Model for Followed {
     ghost use Rattle.tq_tables.specs.contracts.lock_row.LockRow as lock_type;
     ghost use Rattle.tq_tables.specs.contracts.intent_row.IntentRow as intent_type;
     ghost use Rattle.tq_tables.specs.contracts.ready_entry.ReadyEntry as ready_type;
+    ghost use Rattle.tq_tables.specs.Early.{AreHolders};
     ghost use Rattle.tq_tables.specs.Tables.{TablesView, tables_at, tables_code};
 
     ghost Value = { TablesView };
@@ -63,7 +71,8 @@ impl Model for Followed {
 
     ghost view = { λ a. tables_at a.parts.value a.files.value.rows };
 
-    ghost invariant = { λ a. a.parts.value.view.levels ≡ a.files.value.levels };
+    ghost invariant = { λ a. (a.parts.value.view.levels ≡ a.files.value.levels)
+        × AreHolders a.files.value.levels a.parts.value.nodes a.files.value.rows a.holders.value };
 }
 
 impl Followed {
@@ -102,7 +111,13 @@ impl Followed {
         let rows = file_rows(alloc, levels, parts.nodes(), entries)?;
         let files = FileTable::of(alloc, levels, rows)?;
         let files = Box::new(alloc, files)?;
-        Ok(Followed { parts, files })
+        let holders = Holders::of(alloc, levels, parts.nodes())?;
+        let holders = Box::new(alloc, holders)?;
+        Ok(Followed {
+            parts,
+            files,
+            holders,
+        })
     }
 
     /// Equal tables, with memory of their own.
@@ -114,7 +129,13 @@ impl Followed {
         let parts = Box::new(alloc, parts)?;
         let files = self.files.copy(alloc)?;
         let files = Box::new(alloc, files)?;
-        Ok(Followed { parts, files })
+        let holders = self.holders.copy()?;
+        let holders = Box::new(alloc, holders)?;
+        Ok(Followed {
+            parts,
+            files,
+            holders,
+        })
     }
 
     /// Asks the server, under the number of the next entry of its journal. Only the rows of the files change whose copies
@@ -137,13 +158,15 @@ impl Followed {
     {
         let parts: &mut Parts = &mut self.parts;
         let files: &mut FileTable = &mut self.files;
+        let holders: &mut Holders = &mut self.holders;
         let Telling {
             entered,
             told,
             raised,
         } = parts.ask_node(alloc, server, number, ask)?;
         let node = parts.node(server);
-        files.stand_all(node, ask, &raised);
+        let found = files.stand_all(node, ask, &raised);
+        holders.hold(node.server(), found);
         Ok(Replies { entered, told })
     }
 
@@ -186,7 +209,7 @@ impl Followed {
         let change = plan.change;
         let replies = twice::<Desk>(alloc, plan.reply)?;
         let ops = committed_ops(ask, &replies.entered);
-        let rows = rows_written(alloc, parts.nodes(), files, ops)?;
+        let rows = rows_written(alloc, parts.nodes(), &self.holders, files, ops)?;
         files.reserve(rows.len())?;
         parts.change_desk(change)?;
         files.put_all(rows);

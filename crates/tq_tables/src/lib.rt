@@ -2,7 +2,8 @@
 //! that say how the system stands after them.
 //!
 //! Files: `journals.rt` the journals of all parts; `parts.rt`, `replay.rt` the parts after them; `tables.rt` over
-//! `followed.rt` the tables; `file_table.rt` the rows of files; one file for each other list of rows.
+//! `followed.rt` the tables; `file_table.rt` the rows of files; `holders.rt` the servers that may have a copy of a file
+//! with no row; one file for each other list of rows.
 //! Definitions: `specs/Journals`, `Parts`, `Rows`, `Tables`; `Counted`, `Files`, `NamesApart`, `DeskStates` are the code's
 //! own words.
 #![tactic(auto)]
@@ -12,6 +13,7 @@ mod file_row;
 mod file_rows;
 mod file_table;
 mod followed;
+mod holders;
 mod intent_row;
 mod intent_rows;
 mod journals;

@@ -6,13 +6,14 @@ use std::sync::Wait;
 use std::thread::Threads;
 use tq_devices::{MemorySink, MemorySource, RunFault, Sink, Source};
 use tq_shape::Levels;
-use tq_shell::{audit, run, threads};
+use tq_shell::{audit, run, threads, upgrade};
 
 /// What is called over a source and a sink, in a tree of two levels.
 #[derive(Clone, Copy)]
 enum Called {
     Run,
     Audit,
+    Upgrade,
     Threads,
 }
 
@@ -44,6 +45,13 @@ const AUDIT: Row = Row {
     written: b"explained 1\n",
 };
 
+/// The same journals in the older format.
+const UPGRADE: Row = Row {
+    called: Called::Upgrade,
+    given: b"{\"desk\":[],\"format\":1,\"levels\":2,\"limits\":{\"entries\":1000000,\"files\":1000,\"ops\":64},\"servers\":[[],[],[]],\"view\":[{\"ask\":{\"is\":\"choose\"},\"reply\":{\"cost\":2,\"is\":\"chosen\",\"servers\":[1,2]}}]}\n",
+    written: JOURNALS,
+};
+
 const JOURNALS: &[u8] =
     b"{\"desk\":[],\"format\":2,\"levels\":2,\"limits\":{\"entries\":1000000,\"files\":1000,\"ops\":64},\"servers\":[[],[],[]],\"view\":[{\"ask\":{\"is\":\"choose\",\"purpose\":\"read\"},\"reply\":{\"cost\":2,\"is\":\"chosen\",\"servers\":[1,2]}}]}\n";
 
@@ -65,6 +73,7 @@ fn call<H: Threads + Wait + Sync>(
     match called {
         Called::Run => run(alloc, levels, source, sink),
         Called::Audit => done(audit(alloc, source, sink)),
+        Called::Upgrade => done(upgrade(alloc, source, sink)),
         Called::Threads => done(threads(rt, alloc, levels, 0, 0, source, sink)),
     }
 }
@@ -154,6 +163,11 @@ fn each_call_of_a_device_fails_in_a_run(rt: HostRuntime) {
 #[test]
 fn each_call_of_a_device_fails_in_an_audit(rt: HostRuntime) {
     assert!(rt; devices_fail(&rt, rt.alloc(), &AUDIT));
+}
+
+#[test]
+fn each_call_of_a_device_fails_in_an_upgrade(rt: HostRuntime) {
+    assert!(rt; devices_fail(&rt, rt.alloc(), &UPGRADE));
 }
 
 #[test]

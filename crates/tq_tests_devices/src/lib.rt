@@ -1,7 +1,10 @@
-//! Tests of what the product writes where a device fails.
+//! Tests of what the product writes over devices: where one fails, and where a tree and a content are as large as any.
 //!
-//! Files: `devices.rt` each call of a source and of a sink failing in turn, and a second run behind failures.
+//! Files: `devices.rt` each call of a source and of a sink failing in turn, and a second run behind failures;
+//! `large.rt` a content of 4,000 bytes at ten levels.
 #![tactic(auto)]
 
 #[cfg(test)]
 mod devices;
+#[cfg(test)]
+mod large;

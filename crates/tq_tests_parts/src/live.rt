@@ -106,9 +106,9 @@ fn caches_of(number: u64) -> u64 {
     u64::from(64u32.wrapping_sub(number.leading_zeros()))
 }
 
-/// Gives each server the greatest cost. Answers whether each wrote a cache for each depth.
-fn costs_the_most(tree: &mut LiveTree) -> bool {
-    for number in 1..64u64 {
+/// Gives each server below the end the greatest cost. Answers whether each wrote a cache for each depth.
+fn costs_the_most(tree: &mut LiveTree, end: u64) -> bool {
+    for number in 1..end {
         if !sets_cost(tree, number, 1_000_000, caches_of(number)) {
             return false;
         }
@@ -116,9 +116,9 @@ fn costs_the_most(tree: &mut LiveTree) -> bool {
     true
 }
 
-/// Marks the servers above the leaves down. Answers whether each wrote a cache for each depth.
-fn all_but_leaves_go_down(tree: &mut LiveTree) -> bool {
-    for number in 1..32u64 {
+/// Marks the servers above the first leaf down. Answers whether each wrote a cache for each depth.
+fn all_but_leaves_go_down(tree: &mut LiveTree, leaf: u64) -> bool {
+    for number in 1..leaf {
         if !sets_mark(tree, number, false, caches_of(number)) {
             return false;
         }
@@ -128,9 +128,9 @@ fn all_but_leaves_go_down(tree: &mut LiveTree) -> bool {
 
 fn changes_each(alloc: Global, tree: &mut LiveTree) -> bool {
     Turns::new().room(tree.levels())
-        && costs_the_most(tree)
+        && costs_the_most(tree, 64)
         && takes(alloc, tree, 0x0000_0001_0001_0116, 6_000_000)
-        && all_but_leaves_go_down(tree)
+        && all_but_leaves_go_down(tree, 32)
         && takes(alloc, tree, 0xffff_ffff_0000_0000, 32_000_000)
         && sets_mark(tree, 63, false, 6)
         && sets_mark(tree, 63, true, 6)
@@ -142,6 +142,61 @@ fn changes_each(alloc: Global, tree: &mut LiveTree) -> bool {
 fn each_depth_writes_one_cache_more(rt: HostRuntime) -> Result<(), Wrong> {
     let mut tree = LiveTree::new(rt.alloc(), Levels::new(6).unwrap())?;
     check(changes_each(rt.alloc(), &mut tree), "another offer")
+}
+
+/// Whether the servers are those from the first number to the last.
+fn are_all(servers: &[ServerId], first: u64, last: u64) -> bool {
+    let mut next = first;
+    for server in servers {
+        if server.number() != next {
+            return false;
+        }
+        next = next.wrapping_add(1);
+    }
+    next == last.wrapping_add(1)
+}
+
+/// Whether the servers are the root and each the left side of the one before, down to the last.
+fn are_left_sides(servers: &[ServerId], last: u64) -> bool {
+    let mut next = 1u64;
+    for server in servers {
+        if server.number() != next {
+            return false;
+        }
+        next = next.wrapping_mul(2);
+    }
+    next == last.wrapping_mul(2)
+}
+
+/// Whether the tree of ten levels chooses its left sides, or where only its leaves are up, them.
+fn takes_of_ten(alloc: Global, tree: &LiveTree, is_inner_up: bool) -> bool {
+    match tree.choose(alloc, Purpose::Write) {
+        Ok(Choice::Quorum { quorum, cost }) => {
+            if is_inner_up {
+                are_left_sides(quorum.servers(), 512) && cost == 10_000_000
+            } else {
+                are_all(quorum.servers(), 512, 1023) && cost == 512_000_000
+            }
+        }
+        _ => false,
+    }
+}
+
+fn changes_each_of_ten(alloc: Global, tree: &mut LiveTree) -> bool {
+    Turns::new().room(tree.levels())
+        && costs_the_most(tree, 1024)
+        && takes_of_ten(alloc, tree, true)
+        && all_but_leaves_go_down(tree, 512)
+        && takes_of_ten(alloc, tree, false)
+        && sets_mark(tree, 1023, true, 10)
+}
+
+/// The same of the tree of ten levels; there is none of eleven.
+#[test]
+fn each_depth_of_ten_levels_writes_one_cache_more(rt: HostRuntime) -> Result<(), Wrong> {
+    let mut tree = LiveTree::new(rt.alloc(), Levels::new(10).unwrap())?;
+    check(Levels::new(11).is_none(), "eleven levels")?;
+    check(changes_each_of_ten(rt.alloc(), &mut tree), "another offer")
 }
 
 /// Two costs are told to the servers above, a refused one of the two writes no cache, and each purpose has a quorum of its own.

@@ -2,7 +2,7 @@ use std::alloc::{AllocError, Global};
 use tq_check::{Wrong, check};
 use tq_coterie::{Quorum, holds_quorum, is_quorum, meet};
 use tq_intents::{Intents, Record, SharedWrite};
-use tq_shape::{Levels, ServerId, ServerSet};
+use tq_shape::{Levels, Memory, ServerId, ServerSet};
 use tq_store::{Content, FileName, Write};
 
 // ---- servers of a tree of three levels
@@ -84,6 +84,76 @@ fn what_is_taken_out_of_a_set_is_gone(rt: HostRuntime) -> Result<(), Wrong> {
     check(is_gone(rt.alloc()), "another set")
 }
 
+/// Servers at the ends of the words of a set of ten levels, upwards, and as they are put in.
+const ENDS: [u64; 7] = [1, 63, 64, 65, 127, 128, 1023];
+
+const PUT: [u64; 7] = [128, 1, 1023, 64, 127, 63, 65];
+
+/// Whether the set is walked as these numbers.
+fn is_walked(set: &ServerSet, numbers: &[u64]) -> bool {
+    let mut left = numbers;
+    for server in set.iter() {
+        match left {
+            [first, rest @ ..] => {
+                if server.number() != *first {
+                    return false;
+                }
+                left = rest;
+            }
+            [] => return false,
+        }
+    }
+    left.is_empty()
+}
+
+/// Puts these servers into a set of ten levels. Answers whether each was new there.
+fn puts_ends(set: &mut ServerSet) -> bool {
+    for number in PUT.iter() {
+        match set.levels().server(*number) {
+            Some(server) => {
+                if !set.insert(server) {
+                    return false;
+                }
+            }
+            None => return false,
+        }
+    }
+    true
+}
+
+fn remove(set: &mut ServerSet, number: u64) -> bool {
+    match set.levels().server(number) {
+        Some(server) => set.remove(server),
+        None => false,
+    }
+}
+
+/// Takes servers out of several words, and then all. Answers whether a copy made before has them still.
+fn takes_ends(set: &mut ServerSet) -> bool {
+    let Ok(copy) = set.clone() else {
+        return false;
+    };
+    let is_out = remove(set, 64) && remove(set, 1023) && remove(set, 1) && !remove(set, 66);
+    let is_left = is_walked(set, &[63, 65, 127, 128]);
+    set.clear();
+    is_out && is_left && is_walked(set, &[]) && is_walked(&copy, &ENDS)
+}
+
+fn has_ends(alloc: Global) -> bool {
+    match ServerSet::new(alloc, Levels::new(10).unwrap()) {
+        Ok(set) => {
+            let mut set = set;
+            puts_ends(&mut set) && is_walked(&set, &ENDS) && takes_ends(&mut set)
+        }
+        Err(_) => false,
+    }
+}
+
+#[test]
+fn a_set_of_ten_levels_has_its_ends(rt: HostRuntime) -> Result<(), Wrong> {
+    check(has_ends(rt.alloc()), "another set")
+}
+
 // ---- the coterie
 
 /// The server, where the number of a set has its bit, else 0.
@@ -143,6 +213,30 @@ fn lists_out_of_order_are_no_members() -> Result<(), Wrong> {
         && !is_quorum(levels, &[1, 4, 2])
         && !is_quorum(levels, &[1, 2, 2])
         && !is_quorum(levels, &[0, 1, 2]);
+    check(holds, "another answer")
+}
+
+/// The number, and those from the first to the last, in the tree of ten levels.
+fn is_member(alloc: Global, number: Option<u64>, first: u64, last: u64) -> Result<bool, Memory> {
+    let mut numbers = Vec::new(alloc);
+    if let Some(number) = number {
+        numbers.push(number)?;
+    }
+    for one in first..=last {
+        numbers.push(one)?;
+    }
+    Ok(is_quorum(Levels::new(10).unwrap(), numbers.as_slice()))
+}
+
+/// All leaves are a member; not so with the root besides, without one, or with a server in the place of both its sides.
+#[test]
+fn leaves_of_ten_levels_are_a_member(rt: HostRuntime) -> Result<(), Wrong> {
+    let alloc = rt.alloc();
+    let holds = matches!(is_member(alloc, None, 512, 1023), Ok(true))
+        && matches!(is_member(alloc, Some(1), 512, 1023), Ok(false))
+        && matches!(is_member(alloc, None, 512, 1022), Ok(false))
+        && matches!(is_member(alloc, None, 511, 1021), Ok(false))
+        && matches!(is_member(alloc, None, 511, 1022), Ok(true));
     check(holds, "another answer")
 }
 

@@ -42,16 +42,15 @@ const BOARD: &str = "board levels 2\n\
     intent 3 9 number 7 unknown e:1\n\
     end\n";
 
-/// All that can be placed of the view, and then of each server upwards, and one entry of the desk, in turn.
+/// All of the view; then the desk and the servers downwards, each as far as it goes; and then who waited for what was placed,
+/// woken last first.
 const ORDER: [Part; 35] = [
     Part::View,
     Part::View,
-    Part::Server(1),
-    Part::Server(1),
-    Part::Server(1),
-    Part::Server(2),
-    Part::Server(2),
-    Part::Server(2),
+    Part::Desk,
+    Part::Desk,
+    Part::Desk,
+    Part::Desk,
     Part::Server(3),
     Part::Server(3),
     Part::Server(3),
@@ -59,26 +58,28 @@ const ORDER: [Part; 35] = [
     Part::Server(3),
     Part::Server(3),
     Part::Server(3),
-    Part::Desk,
-    Part::Desk,
-    Part::Desk,
-    Part::Desk,
-    Part::Desk,
+    Part::Server(2),
+    Part::Server(2),
+    Part::Server(2),
     Part::Server(1),
     Part::Server(1),
     Part::Server(1),
-    Part::Server(1),
+    Part::Desk,
     Part::Server(2),
     Part::Server(2),
     Part::Server(2),
     Part::Server(2),
-    Part::Desk,
     Part::Server(1),
     Part::Server(1),
     Part::Server(1),
     Part::Server(1),
     Part::Desk,
     Part::Desk,
+    Part::Desk,
+    Part::Server(1),
+    Part::Server(1),
+    Part::Server(1),
+    Part::Server(1),
 ];
 
 /// The journals of the service.

@@ -1,4 +1,5 @@
 pub mod LineLaws
+pub mod VoteLaws
 pub mod GrantLaws
 pub mod StopLaws
 pub mod KeptVotes

@@ -17,7 +17,7 @@ use crate::{Asker, Decision, DeskTold, LineFault, Ready, Txn, Voting};
 use std::alloc::Global;
 use tq_asks::{CitedVote, Verdict};
 use tq_desk::{DeskRefusal, DeskReply};
-use tq_shape::{Memory, Part, Seq, ServerId};
+use tq_shape::{Memory, Part, ServerId, SharedSeq};
 
 /// The votes of the servers, in their order; the first refusal ends it. No vote gathered is lost.
 fn prepare_each<A: Asker>(
@@ -47,7 +47,7 @@ struct Ruling {
 }
 
 /// What the desk's answer to a commit says, which cites these votes. It takes no memory.
-fn ruling_in(reply: DeskReply, cited: Seq<CitedVote>) -> Ruling
+fn ruling_in(reply: DeskReply, cited: SharedSeq<CitedVote>) -> Ruling
     ensures answer { result.answer ≡ spec.committed reply }
     ensures verdict { (votes : List Vote) → cited ≡ log.cited votes → result.verdict ≡ ending.commit_verdict votes reply }
 {
@@ -83,7 +83,7 @@ fn refused(refusal: DeskRefusal) -> Ruling
 }
 
 /// The transaction after the desk's answer to its commit. It takes no memory: what the desk told stands in its state.
-fn decided(ready: Ready, told: DeskTold, cited: Seq<CitedVote>) -> Decision
+fn decided(ready: Ready, told: DeskTold, cited: SharedSeq<CitedVote>) -> Decision
     requires asked { told.ask ≡ evidence_of ready }
     requires cited { cited ≡ log.cited ready.votes }
     ensures answer { result.answer ≡ spec.committed told.reply }

@@ -1,9 +1,10 @@
-ghost use Rattle.std.specs.Prelude.{◌≡◌, ◌==◌, ◌++◌, [], ◌∷◌, true, false, List, Some, None, Ok, IfOk, OnErr};
+ghost use Rattle.std.specs.Prelude.{◌≡◌, ◌==◌, ◌++◌, ◌≤◌, [], ◌∷◌, true, false, List, Some, None, Ok, IfOk, OnErr};
 ghost use Rattle.std.specs.List.{list_all};
 ghost use Rattle.tq_coterie.specs.Coterie.{numbers_of};
+ghost use Rattle.tq_states.specs.Ballots.{with_ballots};
 ghost use Rattle.tq_states.specs.Cited.{VotesOnly};
 ghost use Rattle.tq_states.specs.Ended.{decide_ask};
-ghost use Rattle.tq_states.specs.Voting.{IsVotedOn, has_vote};
+ghost use Rattle.tq_states.specs.Voting.{IsVotedOn, IsVoting, has_vote};
 ghost use Rattle.tq_txn.specs.Dialogue as line;
 ghost use Rattle.tq_txn.specs.Lines as spec;
 ghost use Rattle.tq_txn.specs.Told.{Knows};
@@ -14,6 +15,7 @@ use crate::{Applied, AskFault, Asker, Ended, LineFault, NodeTold, Voting};
 use std::alloc::{AllocError, Global};
 use tq_asks::{NodeAsk, NodeRefusal, NodeReply, Verdict, WorkAsk};
 use tq_shape::{Memory, Part, ServerId, Shared};
+use tq_states::Ballots;
 
 /// The refusal, where the reply is one.
 fn refusal_in(reply: &NodeReply) -> Option<NodeRefusal>
@@ -26,7 +28,7 @@ fn refusal_in(reply: &NodeReply) -> Option<NodeRefusal>
 }
 
 /// A voter's vote; one that is there is answered with no ask. No vote gathered is lost, and after a fault the
-/// transaction is as it was.
+/// transaction is as it was. All memory is taken before the ask: where it runs out nothing was told.
 pub fn prepare_at<A: Asker>(
     asker: &mut A,
     alloc: Global,
@@ -38,6 +40,7 @@ pub fn prepare_at<A: Asker>(
     ensures txn { voting.new.txn ≡ voting.old.txn }
     ensures kept { IsVotedOn voting.old voting.new }
     ensures knows { Knows (A.told asker.old) (states.Voting voting.old) → Knows (A.told asker.new) (states.Voting voting.new) }
+    ensures unasked { line.IsUnasked result (A.told asker.old) (A.told asker.new) }
     ensures err { OnErr result (voting.new ≡ voting.old) }
     ensures tree { A.levels asker.new ≡ A.levels asker.old }
 {
@@ -48,28 +51,39 @@ pub fn prepare_at<A: Asker>(
         Ok(ask) => ask,
         Err(fault) => return Err(LineFault::from(fault)),
     };
+    let ballots = match voting.room_for_vote() {
+        Ok(ballots) => ballots,
+        Err(_) => return Err(LineFault::Memory),
+    };
     match asker.node(alloc, server, ask) {
-        Ok(told) => take_vote(alloc, voting, &told),
-        Err(fault) => Err(LineFault::from(fault)),
+        Ok(told) => take_vote(voting, ballots, told),
+        Err(fault) => {
+            voting.put_back(ballots);
+            Err(LineFault::from(fault))
+        }
     }
 }
 
-/// Takes the vote that a server told, unless it refused.
+/// Takes the votes back, with the one that a server told, unless it refused. It takes no memory.
 #[inline(always)]
-fn take_vote(alloc: Global, voting: &mut Voting, told: &NodeTold) -> Result<(), LineFault>
-    ensures asks { (exchanges : List Exchange) → line.Follows (spec.voted voting.old told.now) exchanges exchanges (line.ended_by result voting.new) }
+fn take_vote(voting: &mut Voting, ballots: Ballots, told: NodeTold) -> Result<(), LineFault>
+    requires good { IsVoting (with_ballots voting.old ballots) }
+    requires room { 1 ≤ ballots.room }
+    ensures asks { (exchanges : List Exchange) → line.Follows (spec.voted (with_ballots voting.old ballots) told) exchanges exchanges (line.ended_by result voting.new) }
     ensures txn { voting.new.txn ≡ voting.old.txn }
-    ensures kept { has_vote voting.old.votes told.now.server ≡ false → IsVotedOn voting.old voting.new }
-    ensures cited { (before : List NodeTold) → VotesOnly before voting.old → VotesOnly (before ++ told.now ∷ []) voting.new }
-    ensures err { OnErr result (voting.new ≡ voting.old) }
+    ensures kept { has_vote ballots.votes told.server ≡ false → IsVotedOn (with_ballots voting.old ballots) voting.new }
+    ensures cited { (before : List NodeTold) → VotesOnly before (with_ballots voting.old ballots) → VotesOnly (before ++ told ∷ []) voting.new }
+    ensures unasked { (before after : List Exchange) → line.IsUnasked result before after }
+    ensures err { OnErr result (voting.new ≡ with_ballots voting.old ballots) }
 {
     if let Some(refusal) = refusal_in(&told.reply) {
+        voting.put_back(ballots);
         return Err(LineFault::Server {
             server: told.server,
             refusal,
         });
     }
-    if let Err(fault) = voting.vote(alloc, told) {
+    if let Err(fault) = voting.vote_in(ballots, told) {
         return Err(LineFault::from(fault));
     }
     Ok(())

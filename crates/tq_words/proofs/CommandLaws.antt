@@ -32,7 +32,7 @@ use Rattle.clap.proofs.WalkLemmas.{one_text-rows}
 use Rattle.clap.proofs.ValueTestLemmas.{accepts-Accepts}
 use Rattle.clap.proofs.CallerReads.{signed_reads}
 use Rattle.tq_words.specs.declared.command.WordsFault.{WordsFault}
-use Rattle.tq_words.specs.Command.{CanAsk, CanAskOther, CanBeGiven, IsGivenOrZero, IsRefused, MayHaveNumber, fault_by, fault_for, HasNumber, IsGiven, number_rule, audit_app, shell_app, threads_app, tq_app}
+use Rattle.tq_words.specs.Command.{CanAsk, CanAskBare, CanAskOther, CanBeGiven, IsGivenOrZero, IsRefused, MayHaveNumber, fault_by, fault_for, HasNumber, IsGiven, number_rule, audit_app, shell_app, threads_app, tq_app, upgrade_app}
 use Rattle.tq_words.proofs.ParseLaws.{Keeps, both_none, level_kept}
 
 -- a fact of each row
@@ -226,6 +226,10 @@ threads = unwrap_or (slice_get (built tq_app).subs 1) threads_app.top
 abbrev audit : Shape
 audit = unwrap_or (slice_get (built tq_app).subs 2) audit_app.top
 
+-- and `upgrade`
+abbrev upgrade : Shape
+upgrade = unwrap_or (slice_get (built tq_app).subs 3) upgrade_app.top
+
 level_clean : (first below third fourth last : Kinds) → or_else first (or_else below (or_else third (or_else fourth last))) ≡ [] → (below ≡ []) × (last ≡ [])
 level_clean first below third fourth last clean =
     let walked = both_none first _ clean in
@@ -241,11 +245,11 @@ wanted_by : (is_there : Bool) → check_kinds (not is_there && false) (not is_th
 wanted_by true clean = refl
 wanted_by false clean = absurd (some_kind _ _ clean)
 
-shell_has_levels : (words : List Text) → level_fault shell [] nothing_held words false [] ≡ [] → HasNumber (codes "levels") 1 6 (rows_at shell words).1
+shell_has_levels : (words : List Text) → level_fault shell [] nothing_held words false [] ≡ [] → HasNumber (codes "levels") 1 10 (rows_at shell words).1
 shell_has_levels words clean =
     let rows = (rows_at shell words).1 in
-    let kept = level_kept (EachRow (Fits (codes "levels") 1 6)) shell (number_keeps (codes "levels") 1 6 true false, (help_keeps (codes "levels") 1 6 false, tt)) [] nothing_held words false [] clean tt in
-    number_given (codes "levels") 1 6 rows kept.0 (given_by (is_given (codes "levels") rows) kept.1)
+    let kept = level_kept (EachRow (Fits (codes "levels") 1 10)) shell (number_keeps (codes "levels") 1 10 true false, (help_keeps (codes "levels") 1 10 false, tt)) [] nothing_held words false [] clean tt in
+    number_given (codes "levels") 1 10 rows kept.0 (given_by (is_given (codes "levels") rows) kept.1)
 
 others_given_by : (is : Bool) → check_kinds false false (not is || (false || (false || (false || false)))) ≡ [] → is ≡ true
 others_given_by true clean = refl
@@ -257,10 +261,10 @@ threads_have words clean =
     let levels = codes "levels" in
     let workers = codes "workers" in
     let rounds = codes "rounds" in
-    let of_levels = level_kept (EachRow (Fits levels 1 6)) threads (number_keeps levels 1 6 true false, (other_keeps levels 1 6 workers 0 2 false false refl, (other_keeps levels 1 6 rounds 0 1000 false false refl, (help_keeps levels 1 6 false, tt)))) [] nothing_held words false [] clean tt in
-    let of_workers = level_kept (EachRow (Fits workers 0 2)) threads (other_keeps workers 0 2 levels 1 6 true false refl, (number_keeps workers 0 2 false false, (other_keeps workers 0 2 rounds 0 1000 false false refl, (help_keeps workers 0 2 false, tt)))) [] nothing_held words false [] clean tt in
-    let of_rounds = level_kept (EachRow (Fits rounds 0 1000)) threads (other_keeps rounds 0 1000 levels 1 6 true false refl, (other_keeps rounds 0 1000 workers 0 2 false false refl, (number_keeps rounds 0 1000 false false, (help_keeps rounds 0 1000 false, tt)))) [] nothing_held words false [] clean tt in (
-      number_given levels 1 6 rows of_levels.0 (others_given_by (is_given levels rows) of_levels.1),
+    let of_levels = level_kept (EachRow (Fits levels 1 10)) threads (number_keeps levels 1 10 true false, (other_keeps levels 1 10 workers 0 2 false false refl, (other_keeps levels 1 10 rounds 0 1000 false false refl, (help_keeps levels 1 10 false, tt)))) [] nothing_held words false [] clean tt in
+    let of_workers = level_kept (EachRow (Fits workers 0 2)) threads (other_keeps workers 0 2 levels 1 10 true false refl, (number_keeps workers 0 2 false false, (other_keeps workers 0 2 rounds 0 1000 false false refl, (help_keeps workers 0 2 false, tt)))) [] nothing_held words false [] clean tt in
+    let of_rounds = level_kept (EachRow (Fits rounds 0 1000)) threads (other_keeps rounds 0 1000 levels 1 10 true false refl, (other_keeps rounds 0 1000 workers 0 2 false false refl, (number_keeps rounds 0 1000 false false, (help_keeps rounds 0 1000 false, tt)))) [] nothing_held words false [] clean tt in (
+      number_given levels 1 10 rows of_levels.0 (others_given_by (is_given levels rows) of_levels.1),
       number_or_none workers 0 2 rows of_workers.0,
       number_or_none rounds 0 1000 rows of_rounds.0,
     )
@@ -272,9 +276,14 @@ shell_by : (words : List Text) (is : Bool) (later : Option Shape)
 shell_by words true later asks clean there = inl ((rows_at shell words).1, refl, shell_has_levels words clean)
 shell_by words false later asks clean there = asks clean there
 
-audit_by : (words : List Text) (is : Bool) → is_some (option_map (λ s. rows_at s words) (cond is (Some audit) None)) ≡ true → CanAsk (option_map (λ s. rows_at s words) (cond is (Some audit) None))
-audit_by words true there = inr (inr ((rows_at audit words).1, refl))
-audit_by words false there = absurd cc
+upgrade_by : (words : List Text) (is : Bool) → is_some (option_map (λ s. rows_at s words) (cond is (Some upgrade) None)) ≡ true → CanAsk (option_map (λ s. rows_at s words) (cond is (Some upgrade) None))
+upgrade_by words true there = inr (inr (inr ((rows_at upgrade words).1, refl)))
+upgrade_by words false there = absurd cc
+
+audit_by : (words : List Text) (is : Bool) (later : Option Shape) → (is_some (option_map (λ s. rows_at s words) later) ≡ true → CanAsk (option_map (λ s. rows_at s words) later))
+    → is_some (option_map (λ s. rows_at s words) (cond is (Some audit) later)) ≡ true → CanAsk (option_map (λ s. rows_at s words) (cond is (Some audit) later))
+audit_by words true later asks there = inr (inr (inl ((rows_at audit words).1, refl)))
+audit_by words false later asks there = asks there
 
 threads_by : (words : List Text) (is : Bool) (later : Option Shape) → (is_some (option_map (λ s. rows_at s words) later) ≡ true → CanAsk (option_map (λ s. rows_at s words) later))
     → option_map_or (λ s. level_fault s [] nothing_held words false []) (cond is (Some threads) later) [] ≡ [] → is_some (option_map (λ s. rows_at s words) (cond is (Some threads) later)) ≡ true
@@ -287,8 +296,10 @@ stop_asks None clean there = absurd cc
 stop_asks (Some p) clean there =
     let is_audit = answers_to p.0 (label_of audit) in
     let is_threads = answers_to p.0 (label_of threads) in
-    let last = cond is_audit (Some audit) None in
-    shell_by p.1 (answers_to p.0 (label_of shell)) (cond is_threads (Some threads) last) (λ well. threads_by p.1 is_threads last (audit_by p.1 is_audit) well) clean there
+    let is_upgrade = answers_to p.0 (label_of upgrade) in
+    let last = cond is_upgrade (Some upgrade) None in
+    let later = cond is_audit (Some audit) last in
+    shell_by p.1 (answers_to p.0 (label_of shell)) (cond is_threads (Some threads) later) (λ well. threads_by p.1 is_threads later (audit_by p.1 is_audit last (upgrade_by p.1 is_upgrade)) well) clean there
 
 -- words without a fault name a subcommand, with the options that it needs
 pub can_ask : (words : List Text) → fault_of tq_app words ≡ [] → CanAsk (subcommand_of tq_app words)
@@ -320,11 +331,20 @@ abbrev first_byte : Option Text → ℕ
 first_byte None = 0
 first_byte (Some text) = get_or text 0 0
 
+-- what was found under a name was not found under one with another first byte
+other_name : (name other : Text) (found : Option (Text × List Row)) (given : List Row) → (first_byte (Some name) ≡ first_byte (Some other) → ⊥) → found ≡ Some (name, given) → option_map (λ (p : Text × List Row). p.0) found ≡ Some other → ⊥
+other_name name other found given differ is named =
+    let same : Some name ≡ Some other = ap (option_map (λ (p : Text × List Row). p.0)) (sym is) ∙ named in
+    differ (ap first_byte same)
+
 not_audit : (found : Option (Text × List Row)) (given : List Row) → found ≡ Some (codes "audit", given) → option_map (λ (p : Text × List Row). p.0) found ≡ Some (codes "threads") → ⊥
-not_audit found given is named =
-    let same : Some (codes "audit") ≡ Some (codes "threads") = ap (option_map (λ (p : Text × List Row). p.0)) (sym is) ∙ named in
-    let first : first_byte (Some (codes "audit")) ≡ first_byte (Some (codes "threads")) = ap first_byte same in
-    absurd (omega (arith, first))
+not_audit found given is named = other_name (codes "audit") (codes "threads") found given (λ (e : first_byte (Some (codes "audit")) ≡ first_byte (Some (codes "threads"))). omega (arith, e)) is named
+
+not_upgrade : (found : Option (Text × List Row)) (given : List Row) → found ≡ Some (codes "upgrade", given) → option_map (λ (p : Text × List Row). p.0) found ≡ Some (codes "threads") → ⊥
+not_upgrade found given is named = other_name (codes "upgrade") (codes "threads") found given (λ (e : first_byte (Some (codes "upgrade")) ≡ first_byte (Some (codes "threads"))). omega (arith, e)) is named
+
+upgrade_no_audit : (found : Option (Text × List Row)) (given : List Row) → found ≡ Some (codes "upgrade", given) → option_map (λ (p : Text × List Row). p.0) found ≡ Some (codes "audit") → ⊥
+upgrade_no_audit found given is named = other_name (codes "upgrade") (codes "audit") found given (λ (e : first_byte (Some (codes "upgrade")) ≡ first_byte (Some (codes "audit"))). omega (arith, e)) is named
 
 name_of : {Z : Type 0} (sub : Option (Box SubCommand Z)) → option_map (λ (p : Text × List Row). p.0) (subcommand_rows sub) ≡ option_map (λ b. (out-SubCommand (box_value b)).name.now) sub
 name_of None = refl
@@ -336,5 +356,14 @@ name_found matches = name_of (out-ArgMatches matches).subcommand
 pub threads_given : (found : Option (Text × List Row)) (rows : List Row) → CanAskOther found → option_map (λ (p : Text × List Row). p.0) found ≡ Some (codes "threads") → option_map (λ (p : Text × List Row). p.1) found ≡ Some rows → CanBeGiven rows
 threads_given found rows can name is = elim can [
   | inl threads ↦ threads_rows found rows threads.0 threads.1 is threads.2
-  | inr audit ↦ absurd (not_audit found audit.0 audit.1 name)
+  | inr bare ↦ elim bare [
+    | inl audit ↦ absurd (not_audit found audit.0 audit.1 name)
+    | inr upgrade ↦ absurd (not_upgrade found upgrade.0 upgrade.1 name)
+  ]
+]
+
+pub audit_given : (found : Option (Text × List Row)) → CanAskBare found → option_map (λ (p : Text × List Row). p.0) found ≡ Some (codes "audit") → (rows : List Row) × (found ≡ Some (codes "audit", rows))
+audit_given found can name = elim can [
+  | inl audit ↦ audit
+  | inr upgrade ↦ absurd (upgrade_no_audit found upgrade.0 upgrade.1 name)
 ]

@@ -10,7 +10,7 @@ use Rattle.clap.specs.declared.error.kind.ErrorKind.{ErrorKind}
 use Rattle.clap.specs.declared.error.kind.ErrorKind.TheVariants.{OutOfMemory}
 use Rattle.std.specs.String.{string_bytes}
 use Rattle.tq_words.specs.declared.command.Words.{Words}
-use Rattle.tq_words.specs.declared.command.Words.TheVariants.{Shell, Threads, Audit}
+use Rattle.tq_words.specs.declared.command.Words.TheVariants.{Shell, Threads, Audit, Upgrade}
 use Rattle.tq_words.specs.declared.command.WordsFault.{WordsFault}
 use Rattle.tq_words.specs.declared.command.WordsFault.TheVariants.{Memory, Refused}
 
@@ -25,7 +25,7 @@ number_rule name least most is_required = record (new_rule name) {
 }
 
 abbrev pub levels_rule : Rule
-levels_rule = number_rule (codes "levels") 1 6 true
+levels_rule = number_rule (codes "levels") 1 10 true
 
 abbrev pub workers_rule : Rule
 workers_rule = number_rule (codes "workers") 0 2 false
@@ -45,13 +45,17 @@ threads_app = with_rule (with_rule (with_rule (new_app (codes "threads")) levels
 abbrev pub audit_app : App
 audit_app = new_app (codes "audit")
 
+-- `upgrade`, which has none either
+abbrev pub upgrade_app : App
+upgrade_app = new_app (codes "upgrade")
+
 -- the program without its subcommands, of which one is wanted
 abbrev pub top_app : App
 top_app = on_top (λ top. record top { has_version = true; disable_help_subcommand = true; subcommand_required = true }) (new_app (codes "tq"))
 
 -- the program's words: a subcommand with its options
 abbrev pub tq_app : App
-tq_app = with_subcommand (with_subcommand (with_subcommand top_app shell_app.top) threads_app.top) audit_app.top
+tq_app = with_subcommand (with_subcommand (with_subcommand (with_subcommand top_app shell_app.top) threads_app.top) audit_app.top) upgrade_app.top
 
 -- the number that was given under this name
 abbrev pub IsGiven : Text → List Row → ℕ → Type 0
@@ -81,23 +85,26 @@ AreGiven rows levels workers rounds =
 
 -- the options of `threads` are such that they can be read
 abbrev pub CanBeGiven : List Row → Type 0
-CanBeGiven rows = HasNumber (codes "levels") 1 6 rows × MayHaveNumber (codes "workers") 2 rows × MayHaveNumber (codes "rounds") 1000 rows
+CanBeGiven rows = HasNumber (codes "levels") 1 10 rows × MayHaveNumber (codes "workers") 2 rows × MayHaveNumber (codes "rounds") 1000 rows
 
 -- the subcommand that was found, with its options, asks for this
 abbrev pub AsksFor : Option (Text × List Row) → Words → Type 0
 AsksFor found (Shell levels) = (rows : List Row) × (found ≡ Some (codes "shell", rows)) × IsGiven (codes "levels") rows levels
 AsksFor found (Threads levels workers rounds) = (rows : List Row) × (found ≡ Some (codes "threads", rows)) × AreGiven rows levels workers rounds
 AsksFor found Audit = (rows : List Row) × (found ≡ Some (codes "audit", rows))
+AsksFor found Upgrade = (rows : List Row) × (found ≡ Some (codes "upgrade", rows))
+
+-- a subcommand that needs no options was found
+abbrev pub CanAskBare : Option (Text × List Row) → Type 0
+CanAskBare found = ((rows : List Row) × (found ≡ Some (codes "audit", rows))) ⊎ ((rows : List Row) × (found ≡ Some (codes "upgrade", rows)))
 
 -- a subcommand other than `shell` was found, with the options that it needs
 abbrev pub CanAskOther : Option (Text × List Row) → Type 0
-CanAskOther found =
-    ((rows : List Row) × (found ≡ Some (codes "threads", rows)) × CanBeGiven rows)
-    ⊎ ((rows : List Row) × (found ≡ Some (codes "audit", rows)))
+CanAskOther found = ((rows : List Row) × (found ≡ Some (codes "threads", rows)) × CanBeGiven rows) ⊎ CanAskBare found
 
 -- a subcommand of the program was found, with the options that it needs
 abbrev pub CanAsk : Option (Text × List Row) → Type 0
-CanAsk found = ((rows : List Row) × (found ≡ Some (codes "shell", rows)) × HasNumber (codes "levels") 1 6 rows) ⊎ CanAskOther found
+CanAsk found = ((rows : List Row) × (found ≡ Some (codes "shell", rows)) × HasNumber (codes "levels") 1 10 rows) ⊎ CanAskOther found
 
 abbrev pub texts_of : {Z : Type 0} → List (String Z) → List Text
 texts_of words = map string_bytes words

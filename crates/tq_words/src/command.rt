@@ -1,7 +1,7 @@
 ghost use Rattle.std.specs.Prelude.{◌≡◌, IfOk, false, codes};
 ghost use Rattle.clap.specs.Words.{app_of, found_of, new_app, rows_of, rule_of, with_rule, with_subcommand};
 ghost use Rattle.clap.specs.declared.builder.command.Command.TheViews.{out-Command};
-ghost use Rattle.tq_words.specs.Command.{HasNumber, IsGiven, IsGivenOrZero, MayHaveNumber, audit_app, levels_rule, rounds_rule, shell_app, threads_app, top_app, tq_app, workers_rule};
+ghost use Rattle.tq_words.specs.Command.{HasNumber, IsGiven, IsGivenOrZero, MayHaveNumber, audit_app, levels_rule, rounds_rule, shell_app, threads_app, top_app, tq_app, upgrade_app, workers_rule};
 
 use clap::error::ErrorKind;
 use clap::{Arg, ArgAction, ArgMatches, Command, Error};
@@ -24,6 +24,8 @@ pub enum Words {
     },
     /// A journal file is audited.
     Audit,
+    /// A journal file is written in the format of today.
+    Upgrade,
 }
 
 /// Why words ask for nothing.
@@ -65,7 +67,7 @@ impl From<Error> for WordsFault {
 impl Words {
     ghost use Rattle.std.specs.Prelude.{IfOk, IfErr};
     ghost use Rattle.clap.specs.Words.{subcommand_rows_of};
-    ghost use Rattle.tq_words.specs.Command.{AsksFor, CanAsk, CanAskOther, IsRead, IsRefused, texts_of};
+    ghost use Rattle.tq_words.specs.Command.{AsksFor, CanAsk, CanAskBare, CanAskOther, IsRead, IsRefused, texts_of};
 
     /// Reads the words, of which the first is the name of the program.
     pub fn read(alloc: Global, words: &[String]) -> Result<Words, WordsFault>
@@ -101,14 +103,25 @@ impl Words {
                 workers: workers_of(threads),
                 rounds: rounds_of(threads),
             },
-            None => Words::Audit,
+            None => Words::beside_threads(matches),
+        }
+    }
+
+    /// What a subcommand without options asks for.
+    fn beside_threads(matches: &ArgMatches) -> Words
+        requires { CanAskBare (subcommand_rows_of matches.now) }
+        ensures { AsksFor (subcommand_rows_of matches.now) result }
+    {
+        match matches.subcommand_matches("audit") {
+            Some(_) => Words::Audit,
+            None => Words::Upgrade,
         }
     }
 }
 
 /// The levels that a subcommand was given.
 fn levels_of(matches: &ArgMatches) -> Levels
-    requires { HasNumber (codes "levels") 1 6 (rows_of (found_of matches.now)) }
+    requires { HasNumber (codes "levels") 1 10 (rows_of (found_of matches.now)) }
     ensures { IsGiven (codes "levels") (rows_of (found_of matches.now)) result }
 {
     let Some(count) = matches.get_one::<u32>("levels") else {
@@ -139,6 +152,14 @@ fn rounds_of(matches: &ArgMatches) -> u32
 /// The program's words.
 fn tq_command<'a>(alloc: Global) -> Result<Command<'a>, AllocError>
     ensures { IfOk result (λ command. app_of command ≡ tq_app) }
+{
+    let command = command_with_audit(alloc)?;
+    command.subcommand(upgrade_command(alloc))
+}
+
+/// The program with the subcommands `shell`, `threads` and `audit`.
+fn command_with_audit<'a>(alloc: Global) -> Result<Command<'a>, AllocError>
+    ensures { IfOk result (λ command. app_of command ≡ with_subcommand (with_subcommand (with_subcommand top_app shell_app.top) threads_app.top) audit_app.top) }
 {
     let command = command_with_threads(alloc)?;
     command.subcommand(audit_command(alloc))
@@ -228,6 +249,18 @@ fn audit_command<'a>(alloc: Global) -> Command<'a>
         .after_long_help(AUDITS)
 }
 
+/// `upgrade`.
+fn upgrade_command<'a>(alloc: Global) -> Command<'a>
+    ensures app { app_of result ≡ upgrade_app }
+    ensures local { (out-Command result).has_globals ≡ false }
+{
+    Command::new(alloc, "upgrade")
+        .about("Reads a journal file of any format and writes it in the newest")
+        .override_usage("tq upgrade < FILE > NEW")
+        .after_help(SHORT_UPGRADES)
+        .after_long_help(UPGRADES)
+}
+
 fn levels_argument<'a>(alloc: Global) -> Arg<'a>
     ensures rule { rule_of result ≡ levels_rule }
     ensures local { result.global ≡ false }
@@ -235,10 +268,10 @@ fn levels_argument<'a>(alloc: Global) -> Arg<'a>
     Arg::new(alloc, "levels")
         .long("levels")
         .value_name("N")
-        .help("The levels of the tree, 1 to 6")
+        .help("The levels of the tree, 1 to 10")
         .required(true)
         .action(ArgAction::Set)
-        .value_parser(clap::value_parser!(u32).range(1..=6))
+        .value_parser(clap::value_parser!(u32).range(1..=10))
 }
 
 fn workers_argument<'a>(alloc: Global) -> Arg<'a>
@@ -331,11 +364,11 @@ Lines of the shell (T a transaction, F a file, S a server; C, R and W costs):
 
 Names and texts:
   A file name has 1 to 32 bytes of a-z 0-9 . _ -, the first of them a letter.
-  TEXT is all that follows the one space behind F, 0 to 1000 bytes from space
+  TEXT is all that follows the one space behind F, 0 to 4000 bytes from space
   to ~, and it may be empty. Words stand apart by one space; numbers have no
   sign and no leading zeros. An empty line answers nothing.
   bad line          the line is none of these, has another byte, or is longer
-                    than 1200 bytes; nothing was asked, the next line goes on
+                    than 4200 bytes; nothing was asked, the next line goes on
   A refusal ends its line, not the session: what was done before it stays.
 
 Lines are read from standard input, and each is answered as soon as it was read.
@@ -421,9 +454,10 @@ prints
 
 const AUDITS: &str = "\
 A journal file tells, as JSON, what each part of a system was asked and what it
-replied. One run explains it where each reply is the one that the part gives,
-and the asks can be put in one order so that each finds before it the entries
-of other parts that it cites. The file is read from standard input.
+replied, in format 2 or in the older format 1. One run explains it where each
+reply is the one that the part gives, and the asks can be put in one order so
+that each finds before it the entries of other parts that it cites. The file is
+read from standard input.
 
 Answers, in one line:
   explained E                 such an order exists, of all E entries
@@ -442,3 +476,38 @@ prints
 Status: 0 explained, 3 wrong or stuck, 4 unreadable, 1 after a fault, which is
 printed: fault memory, fault read, fault write, or fault too long (more than
 67108864 bytes); 2 where the words of the command are refused.";
+
+const SHORT_UPGRADES: &str = "\
+Writes the journals in format 2, as one line, with the status 0; a file of
+format 1 has one cost for each server, and its choices are for reading. Or:
+  unreadable                  4  it is no journal file
+  fault ..                    1  want of memory, a failed device, too long
+
+Example:
+  echo client | tq threads --levels 1 | tq upgrade | tq audit
+prints
+  explained 0";
+
+const UPGRADES: &str = "\
+Journal files are of format 1 or 2. Format 1 is that of older programs: a server
+has one cost, a tree up to 6 levels, a content up to 1000 bytes. The file is
+read from standard input, and its journals are written in format 2, as one line:
+a cost of format 1 becomes both costs, and a choice is for reading. A file of
+format 2 is written anew: without spaces, the members of each object in the
+order of their names, members of other names left out. Whether its replies are
+right is not judged: tq audit does that, for files of both formats.
+
+Answers, in one line:
+  {\"desk\":..                  the journals
+  unreadable                  it is no journal file
+
+Example:
+  printf 'client\\nbegin\\nwrite plan v1\\ncommit\\n' |
+    tq threads --levels 1 | tq upgrade | tq audit
+prints
+  explained 6
+
+Status: 0 written, 4 unreadable, 1 after a fault, which is printed: fault
+memory, fault read, fault write, or fault too long (more than 67108864 bytes);
+2 where the words of the command are refused. What is written may be longer
+than what was read, and then too long for tq audit.";

@@ -27,7 +27,8 @@ use Rattle.tq_store.specs.Names.{same_name}
 use Rattle.tq_desk.specs.DeskStep.{citation}
 use Rattle.tq_desk.specs.DeskStep as log
 use Rattle.tq_desk.specs.DeskJournal.{gives_verdict}
-use Rattle.tq_world.specs.Founded.{same_mode, same_lock, same_write, same_vote, same_verdict, cites, cites_votes, is_granted, is_voted, is_peeked, is_ended}
+use Rattle.tq_asks.specs.Same.{same_cited, same_verdict}
+use Rattle.tq_world.specs.Founded.{same_mode, same_lock, same_write, cites, cites_votes, is_granted, is_voted, is_peeked, is_ended}
 use Rattle.tq_store.proofs.SameName.{same_name-is}
 
 mode-is : (a b : Mode) → same_mode a b ≡ true → a ≡ b
@@ -70,7 +71,7 @@ write-is a b same =
     let content = same_name-is a.content b.content rest.1 in
     λ i. record { file = file i; version = version i; content = content i }
 
-vote-is : (a b : CitedVote) → same_vote a b ≡ true → a ≡ b
+vote-is : (a b : CitedVote) → same_cited a b ≡ true → a ≡ b
 vote-is a b same =
     let both = and_parts (a.server == b.server) (a.number == b.number) same in
     let server = eqb-true a.server b.server both.0 in
@@ -86,7 +87,7 @@ cites-is a b same =
 
 verdict-is : (a b : Verdict) → same_verdict a b ≡ true → a ≡ b
 verdict-is verdicts.Abort verdicts.Abort same = refl
-verdict-is (verdicts.Commit votes) (verdicts.Commit others) same = ap (λ v. verdicts.Commit v) (list-is same_vote vote-is votes others same)
+verdict-is (verdicts.Commit votes) (verdicts.Commit others) same = ap (λ v. verdicts.Commit v) (list-is same_cited vote-is votes others same)
 verdict-is verdicts.Abort (verdicts.Commit others) same = absurd (false≢true same)
 verdict-is (verdicts.Commit votes) verdicts.Abort same = absurd (false≢true same)
 

@@ -16,6 +16,7 @@ use Rattle.tq_asks.specs.declared.ask.Verdict.{Verdict}
 use Rattle.tq_asks.specs.declared.ask.Verdict.TheVariants as verdicts
 use Rattle.tq_asks.specs.declared.ask.WorkAsk.{WorkAsk}
 use Rattle.tq_asks.specs.declared.ask.WorkAsk.TheVariants as work
+use Rattle.tq_asks.specs.Same.{same_verdict}
 use Rattle.tq_desk.specs.declared.ask.DeskAsk.{DeskAsk}
 use Rattle.tq_desk.specs.declared.ask.DeskAsk.TheVariants as desk_asks
 use Rattle.tq_desk.specs.declared.ask.DeskRefusal.TheVariants as desk_refusals
@@ -42,14 +43,6 @@ same_lock a b = same_name a.file b.file && same_mode a.mode b.mode && a.since ==
 
 abbrev pub same_write : Write → Write → Bool
 same_write a b = same_name a.file b.file && a.version == b.version && same_name a.content b.content
-
-abbrev pub same_vote : CitedVote → CitedVote → Bool
-same_vote a b = a.server == b.server && a.number == b.number
-
-abbrev pub same_verdict : Verdict → Verdict → Bool
-same_verdict verdicts.Abort verdicts.Abort = true
-same_verdict (verdicts.Commit votes) (verdicts.Commit others) = pointwise same_vote votes others
-same_verdict a b = false
 
 -- the vote is cited by this server and number
 abbrev pub cites : CitedVote → Vote → Bool

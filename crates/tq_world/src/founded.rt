@@ -93,27 +93,14 @@ pub fn is_ended(entry: &DeskEntry, txn: u64, verdict: &Verdict) -> bool
         } => match &entry.reply {
             DeskReply::Committed { .. } => *asked == txn && cites_votes(verdict, votes.as_slice()),
             DeskReply::Refused(DeskRefusal::Decided(told)) => *asked == txn
-                && is_same_verdict(told, verdict),
+                && told.is_same(verdict),
             _ => false,
         },
         DeskAsk::Resolve { txn: asked } => match &entry.reply {
-            DeskReply::Verdict(told) => *asked == txn && is_same_verdict(told, verdict),
+            DeskReply::Verdict(told) => *asked == txn && told.is_same(verdict),
             _ => false,
         },
         DeskAsk::Begin => false,
-    }
-}
-
-/// Whether the two verdicts are the same: both aborts, or commits of the same votes in the same order.
-pub fn is_same_verdict(one: &Verdict, other: &Verdict) -> bool
-    ensures { result ≡ spec.same_verdict one.now other.now }
-{
-    match one {
-        Verdict::Abort => matches!(other, Verdict::Abort),
-        Verdict::Commit { votes } => match other {
-            Verdict::Abort => false,
-            Verdict::Commit { votes: others } => *votes == *others,
-        },
     }
 }
 

@@ -14,6 +14,6 @@ mod item;
 
 pub use answer::{Answer, Journal, Refusal, Reply, Step};
 pub use citation::Citation;
-pub use founded::{is_ended, is_granted, is_peeked, is_same_verdict, is_voted};
+pub use founded::{is_ended, is_granted, is_peeked, is_voted};
 pub use item::item_at;
 pub use tq_shape::Part;

@@ -6,7 +6,7 @@ use Rattle.hex.specs.Hex.{encode_lower}
 use Rattle.hex.proofs.HexLemmas.{decode_of-encode_lower}
 use Rattle.serde_json.specs.Data.{Data}
 use Rattle.tq_shape.specs.declared.entry.Entry.{Entry}
-use Rattle.tq_members.specs.Format.{two}
+use Rattle.tq_members.specs.declared.format.Format.TheVariants.{Two}
 use Rattle.tq_members.specs.Content.{name_of, content_of, decoded, short_enough}
 use Rattle.tq_members.specs.Member.{◌>>=◌, each, number_of}
 use Rattle.tq_form.specs.Entries.{entry, count, journal}
@@ -16,10 +16,10 @@ use Rattle.tq_written.specs.Sound.{IsFile, IsContent}
 pub name-again : (name : List ℕ) → IsFile name → name_of name ≡ Some name
 name-again name h = ap (λ b. cond b (Some name) None) h
 
-pub content-again : (bytes : List ℕ) → IsContent bytes → content_of two (encode_lower bytes) ≡ Some bytes
+pub content-again : (bytes : List ℕ) → IsContent bytes → content_of Two (encode_lower bytes) ≡ Some bytes
 content-again bytes h =
-    ap (λ r. decoded r >>= short_enough two) (decode_of-encode_lower bytes h.0)
-    ∙ ap (λ b. cond b (Some bytes) None) (le-leb (length bytes) 1000 h.1)
+    ap (λ r. decoded r >>= short_enough Two) (decode_of-encode_lower bytes h.0)
+    ∙ ap (λ b. cond b (Some bytes) None) (le-leb (length bytes) 4000 h.1)
 
 pub each-again : {A : Type 0} (form : Data → Option A) (value : A → Data) (P : A → Type 0) → ((x : A) → P x → form (value x) ≡ Some x)
     → (xs : List A) → AllByRecursion P xs → each form (listed value xs) ≡ Some xs

@@ -41,7 +41,7 @@ use Rattle.tq_live.specs.declared.view.ViewReply.{ViewReply}
 use Rattle.tq_live.specs.declared.view.ViewReply.TheVariants as view_reply
 use Rattle.tq_live.specs.declared.view.ViewRefusal.TheVariants as view_refusal
 use Rattle.tq_tables.specs.Journals.{ViewEntry, IsOfTree}
-use Rattle.tq_members.specs.Format.{two}
+use Rattle.tq_members.specs.declared.format.Format.TheVariants.{Two}
 use Rattle.tq_form.specs.Locking as locking
 use Rattle.tq_form.specs.NodeAsks as asks
 use Rattle.tq_form.specs.NodeReplies as replies
@@ -63,7 +63,7 @@ mode-again : (m : Mode) → locking.mode_of (mode_text m) ≡ Some m
 mode-again mode.Shared = refl
 mode-again mode.Exclusive = refl
 
-write-again : (write : Write) → IsWrite write → locking.write two (nodes.write_value write) ≡ Some write
+write-again : (write : Write) → IsWrite write → locking.write Two (nodes.write_value write) ≡ Some write
 write-again write h = rw (content-again write.content h.1, name-again write.file h.0)
 
 held-again : (lock : HeldLock) → IsHeldLock lock → locking.held_lock (nodes.held_value lock) ≡ Some lock
@@ -72,8 +72,8 @@ held-again lock h = rw (name-again lock.file h, mode-again lock.mode)
 cited-again : (vote : CitedVote) → IsAny vote → locking.citation (nodes.cited_value vote) ≡ Some vote
 cited-again vote h = refl
 
-writes-again : (writes : List Write) → AllByRecursion IsWrite writes → each (locking.write two) (listed nodes.write_value writes) ≡ Some writes
-writes-again writes h = each-again (locking.write two) nodes.write_value IsWrite write-again writes h
+writes-again : (writes : List Write) → AllByRecursion IsWrite writes → each (locking.write Two) (listed nodes.write_value writes) ≡ Some writes
+writes-again writes h = each-again (locking.write Two) nodes.write_value IsWrite write-again writes h
 
 locks-again : (held : List HeldLock) → AllByRecursion IsHeldLock held → each locking.held_lock (listed nodes.held_value held) ≡ Some held
 locks-again held h = each-again locking.held_lock nodes.held_value IsHeldLock held-again held h
@@ -85,7 +85,7 @@ verdict-again : (v : Verdict) → locking.verdict (nodes.verdict_value v) ≡ So
 verdict-again verdict.Abort = refl
 verdict-again (verdict.Commit votes) = rw (votes-again votes)
 
-work-again : (w : WorkAsk) → IsWork w → asks.work_at two (nodes.work_value w) ≡ Some w
+work-again : (w : WorkAsk) → IsWork w → asks.work_at Two (nodes.work_value w) ≡ Some w
 work-again (work.Lock txn file m) h = rw (name-again file h, mode-again m)
 work-again (work.Prepare txn writes) h = rw (writes-again writes h)
 work-again (work.Decide txn v cite) h = rw (verdict-again v)
@@ -93,7 +93,7 @@ work-again (work.Release txn) h = refl
 work-again (work.Peek file) h = rw (name-again file h)
 work-again (work.Refresh file version content from) h = rw (name-again file h.0, content-again content h.1)
 
-node-ask-again : (a : NodeAsk) → IsNodeAsk a → asks.node_ask two (nodes.node_ask_value a) ≡ Some a
+node-ask-again : (a : NodeAsk) → IsNodeAsk a → asks.node_ask Two (nodes.node_ask_value a) ≡ Some a
 node-ask-again (ask.Work (work.Lock txn file m)) h = rw (name-again file h, mode-again m)
 node-ask-again (ask.Work (work.Prepare txn writes)) h = rw (writes-again writes h)
 node-ask-again (ask.Work (work.Decide txn v cite)) h = rw (verdict-again v)
@@ -104,7 +104,7 @@ node-ask-again ask.Crash h = refl
 node-ask-again ask.Return h = refl
 node-ask-again (ask.CrashIn after a) h = rw (le-leb after 4294967295 h.1, work-again a h.0)
 
-node-refusal-again : (r : NodeRefusal) → IsNodeRefusal r → replies.node_reply two (nodes.node_refusal_value r) ≡ Some (reply.Refused r)
+node-refusal-again : (r : NodeRefusal) → IsNodeRefusal r → replies.node_reply Two (nodes.node_refusal_value r) ≡ Some (reply.Refused r)
 node-refusal-again refusal.Down h = refl
 node-refusal-again refusal.AlreadyUp h = refl
 node-refusal-again refusal.AlreadyDown h = refl
@@ -115,7 +115,7 @@ node-refusal-again refusal.BadWrites h = refl
 node-refusal-again refusal.NotNewer h = refl
 node-refusal-again refusal.NothingHere h = refl
 
-node-reply-again : (r : NodeReply) → IsNodeReply r → replies.node_reply two (nodes.node_reply_value r) ≡ Some r
+node-reply-again : (r : NodeReply) → IsNodeReply r → replies.node_reply Two (nodes.node_reply_value r) ≡ Some r
 node-reply-again (reply.Granted version content) h = rw (content-again content h)
 node-reply-again (reply.Yes held writes) h = rw (locks-again held h.0, writes-again writes h.1)
 node-reply-again reply.Installed h = refl
@@ -127,9 +127,9 @@ node-reply-again reply.Crashed h = refl
 node-reply-again reply.Returned h = refl
 node-reply-again (reply.Refused r) h = node-refusal-again r h
 
-pub node-entry-again : (entry : NodeEntry) → IsNodeEntry entry → node_entry two (nodes.node_entry_value entry) ≡ Some entry
+pub node-entry-again : (entry : NodeEntry) → IsNodeEntry entry → node_entry Two (nodes.node_entry_value entry) ≡ Some entry
 node-entry-again entry h =
-    entry-again (asks.node_ask two) (replies.node_reply two) nodes.node_ask_value nodes.node_reply_value entry (node-ask-again entry.ask h.0) (node-reply-again entry.reply h.1)
+    entry-again (asks.node_ask Two) (replies.node_reply Two) nodes.node_ask_value nodes.node_reply_value entry (node-ask-again entry.ask h.0) (node-reply-again entry.reply h.1)
 
 -- ---- the desk
 
@@ -137,25 +137,25 @@ kind-again : (k : OpKind) → commits.kind_of (desks.kind_text k) ≡ Some k
 kind-again op_kind.Read = refl
 kind-again op_kind.Write = refl
 
-grant-again : (grant : Grant) → IsGrant grant → commits.grant two (desks.grant_value grant) ≡ Some grant
+grant-again : (grant : Grant) → IsGrant grant → commits.grant Two (desks.grant_value grant) ≡ Some grant
 grant-again grant h = rw (mode-again grant.mode, content-again grant.content h)
 
-grants-again : (grants : List Grant) → AllByRecursion IsGrant grants → each (commits.grant two) (listed desks.grant_value grants) ≡ Some grants
-grants-again grants h = each-again (commits.grant two) desks.grant_value IsGrant grant-again grants h
+grants-again : (grants : List Grant) → AllByRecursion IsGrant grants → each (commits.grant Two) (listed desks.grant_value grants) ≡ Some grants
+grants-again grants h = each-again (commits.grant Two) desks.grant_value IsGrant grant-again grants h
 
-op-again : (op : Op) → IsOp op → commits.op two (desks.op_value op) ≡ Some op
+op-again : (op : Op) → IsOp op → commits.op Two (desks.op_value op) ≡ Some op
 op-again op h = rw (name-again op.file h.0, kind-again op.kind, content-again op.content h.1, grants-again op.grants h.2)
 
-vote-again : (vote : Vote) → IsVote vote → commits.vote two (desks.vote_value vote) ≡ Some vote
+vote-again : (vote : Vote) → IsVote vote → commits.vote Two (desks.vote_value vote) ≡ Some vote
 vote-again vote h = rw (locks-again vote.held h.0, writes-again vote.writes h.1)
 
-ops-again : (ops : List Op) → AllByRecursion IsOp ops → each (commits.op two) (listed desks.op_value ops) ≡ Some ops
-ops-again ops h = each-again (commits.op two) desks.op_value IsOp op-again ops h
+ops-again : (ops : List Op) → AllByRecursion IsOp ops → each (commits.op Two) (listed desks.op_value ops) ≡ Some ops
+ops-again ops h = each-again (commits.op Two) desks.op_value IsOp op-again ops h
 
-cast-votes-again : (votes : List Vote) → AllByRecursion IsVote votes → each (commits.vote two) (listed desks.vote_value votes) ≡ Some votes
-cast-votes-again votes h = each-again (commits.vote two) desks.vote_value IsVote vote-again votes h
+cast-votes-again : (votes : List Vote) → AllByRecursion IsVote votes → each (commits.vote Two) (listed desks.vote_value votes) ≡ Some votes
+cast-votes-again votes h = each-again (commits.vote Two) desks.vote_value IsVote vote-again votes h
 
-desk-ask-again : (a : DeskAsk) → IsDeskAsk a → desk_form.desk_ask two (desks.desk_ask_value a) ≡ Some a
+desk-ask-again : (a : DeskAsk) → IsDeskAsk a → desk_form.desk_ask Two (desks.desk_ask_value a) ≡ Some a
 desk-ask-again desk.Begin h = refl
 desk-ask-again (desk.Commit txn ops votes) h = rw (ops-again ops h.0, cast-votes-again votes h.1)
 desk-ask-again (desk.Resolve txn) h = refl
@@ -181,13 +181,13 @@ desk-reply-again (desk_reply.Verdict v) = rw (verdict-again v)
 desk-reply-again (desk_reply.Committed serial) = refl
 desk-reply-again (desk_reply.Refused r) = desk-refusal-again r
 
-pub desk-entry-again : (entry : DeskEntry) → IsDeskEntry entry → desk_entry two (desks.desk_entry_value entry) ≡ Some entry
+pub desk-entry-again : (entry : DeskEntry) → IsDeskEntry entry → desk_entry Two (desks.desk_entry_value entry) ≡ Some entry
 desk-entry-again entry h =
-    entry-again (desk_form.desk_ask two) desk_form.desk_reply desks.desk_ask_value desks.desk_reply_value entry (desk-ask-again entry.ask h.0) (desk-reply-again entry.reply)
+    entry-again (desk_form.desk_ask Two) desk_form.desk_reply desks.desk_ask_value desks.desk_reply_value entry (desk-ask-again entry.ask h.0) (desk-reply-again entry.reply)
 
 -- ---- the view
 
-view-ask-again : (a : ViewAsk) → view_form.view_ask (views.view_ask_value a) ≡ Some a
+view-ask-again : (a : ViewAsk) → view_form.view_ask Two (views.view_ask_value a) ≡ Some a
 view-ask-again (view.SetCost server read write) = refl
 view-ask-again (view.Mark server up) = refl
 view-ask-again (view.Choose purpose.Read) = refl
@@ -201,6 +201,6 @@ view-reply-again levels (view_reply.Refused view_refusal.NoSuchServer) h = refl
 view-reply-again levels (view_reply.Refused view_refusal.BadCost) h = refl
 view-reply-again levels (view_reply.Refused (view_refusal.Blocked blocker)) h = rw (numbers-again blocker.servers, sym h.1, h.0)
 
-pub view-entry-again : (levels : ℕ) (entry : ViewEntry) → IsViewEntry entry × IsOfTree levels entry.reply → view_entry levels (views.view_entry_value entry) ≡ Some entry
+pub view-entry-again : (levels : ℕ) (entry : ViewEntry) → IsViewEntry entry × IsOfTree levels entry.reply → view_entry Two levels (views.view_entry_value entry) ≡ Some entry
 view-entry-again levels entry h =
-    entry-again view_form.view_ask (view_form.view_reply levels) views.view_ask_value views.view_reply_value entry (view-ask-again entry.ask) (view-reply-again levels entry.reply (h.0.1, h.1))
+    entry-again (view_form.view_ask Two) (view_form.view_reply levels) views.view_ask_value views.view_reply_value entry (view-ask-again entry.ask) (view-reply-again levels entry.reply (h.0.1, h.1))

@@ -1,13 +1,14 @@
--- The journals of all parts of a system, as one value.
+-- The journals of all parts of a system, as one value of format 2.
 use Rattle.std.specs.Prelude.{codes}
 use Rattle.serde_json.specs.Data.{Data, object, member, no_members}
 use Rattle.tq_shape.specs.Limits.{LimitsView}
 use Rattle.tq_tables.specs.Journals.{JournalsView}
+use Rattle.tq_members.specs.declared.format.Format.TheVariants.{Two}
+use Rattle.tq_members.specs.Format.{format_number}
 use Rattle.tq_written.specs.Values.{whole, list_value}
 use Rattle.tq_written.specs.Nodes.{node_entry_value}
 use Rattle.tq_written.specs.Desks.{desk_entry_value}
 use Rattle.tq_written.specs.Views.{view_entry_value}
-use Rattle.tq_written.specs.declared.frame.TheConstants.{FORMAT}
 
 abbrev pub limits_value : LimitsView → Data
 limits_value limits =
@@ -18,7 +19,7 @@ limits_value limits =
 abbrev pub journals_value : JournalsView → Data
 journals_value journals =
     object (member (codes "desk") (list_value desk_entry_value journals.desk)
-    (member (codes "format") (whole FORMAT)
+    (member (codes "format") (whole (format_number Two))
     (member (codes "levels") (whole journals.levels)
     (member (codes "limits") (limits_value journals.limits)
     (member (codes "servers") (list_value (list_value node_entry_value) journals.servers)

@@ -38,7 +38,7 @@ abbrev pub IsFile : List ℕ → Type 0
 IsFile name = is_file_name name ≡ true
 
 abbrev pub IsContent : List ℕ → Type 0
-IsContent bytes = IsBytes bytes × (length bytes ≤ 1000)
+IsContent bytes = IsBytes bytes × (length bytes ≤ 4000)
 
 abbrev pub IsMember : ServerList → Type 0
 IsMember list = is_quorum list.levels list.servers ≡ true
@@ -124,7 +124,7 @@ abbrev pub HasLimits : LimitsView → Type 0
 HasLimits limits = AreLimits limits.files limits.ops limits.entries
 
 pub record AreSound (journals : JournalsView) : Type 0 where
-  pub levels : (1 ≤ journals.levels) × (journals.levels ≤ 6)
+  pub levels : (1 ≤ journals.levels) × (journals.levels ≤ 10)
   pub limits : HasLimits journals.limits
   pub fit : AreJournals journals
   pub servers : AllByRecursion (AllByRecursion IsNodeEntry) journals.servers

@@ -18,11 +18,9 @@ ghost use Rattle.tq_written.specs.Written.{Adds, spelled};
 use crate::formed::{Formed, close_member, open_member, put_list, put_member};
 use json::Writer;
 use std::alloc::Global;
+use tq_members::Format;
 use tq_shape::{Limits, Memory};
 use tq_tables::{Journals, NodeEntry};
-
-/// The number of the form that is written.
-pub const FORMAT: u64 = 2;
 
 impl Formed for Limits {
     ghost use Rattle.tq_written.specs.Form.{limits_value};
@@ -98,7 +96,7 @@ fn close_view(alloc: Global, out: &mut Writer<Global>, journals: &Journals) -> R
 fn put_levels(alloc: Global, out: &mut Writer<Global>, journals: &Journals) -> Result<(), Memory>
     ensures adds { Adds result out.old out.new (key (codes "levels") ∷ spelled (whole journals.now.levels)) }
     ensures fits { OnOk result (IsFitting (whole journals.now.levels)) }
-    ensures kept { OnOk result ((1 ≤ journals.now.levels) × (journals.now.levels ≤ 6)) }
+    ensures kept { OnOk result ((1 ≤ journals.now.levels) × (journals.now.levels ≤ 10)) }
 {
     put_member(alloc, out, "levels", &journals.levels().count())?;
     Ok(())
@@ -111,7 +109,7 @@ fn put_journals(alloc: Global, out: &mut Writer<Global>, journals: &Journals) ->
     ensures kept { OnOk result (AreSound journals.now) }
 {
     open_desk(alloc, out, journals)?;
-    put_member(alloc, out, "format", &FORMAT)?;
+    put_member(alloc, out, "format", &Format::Two.number())?;
     put_levels(alloc, out, journals)?;
     put_member(alloc, out, "limits", &journals.limits())?;
     put_servers(alloc, out, journals)?;
@@ -119,7 +117,7 @@ fn put_journals(alloc: Global, out: &mut Writer<Global>, journals: &Journals) ->
     Ok(())
 }
 
-/// The journals as JSON text with a line feed at its end: with no space, the members of each object in ascending order
+/// The journals as JSON text of format 2, with a line feed at its end: with no space, the members of each object in ascending order
 /// of their names, and contents in lower-case hexadecimal. Each number in it fits 64 bits. What is written is read as the
 /// same journals. Answers an error only where memory is refused; nothing has changed then.
 pub fn journals_to_json(alloc: Global, journals: &Journals) -> Result<String, Memory>

@@ -12,4 +12,4 @@ mod nodes;
 mod values;
 mod views;
 
-pub use frame::{FORMAT, journals_to_json};
+pub use frame::journals_to_json;

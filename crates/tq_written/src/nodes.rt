@@ -19,7 +19,7 @@ use json::Writer;
 use std::alloc::Global;
 use tq_asks::{CitedVote, HeldLock, NodeAsk, NodeRefusal, NodeReply, Verdict, WorkAsk};
 use tq_locks::Mode;
-use tq_shape::{Memory, Seq, SharedSeq};
+use tq_shape::{Memory, SharedSeq};
 use tq_store::{Content, FileName, Write};
 
 impl Formed for CitedVote {
@@ -69,7 +69,11 @@ impl Formed for HeldLock {
     }
 }
 
-fn put_commit(alloc: Global, out: &mut Writer<Global>, votes: &Seq<CitedVote>) -> Result<(), Memory>
+fn put_commit(
+    alloc: Global,
+    out: &mut Writer<Global>,
+    votes: &SharedSeq<CitedVote>,
+) -> Result<(), Memory>
     ensures adds { Adds result out.old out.new (spelled (verdict_value (Verdict.Commit votes.now))) }
     ensures fits { OnOk result (IsFitting (verdict_value (Verdict.Commit votes.now))) }
 {

@@ -202,11 +202,10 @@ fn column_of(here: Weight, left: Weight, right: Weight) -> Column
     requires right { IfSome right (λ w. w < 2 ^ 62) }
     ensures { result ≡ column_over here left right }
 {
-    let with_left = here.with(left);
-    let with_right = here.with(right);
+    let goes_right = right.is_less(left);
+    let side = if goes_right { right } else { left };
+    let one_side = here.with(side);
     let both = left.with(right);
-    let goes_right = with_right.is_less(with_left);
-    let one_side = if goes_right { with_right } else { with_left };
     let takes_both = both.is_less(one_side);
     let least = if takes_both { both } else { one_side };
     let form = form_taken(goes_right, takes_both);
@@ -233,16 +232,17 @@ fn form_taken(goes_right: bool, takes_both: bool) -> Form
 fn blocker_form(here: bool, left: bool, right: bool) -> Form
     ensures { result ≡ form_of (cond here None (Some 0)) (cond left None (Some 0)) (cond right None (Some 0)) }
 {
-    let top_alone = here && !left;
-    let left_alone = left && !here;
-    let without_right = if top_alone {
+    if right {
+        return Form::WithLeft;
+    }
+    if left {
+        return Form::WithRight;
+    }
+    if here {
         Form::BothSides
-    } else if left_alone {
-        Form::WithRight
     } else {
         Form::WithLeft
-    };
-    if right { Form::WithLeft } else { without_right }
+    }
 }
 
 /// The weight of a server, if it may be taken.

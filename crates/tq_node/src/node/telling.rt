@@ -31,11 +31,13 @@ impl Node {
     {
         match ask {
             NodeAsk::Work(work) => self.tell_work(alloc, number, work),
-            _ => self.tell_planned(alloc, number, ask),
+            NodeAsk::Crash => self.tell_crash(alloc, number),
+            NodeAsk::Return => self.tell_return(alloc, number),
+            NodeAsk::CrashIn { .. } => self.tell_planned(alloc, number, ask),
         }
     }
 
-    /// Plans the ask and makes the change.
+    /// Plans the ask and makes the change: a stop in the midst of an ask, which comes seldom.
     fn tell_planned(&mut self, alloc: Global, number: u64, ask: &NodeAsk) -> Result<Telling, Memory>
         requires { self.old.last < number }
         ensures entered { IfOk result (λ telling. telling.entered ≡ spec.node_reply self.old.server self.old.state ask.now) }
@@ -54,6 +56,53 @@ impl Node {
             entered: reply,
             told,
             raised,
+        })
+    }
+
+    /// Answers the ask to crash.
+    // Not compiled into `tell`, whose callers would grow by it: it comes seldom.
+    #[inline(never)]
+    fn tell_crash(&mut self, alloc: Global, number: u64) -> Result<Telling, Memory>
+        requires { self.old.last < number }
+        ensures entered { IfOk result (λ telling. telling.entered ≡ spec.node_reply self.old.server self.old.state NodeAsk.Crash) }
+        ensures told { IfOk result (λ telling. telling.told ≡ spec.node_reply self.old.server self.old.state NodeAsk.Crash) }
+        ensures after { OnOk result (self.new ≡ node.answered self.old number NodeAsk.Crash) }
+        ensures raised { IfOk result (λ telling. KeepsOthers (raised_files NodeAsk.Crash telling.raised) self.old.state.records.copies self.new.state.records.copies) }
+        ensures reached { IfOk result (λ telling. AreReached NodeAsk.Crash telling.raised self.new.state.records.copies) }
+        ensures err { OnErr result (self.new ≡ self.old) }
+    {
+        if self.down {
+            return self.tell_refusal(alloc, number, NodeRefusal::AlreadyDown);
+        }
+        self.crash(number);
+        self.note(number);
+        Ok(Telling {
+            entered: NodeReply::Crashed,
+            told: NodeReply::Crashed,
+            raised: Raised::nothing(),
+        })
+    }
+
+    /// Answers the ask to return.
+    #[inline(never)]
+    fn tell_return(&mut self, alloc: Global, number: u64) -> Result<Telling, Memory>
+        requires { self.old.last < number }
+        ensures entered { IfOk result (λ telling. telling.entered ≡ spec.node_reply self.old.server self.old.state NodeAsk.Return) }
+        ensures told { IfOk result (λ telling. telling.told ≡ spec.node_reply self.old.server self.old.state NodeAsk.Return) }
+        ensures after { OnOk result (self.new ≡ node.answered self.old number NodeAsk.Return) }
+        ensures raised { IfOk result (λ telling. KeepsOthers (raised_files NodeAsk.Return telling.raised) self.old.state.records.copies self.new.state.records.copies) }
+        ensures reached { IfOk result (λ telling. AreReached NodeAsk.Return telling.raised self.new.state.records.copies) }
+        ensures err { OnErr result (self.new ≡ self.old) }
+    {
+        if !self.down {
+            return self.tell_refusal(alloc, number, NodeRefusal::AlreadyUp);
+        }
+        self.come_back(number);
+        self.note(number);
+        Ok(Telling {
+            entered: NodeReply::Returned,
+            told: NodeReply::Returned,
+            raised: Raised::nothing(),
         })
     }
 

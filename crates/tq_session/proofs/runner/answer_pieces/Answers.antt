@@ -1,4 +1,4 @@
-use Rattle.std.proofs.Common.{◌≡◌, ◌≤◌, ◌-◌, length, take, drop, ◌∙◌, arith, rules}
+use Rattle.std.proofs.Common.{◌≡◌, ◌≤◌, ◌-◌, length, take, drop, refl, ◌∙◌, arith, rules}
 use Rattle.std.proofs.lemmas.List.{length-take-le}
 use Rattle.tq_devices.specs.declared.fault.RunFault.TheVariants.{Memory}
 use Rattle.tq_session.proofs.RunLaws.{by_fault, piece_splits, behind_some, ends_read, ends_memory, ends_last, ends_piece, goes_on, ends_too_long}
@@ -28,24 +28,15 @@ returns-then-count-eq0-clause-text g c =
     ends_last c.args.levels (given c.args.reader.now) (given c.loop-count.reader) (taken c.args.writer.now) (taken c.loop-count.writer) c.loop-count.receiver c.loop-count.left c.loop-count.invariant.going
     c.write_out.result (given c.read.new.self) (taken c.write_out.new.writer) c.as_slice.result.now _ _ bytes (c.as_slice.ensures.value ∙ text) c.write_out.ensures
 
-pub returns-in_err-receive-clause-text : goal.returns-in_err-receive-clause-text
-returns-in_err-receive-clause-text g c =
-    let given = g.R.Source.given in
-    let taken = g.W.Sink.taken in
-    by_fault c.from_residual-in_err-receive.result Memory c.args.levels _ _ _ _ (search rules)
-    (ends_memory c.args.levels (given c.args.reader.now) (given c.loop-count.reader) (taken c.args.writer.now) (taken c.loop-count.writer) c.loop-count.receiver c.loop-count.left c.loop-count.invariant.going
-    (given c.read.new.self) (take c.in-Ok.count c.read.new.buffer) c.in-Ok.ensures.bytes)
-
-pub returns-in_err-write_out-clause-text : goal.returns-in_err-write_out-clause-text
-returns-in_err-write_out-clause-text g c =
+pub returns-in_err-answer_piece-clause-text : goal.returns-in_err-answer_piece-clause-text
+returns-in_err-answer_piece-clause-text g c =
     let given = g.R.Source.given in
     let taken = g.W.Sink.taken in
     let split = piece_splits c.min.result c.in-Ok.count c.read.new.buffer (omega (arith, c.min.ensures)) in
     let bytes = rw split at c.in-Ok.ensures.bytes in
-    let text = rw c.loop-count.invariant.none at c.in_ok-receive.ensures.text in
-    by_fault c.from_residual-in_err-write_out.result c.in_err-write_out.field-0.0 c.args.levels _ _ _ _ (search rules)
+    by_fault c.from_residual-in_err-answer_piece.result c.in_err-answer_piece.field-0.0 c.args.levels _ _ _ _ (search rules)
     (ends_piece c.args.levels (given c.args.reader.now) (given c.loop-count.reader) (taken c.args.writer.now) (taken c.loop-count.writer) c.loop-count.receiver c.loop-count.left c.loop-count.invariant.going
-    c.in_err-write_out.field-0.0 (given c.read.new.self) (taken c.write_out-in-loop-count.new.writer) (take c.min.result c.read.new.buffer) _ c.as_slice-in-loop-count.result.now _ _ bytes (c.as_slice-in-loop-count.ensures.value ∙ text) c.in_err-write_out.ensures)
+    c.in_err-answer_piece.field-0.0 (given c.read.new.self) (taken c.answer_piece.new.writer) (take c.min.result c.read.new.buffer) _ _ _ bytes c.in_err-answer_piece.ensures.wrote)
 
 pub returns-then-count-left-clause-text : goal.returns-then-count-left-clause-text
 returns-then-count-left-clause-text g c =
@@ -55,10 +46,9 @@ returns-then-count-left-clause-text g c =
     let all : c.in-Ok.count ≤ length c.read.new.buffer = c.in-Ok.ensures.within in
     let split = piece_splits c.min.result c.in-Ok.count c.read.new.buffer (omega (arith, within, c.if-count-left.true)) in
     let bytes = rw split at c.in-Ok.ensures.bytes in
-    let text = rw c.loop-count.invariant.none at c.in_ok-receive.ensures.text in
     let front = length-take-le c.min.result c.read.new.buffer (omega (arith, within, all, c.if-count-left.true)) in
     ends_too_long c.args.levels (given c.args.reader.now) (given c.loop-count.reader) (taken c.args.writer.now) (taken c.loop-count.writer) c.loop-count.receiver c.loop-count.left c.loop-count.invariant.going
-    (given c.read.new.self) (taken c.write_out-in-loop-count.new.writer) (take c.min.result c.read.new.buffer) (take (c.in-Ok.count - c.min.result) (drop c.min.result c.read.new.buffer)) c.as_slice-in-loop-count.result.now bytes (c.as_slice-in-loop-count.ensures.value ∙ text) c.in_ok-write_out.ensures.0
+    (given c.read.new.self) (taken c.answer_piece.new.writer) (take c.min.result c.read.new.buffer) (take (c.in-Ok.count - c.min.result) (drop c.min.result c.read.new.buffer)) _ bytes refl c.in_ok-answer_piece.ensures.wrote.0
     (front ∙ within) (behind_some c.min.result c.in-Ok.count c.read.new.buffer (omega (arith, within, c.if-count-left.true)) all)
 
 pub loop-count-preserved : goal.loop-count-preserved
@@ -68,13 +58,12 @@ loop-count-preserved g c =
     let within : c.min.result ≡ c.in-Ok.count = omega (arith, c.min.ensures, c.if-count-left.false) in
     let all : c.in-Ok.count ≤ length c.read.new.buffer = c.in-Ok.ensures.within in
     let bytes = rw (← within) at c.in-Ok.ensures.bytes in
-    let text = rw c.loop-count.invariant.none at c.in_ok-receive.ensures.text in
     let front = length-take-le c.min.result c.read.new.buffer (omega (arith, within, all)) in
     record {
       going = goes_on c.args.levels (given c.args.reader.now) (given c.loop-count.reader) (taken c.args.writer.now) (taken c.loop-count.writer) c.loop-count.receiver c.loop-count.left c.loop-count.invariant.going
-          (given c.read.new.self) (taken c.write_out-in-loop-count.new.writer) (take c.min.result c.read.new.buffer) c.as_slice-in-loop-count.result.now c.receive.new.self (c.loop-count.left - c.in-Ok.count)
-          bytes (c.as_slice-in-loop-count.ensures.value ∙ text) c.in_ok-receive.ensures.after c.in_ok-write_out.ensures.0 (omega (arith, front, within, c.if-count-left.false));
-      none = c.clear.ensures.items;
+          (given c.read.new.self) (taken c.answer_piece.new.writer) (take c.min.result c.read.new.buffer) _ c.answer_piece.new.receiver (c.loop-count.left - c.in-Ok.count)
+          bytes refl c.in_ok-answer_piece.ensures.after c.in_ok-answer_piece.ensures.wrote.0 (omega (arith, front, within, c.if-count-left.false));
+      none = c.in_ok-answer_piece.ensures.none;
       reads = c.in-Ok.ensures.counts ∙ c.loop-count.invariant.reads;
-      writes = c.in_ok-write_out.ensures.1 ∙ c.loop-count.invariant.writes;
+      writes = c.in_ok-answer_piece.ensures.wrote.1 ∙ c.loop-count.invariant.writes;
     }

@@ -1,9 +1,9 @@
 use Rattle.std.specs.Prelude.{IfOk}
-use Rattle.std.proofs.Common.{◌≡◌, ◌+◌, ◌<◌, ◌^◌, ℕ, ap, sym, subst, ◌∙◌}
+use Rattle.std.proofs.Common.{◌≡◌, true, ◌+◌, ◌<◌, ◌^◌, ℕ, ap, sym, subst, ◌∙◌}
 use Rattle.tq_tables.specs.Parts.{AreOfTree}
-use Rattle.tq_tables.specs.Rows.{row_at}
+use Rattle.tq_tables.specs.Rows.{row_at, servers_where}
 use Rattle.tq_tables.specs.declared.file_row.FileRow.{FileRow}
-use Rattle.tq_tables.proofs.Kept.{exact-found, version-none, version-some}
+use Rattle.tq_tables.proofs.Kept.{exact-found, no_row, version-none, version-some}
 use Rattle.tq_tables.proofs.file_rows.next_row.Goals as goal
 
 pub of_next_commit-requires-clause-of_tree : goal.of_next_commit-requires-clause-of_tree
@@ -29,9 +29,24 @@ returns-in-Some c =
     (λ i. row_at (levels i) c.args.nodes.now (found.1 i) (version i + 1))
     c.of_next_commit.ensures
 
+pub first_row-requires-clause-of_tree : goal.first_row-requires-clause-of_tree
+first_row-requires-clause-of_tree c = subst (λ (levels : ℕ). AreOfTree levels 1 c.args.nodes.now) (sym c.levels.ensures) c.requires.of_tree
+
+pub first_row-requires-clause-early : goal.first_row-requires-clause-early
+first_row-requires-clause-early c = c.requires.holders.levels_are ∙ sym c.levels.ensures
+
+pub first_row-requires-clause-within : goal.first_row-requires-clause-within
+first_row-requires-clause-within c = c.requires.holders.within
+
+pub first_row-requires-clause-all : goal.first_row-requires-clause-all
+first_row-requires-clause-all c = c.requires.holders.all ∙ ap (λ (levels : ℕ). servers_where levels (λ node. true) c.args.nodes.now) (sym c.levels.ensures)
+
+pub first_row-requires-clause-others : goal.first_row-requires-clause-others
+first_row-requires-clause-others c = c.requires.holders.others c.args.file.now (no_row c.args.file.now c.args.table.now.rows (sym c.in-None.ensures))
+
 pub returns-in-None : goal.returns-in-None
 returns-in-None c =
     let version = version-none c.args.file.now c.args.table.now.rows (sym c.in-None.ensures) in
-    subst (λ (target : FileRow). IfOk c.file_row.result (λ row. row ≡ target))
+    subst (λ (target : FileRow). IfOk c.first_row.result (λ row. row ≡ target))
     (λ i. row_at (c.levels.ensures i) c.args.nodes.now c.args.file.now (version i + 1))
-    c.file_row.ensures
+    c.first_row.ensures

@@ -4,4 +4,4 @@ use Rattle.tq_prefixes.specs.Kept.{AreKept}
 use Rattle.tq_prefixes.proofs.prefixes.Prefixes.kept.Goals as goal
 
 pub returns : goal.returns
-returns c = subst (λ (w : JournalsView). AreKept c.self.inside.tables w) c.self.view_is c.self.invariant
+returns c = subst (λ (w : JournalsView). AreKept c.self.inside.tables w) c.self.view_is c.self.invariant.0

@@ -1,21 +1,18 @@
 use Rattle.std.proofs.Common.{◌≡◌, ◌∙◌, ◌++◌, length, ap, arith}
 use Rattle.tq_lines.specs.Line.{line_of}
-use Rattle.tq_lines.specs.Word.{without_return}
 use Rattle.tq_answering.specs.Answer.{answer}
-use Rattle.tq_session.proofs.Pieces.{kept-whole, no-bytes}
+use Rattle.tq_session.proofs.Pieces.{line-whole, no-bytes}
 use Rattle.tq_session.proofs.receiver.Receiver.end_line.Goals as goal
 
 pub returns-then-is_empty-clause-text : goal.returns-then-is_empty-clause-text
 returns-then-is_empty-clause-text c =
     let none : length c.self.inside.line.items ≡ 0 = grind arith in
-    let whole = kept-whole c.self.inside.line.items c.args.bytes.now c.min.result none (omega (arith, c.min.ensures)) (λ less. omega (arith, c.min.ensures, less)) in
-    let line = c.in_ok-line.ensures ∙ ap line_of (c.without_return.ensures ∙ ap without_return whole) in
-    rw (← c.self.view_is) (c.in_ok-answer.ensures.text ∙ ap (λ line. c.args.text.now.items ++ (answer c.self.inside.shell line).text) line)
+    let line = c.in_ok-line.ensures ∙ ap line_of c.without_return.ensures ∙ line-whole c.self.inside.line.items c.args.bytes.now none in
+    rw (← c.self.view_is) (c.in_ok-push_answer.ensures.text ∙ ap (λ line. c.args.text.now.items ++ (answer c.self.inside.shell line).text) line)
 
 pub returns-then-is_empty-clause-after : goal.returns-then-is_empty-clause-after
 returns-then-is_empty-clause-after c =
     let none : length c.self.inside.line.items ≡ 0 = grind arith in
-    let whole = kept-whole c.self.inside.line.items c.args.bytes.now c.min.result none (omega (arith, c.min.ensures)) (λ less. omega (arith, c.min.ensures, less)) in
-    let line = c.in_ok-line.ensures ∙ ap line_of (c.without_return.ensures ∙ ap without_return whole) in
-    let after = c.in_ok-answer.ensures.after ∙ ap (λ line. (answer c.self.inside.shell line).after) line in
+    let line = c.in_ok-line.ensures ∙ ap line_of c.without_return.ensures ∙ line-whole c.self.inside.line.items c.args.bytes.now none in
+    let after = c.in_ok-push_answer.ensures.after ∙ ap (λ line. (answer c.self.inside.shell line).after) line in
     rw (← c.self.view_is) (λ i. record { world = after i; line = no-bytes c.self.inside.line.items none i })

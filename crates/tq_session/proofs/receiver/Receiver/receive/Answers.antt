@@ -1,7 +1,7 @@
-use Rattle.std.proofs.Common.{◌≡◌, ◌∙◌, ◌+◌, ◌-◌, ◌++◌, length, take, drop, sym, ap, arith, append_assoc}
+use Rattle.std.proofs.Common.{◌≡◌, ◌∙◌, ◌+◌, ◌-◌, length, take, drop, arith}
 use Rattle.std.proofs.lemmas.Bool.{eqb-true}
-use Rattle.std.proofs.lemmas.List.{append-nil, take_all, length-drop}
-use Rattle.tq_session.proofs.Pieces.{received-rest, answers-rest, received-ends, answers-end}
+use Rattle.std.proofs.lemmas.List.{take_all, length-drop}
+use Rattle.tq_session.proofs.Pieces.{no-feed, line-parts, receiving-whole, receiving-all-text, receiving-all-after, receiving-all-taken, receiving-on, receiving-full-text, receiving-full-after, receiving-full-taken}
 use Rattle.tq_session.proofs.receiver.Receiver.receive.Goals as goal
 
 pub overflow_add-left : goal.overflow_add-left
@@ -9,29 +9,85 @@ overflow_add-left c = omega (arith, c.in-Some.ensures.0.high, c.loop-place.invar
 
 pub loop-place-preserved : goal.loop-place-preserved
 loop-place-preserved c =
-    let now = c.loop-place.self in
     let left = c.loop-place.left.now in
     let place = c.in-Some.place in
-    let few = c.loop-place.invariant.few in
-    let first = c.in-Some.ensures in
-    let is = eqb-true _ _ first.1 in
+    let found = c.in-Some.ensures in
     let size = length-drop (place + 1) left in
     let rest : take (length left - (place + 1)) (drop (place + 1) left) ≡ drop (place + 1) left = take_all _ (drop (place + 1) left) (omega (arith, size)) in
-    let said = c.in_ok-end_line.ensures.text in
-    rw (c.in_ok-end_line.ensures.after, said, rest) record {
+    rw (c.in_ok-end_line.ensures.after, rest) record {
       few = omega arith;
       within = omega (arith, size, c.loop-place.invariant.within);
-      text = append_assoc c.loop-place.text.items _ _ ∙ ap (λ text. c.loop-place.text.items ++ text) (sym (answers-end now left few place first.0.high first.0.before is)) ∙ c.loop-place.invariant.text;
-      after = sym (received-ends now left few place first.0.high first.0.before is) ∙ c.loop-place.invariant.after;
+      going = receiving-on _ _ _ c.loop-place.self c.loop-place.text.items left c.loop-place.invariant.going c.loop-place.invariant.few
+          (take place left) (drop (place + 1) left) (line-parts left place found.0.high (eqb-true _ _ found.1)) (no-feed left place found.0.before)
+          _ c.in_ok-end_line.ensures.text (omega (arith, c.if-len-ge-FLUSH_AT.false, c.len.ensures));
     }
+
+pub returns-then-len-ge-FLUSH_AT-clause-taken : goal.returns-then-len-ge-FLUSH_AT-clause-taken
+returns-then-len-ge-FLUSH_AT-clause-taken c =
+    let left = c.loop-place.left.now in
+    let place = c.in-Some.place in
+    let found = c.in-Some.ensures in
+    let size = length-drop (place + 1) left in
+    let rest : take (length left - (place + 1)) (drop (place + 1) left) ≡ drop (place + 1) left = take_all _ (drop (place + 1) left) (omega (arith, size)) in
+    rw rest (receiving-full-taken _ _ _ c.loop-place.self c.loop-place.text.items left c.loop-place.invariant.going c.loop-place.invariant.few
+    (take place left) (drop (place + 1) left) (line-parts left place found.0.high (eqb-true _ _ found.1)) (no-feed left place found.0.before)
+    _ c.in_ok-end_line.ensures.text (omega (arith, c.if-len-ge-FLUSH_AT.true, c.len.ensures)))
+
+pub returns-then-len-ge-FLUSH_AT-clause-text : goal.returns-then-len-ge-FLUSH_AT-clause-text
+returns-then-len-ge-FLUSH_AT-clause-text c =
+    let left = c.loop-place.left.now in
+    let place = c.in-Some.place in
+    let found = c.in-Some.ensures in
+    let size = length-drop (place + 1) left in
+    let rest : take (length left - (place + 1)) (drop (place + 1) left) ≡ drop (place + 1) left = take_all _ (drop (place + 1) left) (omega (arith, size)) in
+    rw rest (receiving-full-text _ _ _ c.loop-place.self c.loop-place.text.items left c.loop-place.invariant.going c.loop-place.invariant.few
+    (take place left) (drop (place + 1) left) (line-parts left place found.0.high (eqb-true _ _ found.1)) (no-feed left place found.0.before)
+    _ c.in_ok-end_line.ensures.text)
+
+pub returns-then-len-ge-FLUSH_AT-clause-after : goal.returns-then-len-ge-FLUSH_AT-clause-after
+returns-then-len-ge-FLUSH_AT-clause-after c =
+    let left = c.loop-place.left.now in
+    let place = c.in-Some.place in
+    let found = c.in-Some.ensures in
+    let size = length-drop (place + 1) left in
+    let rest : take (length left - (place + 1)) (drop (place + 1) left) ≡ drop (place + 1) left = take_all _ (drop (place + 1) left) (omega (arith, size)) in
+    rw rest (c.in_ok-end_line.ensures.after ∙ receiving-full-after _ _ _ c.loop-place.self c.loop-place.text.items left c.loop-place.invariant.going c.loop-place.invariant.few
+    (take place left) (drop (place + 1) left) (line-parts left place found.0.high (eqb-true _ _ found.1)) (no-feed left place found.0.before)
+    _ c.in_ok-end_line.ensures.text)
+
+pub returns-then-len-ge-FLUSH_AT-clause-whole : goal.returns-then-len-ge-FLUSH_AT-clause-whole
+returns-then-len-ge-FLUSH_AT-clause-whole c =
+    let left = c.loop-place.left.now in
+    let place = c.in-Some.place in
+    let found = c.in-Some.ensures in (
+      _,
+      receiving-full-text _ _ _ c.loop-place.self c.loop-place.text.items left c.loop-place.invariant.going c.loop-place.invariant.few
+          (take place left) (drop (place + 1) left) (line-parts left place found.0.high (eqb-true _ _ found.1)) (no-feed left place found.0.before)
+          _ c.in_ok-end_line.ensures.text,
+    )
+
+pub returns-in_err-end_line-clause-whole : goal.returns-in_err-end_line-clause-whole
+returns-in_err-end_line-clause-whole c =
+    let whole = receiving-whole _ _ _ c.loop-place.self c.loop-place.text.items c.loop-place.left.now c.loop-place.invariant.going in
+    (whole.0, c.in_err-end_line.ensures.kept ∙ whole.1)
+
+pub returns-in_err-keep-clause-whole : goal.returns-in_err-keep-clause-whole
+returns-in_err-keep-clause-whole c = receiving-whole _ _ _ c.loop-place.self c.loop-place.text.items c.loop-place.left.now c.loop-place.invariant.going
+
+pub returns-clause-taken : goal.returns-clause-taken
+returns-clause-taken c =
+    receiving-all-taken _ _ _ c.loop-place.self c.loop-place.text.items c.loop-place.left.now c.loop-place.invariant.going c.loop-place.invariant.few c.in_default.ensures
 
 pub returns-clause-text : goal.returns-clause-text
 returns-clause-text c =
-    let none = c.in_default.ensures in
-    let text = c.loop-place.text.items in
-    sym (append-nil text) ∙ ap (λ more. text ++ more) (sym (answers-rest c.loop-place.self c.loop-place.left.now c.loop-place.invariant.few none)) ∙ c.loop-place.invariant.text
+    receiving-all-text _ _ _ c.loop-place.self c.loop-place.text.items c.loop-place.left.now c.loop-place.invariant.going c.loop-place.invariant.few c.in_default.ensures
 
 pub returns-clause-after : goal.returns-clause-after
 returns-clause-after c =
-    let none = c.in_default.ensures in
-    c.in_ok-keep.ensures ∙ sym (received-rest c.loop-place.self c.loop-place.left.now c.loop-place.invariant.few none) ∙ c.loop-place.invariant.after
+    c.in_ok-keep.ensures ∙ receiving-all-after _ _ _ c.loop-place.self c.loop-place.text.items c.loop-place.left.now c.loop-place.invariant.going c.loop-place.invariant.few c.in_default.ensures
+
+pub returns-clause-whole : goal.returns-clause-whole
+returns-clause-whole c = (
+  _,
+  receiving-all-text _ _ _ c.loop-place.self c.loop-place.text.items c.loop-place.left.now c.loop-place.invariant.going c.loop-place.invariant.few c.in_default.ensures,
+)

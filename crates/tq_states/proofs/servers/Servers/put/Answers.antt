@@ -3,7 +3,7 @@ use Rattle.std.proofs.lemmas.Bool.{eq-eqb}
 use Rattle.tq_shape.specs.Tree.{Server}
 use Rattle.tq_coterie.specs.Coterie.{has, numbers_of}
 use Rattle.tq_states.specs.Sets.{RoomySet}
-use Rattle.tq_states.proofs.NumberSets.{has-map, map-put, rises-with_server, put_above}
+use Rattle.tq_states.proofs.NumberSets.{has-map, map-put, rises-with_server, none_below, put_above}
 use Rattle.tq_states.proofs.Puts.{list_all-put}
 use Rattle.tq_states.proofs.servers.Servers.put.Goals as goal
 
@@ -11,17 +11,19 @@ pub invariant_of-self : goal.invariant_of-self
 invariant_of-self c =
     let number = c.args.server.number in
     let above = rw (c.number.ensures.value, c.as_slice.ensures) at c.is_above.ensures c.if-is_above.true in
-    let last = put_above c.self.inside.ids.items c.args.server above in
-    rw (c.push_reserved.ensures.items, last.1) record {
-      rise = rw (map-put (λ (id : Server). id.number) c.args.server c.self.inside.ids.items) (rises-with_server number (numbers_of c.self.inside.ids.items) last.0 c.self.invariant.rise);
+    let last = put_above (λ (id : Server). id.number) c.args.server c.self.inside.ids.items above in
+    let new = has-map (λ (id : Server). id.number) c.self.inside.ids.items number ∙ none_below (λ (id : Server). id.number) number c.self.inside.ids.items above in
+    rw (c.push_reserved.ensures.items, last) record {
+      rise = rw (map-put (λ (id : Server). id.number) c.args.server c.self.inside.ids.items) (rises-with_server number (numbers_of c.self.inside.ids.items) new c.self.invariant.rise);
       tree = list_all-put (λ (id : Server). nat_lt number id.number) (λ (id : Server). id.levels == c.self.inside.levels) c.args.server c.self.inside.ids.items (eq-eqb _ _ (c.requires.tree ∙ ap (λ (s : RoomySet). s.levels) (sym c.self.view_is))) c.self.invariant.tree;
     }
 
 pub returns-then-is_above-clause-servers : goal.returns-then-is_above-clause-servers
 returns-then-is_above-clause-servers c =
     let above = rw (c.number.ensures.value, c.as_slice.ensures) at c.is_above.ensures c.if-is_above.true in
-    let last = put_above c.self.inside.ids.items c.args.server above in
-    rw (← c.self.view_is, c.push_reserved.ensures.items, last.1, last.0) (map-put (λ (id : Server). id.number) c.args.server c.self.inside.ids.items)
+    let last = put_above (λ (id : Server). id.number) c.args.server c.self.inside.ids.items above in
+    let new = has-map (λ (id : Server). id.number) c.self.inside.ids.items c.args.server.number ∙ none_below (λ (id : Server). id.number) c.args.server.number c.self.inside.ids.items above in
+    rw (← c.self.view_is, c.push_reserved.ensures.items, last, new) (map-put (λ (id : Server). id.number) c.args.server c.self.inside.ids.items)
 
 pub returns-then-has_number-clause-servers : goal.returns-then-has_number-clause-servers
 returns-then-has_number-clause-servers c =
@@ -48,3 +50,6 @@ returns-clause-servers c =
     has-map (λ (id : Server). id.number) c.self.inside.ids.items number
     ∙ sym (rw (c.number-2.ensures.value, c.as_slice-2.ensures) at c.has_number.ensures) ∙ c.if-has_number.false in
     rw (← c.self.view_is, c.put_in_order.ensures.items, new) (map-put (λ (id : Server). id.number) c.args.server c.self.inside.ids.items)
+
+pub put_in_order-requires-clause-absent : goal.put_in_order-requires-clause-absent
+put_in_order-requires-clause-absent c = sym (rw (c.number-2.ensures.value, c.as_slice-2.ensures) at c.has_number.ensures) ∙ c.if-has_number.false

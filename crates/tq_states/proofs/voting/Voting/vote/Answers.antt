@@ -1,27 +1,41 @@
-use Rattle.std.proofs.Common.{◌≡◌, ◌∙◌, List, true, sym, ap}
-use Rattle.std.specs.Option.{option_copied}
-use Rattle.tq_evidence.specs.declared.op.Op.{Op}
-use Rattle.tq_evidence.specs.Evidence.{is_server_of, are_quorums, are_writes_at}
-use Rattle.tq_states.specs.Voting.{lost, writes_in}
-use Rattle.tq_states.proofs.GoodVotes.{none_lost}
-use Rattle.tq_states.proofs.OneGrant.{quorums-order}
-use Rattle.tq_states.proofs.CitedLaws.{vote_cited}
+use Rattle.std.proofs.Common.{◌≡◌, ◌++◌, ◌∷◌, [], List, None, Some, sym, subst}
+use Rattle.std.specs.Prelude.{IfErr, IfOk, OnErr, OnOk}
+use Rattle.tq_states.specs.declared.told.NodeTold.{NodeTold}
+use Rattle.tq_states.specs.Cited.{VotesOnly}
+use Rattle.tq_states.specs.Voting.{VotingView, IsVoting, KeepsVotes, vote_after, vote_fault}
+use Rattle.tq_states.proofs.CastLaws.{comes_if}
 use Rattle.tq_states.proofs.voting.Voting.vote.Goals as goal
 
-pub lost-requires : goal.lost-requires
-lost-requires c = quorums-order c.self.inside.txn.levels c.ops-ops.result.now (ap (are_quorums c.self.inside.txn.levels) c.ops-ops.ensures.value ∙ c.ops-ops.ensures.good.quorums)
+pub vote_in-requires-clause-good : goal.vote_in-requires-clause-good
+vote_in-requires-clause-good c = subst IsVoting (sym c.in_ok-ballots.ensures.value) c.in_ok-ballots.ensures.good
 
-pub put-requires : goal.put-requires
-put-requires c =
-    let vote = c.in-Some-2.vote in
-    let ops = c.ops-ops.ensures.value in
-    let server : vote.server ≡ c.args.told.now.server = rw c.in-Some-2.is at c.in_ok-vote.ensures.server in
-    let voter : is_server_of c.self.inside.txn.ops c.args.told.now.server ≡ true = ap (λ (list : List Op). is_server_of list c.args.told.now.server) (sym ops) ∙ sym c.in-Some.ensures in
-    let none = ap (λ (list : List Op). lost list vote) (sym ops) ∙ sym c.lost.ensures ∙ ap option_copied c.in_default-lost.is in
-    let writes = (λ i. are_writes_at vote.server (sym c.as_slice.ensures i) (writes_in (sym ops i))) ∙ sym c.are_writes_at.ensures ∙ c.if-not-are_writes_at.false in
-    rw (← c.self.view_is) record { voter = rw server voter; covered = none_lost c.self.inside.txn.ops vote none; writes = writes }
+pub returns-clause-succeeds : goal.returns-clause-succeeds
+returns-clause-succeeds c =
+    let P : VotingView → NodeTold → Type 0 = λ v t. IfOk c.vote_in.result (λ done. vote_fault v t ≡ None) in
+    subst (P c.args.self.now) c.in_ok-answer.ensures (subst (λ (v : VotingView). P v c.in_ok-answer.answer) c.in_ok-ballots.ensures.value c.vote_in.ensures.succeeds)
+
+pub returns-clause-after : goal.returns-clause-after
+returns-clause-after c =
+    let P : VotingView → NodeTold → Type 0 = λ v t. OnOk c.vote_in.result (c.vote_in.new.self ≡ vote_after v t) in
+    subst (P c.args.self.now) c.in_ok-answer.ensures (subst (λ (v : VotingView). P v c.in_ok-answer.answer) c.in_ok-ballots.ensures.value c.vote_in.ensures.after)
 
 pub returns-clause-cited : goal.returns-clause-cited
 returns-clause-cited c =
-    let txn : c.txn.result ≡ c.args.self.now.txn.txn = rw (← c.self.view_is) c.txn.ensures in
-    vote_cited c.args.self.now c.put.new.self c.args.told.now c.txn.result c.in-Some-2.vote txn (sym c.in_ok-vote.ensures.value ∙ c.in-Some-2.is) c.in_ok-put.ensures.after
+    let P : VotingView → NodeTold → Type 0 = λ v t. OnOk c.vote_in.result ((before : List NodeTold) → VotesOnly before v → VotesOnly (before ++ t ∷ []) c.vote_in.new.self) in
+    subst (P c.args.self.now) c.in_ok-answer.ensures (subst (λ (v : VotingView). P v c.in_ok-answer.answer) c.in_ok-ballots.ensures.value c.vote_in.ensures.cited)
+
+pub returns-clause-kept : goal.returns-clause-kept
+returns-clause-kept c =
+    let P : VotingView → Type 0 = λ v. OnOk c.vote_in.result (KeepsVotes v.votes c.vote_in.new.self.votes) in
+    subst P c.in_ok-ballots.ensures.value c.vote_in.ensures.kept
+
+pub returns-clause-fault : goal.returns-clause-fault
+returns-clause-fault c =
+    let P : VotingView → NodeTold → Type 0 = λ v t. IfErr c.vote_in.result (λ fault. vote_fault v t ≡ Some fault) in
+    comes_if c.vote_in.result (vote_fault c.args.self.now c.args.told.now)
+    (subst (P c.args.self.now) c.in_ok-answer.ensures (subst (λ (v : VotingView). P v c.in_ok-answer.answer) c.in_ok-ballots.ensures.value c.vote_in.ensures.fault))
+
+pub returns-clause-err : goal.returns-clause-err
+returns-clause-err c =
+    let P : VotingView → Type 0 = λ v. OnErr c.vote_in.result (c.vote_in.new.self ≡ v) in
+    subst P c.in_ok-ballots.ensures.value c.vote_in.ensures.err

@@ -3,11 +3,12 @@ use Rattle.std.specs.Map.{lookup, set_value}
 use Rattle.std.specs.Option.{option_copied_mut}
 use Rattle.tq_store.specs.Copies.{copy_of}
 use Rattle.tq_store.specs.Names.{same_name}
+use Rattle.tq_tables.specs.Early.{has_row}
 use Rattle.tq_tables.specs.Files as spec
 use Rattle.tq_tables.specs.Files.{FilesView}
 use Rattle.tq_tables.specs.declared.file_row.FileRow.{FileRow}
 use Rattle.tq_tables.specs.declared.file_table.FileTable.TheInside.{Inside}
-use Rattle.tq_tables.proofs.Kept.{by_file, file-found, are-files, are-rows, stand-entries, stand-none, Apart-stood, of_tree-stood}
+use Rattle.tq_tables.proofs.Kept.{a_row, by_file, file-found, no_row, are-files, are-rows, stand-entries, stand-none, Apart-stood, of_tree-stood}
 use Rattle.tq_tables.proofs.file_table.FileTable.stand.Goals as goal
 use Rattle.tq_tables.proofs.file_table.FileTable.stand.Goals.{in-Some, in_default}
 
@@ -65,4 +66,20 @@ returns-clause-rows c =
           let none : lookup (same_name file) (by_file rows) ≡ Rattle.std.proofs.Common.None =
           ap (λ es. lookup (same_name file) es) (sym c.self.invariant.named) ∙ sym c.get_mut.ensures.value ∙ ap option_copied_mut w.in_default.is in
           stands (ap (λ (x : Inside). x.rows.entries) w.self-inside-is ∙ ap (λ m. m.entries) c.get_mut.follows.holds-at-none ∙ c.self.invariant.named ∙ sym (ap by_file (stand-none node file rows none)))
+    ]
+
+pub returns-clause-found : goal.returns-clause-found
+returns-clause-found c =
+    let rows = map (λ entry. entry.1) c.self.inside.rows.entries in
+    let file = c.args.file.now in
+    let view_is = ap (λ (v : FilesView). has_row v.rows file) c.self.view_is in
+    elim c.match-get_mut.branch [
+      | in-Some w ↦
+          let found : lookup (same_name file) (by_file rows) ≡ Rattle.std.proofs.Common.Some w.in-Some.row.now =
+          ap (λ es. lookup (same_name file) es) (sym c.self.invariant.named) ∙ sym c.get_mut.ensures.value ∙ ap option_copied_mut w.in-Some.is in
+          w.found-is ∙ sym (a_row file rows w.in-Some.row.now found) ∙ view_is
+      | in_default w ↦
+          let none : lookup (same_name file) (by_file rows) ≡ Rattle.std.proofs.Common.None =
+          ap (λ es. lookup (same_name file) es) (sym c.self.invariant.named) ∙ sym c.get_mut.ensures.value ∙ ap option_copied_mut w.in_default.is in
+          w.found-is ∙ sym (no_row file rows none) ∙ view_is
     ]

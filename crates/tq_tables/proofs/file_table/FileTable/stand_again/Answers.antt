@@ -1,10 +1,12 @@
+use Rattle.std.specs.Prelude.{slice_get}
 use Rattle.std.proofs.Common.{◌≡◌, ◌≤◌, ◌∙◌, ℕ, List, map, ap, sym, subst}
 use Rattle.tq_store.specs.Copies.{copy_of}
+use Rattle.tq_tables.specs.Early.{has_row}
 use Rattle.tq_tables.specs.Files as spec
 use Rattle.tq_tables.specs.Files.{FilesView}
 use Rattle.tq_tables.specs.declared.file_row.FileRow.{FileRow}
 use Rattle.tq_tables.proofs.Kept.{are-files, are-rows, by_file, Apart-stood, of_tree-stood}
-use Rattle.tq_tables.proofs.Placed.{placed, same_pair, stand-entries-placed}
+use Rattle.tq_tables.proofs.Placed.{named-at, placed, same_pair, stand-entries-placed}
 use Rattle.tq_tables.proofs.file_table.FileTable.stand_again.Goals as goal
 
 pub stand_at-requires-clause-least : goal.stand_at-requires-clause-least
@@ -43,3 +45,12 @@ returns-then-has_row_at-clause-rows c =
     ∙ stand-entries-placed c.self.inside.levels node c.self.inside.rows.entries c.self.inside.last file there.0 c.self.invariant there.1 in
     are-rows c.stand_at.new.rows.entries (map (spec.stood_at node file) rows) are
     ∙ ap (λ (v : FilesView). map (spec.stood_at node file) v.rows) c.self.view_is
+
+pub returns-then-has_row_at-clause-found : goal.returns-then-has_row_at-clause-found
+returns-then-has_row_at-clause-found c =
+    let rows = map (λ entry. entry.1) c.self.inside.rows.entries in
+    let file = c.args.file.now in
+    let place = c.self.inside.last in
+    let there = c.if-has_row_at.ensures in
+    sym (named-at file there.0 rows place (ap (λ es. slice_get es place) (sym c.self.invariant.named) ∙ there.1))
+    ∙ ap (λ (v : FilesView). has_row v.rows file) c.self.view_is

@@ -1,5 +1,5 @@
 use Rattle.std.specs.Prelude.{reverse}
-use Rattle.std.proofs.Common.{◌≡◌, ◌+◌, ◌<◌, ◌^◌, ℕ, List, ap, sym, subst, ◌∙◌}
+use Rattle.std.proofs.Common.{refl, ◌≡◌, ◌+◌, ◌<◌, ◌^◌, ℕ, List, ap, sym, subst, ◌∙◌}
 use Rattle.tq_desk.specs.DeskChanges.{DeskFits, desk_change, desk_changed}
 use Rattle.tq_desk.specs.DeskJournal.{commits, with_commit}
 use Rattle.tq_desk.specs.DeskPlans.{change_fits, change_leads}
@@ -16,6 +16,7 @@ use Rattle.tq_tables.specs.Rows.{file_rows, files_in}
 use Rattle.tq_tables.specs.Tables.{TablesView, tables_at}
 use Rattle.tq_tables.specs.declared.file_row.FileRow.{FileRow}
 use Rattle.tq_tables.specs.declared.replies.Replies.{Replies}
+use Rattle.tq_tables.proofs.Held.{held-put, held-same}
 use Rattle.tq_tables.proofs.Noted.{asked, asked-at, begun-room, commits-room, desk-noted, desk-replied, rows-at, rows-then}
 use Rattle.tq_tables.proofs.Whole.{exact-rows}
 use Rattle.tq_tables.proofs.Written.{entry-rows, of_tree-next, rows_next, version-room}
@@ -29,7 +30,7 @@ plan-requires c =
 pub rows_written-requires-clause-exact : goal.rows_written-requires-clause-exact
 rows_written-requires-clause-exact c =
     let view_is = (λ i. tables_at (c.deref_mut-parts.ensures.value i) (c.deref_mut-files.ensures.value i).rows) ∙ c.self.view_is in
-    let same = ap (λ (p : PartsView). p.view.levels) c.deref_mut-parts.ensures.value ∙ c.self.invariant ∙ sym (ap (λ (f : FilesView). f.levels) c.deref_mut-files.ensures.value) in
+    let same = ap (λ (p : PartsView). p.view.levels) c.deref_mut-parts.ensures.value ∙ c.self.invariant.0 ∙ sym (ap (λ (f : FilesView). f.levels) c.deref_mut-files.ensures.value) in
     let journals = c.requires.journals in
     let parts = c.deref_mut-parts.result.now in
     let list = commits (reverse journals.desk) in
@@ -48,6 +49,11 @@ rows_written-requires-clause-room c = λ file.
     subst (λ (rows : List FileRow). spec.version_in rows file + 1 < 2 ^ 64) (sym are)
     (version-room parts.view.levels parts.nodes (commits (reverse journals.desk)) (commits-room c.args.self.now c.requires) file)
 
+pub rows_written-requires-clause-holders : goal.rows_written-requires-clause-holders
+rows_written-requires-clause-holders c =
+    held-same (ap (λ (f : FilesView). f.levels) c.deref_mut-files.ensures.value) (c.nodes.ensures.value ∙ ap (λ (p : PartsView). p.nodes) c.deref_mut-parts.ensures.value)
+    (ap (λ (f : FilesView). f.rows) c.deref_mut-files.ensures.value) c.deref.ensures c.self.invariant.1
+
 pub change_desk-requires : goal.change_desk-requires
 change_desk-requires c =
     let desk = c.deref_mut-parts.result.now.desk in
@@ -62,10 +68,24 @@ put_all-requires-clause-of_tree c =
     (subst (λ (rows : List FileRow). spec.AreOfLevels levels rows) (sym c.in_ok-rows.ensures)
     (of_tree-next levels c.nodes.result.now c.deref_mut-files.result.now.rows (names_of c.committed_ops-ops.result.now)))
 
+pub invariant_of-self-2 : goal.invariant_of-self-2
+invariant_of-self-2 c =
+    let parts = c.deref_mut-parts.result.now in
+    let same = ap (λ (p : PartsView). p.view.levels) c.deref_mut-parts.ensures.value ∙ c.self.invariant.0 ∙ sym (ap (λ (f : FilesView). f.levels) c.deref_mut-files.ensures.value) in
+    let before =
+    held-same (ap (λ (f : FilesView). f.levels) c.deref_mut-files.ensures.value) (ap (λ (p : PartsView). p.nodes) c.deref_mut-parts.ensures.value)
+    (ap (λ (f : FilesView). f.rows) c.deref_mut-files.ensures.value) refl c.self.invariant.1 in
+    let rows = c.in_ok-rows.rows.items in (
+      ap (λ (p : PartsView). p.view.levels) c.in_ok-change_desk.ensures.after ∙ same ∙ sym (c.put_all.ensures.levels ∙ c.in_ok-reserve.ensures.levels),
+      held-same (c.put_all.ensures.levels ∙ c.in_ok-reserve.ensures.levels) (ap (λ (p : PartsView). p.nodes) c.in_ok-change_desk.ensures.after)
+          (c.put_all.ensures.rows ∙ ap (λ (all : List FileRow). spec.with_rows all rows) c.in_ok-reserve.ensures.rows) refl
+          (held-put _ parts.nodes c.deref_mut-files.result.now.rows rows c.self.inside.holders.value before),
+    )
+
 pub returns-clause-asked : goal.returns-clause-asked
 returns-clause-asked c = λ journals reply legal stand.
     let view_is = (λ i. tables_at (c.deref_mut-parts.ensures.value i) (c.deref_mut-files.ensures.value i).rows) ∙ c.self.view_is in
-    let same = ap (λ (p : PartsView). p.view.levels) c.deref_mut-parts.ensures.value ∙ c.self.invariant ∙ sym (ap (λ (f : FilesView). f.levels) c.deref_mut-files.ensures.value) in
+    let same = ap (λ (p : PartsView). p.view.levels) c.deref_mut-parts.ensures.value ∙ c.self.invariant.0 ∙ sym (ap (λ (f : FilesView). f.levels) c.deref_mut-files.ensures.value) in
     let ask = c.args.ask.now in
     let e = entry ask reply in
     let list = commits (reverse journals.desk) in

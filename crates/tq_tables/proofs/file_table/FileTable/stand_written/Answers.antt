@@ -1,0 +1,42 @@
+use Rattle.std.proofs.Common.{◌≡◌, ◌+◌, ◌++◌, Bool, true, List, [], ◌∷◌, map, take, ap, sym, subst, ◌∙◌}
+use Rattle.std.specs.Bool.{OnTrue}
+use Rattle.std.proofs.lemmas.List.{map-append}
+use Rattle.tq_store.specs.declared.write.Write.{Write}
+use Rattle.tq_tables.specs.Early.{HaveRows, has_row}
+use Rattle.tq_tables.specs.Files as spec
+use Rattle.tq_tables.specs.NamesApart.{is_in}
+use Rattle.tq_tables.specs.declared.file_row.FileRow.{FileRow}
+use Rattle.tq_tables.proofs.Held.{have-next, names-all_stood}
+use Rattle.tq_tables.proofs.Kept.{all_stood-append}
+use Rattle.tq_tables.proofs.RowLaws.{take-next}
+use Rattle.tq_tables.proofs.file_table.FileTable.stand_written.Goals as goal
+use Rattle.tq_tables.proofs.file_table.FileTable.stand_written.Goals.{then-not-stand, else-not-stand}
+
+pub loop-write-preserved : goal.loop-write-preserved
+loop-write-preserved c =
+    let node = c.args.node.now in
+    let rows = c.args.self.now.rows in
+    let writes = c.args.writes.now in
+    let i = c.loop-write.write-index in
+    let write = c.write-item.result in
+    let less = c.loop-write-test.true in
+    let is = c.write-item.is in
+    let names = λ (w : Write). w.file in
+    let before = map names (take i writes) in
+    let P : Bool → Type 0 = λ found. OnTrue found (HaveRows rows (map names (take (i + 1) writes))) in
+    let one_more : map names (take (i + 1) writes) ≡ before ++ write.file ∷ [] = ap (map names) (take-next writes i write less is) ∙ map-append names (take i writes) (write ∷ []) in
+    record {
+      levels = c.stand.ensures.levels ∙ c.loop-write.invariant.levels;
+      found =
+          elim c.if-not-stand.branch [
+            | then-not-stand w ↦ subst P (sym w.found-is) tt
+            | else-not-stand w ↦
+                let here : has_row rows write.file ≡ true =
+                ap (is_in write.file) (sym (ap spec.names_in c.loop-write.invariant.rows ∙ names-all_stood node before rows)) ∙ sym c.stand.ensures.found ∙ w.if-not-stand.false in
+                subst P (sym w.found-is) (have-next rows writes i write less is here c.loop-write.found c.loop-write.invariant.found)
+          ];
+      rows =
+          c.stand.ensures.rows
+          ∙ ap (λ (all : List FileRow). map (spec.stood_at node write.file) all) c.loop-write.invariant.rows
+          ∙ sym (ap (spec.all_stood node rows) one_more ∙ all_stood-append node rows before write.file);
+    }

@@ -1,0 +1,84 @@
+//! The servers that may have a copy of a file before a commit of it is followed.
+ghost use Rattle.std.specs.Prelude.{◌≡◌, List, true, length, IfOk};
+ghost use Rattle.tq_tables.specs.Early.{AreHolders, HoldEarly, held_by};
+ghost use Rattle.tq_tables.specs.Parts.{AreOfTree};
+ghost use Rattle.tq_tables.specs.Rows.{servers_where};
+ghost use Rattle.tq_tables.specs.declared.file_row.FileRow.{FileRow};
+
+use std::alloc::Global;
+use tq_node::Node;
+use tq_shape::{Levels, Memory, ServerId, ServerSet};
+
+/// The servers of a system, and those that may have a copy of a file that has no row yet: the first row of a file looks
+/// at these alone.
+pub(crate) struct Holders {
+    /// No other server has such a copy.
+    pub(crate) early: ServerSet,
+    pub(crate) all: ServerSet,
+}
+
+// Written out, as that of the tables.
+impl Drop for Holders {
+    fn drop(self) {
+        let Self { early: _, all: _ } = self;
+    }
+}
+
+impl Holders {
+    /// Of these servers, whatever rows there are: each that has stored something may have such a copy.
+    pub(crate) fn of(alloc: Global, levels: Levels, nodes: &[Node]) -> Result<Holders, Memory>
+        requires { AreOfTree levels 1 nodes.now }
+        ensures { IfOk result (λ holders. (rows : List FileRow) → AreHolders levels nodes.now rows holders) }
+    {
+        let early = early_servers(alloc, levels, nodes)?;
+        let all = all_servers(alloc, levels, nodes)?;
+        Ok(Holders { early, all })
+    }
+
+    /// Equal ones, with memory of their own.
+    pub(crate) fn copy(&self) -> Result<Holders, Memory>
+        ensures { IfOk result (λ copy. copy ≡ self.now) }
+    {
+        let early = self.early.clone()?;
+        let all = self.all.clone()?;
+        Ok(Holders { early, all })
+    }
+
+    /// The server may have such a copy, unless each file whose copy rose there has a row. It takes no memory.
+    #[inline(always)]
+    pub(crate) fn hold(&mut self, server: ServerId, found: bool)
+        requires { server.levels ≡ self.old.early.levels }
+        ensures { self.new ≡ held_by found server.number self.old }
+    {
+        if !found {
+            self.early.insert(server);
+        }
+    }
+}
+
+/// Those of the servers that have stored something.
+fn early_servers(alloc: Global, levels: Levels, nodes: &[Node]) -> Result<ServerSet, Memory>
+    requires { AreOfTree levels 1 nodes.now }
+    ensures { IfOk result (λ early. HoldEarly levels (length nodes.now) nodes.now early) }
+{
+    let mut early = ServerSet::new(alloc, levels)?;
+    for node in nodes {
+        let server = node.server();
+        if !node.stable().is_empty() {
+            early.insert(server);
+        }
+    }
+    Ok(early)
+}
+
+/// All servers.
+fn all_servers(alloc: Global, levels: Levels, nodes: &[Node]) -> Result<ServerSet, Memory>
+    requires { AreOfTree levels 1 nodes.now }
+    ensures { IfOk result (λ all. all ≡ servers_where levels (λ node. true) nodes.now) }
+{
+    let mut all = ServerSet::new(alloc, levels)?;
+    for node in nodes {
+        all.insert(node.server());
+    }
+    Ok(all)
+}
