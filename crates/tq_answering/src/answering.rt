@@ -1,8 +1,9 @@
 //! The lines of a transaction, by what they ask for.
-ghost use Rattle.std.specs.Prelude.{◌≡◌, IfOk, OnOk};
+ghost use Rattle.std.specs.Prelude.{◌≡◌, IfOk, OnOk, OnErr};
 ghost use Rattle.tq_txn.specs.States.{levels_of};
 ghost use Rattle.tq_answering.specs.PossibleTxn.{IsSaid};
 ghost use Rattle.tq_answering.specs.TxnAsked as spec;
+ghost use Rattle.tq_print.specs.Print.{Extends};
 
 use crate::decisions::{Course, decide_txn};
 use crate::endings::{abort_txn, resolve};
@@ -31,6 +32,7 @@ pub(crate) fn answer_txn(
     ensures levels { levels_of kept.new.txn ≡ levels_of kept.old.txn }
     ensures tree { recorder.new.journals.levels ≡ recorder.old.journals.levels }
     ensures possible { OnOk result (IsSaid text.old.items text.new.items) }
+    ensures kept { OnErr result (Extends text.old.items text.new.items) }
 {
     answer_line(recorder, alloc, levels, number, kept, line, text)?;
     Ok(())
@@ -50,6 +52,7 @@ fn answer_line(
     ensures answered { OnOk result (spec.IsAnswered (spec.line_asked levels line number kept.old) recorder.old.journals recorder.new.journals text.old.items text.new.items kept.new) }
     ensures levels { levels_of kept.new.txn ≡ levels_of kept.old.txn }
     ensures tree { recorder.new.journals.levels ≡ recorder.old.journals.levels }
+    ensures kept { OnErr result (Extends text.old.items text.new.items) }
 {
     match line {
         TxnLine::Read { file } => {

@@ -1,10 +1,10 @@
 //! The lines of a transaction that bring its desk to a decision.
-ghost use Rattle.std.specs.Prelude.{◌≡◌, ◌++◌, false, IfOk, OnOk};
+ghost use Rattle.std.specs.Prelude.{◌≡◌, ◌++◌, false, IfOk, OnOk, OnErr};
 ghost use Rattle.tq_coterie.specs.Coterie.{numbers_of};
 ghost use Rattle.tq_txn.specs.Dialogue.{Follows, ended_by};
 ghost use Rattle.tq_txn.specs.States.{levels_of};
 ghost use Rattle.tq_answering.specs.TxnAsked as spec;
-ghost use Rattle.tq_print.specs.Print.{printed};
+ghost use Rattle.tq_print.specs.Print.{Extends, printed};
 
 use crate::kept::Kept;
 use crate::recorder::Recorder;
@@ -36,6 +36,7 @@ pub(crate) fn decide_txn(
     ensures answered { OnOk result (spec.IsAnswered (spec.decision_asked (spec.course_line course) 0 kept.old) recorder.old.journals recorder.new.journals text.old.items text.new.items kept.new) }
     ensures levels { levels_of kept.new.txn ≡ levels_of kept.old.txn }
     ensures tree { recorder.new.journals.levels ≡ recorder.old.journals.levels }
+    ensures kept { OnErr result (Extends text.old.items text.new.items) }
 {
     let vacant = stand_in(alloc, &kept.txn);
     let txn = mem::replace(&mut kept.txn, vacant);
@@ -98,6 +99,7 @@ fn say_committed(
 ) -> Result<(), Memory>
     ensures text { OnOk result (text.new.items ≡ text.old.items ++ printed (spec.committed_text txn.now answer)) }
     ensures memory { OnOk result (spec.is_refused_memory answer ≡ false) }
+    ensures kept { OnErr result (Extends text.old.items text.new.items) }
 {
     match answer {
         Ok(serial) => say_number(text, b"committed ", serial)?,

@@ -1,8 +1,8 @@
 //! The lines of a transaction that abort it and that ask how it ended.
-ghost use Rattle.std.specs.Prelude.{◌≡◌, ◌++◌, [], false, codes, IfOk, OnOk};
+ghost use Rattle.std.specs.Prelude.{◌≡◌, ◌++◌, [], false, codes, IfOk, OnOk, OnErr};
 ghost use Rattle.tq_txn.specs.States.{levels_of};
 ghost use Rattle.tq_answering.specs.TxnAsked as spec;
-ghost use Rattle.tq_print.specs.Print.{printed};
+ghost use Rattle.tq_print.specs.Print.{Extends, printed};
 
 use crate::kept::{Ending, Kept};
 use crate::recorder::Recorder;
@@ -25,6 +25,7 @@ pub(crate) fn abort_txn(
     ensures answered { OnOk result (spec.IsAnswered (spec.abort_asked 0 kept.old) recorder.old.journals recorder.new.journals text.old.items text.new.items kept.new) }
     ensures levels { levels_of kept.new.txn ≡ levels_of kept.old.txn }
     ensures tree { recorder.new.journals.levels ≡ recorder.old.journals.levels }
+    ensures kept { OnErr result (Extends text.old.items text.new.items) }
 {
     let vacant = stand_in(alloc, &kept.txn);
     let txn = mem::replace(&mut kept.txn, vacant);
@@ -40,6 +41,7 @@ pub(crate) fn abort_txn(
 fn say_aborted(text: &mut Vec<u8>, answer: Result<(), LineFault>) -> Result<(), Memory>
     ensures text { OnOk result (text.new.items ≡ text.old.items ++ printed (spec.result_text [] (λ all. codes "aborted") answer)) }
     ensures memory { OnOk result (spec.is_refused_memory answer ≡ false) }
+    ensures kept { OnErr result (Extends text.old.items text.new.items) }
 {
     match answer {
         Ok(()) => say_line(text, b"aborted")?,
@@ -59,6 +61,7 @@ pub(crate) fn resolve(
     ensures answered { OnOk result (spec.IsAnswered (spec.resolve_asked number kept.old) recorder.old.journals recorder.new.journals text.old.items text.new.items kept.new) }
     ensures levels { levels_of kept.new.txn ≡ levels_of kept.old.txn }
     ensures tree { recorder.new.journals.levels ≡ recorder.old.journals.levels }
+    ensures kept { OnErr result (Extends text.old.items text.new.items) }
 {
     recorder.replayed();
     let answer = recorder.desk(alloc, DeskAsk::Resolve { txn: number });
@@ -78,7 +81,8 @@ pub(crate) fn resolve(
 
 /// Puts how the desk says that a transaction ended behind the text, as a line.
 fn say_resolved(text: &mut Vec<u8>, reply: &DeskReply) -> Result<(), Memory>
-    ensures { OnOk result (text.new.items ≡ text.old.items ++ printed (spec.resolved_text reply.now)) }
+    ensures text { OnOk result (text.new.items ≡ text.old.items ++ printed (spec.resolved_text reply.now)) }
+    ensures kept { OnErr result (Extends text.old.items text.new.items) }
 {
     match reply {
         DeskReply::Verdict(verdict) => say_verdict(text, verdict),

@@ -1,10 +1,10 @@
 //! The lines of a transaction at one of the servers: its vote, and the verdict that it is told.
-ghost use Rattle.std.specs.Prelude.{◌≡◌, ◌++◌, ◌∷◌, [], false, cond, Some, None, codes, IfOk, OnOk};
+ghost use Rattle.std.specs.Prelude.{◌≡◌, ◌++◌, ◌∷◌, [], false, cond, Some, None, codes, IfOk, OnOk, OnErr};
 ghost use Rattle.std.specs.Fmt.{decimal};
 ghost use Rattle.tq_txn.specs.States.{levels_of};
 ghost use Rattle.tq_answering.specs.TxnAsked as spec;
 ghost use Rattle.tq_answering.specs.Known.{in_state};
-ghost use Rattle.tq_print.specs.Print.{printed, applied_text};
+ghost use Rattle.tq_print.specs.Print.{Extends, printed, applied_text};
 
 use crate::kept::{Ending, Kept};
 use crate::recorder::Recorder;
@@ -75,6 +75,7 @@ pub(crate) fn run_errand(
     ensures answered { OnOk result (spec.IsAnswered (spec.errand_asked levels errand number kept.old) recorder.old.journals recorder.new.journals text.old.items text.new.items kept.new) }
     ensures levels { levels_of kept.new.txn ≡ levels_of kept.old.txn }
     ensures tree { recorder.new.journals.levels ≡ recorder.old.journals.levels }
+    ensures kept { OnErr result (Extends text.old.items text.new.items) }
 {
     let Errand { server, duty, stop } = errand;
     match levels.server(server) {
@@ -100,6 +101,7 @@ fn prepare(
     ensures answered { OnOk result (spec.IsAnswered (spec.prepare_asked stop server.number 0 kept.old) recorder.old.journals recorder.new.journals text.old.items text.new.items kept.new) }
     ensures levels { levels_of kept.new.txn ≡ levels_of kept.old.txn }
     ensures tree { recorder.new.journals.levels ≡ recorder.old.journals.levels }
+    ensures kept { OnErr result (Extends text.old.items text.new.items) }
 {
     let vacant = stand_in(alloc, &kept.txn);
     let txn = mem::replace(&mut kept.txn, vacant);
@@ -123,6 +125,7 @@ fn vote(
     ensures answered { IfOk result (λ txn. (kept : Kept) → spec.IsAnswered (spec.prepare_voting stop server.number kept voting) recorder.old.journals recorder.new.journals text.old.items text.new.items (in_state kept txn)) }
     ensures levels { IfOk result (λ txn. levels_of txn ≡ voting.txn.levels) }
     ensures tree { recorder.new.journals.levels ≡ recorder.old.journals.levels }
+    ensures kept { OnErr result (Extends text.old.items text.new.items) }
 {
     let number = server.number();
     let mut voting = voting;
@@ -151,6 +154,7 @@ fn say_stopped(
 ) -> Result<(), Memory>
     ensures text { OnOk result (text.new.items ≡ text.old.items ++ printed (spec.result_text (server ∷ []) (λ there. cond there (codes "yes " ++ decimal server) (spec.down_text server)) answer)) }
     ensures memory { OnOk result (spec.is_refused_memory answer ≡ false) }
+    ensures kept { OnErr result (Extends text.old.items text.new.items) }
 {
     match answer {
         Ok(true) => say_number(text, b"yes ", server)?,
@@ -173,6 +177,7 @@ fn apply(
     requires { server.levels ≡ recorder.old.journals.levels }
     ensures answered { OnOk result (spec.IsAnswered (spec.apply_asked stop server.number number kept.now) recorder.old.journals recorder.new.journals text.old.items text.new.items kept.now) }
     ensures tree { recorder.new.journals.levels ≡ recorder.old.journals.levels }
+    ensures kept { OnErr result (Extends text.old.items text.new.items) }
 {
     match ending_of(kept)? {
         None => say_number(text, b"not decided ", number),
@@ -193,6 +198,7 @@ fn tell(
     requires { server.levels ≡ recorder.old.journals.levels }
     ensures answered { OnOk result ((kept : Kept) → spec.IsAnswered (spec.apply_ending stop server.number number kept ending) recorder.old.journals recorder.new.journals text.old.items text.new.items kept) }
     ensures tree { recorder.new.journals.levels ≡ recorder.old.journals.levels }
+    ensures kept { OnErr result (Extends text.old.items text.new.items) }
 {
     let txn = number;
     let Ending { verdict, cite } = ending;
@@ -222,6 +228,7 @@ fn say_told(
 ) -> Result<(), Memory>
     ensures text { OnOk result (text.new.items ≡ text.old.items ++ printed (spec.result_text [] (λ applied. applied_text server applied) answer)) }
     ensures memory { OnOk result (spec.is_refused_memory answer ≡ false) }
+    ensures kept { OnErr result (Extends text.old.items text.new.items) }
 {
     match answer {
         Ok(applied) => say_applied(text, server, applied)?,
@@ -240,6 +247,7 @@ fn say_server(
 ) -> Result<(), Memory>
     ensures text { OnOk result (text.new.items ≡ text.old.items ++ printed (spec.result_text servers.now (λ all. words.now ++ decimal server) answer)) }
     ensures memory { OnOk result (spec.is_refused_memory answer ≡ false) }
+    ensures kept { OnErr result (Extends text.old.items text.new.items) }
 {
     match answer {
         Ok(()) => say_number(text, words, server)?,

@@ -1,10 +1,10 @@
 //! The lines of a transaction that read and write.
-ghost use Rattle.std.specs.Prelude.{◌≡◌, ◌++◌, [], false, IfOk, OnOk};
+ghost use Rattle.std.specs.Prelude.{◌≡◌, ◌++◌, [], false, IfOk, OnOk, OnErr};
 ghost use Rattle.tq_txn.specs.States.{levels_of};
 ghost use Rattle.tq_txn.specs.declared.txn.Txn.TheVariants as states;
 ghost use Rattle.tq_answering.specs.Known.{in_state};
 ghost use Rattle.tq_answering.specs.TxnAsked as spec;
-ghost use Rattle.tq_print.specs.Print.{printed};
+ghost use Rattle.tq_print.specs.Print.{Extends, printed};
 
 use crate::kept::Kept;
 use crate::recorder::Recorder;
@@ -36,6 +36,7 @@ pub(crate) fn operate(
     ensures answered { OnOk result (spec.IsAnswered (spec.operation_asked operation file.now number kept.old) recorder.old.journals recorder.new.journals text.old.items text.new.items kept.new) }
     ensures levels { levels_of kept.new.txn ≡ levels_of kept.old.txn }
     ensures tree { recorder.new.journals.levels ≡ recorder.old.journals.levels }
+    ensures kept { OnErr result (Extends text.old.items text.new.items) }
 {
     match &mut kept.txn {
         Txn::Open(open) => operate_open(recorder, alloc, open, file, operation, text),
@@ -57,6 +58,7 @@ fn operate_open(
     ensures answered { OnOk result ((kept : Kept) → spec.IsAnswered (spec.operation_open operation file.now kept «open».old) recorder.old.journals recorder.new.journals text.old.items text.new.items (in_state kept (states.Open «open».new))) }
     ensures levels { «open».new.levels ≡ «open».old.levels }
     ensures tree { recorder.new.journals.levels ≡ recorder.old.journals.levels }
+    ensures kept { OnErr result (Extends text.old.items text.new.items) }
 {
     recorder.replayed();
     match operation {
@@ -84,6 +86,7 @@ fn say_read(
 ) -> Result<(), Memory>
     ensures text { OnOk result (text.new.items ≡ text.old.items ++ printed (spec.result_text [] (spec.read_text file.now reader.now) answer)) }
     ensures memory { OnOk result (spec.is_refused_memory answer ≡ false) }
+    ensures kept { OnErr result (Extends text.old.items text.new.items) }
 {
     match answer {
         Ok(reading) => say_reading(text, file, reader.seen(file), &reading)?,
@@ -101,6 +104,7 @@ fn say_written(
 ) -> Result<(), Memory>
     ensures text { OnOk result (text.new.items ≡ text.old.items ++ printed (spec.result_text [] (spec.written_text file.now writer.now) answer)) }
     ensures memory { OnOk result (spec.is_refused_memory answer ≡ false) }
+    ensures kept { OnErr result (Extends text.old.items text.new.items) }
 {
     match answer {
         Ok(version) => say_writing(text, file, writer.written(file), version)?,

@@ -1,5 +1,5 @@
 //! The lines of operators: the refresh and the board.
-ghost use Rattle.std.specs.Prelude.{◌≡◌, ◌≤◌, ◌+◌, ◌++◌, List, length, true, false, IfOk, OnOk, string_bytes};
+ghost use Rattle.std.specs.Prelude.{◌≡◌, ◌≤◌, ◌+◌, ◌++◌, List, length, true, false, IfOk, OnOk, OnErr, string_bytes};
 ghost use Rattle.std.specs.Option.{option_map};
 ghost use Rattle.tq_world.specs.Steps.{world_after};
 ghost use Rattle.tq_world.specs.declared.answer.Step.TheVariants as steps;
@@ -8,7 +8,7 @@ ghost use Rattle.tq_refresh.specs.declared.job.Job.{Job};
 ghost use Rattle.tq_txn.specs.Dialogue.{fault_of_ask};
 ghost use Rattle.tq_answering.specs.Asking.{node_told, run_line};
 ghost use Rattle.tq_answering.specs.Operators as spec;
-ghost use Rattle.tq_print.specs.Print.{printed};
+ghost use Rattle.tq_print.specs.Print.{Extends, printed};
 ghost use Rattle.tq_print.specs.Refusals.{is_memory};
 
 use crate::recorder::{Recorder, copy_of_node_ask};
@@ -20,6 +20,7 @@ use tq_print::{push_at, say_number};
 use tq_refresh::{FileJobs, Job, PlanByFile, copy_ask_of, plan_by_file};
 use tq_rendered::render;
 use tq_shape::{Memory, ServerId, ServerSet};
+use tq_store::FileName;
 
 /// How many jobs there were, and how many of them mended a copy.
 #[derive(Clone, Copy)]
@@ -28,9 +29,36 @@ struct Counts {
     mended: usize,
 }
 
+/// What is said of each server at which a copy of a file was mended from a source, before its number and behind it.
+#[derive(Drop)]
+struct Mended {
+    front: Vec<u8>,
+    end: Vec<u8>,
+}
+
+impl Mended {
+    fn of(alloc: Global, file: FileName, source: ServerId) -> Result<Mended, Memory>
+    {
+        let mut front = Vec::from_slice(alloc, b"refreshed ")?;
+        front.extend_from_slice(file.as_bytes())?;
+        front.extend_from_slice(b" at ")?;
+        let mut end = Vec::new(alloc);
+        say_number(&mut end, b" from ", source.number())?;
+        Ok(Mended { front, end })
+    }
+
+    fn say(&self, text: &mut Vec<u8>, server: ServerId) -> Result<(), Memory>
+    {
+        push_at(text, self.front.as_slice(), server.number())?;
+        text.extend_from_slice(self.end.as_slice())?;
+        Ok(())
+    }
+}
+
 /// Puts the board of the service behind the text.
 pub(crate) fn say_board(service: &Service, alloc: Global, text: &mut Vec<u8>) -> Result<(), Memory>
-    ensures { OnOk result (text.new.items ≡ text.old.items ++ spec.board_of service.now) }
+    ensures text { OnOk result (text.new.items ≡ text.old.items ++ spec.board_of service.now) }
+    ensures kept { OnErr result (Extends text.old.items text.new.items) }
 {
     let board = board_of(service, alloc)?;
     text.extend_from_slice(board.as_bytes())?;
@@ -55,6 +83,7 @@ pub(crate) fn refresh_all(
     ensures text { OnOk result (text.new.items ≡ text.old.items ++ (run_line recorder.old.journals (spec.refresh_asked recorder.old.journals)).end) }
     ensures after { OnOk result (recorder.new.journals ≡ (run_line recorder.old.journals (spec.refresh_asked recorder.old.journals)).after) }
     ensures tree { recorder.new.journals.levels ≡ recorder.old.journals.levels }
+    ensures kept { OnErr result (Extends text.old.items text.new.items) }
 {
     let plan = planned(recorder.service(), alloc)?;
     let counts = mend_all(recorder, alloc, &plan, text)?;
@@ -85,6 +114,7 @@ fn mend_all(
     ensures jobs { IfOk result (λ counts. counts.jobs ≡ length (jobs_of_plan plan.now)) }
     ensures after { OnOk result (recorder.new.journals ≡ (run_line recorder.old.journals (spec.jobs_asked (spec.behind text.old.items spec.nothing_mended) (jobs_of_plan plan.now))).after) }
     ensures tree { recorder.new.journals.levels ≡ recorder.old.journals.levels }
+    ensures kept { OnErr result (Extends text.old.items text.new.items) }
 {
     let mut counts = Counts { jobs: 0, mended: 0 };
     for of_file in plan.files.as_slice() {
@@ -111,8 +141,10 @@ fn mend_file(
     ensures jobs { OnOk result (counts.new.jobs ≡ counts.old.jobs + length (jobs_in up.now of_file.now)) }
     ensures fits { OnOk result ((counts.new.mended ≤ counts.new.jobs) × (counts.new.jobs ≤ length text.new.items)) }
     ensures tree { recorder.new.journals.levels ≡ recorder.old.journals.levels }
+    ensures kept { OnErr result (Extends text.old.items text.new.items) }
 {
     let peek = of_file.peek_ask(alloc)?;
+    let said = Mended::of(alloc, of_file.file, of_file.source)?;
     for server in of_file.stale.iter() {
         if up.contains(server) {
             let job = Job {
@@ -122,7 +154,7 @@ fn mend_file(
             };
             let ask = copy_of_node_ask(&peek)?;
             let refreshed = mend(recorder, alloc, &job, ask)?;
-            say_job(text, &job, refreshed)?;
+            say_job(text, &said, &job, refreshed)?;
             // Each job left a line, so that there are no more of them than bytes of text.
             counts.jobs += 1;
             counts.mended += usize::from(refreshed);
@@ -219,30 +251,21 @@ fn is_refreshed(reply: &NodeReply) -> bool
 }
 
 /// Puts what came of a job behind the text, as a line.
-fn say_job(text: &mut Vec<u8>, job: &Job, refreshed: bool) -> Result<(), Memory>
-    ensures { OnOk result (text.new.items ≡ text.old.items ++ printed (spec.job_text job.now refreshed)) }
+fn say_job(text: &mut Vec<u8>, said: &Mended, job: &Job, refreshed: bool) -> Result<(), Memory>
+    ensures text { OnOk result (text.new.items ≡ text.old.items ++ printed (spec.job_text job.now refreshed)) }
+    ensures kept { OnErr result (Extends text.old.items text.new.items) }
 {
     if refreshed {
-        say_refreshed(text, job)?;
+        said.say(text, job.server)?;
     } else {
         say_not_refreshed(text, job)?;
     }
     Ok(())
 }
 
-fn say_refreshed(text: &mut Vec<u8>, job: &Job) -> Result<(), Memory>
-    ensures { OnOk result (text.new.items ≡ text.old.items ++ printed (spec.job_text job.now true)) }
-{
-    text.extend_from_slice(b"refreshed ")?;
-    text.extend_from_slice(job.file.as_bytes())?;
-    push_at(text, b" at ", job.server.number())?;
-    push_at(text, b" from ", job.source.number())?;
-    text.push(b'\n')?;
-    Ok(())
-}
-
 fn say_not_refreshed(text: &mut Vec<u8>, job: &Job) -> Result<(), Memory>
-    ensures { OnOk result (text.new.items ≡ text.old.items ++ printed (spec.job_text job.now false)) }
+    ensures text { OnOk result (text.new.items ≡ text.old.items ++ printed (spec.job_text job.now false)) }
+    ensures kept { OnErr result (Extends text.old.items text.new.items) }
 {
     text.extend_from_slice(b"not refreshed ")?;
     text.extend_from_slice(job.file.as_bytes())?;
@@ -252,7 +275,8 @@ fn say_not_refreshed(text: &mut Vec<u8>, job: &Job) -> Result<(), Memory>
 
 /// Puts how many copies were mended, of how many jobs, behind the text, as a line.
 fn say_count(text: &mut Vec<u8>, count: u64, jobs: u64) -> Result<(), Memory>
-    ensures { OnOk result (text.new.items ≡ text.old.items ++ printed (spec.count_text count jobs)) }
+    ensures text { OnOk result (text.new.items ≡ text.old.items ++ printed (spec.count_text count jobs)) }
+    ensures kept { OnErr result (Extends text.old.items text.new.items) }
 {
     push_at(text, b"refreshed ", count)?;
     say_number(text, b" of ", jobs)?;

@@ -1,11 +1,11 @@
-ghost use Rattle.std.specs.Prelude.{◌≡◌, ◌++◌, ◌<◌, ◌+◌, [], false, length, None, IfOk, OnOk, IfSome, IsNone};
+ghost use Rattle.std.specs.Prelude.{◌≡◌, ◌++◌, ◌<◌, ◌+◌, [], false, length, None, IfOk, OnOk, OnErr, IfSome, IsNone};
 ghost use Rattle.tq_txn.specs.Dialogue.{line_result};
 ghost use Rattle.tq_txn.specs.States.{levels_of};
 ghost use Rattle.std.specs.Fmt.{decimal};
 ghost use Rattle.tq_answering.specs.Asked as asked;
 ghost use Rattle.tq_answering.specs.Known as known;
 ghost use Rattle.tq_answering.specs.TxnAsked as said;
-ghost use Rattle.tq_print.specs.Print.{printed, mark_word};
+ghost use Rattle.tq_print.specs.Print.{Extends, printed, mark_word};
 
 use crate::answering::answer_txn;
 use crate::kept::Kept;
@@ -48,11 +48,12 @@ impl Model for Shell {
 }
 
 impl Shell {
-    ghost use Rattle.std.specs.Prelude.{◌≡◌, ◌++◌, IfOk, OnOk};
+    ghost use Rattle.std.specs.Prelude.{◌≡◌, ◌++◌, IfOk, OnOk, OnErr};
     ghost use Rattle.tq_world.specs.World.{item_at};
     ghost use Rattle.tq_answering.specs.Answer.{opening, answer, answered};
     ghost use Rattle.tq_answering.specs.Possible.{IsSaidOf};
     ghost use Rattle.tq_answering.specs.Asking.{run_line};
+    ghost use Rattle.tq_print.specs.Print.{Extends};
 
     /// Every server at cost 1 and up, nothing stored, and no transaction.
     pub fn new(alloc: Global, levels: Levels) -> Result<Shell, Memory>
@@ -81,6 +82,7 @@ impl Shell {
         ensures text { OnOk result (text.new.items ≡ text.old.items ++ (answer self.old line).text) }
         ensures after { OnOk result (self.new ≡ (answer self.old line).after) }
         ensures possible { OnOk result (IsSaidOf line text.old.items text.new.items) }
+        ensures kept { OnErr result (Extends text.old.items text.new.items) }
     {
         let _ = &self.recorder;
         self.answer_line(alloc, line, text)?;
@@ -90,6 +92,7 @@ impl Shell {
     fn answer_line(&mut self, alloc: Global, line: Line, text: &mut Vec<u8>) -> Result<(), Memory>
         ensures text { OnOk result (text.new.items ≡ text.old.items ++ (answer self.old line).text) }
         ensures after { OnOk result (self.new ≡ (answer self.old line).after) }
+        ensures kept { OnErr result (Extends text.old.items text.new.items) }
     {
         match line {
             Line::Empty => Ok(()),
@@ -118,6 +121,7 @@ impl Shell {
     ) -> Result<(), Memory>
         ensures text { OnOk result (text.new.items ≡ text.old.items ++ (answer self.old (Line.Cost server read write)).text) }
         ensures after { OnOk result (self.new ≡ (answer self.old (Line.Cost server read write)).after) }
+        ensures kept { OnErr result (Extends text.old.items text.new.items) }
     {
         if self.levels.server(server).is_none() {
             return say_number(text, b"no such server ", server);
@@ -141,6 +145,7 @@ impl Shell {
     ) -> Result<(), Memory>
         ensures text { OnOk result (text.new.items ≡ text.old.items ++ (answered (run_line self.old.journals (asked.cost_asked self.old.known server read write))).text) }
         ensures after { OnOk result (self.new ≡ (answered (run_line self.old.journals (asked.cost_asked self.old.known server read write))).after) }
+        ensures kept { OnErr result (Extends text.old.items text.new.items) }
     {
         self.recorder.replayed();
         let ask = ViewAsk::SetCost {
@@ -163,6 +168,7 @@ impl Shell {
     ) -> Result<(), Memory>
         ensures text { OnOk result (text.new.items ≡ text.old.items ++ (answer self.old (Line.Mark server up)).text) }
         ensures after { OnOk result (self.new ≡ (answer self.old (Line.Mark server up)).after) }
+        ensures kept { OnErr result (Extends text.old.items text.new.items) }
     {
         let Some(id) = self.levels.server(server) else {
             return say_number(text, b"no such server ", server);
@@ -180,6 +186,7 @@ impl Shell {
         requires { id.levels ≡ self.old.journals.levels }
         ensures text { OnOk result (text.new.items ≡ text.old.items ++ (answered (run_line self.old.journals (asked.mark_asked self.old.known id.number up))).text) }
         ensures after { OnOk result (self.new ≡ (answered (run_line self.old.journals (asked.mark_asked self.old.known id.number up))).after) }
+        ensures kept { OnErr result (Extends text.old.items text.new.items) }
     {
         let server = id.number();
         let ask = mark_ask(up);
@@ -195,6 +202,7 @@ impl Shell {
     fn choose(&mut self, alloc: Global, purpose: Purpose, text: &mut Vec<u8>) -> Result<(), Memory>
         ensures text { OnOk result (text.new.items ≡ text.old.items ++ (answer self.old (Line.Choose purpose)).text) }
         ensures after { OnOk result (self.new ≡ (answer self.old (Line.Choose purpose)).after) }
+        ensures kept { OnErr result (Extends text.old.items text.new.items) }
     {
         self.recorder.replayed();
         let answer = self.recorder.view(alloc, ViewAsk::Choose { purpose });
@@ -206,6 +214,7 @@ impl Shell {
     fn begin(&mut self, alloc: Global, text: &mut Vec<u8>) -> Result<(), Memory>
         ensures text { OnOk result (text.new.items ≡ text.old.items ++ (answer self.old Line.Begin).text) }
         ensures after { OnOk result (self.new ≡ (answer self.old Line.Begin).after) }
+        ensures kept { OnErr result (Extends text.old.items text.new.items) }
     {
         self.recorder.replayed();
         let answer = self.recorder.desk(alloc, DeskAsk::Begin);
@@ -224,6 +233,7 @@ impl Shell {
         ensures known { OnOk result (self.new.known ≡ (asked.begin_end self.old.known (line_result answer)).known) }
         ensures journals { self.new.journals ≡ self.old.journals }
         ensures memory { OnOk result (said.is_refused_memory (line_result answer) ≡ false) }
+        ensures kept { OnErr result (Extends text.old.items text.new.items) }
     {
         match answer {
             Ok(told) => self.begun(alloc, told.reply, text)?,
@@ -237,6 +247,7 @@ impl Shell {
         ensures text { OnOk result (text.new.items ≡ text.old.items ++ (asked.begun self.old.known reply).text) }
         ensures known { OnOk result (self.new.known ≡ (asked.begun self.old.known reply).known) }
         ensures journals { self.new.journals ≡ self.old.journals }
+        ensures kept { OnErr result (Extends text.old.items text.new.items) }
     {
         match reply {
             DeskReply::Txn(number) => {
@@ -255,13 +266,15 @@ impl Shell {
     fn refresh(&mut self, alloc: Global, text: &mut Vec<u8>) -> Result<(), Memory>
         ensures text { OnOk result (text.new.items ≡ text.old.items ++ (answer self.old Line.Refresh).text) }
         ensures after { OnOk result (self.new ≡ (answer self.old Line.Refresh).after) }
+        ensures kept { OnErr result (Extends text.old.items text.new.items) }
     {
         refresh_all(&mut self.recorder, alloc, text)?;
         Ok(())
     }
 
     fn board(&self, alloc: Global, text: &mut Vec<u8>) -> Result<(), Memory>
-        ensures { OnOk result (text.new.items ≡ text.old.items ++ (answer self.now Line.Board).text) }
+        ensures text { OnOk result (text.new.items ≡ text.old.items ++ (answer self.now Line.Board).text) }
+        ensures kept { OnErr result (Extends text.old.items text.new.items) }
     {
         say_board(self.service(), alloc, text)?;
         Ok(())
@@ -287,6 +300,7 @@ impl Shell {
     ) -> Result<(), Memory>
         ensures text { OnOk result (text.new.items ≡ text.old.items ++ (answer self.old (Line.Txn number line)).text) }
         ensures after { OnOk result (self.new ≡ (answer self.old (Line.Txn number line)).after) }
+        ensures kept { OnErr result (Extends text.old.items text.new.items) }
     {
         let place = match self.place_of(number) {
             None => return say_number(text, b"no such transaction ", number),
@@ -320,6 +334,7 @@ fn mark_ask(up: bool) -> NodeAsk
 fn say_ok(text: &mut Vec<u8>, answer: &Result<ViewTold, AskFault>) -> Result<(), Memory>
     ensures text { OnOk result (text.new.items ≡ text.old.items ++ printed (said.result_text [] asked.ok_text (line_result answer.now))) }
     ensures memory { OnOk result (said.is_refused_memory (line_result answer.now) ≡ false) }
+    ensures kept { OnErr result (Extends text.old.items text.new.items) }
 {
     match answer {
         Ok(_told) => say_line(text, b"ok")?,
@@ -332,6 +347,7 @@ fn say_ok(text: &mut Vec<u8>, answer: &Result<ViewTold, AskFault>) -> Result<(),
 fn say_chosen(text: &mut Vec<u8>, answer: &Result<ViewTold, AskFault>) -> Result<(), Memory>
     ensures text { OnOk result (text.new.items ≡ text.old.items ++ printed (said.result_text [] asked.chosen_text (line_result answer.now))) }
     ensures memory { OnOk result (said.is_refused_memory (line_result answer.now) ≡ false) }
+    ensures kept { OnErr result (Extends text.old.items text.new.items) }
 {
     match answer {
         Ok(told) => say_choice(text, &told.reply)?,
@@ -349,6 +365,7 @@ fn say_marked(
 ) -> Result<(), Memory>
     ensures text { OnOk result (text.new.items ≡ text.old.items ++ printed (said.result_text [] (asked.marked_text server up) (line_result answer.now))) }
     ensures memory { OnOk result (said.is_refused_memory (line_result answer.now) ≡ false) }
+    ensures kept { OnErr result (Extends text.old.items text.new.items) }
 {
     match answer {
         Ok(_told) => say_mark(text, server, up)?,
@@ -359,7 +376,8 @@ fn say_marked(
 
 /// Puts a server's new mark behind the text, as a line.
 fn say_mark(text: &mut Vec<u8>, server: u64, up: bool) -> Result<(), Memory>
-    ensures { OnOk result (text.new.items ≡ text.old.items ++ printed (mark_word up ++ decimal server)) }
+    ensures text { OnOk result (text.new.items ≡ text.old.items ++ printed (mark_word up ++ decimal server)) }
+    ensures kept { OnErr result (Extends text.old.items text.new.items) }
 {
     if up {
         say_number(text, b"up ", server)

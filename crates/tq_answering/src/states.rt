@@ -1,7 +1,7 @@
 //! The states of a transaction, as its lines want them.
-ghost use Rattle.std.specs.Prelude.{◌≡◌, ◌++◌, OnOk, IfOk};
+ghost use Rattle.std.specs.Prelude.{◌≡◌, ◌++◌, OnOk, OnErr, IfOk};
 ghost use Rattle.std.specs.Option.{option_map};
-ghost use Rattle.tq_print.specs.Print.{printed};
+ghost use Rattle.tq_print.specs.Print.{Extends, printed};
 ghost use Rattle.tq_answering.specs.Known.{ending_in};
 ghost use Rattle.tq_print.specs.Refusals.{decided_text};
 ghost use Rattle.tq_txn.specs.States.{levels_of};
@@ -23,7 +23,8 @@ pub(crate) enum Closed {
 
 /// Puts how a transaction ended behind the text, as a line.
 pub(crate) fn say_decided(text: &mut Vec<u8>, verdict: &Verdict) -> Result<(), Memory>
-    ensures { OnOk result (text.new.items ≡ text.old.items ++ printed (decided_text verdict.now)) }
+    ensures text { OnOk result (text.new.items ≡ text.old.items ++ printed (decided_text verdict.now)) }
+    ensures kept { OnErr result (Extends text.old.items text.new.items) }
 {
     push_decided(text, verdict)?;
     text.push(b'\n')?;
@@ -39,7 +40,8 @@ pub(crate) fn stand_in(alloc: Global, txn: &Txn) -> Txn
 
 /// The transaction as it gathers votes, if it has an operation and did not end.
 pub(crate) fn voting_of(txn: Txn, text: &mut Vec<u8>) -> Result<Closed, Memory>
-    ensures { IfOk result (λ state. spec.IsClosed txn state text.old.items text.new.items) }
+    ensures text { IfOk result (λ state. spec.IsClosed txn state text.old.items text.new.items) }
+    ensures kept { OnErr result (Extends text.old.items text.new.items) }
 {
     match txn {
         Txn::Open(open) => close(open, text),
@@ -52,7 +54,8 @@ pub(crate) fn voting_of(txn: Txn, text: &mut Vec<u8>) -> Result<Closed, Memory>
 }
 
 fn close(still_open: Open, text: &mut Vec<u8>) -> Result<Closed, Memory>
-    ensures { IfOk result (λ state. spec.IsClosed (Txn.Open still_open) state text.old.items text.new.items) }
+    ensures text { IfOk result (λ state. spec.IsClosed (Txn.Open still_open) state text.old.items text.new.items) }
+    ensures kept { OnErr result (Extends text.old.items text.new.items) }
 {
     match still_open.close() {
         Ok(voting) => Ok(Closed::Voting(voting)),

@@ -1,5 +1,5 @@
 -- How answers are printed.
-use Rattle.std.specs.Prelude.{ℕ, Bool, cond, List, [], ◌∷◌, ◌++◌, codes, Option, Some, None}
+use Rattle.std.specs.Prelude.{◌≡◌, ℕ, Bool, cond, List, [], ◌∷◌, ◌++◌, codes, Option, Some, None}
 use Rattle.std.specs.List.{flat_map}
 use Rattle.std.specs.Fmt.{decimal}
 use Rattle.tq_asks.specs.declared.ask.Verdict.{Verdict}
@@ -13,6 +13,10 @@ use Rattle.tq_txn.specs.declared.applying.Applied.{Applied}
 use Rattle.tq_txn.specs.declared.applying.Applied.TheVariants.{Installed, Discarded}
 use Rattle.tq_txn.specs.declared.reading.Reading.{Reading}
 use Rattle.tq_txn.specs.declared.reading.Reading.TheVariants.{Pending, Copy}
+
+-- a text goes on from what stood in it
+abbrev pub Extends : List ℕ → List ℕ → Type 0
+Extends old new = (more : List ℕ) × (new ≡ old ++ more)
 
 -- a printed line
 abbrev pub printed : List ℕ → List ℕ

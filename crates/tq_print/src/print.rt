@@ -1,9 +1,9 @@
-ghost use Rattle.std.specs.Prelude.{◌≡◌, ◌++◌, ◌∷◌, [], ◌+◌, ◌/◌, ◌%◌, ◌≤◌, length, vec_len, vec_capacity, OnOk, map};
+ghost use Rattle.std.specs.Prelude.{◌≡◌, ◌++◌, ◌∷◌, [], ◌+◌, ◌/◌, ◌%◌, ◌≤◌, length, vec_len, vec_capacity, OnOk, OnErr, map};
 ghost use Rattle.std.specs.Fmt.{decimal};
 ghost use Rattle.std.specs.Option.{option_copied};
 ghost use Rattle.tq_coterie.specs.Coterie.{numbers_of};
 ghost use Rattle.tq_print.specs.Print as spec;
-ghost use Rattle.tq_print.specs.Print.{printed, numbers_text, choice_text};
+ghost use Rattle.tq_print.specs.Print.{Extends, printed, numbers_text, choice_text};
 
 use tq_asks::Verdict;
 use tq_desk::{Grant, Op};
@@ -14,7 +14,8 @@ use tq_txn::{Applied, Reading};
 
 /// Puts what a view chose behind the text, as a line.
 pub fn say_choice(text: &mut Vec<u8>, reply: &ViewReply) -> Result<(), Memory>
-    ensures { OnOk result (text.new.items ≡ text.old.items ++ printed (choice_text reply.now)) }
+    ensures text { OnOk result (text.new.items ≡ text.old.items ++ printed (choice_text reply.now)) }
+    ensures kept { OnErr result (Extends text.old.items text.new.items) }
 {
     match reply {
         ViewReply::Chosen { quorum, cost } => {
@@ -33,7 +34,8 @@ pub fn say_choice(text: &mut Vec<u8>, reply: &ViewReply) -> Result<(), Memory>
 
 /// Puts the numbers of the servers behind the text, each after a space.
 pub(crate) fn push_servers(text: &mut Vec<u8>, servers: &[ServerId]) -> Result<(), Memory>
-    ensures { OnOk result (text.new.items ≡ text.old.items ++ numbers_text (numbers_of servers.now)) }
+    ensures text { OnOk result (text.new.items ≡ text.old.items ++ numbers_text (numbers_of servers.now)) }
+    ensures kept { OnErr result (Extends text.old.items text.new.items) }
 {
     for server in servers {
         push_spaced(text, server.number())?;
@@ -43,7 +45,8 @@ pub(crate) fn push_servers(text: &mut Vec<u8>, servers: &[ServerId]) -> Result<(
 
 /// Puts the numbers behind the text, each after a space.
 pub(crate) fn push_numbers(text: &mut Vec<u8>, numbers: &[u64]) -> Result<(), Memory>
-    ensures { OnOk result (text.new.items ≡ text.old.items ++ numbers_text numbers.now) }
+    ensures text { OnOk result (text.new.items ≡ text.old.items ++ numbers_text numbers.now) }
+    ensures kept { OnErr result (Extends text.old.items text.new.items) }
 {
     for number in numbers {
         push_spaced(text, *number)?;
@@ -53,7 +56,8 @@ pub(crate) fn push_numbers(text: &mut Vec<u8>, numbers: &[u64]) -> Result<(), Me
 
 /// Puts the servers of the grants behind the text, each after a space.
 fn push_grants(text: &mut Vec<u8>, grants: &[Grant]) -> Result<(), Memory>
-    ensures { OnOk result (text.new.items ≡ text.old.items ++ numbers_text (map (λ grant. grant.server) grants.now)) }
+    ensures text { OnOk result (text.new.items ≡ text.old.items ++ numbers_text (map (λ grant. grant.server) grants.now)) }
+    ensures kept { OnErr result (Extends text.old.items text.new.items) }
 {
     for grant in grants {
         push_spaced(text, grant.server)?;
@@ -63,7 +67,8 @@ fn push_grants(text: &mut Vec<u8>, grants: &[Grant]) -> Result<(), Memory>
 
 /// Puts the servers that an operation rests on behind the text, each after a space.
 fn push_op(text: &mut Vec<u8>, op: Option<&Op>) -> Result<(), Memory>
-    ensures { OnOk result (text.new.items ≡ text.old.items ++ numbers_text (spec.op_servers (option_copied op.entry))) }
+    ensures text { OnOk result (text.new.items ≡ text.old.items ++ numbers_text (spec.op_servers (option_copied op.entry))) }
+    ensures kept { OnErr result (Extends text.old.items text.new.items) }
 {
     match op {
         Some(op) => Ok(push_grants(text, op.grants.as_slice())?),
@@ -78,7 +83,8 @@ pub fn say_reading(
     op: Option<&Op>,
     reading: &Reading,
 ) -> Result<(), Memory>
-    ensures { OnOk result (text.new.items ≡ text.old.items ++ printed (spec.reading_text file.now (option_copied op.entry) reading.now)) }
+    ensures text { OnOk result (text.new.items ≡ text.old.items ++ printed (spec.reading_text file.now (option_copied op.entry) reading.now)) }
+    ensures kept { OnErr result (Extends text.old.items text.new.items) }
 {
     match reading {
         Reading::Pending(content) => {
@@ -97,7 +103,8 @@ fn say_copy(
     op: Option<&Op>,
     copy: &FileCopy,
 ) -> Result<(), Memory>
-    ensures { OnOk result (text.new.items ≡ text.old.items ++ printed (spec.reading_text file.now (option_copied op.entry) (Reading.Copy copy.now))) }
+    ensures text { OnOk result (text.new.items ≡ text.old.items ++ printed (spec.reading_text file.now (option_copied op.entry) (Reading.Copy copy.now))) }
+    ensures kept { OnErr result (Extends text.old.items text.new.items) }
 {
     push_version(text, file, copy.version)?;
     text.extend_from_slice(b" from")?;
@@ -108,7 +115,8 @@ fn say_copy(
 
 /// Puts a content in brackets behind the text.
 fn push_bracketed(text: &mut Vec<u8>, content: &Content) -> Result<(), Memory>
-    ensures { OnOk result (text.new.items ≡ text.old.items ++ spec.bracketed content.now) }
+    ensures text { OnOk result (text.new.items ≡ text.old.items ++ spec.bracketed content.now) }
+    ensures kept { OnErr result (Extends text.old.items text.new.items) }
 {
     text.extend_from_slice(b" [")?;
     text.extend_from_slice(content.as_bytes())?;
@@ -118,7 +126,8 @@ fn push_bracketed(text: &mut Vec<u8>, content: &Content) -> Result<(), Memory>
 
 /// Puts a file and a version of it behind the text.
 fn push_version(text: &mut Vec<u8>, file: &FileName, version: u64) -> Result<(), Memory>
-    ensures { OnOk result (text.new.items ≡ text.old.items ++ spec.version_text file.now version) }
+    ensures text { OnOk result (text.new.items ≡ text.old.items ++ spec.version_text file.now version) }
+    ensures kept { OnErr result (Extends text.old.items text.new.items) }
 {
     text.extend_from_slice(file.as_bytes())?;
     text.extend_from_slice(b" version ")?;
@@ -133,7 +142,8 @@ pub fn say_writing(
     op: Option<&Op>,
     version: u64,
 ) -> Result<(), Memory>
-    ensures { OnOk result (text.new.items ≡ text.old.items ++ printed (spec.writing_text file.now (option_copied op.entry) version)) }
+    ensures text { OnOk result (text.new.items ≡ text.old.items ++ printed (spec.writing_text file.now (option_copied op.entry) version)) }
+    ensures kept { OnErr result (Extends text.old.items text.new.items) }
 {
     text.extend_from_slice(b"write ")?;
     push_version(text, file, version)?;
@@ -144,7 +154,8 @@ pub fn say_writing(
 
 /// Puts what a server did with a verdict behind the text, as a line.
 pub fn say_applied(text: &mut Vec<u8>, server: u64, applied: Applied) -> Result<(), Memory>
-    ensures { OnOk result (text.new.items ≡ text.old.items ++ printed (spec.applied_text server applied)) }
+    ensures text { OnOk result (text.new.items ≡ text.old.items ++ printed (spec.applied_text server applied)) }
+    ensures kept { OnErr result (Extends text.old.items text.new.items) }
 {
     match applied {
         Applied::Installed => say_number(text, b"installed ", server),
@@ -154,7 +165,8 @@ pub fn say_applied(text: &mut Vec<u8>, server: u64, applied: Applied) -> Result<
 
 /// Puts a verdict behind the text, as a line.
 pub fn say_verdict(text: &mut Vec<u8>, verdict: &Verdict) -> Result<(), Memory>
-    ensures { OnOk result (text.new.items ≡ text.old.items ++ printed (spec.verdict_text verdict.now)) }
+    ensures text { OnOk result (text.new.items ≡ text.old.items ++ printed (spec.verdict_text verdict.now)) }
+    ensures kept { OnErr result (Extends text.old.items text.new.items) }
 {
     match verdict {
         Verdict::Abort => say_line(text, b"verdict abort"),
@@ -164,7 +176,8 @@ pub fn say_verdict(text: &mut Vec<u8>, verdict: &Verdict) -> Result<(), Memory>
 
 /// Puts a line behind the text.
 pub fn say_line(text: &mut Vec<u8>, words: &[u8]) -> Result<(), Memory>
-    ensures { OnOk result (text.new.items ≡ text.old.items ++ printed words.now) }
+    ensures text { OnOk result (text.new.items ≡ text.old.items ++ printed words.now) }
+    ensures kept { OnErr result (Extends text.old.items text.new.items) }
 {
     text.extend_from_slice(words)?;
     text.push(b'\n')?;
@@ -173,7 +186,8 @@ pub fn say_line(text: &mut Vec<u8>, words: &[u8]) -> Result<(), Memory>
 
 /// Puts a line of words and a number behind the text.
 pub fn say_number(text: &mut Vec<u8>, words: &[u8], number: u64) -> Result<(), Memory>
-    ensures { OnOk result (text.new.items ≡ text.old.items ++ printed (words.now ++ decimal number)) }
+    ensures text { OnOk result (text.new.items ≡ text.old.items ++ printed (words.now ++ decimal number)) }
+    ensures kept { OnErr result (Extends text.old.items text.new.items) }
 {
     text.extend_from_slice(words)?;
     push_number(text, number)?;
@@ -186,7 +200,8 @@ const MOST_DIGITS: usize = 20;
 
 /// Puts the number in decimal behind the text.
 pub(crate) fn push_number(text: &mut Vec<u8>, number: u64) -> Result<(), Memory>
-    ensures { OnOk result (text.new.items ≡ text.old.items ++ decimal number) }
+    ensures text { OnOk result (text.new.items ≡ text.old.items ++ decimal number) }
+    ensures kept { OnErr result (Extends text.old.items text.new.items) }
 {
     text.reserve(MOST_DIGITS)?;
     push_digits(text, number);
@@ -195,7 +210,8 @@ pub(crate) fn push_number(text: &mut Vec<u8>, number: u64) -> Result<(), Memory>
 
 /// Puts a space and the number in decimal behind the text.
 fn push_spaced(text: &mut Vec<u8>, number: u64) -> Result<(), Memory>
-    ensures { OnOk result (text.new.items ≡ text.old.items ++ 32 ∷ decimal number) }
+    ensures text { OnOk result (text.new.items ≡ text.old.items ++ 32 ∷ decimal number) }
+    ensures kept { OnErr result (Extends text.old.items text.new.items) }
 {
     text.reserve(1 + MOST_DIGITS)?;
     text.push_reserved(b' ');

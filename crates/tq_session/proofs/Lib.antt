@@ -1,4 +1,3 @@
 mod StreamLaws
 mod Pieces
 mod RunLaws
-mod Fronts

@@ -241,3 +241,8 @@ module _ (start : Received) (said piece : List ℕ) (now : Received) (text left 
 
       pub receiving-full-after : ended now ending ≡ received_all start (take (length piece - length behind) piece)
       receiving-full-after = more-received ∙ ap (received_all start) front-is
+
+-- of bytes at least one is received at once
+pub taken_some : (there : ℕ) (received : Received) (bytes : List ℕ) → 0 < length bytes → 0 < taken_at_once there received bytes
+taken_some there received [] some = absurd (omega arith)
+taken_some there received (byte ∷ bytes) some = omega arith

@@ -4,7 +4,6 @@ ghost use Rattle.tq_answering.specs.Answer.{answer};
 use memchr::memchr;
 use std::alloc::Global;
 use std::marker::Model;
-use std::mem;
 use tq_answering::Shell;
 use tq_lines::{LINE_LIMIT, Line, without_return};
 use tq_shape::{Levels, Memory};
@@ -20,8 +19,6 @@ const FLUSH_AT: usize = 1_048_576;
 pub(crate) struct Receiver {
     shell: Shell,
     line: Vec<u8>,
-    /// Room for the answer to a line.
-    answer: Vec<u8>,
 }
 
 impl Model for Receiver {
@@ -45,12 +42,7 @@ impl Receiver {
     {
         let shell = Shell::new(alloc, levels)?;
         let line = Vec::new(alloc);
-        let answer = Vec::new(alloc);
-        Ok(Receiver {
-            shell,
-            line,
-            answer,
-        })
+        Ok(Receiver { shell, line })
     }
 
     /// Receives a piece, or its front up to the line with which there are enough answers to be written, and tells how many
@@ -90,7 +82,7 @@ impl Receiver {
     {
         if self.line.is_empty() {
             let line = Line::of(alloc, without_return(bytes))?;
-            push_answer(&mut self.shell, alloc, line, &mut self.answer, text)?;
+            push_answer(&mut self.shell, alloc, line, text)?;
             return Ok(());
         }
         self.end_kept(alloc, bytes, text)
@@ -105,7 +97,7 @@ impl Receiver {
     {
         self.keep(bytes)?;
         let line = Line::of(alloc, without_return(self.line.as_slice()))?;
-        push_answer(&mut self.shell, alloc, line, &mut self.answer, text)?;
+        push_answer(&mut self.shell, alloc, line, text)?;
         self.line.clear();
         Ok(())
     }
@@ -130,27 +122,23 @@ impl Receiver {
     }
 }
 
-/// Puts the answer to a line behind the text, by way of the room. Where memory is refused, the text stays.
+/// Puts the answer to a line behind the text. Where memory is refused, the text stays.
 // Compiled into its callers: a call would move the line.
 #[inline(always)]
 fn push_answer(
     shell: &mut Shell,
     alloc: Global,
     line: Line,
-    room: &mut Vec<u8>,
     text: &mut Vec<u8>,
 ) -> Result<(), Memory>
     ensures text { OnOk result (text.new.items ≡ text.old.items ++ (answer shell.old line).text) }
     ensures after { OnOk result (shell.new ≡ (answer shell.old line).after) }
     ensures kept { OnErr result (text.new.items ≡ text.old.items) }
 {
-    room.clear();
-    shell.answer(alloc, line, room)?;
-    if text.is_empty() {
-        // The room becomes the text, and the text the room.
-        mem::swap(text, room);
-        return Ok(());
+    let whole = text.len();
+    let answered = shell.answer(alloc, line, text);
+    if answered.is_err() {
+        text.truncate(whole);
     }
-    text.extend_from_slice(room.as_slice())?;
-    Ok(())
+    answered
 }

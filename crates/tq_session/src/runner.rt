@@ -5,7 +5,6 @@ ghost use Rattle.tq_session.specs.Run.{IsPieceWritten, IsRunText};
 ghost use Rattle.tq_session.specs.Stream.{nothing_received, received_all};
 
 use crate::receiver::Receiver;
-use memchr::memmem;
 use std::alloc::Global;
 use std::mem;
 use tq_devices::{RunFault, Sink, Source, write_out};
@@ -92,23 +91,11 @@ fn answer_piece<W: Sink>(
 {
     let mut left = piece;
     while !left.is_empty() {
-        let received = receiver.receive(alloc, &left[..at_once(left)], text);
+        let received = receiver.receive(alloc, left, text);
         write_out(writer, text.as_slice())?;
         let taken = received?;
         text.clear();
         left = &left[taken..];
     }
     Ok(())
-}
-
-/// How many of the bytes are answered before answers are written: those before a line `refresh` that is not the first, since
-/// its answer is long, and is made in the room of a text that is empty.
-fn at_once(bytes: &[u8]) -> usize
-    requires { 0 < length bytes.now }
-    ensures { (0 < result) × (result ≤ length bytes.now) }
-{
-    match memmem::find(bytes, b"\nrefresh\n") {
-        Some(place) => place + 1,
-        None => bytes.len(),
-    }
 }
