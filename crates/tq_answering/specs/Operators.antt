@@ -65,6 +65,13 @@ abbrev pub job_text : Job → Bool → List ℕ
 job_text job true = codes "refreshed " ++ job.file ++ codes " at " ++ decimal job.server.number ++ codes " from " ++ decimal job.source.number
 job_text job false = codes "not refreshed " ++ job.file ++ codes " at " ++ decimal job.server.number
 
+-- the line for a copy that was mended, before the server's number and behind it
+abbrev pub mended_front : List ℕ → List ℕ
+mended_front file = codes "refreshed " ++ file ++ codes " at "
+
+abbrev pub mended_back : ℕ → List ℕ
+mended_back source = printed (codes " from " ++ decimal source)
+
 abbrev pub with_job : Mended → Job → Bool → Mended
 with_job mended job refreshed = record { text = mended.text ++ printed (job_text job refreshed); count = mended.count + cond refreshed 1 0 }
 

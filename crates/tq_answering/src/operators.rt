@@ -1,5 +1,6 @@
 //! The lines of operators: the refresh and the board.
 ghost use Rattle.std.specs.Prelude.{◌≡◌, ◌≤◌, ◌+◌, ◌++◌, List, length, true, false, IfOk, OnOk, OnErr, string_bytes};
+ghost use Rattle.std.specs.Fmt.{decimal};
 ghost use Rattle.std.specs.Option.{option_map};
 ghost use Rattle.tq_world.specs.Steps.{world_after};
 ghost use Rattle.tq_world.specs.declared.answer.Step.TheVariants as steps;
@@ -29,30 +30,11 @@ struct Counts {
     mended: usize,
 }
 
-/// What is said of each server at which a copy of a file was mended from a source, before its number and behind it.
+/// What is said of each server at which a copy of a file was mended from a source, before the server's number and behind it.
 #[derive(Drop)]
-struct Mended {
+struct MendedText {
     front: Vec<u8>,
-    end: Vec<u8>,
-}
-
-impl Mended {
-    fn of(alloc: Global, file: FileName, source: ServerId) -> Result<Mended, Memory>
-    {
-        let mut front = Vec::from_slice(alloc, b"refreshed ")?;
-        front.extend_from_slice(file.as_bytes())?;
-        front.extend_from_slice(b" at ")?;
-        let mut end = Vec::new(alloc);
-        say_number(&mut end, b" from ", source.number())?;
-        Ok(Mended { front, end })
-    }
-
-    fn say(&self, text: &mut Vec<u8>, server: ServerId) -> Result<(), Memory>
-    {
-        push_at(text, self.front.as_slice(), server.number())?;
-        text.extend_from_slice(self.end.as_slice())?;
-        Ok(())
-    }
+    back: Vec<u8>,
 }
 
 /// Puts the board of the service behind the text.
@@ -141,10 +123,10 @@ fn mend_file(
     ensures jobs { OnOk result (counts.new.jobs ≡ counts.old.jobs + length (jobs_in up.now of_file.now)) }
     ensures fits { OnOk result ((counts.new.mended ≤ counts.new.jobs) × (counts.new.jobs ≤ length text.new.items)) }
     ensures tree { recorder.new.journals.levels ≡ recorder.old.journals.levels }
-    ensures kept { OnErr result (Extends text.old.items text.new.items) }
+    ensures kept { Extends text.old.items text.new.items }
 {
     let peek = of_file.peek_ask(alloc)?;
-    let said = Mended::of(alloc, of_file.file, of_file.source)?;
+    let said = mended_text(alloc, &of_file.file, of_file.source)?;
     for server in of_file.stale.iter() {
         if up.contains(server) {
             let job = Job {
@@ -250,16 +232,45 @@ fn is_refreshed(reply: &NodeReply) -> bool
     }
 }
 
-/// Puts what came of a job behind the text, as a line.
-fn say_job(text: &mut Vec<u8>, said: &Mended, job: &Job, refreshed: bool) -> Result<(), Memory>
+/// Puts what came of a job behind the text, as a line, where it is given what is said of a copy that was mended.
+fn say_job(
+    text: &mut Vec<u8>,
+    said: &MendedText,
+    job: &Job,
+    refreshed: bool,
+) -> Result<(), Memory>
+    requires front { said.now.front.items ≡ spec.mended_front job.now.file }
+    requires back { said.now.back.items ≡ spec.mended_back job.now.source.number }
     ensures text { OnOk result (text.new.items ≡ text.old.items ++ printed (spec.job_text job.now refreshed)) }
     ensures kept { OnErr result (Extends text.old.items text.new.items) }
 {
     if refreshed {
-        said.say(text, job.server)?;
+        say_mended(text, said, job.server)?;
     } else {
         say_not_refreshed(text, job)?;
     }
+    Ok(())
+}
+
+/// What is said of each server at which a copy of the file was mended from the source.
+fn mended_text(alloc: Global, file: &FileName, source: ServerId) -> Result<MendedText, Memory>
+    ensures front { IfOk result (λ said. said.front.items ≡ spec.mended_front file.now) }
+    ensures back { IfOk result (λ said. said.back.items ≡ spec.mended_back source.number) }
+{
+    let mut front = Vec::from_slice(alloc, b"refreshed ")?;
+    front.extend_from_slice(file.as_bytes())?;
+    front.extend_from_slice(b" at ")?;
+    let mut back = Vec::new(alloc);
+    say_number(&mut back, b" from ", source.number())?;
+    Ok(MendedText { front, back })
+}
+
+fn say_mended(text: &mut Vec<u8>, said: &MendedText, server: ServerId) -> Result<(), Memory>
+    ensures text { OnOk result (text.new.items ≡ text.old.items ++ said.now.front.items ++ decimal server.number ++ said.now.back.items) }
+    ensures kept { OnErr result (Extends text.old.items text.new.items) }
+{
+    push_at(text, said.front.as_slice(), server.number())?;
+    text.extend_from_slice(said.back.as_slice())?;
     Ok(())
 }
 

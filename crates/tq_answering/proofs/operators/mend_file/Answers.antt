@@ -1,13 +1,15 @@
-use Rattle.std.proofs.Common.{◌≡◌, ◌+◌, ◌++◌, List, Some, filter, length, refl, ap, sym, subst, ◌∙◌, arith, rules}
+use Rattle.std.proofs.Common.{◌≡◌, ◌+◌, [], ◌++◌, List, Some, filter, length, refl, ap, sym, subst, ◌∙◌, arith, rules}
 use Rattle.std.specs.List.{All}
+use Rattle.std.proofs.lemmas.List.{append-nil}
 use Rattle.std.proofs.lemmas.List.Elements.{All-head}
 use Rattle.tq_shape.specs.ServerSet.{has_number}
 use Rattle.tq_shape.specs.Tree.{Server}
 use Rattle.tq_refresh.specs.declared.job.Job.{Job}
 use Rattle.tq_refresh.specs.Plan.{jobs_from, servers_in}
 use Rattle.tq_refresh.proofs.Walked.{left_of_tree, of_one_tree, walks-passed, walks-passes}
+use Rattle.tq_print.specs.Print.{printed}
 use Rattle.tq_answering.specs.Operators.{job_text}
-use Rattle.tq_answering.proofs.Operating.{counted_fits, leads_from, longer, one_on}
+use Rattle.tq_answering.proofs.Operating.{counted_fits, extends_more, leads_from, longer, one_on}
 use Rattle.tq_answering.proofs.operators.mend_file.Goals as goal
 
 pub mend-requires-clause-of_tree : goal.mend-requires-clause-of_tree
@@ -32,6 +34,9 @@ loop-server-init c =
       of_tree = of_one_tree _ _ _ _ start (c.requires.planned.0 ∙ sym c.requires.up);
       tree = refl;
       peek = c.in_ok-peek.ensures;
+      front = c.in_ok-said.ensures.front;
+      back = c.in_ok-said.ensures.back;
+      begun = ([], sym (append-nil c.args.text.now.items));
     }
 
 pub loop-server-preserved-then-contains : goal.loop-server-preserved-then-contains
@@ -41,7 +46,7 @@ loop-server-preserved-then-contains c =
     let before = c.loop-server.invariant in
     let passes = walks-passes has _ _ _ c.in-Some.ensures.steps job (sym c.contains.ensures ∙ c.if-contains.true) in
     let long = ap length passes in
-    let said = c.in_ok-say_job.ensures in
+    let said = c.in_ok-say_job.ensures.text in
     let more_text = longer _ _ (job_text (job c.in-Some.server) c.in_ok-refreshed.refreshed) said in
     record {
       on = λ more. one_on _ _ _ _ _ _ _ _ _ (job c.in-Some.server) _ c.in_ok-refreshed.refreshed (leads_from (ap (λ js. js ++ more) passes) (before.on more))
@@ -51,6 +56,9 @@ loop-server-preserved-then-contains c =
       of_tree = left_of_tree c.args.up.now.levels _ _ _ c.in-Some.ensures.steps before.of_tree;
       tree = c.in_ok-refreshed.ensures.tree ∙ before.tree;
       peek = before.peek;
+      front = before.front;
+      back = before.back;
+      begun = extends_more _ _ _ (printed (job_text (job c.in-Some.server) c.in_ok-refreshed.refreshed)) before.begun said;
     }
 
 pub loop-server-preserved : goal.loop-server-preserved
@@ -66,4 +74,7 @@ loop-server-preserved c =
       of_tree = left_of_tree c.args.up.now.levels _ _ _ c.in-Some.ensures.steps before.of_tree;
       tree = before.tree;
       peek = before.peek;
+      front = before.front;
+      back = before.back;
+      begun = before.begun;
     }

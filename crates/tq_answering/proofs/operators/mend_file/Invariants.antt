@@ -4,7 +4,8 @@ use Rattle.tq_shape.specs.ServerSet.{has_number}
 use Rattle.tq_shape.specs.Tree.{Server}
 use Rattle.tq_refresh.specs.declared.job.Job.{Job}
 use Rattle.tq_refresh.specs.Plan.{jobs_from, jobs_in, peek_of}
-use Rattle.tq_answering.specs.Operators.{LeadsOn, so_far}
+use Rattle.tq_answering.specs.Operators.{LeadsOn, so_far, mended_front, mended_back}
+use Rattle.tq_print.specs.Print.{Extends}
 use Rattle.tq_answering.proofs.operators.mend_file.Given as goal
 
 -- after the jobs of some servers, those of the others, with any behind them, come to what all come to
@@ -19,4 +20,7 @@ invariant-loop-server l = record {
   of_tree : All (λ server. server.levels ≡ l.up.levels) l.server-iterator;
   tree : l.recorder.journals.levels ≡ l.fn.recorder.journals.levels;
   peek : l.peek ≡ peek_of l.of_file.file;
+  front : l.said.front.items ≡ mended_front l.of_file.file;
+  back : l.said.back.items ≡ mended_back l.of_file.source.number;
+  begun : Extends l.initial.text.items l.text.items;
 }
