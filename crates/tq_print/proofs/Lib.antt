@@ -1,1 +1,2 @@
 mod Decimals
+mod Extended
