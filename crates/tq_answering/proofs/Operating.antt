@@ -15,15 +15,11 @@ use Rattle.tq_part.specs.declared.fault.AskFault.TheVariants as faults
 use Rattle.tq_txn.specs.Dialogue.{Told, Dialogue, Ends, AsksNode, AsksDesk, AsksView, then_line, node_exchange, fault_of_ask}
 use Rattle.tq_refresh.specs.declared.job.Job.{Job}
 use Rattle.tq_answering.specs.Operators.{LeadsOn, Mended, nothing_mended, behind, so_far, answer_in, job_asked, jobs_asked, with_job, job_text, count_text, refresh_asked, refresh_jobs, refreshed_text}
-use Rattle.tq_print.specs.Print.{Extends, printed}
+use Rattle.tq_print.specs.Print.{printed}
 use Rattle.tq_print.specs.Refusals.{is_memory}
 use Rattle.tq_answering.specs.Asking.{Ran, run_line, node_told, desk_told, view_told}
 use Rattle.tq_answering.specs.Recorded.{RecorderView, Replays, IsReplayed, full_limits}
 use Rattle.tq_answering.proofs.Leading.{replays_more, then_ran}
-
--- a text that goes on from another goes on from what that goes on from
-pub extends_more : (old before new more : List ℕ) → Extends old before → new ≡ before ++ more → Extends old new
-extends_more old before new more begun goes_on = (begun.0 ++ more, goes_on ∙ ap (λ text. text ++ more) begun.1 ∙ append_assoc old begun.0 more)
 
 pub node_answered : (server : ℕ) (ask : NodeAsk) (told : Told NodeReply) (old new : RecorderView) → IsReplayed old → IsReplayed new → new.journals.levels ≡ old.journals.levels → new.told ≡ old.told ++ exchanges.Node server ask told ∷ []
     → (told ≡ node_told old.journals server ask) × (new.journals ≡ world_after old.journals (steps.Node server ask))

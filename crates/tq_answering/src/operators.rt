@@ -96,7 +96,7 @@ fn mend_all(
     ensures jobs { IfOk result (λ counts. counts.jobs ≡ length (jobs_of_plan plan.now)) }
     ensures after { OnOk result (recorder.new.journals ≡ (run_line recorder.old.journals (spec.jobs_asked (spec.behind text.old.items spec.nothing_mended) (jobs_of_plan plan.now))).after) }
     ensures tree { recorder.new.journals.levels ≡ recorder.old.journals.levels }
-    ensures kept { OnErr result (Extends text.old.items text.new.items) }
+    ensures kept { Extends text.old.items text.new.items }
 {
     let mut counts = Counts { jobs: 0, mended: 0 };
     for of_file in plan.files.as_slice() {

@@ -40,7 +40,7 @@ pub(crate) fn stand_in(alloc: Global, txn: &Txn) -> Txn
 
 /// The transaction as it gathers votes, if it has an operation and did not end.
 pub(crate) fn voting_of(txn: Txn, text: &mut Vec<u8>) -> Result<Closed, Memory>
-    ensures text { IfOk result (λ state. spec.IsClosed txn state text.old.items text.new.items) }
+    ensures closed { IfOk result (λ state. spec.IsClosed txn state text.old.items text.new.items) }
     ensures kept { OnErr result (Extends text.old.items text.new.items) }
 {
     match txn {
@@ -54,7 +54,7 @@ pub(crate) fn voting_of(txn: Txn, text: &mut Vec<u8>) -> Result<Closed, Memory>
 }
 
 fn close(still_open: Open, text: &mut Vec<u8>) -> Result<Closed, Memory>
-    ensures text { IfOk result (λ state. spec.IsClosed (Txn.Open still_open) state text.old.items text.new.items) }
+    ensures closed { IfOk result (λ state. spec.IsClosed (Txn.Open still_open) state text.old.items text.new.items) }
     ensures kept { OnErr result (Extends text.old.items text.new.items) }
 {
     match still_open.close() {

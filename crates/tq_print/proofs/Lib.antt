@@ -1,2 +1,2 @@
 mod Decimals
-mod Extended
+pub mod Extended

@@ -12,7 +12,7 @@ pub returns-clause-answered : goal.returns-clause-answered
 returns-clause-answered c =
     let kept = c.args.kept.now in
     let state = c.in-Voting.voting in
-    let taken = subst (λ (state : Closed). IsClosed c.replace-txn.result state c.args.text.now.items c.voting_of.new.text.items) c.in-Voting.is c.in_ok-txn.ensures in
+    let taken = subst (λ (state : Closed). IsClosed c.replace-txn.result state c.args.text.now.items c.voting_of.new.text.items) c.in-Voting.is c.in_ok-txn.ensures.closed in
     let closed = subst (λ (txn : Txn). IsClosed txn (Voting state) c.args.text.now.items c.voting_of.new.text.items) c.replace-txn.ensures.value taken in
     answered_as (decision_asked (course_line c.args.course) 0 kept) (decision_voting (course_line c.args.course) kept c.in-Voting.voting) c.args.recorder.now.journals c.decision-answer.new.recorder.journals c.args.text.now.items c.voting_of.new.text.items c.say_committed.new.text.items _
     (closed.2 kept (decision_voting (course_line c.args.course) kept)) closed.0

@@ -9,7 +9,8 @@ use Rattle.tq_refresh.specs.Plan.{jobs_from, servers_in}
 use Rattle.tq_refresh.proofs.Walked.{left_of_tree, of_one_tree, walks-passed, walks-passes}
 use Rattle.tq_print.specs.Print.{printed}
 use Rattle.tq_answering.specs.Operators.{job_text}
-use Rattle.tq_answering.proofs.Operating.{counted_fits, extends_more, leads_from, longer, one_on}
+use Rattle.tq_answering.proofs.Operating.{counted_fits, leads_from, longer, one_on}
+use Rattle.tq_print.proofs.Extended.{extends_more}
 use Rattle.tq_answering.proofs.operators.mend_file.Goals as goal
 
 pub mend-requires-clause-of_tree : goal.mend-requires-clause-of_tree
@@ -58,7 +59,7 @@ loop-server-preserved-then-contains c =
       peek = before.peek;
       front = before.front;
       back = before.back;
-      begun = extends_more _ _ _ (printed (job_text (job c.in-Some.server) c.in_ok-refreshed.refreshed)) before.begun said;
+      begun = extends_more _ _ _ before.begun (printed (job_text (job c.in-Some.server) c.in_ok-refreshed.refreshed), said);
     }
 
 pub loop-server-preserved : goal.loop-server-preserved
