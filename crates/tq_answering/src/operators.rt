@@ -233,12 +233,7 @@ fn is_refreshed(reply: &NodeReply) -> bool
 }
 
 /// Puts what came of a job behind the text, as a line, where it is given what is said of a copy that was mended.
-fn say_job(
-    text: &mut Vec<u8>,
-    said: &MendedText,
-    job: &Job,
-    refreshed: bool,
-) -> Result<(), Memory>
+fn say_job(text: &mut Vec<u8>, said: &MendedText, job: &Job, refreshed: bool) -> Result<(), Memory>
     requires front { said.now.front.items ≡ spec.mended_front job.now.file }
     requires back { said.now.back.items ≡ spec.mended_back job.now.source.number }
     ensures text { OnOk result (text.new.items ≡ text.old.items ++ printed (spec.job_text job.now refreshed)) }

@@ -1,5 +1,5 @@
 -- Texts that go on from one another.
-use Rattle.std.proofs.Common.{◌≡◌, ◌∙◌, ◌++◌, ℕ, List, ap, append_assoc}
+use Rattle.std.proofs.Common.{◌∙◌, ◌++◌, ℕ, List, ap, append_assoc}
 use Rattle.tq_print.specs.Print.{Extends}
 
 -- a text that goes on from another goes on from what that goes on from

@@ -1,4 +1,3 @@
-use Rattle.std.proofs.Common.{rules}
 use Rattle.tq_print.proofs.Extended.{extends_more}
 use Rattle.tq_answering.proofs.operators.mend_all.Goals as goal
 

@@ -1,4 +1,4 @@
-use Rattle.std.proofs.Common.{◌≡◌, ◌∙◌, ◌++◌, ap, codes, append_assoc}
+use Rattle.std.proofs.Common.{◌∙◌, ◌++◌, ap, codes, append_assoc}
 use Rattle.tq_print.specs.Print.{numbers_text}
 use Rattle.tq_print.proofs.refusals.push_not_a_voter.Goals as goal
 
