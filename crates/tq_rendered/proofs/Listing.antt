@@ -1,5 +1,5 @@
 -- Lists of words, and lines of servers upwards.
-use Rattle.std.proofs.Common.{◌≡◌, ℕ, suc, slice_index_or, ◌+◌, ◌-◌, ◌<◌, List, [], ◌∷◌, ◌++◌, map, refl, sym, ap, ◌∙◌, arith, append_assoc}
+use Rattle.std.proofs.Common.{◌≡◌, ℕ, suc, ◌+◌, ◌-◌, ◌<◌, List, [], ◌∷◌, ◌++◌, map, refl, sym, ap, ◌∙◌, arith, append_assoc}
 use Rattle.std.proofs.lemmas.List.{append-nil}
 use Rattle.std.specs.Fmt.{decimal}
 use Rattle.std.specs.List.{flat_map}
@@ -8,9 +8,8 @@ use Rattle.tq_shape.specs.ServerSet.{numbered}
 use Rattle.tq_coterie.specs.Coterie.{numbers_of}
 use Rattle.tq_live.specs.Live.{Live}
 use Rattle.tq_live.specs.View.{upwards}
-use Rattle.tq_tables.specs.declared.quorum_row.QuorumRow.{QuorumRow}
 use Rattle.tq_tables.specs.Tables.{TablesView}
-use Rattle.tq_rendered.specs.Board.{as_line, no_quorums, spaced, listed, server_line, server_text, servers_text}
+use Rattle.tq_rendered.specs.Board.{spaced, listed, server_line, servers_text}
 
 -- where there is a word, no `-` is printed
 pub listed_words : {A : Type 0} (word : A → List ℕ) (items : List A) → (items ≡ [] → ⊥) → listed (map word items) ≡ spaced (map word items)
@@ -44,10 +43,9 @@ line_written line text next total number past before all is =
     let left = flat_map line (upwards (number + 1) (past - (number + 1))) in
     ap (λ next. next ++ left) is ∙ append_assoc text (line number) left ∙ sym (ap (λ numbers. text ++ flat_map line numbers) (upwards_step number past before)) ∙ all
 
--- the line of a server, from the tree of the view, the row at its place and its number
-pub server_line_is : (tables : TablesView) (view tree : Live) (row : QuorumRow) (server number : ℕ) (text next : List ℕ) → next ≡ text ++ as_line (server_text tree row server) → tree ≡ view → row ≡ slice_index_or tables.quorums (number - 1) no_quorums → server ≡ number → next ≡ text ++ server_line tables view number
-server_line_is tables view tree row server number text next is live at same =
+-- the line of a server, from the tree of the view and its number
+pub server_line_is : (tables : TablesView) (view tree : Live) (server number : ℕ) (text next : List ℕ) → next ≡ text ++ server_line tables tree server → tree ≡ view → server ≡ number → next ≡ text ++ server_line tables view number
+server_line_is tables view tree server number text next is live same =
     is
-    ∙ ap (λ tree. text ++ as_line (server_text tree row server)) live
-    ∙ ap (λ row. text ++ as_line (server_text view row server)) at
-    ∙ ap (λ server. text ++ as_line (server_text view (slice_index_or tables.quorums (number - 1) no_quorums) server)) same
+    ∙ ap (λ tree. text ++ server_line tables tree server) live
+    ∙ ap (λ server. text ++ server_line tables view server) same

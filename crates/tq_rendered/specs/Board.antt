@@ -8,6 +8,7 @@ use Rattle.tq_live.specs.declared.costs.Costs.{Costs}
 use Rattle.tq_live.specs.declared.least.Least.{Least}
 use Rattle.tq_tables.specs.Tables.{TablesView}
 use Rattle.tq_tables.specs.declared.quorum_row.QuorumRow.{QuorumRow}
+use Rattle.tq_tables.specs.Rows.{no_quorums}
 use Rattle.tq_tables.specs.declared.file_row.FileRow.{FileRow}
 use Rattle.tq_tables.specs.declared.lock_row.LockRow.{LockRow}
 use Rattle.tq_tables.specs.declared.intent_row.FileVersion.{FileVersion}
@@ -100,13 +101,13 @@ intent_text row =
 
 -- ---- the board
 
--- what is seen of a place behind the last row
-abbrev pub no_quorums : QuorumRow
-no_quorums = record { read = None; write = None }
+-- the row of a server in the quorums' table
+abbrev pub row_of : TablesView → ℕ → QuorumRow
+row_of tables server = slice_index_or tables.quorums (server - 1) no_quorums
 
--- the line of a server, with the row of the quorums' table at its place
+-- the line of a server, with its row of the quorums' table
 abbrev pub server_line : TablesView → Live → ℕ → List ℕ
-server_line tables view server = as_line (server_text view (slice_index_or tables.quorums (server - 1) no_quorums) server)
+server_line tables view server = as_line (server_text view (row_of tables server) server)
 
 -- a line for each server upwards
 abbrev pub server_lines : TablesView → Live → List ℕ

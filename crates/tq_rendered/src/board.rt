@@ -4,7 +4,7 @@ ghost use Rattle.tq_rendered.specs.Board.{board_text, row_lines, server_lines};
 use crate::line::{push_intent, push_lock, push_next_file, push_server};
 use crate::sets::SetsText;
 use std::alloc::Global;
-use tq_live::View;
+use tq_live::{Least, View};
 use tq_shape::{Memory, ServerId};
 use tq_tables::{FileRow, IntentRow, LockRow, Tables};
 
@@ -68,12 +68,11 @@ fn push_server_lines(
     ensures { OnOk result (string_bytes text.new ≡ string_bytes text.old ++ server_lines tables.now view.now) }
 {
     let levels = tables.levels();
-    let rows = tables.quorums(alloc)?;
-    let quorums = rows.as_slice();
+    let mut room = Least::new(alloc, levels)?;
     let past = levels.servers() + 1;
     for number in 1..past {
         let server = ServerId::new(levels, number);
-        push_server(text, view.tree(), server, &quorums[(number - 1) as usize])?;
+        push_server(text, tables, view.tree(), server, &mut room)?;
     }
     Ok(())
 }

@@ -1,28 +1,33 @@
 ghost use Rattle.std.specs.Prelude.{◌≡◌, ◌++◌, OnOk, codes, string_bytes};
 ghost use Rattle.std.specs.Fmt.{decimal};
-ghost use Rattle.tq_rendered.specs.Board.{as_line, costs_text, file_text, intent_text, least_text, leasts_text, lock_text, server_text};
+ghost use Rattle.tq_tables.specs.Rows.{least_in};
+ghost use Rattle.tq_rendered.specs.Board.{as_line, costs_text, file_text, intent_text, least_text, leasts_text, lock_text, row_of, server_line};
 
 use crate::sets::{SetsText, push_sets};
 use crate::word::{mark_word, push_set, push_writes, state_word};
-use tq_live::{Costs, Least, LiveTree};
+use tq_live::{Costs, Least, LiveTree, Purpose};
 use tq_shape::{Memory, ServerId};
-use tq_tables::{FileRow, IntentRow, LockRow, QuorumRow};
+use tq_tables::{FileRow, IntentRow, LockRow, Tables};
 
 /// Puts the line of a server of the tree behind the text, with the least quorums of its subtree to read from and to write
-/// to.
+/// to. One after another these are written into the room, so that no memory is taken for them.
 pub fn push_server(
     text: &mut String,
+    tables: &Tables,
     tree: &LiveTree,
     server: ServerId,
-    row: &QuorumRow,
+    room: &mut Least,
 ) -> Result<(), Memory>
-    requires { server.levels ≡ tree.now.levels }
-    ensures { OnOk result (string_bytes text.new ≡ string_bytes text.old ++ as_line (server_text tree.now row.now server.number)) }
+    requires server { server.levels ≡ tree.now.levels }
+    requires tables { tables.now.levels ≡ tree.now.levels }
+    requires room { room.old.servers.levels ≡ tree.now.levels }
+    ensures text { OnOk result (string_bytes text.new ≡ string_bytes text.old ++ server_line tables.now tree.now server.number) }
+    ensures room { room.new.servers.levels ≡ room.old.servers.levels }
 {
     let mark = mark_word(tree.is_up(server));
     push_costs(text, server.number(), tree.costs(server))?;
     write!(text, " {mark}")?;
-    push_leasts(text, row)?;
+    push_leasts(text, tables, server, room)?;
     text.push_str("\n")
 }
 
@@ -33,27 +38,43 @@ fn push_costs(text: &mut String, server: u64, costs: Costs) -> Result<(), Memory
     write!(text, "server {server} cost {} {}", costs.read, costs.write)
 }
 
-/// Puts the least quorums to read from and to write to behind the text.
-fn push_leasts(text: &mut String, row: &QuorumRow) -> Result<(), Memory>
-    ensures { OnOk result (string_bytes text.new ≡ string_bytes text.old ++ leasts_text row.now) }
+/// Puts the least quorums of a server's subtree to read from and to write to behind the text.
+fn push_leasts(
+    text: &mut String,
+    tables: &Tables,
+    server: ServerId,
+    room: &mut Least,
+) -> Result<(), Memory>
+    requires server { server.levels ≡ tables.now.levels }
+    requires room { room.old.servers.levels ≡ tables.now.levels }
+    ensures text { OnOk result (string_bytes text.new ≡ string_bytes text.old ++ leasts_text (row_of tables.now server.number)) }
+    ensures room { room.new.servers.levels ≡ room.old.servers.levels }
 {
     text.push_str(" read ")?;
-    push_least(text, &row.read)?;
+    push_least(text, tables, Purpose::Read, server, room)?;
     text.push_str(" write ")?;
-    push_least(text, &row.write)
+    push_least(text, tables, Purpose::Write, server, room)
 }
 
-/// Puts the cost and the servers of a least quorum behind the text, or `none` where there is none.
-fn push_least(text: &mut String, least: &Option<Least>) -> Result<(), Memory>
-    ensures { OnOk result (string_bytes text.new ≡ string_bytes text.old ++ least_text least.now) }
+/// Puts the cost and the servers of the least quorum of a server's subtree for the purpose behind the text, or `none` where
+/// there is none.
+fn push_least(
+    text: &mut String,
+    tables: &Tables,
+    purpose: Purpose,
+    server: ServerId,
+    room: &mut Least,
+) -> Result<(), Memory>
+    requires server { server.levels ≡ tables.now.levels }
+    requires room { room.old.servers.levels ≡ tables.now.levels }
+    ensures text { OnOk result (string_bytes text.new ≡ string_bytes text.old ++ least_text (least_in tables.now.quorums purpose server.number)) }
+    ensures room { room.new.servers.levels ≡ room.old.servers.levels }
 {
-    match least {
-        None => text.push_str("none"),
-        Some(least) => {
-            write!(text, "{} by", least.cost)?;
-            push_set(text, &least.servers)
-        }
+    if !tables.least_into(purpose, server, room) {
+        return text.push_str("none");
     }
+    write!(text, "{} by", room.cost)?;
+    push_set(text, &room.servers)
 }
 
 /// Puts the line of a file behind the text.

@@ -1,6 +1,6 @@
 -- The tables as a whole.
 use Rattle.std.specs.Prelude.{reverse}
-use Rattle.std.proofs.Common.{◌≡◌, ◌+◌, ◌-◌, ◌^◌, ℕ, zero, suc, cond, ◌&&◌, List, [], ◌∷◌, length, map, refl, ap, sym, subst, ◌∙◌, arith, nat_le}
+use Rattle.std.proofs.Common.{◌≡◌, ◌+◌, ◌-◌, ◌^◌, ◌<◌, ℕ, zero, suc, cond, slice_index_or, ◌&&◌, List, [], ◌∷◌, length, map, refl, ap, sym, subst, ◌∙◌, arith, nat_le}
 use Rattle.std.specs.FinMap as fin
 use Rattle.std.specs.List.{All}
 use Rattle.std.proofs.lemmas.List.{length-map}
@@ -11,6 +11,8 @@ use Rattle.tq_desk.specs.DeskJournal.{Commit, commits, DeskBounds, DeskEntry, Is
 use Rattle.tq_desk.proofs.DecisionLog.{desk_keeps}
 use Rattle.tq_live.specs.Live.{Live}
 use Rattle.tq_live.specs.View.{upwards}
+use Rattle.tq_live.specs.declared.purpose.Purpose.{Purpose}
+use Rattle.tq_live.specs.declared.purpose.Purpose.TheVariants as purposes
 use Rattle.tq_node.specs.Node.{NodeView}
 use Rattle.tq_tables.specs.declared.intent_row.IntentState.{IntentState}
 use Rattle.tq_tables.specs.declared.intent_row.IntentState.TheVariants.{Unknown}
@@ -21,7 +23,7 @@ use Rattle.tq_tables.specs.Tables.{tables_at, tables_over}
 use Rattle.tq_tables.specs.Files.{AreExact, names_in}
 use Rattle.tq_tables.specs.NamesApart.{Apart}
 use Rattle.tq_tables.proofs.Counting.{Apart-files_in}
-use Rattle.tq_tables.specs.Rows.{file_row, file_rows, files_in, intent_rows, intent_state, quorum_row, quorum_rows, row_at, state_by}
+use Rattle.tq_tables.specs.Rows.{file_row, file_rows, files_in, intent_rows, intent_state, least_for, least_in, least_row, no_quorums, quorum_row, quorum_rows, row_at, state_by}
 
 length-upwards : (first count : ℕ) → length (upwards first count) ≡ count
 length-upwards first zero = refl
@@ -33,6 +35,24 @@ length-quorum_rows live =
     let count = length-map (upwards 1 (2 ^ live.levels - 1)) (quorum_row live) ∙ length-upwards 1 (2 ^ live.levels - 1) in
     let positive = pow_pos live.levels in
     omega (arith, count, positive)
+
+-- what a function gives of numbers upwards, at a place
+at_upwards : {A : Type 0} (f : ℕ → A) (first count place : ℕ) (other : A) → place < count → slice_index_or (map f (upwards first count)) place other ≡ f (first + place)
+at_upwards f first zero place other within = absurd (omega arith)
+at_upwards f first (suc count) zero other within = ap f (omega arith)
+at_upwards f first (suc count) (suc place) other within =
+    at_upwards f (first + 1) count place other (omega arith) ∙ ap f (omega arith)
+
+-- the row of a server is at its place
+pub least_in_rows : (live : Live) (purpose : Purpose) (server : ℕ) → 0 < server → server < 2 ^ live.levels → least_in (quorum_rows live) purpose server ≡ least_row live purpose server
+least_in_rows live purpose server first within =
+    let at = at_upwards (quorum_row live) 1 (2 ^ live.levels - 1) (server - 1) no_quorums (omega arith) in
+    let same : 1 + (server - 1) ≡ server = omega arith in
+    ap (least_for purpose) (at ∙ ap (quorum_row live) same) ∙ for_of purpose
+  where
+    for_of : (purpose : Purpose) → least_for purpose (quorum_row live server) ≡ least_row live purpose server
+    for_of purposes.Read = refl
+    for_of purposes.Write = refl
 
 -- the sets of a file's row are of the tree
 pub of_tree-rows : (levels : ℕ) (nodes : List NodeView) (list : List Commit) (files : List (List ℕ))

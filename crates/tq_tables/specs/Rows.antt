@@ -1,5 +1,5 @@
 -- The rows of the tables, over the raw records of the servers, the costs and marks, and the log of the desk.
-use Rattle.std.specs.Prelude.{ℕ, ◌-◌, ◌^◌, Bool, not, cond, nat_le, List, [], ◌∷◌, ◌++◌, map, filter, Option, Some, None, sum_by}
+use Rattle.std.specs.Prelude.{ℕ, ◌-◌, ◌^◌, Bool, not, cond, nat_le, List, [], ◌∷◌, ◌++◌, map, filter, Option, Some, None, slice_index_or, sum_by}
 use Rattle.std.specs.FinMap as fin
 use Rattle.std.specs.List.{flat_map}
 use Rattle.std.specs.Option.{option_map}
@@ -54,6 +54,19 @@ abbrev pub quorum_rows : Live → List QuorumRow
 quorum_rows live = map (quorum_row live) (upwards 1 (2 ^ live.levels - 1))
 
 -- ---- the files that commits write (a list of commits has the newest first)
+
+-- what is seen of a place behind the last row
+abbrev pub no_quorums : QuorumRow
+no_quorums = record { read = None; write = None }
+
+-- the least quorum for a purpose
+abbrev pub least_for : Purpose → QuorumRow → Option Least
+least_for purposes.Read row = row.read
+least_for purposes.Write row = row.write
+
+-- the least quorum for a purpose in the server's row, of rows for each server upwards
+abbrev pub least_in : List QuorumRow → Purpose → ℕ → Option Least
+least_in rows purpose server = least_for purpose (slice_index_or rows (server - 1) no_quorums)
 
 -- the files that a commit writes, ascending by name
 abbrev pub files_of : Commit → List (List ℕ)

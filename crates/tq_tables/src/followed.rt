@@ -1,4 +1,4 @@
-ghost use Rattle.std.specs.Prelude.{◌≡◌, ◌+◌, ◌^◌, true, None, length, reverse, IfOk, OnOk, OnErr};
+ghost use Rattle.std.specs.Prelude.{◌≡◌, ◌+◌, ◌^◌, true, cond, Some, None, length, reverse, IfOk, OnOk, OnErr};
 ghost use Rattle.std.specs.List.{All};
 ghost use Rattle.tq_desk.specs.DeskJournal.{IsLegalDesk, desk_state};
 ghost use Rattle.tq_desk.specs.DeskStep.{desk_reply};
@@ -15,7 +15,7 @@ use crate::file_table::FileTable;
 use crate::holders::Holders;
 use crate::intent_rows::intent_rows;
 use crate::lock_rows::lock_rows;
-use crate::quorum_rows::quorum_rows;
+use crate::quorum_rows::{least_into, quorum_rows};
 use crate::replies::{Replies, twice};
 use crate::{
     DeskEntry, FileRow, IntentRow, Journals, LockRow, NodeEntry, PartEntry, Parts, QuorumRow,
@@ -25,9 +25,9 @@ use std::alloc::Global;
 use std::marker::Model;
 use tq_asks::{NodeAsk, NodeReply};
 use tq_desk::{Desk, DeskAsk, DeskReply, Op};
-use tq_live::{View, ViewAsk, ViewReply};
+use tq_live::{Least, Purpose, View, ViewAsk, ViewReply};
 use tq_node::{Node, Telling};
-use tq_shape::{Levels, Memory, Part};
+use tq_shape::{Levels, Memory, Part, ServerId};
 
 /// The parts that the tables follow, and the rows of files: tables beside which nothing is reserved.
 ///
@@ -81,6 +81,7 @@ impl Followed {
     ghost use Rattle.tq_tables.specs.NextOfServer.{IsNextOfServer, with_node};
     ghost use Rattle.tq_tables.specs.Parts.{AreLegal, bounds_of};
     ghost use Rattle.tq_tables.specs.Reserved.{LeadsTo, ask_of};
+    ghost use Rattle.tq_tables.specs.Rows.{least_in};
     ghost use Rattle.tq_tables.specs.Tables.{IsNextOfDesk, tables_of, tables_over};
 
     /// The tables of these journals, which are legal: each reply is the one that its part gives there.
@@ -329,6 +330,19 @@ impl Followed {
     {
         let rows = quorum_rows(alloc, self.parts.view().tree())?;
         Ok(rows)
+    }
+
+    /// Writes the least quorum of the server's subtree for the purpose, as the row of the server has it, into the row that is
+    /// given and answers true. Where there is none, that row stays and the answer is false. It takes no memory. The server is
+    /// one of this tree, and the row one for such a tree.
+    pub(crate) fn least_into(&self, purpose: Purpose, server: ServerId, row: &mut Least) -> bool
+        requires server { server.levels ≡ self.now.levels }
+        requires row { row.old.servers.levels ≡ self.now.levels }
+        ensures least { cond result (Some row.new) None ≡ least_in self.now.quorums purpose server.number }
+        ensures tree { row.new.servers.levels ≡ self.now.levels }
+    {
+        let _within = server.number();
+        least_into(self.parts.view().tree(), purpose, server, row)
     }
 
     /// The files that commits wrote, in the order of the first such commit, and within one commit ascending by name.

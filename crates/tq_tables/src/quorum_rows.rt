@@ -1,4 +1,4 @@
-ghost use Rattle.std.specs.Prelude.{◌≡◌, IfOk};
+ghost use Rattle.std.specs.Prelude.{◌≡◌, cond, Some, None, IfOk};
 ghost use Rattle.tq_tables.specs.Rows as spec;
 
 use crate::QuorumRow;
@@ -41,9 +41,25 @@ fn least_row(
     ensures { IfOk result (λ row. row ≡ spec.least_row tree.now purpose server.number) }
 {
     let mut row = Least::new(alloc, tree.levels())?;
-    if tree.best_into(purpose, server, &mut row) {
+    if least_into(tree, purpose, server, &mut row) {
         Ok(Some(row))
     } else {
         Ok(None)
     }
+}
+
+/// Writes the best of the server's subtree for the purpose into the row and answers true. Where there is none, the row stays
+/// and the answer is false. It takes no memory.
+pub(crate) fn least_into(
+    tree: &LiveTree,
+    purpose: Purpose,
+    server: ServerId,
+    row: &mut Least,
+) -> bool
+    requires server { server.levels ≡ tree.now.levels }
+    requires row { row.old.servers.levels ≡ tree.now.levels }
+    ensures least { cond result (Some row.new) None ≡ spec.least_row tree.now purpose server.number }
+    ensures tree { row.new.servers.levels ≡ tree.now.levels }
+{
+    tree.best_into(purpose, server, row)
 }

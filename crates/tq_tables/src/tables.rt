@@ -1,4 +1,4 @@
-ghost use Rattle.std.specs.Prelude.{◌≡◌, ◌+◌, ◌^◌, ◌↔◌, Some, length, reverse, IsTrue, IfOk, IsOk, OnOk, OnErr};
+ghost use Rattle.std.specs.Prelude.{◌≡◌, ◌+◌, ◌^◌, ◌↔◌, cond, Some, None, length, reverse, IsTrue, IfOk, IsOk, OnOk, OnErr};
 ghost use Rattle.std.specs.List.{All};
 ghost use Rattle.std.specs.Option.{option_map};
 ghost use Rattle.tq_desk.specs.DeskJournal.{IsLegalDesk, desk_state};
@@ -17,9 +17,9 @@ use std::alloc::Global;
 use std::marker::Model;
 use tq_asks::{NodeAsk, NodeReply};
 use tq_desk::{Desk, DeskAsk, DeskReply};
-use tq_live::{View, ViewAsk, ViewReply};
+use tq_live::{Least, Purpose, View, ViewAsk, ViewReply};
 use tq_node::Node;
-use tq_shape::{Levels, Memory, Part};
+use tq_shape::{Levels, Memory, Part, ServerId};
 
 /// The servers, the desk and the view that the tables follow, and rows that say how these stand: the least quorum of
 /// each subtree, the files that commits wrote, the locks that are held, and the votes that are open.
@@ -70,6 +70,7 @@ impl Tables {
     ghost use Rattle.tq_tables.specs.NextOfServer.{with_node};
     ghost use Rattle.tq_tables.specs.Parts.{AreLegal, bounds_of};
     ghost use Rattle.tq_tables.specs.Reserved.{IsReadyFor, unready};
+    ghost use Rattle.tq_tables.specs.Rows.{least_in};
     ghost use Rattle.tq_tables.specs.Tables.{tables_of, tables_over};
 
     /// The tables of these journals, which are legal: each reply is the one that its part gives there.
@@ -240,6 +241,18 @@ impl Tables {
         ensures one_each { IfOk result (λ rows. length rows.items + 1 ≡ 2 ^ self.now.levels) }
     {
         self.followed.quorums(alloc)
+    }
+
+    /// Writes the least quorum of the server's subtree for the purpose, as the row of the server has it, into the row that is
+    /// given and answers true. Where there is none, that row stays and the answer is false. It takes no memory. The server is
+    /// one of this tree, and the row one for such a tree.
+    pub fn least_into(&self, purpose: Purpose, server: ServerId, row: &mut Least) -> bool
+        requires server { server.levels ≡ self.now.levels }
+        requires row { row.old.servers.levels ≡ self.now.levels }
+        ensures least { cond result (Some row.new) None ≡ least_in self.now.quorums purpose server.number }
+        ensures tree { row.new.servers.levels ≡ self.now.levels }
+    {
+        self.followed.least_into(purpose, server, row)
     }
 
     /// The files that commits wrote, in the order of the first such commit, and within one commit ascending by name.
