@@ -6,7 +6,7 @@ use crate::sets::SetsText;
 use std::alloc::Global;
 use tq_live::{Least, View};
 use tq_shape::{Memory, ServerId};
-use tq_tables::{FileRow, IntentRow, LockRow, Tables};
+use tq_tables::{FileRow, LockRow, OpenIntents, Tables};
 
 /// The text of the board: the head, a line for each server upwards with its costs and mark in the view, a line for each
 /// row of the tables, and the end. The tables and the view are of one tree.
@@ -23,13 +23,12 @@ pub fn render(alloc: Global, tables: &Tables, view: &View) -> Result<String, Mem
     writeln!(text, "board levels {}", tables.levels().count())?;
     push_server_lines(alloc, &mut text, tables, view)?;
     let locks = tables.locks(alloc)?;
-    let intentions = tables.intentions(alloc)?;
     push_rows(
         alloc,
         &mut text,
         tables.files(),
         locks.as_slice(),
-        intentions.as_slice(),
+        tables.open_intents(),
     )?;
     text.push_str("end\n")?;
     Ok(text)
@@ -83,9 +82,9 @@ pub fn push_rows(
     text: &mut String,
     files: &[FileRow],
     locks: &[LockRow],
-    intentions: &[IntentRow],
+    intentions: OpenIntents<'_>,
 ) -> Result<(), Memory>
-    ensures { OnOk result (string_bytes text.new ≡ string_bytes text.old ++ row_lines files.now locks.now intentions.now) }
+    ensures { OnOk result (string_bytes text.new ≡ string_bytes text.old ++ row_lines files.now locks.now intentions.entry) }
 {
     let mut sets = SetsText::new(alloc);
     for row in files {
@@ -95,7 +94,7 @@ pub fn push_rows(
         push_lock(text, lock)?;
     }
     for intent in intentions {
-        push_intent(text, intent)?;
+        push_intent(text, &intent)?;
     }
     Ok(())
 }

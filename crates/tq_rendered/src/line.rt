@@ -1,13 +1,14 @@
 ghost use Rattle.std.specs.Prelude.{◌≡◌, ◌++◌, OnOk, codes, string_bytes};
 ghost use Rattle.std.specs.Fmt.{decimal};
 ghost use Rattle.tq_tables.specs.Rows.{least_in};
+ghost use Rattle.tq_tables.specs.Walk.{lent_row};
 ghost use Rattle.tq_rendered.specs.Board.{as_line, costs_text, file_text, intent_text, least_text, leasts_text, lock_text, row_of, server_line};
 
 use crate::sets::{SetsText, push_sets};
 use crate::word::{mark_word, push_set, push_writes, state_word};
 use tq_live::{Costs, Least, LiveTree, Purpose};
 use tq_shape::{Memory, ServerId};
-use tq_tables::{FileRow, IntentRow, LockRow, Tables};
+use tq_tables::{FileRow, LockRow, OpenIntent, Tables};
 
 /// Puts the line of a server of the tree behind the text, with the least quorums of its subtree to read from and to write
 /// to. One after another these are written into the room, so that no memory is taken for them.
@@ -122,17 +123,17 @@ pub fn push_lock(text: &mut String, row: &LockRow) -> Result<(), Memory>
 }
 
 /// Puts the line of an open intention behind the text.
-pub fn push_intent(text: &mut String, row: &IntentRow) -> Result<(), Memory>
-    ensures { OnOk result (string_bytes text.new ≡ string_bytes text.old ++ as_line (intent_text row.now)) }
+pub fn push_intent(text: &mut String, intent: &OpenIntent<'_>) -> Result<(), Memory>
+    ensures { OnOk result (string_bytes text.new ≡ string_bytes text.old ++ as_line (intent_text (lent_row intent.now))) }
 {
-    let state = state_word(row.state);
+    let state = state_word(intent.state);
     write!(
         text,
         "intent {} {} number {} {state}",
-        row.server.number(),
-        row.txn,
-        row.number
+        intent.server.number(),
+        intent.txn,
+        intent.number
     )?;
-    push_writes(text, row.writes.as_slice())?;
+    push_writes(text, intent.writes)?;
     text.push_str("\n")
 }

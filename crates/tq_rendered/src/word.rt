@@ -1,9 +1,11 @@
 ghost use Rattle.std.specs.Prelude.{◌≡◌, ◌+◌, ◌<◌, ◌++◌, ◌∷◌, OnOk, map, string_bytes};
 ghost use Rattle.std.specs.Fmt.{decimal};
+ghost use Rattle.tq_tables.specs.Rows.{file_version};
 ghost use Rattle.tq_rendered.specs.Board.{listed, mark_text, servers_text, state_text, write_text};
 
 use tq_shape::{Memory, ServerSet};
-use tq_tables::{FileVersion, IntentState};
+use tq_store::Write;
+use tq_tables::IntentState;
 
 /// The word for a mark.
 pub(crate) fn mark_word(up: bool) -> &'static str
@@ -39,8 +41,8 @@ pub(crate) fn push_set(text: &mut String, servers: &ServerSet) -> Result<(), Mem
 }
 
 /// Puts the files of writes with their versions behind the text, each after a space, or `-` where there is none.
-pub(crate) fn push_writes(text: &mut String, writes: &[FileVersion]) -> Result<(), Memory>
-    ensures { OnOk result (string_bytes text.new ≡ string_bytes text.old ++ listed (map write_text writes.now)) }
+pub(crate) fn push_writes(text: &mut String, writes: &[Write]) -> Result<(), Memory>
+    ensures { OnOk result (string_bytes text.new ≡ string_bytes text.old ++ listed (map write_text (map file_version writes.now))) }
 {
     if writes.is_empty() {
         return text.push_str(" -");

@@ -134,17 +134,21 @@ intent_state log server txn number = cond (is_txn log txn) (state_by (final log 
 abbrev pub file_version : Write → FileVersion
 file_version write = record { file = write.file; version = write.version }
 
--- an open vote, where its state is given by its server, its transaction and its number
-abbrev pub intent_row : (ℕ → ℕ → ℕ → IntentState) → NodeView → ℕ × OpenVote → IntentRow
-intent_row state node entry =
+-- an open vote of a server, where its state is given by the server, its transaction and its number
+abbrev pub intent_row : (ℕ → ℕ → ℕ → IntentState) → Server → ℕ × OpenVote → IntentRow
+intent_row state server entry =
     record {
-      server = server_of node;
+      server = server;
       txn = entry.0;
       number = entry.1.number;
       writes = map file_version entry.1.writes;
-      state = state node.server entry.0 entry.1.number;
+      state = state server.number entry.0 entry.1.number;
     }
+
+-- open votes of a server
+abbrev pub intents_of : (ℕ → ℕ → ℕ → IntentState) → Server → List (ℕ × OpenVote) → List IntentRow
+intents_of state server votes = map (intent_row state server) votes
 
 -- the open votes of each server upwards, ascending by transaction
 abbrev pub intent_rows : (ℕ → ℕ → ℕ → IntentState) → List NodeView → List IntentRow
-intent_rows state nodes = flat_map (λ node. map (intent_row state node) (fin.entries node.state.records.votes)) nodes
+intent_rows state nodes = flat_map (λ node. intents_of state (server_of node) (fin.entries node.state.records.votes)) nodes

@@ -13,7 +13,7 @@ ghost use Rattle.tq_tables.specs.Files as spec;
 use crate::file_rows::{file_rows, rows_written};
 use crate::file_table::FileTable;
 use crate::holders::Holders;
-use crate::intent_rows::intent_rows;
+use crate::intent_rows::{OpenIntents, intent_rows};
 use crate::lock_rows::lock_rows;
 use crate::quorum_rows::{least_into, quorum_rows};
 use crate::replies::{Replies, twice};
@@ -367,6 +367,13 @@ impl Followed {
         ensures { IfOk result (λ rows. rows.items ≡ self.now.intentions) }
     {
         intent_rows(alloc, self.parts.nodes(), self.parts.desk())
+    }
+
+    /// The same, one after another. It takes no memory.
+    pub(crate) fn open_intents(&self) -> OpenIntents<'_>
+        ensures { result ≡ self.now.intentions }
+    {
+        OpenIntents::over(self.parts.nodes(), self.parts.desk())
     }
 }
 

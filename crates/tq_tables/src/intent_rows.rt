@@ -1,52 +1,143 @@
-ghost use Rattle.std.specs.Prelude.{◌≡◌, ◌++◌, map, IfOk, OnOk, Some};
-ghost use Rattle.std.specs.FinMap as fin;
+ghost use Rattle.std.specs.Prelude.{◌≡◌, map, IfOk, Some};
+ghost use Rattle.std.specs.Iterator.{YieldsFirstBy};
 ghost use Rattle.tq_tables.specs.DeskStates.{intent_state_at};
 ghost use Rattle.tq_tables.specs.Rows as spec;
+ghost use Rattle.tq_tables.specs.Walk.{left_at, lent_row};
 
 use crate::{FileVersion, IntentRow, IntentState};
 use std::alloc::Global;
+use std::collections::btree_map::Iter;
+use std::marker::Model;
 use tq_asks::Verdict;
 use tq_desk::Desk;
+use tq_intents::OpenVote;
 use tq_node::Node;
-use tq_shape::{Memory, Seq};
+use tq_shape::{Memory, Seq, ServerId};
 use tq_store::Write;
 
-/// The votes that are open at the servers.
+/// A vote that is open at a server, whose writes are lent.
+#[derive(Clone, Copy)]
+pub struct OpenIntent<'a> {
+    pub server: ServerId,
+    pub txn: u64,
+    /// The number of the server's entry that gave the vote.
+    pub number: u64,
+    /// What it would install, ascending by file.
+    pub writes: &'a [Write],
+    pub state: IntentState,
+}
+
+impl<'a> OpenIntent<'a> {
+    /// The row of the vote, with memory of its own.
+    fn to_row(&self, alloc: Global) -> Result<IntentRow, Memory>
+        ensures { IfOk result (λ row. row ≡ lent_row self.now) }
+    {
+        let writes = file_versions(alloc, self.writes)?;
+        Ok(IntentRow {
+            server: self.server,
+            txn: self.txn,
+            number: self.number,
+            writes,
+            state: self.state,
+        })
+    }
+}
+
+/// The votes of a server that are left to walk.
+#[derive(Drop)]
+struct VotesAt<'a> {
+    server: ServerId,
+    votes: Iter<'a, u64, OpenVote>,
+}
+
+/// The votes that are open, as far as they are left to walk: ascending by server and transaction. A walk takes no memory.
+#[derive(Drop)]
+pub struct OpenIntents<'a> {
+    desk: &'a Desk,
+    /// Where the walk is.
+    here: Option<VotesAt<'a>>,
+    /// The servers behind it.
+    nodes: &'a [Node],
+}
+
+impl<'a> Model for OpenIntents<'a> {
+    ghost use Rattle.std.specs.Prelude.{List, ◌++◌};
+    ghost use Rattle.tq_tables.specs.declared.intent_row.IntentRow.{IntentRow};
+    ghost use Rattle.tq_tables.specs.DeskStates.{intent_state_at};
+    ghost use Rattle.tq_tables.specs.Rows.{intent_rows};
+    ghost use Rattle.tq_tables.specs.Walk.{left_at};
+
+    ghost Value = { List IntentRow };
+
+    ghost view = { λ a. left_at (intent_state_at a.desk.now) a.here ++ intent_rows (intent_state_at a.desk.now) a.nodes.now };
+}
+
+impl<'a> OpenIntents<'a> {
+    /// All of them.
+    pub(crate) fn over(nodes: &'a [Node], desk: &'a Desk) -> OpenIntents<'a>
+        ensures { result ≡ spec.intent_rows (intent_state_at desk.now) nodes.now }
+    {
+        OpenIntents {
+            desk,
+            here: None,
+            nodes,
+        }
+    }
+}
+
+impl<'a> Iterator for OpenIntents<'a> {
+    ghost use Rattle.std.specs.Iterator.{YieldsFirstBy, item_count};
+    ghost use Rattle.tq_tables.specs.Walk.{lent_row};
+
+    type Item = OpenIntent<'a>;
+
+    ghost next_gives = { YieldsFirstBy lent_row (λ rest. rest) };
+
+    ghost remaining = { item_count (λ rest. rest) };
+
+    fn next(&mut self) -> Option<OpenIntent<'a>> {
+        loop {
+            if let Some(intent) = next_at(self.desk, &mut self.here) {
+                return Some(intent);
+            }
+            let (node, rest) = self.nodes.split_first()?;
+            self.nodes = rest;
+            self.here = Some(VotesAt {
+                server: node.server(),
+                votes: node.votes(),
+            });
+        }
+    }
+}
+
+/// The next vote of a server.
+fn next_at<'a>(desk: &Desk, here: &mut Option<VotesAt<'a>>) -> Option<OpenIntent<'a>>
+    ensures { YieldsFirstBy lent_row (left_at (intent_state_at desk.now)) here.old result here.new }
+{
+    let Some(here) = here else {
+        return None;
+    };
+    let (txn, vote) = here.votes.next()?;
+    let server = here.server;
+    let number = vote.number;
+    Some(OpenIntent {
+        server,
+        txn: *txn,
+        number,
+        writes: vote.writes.as_slice(),
+        state: intent_state(desk, server.number(), *txn, number),
+    })
+}
+
+/// The rows of the votes that are open at the servers.
 pub fn intent_rows(alloc: Global, nodes: &[Node], desk: &Desk) -> Result<Vec<IntentRow>, Memory>
     ensures { IfOk result (λ rows. rows.items ≡ spec.intent_rows (intent_state_at desk.now) nodes.now) }
 {
     let mut rows = Vec::new(alloc);
-    for node in nodes {
-        push_intents(alloc, &mut rows, node, desk)?;
+    for intent in OpenIntents::over(nodes, desk) {
+        rows.push(intent.to_row(alloc)?)?;
     }
     Ok(rows)
-}
-
-/// Puts the open votes of a server at the end.
-fn push_intents(
-    alloc: Global,
-    rows: &mut Vec<IntentRow>,
-    node: &Node,
-    desk: &Desk,
-) -> Result<(), Memory>
-    ensures { OnOk result (rows.new.items ≡ rows.old.items
-        ++ map (spec.intent_row (intent_state_at desk.now) node.now) (fin.entries node.now.state.records.votes)) }
-{
-    let server = node.server();
-    for (txn, vote) in node.votes() {
-        let txn = *txn;
-        let number = vote.number;
-        let writes = file_versions(alloc, vote.writes.as_slice())?;
-        let state = intent_state(desk, server.number(), txn, number);
-        rows.push(IntentRow {
-            server,
-            txn,
-            number,
-            writes,
-            state,
-        })?;
-    }
-    Ok(())
 }
 
 /// The files and versions of writes.

@@ -33,6 +33,7 @@ mod write_counts;
 
 pub use file_row::FileRow;
 pub use intent_row::{FileVersion, IntentRow, IntentState};
+pub use intent_rows::{OpenIntent, OpenIntents};
 pub use journals::{DeskEntry, Journals, NodeEntry, ViewEntry};
 pub use lock_row::LockRow;
 pub use part_entry::PartEntry;

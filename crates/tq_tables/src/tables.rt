@@ -12,7 +12,9 @@ ghost use Rattle.tq_tables.specs.Reserved.{ready_entry};
 use crate::followed::Followed;
 use crate::ready::Ready;
 use crate::replies::Replies;
-use crate::{DeskEntry, FileRow, IntentRow, Journals, LockRow, PartEntry, Parts, QuorumRow};
+use crate::{
+    DeskEntry, FileRow, IntentRow, Journals, LockRow, OpenIntents, PartEntry, Parts, QuorumRow,
+};
 use std::alloc::Global;
 use std::marker::Model;
 use tq_asks::{NodeAsk, NodeReply};
@@ -276,6 +278,13 @@ impl Tables {
         ensures { IfOk result (λ rows. rows.items ≡ self.now.intentions) }
     {
         self.followed.intentions(alloc)
+    }
+
+    /// The same, one after another, each with its writes as they are kept. It takes no memory.
+    pub fn open_intents(&self) -> OpenIntents<'_>
+        ensures { result ≡ self.now.intentions }
+    {
+        self.followed.open_intents()
     }
 }
 

@@ -14,4 +14,4 @@ invariant-loop-lock l =
 
 abbrev pub invariant-loop-intent : goal.invariant-loop-intent
 invariant-loop-intent l =
-    string_bytes l.text ++ flat_map (λ row. as_line (intent_text row)) (drop l.intent-index l.intentions) ≡ string_bytes l.initial.text ++ flat_map (λ row. as_line (intent_text row)) l.intentions
+    string_bytes l.text ++ flat_map (λ row. as_line (intent_text row)) l.intent-iterator ≡ string_bytes l.initial.text ++ flat_map (λ row. as_line (intent_text row)) l.initial.intent-iterator
