@@ -3,7 +3,7 @@ ghost use Rattle.std.specs.Prelude.{◌≡◌, ◌+◌, ◌<◌, ◌≤◌, vec_
 use std::alloc::AllocError;
 
 /// Makes room for this many items behind those of the list. A list that lacks it gets room for three times its items more,
-/// so that a long one is seldom moved as it grows.
+/// so that a long one is seldom moved as it grows; where so much is refused, for this many.
 #[inline(always)]
 pub fn make_room<T>(list: &mut Vec<T>, additional: usize) -> Result<(), AllocError>
     ensures items { list.new.items ≡ list.old.items }
@@ -15,7 +15,10 @@ pub fn make_room<T>(list: &mut Vec<T>, additional: usize) -> Result<(), AllocErr
         return Ok(());
     }
     let more = list.len().saturating_mul(3).max(additional).max(LEAST);
-    list.reserve(more)
+    if list.reserve(more).is_ok() {
+        return Ok(());
+    }
+    list.reserve(additional)
 }
 
 /// How many items a list that has none gets room for, at least.
