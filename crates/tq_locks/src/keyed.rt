@@ -348,6 +348,16 @@ pub struct HeldLocks<'a> {
     keys: &'a [usize],
 }
 
+impl<'a> HeldLocks<'a> {
+    /// A number of locks that those which are left do not exceed, with no walk of them.
+    #[inline(always)]
+    pub fn most(&self) -> usize
+        ensures { length self.now ≤ result }
+    {
+        self.keys.len()
+    }
+}
+
 impl<'a> Model for HeldLocks<'a> {
     ghost use Rattle.std.specs.Prelude.{List};
     ghost use Rattle.tq_locks.specs.Locks.{LockKey};
