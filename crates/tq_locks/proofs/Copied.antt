@@ -21,8 +21,8 @@ module _ {A : Type 0} (D : A → A → Type 0) (same : (x y : A) → D x y → y
   cloned_slots (Some x ∷ xs) (None ∷ ys) z = absurd z.0
   cloned_slots (Some x ∷ xs) (Some y ∷ ys) z = λ i. Some (same x y z.0 i) ∷ cloned_slots xs ys z.1 i
 
-module _ {K : Type 0} (C : K → K → Type 0) (same : (x y : K) → C x y → y ≡ x) (D : ℕ → ℕ → Type 0) (equal : (x y : ℕ) → D x y → y ≡ x) (test : K → Bool) where
-  pub cloned_lists : (es fs : List (K × SmallVec ℕ)) → AllZip (λ p q. C p.0 q.0 × AllZip D p.1.items q.1.items) es fs → option_map_or (λ keys. keys.items) (lookup test fs) [] ≡ option_map_or (λ keys. keys.items) (lookup test es) []
+module _ {K : Type 0} (C : K → K → Type 0) (same : (x y : K) → C x y → y ≡ x) (test : K → Bool) where
+  pub cloned_lists : (es fs : List (K × SmallVec ℕ)) → AllZip (λ p q. C p.0 q.0 × (q.1.items ≡ p.1.items)) es fs → option_map_or (λ keys. keys.items) (lookup test fs) [] ≡ option_map_or (λ keys. keys.items) (lookup test es) []
   cloned_lists [] [] z = refl
   cloned_lists [] (f ∷ fs) z = absurd z
   cloned_lists (e ∷ es) [] z = absurd z
@@ -32,5 +32,5 @@ module _ {K : Type 0} (C : K → K → Type 0) (same : (x y : K) → C x y → y
     where
       by_test : (b : Bool) → option_map_or (λ keys. keys.items) (lookup test fs) [] ≡ option_map_or (λ keys. keys.items) (lookup test es) []
           → option_map_or (λ keys. keys.items) (cond b (Some f.1) (lookup test fs)) [] ≡ option_map_or (λ keys. keys.items) (cond b (Some e.1) (lookup test es)) []
-      by_test true next = cloned_items D equal e.1.items f.1.items z.0.1
+      by_test true next = z.0.1
       by_test false next = next

@@ -14,3 +14,5 @@ pub mod TakenOut
 pub mod Indexed
 pub mod Asked
 pub mod Sinking
+pub mod Shifted
+pub mod Listed

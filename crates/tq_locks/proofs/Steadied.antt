@@ -13,7 +13,8 @@ use Rattle.tq_locks.specs.declared.keyed.KeyedLocks.{KeyedLocks}
 use Rattle.tq_locks.specs.declared.mode.Lock.{Lock}
 use Rattle.tq_locks.specs.Locks.{LockKey, Locks, lock_cmp, held_of, kept, stabilised}
 use Rattle.tq_locks.specs.Keys.{keys_under}
-use Rattle.tq_locks.specs.Kept.{AreKeysOf, Agrees, steady_entry, steadied}
+use Rattle.tq_locks.specs.Kept.{AreKeysOf, Agrees}
+use Rattle.tq_locks.specs.Loose.{steady_entry, steadied}
 use Rattle.tq_locks.proofs.LockMaps.{locks_total, locks_same}
 use Rattle.tq_locks.proofs.Found.{none_some, some_same}
 use Rattle.tq_locks.proofs.Locked.{get-kept}

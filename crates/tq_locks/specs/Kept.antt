@@ -1,5 +1,5 @@
 -- The locks of a table as it keeps them: entries under keys, and the keys of each file and of each transaction.
-use Rattle.std.specs.Prelude.{◌≡◌, ◌≤◌, ◌==◌, ℕ, T, Bool, List, [], ◌∷◌, Option, length, map, filter, Some, None, true, false, nat_eq, if◌then◌else◌}
+use Rattle.std.specs.Prelude.{◌≡◌, ◌≤◌, ◌==◌, ℕ, T, Bool, List, [], ◌∷◌, Option, length, map, filter, Some, None, false, nat_eq, if◌then◌else◌}
 use Rattle.std.specs.List.{IsDistinct, remove}
 use Rattle.std.specs.Option.{option_map, option_map_or, option_and_then}
 use Rattle.std.specs.FinMap as fin
@@ -75,20 +75,3 @@ pub record LeftFile (old new : KeyedLocks) (name : LockKey) : Type 0 where
 -- no key stands twice, and there are as many as entries
 abbrev pub HasOneKeyEach : List ℕ → List (LockKey × Lock) → Type 0
 HasOneKeyEach keys entries = IsDistinct nat_eq keys × (length keys ≡ length entries)
-
--- the same lock, stable
-abbrev pub steady : Lock → Lock
-steady lock = record { mode = lock.mode; since = lock.since; version = lock.version; stable = true }
-
--- the same entry, with its lock stable
-abbrev pub steady_entry : LockKey × Lock → LockKey × Lock
-steady_entry entry = (entry.0, steady entry.1)
-
--- the entry under a key, where the locks under these keys become stable
-abbrev pub steadied : Slab (LockKey × Lock) → List ℕ → ℕ → Option (LockKey × Lock)
-steadied slab [] key = get slab key
-steadied slab (k ∷ keys) key = if key == k then option_map steady_entry (get slab key) else steadied slab keys key
-
--- the lock under a key, if there is one, is stable
-abbrev pub IsStableAt : Slab (LockKey × Lock) → ℕ → Type 0
-IsStableAt slab key = (entry : LockKey × Lock) → get slab key ≡ Some entry → entry.1.stable ≡ true

@@ -8,9 +8,10 @@ ghost use Rattle.tq_locks.specs.Keys.{keys_under, HasListAt, HasRoomUnder};
 ghost use Rattle.tq_locks.specs.Kept.{RisesTo};
 
 use crate::LockEntry;
-use crate::lists::{Keys, leave, make_room, only, put_in};
+use crate::keys::Keys;
+use crate::lists::leave;
+use crate::lock_slab::LockSlab;
 use indexmap::IndexMap;
-use slab::Slab;
 use std::alloc::{AllocError, Global};
 use std::hash::Hash;
 
@@ -60,7 +61,7 @@ pub(crate) fn make_room_under<K: Eq + Hash>(
 {
     match index {
         Some(index) => match lists.get_index_mut(index) {
-            Some(keys) => make_room(keys),
+            Some(keys) => keys.make_room(),
             None => Ok(()),
         },
         None => lists.reserve(1),
@@ -84,8 +85,8 @@ pub(crate) fn enter_under<K: Eq + Hash + Copy + Drop>(
     match spot.index {
         Some(index) => match lists.get_index_mut(index) {
             Some(keys) => {
-                make_room(keys)?;
-                put_in(keys, spot.place, key);
+                keys.make_room()?;
+                keys.put(spot.place, key);
                 Ok(())
             }
             None => Ok(()),
@@ -107,7 +108,7 @@ fn begin_under<K: Eq + Hash + Copy + Drop>(
     ensures err { OnErr result ((other : K) → keys_under K.eq lists.new other ≡ keys_under K.eq lists.old other) }
 {
     lists.reserve(1)?;
-    let _room_was_made = lists.insert(*name, only(alloc, key));
+    let _room_was_made = lists.insert(*name, Keys::only(alloc, key));
     Ok(())
 }
 
@@ -123,7 +124,7 @@ fn begin_reserved<K: Eq + Hash + Copy + Drop>(
     requires absent { get K.eq lists.old name.now ≡ None }
     ensures { (other : K) → keys_under K.eq lists.new other ≡ (if K.eq name.now other then key ∷ [] else keys_under K.eq lists.old other) }
 {
-    let _room_was_made = lists.insert(*name, only(alloc, key));
+    let _room_was_made = lists.insert(*name, Keys::only(alloc, key));
 }
 
 /// Puts a key into its place under a name, for which there is room.
@@ -142,7 +143,7 @@ pub(crate) fn put_under<K: Eq + Hash + Copy + Drop>(
     match spot.index {
         Some(index) => {
             if let Some(keys) = lists.get_index_mut(index) {
-                put_in(keys, spot.place, key);
+                keys.put(spot.place, key);
             }
         }
         None => begin_reserved(alloc, lists, name, key),
@@ -153,7 +154,7 @@ pub(crate) fn put_under<K: Eq + Hash + Copy + Drop>(
 #[inline(always)]
 pub(crate) fn take_under<K: Eq + Hash>(
     lists: &mut IndexMap<K, Keys>,
-    entries: &Slab<LockEntry>,
+    entries: &LockSlab,
     name: &K,
     entry: &LockEntry,
     key: usize,
@@ -172,7 +173,7 @@ pub(crate) fn take_under<K: Eq + Hash>(
 #[inline(always)]
 pub(crate) fn take_near<K: Eq + Hash>(
     lists: &mut IndexMap<K, Keys>,
-    entries: &Slab<LockEntry>,
+    entries: &LockSlab,
     name: &K,
     entry: &LockEntry,
     key: usize,
@@ -203,7 +204,7 @@ fn is_at<K: Eq + Hash>(lists: &IndexMap<K, Keys>, name: &K, index: usize) -> boo
 #[inline(always)]
 fn take_at<K: Eq + Hash>(
     lists: &mut IndexMap<K, Keys>,
-    entries: &Slab<LockEntry>,
+    entries: &LockSlab,
     name: &K,
     entry: &LockEntry,
     key: usize,

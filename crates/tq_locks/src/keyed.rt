@@ -1,5 +1,5 @@
 //! The entries of a table in a slab, with the keys of each file and of each transaction.
-ghost use Rattle.std.specs.Prelude.{◌≡◌, ◌+◌, ◌-◌, ◌≤◌, ℕ, List, [], ◌∷◌, None, Some, IsSome, IfSome, IfNone, IfOk, OnErr, length, nat_eq};
+ghost use Rattle.std.specs.Prelude.{◌≡◌, ◌+◌, ◌-◌, ◌<◌, ◌≤◌, ℕ, List, [], ◌∷◌, None, Some, IsSome, IfSome, IfNone, IfOk, OnErr, length, nat_eq};
 ghost use Rattle.std.specs.FinMap as fin;
 ghost use Rattle.std.specs.Option.{option_copied};
 ghost use Rattle.std.specs.Result.{result_err};
@@ -9,16 +9,18 @@ ghost use Rattle.slab.specs.Slab.{get, slab_len, values, Updates};
 ghost use Rattle.tq_shape.specs.Steps.{state_at};
 ghost use Rattle.tq_locks.specs.Locks.{LockKey, Locks, kept, released, only_stable};
 ghost use Rattle.tq_locks.specs.Keys.{keys_under, place, told};
-ghost use Rattle.tq_locks.specs.Kept.{decided, steadied};
+ghost use Rattle.tq_locks.specs.Kept.{decided};
+ghost use Rattle.tq_locks.specs.Loose.{IsLooseAt, steadied};
 
 use crate::index::{
     Spot, end_empty_under, enter_under, list_under, listed_under, make_room_under, put_under,
     take_all_under, take_near, take_under,
 };
-use crate::lists::{Keys, place};
+use crate::keys::Keys;
+use crate::lists::place;
+use crate::lock_slab::LockSlab;
 use crate::{Lock, LockEntry, Mode};
 use indexmap::IndexMap;
-use slab::Slab;
 use std::alloc::{AllocError, Global};
 use std::marker::Model;
 use tq_store::FileName;
@@ -27,7 +29,7 @@ use tq_store::FileName;
 /// The list of a file stays when its last key leaves, so that a later lock on the file changes no map.
 #[derive(Drop)]
 pub(crate) struct KeyedLocks {
-    pub(crate) entries: Slab<LockEntry>,
+    pub(crate) entries: LockSlab,
     pub(crate) by_file: IndexMap<FileName, Keys>,
     pub(crate) by_txn: IndexMap<u64, Keys>,
     /// Where in `by_file` the list of an entry's file is likely to be, by the entry's key. This is tested before it is used.
@@ -43,14 +45,14 @@ pub(crate) struct Found {
 }
 
 impl KeyedLocks {
-    ghost use Rattle.tq_locks.specs.Kept.{locks_in, lock_found, on_file, Agrees, IsOf, IsPlaceUnder, IsSpotOf, IsStableAt, LeftFile, RisesTo};
+    ghost use Rattle.tq_locks.specs.Kept.{locks_in, lock_found, on_file, Agrees, IsOf, IsPlaceUnder, IsSpotOf, LeftFile, RisesTo};
     ghost use Rattle.tq_locks.specs.declared.mode.Lock.{Lock};
 
     pub(crate) fn new(alloc: Global) -> KeyedLocks
         ensures { Agrees result fin.empty }
     {
         KeyedLocks {
-            entries: Slab::new(alloc),
+            entries: LockSlab::new(alloc),
             by_file: IndexMap::new(alloc),
             by_txn: IndexMap::new(alloc),
             homes: Vec::new(alloc),
@@ -159,7 +161,7 @@ impl KeyedLocks {
             Ok(in_file) => in_file,
             Err(by) => return Ok(Some(by)),
         };
-        self.entries.reserve(1)?;
+        self.entries.reserve()?;
         make_room_under(&mut self.by_txn, &txn, spot.index)?;
         let key = self.entries.vacant_key();
         let new_list = self.by_file.len();
@@ -195,12 +197,11 @@ impl KeyedLocks {
 
     /// Puts a new lock into the entry under a key.
     pub(crate) fn set_lock(&mut self, key: usize, lock: Lock)
-        requires { Agrees self.old (locks_in self.old) }
+        requires agreed { Agrees self.old (locks_in self.old) }
+        requires as_stable { (entry : LockKey × Lock) → get self.old.entries key ≡ Some entry → lock.stable ≡ entry.1.stable }
         ensures { (name : LockKey) → IsOf self.old.entries key name → Agrees self.new (fin.insert (locks_in self.old) name lock) }
     {
-        if let Some(entry) = self.entries.get_mut(key) {
-            entry.lock = lock;
-        }
+        self.entries.set_lock(key, lock);
     }
 
     /// Takes the entry under a key out of the slab and of both indexes.
@@ -249,7 +250,7 @@ impl KeyedLocks {
         ensures { (locks : Locks) → Agrees self.now locks → IfOk result (λ copy. Agrees copy locks) }
     {
         Ok(KeyedLocks {
-            entries: self.entries.clone()?,
+            entries: self.entries.copy()?,
             by_file: self.by_file.clone()?,
             by_txn: self.by_txn.clone()?,
             homes: self.homes.clone()?,
@@ -276,21 +277,17 @@ impl KeyedLocks {
         }
     }
 
-    // Ends the lock under a key unless it is stable.
-    fn end_unstable(&mut self, key: usize)
-        requires { Agrees self.old (locks_in self.old) }
+    // Ends a lock that isn't stable.
+    fn end_loose(&mut self, key: usize)
+        requires agreed { Agrees self.old (locks_in self.old) }
+        requires loose { IsLooseAt self.old.entries key }
         ensures agreed { Agrees self.new (locks_in self.new) }
         ensures left { only_stable (locks_in self.new) ≡ only_stable (locks_in self.old) }
-        ensures stable { IsStableAt self.new.entries key }
-        ensures others { (other : ℕ) → IsStableAt self.old.entries other → IsStableAt self.new.entries other }
+        ensures fewer { slab_len self.new.entries < slab_len self.old.entries }
     {
         let Some(entry) = self.entry(key) else {
             return;
         };
-        let stays = entry.lock.stable;
-        if stays {
-            return;
-        }
         let txn = entry.txn;
         self.remove(key);
         end_empty_under(&mut self.by_txn, &txn);
@@ -301,8 +298,8 @@ impl KeyedLocks {
         requires { Agrees self.old (locks_in self.old) }
         ensures { Agrees self.new (only_stable (locks_in self.old)) }
     {
-        for key in 0..self.entries.capacity() {
-            self.end_unstable(key);
+        while let Some(key) = self.entries.next_loose() {
+            self.end_loose(key);
         }
     }
 }
@@ -319,31 +316,17 @@ fn note_home(homes: &mut Vec<usize>, key: usize, home: usize) {
 }
 
 /// Makes the locks under these keys stable.
-fn stabilise_each(entries: &mut Slab<LockEntry>, keys: &[usize])
+fn stabilise_each(entries: &mut LockSlab, keys: &[usize])
     ensures { (key : ℕ) → get entries.new key ≡ steadied entries.old keys.now key }
 {
     for key in keys {
-        stabilise(entries, *key);
-    }
-}
-
-/// Makes the lock under a key stable.
-fn stabilise(entries: &mut Slab<LockEntry>, key: usize)
-    ensures { (other : ℕ) → get entries.new other ≡ steadied entries.old (key ∷ []) other }
-{
-    if let Some(entry) = entries.get_mut(key) {
-        entry.lock.stable = true;
+        entries.stabilise(*key);
     }
 }
 
 /// The transaction of the first of these entries that is not this one's, where it conflicts with the mode.
 #[inline(always)]
-pub(crate) fn held_by(
-    entries: &Slab<LockEntry>,
-    keys: &[usize],
-    txn: u64,
-    mode: Mode,
-) -> Option<u64>
+pub(crate) fn held_by(entries: &LockSlab, keys: &[usize], txn: u64, mode: Mode) -> Option<u64>
     ensures { result ≡ decided txn mode (told entries.now keys.now) }
 {
     for entry in (HeldLocks { entries, keys }) {
@@ -361,8 +344,18 @@ pub(crate) fn held_by(
 /// Locks of a table that are left to walk.
 #[derive(Drop)]
 pub struct HeldLocks<'a> {
-    entries: &'a Slab<LockEntry>,
+    entries: &'a LockSlab,
     keys: &'a [usize],
+}
+
+impl<'a> HeldLocks<'a> {
+    /// A number of locks that those which are left do not exceed, with no walk of them.
+    #[inline(always)]
+    pub fn most(&self) -> usize
+        ensures { length self.now ≤ result }
+    {
+        self.keys.len()
+    }
 }
 
 impl<'a> Model for HeldLocks<'a> {

@@ -13,10 +13,10 @@ returns-in_err-make_room-in-Some-get_index_mut-clause-err g c =
     let n = c.args.name.now in
     let v = c.in-Some-get_index_mut.keys.now in
     let e = entry_of eq m n c.in-Some.index v (sym c.requires.index ∙ c.in-Some.is) (sym c.in-Some-get_index_mut.ensures.value) in
-    OnErr-any _ _ (unwritten eq g.met.K.Eq.laws m n e.0 c.in-Some.index c.get_index_mut.ensures.unique v c.make_room.new.keys e.1 e.2 e.3 c.make_room.ensures.same)
+    OnErr-any _ _ (unwritten eq g.met.K.Eq.laws m n e.0 c.in-Some.index c.get_index_mut.ensures.unique v c.make_room.new.self e.1 e.2 e.3 c.make_room.ensures.same)
 
-pub put_in-requires-clause-within : goal.put_in-requires-clause-within
-put_in-requires-clause-within g c =
+pub put-requires-clause-within : goal.put-requires-clause-within
+put-requires-clause-within g c =
     let eq = g.K.PartialEq.eq in
     let m = c.args.lists.now in
     let n = c.args.name.now in
@@ -35,8 +35,8 @@ returns-in_ok-make_room-in-Some-get_index_mut-clause-ok g c t =
     let v = c.in-Some-get_index_mut.keys.now in
     let e = entry_of eq m n c.in-Some.index v (sym c.requires.index ∙ c.in-Some.is) (sym c.in-Some-get_index_mut.ensures.value) in
     let keys : v.items ≡ keys_under eq m n = sym (ap (λ o. option_map_or (λ keys. keys.items) o []) e.3) in
-    written eq g.met.K.Eq.laws m n e.0 c.in-Some.index c.get_index_mut.ensures.unique v c.put_in.new.keys e.1 e.2 t
-    ∙ ap (λ ks. cond (eq n t) ks (keys_under eq m t)) (c.put_in.ensures ∙ ap (λ ks. insert ks c.args.spot.place c.args.key) (c.make_room.ensures.same ∙ keys))
+    written eq g.met.K.Eq.laws m n e.0 c.in-Some.index c.get_index_mut.ensures.unique v c.put.new.self e.1 e.2 t
+    ∙ ap (λ ks. cond (eq n t) ks (keys_under eq m t)) (c.put.ensures ∙ ap (λ ks. insert ks c.args.spot.place c.args.key) (c.make_room.ensures.same ∙ keys))
 
 pub returns-in-None-clause-ok : goal.returns-in-None-clause-ok
 returns-in-None-clause-ok g c =

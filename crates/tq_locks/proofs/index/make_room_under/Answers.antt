@@ -17,7 +17,7 @@ returns-in-Some-get_index_mut-clause-same g c =
     let m = c.args.lists.now in
     let v = c.in-Some-get_index_mut.keys.now in
     let e = entry_of eq m c.args.name.now c.in-Some.index v (sym c.requires ∙ c.in-Some.is) (sym c.in-Some-get_index_mut.ensures.value) in
-    unwritten eq g.met.K.Eq.laws m c.args.name.now e.0 c.in-Some.index c.get_index_mut.ensures.unique v c.make_room.new.keys e.1 e.2 e.3 c.make_room.ensures.same
+    unwritten eq g.met.K.Eq.laws m c.args.name.now e.0 c.in-Some.index c.get_index_mut.ensures.unique v c.make_room.new.self e.1 e.2 e.3 c.make_room.ensures.same
 
 pub returns-in-Some-get_index_mut-clause-room : goal.returns-in-Some-get_index_mut-clause-room
 returns-in-Some-get_index_mut-clause-room g c =
@@ -26,4 +26,4 @@ returns-in-Some-get_index_mut-clause-room g c =
     let name = c.args.name.now in
     let v = c.in-Some-get_index_mut.keys.now in
     let e = entry_of eq m name c.in-Some.index v (sym c.requires ∙ c.in-Some.is) (sym c.in-Some-get_index_mut.ensures.value) in
-    OnOk-to _ _ _ c.make_room.ensures.room (λ r. subst (HasRoomUnder eq (with_value_at m c.in-Some.index c.make_room.new.keys) name) (sym c.in-Some.is) (room eq g.met.K.Eq.laws m name e.0 c.in-Some.index c.get_index_mut.ensures.unique v c.make_room.new.keys e.1 e.2 r))
+    OnOk-to _ _ _ c.make_room.ensures.room (λ r. subst (HasRoomUnder eq (with_value_at m c.in-Some.index c.make_room.new.self) name) (sym c.in-Some.is) (room eq g.met.K.Eq.laws m name e.0 c.in-Some.index c.get_index_mut.ensures.unique v c.make_room.new.self e.1 e.2 r))

@@ -11,7 +11,7 @@ returns-in-Some-get_index_mut g c t =
     let n = c.args.name.now in
     let v = c.in-Some-get_index_mut.keys.now in
     let r = roomy eq m n c.in-Some.index v (subst (HasRoomUnder eq m n) c.in-Some.is c.requires.room) (sym c.in-Some-get_index_mut.ensures.value) in
-    written eq g.met.K.Eq.laws m n r.0 c.in-Some.index c.get_index_mut.ensures.unique v c.put_in.new.keys r.1 r.2 t ∙ ap (λ ks. cond (eq n t) ks (keys_under eq m t)) (c.put_in.ensures ∙ ap (λ ks. insert ks c.args.spot.place c.args.key) (sym r.3))
+    written eq g.met.K.Eq.laws m n r.0 c.in-Some.index c.get_index_mut.ensures.unique v c.put.new.self r.1 r.2 t ∙ ap (λ ks. cond (eq n t) ks (keys_under eq m t)) (c.put.ensures ∙ ap (λ ks. insert ks c.args.spot.place c.args.key) (sym r.3))
 
 pub returns-in_default : goal.returns-in_default
 returns-in_default g c t = absurd (list_there g.K.PartialEq.eq c.args.lists.now c.args.name.now c.in-Some.index (subst (HasRoomUnder g.K.PartialEq.eq c.args.lists.now c.args.name.now) c.in-Some.is c.requires.room) (sym c.in_default.ensures.value))

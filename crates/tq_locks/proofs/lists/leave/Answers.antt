@@ -10,7 +10,7 @@ pub returns-then-is_last-clause-place : goal.returns-then-is_last-clause-place
 returns-then-is_last-clause-place c entries listed sorted =
     let keys = c.args.keys.now.items in
     let last : slice_get keys (length keys - 1) ≡ Some c.args.key = sym (ap (λ ks. slice_get ks (length ks - 1)) c.as_slice.ensures) ∙ c.if-is_last.ensures in
-    c.len.ensures.value
+    c.len.ensures
     ∙ ap length c.pop.ensures.rest
     ∙ length-take-le (length keys - 1) keys (omega arith)
     ∙ stands-in_place locks_total (get c.args.entries.now) c.args.entry.now.0 locks_same c.args.entry.now.1 keys entries (length keys - 1) c.args.key last c.requires listed sorted

@@ -1,9 +1,7 @@
-use Rattle.std.proofs.Common.{◌≡◌, ap, sym, subst, refl, ◌∙◌, Some, nat_eq}
-use Rattle.slab.specs.Slab.{Slab, Updates}
+use Rattle.std.proofs.Common.{◌≡◌, sym, subst, refl, ◌∙◌, Some, nat_eq}
+use Rattle.slab.specs.Slab.{Updates}
 use Rattle.tq_store.specs.Names.{same_name}
 use Rattle.tq_locks.specs.declared.keyed.KeyedLocks.{KeyedLocks}
-use Rattle.tq_locks.specs.declared.mode.Lock.{Lock}
-use Rattle.tq_locks.specs.Locks.{LockKey}
 use Rattle.tq_locks.specs.Keys.{keys_under}
 use Rattle.tq_locks.specs.Kept.{locks_in}
 use Rattle.tq_locks.proofs.Applied.{Agrees-same, Agrees-inserted, RisesTo-same, OnErr-any, decided_on_file}
@@ -18,19 +16,19 @@ pub returns-in_err-reserve-clause-err : goal.returns-in_err-reserve-clause-err
 returns-in_err-reserve-clause-err c =
     let old = c.args.self.now in
     let new : KeyedLocks = record { entries = c.reserve.new.self; by_file = old.by_file; by_txn = old.by_txn; homes = old.homes; alloc = old.alloc } in
-    OnErr-any _ _ (Agrees-same old new (locks_in old) c.requires.agreed (ap (λ (s : Slab (LockKey × Lock)). s.slots) c.reserve.ensures.rest_kept) (λ f. refl) (λ t. refl))
+    OnErr-any _ _ (Agrees-same old new (locks_in old) c.requires.agreed c.reserve.ensures.same (λ f. refl) (λ t. refl))
 
 pub returns-in_err-make_room_under-clause-err : goal.returns-in_err-make_room_under-clause-err
 returns-in_err-make_room_under-clause-err c =
     let old = c.args.self.now in
     let new : KeyedLocks = record { entries = c.reserve.new.self; by_file = old.by_file; by_txn = c.make_room_under.new.lists; homes = old.homes; alloc = old.alloc } in
-    OnErr-any _ _ (Agrees-same old new (locks_in old) c.requires.agreed (ap (λ (s : Slab (LockKey × Lock)). s.slots) c.reserve.ensures.rest_kept) (λ f. refl) c.make_room_under.ensures.same)
+    OnErr-any _ _ (Agrees-same old new (locks_in old) c.requires.agreed c.reserve.ensures.same (λ f. refl) c.make_room_under.ensures.same)
 
 pub returns-in_err-enter_under-clause-err : goal.returns-in_err-enter_under-clause-err
 returns-in_err-enter_under-clause-err c =
     let old = c.args.self.now in
     let new : KeyedLocks = record { entries = c.reserve.new.self; by_file = c.enter_under.new.lists; by_txn = c.make_room_under.new.lists; homes = old.homes; alloc = old.alloc } in
-    OnErr-any _ _ (Agrees-same old new (locks_in old) c.requires.agreed (ap (λ (s : Slab (LockKey × Lock)). s.slots) c.reserve.ensures.rest_kept) c.in_err-enter_under.ensures.err c.make_room_under.ensures.same)
+    OnErr-any _ _ (Agrees-same old new (locks_in old) c.requires.agreed c.reserve.ensures.same c.in_err-enter_under.ensures.err c.make_room_under.ensures.same)
 
 pub returns-clause-told : goal.returns-clause-told
 returns-clause-told c =
@@ -44,7 +42,7 @@ returns-clause-ok c =
     let new : KeyedLocks = record { entries = c.insert_reserved.new.self; by_file = c.enter_under.new.lists; by_txn = c.put_under.new.lists; homes = c.note_home.new.homes; alloc = old.alloc } in
     let file = c.args.file.now in
     let txn = c.args.txn in
-    let same = ap (λ (s : Slab (LockKey × Lock)). s.slots) c.reserve.ensures.rest_kept in
+    let same = c.reserve.ensures.same in
     let vacant : c.vacant_key-key.result ≡ c.insert_reserved.result = c.vacant_key-key.ensures.value ∙ sym c.insert_reserved.ensures.key in
     let in_file = keys_under same_name old.by_file file in
     let in_txn = keys_under nat_eq middle.by_txn txn in

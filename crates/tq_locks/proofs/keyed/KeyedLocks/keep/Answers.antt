@@ -1,6 +1,7 @@
 use Rattle.std.proofs.Common.{ap, refl, ◌∙◌}
 use Rattle.tq_locks.specs.declared.keyed.KeyedLocks.{KeyedLocks}
-use Rattle.tq_locks.specs.Kept.{locks_in, steadied}
+use Rattle.tq_locks.specs.Kept.{locks_in}
+use Rattle.tq_locks.specs.Loose.{steadied}
 use Rattle.tq_locks.proofs.Steadied.{Agrees-kept}
 use Rattle.tq_locks.proofs.keyed.KeyedLocks.keep.Goals as goal
 

@@ -9,7 +9,8 @@ use Rattle.tq_locks.specs.Keys.{keys_under}
 use Rattle.tq_locks.specs.Kept.{locks_in, Agrees}
 use Rattle.tq_locks.proofs.Applied.{Agrees-same}
 use Rattle.tq_locks.proofs.Changed.{agreed_self, locks_in-agreed, only_stable-remove}
-use Rattle.tq_locks.proofs.keyed.KeyedLocks.end_unstable.Goals as goal
+use Rattle.tq_locks.proofs.Found.{some_same}
+use Rattle.tq_locks.proofs.keyed.KeyedLocks.end_loose.Goals as goal
 
 -- the entry is taken, and the list of its transaction with its last key
 module _ (old removed new : KeyedLocks) (e : LockKey × Lock) (agreed : Agrees removed (fin.remove (locks_in old) e.0)) (entries : new.entries ≡ removed.entries) (files : new.by_file ≡ removed.by_file)
@@ -28,5 +29,7 @@ returns-clause-left c =
     let e = c.in-Some.entry.now in
     let old = locks_in c.args.self.now in
     let new : KeyedLocks = record { entries = c.remove.new.self.entries; by_file = c.remove.new.self.by_file; by_txn = c.end_empty_under.new.lists; homes = c.remove.new.self.homes; alloc = c.remove.new.self.alloc } in
+    let loose = c.requires.loose in
+    let same : loose.0 ≡ e = some_same loose.0 e (sym loose.1 ∙ sym c.in-Some.ensures) in
     ap only_stable (locks_in-agreed new (fin.remove old e.0) (taken c.args.self.now c.remove.new.self new e (c.remove.ensures.agreed e.0 (e.1, sym c.in-Some.ensures)) refl refl c.end_empty_under.ensures))
-    ∙ only_stable-remove old e.0 e.1 (c.requires.sound c.args.key e (sym c.in-Some.ensures)) (ap (λ (x : LockKey × Lock). x.1.stable) (sym c.entry-2.view_is) ∙ c.if-stays.false)
+    ∙ only_stable-remove old e.0 e.1 (c.requires.agreed.sound c.args.key e (sym c.in-Some.ensures)) (ap (λ (x : LockKey × Lock). x.1.stable) (sym same) ∙ loose.2)

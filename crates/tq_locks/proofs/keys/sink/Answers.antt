@@ -1,7 +1,7 @@
 use Rattle.std.proofs.Common.{◌≡◌, ◌-◌, ◌<◌, suc, length, ap, sym, ◌∙◌, arith}
 use Rattle.std.specs.List.{insert, swap}
 use Rattle.tq_locks.proofs.Sinking.{longer, swapped}
-use Rattle.tq_locks.proofs.lists.sink.Goals as goal
+use Rattle.tq_locks.proofs.keys.sink.Goals as goal
 
 pub loop-at-preserved : goal.loop-at-preserved
 loop-at-preserved c =

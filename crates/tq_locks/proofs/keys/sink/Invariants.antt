@@ -1,6 +1,6 @@
 use Rattle.std.proofs.Common.{◌≡◌, ◌<◌, ◌≤◌, ◌++◌, ℕ, List, [], ◌∷◌, length}
 use Rattle.std.specs.List.{insert}
-use Rattle.tq_locks.proofs.lists.sink.Given as goal
+use Rattle.tq_locks.proofs.keys.sink.Given as goal
 
 -- the key is at a place that is not below its own
 abbrev pub invariant-loop-at : goal.invariant-loop-at

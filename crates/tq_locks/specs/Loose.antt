@@ -1,0 +1,40 @@
+-- Locks under keys, and the keys of those that aren't stable.
+use Rattle.std.specs.Prelude.{◌≡◌, ◌+◌, ◌-◌, ◌==◌, ℕ, List, [], ◌∷◌, Some, true, false, Option, min, if◌then◌else◌}
+use Rattle.std.specs.Option.{option_map}
+use Rattle.slab.specs.Slab.{Slab, get, slab_len}
+use Rattle.tq_shape.specs.Journal.{Has}
+use Rattle.tq_locks.specs.declared.mode.Lock.{Lock}
+use Rattle.tq_locks.specs.Locks.{LockKey}
+
+-- the lock under a key, if there is one, is stable
+abbrev pub IsStableAt : Slab (LockKey × Lock) → ℕ → Type 0
+IsStableAt slab key = (entry : LockKey × Lock) → get slab key ≡ Some entry → entry.1.stable ≡ true
+
+-- there is a lock under a key, and it isn't stable
+abbrev pub IsLooseAt : Slab (LockKey × Lock) → ℕ → Type 0
+IsLooseAt slab key = (entry : LockKey × Lock) × (get slab key ≡ Some entry) × (entry.1.stable ≡ false)
+
+-- each lock is stable
+abbrev pub AreStable : Slab (LockKey × Lock) → Type 0
+AreStable slab = (key : ℕ) → IsStableAt slab key
+
+-- the key of each lock that isn't stable is in the list
+abbrev pub ListsLoose : Slab (LockKey × Lock) → List ℕ → Type 0
+ListsLoose slab keys = (key : ℕ) → IsLooseAt slab key → Has keys key
+
+-- how many locks fit with no allocation, where a list has the keys of so many and room for so many
+abbrev pub room_left : Slab (LockKey × Lock) → ℕ → ℕ → ℕ
+room_left slab listed room = slab_len slab + min (slab.capacity - slab_len slab) (room - listed)
+
+-- the same lock, stable
+abbrev pub steady : Lock → Lock
+steady lock = record { mode = lock.mode; since = lock.since; version = lock.version; stable = true }
+
+-- the same entry, with its lock stable
+abbrev pub steady_entry : LockKey × Lock → LockKey × Lock
+steady_entry entry = (entry.0, steady entry.1)
+
+-- the entry under a key, where the locks under these keys become stable
+abbrev pub steadied : Slab (LockKey × Lock) → List ℕ → ℕ → Option (LockKey × Lock)
+steadied slab [] key = get slab key
+steadied slab (k ∷ keys) key = if key == k then option_map steady_entry (get slab key) else steadied slab keys key

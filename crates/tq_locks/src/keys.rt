@@ -1,0 +1,252 @@
+//! A list of keys that gives up its first as cheaply as its last.
+ghost use Rattle.std.specs.Prelude.{◌≡◌, ◌+◌, ◌-◌, ◌<◌, ◌≤◌, ◌++◌, ℕ, List, OnOk, IfOk, length, take, drop, Some, [], ◌∷◌};
+ghost use Rattle.std.specs.List.{insert, remove, slice_get};
+ghost use Rattle.smallvec.specs.SmallVec.{HasRoomFor, small_vec_len};
+
+use smallvec::SmallVec;
+use std::alloc::{AllocError, Global};
+use std::marker::Model;
+
+/// As many keys as these move one by one at the most.
+const FEW: usize = 16;
+
+/// The keys under one name. Up to six of them need no allocation.
+#[derive(Drop)]
+pub(crate) struct Keys {
+    /// The keys, behind so many places that hold none.
+    places: SmallVec<usize, 6>,
+    first: usize,
+}
+
+impl Model for Keys {
+    ghost use Rattle.std.specs.Prelude.{◌≤◌, ◌-◌, ℕ, drop};
+    ghost use Rattle.std.specs.Coded.{coded_ℕ};
+    ghost use Rattle.smallvec.specs.SmallVec.{SmallVec as Items, small_vec_code, small_vec_len};
+
+    ghost Value = { Items ℕ };
+
+    ghost coded = { small_vec_code coded_ℕ };
+
+    ghost view = { λ k. record { items = drop k.first k.places.items; capacity = k.places.capacity - k.first } };
+
+    ghost invariant = { λ k. k.first ≤ small_vec_len k.places };
+}
+
+impl Clone for Keys {
+    ghost is_clone = { λ k copy. copy.items ≡ k.items };
+
+    fn clone(&self) -> Result<Self, AllocError> {
+        Ok(Keys {
+            places: SmallVec::from_slice(*self.places.allocator(), self.as_slice())?,
+            first: 0,
+        })
+    }
+}
+
+impl Keys {
+    /// No key.
+    pub(crate) fn new(alloc: Global) -> Keys
+        ensures { result.items ≡ [] }
+    {
+        Keys {
+            places: SmallVec::new(alloc),
+            first: 0,
+        }
+    }
+
+    /// A list of one key.
+    pub(crate) fn only(alloc: Global, key: usize) -> Keys
+        ensures { result.items ≡ key ∷ [] }
+    {
+        let mut places = SmallVec::new(alloc);
+        places.push_reserved(key);
+        Keys { places, first: 0 }
+    }
+
+    /// The keys.
+    #[inline(always)]
+    pub(crate) fn as_slice(&self) -> &[usize]
+        ensures { result.now ≡ self.now.items }
+    {
+        &self.places.as_slice()[self.first..]
+    }
+
+    /// The number of keys.
+    #[inline(always)]
+    pub(crate) fn len(&self) -> usize
+        ensures { result ≡ length self.now.items }
+    {
+        self.places.len() - self.first
+    }
+
+    /// Makes room for one more key.
+    #[inline(always)]
+    pub(crate) fn make_room(&mut self) -> Result<(), AllocError>
+        ensures room { OnOk result (HasRoomFor self.new 1) }
+        ensures same { self.new.items ≡ self.old.items }
+    {
+        if self.places.len() == self.places.capacity() {
+            return self.grow();
+        }
+        Ok(())
+    }
+
+    // Moves the keys down where that frees half of the places, and else makes room for as many again.
+    #[inline(never)]
+    fn grow(&mut self) -> Result<(), AllocError>
+        ensures room { OnOk result (HasRoomFor self.new 1) }
+        ensures same { self.new.items ≡ self.old.items }
+    {
+        if self.first > self.places.len() / 2 {
+            move_down(&mut self.places, self.first);
+            self.first = 0;
+        }
+        self.places.reserve(1)
+    }
+
+    /// Puts a key into its place in a list that has room.
+    #[inline(always)]
+    pub(crate) fn put(&mut self, place: usize, key: usize)
+        requires room { HasRoomFor self.old 1 }
+        requires within { place ≤ length self.old.items }
+        ensures { self.new.items ≡ insert self.old.items place key }
+    {
+        // Most often it goes behind the others, or before a few.
+        let behind = self.len() - place;
+        if behind <= FEW {
+            let at = self.places.len() - behind;
+            put_near_end(&mut self.places, at, key);
+        } else {
+            self.put_within(place, key);
+        }
+    }
+
+    // The same, where the fewer of the keys move: those before the place, or those behind it.
+    #[inline(never)]
+    fn put_within(&mut self, place: usize, key: usize)
+        requires room { HasRoomFor self.old 1 }
+        requires within { place ≤ length self.old.items }
+        ensures { self.new.items ≡ insert self.old.items place key }
+    {
+        let len = self.len();
+        if place >= len / 2 {
+            let at = self.places.len() - (len - place);
+            let _room_was_made = self.places.insert(at, key);
+            return;
+        }
+        if self.first == 0 {
+            let first = move_up(&mut self.places);
+            self.first = put_before(&mut self.places, first, place, key);
+            return;
+        }
+        self.first = put_before(&mut self.places, self.first, place, key);
+    }
+
+    /// Takes the last key out.
+    #[inline(always)]
+    pub(crate) fn pop(&mut self) -> Option<usize>
+        ensures value { result ≡ slice_get self.old.items (length self.old.items - 1) }
+        ensures rest { self.new.items ≡ take (length self.old.items - 1) self.old.items }
+    {
+        if self.places.len() == self.first {
+            return None;
+        }
+        self.places.pop()
+    }
+
+    /// Takes the key at a place out, where the list goes so far. The fewer of the keys move: those before the place, or those behind it.
+    pub(crate) fn take_out(&mut self, place: usize)
+        ensures { self.new.items ≡ remove self.old.items place }
+    {
+        let len = self.len();
+        if place >= len {
+            return;
+        }
+        if len <= FEW || place >= len / 2 {
+            let at = self.places.len() - (len - place);
+            self.places.remove(at);
+            return;
+        }
+        self.first = close_up(&mut self.places, self.first, place);
+        if self.first > self.places.len() / 2 {
+            move_down(&mut self.places, self.first);
+            self.first = 0;
+        }
+    }
+}
+
+/// Puts a key into its place, which is near the end of a list that has room.
+#[inline(always)]
+fn put_near_end(keys: &mut SmallVec<usize, 6>, place: usize, key: usize)
+    requires room { HasRoomFor keys.old 1 }
+    requires within { place ≤ length keys.old.items }
+    ensures { keys.new.items ≡ insert keys.old.items place key }
+{
+    keys.push_reserved(key);
+    sink(keys.as_mut_slice(), place);
+}
+
+/// Moves the last of the keys before those from a place on.
+#[inline(always)]
+fn sink(keys: &mut [usize], place: usize)
+    requires { place < length keys.old }
+    ensures { (front : List ℕ) (key : ℕ) → keys.old ≡ front ++ key ∷ [] → keys.new ≡ insert front place key }
+{
+    let mut at = keys.len() - 1;
+    while at > place {
+        keys.swap(at - 1, at);
+        at -= 1;
+    }
+}
+
+/// Puts a key into its place by moves of those before it, and tells where the first is then. The place before the first holds none.
+fn put_before(keys: &mut SmallVec<usize, 6>, first: usize, place: usize, key: usize) -> usize
+    requires free { 0 < first }
+    requires within { first + place ≤ length keys.old.items }
+    ensures first { result + 1 ≡ first }
+    ensures items { drop result keys.new.items ≡ insert (drop first keys.old.items) place key }
+    ensures len { length keys.new.items ≡ length keys.old.items }
+{
+    let to = first - 1;
+    let keys = keys.as_mut_slice();
+    keys.copy_within(first..first + place, to);
+    keys[to + place] = key;
+    to
+}
+
+/// Takes the key at a place out by moves of those before it, and tells where the first is then.
+fn close_up(keys: &mut SmallVec<usize, 6>, first: usize, place: usize) -> usize
+    requires { first + place < length keys.old.items }
+    ensures first { result ≡ first + 1 }
+    ensures items { drop result keys.new.items ≡ remove (drop first keys.old.items) place }
+    ensures len { length keys.new.items ≡ length keys.old.items }
+{
+    keys.as_mut_slice()
+        .copy_within(first..first + place, first + 1);
+    first + 1
+}
+
+/// Moves the keys from the first one on to the front.
+fn move_down(keys: &mut SmallVec<usize, 6>, first: usize)
+    requires { first ≤ length keys.old.items }
+    ensures items { keys.new.items ≡ drop first keys.old.items }
+    ensures capacity { keys.new.capacity ≡ keys.old.capacity }
+{
+    let len = keys.len();
+    keys.as_mut_slice().copy_within(first..len, 0);
+    keys.truncate(len - first);
+}
+
+/// Moves the keys up by half of the room behind them, and tells the place of the first.
+fn move_up(keys: &mut SmallVec<usize, 6>) -> usize
+    requires { HasRoomFor keys.old 1 }
+    ensures free { 0 < result }
+    ensures within { result + length keys.old.items ≡ length keys.new.items }
+    ensures items { drop result keys.new.items ≡ keys.old.items }
+{
+    let len = keys.len();
+    let gap = (keys.capacity() - len).div_ceil(2);
+    let _room_was_made = keys.resize(len + gap, 0);
+    keys.as_mut_slice().copy_within(0..len, gap);
+    gap
+}
