@@ -12,6 +12,7 @@ use crate::keys::Keys;
 use crate::lists::leave;
 use crate::lock_slab::LockSlab;
 use indexmap::IndexMap;
+use smallvec::SmallVec;
 use std::alloc::{AllocError, Global};
 use std::hash::Hash;
 
@@ -226,13 +227,13 @@ pub(crate) fn take_all_under<K: Eq + Hash + Drop>(
     alloc: Global,
     lists: &mut IndexMap<K, Keys>,
     name: &K,
-) -> Keys
+) -> SmallVec<usize, 6>
     ensures keys { result.items ≡ keys_under K.eq lists.old name.now }
     ensures after { (other : K) → keys_under K.eq lists.new other ≡ (if K.eq name.now other then [] else keys_under K.eq lists.old other) }
 {
     match lists.swap_remove(name) {
-        Some(keys) => keys,
-        None => Keys::new(alloc),
+        Some(keys) => keys.into_places(),
+        None => SmallVec::new(alloc),
     }
 }
 
