@@ -12,6 +12,7 @@ use crate::{Lock, LockEntry};
 use slab::{Iter, Slab};
 use std::alloc::{AllocError, Global};
 use std::marker::Model;
+use tq_store::FileName;
 
 /// Locks, each under a key.
 #[derive(Drop)]
@@ -108,12 +109,16 @@ impl LockSlab {
 
     /// Keeps one more lock under the vacant key.
     #[inline(always)]
-    pub(crate) fn insert_reserved(&mut self, entry: LockEntry) -> usize
+    pub(crate) fn insert_reserved(&mut self, file: &FileName, txn: u64, lock: Lock) -> usize
         requires { HasRoomFor self.old 1 }
         ensures key { result ≡ self.old.vacant_key }
-        ensures updates { Updates self.old self.new result (Some entry) }
+        ensures updates { Updates self.old self.new result (Some ((file.now, txn), lock)) }
     {
-        self.slab.insert_reserved(entry)
+        self.slab.insert_reserved(LockEntry {
+            file: *file,
+            txn,
+            lock,
+        })
     }
 
     /// Takes the lock under a key out.
