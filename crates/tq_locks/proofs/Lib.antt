@@ -16,3 +16,4 @@ pub mod Asked
 pub mod Sinking
 pub mod Shifted
 pub mod Listed
+pub mod Loosened

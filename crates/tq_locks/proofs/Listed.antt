@@ -1,7 +1,8 @@
 -- Keys that a list has.
-use Rattle.std.proofs.Common.{◌≡◌, ◌++◌, ℕ, nat_eq, suc, ◌≤◌, length, Option, Some, None, true, List, [], ◌∷◌, refl, inl, inr, ◌⊎◌, arith}
+use Rattle.std.proofs.Common.{◌≡◌, ◌++◌, ℕ, nat_eq, suc, ◌≤◌, ◌||◌, Bool, false, ap, sym, length, Option, Some, None, true, List, [], ◌∷◌, refl, inl, inr, ◌⊎◌, arith}
 use Rattle.std.proofs.lemmas.Bool.Decides.{nat_tests}
-use Rattle.std.specs.List.{filter_map, cons_option}
+use mathlib.Core.Bool.{true≢false}
+use Rattle.std.specs.List.{list_any, filter_map, cons_option}
 use Rattle.tq_shape.specs.Journal.{Has}
 
 pub Has-more : (xs ys : List ℕ) (k : ℕ) → Has xs k → Has (xs ++ ys) k
@@ -19,6 +20,30 @@ before_last [] last k (inr h) = absurd h
 before_last (x ∷ xs) last k (inl e) = inl (inl e)
 before_last (x ∷ xs) last k (inr h) = elim (before_last xs last k h) [ inl g ↦ inl (inr g) | inr e ↦ inr e ]
 
+pub equal : (m n : ℕ) → nat_eq m n ≡ true → m ≡ n
+equal m n h = grind (arith, nat_tests)
+
+-- what a test of each key finds
+pub Has-any : (xs : List ℕ) (k : ℕ) → Has xs k → list_any (nat_eq k) xs ≡ true
+Has-any [] k h = absurd h
+Has-any (x ∷ xs) k (inl e) = ap (λ b. b || list_any (nat_eq k) xs) (same x k e)
+  where
+    same : (m n : ℕ) → m ≡ n → nat_eq n m ≡ true
+    same m n e = grind (arith, nat_tests)
+Has-any (x ∷ xs) k (inr h) = by_test (nat_eq k x) (Has-any xs k h)
+  where
+    by_test : (b : Bool) → list_any (nat_eq k) xs ≡ true → b || list_any (nat_eq k) xs ≡ true
+    by_test true h = refl
+    by_test false h = h
+
+pub any-Has : (xs : List ℕ) (k : ℕ) → list_any (nat_eq k) xs ≡ true → Has xs k
+any-Has [] k h = absurd (true≢false (sym h))
+any-Has (x ∷ xs) k h = by_test (nat_eq k x) refl h (any-Has xs k)
+  where
+    by_test : (b : Bool) → nat_eq k x ≡ b → b || list_any (nat_eq k) xs ≡ true → (list_any (nat_eq k) xs ≡ true → Has xs k) → Has (x ∷ xs) k
+    by_test true e h next = inl (sym (equal k x e))
+    by_test false e h next = inr (next h)
+
 -- no more are told of than are listed
 pub told_most : {A B : Type 0} (f : A → Option B) (xs : List A) → length (filter_map f xs) ≤ length xs
 told_most {B = B} f [] = omega arith
@@ -27,6 +52,3 @@ told_most {B = B} f (x ∷ xs) = by_look (f x) (told_most f xs)
     by_look : (o : Option B) → length (filter_map f xs) ≤ length xs → length (cons_option o (filter_map f xs)) ≤ suc (length xs)
     by_look None h = omega (arith, h)
     by_look (Some y) h = omega (arith, h)
-
-pub equal : (m n : ℕ) → nat_eq m n ≡ true → m ≡ n
-equal m n h = grind (arith, nat_tests)

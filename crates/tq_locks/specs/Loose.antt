@@ -1,5 +1,6 @@
 -- Locks under keys, and the keys of those that aren't stable.
-use Rattle.std.specs.Prelude.{◌≡◌, ◌+◌, ◌-◌, ◌==◌, ℕ, List, [], ◌∷◌, Some, true, false, Option, min, if◌then◌else◌}
+use Rattle.std.specs.Prelude.{◌≡◌, ◌==◌, ℕ, List, [], ◌∷◌, Some, true, false, Option, nat_eq, if◌then◌else◌}
+use Rattle.std.specs.List.{list_any}
 use Rattle.std.specs.Option.{option_map}
 use Rattle.slab.specs.Slab.{Slab, get, slab_len}
 use Rattle.tq_shape.specs.Journal.{Has}
@@ -22,9 +23,9 @@ AreStable slab = (key : ℕ) → IsStableAt slab key
 abbrev pub ListsLoose : Slab (LockKey × Lock) → List ℕ → Type 0
 ListsLoose slab keys = (key : ℕ) → IsLooseAt slab key → Has keys key
 
--- how many locks fit with no allocation, where a list has the keys of so many and room for so many
-abbrev pub room_left : Slab (LockKey × Lock) → ℕ → ℕ → ℕ
-room_left slab listed room = slab_len slab + min (slab.capacity - slab_len slab) (room - listed)
+-- how many locks fit with no allocation, where these keys are listed: none but those that are there, unless the next key is
+abbrev pub room_with : Slab (LockKey × Lock) → List ℕ → ℕ
+room_with slab keys = if list_any (nat_eq slab.vacant_key) keys then slab.capacity else slab_len slab
 
 -- the same lock, stable
 abbrev pub steady : Lock → Lock
@@ -38,3 +39,7 @@ steady_entry entry = (entry.0, steady entry.1)
 abbrev pub steadied : Slab (LockKey × Lock) → List ℕ → ℕ → Option (LockKey × Lock)
 steadied slab [] key = get slab key
 steadied slab (k ∷ keys) key = if key == k then option_map steady_entry (get slab key) else steadied slab keys key
+
+-- the entry under a key, where another lock comes into one of them
+abbrev pub with_lock : Slab (LockKey × Lock) → ℕ → Lock → ℕ → Option (LockKey × Lock)
+with_lock slab k lock key = if key == k then option_map (λ entry. (entry.0, lock)) (get slab key) else get slab key

@@ -11,12 +11,16 @@ use crate::LockEntry;
 use crate::keys::Keys;
 use crate::lists::leave;
 use crate::lock_slab::LockSlab;
-use indexmap::IndexMap;
+use smallvec::SmallVec;
 use std::alloc::{AllocError, Global};
 use std::hash::Hash;
+use tq_store::BoundedIndexMap;
 
 /// The keys under a name.
-pub(crate) fn listed_under<'a, K: Eq + Hash>(lists: &'a IndexMap<K, Keys>, name: &K) -> &'a [usize]
+pub(crate) fn listed_under<'a, K: Ord + Hash>(
+    lists: &'a BoundedIndexMap<K, Keys>,
+    name: &K,
+) -> &'a [usize]
     ensures { result.now ≡ keys_under K.eq lists.now name.now }
 {
     match lists.get(name) {
@@ -27,8 +31,8 @@ pub(crate) fn listed_under<'a, K: Eq + Hash>(lists: &'a IndexMap<K, Keys>, name:
 
 /// The index of a name's list, if there is one, and its keys.
 #[inline(always)]
-pub(crate) fn list_under<'a, K: Eq + Hash>(
-    lists: &'a IndexMap<K, Keys>,
+pub(crate) fn list_under<'a, K: Ord + Hash>(
+    lists: &'a BoundedIndexMap<K, Keys>,
     name: &K,
 ) -> (Option<usize>, &'a [usize])
     ensures index { result.0 ≡ index_of K.eq lists.now name.now }
@@ -50,8 +54,8 @@ pub(crate) struct Spot {
 
 /// Makes room for one more key under a name, whose list is at the index.
 #[inline(always)]
-pub(crate) fn make_room_under<K: Eq + Hash>(
-    lists: &mut IndexMap<K, Keys>,
+pub(crate) fn make_room_under<K: Ord + Hash + Copy + Drop>(
+    lists: &mut BoundedIndexMap<K, Keys>,
     name: &K,
     index: Option<usize>,
 ) -> Result<(), AllocError>
@@ -70,9 +74,9 @@ pub(crate) fn make_room_under<K: Eq + Hash>(
 
 /// Puts a key into its place under a name, whose list is at the spot's index. Without memory the keys stay as they were.
 #[inline(always)]
-pub(crate) fn enter_under<K: Eq + Hash + Copy + Drop>(
+pub(crate) fn enter_under<K: Ord + Hash + Copy + Drop>(
     alloc: Global,
-    lists: &mut IndexMap<K, Keys>,
+    lists: &mut BoundedIndexMap<K, Keys>,
     name: &K,
     spot: Spot,
     key: usize,
@@ -97,9 +101,9 @@ pub(crate) fn enter_under<K: Eq + Hash + Copy + Drop>(
 
 /// Begins the list of a name that has none, with one key. Without memory the keys stay as they were.
 #[inline(never)]
-fn begin_under<K: Eq + Hash + Copy + Drop>(
+fn begin_under<K: Ord + Hash + Copy + Drop>(
     alloc: Global,
-    lists: &mut IndexMap<K, Keys>,
+    lists: &mut BoundedIndexMap<K, Keys>,
     name: &K,
     key: usize,
 ) -> Result<(), AllocError>
@@ -114,9 +118,9 @@ fn begin_under<K: Eq + Hash + Copy + Drop>(
 
 /// The same, where there is room.
 #[inline(never)]
-fn begin_reserved<K: Eq + Hash + Copy + Drop>(
+fn begin_reserved<K: Ord + Hash + Copy + Drop>(
     alloc: Global,
-    lists: &mut IndexMap<K, Keys>,
+    lists: &mut BoundedIndexMap<K, Keys>,
     name: &K,
     key: usize,
 )
@@ -129,9 +133,9 @@ fn begin_reserved<K: Eq + Hash + Copy + Drop>(
 
 /// Puts a key into its place under a name, for which there is room.
 #[inline(always)]
-pub(crate) fn put_under<K: Eq + Hash + Copy + Drop>(
+pub(crate) fn put_under<K: Ord + Hash + Copy + Drop>(
     alloc: Global,
-    lists: &mut IndexMap<K, Keys>,
+    lists: &mut BoundedIndexMap<K, Keys>,
     name: &K,
     spot: Spot,
     key: usize,
@@ -152,8 +156,8 @@ pub(crate) fn put_under<K: Eq + Hash + Copy + Drop>(
 
 /// Takes the key of an entry out of a name's list, and tells its place. The list stays, even with no key.
 #[inline(always)]
-pub(crate) fn take_under<K: Eq + Hash>(
-    lists: &mut IndexMap<K, Keys>,
+pub(crate) fn take_under<K: Ord + Hash>(
+    lists: &mut BoundedIndexMap<K, Keys>,
     entries: &LockSlab,
     name: &K,
     entry: &LockEntry,
@@ -171,8 +175,8 @@ pub(crate) fn take_under<K: Eq + Hash>(
 
 /// The same, where the list is likely to be at the index.
 #[inline(always)]
-pub(crate) fn take_near<K: Eq + Hash>(
-    lists: &mut IndexMap<K, Keys>,
+pub(crate) fn take_near<K: Ord + Hash>(
+    lists: &mut BoundedIndexMap<K, Keys>,
     entries: &LockSlab,
     name: &K,
     entry: &LockEntry,
@@ -191,7 +195,7 @@ pub(crate) fn take_near<K: Eq + Hash>(
 
 /// Whether a name's list is at the index.
 #[inline(always)]
-fn is_at<K: Eq + Hash>(lists: &IndexMap<K, Keys>, name: &K, index: usize) -> bool
+fn is_at<K: Ord + Hash>(lists: &BoundedIndexMap<K, Keys>, name: &K, index: usize) -> bool
     ensures { OnTrue result (HasListAt K.eq lists.now name.now index) }
 {
     match lists.get_index(index) {
@@ -202,8 +206,8 @@ fn is_at<K: Eq + Hash>(lists: &IndexMap<K, Keys>, name: &K, index: usize) -> boo
 
 /// Takes the key of an entry out of a name's list, which is at the index, and tells its place.
 #[inline(always)]
-fn take_at<K: Eq + Hash>(
-    lists: &mut IndexMap<K, Keys>,
+fn take_at<K: Ord + Hash>(
+    lists: &mut BoundedIndexMap<K, Keys>,
     entries: &LockSlab,
     name: &K,
     entry: &LockEntry,
@@ -222,22 +226,25 @@ fn take_at<K: Eq + Hash>(
 }
 
 /// Takes a whole list out, and gives the keys that were under the name.
-pub(crate) fn take_all_under<K: Eq + Hash + Drop>(
+pub(crate) fn take_all_under<K: Ord + Hash + Copy + Drop>(
     alloc: Global,
-    lists: &mut IndexMap<K, Keys>,
+    lists: &mut BoundedIndexMap<K, Keys>,
     name: &K,
-) -> Keys
+) -> SmallVec<usize, 6>
     ensures keys { result.items ≡ keys_under K.eq lists.old name.now }
     ensures after { (other : K) → keys_under K.eq lists.new other ≡ (if K.eq name.now other then [] else keys_under K.eq lists.old other) }
 {
     match lists.swap_remove(name) {
-        Some(keys) => keys,
-        None => Keys::new(alloc),
+        Some(keys) => keys.into_places(),
+        None => SmallVec::new(alloc),
     }
 }
 
 /// Ends a name's list if it has no key.
-pub(crate) fn end_empty_under<K: Eq + Hash + Drop>(lists: &mut IndexMap<K, Keys>, name: &K)
+pub(crate) fn end_empty_under<K: Ord + Hash + Copy + Drop>(
+    lists: &mut BoundedIndexMap<K, Keys>,
+    name: &K,
+)
     ensures { (other : K) → keys_under K.eq lists.new other ≡ keys_under K.eq lists.old other }
 {
     if listed_under(lists, name).is_empty() {

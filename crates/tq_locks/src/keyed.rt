@@ -20,18 +20,17 @@ use crate::keys::Keys;
 use crate::lists::place;
 use crate::lock_slab::LockSlab;
 use crate::{Lock, LockEntry, Mode};
-use indexmap::IndexMap;
 use std::alloc::{AllocError, Global};
 use std::marker::Model;
-use tq_store::FileName;
+use tq_store::{BoundedIndexMap, FileName};
 
 /// The entries, each under its key, and the keys of each file and of each transaction.
 /// The list of a file stays when its last key leaves, so that a later lock on the file changes no map.
 #[derive(Drop)]
 pub(crate) struct KeyedLocks {
     pub(crate) entries: LockSlab,
-    pub(crate) by_file: IndexMap<FileName, Keys>,
-    pub(crate) by_txn: IndexMap<u64, Keys>,
+    pub(crate) by_file: BoundedIndexMap<FileName, Keys>,
+    pub(crate) by_txn: BoundedIndexMap<u64, Keys>,
     /// Where in `by_file` the list of an entry's file is likely to be, by the entry's key. This is tested before it is used.
     pub(crate) homes: Vec<usize>,
     alloc: Global,
@@ -53,8 +52,8 @@ impl KeyedLocks {
     {
         KeyedLocks {
             entries: LockSlab::new(alloc),
-            by_file: IndexMap::new(alloc),
-            by_txn: IndexMap::new(alloc),
+            by_file: BoundedIndexMap::new(alloc),
+            by_txn: BoundedIndexMap::new(alloc),
             homes: Vec::new(alloc),
             alloc,
         }
@@ -169,11 +168,7 @@ impl KeyedLocks {
         // From here on nothing fails.
         note_home(&mut self.homes, key, in_file.index.unwrap_or(new_list));
         put_under(self.alloc, &mut self.by_txn, &txn, spot, key);
-        self.entries.insert_reserved(LockEntry {
-            file: *file,
-            txn,
-            lock,
-        });
+        self.entries.insert_reserved(file, txn, lock);
         Ok(None)
     }
 

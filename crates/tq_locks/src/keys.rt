@@ -1,5 +1,6 @@
 //! A list of keys that gives up its first as cheaply as its last.
-ghost use Rattle.std.specs.Prelude.{◌≡◌, ◌+◌, ◌-◌, ◌<◌, ◌≤◌, ◌++◌, ℕ, List, OnOk, IfOk, length, take, drop, Some, [], ◌∷◌};
+ghost use Rattle.std.specs.Prelude.{◌≡◌, ◌+◌, ◌-◌, ◌<◌, ◌≤◌, ◌++◌, ℕ, List, OnOk, IfOk, IfSome, IfNone, length, take, drop, Some, [], ◌∷◌};
+ghost use Rattle.std.specs.Bool.{OnTrue};
 ghost use Rattle.std.specs.List.{insert, remove, slice_get};
 ghost use Rattle.smallvec.specs.SmallVec.{HasRoomFor, small_vec_len};
 
@@ -142,16 +143,29 @@ impl Keys {
         self.first = put_before(&mut self.places, self.first, place, key);
     }
 
-    /// Takes the last key out.
+    /// The keys, from the first place on.
     #[inline(always)]
-    pub(crate) fn pop(&mut self) -> Option<usize>
-        ensures value { result ≡ slice_get self.old.items (length self.old.items - 1) }
-        ensures rest { self.new.items ≡ take (length self.old.items - 1) self.old.items }
+    pub(crate) fn into_places(self) -> SmallVec<usize, 6>
+        ensures { result.items ≡ self.items }
     {
-        if self.places.len() == self.first {
+        let Keys { mut places, first } = self;
+        if first > 0 {
+            move_down(&mut places, first);
+        }
+        places
+    }
+
+    /// Takes a key out where it is seen to be the last, and tells its place.
+    #[inline(always)]
+    pub(crate) fn pop_if(&mut self, key: usize) -> Option<usize>
+        ensures stood { IfSome result (λ place. slice_get self.old.items place ≡ Some key) }
+        ensures after { IfSome result (λ place. self.new.items ≡ remove self.old.items place) }
+        ensures same { IfNone result (self.new.items ≡ self.old.items) }
+    {
+        if self.first > 0 {
             return None;
         }
-        self.places.pop()
+        pop_if(&mut self.places, key)
     }
 
     /// Takes the key at a place out, where the list goes so far. The fewer of the keys move: those before the place, or those behind it.
@@ -172,6 +186,30 @@ impl Keys {
             move_down(&mut self.places, self.first);
             self.first = 0;
         }
+    }
+}
+
+/// Takes a key out of a list where it is the last, and tells its place.
+#[inline(always)]
+fn pop_if(keys: &mut SmallVec<usize, 6>, key: usize) -> Option<usize>
+    ensures stood { IfSome result (λ place. slice_get keys.old.items place ≡ Some key) }
+    ensures after { IfSome result (λ place. keys.new.items ≡ remove keys.old.items place) }
+    ensures same { IfNone result (keys.new.items ≡ keys.old.items) }
+{
+    if !is_last(keys.as_slice(), key) {
+        return None;
+    }
+    keys.pop();
+    Some(keys.len())
+}
+
+/// Whether a key is the last of a list.
+fn is_last(keys: &[usize], key: usize) -> bool
+    ensures { OnTrue result (slice_get keys.now (length keys.now - 1) ≡ Some key) }
+{
+    match keys.last() {
+        Some(last) => *last == key,
+        None => false,
     }
 }
 

@@ -70,9 +70,8 @@ pub(crate) fn leave(keys: &mut Keys, entries: &LockSlab, entry: &LockEntry, key:
     ensures after { keys.new.items ≡ remove keys.old.items result }
 {
     // Most often it is the last.
-    if is_last(keys.as_slice(), key) {
-        keys.pop();
-        return keys.len();
+    if let Some(place) = keys.pop_if(key) {
+        return place;
     }
     leave_within(keys, entries, entry, key)
 }
@@ -87,14 +86,4 @@ fn leave_within(keys: &mut Keys, entries: &LockSlab, entry: &LockEntry, key: usi
     let place = place(entries, keys.as_slice(), &entry.file, entry.txn);
     keys.take_out(place);
     place
-}
-
-/// Whether a key is the last of a list.
-fn is_last(keys: &[usize], key: usize) -> bool
-    ensures { OnTrue result (slice_get keys.now (length keys.now - 1) ≡ Some key) }
-{
-    match keys.last() {
-        Some(last) => *last == key,
-        None => false,
-    }
 }

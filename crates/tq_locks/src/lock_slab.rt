@@ -6,12 +6,13 @@ ghost use Rattle.slab.specs.Slab.{get, entries, slab_len, HasRoomFor, ContainsKe
 ghost use Rattle.tq_shape.specs.Journal.{Has};
 ghost use Rattle.tq_locks.specs.declared.mode.Lock.{Lock};
 ghost use Rattle.tq_locks.specs.Locks.{LockKey};
-ghost use Rattle.tq_locks.specs.Loose.{IsLooseAt, IsStableAt, AreStable, ListsLoose, steadied};
+ghost use Rattle.tq_locks.specs.Loose.{IsLooseAt, IsStableAt, AreStable, ListsLoose, steadied, with_lock};
 
 use crate::{Lock, LockEntry};
 use slab::{Iter, Slab};
 use std::alloc::{AllocError, Global};
 use std::marker::Model;
+use tq_store::FileName;
 
 /// Locks, each under a key.
 #[derive(Drop)]
@@ -24,17 +25,16 @@ pub(crate) struct LockSlab {
 }
 
 impl Model for LockSlab {
-    ghost use Rattle.std.specs.Prelude.{vec_len, vec_capacity};
     ghost use Rattle.slab.specs.Slab.{Slab as Slots, slab_code};
     ghost use Rattle.tq_locks.specs.declared.mode.Lock.{Lock};
     ghost use Rattle.tq_locks.specs.Locks.{LockKey, lock_entry_code};
-    ghost use Rattle.tq_locks.specs.Loose.{ListsLoose, room_left};
+    ghost use Rattle.tq_locks.specs.Loose.{ListsLoose, room_with};
 
     ghost Value = { Slots (LockKey × Lock) };
 
     ghost coded = { slab_code lock_entry_code };
 
-    ghost view = { λ a. record { slots = a.slab.slots; vacant_key = a.slab.vacant_key; capacity = room_left a.slab (vec_len a.loose) (vec_capacity a.loose) } };
+    ghost view = { λ a. record { slots = a.slab.slots; vacant_key = a.slab.vacant_key; capacity = room_with a.slab a.loose.items } };
 
     ghost invariant = { λ a. ListsLoose a.slab a.loose.items };
 }
@@ -92,26 +92,33 @@ impl LockSlab {
         self.slab.vacant_key()
     }
 
-    /// Makes room for one more lock.
+    /// Makes room for one more lock, and lists its key.
     #[inline(always)]
     pub(crate) fn reserve(&mut self) -> Result<(), AllocError>
         ensures same { self.new.slots ≡ self.old.slots }
         ensures room { OnOk result (HasRoomFor self.new 1) }
     {
         self.slab.reserve(1)?;
-        self.places.reserve(1)?;
-        self.loose.reserve(1)
+        let key = self.slab.vacant_key();
+        // Most often the key was used before, since the last crash.
+        if is_in_place(&self.loose, &self.places, key) {
+            return Ok(());
+        }
+        list_key(&mut self.loose, &mut self.places, key)
     }
 
     /// Keeps one more lock under the vacant key.
     #[inline(always)]
-    pub(crate) fn insert_reserved(&mut self, entry: LockEntry) -> usize
+    pub(crate) fn insert_reserved(&mut self, file: &FileName, txn: u64, lock: Lock) -> usize
         requires { HasRoomFor self.old 1 }
         ensures key { result ≡ self.old.vacant_key }
-        ensures updates { Updates self.old self.new result (Some entry) }
+        ensures updates { Updates self.old self.new result (Some ((file.now, txn), lock)) }
     {
-        list_key(&mut self.loose, &mut self.places, self.slab.vacant_key());
-        self.slab.insert_reserved(entry)
+        self.slab.insert_reserved(LockEntry {
+            file: *file,
+            txn,
+            lock,
+        })
     }
 
     /// Takes the lock under a key out.
@@ -130,9 +137,7 @@ impl LockSlab {
         requires { (entry : LockKey × Lock) → get self.old key ≡ Some entry → lock.stable ≡ entry.1.stable }
         ensures { (entry : LockKey × Lock) → get self.old key ≡ Some entry → Updates self.old self.new key (Some (entry.0, lock)) }
     {
-        if let Some(entry) = self.slab.get_mut(key) {
-            entry.lock = lock;
-        }
+        put_lock(&mut self.slab, key, lock);
     }
 
     /// Makes the lock under a key stable.
@@ -185,6 +190,15 @@ fn last_loose(slab: &Slab<LockEntry>, loose: &mut Vec<usize>) -> Option<usize>
     None
 }
 
+/// Puts another lock into the entry under a key.
+fn put_lock(slab: &mut Slab<LockEntry>, key: usize, lock: Lock)
+    ensures { (other : ℕ) → get slab.new other ≡ with_lock slab.old key lock other }
+{
+    if let Some(entry) = slab.get_mut(key) {
+        entry.lock = lock;
+    }
+}
+
 /// Makes the lock under a key stable.
 fn stabilise_in(slab: &mut Slab<LockEntry>, key: usize)
     ensures { (other : ℕ) → get slab.new other ≡ steadied slab.old (key ∷ []) other }
@@ -194,18 +208,17 @@ fn stabilise_in(slab: &mut Slab<LockEntry>, key: usize)
     }
 }
 
-/// Lists a key, unless it is in the list where its place says. There is room for one more.
-#[inline(always)]
-fn list_key(loose: &mut Vec<usize>, places: &mut Vec<usize>, key: usize)
-    requires { vec_len loose.old < vec_capacity loose.old }
-    ensures listed { Has loose.new.items key }
+/// Lists a key, and notes its place.
+#[inline(never)]
+fn list_key(loose: &mut Vec<usize>, places: &mut Vec<usize>, key: usize) -> Result<(), AllocError>
+    ensures listed { OnOk result (Has loose.new.items key) }
     ensures others { (other : ℕ) → Has loose.old.items other → Has loose.new.items other }
 {
-    if is_in_place(loose, places, key) {
-        return;
-    }
+    loose.reserve(1)?;
+    places.reserve(1)?;
     note_place(places, key, loose.len());
     loose.push_reserved(key);
+    Ok(())
 }
 
 /// Whether a key is in the list where its place says.
@@ -223,7 +236,6 @@ fn is_in_place(loose: &Vec<usize>, places: &Vec<usize>, key: usize) -> bool
 }
 
 /// Notes the place of a key. There is room for one more.
-#[inline(always)]
 fn note_place(places: &mut Vec<usize>, key: usize, place: usize) {
     match places.get_mut(key) {
         Some(noted) => *noted = place,

@@ -5,3 +5,5 @@ pub mod Padded
 mod Replaced
 pub mod SameName
 pub mod Spelled
+pub mod Opened
+pub mod Placed

@@ -1,5 +1,5 @@
 -- The copies where one was put in, and the one that it replaced was looked at, and put back where it is no older.
-use Rattle.std.proofs.Common.{◌≡◌, ◌<◌, ◌≤◌, ℕ, Bool, true, false, cond, List, Option, Some, None, nat_eq, nat_lt, refl, ap, sym, subst, ◌∙◌}
+use Rattle.std.proofs.Common.{◌≡◌, ◌<◌, ◌≤◌, ℕ, Bool, true, false, cond, List, Option, Some, nat_eq, nat_lt, refl, ap, sym, subst, ◌∙◌}
 use Rattle.std.specs.Cmp.Lexicographic.{pointwise, nat_list_eq_equiv}
 use Rattle.std.specs.FinMap.{from_entries, insert}
 use Rattle.std.specs.Map.{lookup, set_value}

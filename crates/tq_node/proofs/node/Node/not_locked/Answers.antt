@@ -11,5 +11,5 @@ returns-then-all_held c =
     let writes = c.args.writes.now in
     let txn = c.args.txn in
     let old = c.args.self.now.state.records in
-    let walk = c.locks_of.ensures ∙ ap (λ (v : NodeView). held_of v.state.records.locks txn) c.self.view_is in
+    let walk = c.locks_of-held.ensures ∙ ap (λ (v : NodeView). held_of v.state.records.locks txn) c.self.view_is in
     sym (all_locked old txn writes (ap (λ (locks : List (LockKey × Lock)). all_held locks writes) (sym walk) ∙ sym c.all_held.ensures ∙ c.if-all_held.true))

@@ -1,0 +1,292 @@
+-- The place of a key in a list of keys, and how an ordered map keeps it.
+use Rattle.std.proofs.Common.{◌≡◌, ◌≢◌, Result, Ok, Err, OnErr, OnOk, IsOk, is_err, drop, take-append-drop, ◌+◌, ◌-◌, ◌<◌, ◌≤◌, ℕ, Bool, true, false, cond, List, [], ◌∷◌, ◌++◌, length, get_or, take, Option, Some, None, position, nat_lt, refl, sym, ap, ◌∙◌, true≢false, is_some, unwrap_or, arith, lt-ltb, le-ltb, ltb-true, ltb-false, take_all, length-take-le, get_or-take, is_eq, length-append}
+use Rattle.indexmap.proofs.MapLemmas.{distinct_from_apart, some_index}
+use Rattle.std.proofs.lemmas.List.{get_or_default, take_more, get_or_push, get_or_append_left, take-append-le}
+use Rattle.std.proofs.lemmas.List.Sums.{position_or_len_is, fails_before_first, passes_at_first}
+use Rattle.std.proofs.lemmas.Map.Keys.{apart_from_distinct}
+use Rattle.std.proofs.Math.Decide.{dec_lt}
+use Rattle.std.specs.Cmp.{IsEquivalence}
+use Rattle.std.specs.declared.cmp.Ordering.{Ordering}
+use Rattle.std.specs.List.{IsDistinct, position_or_len}
+use Rattle.std.specs.Map.{keys_of, lookup}
+use Rattle.std.specs.BTreeMap as ordered
+use Rattle.std.specs.BTreeMap.{BTreeMap, is_at}
+use Rattle.tq_store.specs.Bounded.{ArePlaced}
+
+module _ {K : Type 0} (t : K → Bool) where
+  -- the first key that passes has the place
+  pub position_first : (ks : List K) (i : ℕ) (d : K) → i < length ks → ((j : ℕ) → j < i → t (get_or ks j d) ≡ false) → t (get_or ks i d) ≡ true → position t ks ≡ Some i
+  position_first ks i d within fails passes =
+      let n : position_or_len t ks ≡ i = position_or_len_is t ks i d (omega arith) fails (λ _. passes) in
+      ap (λ m. cond (nat_lt m (length ks)) (Some m) None) n ∙ ap (λ b. cond b (Some i) None) (lt-ltb i (length ks) within)
+
+  -- no key passes
+  pub position_none : (ks : List K) → ((j : ℕ) (d : K) → j < length ks → t (get_or ks j d) ≡ false) → position t ks ≡ None
+  position_none [] fails = refl
+  position_none (k ∷ ks) fails =
+      let n : position_or_len t (k ∷ ks) ≡ length (k ∷ ks) = position_or_len_is t (k ∷ ks) (length (k ∷ ks)) k (omega arith) (λ j h. fails j k h) (λ h. absurd (omega arith)) in
+      ap (λ m. cond (nat_lt m (length (k ∷ ks))) (Some m) None) n ∙ ap (λ b. cond b (Some (length (k ∷ ks))) None) (le-ltb (length (k ∷ ks)) (length (k ∷ ks)) (omega arith))
+
+  -- what a place says
+  pub record At (ks : List K) (i : ℕ) : Type 0 where
+    pub within : i < length ks
+    pub passes : (d : K) → t (get_or ks i d) ≡ true
+    pub fails : (j : ℕ) (d : K) → j < i → t (get_or ks j d) ≡ false
+
+  pub At-position : (ks : List K) (i : ℕ) → position t ks ≡ Some i → At ks i
+  At-position ks i found = by (nat_lt (position_or_len t ks) (length ks)) refl
+    where
+      by : (b : Bool) → nat_lt (position_or_len t ks) (length ks) ≡ b → At ks i
+      by true e =
+          let same : position_or_len t ks ≡ i = ap (λ r. unwrap_or r i) (sym (ap (λ b. cond b (Some (position_or_len t ks)) None) e) ∙ found) in
+          let within : position_or_len t ks < length ks = ltb-true _ _ e in
+          record {
+            within = omega (arith, within, same);
+            passes = λ d. ap (λ n. t (get_or ks n d)) (sym same) ∙ passes_at_first t ks d within;
+            fails = λ j d h. fails_before_first t ks j d (omega (arith, h, same));
+          }
+      by false e = absurd (true≢false (sym (ap is_some (sym (ap (λ b. cond b (Some (position_or_len t ks)) None) e) ∙ found))))
+
+  -- what none says
+  pub none_passes : (ks : List K) → position t ks ≡ None → (j : ℕ) (d : K) → j < length ks → t (get_or ks j d) ≡ false
+  none_passes ks missing j d h = by (nat_lt (position_or_len t ks) (length ks)) refl
+    where
+      by : (b : Bool) → nat_lt (position_or_len t ks) (length ks) ≡ b → t (get_or ks j d) ≡ false
+      by true e = absurd (true≢false (ap is_some (sym (ap (λ b. cond b (Some (position_or_len t ks)) None) e) ∙ missing)))
+      by false e = fails_before_first t ks j d (omega (arith, h, ltb-false _ _ e))
+
+  -- more keys at the end leave a place as it is
+  pub position_longer : (ks ls : List K) (i : ℕ) → position t ks ≡ Some i → position t (ks ++ ls) ≡ Some i
+  position_longer [] ls i found = absurd (true≢false (sym (ap is_some found)))
+  position_longer (k ∷ ks) ls i found =
+      let at = At-position (k ∷ ks) i found in
+      let l = k ∷ ks in
+      position_first (l ++ ls) i k (omega (arith, at.within, length-append l ls))
+      (λ j h. ap t (get_or_append_left l ls k j (omega (arith, h, at.within))) ∙ at.fails j k h)
+      (ap t (get_or_append_left l ls k i at.within) ∙ at.passes k)
+
+module _ {K : Type 0} {eq : K → K → Bool} (o : IsEquivalence eq) where
+  -- of keys that differ, one that is equal to q has q's place
+  pub own_place : (ks : List K) (q : K) (i : ℕ) (d : K) → IsDistinct eq ks → i < length ks → eq q (get_or ks i d) ≡ true → position (eq q) ks ≡ Some i
+  own_place ks q i d distinct within hit =
+      position_first (eq q) ks i d within
+      (λ j h. o.congr q (get_or ks i d) (get_or ks j d) hit ∙ o.symm (get_or ks i d) (get_or ks j d) ∙ apart_from_distinct eq ks j i d distinct h within)
+      hit
+
+  -- a key that was not there goes last
+  pub position_push : (ks : List K) (k q : K) → position (eq k) ks ≡ None → position (eq q) (ks ++ k ∷ []) ≡ cond (eq k q) (Some (length ks)) (position (eq q) ks)
+  position_push ks k q absent = by (eq k q) refl
+    where
+      last : eq q (get_or (ks ++ k ∷ []) (length ks) k) ≡ eq k q
+      last = ap (eq q) (get_or_push ks k k (length ks) refl) ∙ o.symm q k
+
+      before : (j : ℕ) (d : K) → j < length ks → eq q (get_or (ks ++ k ∷ []) j d) ≡ eq q (get_or ks j d)
+      before j d h = ap (eq q) (get_or_append_left ks (k ∷ []) d j h)
+
+      missing : (r : Option ℕ) → position (eq q) ks ≡ r → eq k q ≡ false → position (eq q) (ks ++ k ∷ []) ≡ r
+      missing (Some i) found e = position_longer (eq q) ks (k ∷ []) i found
+      missing None none e =
+          position_none (eq q) (ks ++ k ∷ [])
+          (λ j d h. elim (dec_lt j (length ks)) [
+            | yes less ↦ before j d less ∙ none_passes (eq q) ks none j d less
+            | no more ↦ ap (eq q) (get_or_push ks k d j (omega (arith, more, h, length-append ks (k ∷ [])))) ∙ o.symm q k ∙ e
+          ])
+
+      by : (b : Bool) → eq k q ≡ b → position (eq q) (ks ++ k ∷ []) ≡ cond (eq k q) (Some (length ks)) (position (eq q) ks)
+      by true e =
+          position_first (eq q) (ks ++ k ∷ []) (length ks) k (omega (arith, length-append ks (k ∷ [])))
+          (λ j h. before j k h ∙ sym (o.congr k q (get_or ks j k) e) ∙ none_passes (eq k) ks absent j k h)
+          (last ∙ e)
+          ∙ sym (ap (λ b. cond b (Some (length ks)) (position (eq q) ks)) e)
+      by false e = missing (position (eq q) ks) refl e ∙ sym (ap (λ b. cond b (Some (length ks)) (position (eq q) ks)) e)
+
+module _ {K : Type 0} (cmp : K → K → Ordering) (eq : K → K → Bool) where
+  -- keys at the end that the ordered map has not
+  pub placed_longer : (places : BTreeMap K ℕ) (n : ℕ) (ks ls : List K) → ArePlaced cmp eq places n ks → ArePlaced cmp eq places n (ks ++ ls)
+  placed_longer places n ks ls h = (omega (arith, h.0, length-append ks ls), λ q. h.1 q ∙ ap (position (eq q)) (sym (take-append-le n ks ls h.0)))
+
+  -- the same map
+  pub placed_same : (old new : BTreeMap K ℕ) (n : ℕ) (ks : List K) → new.entries ≡ old.entries → ArePlaced cmp eq old n ks → ArePlaced cmp eq new n ks
+  placed_same old new n ks same h = (h.0, λ q. ap (λ es. lookup (is_at (cmp q)) es) same ∙ h.1 q)
+
+  module _ (o : IsEquivalence eq) (matches : (x y : K) → eq x y ≡ is_eq (cmp x y)) where
+    -- the next key that the ordered map had not
+    pub placed_next : (old new : BTreeMap K ℕ) (n : ℕ) (ks : List K) (k : K) → IsDistinct eq ks → n < length ks → k ≡ get_or ks n k
+        → ((q : K) → ordered.get cmp new q ≡ cond (is_at (cmp k) q) (Some n) (ordered.get cmp old q)) → ArePlaced cmp eq old n ks → ArePlaced cmp eq new (n + 1) ks
+    placed_next old new n ks k distinct within is updates h = (
+      omega (arith, within),
+      λ q.
+          let ls = take n ks in
+          let long : length ls ≡ n = length-take-le n ks h.0 in
+          let absent : position (eq k) ls ≡ None =
+          position_none (eq k) ls
+          (λ j d less.
+          let below : j < n = omega (arith, less, long) in
+          ap (eq k) (get_or-take n ks j d below)
+          ∙ o.symm k (get_or ks j d)
+          ∙ ap (eq (get_or ks j d)) (is ∙ get_or_default ks n k d within)
+          ∙ apart_from_distinct eq ks j n d distinct below within)
+          in
+          updates q
+          ∙ ap (λ b. cond b (Some n) (ordered.get cmp old q)) (sym (matches k q))
+          ∙ ap (cond (eq k q) (Some n)) (h.1 q)
+          ∙ ap (λ m. cond (eq k q) (Some m) (position (eq q) ls)) (sym long)
+          ∙ sym (position_push o ls k q absent)
+          ∙ ap (position (eq q)) (sym (take_more ks n k within ∙ ap (λ x. ls ++ x ∷ []) (sym is))),
+    )
+
+-- the last key goes to the place of one that is taken out
+module _ {K : Type 0} (cmp : K → K → Ordering) (eq : K → K → Bool) (o : IsEquivalence eq) (matches : (x y : K) → eq x y ≡ is_eq (cmp x y))
+    (old mid : BTreeMap K ℕ) (ks ls : List K) (p : ℕ) (k : K) (distinct : IsDistinct eq ks) (distinct_after : IsDistinct eq ls)
+    (within : p < length ks) (is : k ≡ get_or ks p k) (short : length ls + 1 ≡ length ks)
+    (moved : (d : K) → p + 1 < length ks → get_or ls p d ≡ get_or ks (length ks - 1) d)
+    (kept : (j : ℕ) (d : K) → j ≢ p → j + 1 < length ks → get_or ls j d ≡ get_or ks j d)
+    (placed : ArePlaced cmp eq old (length ks) ks) (removed : (q : K) → ordered.get cmp mid q ≡ cond (is_at (cmp k) q) None (ordered.get cmp old q)) where
+  mid_at : (q : K) → ordered.get cmp mid q ≡ cond (eq k q) None (position (eq q) ks)
+  mid_at q =
+      removed q ∙ ap (λ b. cond b None (ordered.get cmp old q)) (sym (matches k q))
+      ∙ ap (cond (eq k q) None) (placed.1 q ∙ ap (position (eq q)) (take_all (length ks) ks (omega arith)))
+
+  -- a key that is another than k has another place than it
+  apart : (j : ℕ) (d : K) → j < length ks → j ≢ p → eq k (get_or ks j d) ≡ false
+  apart j d h differ =
+      elim (dec_lt j p) [
+        | yes below ↦ o.symm k (get_or ks j d) ∙ ap (eq (get_or ks j d)) (is ∙ get_or_default ks p k d within) ∙ apart_from_distinct eq ks j p d distinct below within
+        | no above ↦
+            elim (dec_lt p j) [
+              | yes beyond ↦ ap (λ x. eq x (get_or ks j d)) (is ∙ get_or_default ks p k d within) ∙ apart_from_distinct eq ks p j d distinct beyond h
+              | no same ↦ absurd (differ (omega (arith, above, same)))
+            ]
+      ]
+
+  -- k is no more there
+  gone : (q : K) → eq k q ≡ true → position (eq q) ls ≡ None
+  gone q e =
+      position_none (eq q) ls
+      (λ j d h. sym (o.congr k q (get_or ls j d) e) ∙ elim (dec_lt j p) [
+        | yes below ↦
+            let differ : j ≢ p = λ s. absurd (omega (arith, s, below)) in
+            ap (eq k) (kept j d differ (omega (arith, h, short))) ∙ apart j d (omega (arith, h, short)) differ
+        | no above ↦
+            elim (dec_lt p j) [
+              | yes beyond ↦
+                  let differ : j ≢ p = λ s. absurd (omega (arith, s, beyond)) in
+                  ap (eq k) (kept j d differ (omega (arith, h, short))) ∙ apart j d (omega (arith, h, short)) differ
+              | no same ↦
+                  let here : j ≡ p = omega (arith, above, same) in
+                  let more : p + 1 < length ks = omega (arith, here, h, short) in
+                  ap (λ i. eq k (get_or ls i d)) here ∙ ap (eq k) (moved d more) ∙ apart (length ks - 1) d (omega (arith, within)) (λ s. absurd (omega (arith, s, more)))
+            ]
+      ])
+
+  -- a key that is neither k nor the last keeps its place
+  other : (q : K) → eq k q ≡ false → ((d : K) → p < length ls → eq q (get_or ls p d) ≡ false) → position (eq q) ks ≡ position (eq q) ls
+  other q not_k not_last = by (position (eq q) ls) refl
+    where
+      not_here : (j : ℕ) → At (eq q) ls j → j ≢ p
+      not_here j at s =
+          true≢false (sym (at.passes k) ∙ ap (λ i. eq q (get_or ls i k)) s ∙ not_last k (omega (arith, s, at.within)))
+
+      by : (r : Option ℕ) → position (eq q) ls ≡ r → position (eq q) ks ≡ r
+      by (Some j) found =
+          let at = At-position (eq q) ls j found in
+          let differ = not_here j at in
+          own_place o ks q j k distinct (omega (arith, at.within, short)) (ap (eq q) (sym (kept j k differ (omega (arith, at.within, short)))) ∙ at.passes k)
+      by None none =
+          position_none (eq q) ks
+          (λ j d h. elim (dec_lt (j + 1) (length ks)) [
+            | yes inner ↦
+                elim (dec_lt j p) [
+                  | yes below ↦ ap (eq q) (sym (kept j d (λ s. absurd (omega (arith, s, below))) inner)) ∙ none_passes (eq q) ls none j d (omega (arith, inner, short))
+                  | no above ↦
+                      elim (dec_lt p j) [
+                        | yes beyond ↦ ap (eq q) (sym (kept j d (λ s. absurd (omega (arith, s, beyond))) inner)) ∙ none_passes (eq q) ls none j d (omega (arith, inner, short))
+                        | no same ↦
+                            let here : j ≡ p = omega (arith, above, same) in
+                            ap (λ i. eq q (get_or ks i d)) here ∙ ap (eq q) (sym (is ∙ get_or_default ks p k d within)) ∙ o.symm q k ∙ not_k
+                      ]
+                ]
+            | no outer ↦
+                let last : j ≡ length ks - 1 = omega (arith, outer, h) in
+                elim (dec_lt (p + 1) (length ks)) [
+                  | yes more ↦ ap (λ i. eq q (get_or ks i d)) last ∙ ap (eq q) (sym (moved d more)) ∙ not_last d (omega (arith, more, short))
+                  | no same ↦
+                      let here : j ≡ p = omega (arith, last, same, within) in
+                      ap (λ i. eq q (get_or ks i d)) here ∙ ap (eq q) (sym (is ∙ get_or_default ks p k d within)) ∙ o.symm q k ∙ not_k
+                ]
+          ])
+
+  whole : (q : K) → position (eq q) ls ≡ position (eq q) (take (length ls) ls)
+  whole q = ap (position (eq q)) (sym (take_all (length ls) ls (omega arith)))
+
+  mid_or : (q : K) → ((d : K) → p < length ls → eq q (get_or ls p d) ≡ false) → ordered.get cmp mid q ≡ position (eq q) ls
+  mid_or q not_last = mid_at q ∙ by (eq k q) refl
+    where
+      by : (b : Bool) → eq k q ≡ b → cond (eq k q) None (position (eq q) ks) ≡ position (eq q) ls
+      by true e = ap (λ b. cond b None (position (eq q) ks)) e ∙ sym (gone q e)
+      by false e = ap (λ b. cond b None (position (eq q) ks)) e ∙ other q e not_last
+
+  -- the last key itself is taken out
+  pub placed_last : length ls ≤ p → ArePlaced cmp eq mid (length ls) ls
+  placed_last end = (omega arith, λ q. mid_or q (λ d h. absurd (omega (arith, h, end))) ∙ whole q)
+
+  -- the last key goes to another place
+  pub placed_moved : (new : BTreeMap K ℕ) (l : K) → p < length ls → l ≡ get_or ls p l
+      → ((q : K) → ordered.get cmp new q ≡ cond (is_at (cmp l) q) (Some p) (ordered.get cmp mid q)) → ArePlaced cmp eq new (length ls) ls
+  placed_moved new l inside at updates = (omega arith, λ q. updates q ∙ ap (λ b. cond b (Some p) (ordered.get cmp mid q)) (sym (matches l q)) ∙ by q (eq l q) refl ∙ whole q)
+    where
+      by : (q : K) (b : Bool) → eq l q ≡ b → cond (eq l q) (Some p) (ordered.get cmp mid q) ≡ position (eq q) ls
+      by q true e = ap (λ b. cond b (Some p) (ordered.get cmp mid q)) e ∙ sym (own_place o ls q p l distinct_after inside (ap (eq q) (sym at) ∙ o.symm q l ∙ e))
+      by q false e =
+          ap (λ b. cond b (Some p) (ordered.get cmp mid q)) e
+          ∙ mid_or q (λ d h. ap (eq q) (get_or_default ls p d l h ∙ sym at) ∙ o.symm q l ∙ e)
+
+  -- and is in the ordered map
+  pub last_there : (l : K) → p < length ls → l ≡ get_or ls p l → ordered.get cmp mid l ≡ None → ⊥
+  last_there l inside at none =
+      let last : l ≡ get_or ks (length ks - 1) l = at ∙ moved l (omega (arith, inside, short)) in
+      let more : p + 1 < length ks = omega (arith, inside, short) in
+      let differ : eq k l ≡ false = ap (eq k) last ∙ apart (length ks - 1) l (omega (arith, within)) (λ s. absurd (omega (arith, s, more))) in
+      let found : position (eq l) ks ≡ Some (length ks - 1) = own_place o ks l (length ks - 1) l distinct (omega (arith, within)) (ap (eq l) (sym last) ∙ o.refl l) in
+      true≢false (sym (ap is_some (sym none ∙ mid_at l ∙ ap (λ b. cond b None (position (eq l) ks)) differ ∙ found)))
+
+-- a key among the first ones has that place among all
+pub placed_found : {K : Type 0} (t : K → Bool) (n : ℕ) (ks : List K) (i : ℕ) → position t (take n ks) ≡ Some i → position t ks ≡ Some i
+placed_found t n ks i found = ap (position t) (sym (take-append-drop n ks)) ∙ position_longer t (take n ks) (drop n ks) i found
+
+-- keys that differ, and one more that is another
+pub distinct_push : {K : Type 0} {eq : K → K → Bool} → IsEquivalence eq → (ks : List K) (k : K) → IsDistinct eq ks → position (eq k) ks ≡ None → IsDistinct eq (ks ++ k ∷ [])
+distinct_push {eq = eq} o ks k distinct absent =
+    distinct_from_apart o (ks ++ k ∷ [])
+    (λ i j d less within.
+    let long = length-append ks (k ∷ []) in
+    ap (λ x. eq x (get_or (ks ++ k ∷ []) j d)) (get_or_append_left ks (k ∷ []) d i (omega (arith, less, within, long)))
+    ∙ elim (dec_lt j (length ks)) [
+      | yes inner ↦ ap (eq (get_or ks i d)) (get_or_append_left ks (k ∷ []) d j inner) ∙ apart_from_distinct eq ks i j d distinct less inner
+      | no last ↦
+          ap (eq (get_or ks i d)) (get_or_push ks k d j (omega (arith, last, within, long)))
+          ∙ o.symm (get_or ks i d) k ∙ none_passes (eq k) ks absent i d (omega (arith, less, within, long))
+    ])
+
+-- what an insert that was refused left
+pub refused : {A E P : Type 0} {b : Bool} (r : Result A E) → b ≡ true → b ≡ is_err r → OnErr r P → P
+refused (Ok x) e is p = absurd (true≢false (sym e ∙ is))
+refused (Err x) e is p = p
+
+-- and one that was not
+pub added : {A E P : Type 0} {b : Bool} (r : Result A E) → b ≡ false → b ≡ is_err r → OnOk r P → P
+added (Ok x) e is p = p
+added (Err x) e is p = absurd (true≢false (sym is ∙ e))
+
+-- a result that cannot be refused
+pub must_be_ok : {A E P : Type 0} (r : Result A E) → OnErr r P → (P → ⊥) → IsOk r
+must_be_ok (Ok x) p not = refl
+must_be_ok (Err x) p not = absurd (not p)
+
+-- where no entry has the key, no key is at a place
+pub none_found : {K V : Type 0} (t : K → Bool) (es : List (K × V)) → lookup t es ≡ None → position t (keys_of es) ≡ None
+none_found t es none = by (position t (keys_of es)) (some_index t es ∙ ap is_some none)
+  where
+    by : (r : Option ℕ) → is_some r ≡ false → r ≡ None
+    by None e = refl
+    by (Some i) e = absurd (true≢false e)

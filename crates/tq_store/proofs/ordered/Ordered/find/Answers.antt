@@ -1,0 +1,32 @@
+use Rattle.std.proofs.Common.{take, is_some, position, sym, ap, subst, ◌∙◌, arith}
+use Rattle.tq_store.proofs.Opened.{opened}
+use Rattle.std.specs.List.{IsDistinct}
+use Rattle.indexmap.proofs.MapLemmas.{some_index}
+use Rattle.tq_store.proofs.Placed.{placed_found}
+use Rattle.tq_store.proofs.ordered.Ordered.find.Goals as goal
+
+pub find_from-requires-clause-within : goal.find_from-requires-clause-within
+find_from-requires-clause-within g c = let o = opened c.self.inside.keys c.self.inside.values c.args.self.now c.self.view_is c.self.invariant.0 in omega (arith, c.self.invariant.2.0, o.keys_length)
+
+pub find_from-requires-clause-absent : goal.find_from-requires-clause-absent
+find_from-requires-clause-absent g c =
+    let o = opened c.self.inside.keys c.self.inside.values c.args.self.now c.self.view_is c.self.invariant.0 in
+    ap (λ l. position (g.K.PartialEq.eq c.args.key.now) (take c.self.inside.placed l)) (sym o.keys) ∙ sym (c.self.invariant.2.1 c.args.key.now) ∙ sym c.in-None.ensures.value
+
+pub returns-in-Some-clause-index : goal.returns-in-Some-clause-index
+returns-in-Some-clause-index g c =
+    let o = opened c.self.inside.keys c.self.inside.values c.args.self.now c.self.view_is c.self.invariant.0 in
+    let t = g.K.PartialEq.eq c.args.key.now in
+    sym (ap (position t) (sym o.keys) ∙ placed_found t c.self.inside.placed c.self.inside.keys.items c.in-Some.place.now (sym (c.in-Some.ensures.value ∙ c.self.invariant.2.1 c.args.key.now)))
+
+pub returns-in-Some-clause-found : goal.returns-in-Some-clause-found
+returns-in-Some-clause-found g c = ap is_some (returns-in-Some-clause-index g c) ∙ some_index (g.K.PartialEq.eq c.args.key.now) c.args.self.now.entries
+
+pub returns-in-Some-clause-unique : goal.returns-in-Some-clause-unique
+returns-in-Some-clause-unique g c = let o = opened c.self.inside.keys c.self.inside.values c.args.self.now c.self.view_is c.self.invariant.0 in subst (IsDistinct g.K.PartialEq.eq) o.keys c.self.invariant.1
+
+pub returns-in-None-clause-found : goal.returns-in-None-clause-found
+returns-in-None-clause-found g c = ap is_some c.find_from.ensures ∙ some_index (g.K.PartialEq.eq c.args.key.now) c.args.self.now.entries
+
+pub returns-in-None-clause-unique : goal.returns-in-None-clause-unique
+returns-in-None-clause-unique g c = let o = opened c.self.inside.keys c.self.inside.values c.args.self.now c.self.view_is c.self.invariant.0 in subst (IsDistinct g.K.PartialEq.eq) o.keys c.self.invariant.1

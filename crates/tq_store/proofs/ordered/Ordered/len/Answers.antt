@@ -1,0 +1,10 @@
+use Rattle.std.proofs.Common.{subst, ◌∙◌}
+use Rattle.tq_store.proofs.Opened.{opened}
+use Rattle.std.specs.List.{IsDistinct}
+use Rattle.tq_store.proofs.ordered.Ordered.len.Goals as goal
+
+pub returns-clause-len : goal.returns-clause-len
+returns-clause-len g c = let o = opened c.self.inside.keys c.self.inside.values c.args.self.now c.self.view_is c.self.invariant.0 in c.len.ensures ∙ o.keys_len
+
+pub returns-clause-unique : goal.returns-clause-unique
+returns-clause-unique g c = let o = opened c.self.inside.keys c.self.inside.values c.args.self.now c.self.view_is c.self.invariant.0 in subst (IsDistinct g.K.PartialEq.eq) o.keys c.self.invariant.1
