@@ -279,6 +279,11 @@ impl<K: Ord + Hash + Copy + Drop, V: Drop> BoundedIndexMap<K, V> {
         ensures spare { spare self.old ≤ spare self.new + 1 }
         ensures unique { IsUnique K.eq self.new }
     {
+        if self.is_many {
+            if 0 < self.many.spare() {
+                return Ok(self.many.insert(key, value));
+            }
+        }
         if self.contains_key(&key) {
             return self.insert_within(key, value);
         }
