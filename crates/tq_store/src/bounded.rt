@@ -15,11 +15,11 @@ use std::mem::replace;
 use tq_shape::ExactClone;
 
 /// The most entries that room is made for in a hash table.
-const FEW: usize = 1024;
+pub(crate) const MOST_HASHED: usize = 1024;
 
 /// A map whose entries keep their order, as an `IndexMap`, where strangers may choose the keys.
 ///
-/// Up to `FEW` entries are in an `IndexMap`. Keys can be chosen so that all are in one place of its hash table, and then a
+/// Up to `MOST_HASHED` entries are in an `IndexMap`. Keys can be chosen so that all are in one place of its hash table, and then a
 /// look-up there walks them all; so more entries are in a list beside an ordered map.
 pub struct BoundedIndexMap<K: Ord + Hash, V> {
     few: IndexMap<K, V>,
@@ -156,6 +156,17 @@ impl<K: Ord + Hash, V> BoundedIndexMap<K, V> {
         self.few.get_index(index)
     }
 
+    /// The values, in the order of their entries.
+    #[inline(always)]
+    pub fn values(&self) -> &[V]
+        ensures { result.now ≡ values self.now }
+    {
+        if self.is_many {
+            return self.many.values();
+        }
+        self.few.values().as_slice()
+    }
+
     /// The value of the key, to write.
     #[inline(always)]
     pub fn get_mut(&mut self, key: &K) -> Option<&mut V>
@@ -215,7 +226,7 @@ impl<K: Ord + Hash + Copy + Drop, V: Drop> BoundedIndexMap<K, V> {
         if additional <= self.few.capacity() - self.few.len() {
             return Ok(());
         }
-        if additional <= FEW.saturating_sub(self.few.len()) {
+        if additional <= MOST_HASHED.saturating_sub(self.few.len()) {
             return self.few.reserve(additional);
         }
         self.many
@@ -268,6 +279,11 @@ impl<K: Ord + Hash + Copy + Drop, V: Drop> BoundedIndexMap<K, V> {
         ensures spare { spare self.old ≤ spare self.new + 1 }
         ensures unique { IsUnique K.eq self.new }
     {
+        if self.is_many {
+            if 0 < self.many.spare() {
+                return Ok(self.many.insert(key, value));
+            }
+        }
         if self.contains_key(&key) {
             return self.insert_within(key, value);
         }

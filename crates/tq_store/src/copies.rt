@@ -1,8 +1,8 @@
 ghost use Rattle.std.specs.Prelude.{◌≡◌, ◌+◌, ◌<◌, ◌≤◌, OnOk, IfOk, IfSome, IsOk, nat_lt};
 ghost use Rattle.std.specs.FinMap as map;
 
-use crate::{Content, FileName};
-use indexmap::IndexMap;
+use crate::bounded::MOST_HASHED;
+use crate::{BoundedIndexMap, Content, FileName};
 use std::alloc::{AllocError, Global};
 use std::marker::Model;
 use tq_shape::ExactClone;
@@ -26,7 +26,7 @@ impl Drop for FileCopy {
 
 /// A server's copies, a map whose versions only rise.
 pub struct Copies {
-    files: IndexMap<FileName, FileCopy>,
+    files: BoundedIndexMap<FileName, FileCopy>,
     never_written: FileCopy,
     /// Where the copy stands that was noted last. Nothing rests on it.
     noted: usize,
@@ -66,7 +66,7 @@ impl Copies {
         ensures { result.files ≡ map.empty }
     {
         Copies {
-            files: IndexMap::new(alloc),
+            files: BoundedIndexMap::new(alloc),
             never_written: FileCopy {
                 version: 0,
                 content: Content::empty(),
@@ -141,7 +141,7 @@ impl Copies {
     }
 
     /// Makes room for this many calls of `install`. The copies stay as they are. Where there is too little, room is made for
-    /// three times as many copies more, so that they are seldom moved.
+    /// three times as many copies more, as long as they are few, so that they are seldom moved.
     pub fn reserve(&mut self, _alloc: Global, additional: usize) -> Result<(), AllocError>
         ensures files { self.new.files ≡ self.old.files }
         ensures room { OnOk result (additional ≤ self.new.room) }
@@ -149,8 +149,11 @@ impl Copies {
         if additional <= self.files.capacity() - self.files.len() {
             return Ok(());
         }
-        let more = self.files.len().saturating_mul(3).max(additional);
-        self.files.reserve(more)
+        let count = self.files.len();
+        let more = count
+            .saturating_mul(3)
+            .min(MOST_HASHED.saturating_sub(count));
+        self.files.reserve(more.max(additional))
     }
 
     /// Keeps the greater version, at equal ones the copy that is there. It takes no memory.

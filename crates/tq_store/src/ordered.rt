@@ -189,7 +189,8 @@ impl<K: Ord, V> Ordered<K, V> {
 
     /// The values, in order.
     pub(crate) fn values(&self) -> &[V]
-        ensures { result.now ≡ values self.now }
+        ensures value { result.now ≡ values self.now }
+        ensures unique { IsUnique K.eq self.now }
     {
         self.values.as_slice()
     }
