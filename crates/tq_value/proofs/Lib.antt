@@ -1,3 +1,5 @@
 mod Exact
 mod Found
 mod Whole
+pub mod Loops
+pub mod Nexts

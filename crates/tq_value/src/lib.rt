@@ -6,12 +6,18 @@
 #![tactic(auto)]
 
 mod fault;
+mod leaf;
 mod look;
 mod number;
+mod passing;
 mod range;
 mod reading;
+mod tree;
 
 pub use fault::NotRead;
-pub use json::{Scratch, Value};
+pub use json::{Reader, Scratch, Token, Value};
+pub use leaf::{Leaf, take_leaf};
 pub use look::{flag_at, flag_of, get, items_at, items_of, number_at, number_of, text_at, text_of};
+pub use passing::{pass_items, pass_over, pass_rest};
 pub use reading::read;
+pub use tree::take_tree;
