@@ -12,8 +12,8 @@ use Rattle.json.specs.Json.{parse_map, items, members, value}
 use Rattle.json.proofs.Grammar.{left, left_some, value_is, value-begin_array, value-begin_object}
 use Rattle.serde_json.specs.Data.{Num, unsigned, negative, float, Data, null, boolean, number, string, array, object, Items, no_items, Members, no_members}
 use Rattle.serde_json.specs.Read.{number_of, of_json, of_items, of_members, converted}
-use Rattle.serde_json.specs.Find.{as_u64}
-use Rattle.tq_value.specs.Next.{next, next_items, next_members, Found, IsLeaf, IsNumberLeaf}
+use Rattle.serde_json.specs.Find.{as_u64, as_array}
+use Rattle.tq_value.specs.Next.{next, next_items, next_members, Found, HasNoNames, IsLeaf, IsNumberLeaf}
 use Rattle.tq_value.specs.declared.leaf.Leaf.{Leaf}
 use Rattle.tq_value.specs.declared.leaf.Leaf.TheVariants.{Text, Whole, Flag, Other}
 use Rattle.std.proofs.lemmas.Bool.{false≢true, true≢false}
@@ -164,3 +164,41 @@ other_found (kinds.Number s) depth ts r d a b c e = absurd (b s refl)
 other_found (kinds.Bool x) depth ts r d a b c e = absurd (c x refl)
 other_found kinds.Null depth ts r d a b c e = other_null depth ts r d e
 other_found kinds.Bad depth ts r d a b c e = no_next Token.bad depth ts r d (IsOther d) (next-bad depth ts) e
+
+number_no_array : (o : Option Num) (depth : ℕ) (s : List ℕ) (ts r : List Token) (d : Data) → number_of s ≡ o → next depth (Token.number s ∷ ts) ≡ Some (d, r) → as_array d ≡ None
+number_no_array None depth s ts r d is e = no_next (Token.number s) depth ts r d (as_array d ≡ None) (next-no_number depth s ts is) e
+number_no_array (Some n) depth s ts r d is e = subst (λ x. as_array x ≡ None) (ap (value_in null) (sym (next-number depth s ts n is) ∙ e)) refl
+
+pub no_array : (t : read.Token) (depth : ℕ) (ts r : List Token) (d : Data) → (t ≡ kinds.BeginArray → ⊥) → next depth (token_of t ∷ ts) ≡ Some (d, r) → as_array d ≡ None
+no_array kinds.BeginObject zero ts r d a e = no_next Token.begin_object zero ts r d (as_array d ≡ None) (next-too_deep-object zero ts refl) e
+no_array kinds.BeginObject (suc n) ts r d a e =
+    let m = mapped_some object (next_members (suc n - 1) ts) d r (sym (next-begin_object (suc n) ts (omega arith)) ∙ e) in
+    subst (λ x. as_array x ≡ None) m.1 refl
+no_array kinds.EndObject depth ts r d a e = no_next Token.end_object depth ts r d (as_array d ≡ None) (next-end_object depth ts) e
+no_array kinds.BeginArray depth ts r d a e = absurd (a refl)
+no_array kinds.EndArray depth ts r d a e = no_next Token.end_array depth ts r d (as_array d ≡ None) (next-end_array depth ts) e
+no_array (kinds.Key s) depth ts r d a e = no_next (Token.key s.now) depth ts r d (as_array d ≡ None) (next-key depth s.now ts) e
+no_array (kinds.String s) depth ts r d a e = subst (λ x. as_array x ≡ None) (ap (value_in null) (sym (next-string depth s.now ts) ∙ e)) refl
+no_array (kinds.Number s) depth ts r d a e = number_no_array (number_of s.now) depth s.now ts r d refl e
+no_array (kinds.Bool x) depth ts r d a e = subst (λ x. as_array x ≡ None) (ap (value_in null) (sym (next-boolean depth x ts) ∙ e)) refl
+no_array kinds.Null depth ts r d a e = subst (λ x. as_array x ≡ None) (ap (value_in null) (sym (next-null depth ts) ∙ e)) refl
+no_array kinds.Bad depth ts r d a e = no_next Token.bad depth ts r d (as_array d ≡ None) (next-bad depth ts) e
+
+number_no_names : (o : Option Num) (depth : ℕ) (s : List ℕ) (ts r : List Token) (d : Data) → number_of s ≡ o → next depth (Token.number s ∷ ts) ≡ Some (d, r) → HasNoNames d
+number_no_names None depth s ts r d is e = no_next (Token.number s) depth ts r d (HasNoNames d) (next-no_number depth s ts is) e
+number_no_names (Some n) depth s ts r d is e = subst HasNoNames (ap (value_in null) (sym (next-number depth s ts n is) ∙ e)) (λ name. refl)
+
+pub no_names : (t : read.Token) (depth : ℕ) (ts r : List Token) (d : Data) → (t ≡ kinds.BeginObject → ⊥) → next depth (token_of t ∷ ts) ≡ Some (d, r) → HasNoNames d
+no_names kinds.BeginObject depth ts r d a e = absurd (a refl)
+no_names kinds.EndObject depth ts r d a e = no_next Token.end_object depth ts r d (HasNoNames d) (next-end_object depth ts) e
+no_names kinds.BeginArray zero ts r d a e = no_next Token.begin_array zero ts r d (HasNoNames d) (next-too_deep-array zero ts refl) e
+no_names kinds.BeginArray (suc n) ts r d a e =
+    let m = mapped_some array (next_items (suc n - 1) ts) d r (sym (next-begin_array (suc n) ts (omega arith)) ∙ e) in
+    subst HasNoNames m.1 (λ name. refl)
+no_names kinds.EndArray depth ts r d a e = no_next Token.end_array depth ts r d (HasNoNames d) (next-end_array depth ts) e
+no_names (kinds.Key s) depth ts r d a e = no_next (Token.key s.now) depth ts r d (HasNoNames d) (next-key depth s.now ts) e
+no_names (kinds.String s) depth ts r d a e = subst HasNoNames (ap (value_in null) (sym (next-string depth s.now ts) ∙ e)) (λ name. refl)
+no_names (kinds.Number s) depth ts r d a e = number_no_names (number_of s.now) depth s.now ts r d refl e
+no_names (kinds.Bool x) depth ts r d a e = subst HasNoNames (ap (value_in null) (sym (next-boolean depth x ts) ∙ e)) (λ name. refl)
+no_names kinds.Null depth ts r d a e = subst HasNoNames (ap (value_in null) (sym (next-null depth ts) ∙ e)) (λ name. refl)
+no_names kinds.Bad depth ts r d a e = no_next Token.bad depth ts r d (HasNoNames d) (next-bad depth ts) e

@@ -5,7 +5,7 @@ use Rattle.json.specs.Token.{Token}
 use Rattle.json.specs.Json.{value, items, members}
 use Rattle.serde_json.specs.Data.{Num, unsigned, Data, boolean, number, string, Items, Members, no_members}
 use Rattle.serde_json.specs.Read.{number_of, of_json, of_items, of_members, converted}
-use Rattle.serde_json.specs.Find.{as_str, as_number, as_u64, as_bool}
+use Rattle.serde_json.specs.Find.{get, as_str, as_number, as_u64, as_bool}
 use Rattle.tq_value.specs.declared.leaf.Leaf.{Leaf}
 use Rattle.tq_value.specs.declared.leaf.Leaf.TheVariants.{Text, Whole, Flag, Other}
 
@@ -35,3 +35,7 @@ IsLeaf Other d = (as_str d ≡ None) × (as_bool d ≡ None) × (option_and_then
 -- the same of a number by its text
 abbrev pub IsNumberLeaf : Leaf → List ℕ → Type 0
 IsNumberLeaf leaf text = (n : Num) × (number_of text ≡ Some n) × IsLeaf leaf (number n)
+
+-- nothing stands at any name
+abbrev pub HasNoNames : Data → Type 0
+HasNoNames d = (name : List ℕ) → get name d ≡ None
