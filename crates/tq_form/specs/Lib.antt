@@ -7,5 +7,6 @@ pub mod Desks
 pub mod Views
 pub mod Entries
 pub mod Frame
+pub mod Plans
 pub mod Faults
 pub mod Formats

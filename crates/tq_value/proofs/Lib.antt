@@ -3,3 +3,4 @@ mod Found
 mod Whole
 pub mod Loops
 pub mod Nexts
+pub mod Turns

@@ -5,18 +5,7 @@ ghost use Rattle.tq_value.specs.Next.{next, next_items, next_members, Found};
 
 use crate::fault::NotRead;
 use crate::number::is_in_range;
-use json::{Invalid, Reader, Token};
-
-impl From<Invalid> for NotRead {
-    ghost use Rattle.tq_value.specs.declared.fault.NotRead.TheVariants as variants;
-    ghost use Rattle.std.specs.Prelude.{◌≡◌};
-
-    ghost from_gives = { λ _ e. e ≡ variants.NotJson };
-
-    fn from(_invalid: Invalid) -> NotRead {
-        NotRead::NotJson
-    }
-}
+use json::{Reader, Token};
 
 /// Takes the next value.
 #[cycle(pass)]
