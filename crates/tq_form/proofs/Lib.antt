@@ -4,3 +4,4 @@ pub mod Held
 pub mod Texts
 pub mod Joined
 pub mod Formats
+mod Rows

@@ -1,6 +1,5 @@
 //! What the form makes of the next value of a reader, and lists of such values.
-ghost use Rattle.std.specs.Prelude.{◌≡◌, ◌<◌, ◌≤◌, length, Some, None, Err, IfOk, OnOk};
-ghost use Rattle.std.specs.Option.{option_map};
+ghost use Rattle.std.specs.Prelude.{◌≡◌, ◌<◌, ◌≤◌, ◌↔◌, false, length, None, Err, IfOk, OnOk, IsTrue, MatchOption};
 ghost use Rattle.tq_value.specs.Next.{next, next_items, Found};
 ghost use Rattle.tq_members.specs.Member.{each};
 ghost use Rattle.tq_form.specs.Plans.{capped, listed};
@@ -8,7 +7,7 @@ ghost use Rattle.tq_form.specs.Plans.{capped, listed};
 use crate::plan::Plan;
 use std::alloc::Global;
 use tq_shape::Seq;
-use tq_value::{NotRead, Reader, open_array, pass_over};
+use tq_value::{NotRead, Reader, open_array, pass_items};
 
 /// What can be read from a reader.
 pub(crate) trait FromReader: Sized + Drop {
@@ -23,11 +22,11 @@ pub(crate) trait FromReader: Sized + Drop {
     /// What the next value is: `None` where it is none.
     fn from_reader(
         alloc: Global,
-        plan: Plan,
+        plan: &Plan,
         reader: &mut Reader<'_>,
         depth: usize,
     ) -> Result<Option<Self>, NotRead>
-        ensures ok { IfOk result (Found (λ d item. item ≡ form plan d) (next depth reader.old) reader.new) }
+        ensures ok { IfOk result (Found (λ d item. item ≡ form plan.now d) (next depth reader.old) reader.new) }
         ensures err { result ≡ Err NotRead.NotJson → next depth reader.old ≡ None }
         ensures shorter { OnOk result (length reader.new < length reader.old) };
 }
@@ -35,13 +34,13 @@ pub(crate) trait FromReader: Sized + Drop {
 /// The list that the next value is, of no more values than that: `None` where it is none.
 pub(crate) fn take_list<T: FromReader>(
     alloc: Global,
-    plan: Plan,
+    plan: &Plan,
     most: Option<usize>,
     reader: &mut Reader<'_>,
     depth: usize,
 ) -> Result<Option<Seq<T>>, NotRead>
     ensures ok { IfOk result
-        (Found (λ d list. list ≡ listed (T.form plan) most d) (next depth reader.old) reader.new) }
+        (Found (λ d list. list ≡ listed (T.form plan.now) most d) (next depth reader.old) reader.new) }
     ensures err { result ≡ Err NotRead.NotJson → next depth reader.old ≡ None }
     ensures shorter { OnOk result (length reader.new < length reader.old) }
 {
@@ -54,23 +53,38 @@ pub(crate) fn take_list<T: FromReader>(
 /// The values up to the bracket of an array.
 fn take_items<T: FromReader>(
     alloc: Global,
-    plan: Plan,
+    plan: &Plan,
     most: Option<usize>,
     reader: &mut Reader<'_>,
     depth: usize,
 ) -> Result<Option<Seq<T>>, NotRead>
     ensures ok { IfOk result
-        (Found (λ ds list. list ≡ capped most (each (T.form plan) ds)) (next_items depth reader.old) reader.new) }
+        (Found (λ ds list. list ≡ capped most (each (T.form plan.now) ds)) (next_items depth reader.old) reader.new) }
     ensures err { result ≡ Err NotRead.NotJson → next_items depth reader.old ≡ None }
     ensures shorter { OnOk result (length reader.new ≤ length reader.old) }
 {
     let mut found = Vec::new(alloc);
     'items: while !reader.take_end_array() {
-        let item = T::from_reader(alloc, plan, reader, depth)?;
-        let Some(item) = within(most, found.len(), item) else {
-            return pass_items_left(reader, depth);
+        let Some(item) = T::from_reader(alloc, plan, reader, depth)? else {
+            pass_items(reader, depth)?;
+            return Ok(None);
         };
-        put(&mut found, item)?;
+        if is_full(most, found.len()) {
+            pass_items(reader, depth)?;
+            return Ok(None);
+        }
+        found.reserve(1)?;
+        found.push_reserved(item);
     }
     Ok(Some(Seq::from_vec(found)))
+}
+
+/// Whether there is a limit, and as many values as that.
+fn is_full(most: Option<usize>, count: usize) -> bool
+    ensures { MatchOption most (result ≡ false) (λ most. IsTrue result ↔ (most ≤ count)) }
+{
+    match most {
+        Some(most) => most <= count,
+        None => false,
+    }
 }
