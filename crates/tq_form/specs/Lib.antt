@@ -8,5 +8,6 @@ pub mod Views
 pub mod Entries
 pub mod Frame
 pub mod Plans
+pub mod Slots
 pub mod Faults
 pub mod Formats

@@ -9,6 +9,7 @@ mod commits;
 mod desk_ask;
 mod desk_reply;
 mod entries;
+mod entry;
 mod fault;
 mod fields;
 mod formed;
@@ -20,6 +21,7 @@ mod node_reply;
 mod parts;
 mod plan;
 mod read;
+mod trees;
 mod view_ask;
 mod view_reply;
 
