@@ -5,3 +5,5 @@ pub mod Texts
 pub mod Joined
 pub mod Formats
 mod Rows
+mod Limited
+mod Planned
