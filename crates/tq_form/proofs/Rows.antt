@@ -1,20 +1,19 @@
 -- Values that were taken one at a time, before those that are left.
-use Rattle.std.proofs.Common.{◌≡◌, ◌≤◌, ◌<◌, ◌+◌, ℕ, suc, nat_le, Bool, true, false, cond, List, [], ◌∷◌, ◌++◌, length, Option, Some, None, refl, sym, ap, subst, ◌∙◌, arith, append_assoc, append-nil, lt_of_not-le}
+use Rattle.std.proofs.Common.{◌≡◌, ◌≤◌, ◌<◌, ℕ, Bool, true, false, cond, List, [], ◌∷◌, ◌++◌, length, Option, Some, None, refl, sym, ap, ◌∙◌, arith, append_assoc, append-nil, lt_of_not-le}
 use Rattle.std.specs.Prelude.{◌↔◌, IsTrue, MatchOption}
 use Rattle.std.proofs.lemmas.Bool.{lt-leb, le-leb, false≢true}
 use Rattle.std.proofs.lemmas.List.{length-append}
-use Rattle.std.specs.Option.{option_map}
 use Rattle.json.specs.Token.{Token}
 use Rattle.json.specs.Json.{parse_map}
-use Rattle.serde_json.specs.Data.{Data, Items, no_items, item, array, Members, put}
-use Rattle.serde_json.specs.Find.{get, get_member, as_array}
+use Rattle.serde_json.specs.Data.{Data, Items, no_items, item, Members, put}
+use Rattle.serde_json.specs.Find.{get_member, as_array}
 use Rattle.serde_json.proofs.Views.{get_member-put, get_member-put_other}
 use Rattle.std.specs.Str.{bytes_eq}
 use Rattle.std.proofs.lemmas.Slice.Eq.{bytes_eq-Decides}
 use Rattle.tq_value.specs.Next.{HasNoNames}
 use Rattle.tq_members.specs.Member.{◌>>=◌, each}
 use Rattle.tq_members.proofs.Listed.{with_front, no_front}
-use Rattle.tq_form.specs.Plans.{Names, names_of, with, capped, listed}
+use Rattle.tq_form.specs.Plans.{names_of, with, capped, listed}
 
 -- ---- items
 

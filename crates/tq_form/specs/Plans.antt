@@ -1,5 +1,5 @@
 -- What the entries of a file are read by, and the members of an object by their names.
-use Rattle.std.specs.Prelude.{ℕ, Bool, nat_le, cond, codes, List, length, Option, Some, None}
+use Rattle.std.specs.Prelude.{ℕ, nat_le, cond, codes, List, length, Option, Some, None}
 use Rattle.std.specs.Str.{bytes_eq}
 use Rattle.serde_json.specs.Data.{Data}
 use Rattle.serde_json.specs.Find.{get, as_array}

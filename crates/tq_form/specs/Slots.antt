@@ -1,5 +1,5 @@
 -- Words of the reader's own: what it keeps of the members of an object, one slot for each name that the form asks for.
-use Rattle.std.specs.Prelude.{◌≡◌, ◌≢◌, ⊤, Result, Ok, Err, ℕ, Bool, ◌&&◌, ◌==◌, nat_le, cond, codes, List, length, Option, Some, None}
+use Rattle.std.specs.Prelude.{◌≡◌, ◌≢◌, ⊤, Result, Ok, Err, ℕ, ◌&&◌, ◌==◌, nat_le, cond, codes, List, length, Option, Some, None}
 use Rattle.std.specs.Option.{option_and_then}
 use Rattle.serde_json.specs.Data.{Data}
 use Rattle.serde_json.specs.Find.{as_array}
@@ -12,9 +12,7 @@ use Rattle.tq_members.specs.Member.{◌>>=◌, number_of, each}
 use Rattle.tq_form.specs.Entries.{journal, node_entry, desk_entry, view_entry}
 use Rattle.tq_form.specs.Frame.{limits, one_each, journals_of}
 use Rattle.serde_json.specs.Read.{read}
-use Rattle.tq_value.specs.declared.fault.NotRead.TheVariants as NotRead
 use Rattle.tq_value.specs.declared.fault.NotRead.{NotRead}
-use Rattle.tq_form.specs.declared.fault.ReadFault.TheVariants as ReadFault
 use Rattle.tq_form.specs.declared.fault.ReadFault.{ReadFault}
 use Rattle.tq_form.specs.declared.read.Reading.{Reading}
 use Rattle.tq_form.specs.declared.read.Reading.TheVariants.{Journals, NoJournals, OtherPlan}

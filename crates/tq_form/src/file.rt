@@ -213,7 +213,11 @@ fn levels_of(format: Format, number: Option<u64>) -> Option<Levels>
 }
 
 /// The plan that a file gives, by what stands in it at these names.
-pub(crate) fn plan_from(format: Option<u64>, levels: Option<u64>, limits: Option<Limits>) -> Option<Plan>
+pub(crate) fn plan_from(
+    format: Option<u64>,
+    levels: Option<u64>,
+    limits: Option<Limits>,
+) -> Option<Plan>
     ensures { result ≡ slots.plan_from format levels limits }
 {
     let number = format?;

@@ -10,12 +10,12 @@ use Rattle.json.specs.declared.token.Token.TheVariants as kinds
 use Rattle.json.specs.Json as json
 use Rattle.json.specs.Json.{parse_map, items, members, value}
 use Rattle.json.proofs.Grammar.{left, left_some, value_is, value-begin_array, value-begin_object}
-use Rattle.serde_json.specs.Data.{Num, unsigned, negative, float, Data, null, boolean, number, string, array, object, Items, no_items, Members, no_members}
-use Rattle.serde_json.specs.Read.{number_of, of_json, of_items, of_members, converted}
+use Rattle.serde_json.specs.Data.{Num, unsigned, negative, float, Data, null, boolean, number, string, array, object}
+use Rattle.serde_json.specs.Read.{number_of, of_json, converted}
 use Rattle.serde_json.specs.Find.{as_u64, as_array}
 use Rattle.tq_value.specs.Next.{next, next_items, next_members, Found, HasNoNames, IsLeaf, IsNumberLeaf}
 use Rattle.tq_value.specs.declared.leaf.Leaf.{Leaf}
-use Rattle.tq_value.specs.declared.leaf.Leaf.TheVariants.{Text, Whole, Flag, Other}
+use Rattle.tq_value.specs.declared.leaf.Leaf.TheVariants.{Other}
 use Rattle.std.proofs.lemmas.Bool.{false≢true, true≢false}
 use Rattle.tq_value.specs.View.{data_of, fits}
 use Rattle.tq_value.proofs.Exact.{of_json-data_of}

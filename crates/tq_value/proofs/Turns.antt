@@ -1,13 +1,13 @@
 -- The items and the members of a reader, one at a time.
-use Rattle.std.proofs.Common.{◌≡◌, ℕ, zero, suc, ◌-◌, ◌<◌, ◌≤◌, List, [], ◌∷◌, length, Option, Some, None, refl, sym, ap, ◌∙◌, arith, subst}
-use Rattle.std.specs.Option.{option_map, option_and_then}
+use Rattle.std.proofs.Common.{◌≡◌, ℕ, zero, suc, ◌-◌, ◌<◌, ◌≤◌, List, [], ◌∷◌, length, Option, Some, None, refl, sym, ap, ◌∙◌, arith}
+use Rattle.std.specs.Option.{option_and_then}
 use Rattle.json.specs.Token.{Token}
 use Rattle.json.specs.Json as json
 use Rattle.json.specs.Json.{Parse, parse_map, after_end_array, read_key, items_step, members_step, items, members, value}
 use Rattle.json.proofs.Grammar.{left, read_key-shorter, skip_value-shorter, items_fail, members_no_key}
-use Rattle.serde_json.specs.Data.{Data, Items, no_items, item, Members, put}
+use Rattle.serde_json.specs.Data.{Data, no_items, item, Members, put}
 use Rattle.serde_json.specs.Read.{of_json, of_items, of_members, converted}
-use Rattle.tq_value.specs.Next.{next, next_items, next_members}
+use Rattle.tq_value.specs.Next.{next, next_items}
 use Rattle.tq_value.proofs.Loops.{item_read, item_refused, items_over, member_read, member_refused, key_refused, members_over, converted_some}
 
 -- ---- the count of turns plays no part, where it is enough

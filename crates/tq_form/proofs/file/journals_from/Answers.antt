@@ -1,4 +1,3 @@
-use Rattle.std.proofs.Common.{◌≡◌, sym, ap, ◌∙◌, rules}
 use Rattle.tq_form.proofs.Planned.{planned-are-journals}
 use Rattle.tq_form.proofs.file.journals_from.Goals as goal
 

@@ -1,4 +1,4 @@
-use Rattle.std.proofs.Common.{◌≡◌, ap, ◌∙◌}
+use Rattle.std.proofs.Common.{ap, ◌∙◌}
 use Rattle.tq_form.specs.Entries.{node_entry, journal}
 use Rattle.tq_form.specs.Slots.{counted}
 use Rattle.tq_form.proofs.Limited.{counted-listed}

@@ -1,7 +1,6 @@
-use Rattle.std.proofs.Common.{◌≡◌, ◌≤◌, ◌++◌, [], ◌∷◌, length, Some, None, true, false, refl, sym, ap, ◌∙◌, arith, rules}
+use Rattle.std.proofs.Common.{◌≡◌, ◌≤◌, ◌++◌, [], ◌∷◌, length, Some, None, sym, ap, ◌∙◌, arith, rules}
 use Rattle.json.specs.Json.{parse_map, after_end_array}
 use Rattle.serde_json.specs.Data.{no_items, item}
-use Rattle.tq_value.specs.Next.{next, next_items}
 use Rattle.tq_value.proofs.Turns.{items_go, items_stop, items_end}
 use Rattle.tq_form.proofs.Rows.{before, none_before, one_more, goes_first, goes_on, all_read, one_is_none, empty_fits, full_is_none, still_fits}
 use Rattle.tq_form.proofs.parts.take_items.Goals as goal

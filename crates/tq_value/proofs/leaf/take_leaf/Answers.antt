@@ -1,6 +1,5 @@
-use Rattle.std.proofs.Common.{◌≡◌, [], ◌∷◌, Some, None, refl, ap, ◌∙◌, arith, rules}
+use Rattle.std.proofs.Common.{◌≡◌, [], ◌∷◌, refl, ap, ◌∙◌, arith}
 use Rattle.json.specs.Reads.{token_of}
-use Rattle.json.specs.Token.{Token}
 use Rattle.serde_json.specs.Data.{boolean, string}
 use Rattle.tq_value.specs.Next.{next}
 use Rattle.tq_value.proofs.Nexts.{next-nil, next-string, next-boolean, next-no_number, number_answered, other_found}

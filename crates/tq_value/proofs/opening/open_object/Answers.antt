@@ -1,4 +1,4 @@
-use Rattle.std.proofs.Common.{◌≡◌, [], ◌∷◌, Some, None, refl, ap, ◌∙◌, arith, rules}
+use Rattle.std.proofs.Common.{◌≡◌, [], ◌∷◌, ap, ◌∙◌, arith}
 use Rattle.json.specs.Reads.{token_of}
 use Rattle.tq_value.specs.Next.{next}
 use Rattle.tq_value.proofs.Nexts.{next-nil, next-too_deep-object, next-begin_object, no_names}

@@ -1,12 +1,12 @@
 use Rattle.std.proofs.Common.{◌≡◌, ◌-◌, ◌<◌, [], ◌∷◌, length, Some, None, true, false, refl, ap, ◌∙◌, arith}
 use Rattle.std.specs.Prelude.{⊤}
 use Rattle.std.specs.Option.{is_some}
-use Rattle.json.specs.Json.{parse_map, after_end_array, read_key, items, members, value}
+use Rattle.json.specs.Json.{parse_map, after_end_array, read_key, value}
 use Rattle.json.specs.Reads.{token_of}
 use Rattle.json.proofs.Grammar.{left, left-parse_map, left_none, read_key-shorter, value_is}
 use Rattle.serde_json.specs.Data.{null, boolean, number, string, array, object, no_members, put, item}
-use Rattle.serde_json.specs.Read.{number_of, of_json, of_items, of_members, converted}
-use Rattle.tq_value.specs.Next.{next, next_items, next_members}
+use Rattle.serde_json.specs.Read.{number_of, of_json, converted}
+use Rattle.tq_value.specs.Next.{next}
 use Rattle.tq_value.proofs.Loops.{item_read, item_refused, items_over, member_read, member_refused, key_refused, members_over}
 use Rattle.tq_value.proofs.Nexts.{next-nil, next-string, next-boolean, next-null, next-too_deep-array, next-too_deep-object, next-begin_array, next-begin_object, next-number, next-no_number, all_found_by, some_number, no_number, some_left}
 use Rattle.tq_value.proofs.passing.+pass.Goals as goal

@@ -1,7 +1,7 @@
 use Rattle.std.proofs.Common.{◌≡◌, ℕ, ◌+◌, ◌*◌, ◌≤◌, length}
 use Rattle.json.specs.Json.{items, members, value}
 use Rattle.json.proofs.Grammar.{left}
-use Rattle.serde_json.specs.Data.{Members, no_members}
+use Rattle.serde_json.specs.Data.{Members}
 use Rattle.serde_json.specs.Read.{of_items, of_members, converted}
 use Rattle.tq_value.specs.Next.{next_items, next_members}
 use Rattle.tq_value.proofs.passing.+pass.Given as goal

@@ -1,4 +1,4 @@
-use Rattle.std.proofs.Common.{◌≡◌, true, false, refl, arith, rules}
+use Rattle.std.proofs.Common.{◌≡◌, true, false, refl, arith}
 use Rattle.json.specs.Value.{value_view}
 use Rattle.tq_value.specs.View.{fits, data_of}
 use Rattle.tq_value.proofs.Nexts.{next-fit, next-unfit}

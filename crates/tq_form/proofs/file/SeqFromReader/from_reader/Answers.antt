@@ -1,4 +1,4 @@
-use Rattle.std.proofs.Common.{◌≡◌, ◌∙◌}
+use Rattle.std.proofs.Common.{◌∙◌}
 use Rattle.tq_form.proofs.Limited.{found_as, listed-journal}
 use Rattle.tq_form.proofs.file.SeqFromReader.from_reader.Goals as goal
 
