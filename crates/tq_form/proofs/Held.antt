@@ -47,7 +47,7 @@ held_of P o x e h = subst (λ r. Gives r P) (sym e) h
 
 -- ---- lists
 
-each-length : {A : Type 0} (form : Data → Option A) (values : Items) → Gives (each form values) (λ xs. length xs ≡ count values)
+pub each-length : {A : Type 0} (form : Data → Option A) (values : Items) → Gives (each form values) (λ xs. length xs ≡ count values)
 each-length form no_items = refl
 each-length {A} form (item value rest) =
     let L : List A → Type 0 = λ xs. length xs ≡ suc (count rest) in

@@ -15,9 +15,3 @@ Answers (Ok x) text form = (value : Data) × IsJson text value × (form value �
 Answers (Err Memory) text form = ⊤
 Answers (Err NotJson) text form = (value : Data) → (IsJson text value → ⊥)
 Answers (Err NotJournals) text form = (value : Data) × IsJson text value × (form value ≡ None)
-
--- what is answered of a value of the form, where there is one and memory for it
-abbrev pub told_of : {X E : Type 0} → Result (Option X) E → Result X ReadFault
-told_of (Ok (Some x)) = Ok x
-told_of (Ok None) = Err NotJournals
-told_of (Err fault) = Err Memory

@@ -7,5 +7,7 @@ pub mod Desks
 pub mod Views
 pub mod Entries
 pub mod Frame
+pub mod Plans
+pub mod Slots
 pub mod Faults
 pub mod Formats

@@ -1,22 +1,34 @@
 //! The journals of a system from their text: the form of journal files, and its reader.
 //!
-//! Files: `read.rt` `journals_from_json`; `frame.rt` the file; `entries.rt`, `journals.rt` lists; one file for each kind of
-//! ask and reply; `commits.rt`, `locking.rt` their parts; `formed.rt` lists of values.
-//! Definitions: `specs/Frame` and one for each kind of object; `Faults` what a reader answers.
+//! No value of a whole file is made. A reader hands out its tokens, each object takes its members one at a time, and what no
+//! name asks for is passed over. What entries are read by, the plan, may stand behind them: a first look finds it, and where
+//! the file gives another in the end, it is read once more by that one.
+//!
+//! Files: `read.rt` `journals_from_json`; `plan.rt`, `glance.rt` the plan and the first look; `file.rt` the file; `entry.rt` an
+//! entry; `fields.rt`, `parts.rt` objects and lists from a reader; `scalars.rt` values that hold no others; `trees.rt` asks and
+//! replies, each by the tree of its value; one file for each kind of ask and reply; `commits.rt`, `locking.rt` their parts;
+//! `formed.rt` lists of values in a tree.
+//! Definitions: `specs/Frame` and one for each kind of object; `Faults` what a reader answers. Words of the reader's own:
+//! `Plans` the plan and the members of an object by their names, `Slots` what is kept of them.
 #![tactic(auto)]
 
 mod commits;
 mod desk_ask;
 mod desk_reply;
-mod entries;
+mod entry;
 mod fault;
+mod fields;
+mod file;
 mod formed;
-mod frame;
-mod journals;
+mod glance;
 mod locking;
 mod node_ask;
 mod node_reply;
+mod parts;
+mod plan;
 mod read;
+mod scalars;
+mod trees;
 mod view_ask;
 mod view_reply;
 

@@ -1,39 +1,123 @@
-ghost use Rattle.std.specs.Prelude.{◌≡◌};
-ghost use Rattle.tq_form.specs.Faults.{Answers, told_of};
+ghost use Rattle.std.specs.Prelude.{◌≡◌, None, Err, IfOk};
+ghost use Rattle.serde_json.specs.Read.{read};
+ghost use Rattle.tq_form.specs.Faults.{Answers};
 ghost use Rattle.tq_form.specs.Formats.{AreBothRead};
 ghost use Rattle.tq_form.specs.Frame as spec;
+ghost use Rattle.tq_form.specs.Plans.{names_of};
+ghost use Rattle.tq_form.specs.Slots as slots;
 
 use crate::fault::ReadFault;
-use crate::frame::journals_of;
+use crate::fields::take_object;
+use crate::file::{FileFields, journals_from};
+use crate::glance::first_plan;
+use crate::plan::Plan;
 use std::alloc::Global;
-use tq_shape::Memory;
 use tq_tables::Journals;
-use tq_value::{NotRead, Scratch};
+use tq_value::{NotRead, Reader, Scratch, text_of_bytes};
+
+/// How deep arrays and objects may nest.
+const MAX_DEPTH: usize = 127;
+
+/// What a file is, read by a plan.
+#[derive(Drop)]
+enum Reading {
+    /// These journals.
+    Journals(Journals),
+    /// None that are of the form.
+    NoJournals,
+    /// The file gives this plan, which is another.
+    OtherPlan(Plan),
+}
 
 /// The journals that a text is, in either format. It answers exactly the journals of the form where the text is of it;
 /// `NotJson` exactly where `serde_json` reads no value of the text; and `NotJournals` exactly where it reads one that is not
 /// of the form. No value is of both formats.
+///
+/// No value of the whole text is made: entries are read one at a time, and what no name of the form asks for is passed over.
 pub fn journals_from_json(alloc: Global, text: &[u8]) -> Result<Journals, ReadFault>
     ensures answers { Answers result text.now spec.journals_of }
     ensures formats { AreBothRead }
 {
-    let mut scratch = Scratch::new(alloc);
-    let value = match tq_value::read(alloc, text, &mut scratch) {
-        Ok(value) => value,
-        Err(NotRead::Memory) => return Err(ReadFault::Memory),
-        Err(NotRead::NotJson) => return Err(ReadFault::NotJson),
+    let Some(text) = text_of_bytes(text) else {
+        return Err(ReadFault::NotJson);
     };
-    let answer = journals_of(alloc, &value);
-    told(answer)
+    journals_of_text(alloc, text)
 }
 
-/// What is answered of a text that is JSON.
-fn told(answer: Result<Option<Journals>, Memory>) -> Result<Journals, ReadFault>
-    ensures { result ≡ told_of answer }
+fn journals_of_text(alloc: Global, text: &str) -> Result<Journals, ReadFault>
+    ensures { slots.AnswersText result text.now }
 {
-    match answer {
-        Ok(Some(journals)) => Ok(journals),
-        Ok(None) => Err(ReadFault::NotJournals),
-        Err(_) => Err(ReadFault::Memory),
+    let mut scratch = Scratch::new(alloc);
+    let plan = first_plan(alloc, text, &mut scratch);
+    let first = match read_by(alloc, &plan, text, &mut scratch) {
+        Ok(first) => first,
+        Err(fault) => return Err(fault_of(fault)),
+    };
+    let Reading::OtherPlan(plan) = first else {
+        return told(first);
+    };
+    match read_by(alloc, &plan, text, &mut scratch) {
+        Ok(second) => told(second),
+        Err(fault) => Err(fault_of(fault)),
+    }
+}
+
+fn fault_of(fault: NotRead) -> ReadFault
+    ensures { result ≡ slots.fault_of fault }
+{
+    match fault {
+        NotRead::Memory => ReadFault::Memory,
+        NotRead::NotJson => ReadFault::NotJson,
+    }
+}
+
+/// What is answered of a file that was read by its own plan.
+fn told(reading: Reading) -> Result<Journals, ReadFault>
+    ensures { result ≡ slots.told reading }
+{
+    match reading {
+        Reading::Journals(journals) => Ok(journals),
+        Reading::NoJournals | Reading::OtherPlan(_) => Err(ReadFault::NotJournals),
+    }
+}
+
+/// What stands in the file, read by the plan.
+fn fields_of(
+    alloc: Global,
+    plan: &Plan,
+    text: &str,
+    scratch: &mut Scratch,
+) -> Result<FileFields, NotRead>
+    ensures ok { IfOk result (slots.IsOfText (λ d fields. fields ≡ slots.file_fields plan.now (names_of d)) text.now) }
+    ensures err { result ≡ Err NotRead.NotJson → read text.now ≡ None }
+{
+    let mut reader = Reader::new(text, scratch)?;
+    let fields: FileFields = take_object(alloc, plan, &mut reader, MAX_DEPTH)?;
+    if reader.next().is_some() {
+        return Err(NotRead::NotJson);
+    }
+    Ok(fields)
+}
+
+/// The journals of the file, where it gives this plan.
+fn read_by(
+    alloc: Global,
+    plan: &Plan,
+    text: &str,
+    scratch: &mut Scratch,
+) -> Result<Reading, NotRead>
+    ensures ok { IfOk result (slots.IsOfText (λ d reading. slots.IsReading plan.now reading d) text.now) }
+    ensures err { result ≡ Err NotRead.NotJson → read text.now ≡ None }
+{
+    let fields = fields_of(alloc, plan, text, scratch)?;
+    let Some(given) = fields.plan() else {
+        return Ok(Reading::NoJournals);
+    };
+    if given != *plan {
+        return Ok(Reading::OtherPlan(given));
+    }
+    match journals_from(alloc, given.levels, fields)? {
+        Some(journals) => Ok(Reading::Journals(journals)),
+        None => Ok(Reading::NoJournals),
     }
 }

@@ -1,3 +1,5 @@
+use json::Invalid;
+use std::alloc::AllocError;
 use thiserror::Error;
 
 /// Why a text gives no value.
@@ -9,4 +11,26 @@ pub enum NotRead {
     /// The bytes are no JSON.
     #[error("not JSON")]
     NotJson,
+}
+
+impl From<Invalid> for NotRead {
+    ghost use Rattle.tq_value.specs.declared.fault.NotRead.TheVariants as variants;
+    ghost use Rattle.std.specs.Prelude.{◌≡◌};
+
+    ghost from_gives = { λ _ e. e ≡ variants.NotJson };
+
+    fn from(_invalid: Invalid) -> NotRead {
+        NotRead::NotJson
+    }
+}
+
+impl From<AllocError> for NotRead {
+    ghost use Rattle.tq_value.specs.declared.fault.NotRead.TheVariants as variants;
+    ghost use Rattle.std.specs.Prelude.{◌≡◌};
+
+    ghost from_gives = { λ _ e. e ≡ variants.Memory };
+
+    fn from(_refused: AllocError) -> NotRead {
+        NotRead::Memory
+    }
 }

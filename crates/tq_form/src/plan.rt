@@ -1,0 +1,13 @@
+use tq_members::Format;
+use tq_shape::Levels;
+
+/// What the entries of a file are read by.
+#[derive(Clone, Copy, Debug, PartialEq, Eq)]
+pub(crate) struct Plan {
+    /// The format of the file.
+    pub(crate) format: Format,
+    /// How many levels the tree has.
+    pub(crate) levels: Levels,
+    /// The most entries of a journal.
+    pub(crate) limit: u32,
+}
