@@ -1,2 +1,1 @@
-mod Decimals
 pub mod Extended

@@ -1,7 +1,7 @@
 //! What answers and refusals look like.
 //!
 //! Files: `print.rt` answers; `refusals.rt` refusals.
-//! Definitions: `specs/Print`, `Refusals`; `proofs/Decimals` digits.
+//! Definitions: `specs/Print`, `Refusals`.
 #![tactic(auto)]
 
 mod print;

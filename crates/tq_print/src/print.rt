@@ -1,4 +1,4 @@
-ghost use Rattle.std.specs.Prelude.{◌≡◌, ◌++◌, ◌∷◌, [], ◌+◌, ◌/◌, ◌%◌, ◌≤◌, length, vec_len, vec_capacity, OnOk, OnErr, map};
+ghost use Rattle.std.specs.Prelude.{◌≡◌, ◌++◌, ◌∷◌, OnOk, OnErr, map};
 ghost use Rattle.std.specs.Fmt.{decimal};
 ghost use Rattle.std.specs.Option.{option_copied};
 ghost use Rattle.tq_coterie.specs.Coterie.{numbers_of};
@@ -7,6 +7,7 @@ ghost use Rattle.tq_print.specs.Print.{Extends, printed, numbers_text, choice_te
 
 use tq_asks::Verdict;
 use tq_desk::{Grant, Op};
+use tq_digits::{MOST_DIGITS, push_digits};
 use tq_live::{ViewRefusal, ViewReply};
 use tq_shape::{Memory, ServerId};
 use tq_store::{Content, FileCopy, FileName};
@@ -195,16 +196,12 @@ pub fn say_number(text: &mut Vec<u8>, words: &[u8], number: u64) -> Result<(), M
     Ok(())
 }
 
-/// The most digits of a number of 64 bits.
-const MOST_DIGITS: usize = 20;
-
 /// Puts the number in decimal behind the text.
 pub(crate) fn push_number(text: &mut Vec<u8>, number: u64) -> Result<(), Memory>
     ensures text { OnOk result (text.new.items ≡ text.old.items ++ decimal number) }
     ensures kept { OnErr result (Extends text.old.items text.new.items) }
 {
-    text.reserve(MOST_DIGITS)?;
-    push_digits(text, number);
+    tq_digits::push_number(text, number)?;
     Ok(())
 }
 
@@ -217,34 +214,4 @@ fn push_spaced(text: &mut Vec<u8>, number: u64) -> Result<(), Memory>
     text.push_reserved(b' ');
     push_digits(text, number);
     Ok(())
-}
-
-/// Puts the number in decimal behind the text, which has room for its digits: two digits a step.
-fn push_digits(text: &mut Vec<u8>, number: u64)
-    requires { vec_len text.old + length (decimal number) ≤ vec_capacity text.old }
-    ensures items { text.new.items ≡ text.old.items ++ decimal number }
-    ensures len { vec_len text.new ≡ vec_len text.old + length (decimal number) }
-    ensures capacity { vec_capacity text.new ≡ vec_capacity text.old }
-{
-    if number < 10 {
-        text.push_reserved(b'0' + number as u8);
-        return;
-    }
-    if number < 100 {
-        push_pair(text, number);
-        return;
-    }
-    push_digits(text, number / 100);
-    push_pair(text, number);
-}
-
-/// Puts the last two digits of the number behind the text, which has room for them.
-fn push_pair(text: &mut Vec<u8>, number: u64)
-    requires { vec_len text.old + 2 ≤ vec_capacity text.old }
-    ensures items { text.new.items ≡ text.old.items ++ (48 + number / 10 % 10) ∷ (48 + number % 10) ∷ [] }
-    ensures len { vec_len text.new ≡ vec_len text.old + 2 }
-    ensures capacity { vec_capacity text.new ≡ vec_capacity text.old }
-{
-    text.push_reserved(b'0' + (number / 10 % 10) as u8);
-    text.push_reserved(b'0' + (number % 10) as u8);
 }

@@ -1,20 +1,18 @@
--- What a writer adds, part after part.
-use Rattle.std.proofs.Common.{◌≡◌, List, [], ◌++◌, ap, ◌∙◌, append_assoc}
-use Rattle.json.specs.Token.{Token}
-use Rattle.json.specs.Written.{Written}
-use Rattle.json.specs.Print.{print}
-use Rattle.serde_json.specs.Data.{Data}
-use Rattle.serde_json.specs.Written.{compact_text}
-use Rattle.serde_json.proofs.Texts.{print-outline}
-use Rattle.tq_written.specs.Written.{Added, spelled}
+-- What is put behind a text, piece after piece.
+use Rattle.std.proofs.Common.{◌≡◌, ℕ, List, [], ◌∷◌, ◌++◌, Result, Ok, Err, ap, sym, ◌∙◌, append_assoc}
+use Rattle.json.specs.Print.{escape, quoted}
+use Rattle.tq_written.specs.Written.{Added, Adds}
 
--- what is added first, and then more
-pub added : {old mid new : Written} {some more : List Token} → Added old mid some → Added mid new more → Added old new (some ++ more)
-added {old} {mid} {new} {some} {more} h g = record {
-  after = g.after ∙ ap (λ ts. ts ++ more) h.after ∙ append_assoc old.tokens some more;
-  before = g.before ∙ h.before;
-}
+-- what is put first, and then more
+pub added : {old mid new some more : List ℕ} → Added old mid some → Added mid new more → Added old new (some ++ more)
+added {old} {mid} {new} {some} {more} first then = record { after = then.after ∙ ap (λ text. text ++ more) first.after ∙ append_assoc old some more }
 
--- the text of a writer that was empty, after a value
-pub printed : {old new : Written} (value : Data) → old.tokens ≡ [] → old.before ≡ [] → Added old new (spelled value) → new.before ++ print new.tokens ≡ compact_text value
-printed {old} {new} value fresh none h = rw (h.before, none, h.after, fresh) (print-outline value)
+-- the same where it may be that no more was put
+pub behind : {E : Type 0} {old mid some : List ℕ} (result : Result (Unit {0}) E) (new more : List ℕ) → Added old mid some → Adds result mid new more → Adds result old new (some ++ more)
+behind (Ok u) new more first then = added first then
+behind (Err e) new more first then = tt
+
+-- a quote, a text that needs no escape, and a quote
+pub in-quotes : {old quote inside new : List ℕ} (text : List ℕ) → escape text ≡ text → Added old quote (34 ∷ []) → Added quote inside text → Added inside new (34 ∷ []) → Added old new (quoted text)
+in-quotes {old} text plain first then last =
+    record { after = (added first (added then last)).after ∙ ap (λ same. old ++ (34 ∷ (same ++ 34 ∷ []))) (sym plain) }

@@ -1,4 +1,5 @@
 pub mod Chained
+pub mod Plain
 pub mod Fused
 pub mod Shape
 pub mod Shapes

@@ -9,6 +9,7 @@ mod desks;
 mod formed;
 mod frame;
 mod nodes;
+mod text;
 mod values;
 mod views;
 

@@ -1,26 +1,17 @@
 //! What servers are asked and what they reply.
-ghost use Rattle.std.specs.Prelude.{◌≡◌, ◌≤◌, codes, OnOk};
-ghost use Rattle.std.specs.List.{AllByRecursion};
+ghost use Rattle.std.specs.Prelude.{◌≤◌, OnOk};
+ghost use Rattle.serde_json.specs.Written.{compact_text};
 ghost use Rattle.tq_asks.specs.declared.ask.NodeAsk.{NodeAsk};
-ghost use Rattle.tq_asks.specs.declared.ask.NodeRefusal.{NodeRefusal};
-ghost use Rattle.tq_asks.specs.declared.ask.NodeReply.{NodeReply};
-ghost use Rattle.tq_asks.specs.declared.ask.Verdict.{Verdict};
-ghost use Rattle.tq_asks.specs.declared.ask.WorkAsk.{WorkAsk};
-ghost use Rattle.tq_written.specs.Nodes.{copy_value, node_ask_value, node_refusal_value, node_reply_value, verdict_value, work_value};
+ghost use Rattle.tq_written.specs.Nodes.{node_ask_value};
 ghost use Rattle.tq_written.specs.Fitting.{IsFitting};
-ghost use Rattle.tq_written.specs.Sound.{IsContent, IsFile, IsHeldLock, IsWork, IsWrite};
-ghost use Rattle.tq_written.specs.Written.{Adds, spelled};
+ghost use Rattle.tq_written.specs.Sound.{IsWork};
+ghost use Rattle.tq_written.specs.Written.{Adds};
 
-use crate::formed::{
-    Formed, close_kind, close_member, open_kind, open_member, put_code, put_kind, put_member,
-    put_only_kind,
-};
-use json::Writer;
-use std::alloc::Global;
+use crate::formed::{Formed, put_after, put_code};
+use crate::text::Text;
 use tq_asks::{CitedVote, HeldLock, NodeAsk, NodeRefusal, NodeReply, Verdict, WorkAsk};
-use tq_locks::Mode;
-use tq_shape::{Memory, SharedSeq};
-use tq_store::{Content, FileName, Write};
+use tq_shape::Memory;
+use tq_store::Write;
 
 impl Formed for CitedVote {
     ghost use Rattle.tq_written.specs.Nodes.{cited_value};
@@ -30,10 +21,10 @@ impl Formed for CitedVote {
 
     ghost sound = { IsAny };
 
-    fn put(&self, alloc: Global, out: &mut Writer<Global>) -> Result<(), Memory> {
-        open_member(alloc, out, "number", &self.number)?;
-        close_member(alloc, out, "server", &self.server)?;
-        Ok(())
+    fn put(&self, out: &mut Text) -> Result<(), Memory> {
+        put_after(out, "{\"number\":", &self.number)?;
+        put_after(out, ",\"server\":", &self.server)?;
+        out.push("}")
     }
 }
 
@@ -45,11 +36,11 @@ impl Formed for Write {
 
     ghost sound = { IsWrite };
 
-    fn put(&self, alloc: Global, out: &mut Writer<Global>) -> Result<(), Memory> {
-        open_member(alloc, out, "content", &self.content)?;
-        put_member(alloc, out, "file", &self.file)?;
-        close_member(alloc, out, "version", &self.version)?;
-        Ok(())
+    fn put(&self, out: &mut Text) -> Result<(), Memory> {
+        put_after(out, "{\"content\":", &self.content)?;
+        put_after(out, ",\"file\":", &self.file)?;
+        put_after(out, ",\"version\":", &self.version)?;
+        out.push("}")
     }
 }
 
@@ -61,25 +52,12 @@ impl Formed for HeldLock {
 
     ghost sound = { IsHeldLock };
 
-    fn put(&self, alloc: Global, out: &mut Writer<Global>) -> Result<(), Memory> {
-        open_member(alloc, out, "file", &self.file)?;
-        put_member(alloc, out, "mode", &self.mode)?;
-        close_member(alloc, out, "since", &self.since)?;
-        Ok(())
+    fn put(&self, out: &mut Text) -> Result<(), Memory> {
+        put_after(out, "{\"file\":", &self.file)?;
+        put_after(out, ",\"mode\":", &self.mode)?;
+        put_after(out, ",\"since\":", &self.since)?;
+        out.push("}")
     }
-}
-
-fn put_commit(
-    alloc: Global,
-    out: &mut Writer<Global>,
-    votes: &SharedSeq<CitedVote>,
-) -> Result<(), Memory>
-    ensures adds { Adds result out.old out.new (spelled (verdict_value (Verdict.Commit votes.now))) }
-    ensures fits { OnOk result (IsFitting (verdict_value (Verdict.Commit votes.now))) }
-{
-    open_kind(out, "commit")?;
-    close_member(alloc, out, "votes", votes)?;
-    Ok(())
 }
 
 impl Formed for Verdict {
@@ -90,102 +68,15 @@ impl Formed for Verdict {
 
     ghost sound = { IsAny };
 
-    fn put(&self, alloc: Global, out: &mut Writer<Global>) -> Result<(), Memory> {
+    fn put(&self, out: &mut Text) -> Result<(), Memory> {
         match self {
-            Verdict::Abort => put_only_kind(out, "abort"),
-            Verdict::Commit { votes } => put_commit(alloc, out, votes),
+            Verdict::Abort => out.push("{\"is\":\"abort\"}"),
+            Verdict::Commit { votes } => {
+                put_after(out, "{\"is\":\"commit\",\"votes\":", votes)?;
+                out.push("}")
+            }
         }
     }
-}
-
-fn put_lock(
-    alloc: Global,
-    out: &mut Writer<Global>,
-    txn: u64,
-    file: &FileName,
-    mode: Mode,
-) -> Result<(), Memory>
-    ensures adds { Adds result out.old out.new (spelled (work_value (WorkAsk.Lock txn file.now mode))) }
-    ensures fits { OnOk result (IsFitting (work_value (WorkAsk.Lock txn file.now mode))) }
-    ensures kept { OnOk result (IsFile file.now) }
-{
-    open_member(alloc, out, "file", file)?;
-    put_kind(out, "lock")?;
-    put_member(alloc, out, "mode", &mode)?;
-    close_member(alloc, out, "txn", &txn)?;
-    Ok(())
-}
-
-fn put_prepare(
-    alloc: Global,
-    out: &mut Writer<Global>,
-    txn: u64,
-    writes: &SharedSeq<Write>,
-) -> Result<(), Memory>
-    ensures adds { Adds result out.old out.new (spelled (work_value (WorkAsk.Prepare txn writes.now))) }
-    ensures fits { OnOk result (IsFitting (work_value (WorkAsk.Prepare txn writes.now))) }
-    ensures kept { OnOk result (AllByRecursion IsWrite writes.now) }
-{
-    open_kind(out, "prepare")?;
-    put_member(alloc, out, "txn", &txn)?;
-    close_member(alloc, out, "writes", writes)?;
-    Ok(())
-}
-
-fn put_decide(
-    alloc: Global,
-    out: &mut Writer<Global>,
-    txn: u64,
-    verdict: &Verdict,
-    cite: u64,
-) -> Result<(), Memory>
-    ensures adds { Adds result out.old out.new (spelled (work_value (WorkAsk.Decide txn verdict.now cite))) }
-    ensures fits { OnOk result (IsFitting (work_value (WorkAsk.Decide txn verdict.now cite))) }
-{
-    open_member(alloc, out, "cite", &cite)?;
-    put_kind(out, "decide")?;
-    put_member(alloc, out, "txn", &txn)?;
-    close_member(alloc, out, "verdict", verdict)?;
-    Ok(())
-}
-
-fn put_release(alloc: Global, out: &mut Writer<Global>, txn: u64) -> Result<(), Memory>
-    ensures adds { Adds result out.old out.new (spelled (work_value (WorkAsk.Release txn))) }
-    ensures fits { OnOk result (IsFitting (work_value (WorkAsk.Release txn))) }
-{
-    open_kind(out, "release")?;
-    close_member(alloc, out, "txn", &txn)?;
-    Ok(())
-}
-
-fn put_peek(alloc: Global, out: &mut Writer<Global>, file: &FileName) -> Result<(), Memory>
-    ensures adds { Adds result out.old out.new (spelled (work_value (WorkAsk.Peek file.now))) }
-    ensures fits { OnOk result (IsFitting (work_value (WorkAsk.Peek file.now))) }
-    ensures kept { OnOk result (IsFile file.now) }
-{
-    open_member(alloc, out, "file", file)?;
-    close_kind(out, "peek")?;
-    Ok(())
-}
-
-fn put_refresh(
-    alloc: Global,
-    out: &mut Writer<Global>,
-    file: &FileName,
-    version: u64,
-    content: &Content,
-    from: &CitedVote,
-) -> Result<(), Memory>
-    ensures adds { Adds result out.old out.new (spelled (work_value (WorkAsk.Refresh file.now version content.now from.now))) }
-    ensures fits { OnOk result (IsFitting (work_value (WorkAsk.Refresh file.now version content.now from.now))) }
-    ensures kept { OnOk result (IsFile file.now × IsContent content.now) }
-{
-    open_member(alloc, out, "content", content)?;
-    put_member(alloc, out, "file", file)?;
-    put_member(alloc, out, "from", from)?;
-    put_kind(out, "refresh")?;
-    close_member(alloc, out, "version", &version)?;
-    Ok(())
 }
 
 impl Formed for WorkAsk {
@@ -196,21 +87,45 @@ impl Formed for WorkAsk {
 
     ghost sound = { IsWork };
 
-    fn put(&self, alloc: Global, out: &mut Writer<Global>) -> Result<(), Memory> {
+    fn put(&self, out: &mut Text) -> Result<(), Memory> {
         match self {
-            WorkAsk::Lock { txn, file, mode } => put_lock(alloc, out, *txn, file, *mode),
-            WorkAsk::Prepare { txn, writes } => put_prepare(alloc, out, *txn, writes),
-            WorkAsk::Decide { txn, verdict, cite } => {
-                put_decide(alloc, out, *txn, verdict, *cite)
+            WorkAsk::Lock { txn, file, mode } => {
+                put_after(out, "{\"file\":", file)?;
+                put_after(out, ",\"is\":\"lock\",\"mode\":", mode)?;
+                put_after(out, ",\"txn\":", txn)?;
+                out.push("}")
             }
-            WorkAsk::Release { txn } => put_release(alloc, out, *txn),
-            WorkAsk::Peek { file } => put_peek(alloc, out, file),
+            WorkAsk::Prepare { txn, writes } => {
+                put_after(out, "{\"is\":\"prepare\",\"txn\":", txn)?;
+                put_after(out, ",\"writes\":", writes)?;
+                out.push("}")
+            }
+            WorkAsk::Decide { txn, verdict, cite } => {
+                put_after(out, "{\"cite\":", cite)?;
+                put_after(out, ",\"is\":\"decide\",\"txn\":", txn)?;
+                put_after(out, ",\"verdict\":", verdict)?;
+                out.push("}")
+            }
+            WorkAsk::Release { txn } => {
+                put_after(out, "{\"is\":\"release\",\"txn\":", txn)?;
+                out.push("}")
+            }
+            WorkAsk::Peek { file } => {
+                put_after(out, "{\"file\":", file)?;
+                out.push(",\"is\":\"peek\"}")
+            }
             WorkAsk::Refresh {
                 file,
                 version,
                 content,
                 from,
-            } => put_refresh(alloc, out, file, *version, content, from),
+            } => {
+                put_after(out, "{\"content\":", content)?;
+                put_after(out, ",\"file\":", file)?;
+                put_after(out, ",\"from\":", from)?;
+                put_after(out, ",\"is\":\"refresh\",\"version\":", version)?;
+                out.push("}")
+            }
         }
     }
 }
@@ -223,52 +138,25 @@ impl Formed for NodeAsk {
 
     ghost sound = { IsNodeAsk };
 
-    fn put(&self, alloc: Global, out: &mut Writer<Global>) -> Result<(), Memory> {
+    fn put(&self, out: &mut Text) -> Result<(), Memory> {
         match self {
-            NodeAsk::Work(work) => work.get().put(alloc, out),
-            NodeAsk::Crash => put_only_kind(out, "crash"),
-            NodeAsk::Return => put_only_kind(out, "return"),
-            NodeAsk::CrashIn { ask, after } => put_stop(alloc, out, ask.get(), *after),
+            NodeAsk::Work(work) => work.get().put(out),
+            NodeAsk::Crash => out.push("{\"is\":\"crash\"}"),
+            NodeAsk::Return => out.push("{\"is\":\"return\"}"),
+            NodeAsk::CrashIn { ask, after } => put_stop(out, ask.get(), *after),
         }
     }
 }
 
 /// A stop in the midst of work.
-fn put_stop(
-    alloc: Global,
-    out: &mut Writer<Global>,
-    ask: &WorkAsk,
-    after: u32,
-) -> Result<(), Memory>
-    ensures adds { Adds result out.old out.new (spelled (node_ask_value (NodeAsk.CrashIn after ask.now))) }
+fn put_stop(out: &mut Text, ask: &WorkAsk, after: u32) -> Result<(), Memory>
+    ensures adds { Adds result out.old out.new (compact_text (node_ask_value (NodeAsk.CrashIn after ask.now))) }
     ensures fits { OnOk result (IsFitting (node_ask_value (NodeAsk.CrashIn after ask.now))) }
     ensures kept { OnOk result (IsWork ask.now × (after ≤ 4294967295)) }
 {
-    open_member(alloc, out, "after", &(after as u64))?;
-    put_member(alloc, out, "ask", ask)?;
-    close_kind(out, "crashin")?;
-    Ok(())
-}
-
-fn put_held(alloc: Global, out: &mut Writer<Global>, by: u64) -> Result<(), Memory>
-    ensures adds { Adds result out.old out.new (spelled (node_refusal_value (NodeRefusal.Held by))) }
-    ensures fits { OnOk result (IsFitting (node_refusal_value (NodeRefusal.Held by))) }
-{
-    open_member(alloc, out, "by", &by)?;
-    put_member(alloc, out, "code", &14u64)?;
-    close_kind(out, "refused")?;
-    Ok(())
-}
-
-fn put_not_locked(alloc: Global, out: &mut Writer<Global>, file: &FileName) -> Result<(), Memory>
-    ensures adds { Adds result out.old out.new (spelled (node_refusal_value (NodeRefusal.NotLocked file.now))) }
-    ensures fits { OnOk result (IsFitting (node_refusal_value (NodeRefusal.NotLocked file.now))) }
-    ensures kept { OnOk result (IsFile file.now) }
-{
-    open_member(alloc, out, "code", &16u64)?;
-    put_member(alloc, out, "file", file)?;
-    close_kind(out, "refused")?;
-    Ok(())
+    put_after(out, "{\"after\":", &after)?;
+    put_after(out, ",\"ask\":", ask)?;
+    out.push(",\"is\":\"crashin\"}")
 }
 
 impl Formed for NodeRefusal {
@@ -279,53 +167,27 @@ impl Formed for NodeRefusal {
 
     ghost sound = { IsNodeRefusal };
 
-    fn put(&self, alloc: Global, out: &mut Writer<Global>) -> Result<(), Memory> {
+    fn put(&self, out: &mut Text) -> Result<(), Memory> {
         match self {
-            NodeRefusal::Down => put_code(alloc, out, 11),
-            NodeRefusal::AlreadyUp => put_code(alloc, out, 12),
-            NodeRefusal::AlreadyDown => put_code(alloc, out, 13),
-            NodeRefusal::Held { by } => put_held(alloc, out, *by),
-            NodeRefusal::Prepared => put_code(alloc, out, 15),
-            NodeRefusal::NotLocked { file } => put_not_locked(alloc, out, file),
-            NodeRefusal::BadWrites => put_code(alloc, out, 17),
-            NodeRefusal::NotNewer => put_code(alloc, out, 18),
-            NodeRefusal::NothingHere => put_code(alloc, out, 19),
+            NodeRefusal::Down => put_code(out, 11),
+            NodeRefusal::AlreadyUp => put_code(out, 12),
+            NodeRefusal::AlreadyDown => put_code(out, 13),
+            NodeRefusal::Held { by } => {
+                put_after(out, "{\"by\":", by)?;
+                put_after(out, ",\"code\":", &14u64)?;
+                out.push(",\"is\":\"refused\"}")
+            }
+            NodeRefusal::Prepared => put_code(out, 15),
+            NodeRefusal::NotLocked { file } => {
+                put_after(out, "{\"code\":", &16u64)?;
+                put_after(out, ",\"file\":", file)?;
+                out.push(",\"is\":\"refused\"}")
+            }
+            NodeRefusal::BadWrites => put_code(out, 17),
+            NodeRefusal::NotNewer => put_code(out, 18),
+            NodeRefusal::NothingHere => put_code(out, 19),
         }
     }
-}
-
-/// A copy that is told, in a reply of that kind.
-fn put_copy(
-    alloc: Global,
-    out: &mut Writer<Global>,
-    kind: &str,
-    version: u64,
-    content: &Content,
-) -> Result<(), Memory>
-    ensures adds { Adds result out.old out.new (spelled (copy_value kind.now version content.now)) }
-    ensures fits { OnOk result (IsFitting (copy_value kind.now version content.now)) }
-    ensures kept { OnOk result (IsContent content.now) }
-{
-    open_member(alloc, out, "content", content)?;
-    put_kind(out, kind)?;
-    close_member(alloc, out, "version", &version)?;
-    Ok(())
-}
-
-fn put_yes(
-    alloc: Global,
-    out: &mut Writer<Global>,
-    held: &SharedSeq<HeldLock>,
-    writes: &SharedSeq<Write>,
-) -> Result<(), Memory>
-    ensures adds { Adds result out.old out.new (spelled (node_reply_value (NodeReply.Yes held.now writes.now))) }
-    ensures fits { OnOk result (IsFitting (node_reply_value (NodeReply.Yes held.now writes.now))) }
-    ensures kept { OnOk result (AllByRecursion IsHeldLock held.now × AllByRecursion IsWrite writes.now) }
-{
-    open_member(alloc, out, "held", held)?;
-    put_kind(out, "yes")?;
-    close_member(alloc, out, "writes", writes)?;
-    Ok(())
 }
 
 impl Formed for NodeReply {
@@ -336,22 +198,30 @@ impl Formed for NodeReply {
 
     ghost sound = { IsNodeReply };
 
-    fn put(&self, alloc: Global, out: &mut Writer<Global>) -> Result<(), Memory> {
+    fn put(&self, out: &mut Text) -> Result<(), Memory> {
         match self {
             NodeReply::Granted { version, content } => {
-                put_copy(alloc, out, "granted", *version, content)
+                put_after(out, "{\"content\":", content)?;
+                put_after(out, ",\"is\":\"granted\",\"version\":", version)?;
+                out.push("}")
             }
-            NodeReply::Yes { held, writes } => put_yes(alloc, out, held, writes),
-            NodeReply::Installed => put_only_kind(out, "installed"),
-            NodeReply::Discarded => put_only_kind(out, "discarded"),
-            NodeReply::Released => put_only_kind(out, "released"),
+            NodeReply::Yes { held, writes } => {
+                put_after(out, "{\"held\":", held)?;
+                put_after(out, ",\"is\":\"yes\",\"writes\":", writes)?;
+                out.push("}")
+            }
+            NodeReply::Installed => out.push("{\"is\":\"installed\"}"),
+            NodeReply::Discarded => out.push("{\"is\":\"discarded\"}"),
+            NodeReply::Released => out.push("{\"is\":\"released\"}"),
             NodeReply::Copy { version, content } => {
-                put_copy(alloc, out, "copy", *version, content)
+                put_after(out, "{\"content\":", content)?;
+                put_after(out, ",\"is\":\"copy\",\"version\":", version)?;
+                out.push("}")
             }
-            NodeReply::Refreshed => put_only_kind(out, "refreshed"),
-            NodeReply::Crashed => put_only_kind(out, "crashed"),
-            NodeReply::Returned => put_only_kind(out, "returned"),
-            NodeReply::Refused(refusal) => refusal.get().put(alloc, out),
+            NodeReply::Refreshed => out.push("{\"is\":\"refreshed\"}"),
+            NodeReply::Crashed => out.push("{\"is\":\"crashed\"}"),
+            NodeReply::Returned => out.push("{\"is\":\"returned\"}"),
+            NodeReply::Refused(refusal) => refusal.get().put(out),
         }
     }
 }

@@ -1,12 +1,6 @@
 //! Numbers, flags, texts, lists and entries.
-ghost use Rattle.std.specs.Prelude.{◌≡◌, OnOk};
-ghost use Rattle.hex.specs.Hex.{IsBytes};
-ghost use Rattle.tq_written.specs.Values.{content_value};
-ghost use Rattle.tq_written.specs.Written.{Adds, spelled};
-
-use crate::formed::{Formed, close_member, open_member, put_list};
-use json::Writer;
-use std::alloc::Global;
+use crate::formed::{Formed, put_after, put_list};
+use crate::text::Text;
 use tq_live::Purpose;
 use tq_locks::Mode;
 use tq_shape::{Entry, Memory, Seq, ServerId, SharedSeq};
@@ -20,9 +14,8 @@ impl Formed for u64 {
 
     ghost sound = { IsAny };
 
-    fn put(&self, _alloc: Global, out: &mut Writer<Global>) -> Result<(), Memory> {
-        out.u64(*self)?;
-        Ok(())
+    fn put(&self, out: &mut Text) -> Result<(), Memory> {
+        out.push_number(*self)
     }
 }
 
@@ -34,9 +27,8 @@ impl Formed for u32 {
 
     ghost sound = { IsAny };
 
-    fn put(&self, _alloc: Global, out: &mut Writer<Global>) -> Result<(), Memory> {
-        out.u64(u64::from(*self))?;
-        Ok(())
+    fn put(&self, out: &mut Text) -> Result<(), Memory> {
+        out.push_number(u64::from(*self))
     }
 }
 
@@ -48,9 +40,11 @@ impl Formed for bool {
 
     ghost sound = { IsAny };
 
-    fn put(&self, _alloc: Global, out: &mut Writer<Global>) -> Result<(), Memory> {
-        out.boolean(*self)?;
-        Ok(())
+    fn put(&self, out: &mut Text) -> Result<(), Memory> {
+        match *self {
+            true => out.push("true"),
+            false => out.push("false"),
+        }
     }
 }
 
@@ -62,9 +56,8 @@ impl Formed for ServerId {
 
     ghost sound = { IsAny };
 
-    fn put(&self, _alloc: Global, out: &mut Writer<Global>) -> Result<(), Memory> {
-        out.u64(self.number())?;
-        Ok(())
+    fn put(&self, out: &mut Text) -> Result<(), Memory> {
+        out.push_number(self.number())
     }
 }
 
@@ -76,9 +69,8 @@ impl Formed for FileName {
 
     ghost sound = { IsFile };
 
-    fn put(&self, _alloc: Global, out: &mut Writer<Global>) -> Result<(), Memory> {
-        out.string(self.as_str())?;
-        Ok(())
+    fn put(&self, out: &mut Text) -> Result<(), Memory> {
+        out.push_name(self)
     }
 }
 
@@ -90,9 +82,11 @@ impl Formed for Mode {
 
     ghost sound = { IsAny };
 
-    fn put(&self, _alloc: Global, out: &mut Writer<Global>) -> Result<(), Memory> {
-        out.string(self.word())?;
-        Ok(())
+    fn put(&self, out: &mut Text) -> Result<(), Memory> {
+        match self {
+            Mode::Shared => out.push("\"shared\""),
+            Mode::Exclusive => out.push("\"exclusive\""),
+        }
     }
 }
 
@@ -104,20 +98,12 @@ impl Formed for Purpose {
 
     ghost sound = { IsAny };
 
-    fn put(&self, _alloc: Global, out: &mut Writer<Global>) -> Result<(), Memory> {
-        out.string(self.word())?;
-        Ok(())
+    fn put(&self, out: &mut Text) -> Result<(), Memory> {
+        match self {
+            Purpose::Read => out.push("\"read\""),
+            Purpose::Write => out.push("\"write\""),
+        }
     }
-}
-
-/// The bytes of a content as hexadecimal text.
-fn put_bytes(alloc: Global, out: &mut Writer<Global>, bytes: &[u8]) -> Result<(), Memory>
-    ensures adds { Adds result out.old out.new (spelled (content_value bytes.now)) }
-    ensures kept { OnOk result (IsBytes bytes.now) }
-{
-    let text = hex::encode(alloc, bytes)?;
-    out.string(text.as_str())?;
-    Ok(())
 }
 
 impl Formed for Content {
@@ -128,9 +114,8 @@ impl Formed for Content {
 
     ghost sound = { IsContent };
 
-    fn put(&self, alloc: Global, out: &mut Writer<Global>) -> Result<(), Memory> {
-        put_bytes(alloc, out, self.as_bytes())?;
-        Ok(())
+    fn put(&self, out: &mut Text) -> Result<(), Memory> {
+        out.push_content(self.as_bytes())
     }
 }
 
@@ -142,8 +127,8 @@ impl<T: Formed> Formed for Seq<T> {
 
     ghost sound = { AllByRecursion T.sound };
 
-    fn put(&self, alloc: Global, out: &mut Writer<Global>) -> Result<(), Memory> {
-        put_list(alloc, out, self.as_slice())
+    fn put(&self, out: &mut Text) -> Result<(), Memory> {
+        put_list(out, self.as_slice())
     }
 }
 
@@ -155,8 +140,8 @@ impl<T: Formed> Formed for SharedSeq<T> {
 
     ghost sound = { AllByRecursion T.sound };
 
-    fn put(&self, alloc: Global, out: &mut Writer<Global>) -> Result<(), Memory> {
-        put_list(alloc, out, self.as_slice())
+    fn put(&self, out: &mut Text) -> Result<(), Memory> {
+        put_list(out, self.as_slice())
     }
 }
 
@@ -168,8 +153,8 @@ impl<T: Formed> Formed for Vec<T> {
 
     ghost sound = { λ list. AllByRecursion T.sound list.items };
 
-    fn put(&self, alloc: Global, out: &mut Writer<Global>) -> Result<(), Memory> {
-        put_list(alloc, out, self.as_slice())
+    fn put(&self, out: &mut Text) -> Result<(), Memory> {
+        put_list(out, self.as_slice())
     }
 }
 
@@ -181,9 +166,9 @@ impl<A: Formed, R: Formed> Formed for Entry<A, R> {
 
     ghost sound = { IsEntry A.sound R.sound };
 
-    fn put(&self, alloc: Global, out: &mut Writer<Global>) -> Result<(), Memory> {
-        open_member(alloc, out, "ask", &self.ask)?;
-        close_member(alloc, out, "reply", &self.reply)?;
-        Ok(())
+    fn put(&self, out: &mut Text) -> Result<(), Memory> {
+        put_after(out, "{\"ask\":", &self.ask)?;
+        put_after(out, ",\"reply\":", &self.reply)?;
+        out.push("}")
     }
 }

@@ -1,7 +1,6 @@
-use Rattle.std.proofs.Common.{◌≡◌, ◌++◌, drop}
+use Rattle.std.proofs.Common.{◌≡◌, ◌++◌, false, drop}
 use Rattle.std.specs.List.{AllByRecursion}
-use Rattle.json.specs.Tree.{items_tokens}
-use Rattle.serde_json.specs.Written.{items_outline}
+use Rattle.serde_json.specs.Written.{items_text}
 use Rattle.tq_written.specs.Values.{listed}
 use Rattle.tq_written.specs.Fitting.{AreFitting}
 use Rattle.tq_written.proofs.formed.put_list.Given as goal
@@ -9,4 +8,4 @@ use Rattle.tq_written.proofs.formed.put_list.Given as goal
 -- the items that are left, with the closing bracket, stand after what is written so far; where they fit, all do, and
 -- what the type keeps of them it keeps of all
 abbrev pub invariant-loop-item : goal.invariant-loop-item
-invariant-loop-item g l = (l.out.tokens ++ items_tokens (items_outline (listed g.T.Formed.value (drop l.item-index l.items))) ≡ l.initial.out.tokens ++ items_tokens (items_outline (listed g.T.Formed.value l.items))) × (l.out.before ≡ l.initial.out.before) × (AreFitting (listed g.T.Formed.value (drop l.item-index l.items)) → AreFitting (listed g.T.Formed.value l.items)) × (AllByRecursion g.T.Formed.sound (drop l.item-index l.items) → AllByRecursion g.T.Formed.sound l.items)
+invariant-loop-item g l = (l.out ++ items_text l.later (listed g.T.Formed.value (drop l.item-index l.items)) ≡ l.initial.out ++ items_text false (listed g.T.Formed.value l.items)) × (AreFitting (listed g.T.Formed.value (drop l.item-index l.items)) → AreFitting (listed g.T.Formed.value l.items)) × (AllByRecursion g.T.Formed.sound (drop l.item-index l.items) → AllByRecursion g.T.Formed.sound l.items)

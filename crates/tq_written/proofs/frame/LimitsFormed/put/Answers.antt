@@ -1,9 +1,11 @@
-use Rattle.tq_written.proofs.Chained.{added}
+use Rattle.json.specs.Print.{escape_byte}
+use Rattle.tq_written.proofs.Chained.{behind}
 use Rattle.tq_written.proofs.frame.LimitsFormed.put.Goals as goal
 
 pub returns-clause-adds : goal.returns-clause-adds
+unfolding escape_byte
 returns-clause-adds c =
-    let entries = rw c.entries.ensures.value at c.in_ok-open_member.ensures.adds in
-    let files = rw c.files.ensures.value at c.in_ok-put_member.ensures.adds in
-    let ops = rw c.ops.ensures.value at c.in_ok-close_member.ensures.adds in
-    added entries (added files ops)
+    let entries = rw c.entries.ensures.value at c.in_ok-put_after.ensures.adds in
+    let files = rw c.files.ensures.value at c.in_ok-put_after-2.ensures.adds in
+    let ops = rw c.ops.ensures.value at c.in_ok-put_after-3.ensures.adds in
+    behind c.push.result _ _ entries (behind c.push.result _ _ files (behind c.push.result _ _ ops c.push.ensures))

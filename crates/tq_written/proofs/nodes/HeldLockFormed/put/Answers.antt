@@ -1,6 +1,7 @@
-use Rattle.tq_written.proofs.Chained.{added}
+use Rattle.json.specs.Print.{escape_byte}
+use Rattle.tq_written.proofs.Chained.{behind}
 use Rattle.tq_written.proofs.nodes.HeldLockFormed.put.Goals as goal
 
 pub returns-clause-adds : goal.returns-clause-adds
-returns-clause-adds c =
-    added c.in_ok-open_member.ensures.adds (added c.in_ok-put_member.ensures.adds c.in_ok-close_member.ensures.adds)
+unfolding escape_byte
+returns-clause-adds c = behind c.push.result _ _ c.in_ok-put_after.ensures.adds (behind c.push.result _ _ c.in_ok-put_after-2.ensures.adds (behind c.push.result _ _ c.in_ok-put_after-3.ensures.adds c.push.ensures))

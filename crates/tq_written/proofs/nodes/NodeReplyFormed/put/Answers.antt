@@ -1,31 +1,39 @@
+use Rattle.json.specs.Print.{escape_byte}
+use Rattle.tq_written.proofs.Chained.{behind}
 use Rattle.tq_written.proofs.nodes.NodeReplyFormed.put.Goals as goal
 
-pub returns-in-Granted-clause-adds : goal.returns-in-Granted-clause-adds
-returns-in-Granted-clause-adds c = rw c.in-Granted.is c.put_copy.ensures.adds
+pub returns-in_ok-put_after-in-Granted-2-clause-adds : goal.returns-in_ok-put_after-in-Granted-2-clause-adds
+unfolding escape_byte
+returns-in_ok-put_after-in-Granted-2-clause-adds c = rw c.in-Granted.is (behind c.push.result _ _ c.in_ok-put_after-in-Granted.ensures.adds (behind c.push.result _ _ c.in_ok-put_after-in-Granted-2.ensures.adds c.push.ensures))
 
-pub returns-in-Granted-clause-fits : goal.returns-in-Granted-clause-fits
-returns-in-Granted-clause-fits c = rw c.in-Granted.is c.put_copy.ensures.fits
+pub returns-in_ok-put_after-in-Yes-2-clause-adds : goal.returns-in_ok-put_after-in-Yes-2-clause-adds
+unfolding escape_byte
+returns-in_ok-put_after-in-Yes-2-clause-adds c = rw c.in-Yes.is (behind c.push-in-Yes.result _ _ c.in_ok-put_after-in-Yes.ensures.adds (behind c.push-in-Yes.result _ _ c.in_ok-put_after-in-Yes-2.ensures.adds c.push-in-Yes.ensures))
 
 pub returns-in-Installed-clause-adds : goal.returns-in-Installed-clause-adds
-returns-in-Installed-clause-adds c = rw c.in-Installed.is c.put_only_kind.ensures.adds
-
-pub returns-in-Installed-clause-fits : goal.returns-in-Installed-clause-fits
-returns-in-Installed-clause-fits c = rw c.in-Installed.is c.put_only_kind.ensures.fits
+unfolding escape_byte
+returns-in-Installed-clause-adds c = rw c.in-Installed.is c.push-in-Installed.ensures
 
 pub returns-in-Discarded-clause-adds : goal.returns-in-Discarded-clause-adds
-returns-in-Discarded-clause-adds c = rw c.in-Discarded.is c.put_only_kind-in-Discarded.ensures.adds
-
-pub returns-in-Discarded-clause-fits : goal.returns-in-Discarded-clause-fits
-returns-in-Discarded-clause-fits c = rw c.in-Discarded.is c.put_only_kind-in-Discarded.ensures.fits
+unfolding escape_byte
+returns-in-Discarded-clause-adds c = rw c.in-Discarded.is c.push-in-Discarded.ensures
 
 pub returns-in-Released-clause-adds : goal.returns-in-Released-clause-adds
-returns-in-Released-clause-adds c = rw c.in-Released.is c.put_only_kind-in-Released.ensures.adds
+unfolding escape_byte
+returns-in-Released-clause-adds c = rw c.in-Released.is c.push-in-Released.ensures
 
-pub returns-in-Released-clause-fits : goal.returns-in-Released-clause-fits
-returns-in-Released-clause-fits c = rw c.in-Released.is c.put_only_kind-in-Released.ensures.fits
+pub returns-in_ok-put_after-in-Copy-2-clause-adds : goal.returns-in_ok-put_after-in-Copy-2-clause-adds
+unfolding escape_byte
+returns-in_ok-put_after-in-Copy-2-clause-adds c = rw c.in-Copy.is (behind c.push-in-Copy.result _ _ c.in_ok-put_after-in-Copy.ensures.adds (behind c.push-in-Copy.result _ _ c.in_ok-put_after-in-Copy-2.ensures.adds c.push-in-Copy.ensures))
+
+pub returns-in-Refreshed-clause-adds : goal.returns-in-Refreshed-clause-adds
+unfolding escape_byte
+returns-in-Refreshed-clause-adds c = rw c.in-Refreshed.is c.push-in-Refreshed.ensures
+
+pub returns-in-Crashed-clause-adds : goal.returns-in-Crashed-clause-adds
+unfolding escape_byte
+returns-in-Crashed-clause-adds c = rw c.in-Crashed.is c.push-in-Crashed.ensures
 
 pub returns-in-Returned-clause-adds : goal.returns-in-Returned-clause-adds
-returns-in-Returned-clause-adds c = rw c.in-Returned.is c.put_only_kind-in-Returned.ensures.adds
-
-pub returns-in-Returned-clause-fits : goal.returns-in-Returned-clause-fits
-returns-in-Returned-clause-fits c = rw c.in-Returned.is c.put_only_kind-in-Returned.ensures.fits
+unfolding escape_byte
+returns-in-Returned-clause-adds c = rw c.in-Returned.is c.push-in-Returned.ensures

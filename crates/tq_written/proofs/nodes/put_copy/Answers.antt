@@ -1,6 +1,0 @@
-use Rattle.tq_written.proofs.Chained.{added}
-use Rattle.tq_written.proofs.nodes.put_copy.Goals as goal
-
-pub returns-clause-adds : goal.returns-clause-adds
-returns-clause-adds c =
-    added c.in_ok-open_member.ensures.adds (added c.in_ok-put_kind.ensures c.in_ok-close_member.ensures.adds)

@@ -1,6 +1,0 @@
-use Rattle.tq_written.proofs.Chained.{added}
-use Rattle.tq_written.proofs.nodes.put_peek.Goals as goal
-
-pub returns-clause-adds : goal.returns-clause-adds
-returns-clause-adds c =
-    added c.in_ok-open_member.ensures.adds c.in_ok-close_kind.ensures
