@@ -47,6 +47,13 @@ Begins (AsksNode server ask next) told = (told ≡ []) ⊎ ((answer : Told NodeR
 Begins (AsksDesk ask next) told = (told ≡ []) ⊎ ((answer : Told DeskReply) × (rest : List Exchange) × (told ≡ exchanges.Desk ask answer ∷ rest) × Begins (next answer) rest)
 Begins (AsksView ask next) told = (told ≡ []) ⊎ ((answer : Told ViewReply) × (rest : List Exchange) × (told ≡ exchanges.View ask answer ∷ rest) × Begins (next answer) rest)
 
+-- the line breaks off behind these asks, with these answers: a further ask of it was still to come
+abbrev pub BreaksOff : {A : Type 0} → Dialogue A → List Exchange → Type 0
+BreaksOff (Ends a) told = ⊥
+BreaksOff (AsksNode server ask next) told = (told ≡ []) ⊎ ((answer : Told NodeReply) × (rest : List Exchange) × (told ≡ exchanges.Node server ask answer ∷ rest) × BreaksOff (next answer) rest)
+BreaksOff (AsksDesk ask next) told = (told ≡ []) ⊎ ((answer : Told DeskReply) × (rest : List Exchange) × (told ≡ exchanges.Desk ask answer ∷ rest) × BreaksOff (next answer) rest)
+BreaksOff (AsksView ask next) told = (told ≡ []) ⊎ ((answer : Told ViewReply) × (rest : List Exchange) × (told ≡ exchanges.View ask answer ∷ rest) × BreaksOff (next answer) rest)
+
 -- what was told grew by the asks of the line, which ended so; where memory ran out, by the first of them
 abbrev pub Follows : {A : Type 0} → Dialogue A → List Exchange → List Exchange → Option A → Type 0
 Follows line old new (Some end) = (more : List Exchange) × (new ≡ old ++ more) × Makes line more end
@@ -93,6 +100,11 @@ ended_by result after = Some (record { answer = result; after = after })
 abbrev pub IsUnasked : {A : Type 0} → Result A LineFault → List Exchange → List Exchange → Type 0
 IsUnasked (Err faults.Memory) old new = new ≡ old
 IsUnasked result old new = Unit {0}
+
+-- where memory ran out a further ask of the line was still to come: behind the last answer nothing fails for want of it
+abbrev pub IsUnended : {A B : Type 0} → Result A LineFault → Dialogue B → List Exchange → List Exchange → Type 0
+IsUnended (Err faults.Memory) line old new = (more : List Exchange) × (new ≡ old ++ more) × BreaksOff line more
+IsUnended result line old new = Unit {0}
 
 -- ---- faults
 
