@@ -90,4 +90,4 @@ returns-in-Err-clause-memory g c =
 pub returns-in-Ok-clause-memory : goal.returns-in-Ok-clause-memory
 returns-in-Ok-clause-memory g c =
     abort_unended c.args.txn c.number-number.result c.number-number.ensures (g.A.Asker.told c.args.asker.now) (g.A.Asker.told c.resolve_and_end.new.asker) (g.A.Asker.told c.desk.new.self) c.in-Ok.told
-    c.resolve_and_end.result.answer c.in-Ok.ensures.exchanges c.in-Ok.ensures.same c.resolve_and_end.ensures.memory
+    c.resolve_and_end.result.answer c.resolve_and_end.result.txn c.in-Ok.ensures.exchanges c.in-Ok.ensures.same c.resolve_and_end.ensures.memory

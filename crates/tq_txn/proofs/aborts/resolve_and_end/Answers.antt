@@ -26,5 +26,5 @@ pub returns-clause-memory : goal.returns-clause-memory
 returns-clause-memory g c =
     let is = c.resolved-txn.ensures ∙ ap (resolved_with c.args.txn c.args.told.number) c.resolution_in-aborts.ensures.verdict ∙ resolved_told c.args.txn c.args.told c.requires.asked in
     let reply = c.args.told.reply in
-    let P : Txn → Type 0 = λ t. IsUnended c.end_where_aborted.result.answer (abort_end reply t) (g.A.Asker.told c.args.asker.now) (g.A.Asker.told c.end_where_aborted.new.asker) in
+    let P : Txn → Type 0 = λ t. IsUnended c.end_where_aborted.result.answer c.end_where_aborted.result.txn (abort_end reply t) (g.A.Asker.told c.args.asker.now) (g.A.Asker.told c.end_where_aborted.new.asker) in
     subst P is (c.end_where_aborted.ensures.memory reply c.resolution_in-aborts.ensures.aborts c.resolution_in-aborts.ensures.answer)

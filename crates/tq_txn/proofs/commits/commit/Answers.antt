@@ -5,7 +5,7 @@ use Rattle.tq_txn.proofs.KnownLaws.{cites_on}
 use Rattle.tq_txn.specs.declared.txn.Txn.TheVariants as states
 use Rattle.tq_txn.specs.Told.{EndsAsTold, EndsWhereTold}
 use Rattle.tq_txn.specs.Commits.{prepares_line, commit_end}
-use Rattle.std.proofs.Common.{ℕ, [], append-nil}
+use Rattle.std.proofs.Common.{[], append-nil}
 use Rattle.tq_txn.proofs.ToldLaws.{grown_along, ends_within}
 use Rattle.std.proofs.Common.{refl, sym, subst, ◌∙◌, Err, ap}
 use Rattle.tq_txn.proofs.KeptVotes.{voted_on_same, gathered_on}
@@ -14,9 +14,7 @@ use Rattle.tq_txn.specs.States.{IsGathered}
 use Rattle.tq_coterie.specs.Coterie.{numbers_of}
 use Rattle.tq_txn.specs.Commits.{commit_line}
 use Rattle.tq_txn.specs.Dialogue.{ended_by}
-use Rattle.std.proofs.Common.{Ok}
-use Rattle.tq_txn.specs.declared.fault.LineFault.TheVariants.{Memory}
-use Rattle.tq_txn.proofs.BreakLaws.{commit_asks, commit_stopped, commit_undecided, commit_unended, unended_first}
+use Rattle.tq_txn.proofs.BreakLaws.{commit_asks, commit_stopped, commit_undecided, commit_unended}
 use Rattle.tq_txn.proofs.CommitLaws.{commit_on, commit_off, decide_on, decide_off}
 use Rattle.tq_txn.proofs.LineLaws.{follows_memory}
 use Rattle.tq_txn.proofs.commits.commit.Goals as goal
@@ -144,9 +142,7 @@ returns-in-Ok-answer-clause-ends g c =
     subst P (sym c.end_committed.ensures.same) (ends_before number now last new txn (ends_after number now mid last txn votes ends) ending)
 
 pub returns-in-Err-clause-memory : goal.returns-in-Err-clause-memory
-returns-in-Err-clause-memory g c =
-    let told = g.A.Asker.told c.args.asker.now in
-    unended_first {A = ℕ} (Err Memory) (commit_line c.args.voting) told told (commit_asks c.args.voting c.voters_of.ensures.exact) refl
+returns-in-Err-clause-memory g c = commit_asks c.args.voting (g.A.Asker.told c.args.asker.now) c.voters_of.ensures.exact
 
 pub returns-in-Err-prepare_each-clause-memory : goal.returns-in-Err-prepare_each-clause-memory
 returns-in-Err-prepare_each-clause-memory g c =
@@ -156,10 +152,10 @@ returns-in-Err-prepare_each-clause-memory g c =
 pub returns-clause-memory : goal.returns-clause-memory
 returns-clause-memory g c =
     commit_undecided c.args.voting c.prepare_each.new.voting c.as_slice.result.now (ap numbers_of c.as_slice.ensures.value ∙ c.in-Ok.ensures.numbers) (g.A.Asker.told c.args.asker.now) (g.A.Asker.told c.prepare_each.new.asker)
-    c.in_default.ensures.asks c.decide-answer.result.answer c.in-Err-answer.fault (g.A.Asker.told c.decide-answer.new.asker) c.in-Err-answer.is c.decide-answer.ensures.memory
+    c.in_default.ensures.asks c.decide-answer.result.answer c.in-Err-answer.fault c.decide-answer.result.txn (g.A.Asker.told c.decide-answer.new.asker) c.in-Err-answer.is c.decide-answer.ensures.memory
 
 pub returns-in-Ok-answer-clause-memory : goal.returns-in-Ok-answer-clause-memory
 returns-in-Ok-answer-clause-memory g c =
     commit_unended c.args.voting c.prepare_each.new.voting c.as_slice.result.now (ap numbers_of c.as_slice.ensures.value ∙ c.in-Ok.ensures.numbers) (g.A.Asker.told c.args.asker.now) (g.A.Asker.told c.prepare_each.new.asker)
-    c.in_default.ensures.asks c.decide-answer.result.answer c.decide-answer.result.txn c.in-Ok-answer.serial c.end_committed.result.answer (g.A.Asker.told c.decide-answer.new.asker) (g.A.Asker.told c.end_committed.new.asker)
+    c.in_default.ensures.asks c.decide-answer.result.answer c.decide-answer.result.txn c.end_committed.result.txn c.in-Ok-answer.serial c.end_committed.result.answer (g.A.Asker.told c.decide-answer.new.asker) (g.A.Asker.told c.end_committed.new.asker)
     c.in-Ok-answer.is c.decide-answer.ensures.asks c.end_committed.ensures.memory

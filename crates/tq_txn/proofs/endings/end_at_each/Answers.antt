@@ -1,8 +1,7 @@
-use Rattle.std.proofs.Common.{Err, refl, sym, ◌∙◌}
+use Rattle.std.proofs.Common.{sym, ◌∙◌}
 use Rattle.tq_coterie.specs.Coterie.{numbers_of}
-use Rattle.tq_txn.specs.declared.fault.LineFault.TheVariants.{Memory}
 use Rattle.tq_txn.specs.Lines.{ending_line}
-use Rattle.tq_txn.proofs.BreakLaws.{ending_asks, unended_first}
+use Rattle.tq_txn.proofs.BreakLaws.{ending_asks}
 use Rattle.tq_txn.proofs.LineLaws.{follows_memory}
 use Rattle.tq_txn.proofs.endings.end_at_each.Goals as goal
 
@@ -12,4 +11,4 @@ returns-in-Err-clause-asks g c = follows_memory (ending_line c.args.ended.now (n
 pub returns-in-Err-clause-memory : goal.returns-in-Err-clause-memory
 returns-in-Err-clause-memory g c =
     let told = g.A.Asker.told c.args.asker.now in
-    unended_first {A = Unit {0}} (Err Memory) (ending_line c.args.ended.now (numbers_of c.args.servers.now)) told told (ending_asks c.args.ended.now c.args.servers.now (sym c.is_empty.ensures ∙ c.if-is_empty.false)) refl
+    ending_asks c.args.ended.now c.args.servers.now told (sym c.is_empty.ensures ∙ c.if-is_empty.false)

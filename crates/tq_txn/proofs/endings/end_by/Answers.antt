@@ -53,6 +53,6 @@ returns-in_err-end_at-clause-memory g c =
     let is = left_from c.args.servers.now c.loop-server.server-index c.server-item.result c.loop-server-test.true c.server-item.is in
     let told = g.A.Asker.told c.end_at.new.asker in
     let fault : Err c.in_err-end_at.field-0.0 ≡ c.from_residual.result = Prim.search (c.from_residual.ensures, rules) in
-    let P : Result (Unit {0}) LineFault → Type 0 = λ result. IsUnended result (ending_line c.args.ended.now (numbers_of c.args.servers.now)) (g.A.Asker.told c.args.asker.now) told in
+    let P : Result (Unit {0}) LineFault → Type 0 = λ result. IsUnended result tt (ending_line c.args.ended.now (numbers_of c.args.servers.now)) (g.A.Asker.told c.args.asker.now) told in
     subst P fault (c.loop-server.invariant.memory (Err c.in_err-end_at.field-0.0) told
     (ending_stopped c.args.ended.now all rest c.server-item.result is c.in_err-end_at.field-0.0 (g.A.Asker.told c.loop-server.asker) told c.in_err-end_at.ensures.memory))

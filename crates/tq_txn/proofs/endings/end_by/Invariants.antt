@@ -17,6 +17,6 @@ invariant-loop-server g l = record {
       → Follows (ending_line l.ended (numbers_of (drop l.server-index l.servers))) (g.A.Asker.told l.asker) after end
       → Follows (ending_line l.ended (numbers_of l.servers)) (g.A.Asker.told l.initial.asker) after end;
   memory : (result : Result (Unit {0}) LineFault) (after : List Exchange)
-      → IsUnended result (ending_line l.ended (numbers_of (drop l.server-index l.servers))) (g.A.Asker.told l.asker) after
-      → IsUnended result (ending_line l.ended (numbers_of l.servers)) (g.A.Asker.told l.initial.asker) after;
+      → IsUnended result tt (ending_line l.ended (numbers_of (drop l.server-index l.servers))) (g.A.Asker.told l.asker) after
+      → IsUnended result tt (ending_line l.ended (numbers_of l.servers)) (g.A.Asker.told l.initial.asker) after;
 }
