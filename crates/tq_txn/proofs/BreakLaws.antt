@@ -47,7 +47,7 @@ use Rattle.tq_txn.proofs.CommitLaws.{missing, there}
 use Rattle.tq_txn.proofs.LineLaws.{follows_end, follows_on, refused_desk, refused_node, refused_view, stopped, told_desk}
 
 -- an ask for which there was no room in the part's journal
-abbrev full : AskFault
+abbrev pub full : AskFault
 full = ask_faults.JournalFull parts.Desk
 
 -- ---- a line whose further asks are not taken comes to an end
@@ -178,7 +178,7 @@ ending_last ended numbers answer after fault told new is = tt
 
 -- ---- votes
 
-node_fails : {B T : Type 0} (server : ℕ) (ask : NodeAsk) (left : Unit {0} → T) (next : NodeTold → Unit {0} → Dialogue (LineEnd B T)) (told : List Exchange) → IsUnfailed {A = B} (Err faults.Memory) (left tt) (and_then (node_line server ask) left next) told told
+pub node_fails : {B T : Type 0} (server : ℕ) (ask : NodeAsk) (left : Unit {0} → T) (next : NodeTold → Unit {0} → Dialogue (LineEnd B T)) (told : List Exchange) → IsUnfailed {A = B} (Err faults.Memory) (left tt) (and_then (node_line server ask) left next) told told
 node_fails server ask left next told =
     let first = exchanges.Node server ask (Err full) in
     (fault_of_ask full, fails (node_line server ask) left next (fault_of_ask full) tt told told (first, [], refl, refused_node server ask full told (told ++ first ∷ []) refl))

@@ -10,3 +10,4 @@ pub mod Deskless
 pub mod CommitLaws
 pub mod AbortLaws
 pub mod BreakLaws
+pub mod LockBreaks
