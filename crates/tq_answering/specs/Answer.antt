@@ -1,5 +1,5 @@
 -- What the shell stands on, and what it answers to a line.
-use Rattle.std.specs.Prelude.{ℕ, List}
+use Rattle.std.specs.Prelude.{◌≡◌, ◌⊎◌, ℕ, List}
 use Rattle.tq_tables.specs.Journals.{JournalsView}
 use Rattle.tq_world.specs.World.{empty_world}
 use Rattle.tq_txn.specs.declared.asker.Exchange.{Exchange}
@@ -30,3 +30,7 @@ answered ran = record { text = ran.end.text; exchanges = ran.exchanges; after = 
 -- the asks of the line, by the journals before it and by what is known, answered by the service
 abbrev pub answer : World → Line → Answer
 answer world line = answered (run_line world.journals (asked world.journals world.known line))
+
+-- the world stands before the line, or behind it: what was told of its asks stands in it
+abbrev pub IsWhole : World → Line → World → Type 0
+IsWhole world line after = (after ≡ world) ⊎ (after ≡ (answer world line).after)

@@ -1,4 +1,4 @@
-ghost use Rattle.std.specs.Prelude.{◌≡◌, ◌++◌, ◌<◌, ◌+◌, [], false, length, None, IfOk, OnOk, OnErr, IfSome, IsNone};
+ghost use Rattle.std.specs.Prelude.{◌≡◌, ◌++◌, ◌<◌, ◌+◌, [], false, length, None, IfOk, OnOk, OnErr, IfSome, IsNone, vec_len, vec_capacity};
 ghost use Rattle.tq_txn.specs.Dialogue.{line_result};
 ghost use Rattle.tq_txn.specs.States.{levels_of};
 ghost use Rattle.std.specs.Fmt.{decimal};
@@ -50,7 +50,7 @@ impl Model for Shell {
 impl Shell {
     ghost use Rattle.std.specs.Prelude.{◌≡◌, ◌++◌, IfOk, OnOk, OnErr};
     ghost use Rattle.tq_world.specs.World.{item_at};
-    ghost use Rattle.tq_answering.specs.Answer.{opening, answer, answered};
+    ghost use Rattle.tq_answering.specs.Answer.{opening, answer, answered, IsWhole};
     ghost use Rattle.tq_answering.specs.Possible.{IsSaidOf};
     ghost use Rattle.tq_answering.specs.Asking.{run_line};
     ghost use Rattle.tq_print.specs.Print.{Extends};
@@ -82,6 +82,7 @@ impl Shell {
         ensures text { OnOk result (text.new.items ≡ text.old.items ++ (answer self.old line).text) }
         ensures after { OnOk result (self.new ≡ (answer self.old line).after) }
         ensures possible { OnOk result (IsSaidOf line text.old.items text.new.items) }
+        ensures begun { OnErr result (line ≡ Line.Begin → IsWhole self.old line self.new) }
         ensures kept { OnErr result (Extends text.old.items text.new.items) }
     {
         let _ = &self.recorder;
@@ -92,6 +93,7 @@ impl Shell {
     fn answer_line(&mut self, alloc: Global, line: Line, text: &mut Vec<u8>) -> Result<(), Memory>
         ensures text { OnOk result (text.new.items ≡ text.old.items ++ (answer self.old line).text) }
         ensures after { OnOk result (self.new ≡ (answer self.old line).after) }
+        ensures begun { OnErr result (line ≡ Line.Begin → IsWhole self.old line self.new) }
         ensures kept { OnErr result (Extends text.old.items text.new.items) }
     {
         match line {
@@ -211,56 +213,20 @@ impl Shell {
         Ok(())
     }
 
+    /// Begins a transaction. Room for it is made before the desk is asked, so that one whose number was told is kept.
     fn begin(&mut self, alloc: Global, text: &mut Vec<u8>) -> Result<(), Memory>
         ensures text { OnOk result (text.new.items ≡ text.old.items ++ (answer self.old Line.Begin).text) }
         ensures after { OnOk result (self.new ≡ (answer self.old Line.Begin).after) }
+        ensures whole { OnErr result (IsWhole self.old Line.Begin self.new) }
         ensures kept { OnErr result (Extends text.old.items text.new.items) }
     {
+        self.txns.reserve(1)?;
         self.recorder.replayed();
         let answer = self.recorder.desk(alloc, DeskAsk::Begin);
         self.recorder.replayed();
-        self.begin_end(alloc, answer, text)?;
+        let (levels, limits) = (self.levels, self.limits);
+        begin_end(&mut self.txns, alloc, levels, limits, answer, text)?;
         Ok(())
-    }
-
-    fn begin_end(
-        &mut self,
-        alloc: Global,
-        answer: Result<DeskTold, AskFault>,
-        text: &mut Vec<u8>,
-    ) -> Result<(), Memory>
-        ensures text { OnOk result (text.new.items ≡ text.old.items ++ (asked.begin_end self.old.known (line_result answer)).text) }
-        ensures known { OnOk result (self.new.known ≡ (asked.begin_end self.old.known (line_result answer)).known) }
-        ensures journals { self.new.journals ≡ self.old.journals }
-        ensures memory { OnOk result (said.is_refused_memory (line_result answer) ≡ false) }
-        ensures kept { OnErr result (Extends text.old.items text.new.items) }
-    {
-        match answer {
-            Ok(told) => self.begun(alloc, told.reply, text)?,
-            Err(fault) => say_fault(text, &[], LineFault::from(fault))?,
-        }
-        Ok(())
-    }
-
-    /// Keeps the transaction that the desk began.
-    fn begun(&mut self, alloc: Global, reply: DeskReply, text: &mut Vec<u8>) -> Result<(), Memory>
-        ensures text { OnOk result (text.new.items ≡ text.old.items ++ (asked.begun self.old.known reply).text) }
-        ensures known { OnOk result (self.new.known ≡ (asked.begun self.old.known reply).known) }
-        ensures journals { self.new.journals ≡ self.old.journals }
-        ensures kept { OnErr result (Extends text.old.items text.new.items) }
-    {
-        match reply {
-            DeskReply::Txn(number) => {
-                self.txns
-                    .push(fresh(alloc, self.levels, self.limits, number))?;
-                say_number(text, b"begun ", number)
-            }
-            DeskReply::Refused(refusal) => {
-                push_desk_refusal(text, &refusal)?;
-                say_line(text, b"")
-            }
-            _ => say_line(text, b"bad answer"),
-        }
     }
 
     fn refresh(&mut self, alloc: Global, text: &mut Vec<u8>) -> Result<(), Memory>
@@ -310,6 +276,56 @@ impl Shell {
         let kept = &mut self.txns[place];
         answer_txn(&mut self.recorder, alloc, levels, number, kept, line, text)?;
         Ok(())
+    }
+}
+
+/// Keeps the transaction that the desk began in a list that has room for it, and puts the answer behind the text. Memory is
+/// taken for the text alone.
+fn begin_end(
+    txns: &mut Vec<Kept>,
+    alloc: Global,
+    levels: Levels,
+    limits: Limits,
+    answer: Result<DeskTold, AskFault>,
+    text: &mut Vec<u8>,
+) -> Result<(), Memory>
+    requires { vec_len txns.old < vec_capacity txns.old }
+    ensures text { OnOk result (text.new.items ≡ text.old.items ++ (asked.begin_end (record { levels = levels; limits = limits; txns = txns.old.items }) (line_result answer)).text) }
+    ensures known { (asked.begin_end (record { levels = levels; limits = limits; txns = txns.old.items }) (line_result answer)).known ≡ record { levels = levels; limits = limits; txns = txns.new.items } }
+    ensures memory { OnOk result (said.is_refused_memory (line_result answer) ≡ false) }
+    ensures kept { OnErr result (Extends text.old.items text.new.items) }
+{
+    match answer {
+        Ok(told) => begun(txns, alloc, levels, limits, told.reply, text)?,
+        Err(fault) => say_fault(text, &[], LineFault::from(fault))?,
+    }
+    Ok(())
+}
+
+/// The same for the desk's answer.
+fn begun(
+    txns: &mut Vec<Kept>,
+    alloc: Global,
+    levels: Levels,
+    limits: Limits,
+    reply: DeskReply,
+    text: &mut Vec<u8>,
+) -> Result<(), Memory>
+    requires { vec_len txns.old < vec_capacity txns.old }
+    ensures text { OnOk result (text.new.items ≡ text.old.items ++ (asked.begun (record { levels = levels; limits = limits; txns = txns.old.items }) reply).text) }
+    ensures known { (asked.begun (record { levels = levels; limits = limits; txns = txns.old.items }) reply).known ≡ record { levels = levels; limits = limits; txns = txns.new.items } }
+    ensures kept { OnErr result (Extends text.old.items text.new.items) }
+{
+    match reply {
+        DeskReply::Txn(number) => {
+            txns.push_reserved(fresh(alloc, levels, limits, number));
+            say_number(text, b"begun ", number)
+        }
+        DeskReply::Refused(refusal) => {
+            push_desk_refusal(text, &refusal)?;
+            say_line(text, b"")
+        }
+        _ => say_line(text, b"bad answer"),
     }
 }
 

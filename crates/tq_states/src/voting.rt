@@ -97,11 +97,12 @@ impl Voting {
         has_vote(self.votes.as_slice(), server.number())
     }
 
-    /// The ask for a voter's vote.
+    /// The ask for a voter's vote. Memory is taken for a voter alone.
     pub fn ask(&self, alloc: Global, server: ServerId) -> Result<NodeAsk, TxnFault>
         ensures succeeds { IfOk result (λ ask. spec.ask_fault self.now.txn server.number ≡ None) }
         ensures value { IfOk result (λ ask. ask ≡ spec.prepare_ask self.now.txn server.number) }
         ensures fault { IfErr result (λ fault. open_spec.ComesOf (spec.ask_fault self.now.txn server.number) fault) }
+        ensures memory { IfErr result (λ fault. fault ≡ TxnFault.Memory → spec.ask_fault self.now.txn server.number ≡ None) }
     {
         if let Some(ask) = self.asked_before(server.number())? {
             return Ok(ask);
@@ -116,6 +117,7 @@ impl Voting {
     fn asked_before(&self, server: u64) -> Result<Option<NodeAsk>, Memory>
         ensures voter { IfOk result (λ found. IfSome found (λ ask. spec.ask_fault self.now.txn server ≡ None)) }
         ensures ask { IfOk result (λ found. IfSome found (λ ask. ask ≡ spec.prepare_ask self.now.txn server)) }
+        ensures memory { OnErr result (spec.ask_fault self.now.txn server ≡ None) }
     {
         let Some(ask) = &self.asked else {
             return Ok(None);
@@ -130,11 +132,12 @@ impl Voting {
         Ok(Some(ask.clone()?))
     }
 
-    /// The work that a voter is asked for its vote.
+    /// The work that a voter is asked for its vote. Memory is taken for a voter alone.
     pub fn work(&self, alloc: Global, server: ServerId) -> Result<WorkAsk, TxnFault>
         ensures succeeds { IfOk result (λ work. spec.ask_fault self.now.txn server.number ≡ None) }
         ensures value { IfOk result (λ work. work ≡ spec.prepare_work self.now.txn server.number) }
         ensures fault { IfErr result (λ fault. open_spec.ComesOf (spec.ask_fault self.now.txn server.number) fault) }
+        ensures memory { IfErr result (λ fault. fault ≡ TxnFault.Memory → spec.ask_fault self.now.txn server.number ≡ None) }
     {
         let ops = self.txn.ops();
         if !is_server_of(ops, server.number()) {

@@ -46,14 +46,14 @@ module _ (old : VotingView) (ask : DeskAsk) (asks : ask ≡ evidence_of old) whe
       follows_on (desk_line (evidence_of old)) (λ none. states.Voting old) (λ t none. answers (committed t.reply) (decided old t)) told tt exchanges after after (ended_by answer left)
       (asked exchanges after (Some (record { answer = Ok told; after = tt })) first) (decision_follows old told answer left after is leaves)
 
-missing : (old : VotingView) (fault : TxnFault) → ready_fault old ≡ Some fault → (has_votes old ≡ false) × (fault ≡ txn_faults.VotesMissing)
+pub missing : (old : VotingView) (fault : TxnFault) → ready_fault old ≡ Some fault → (has_votes old ≡ false) × (fault ≡ txn_faults.VotesMissing)
 missing old fault is =
     elim (has_votes old) as (λ b. cond (not b) (Some txn_faults.VotesMissing) None ≡ Some fault → (b ≡ false) × (fault ≡ txn_faults.VotesMissing)) [
       | true ↦ λ e. cc
       | false ↦ λ e. (refl, cc)
     ] is
 
-there : (old : VotingView) → ready_fault old ≡ None → has_votes old ≡ true
+pub there : (old : VotingView) → ready_fault old ≡ None → has_votes old ≡ true
 there old is =
     elim (has_votes old) as (λ b. cond (not b) (Some txn_faults.VotesMissing) None ≡ None → b ≡ true) [
       | true ↦ λ e. refl

@@ -9,3 +9,5 @@ pub mod EndLaws
 pub mod Deskless
 pub mod CommitLaws
 pub mod AbortLaws
+pub mod BreakLaws
+pub mod LockBreaks

@@ -119,7 +119,7 @@ module _ {A S B T : Type 0} (line : Dialogue (LineEnd A S)) (left : S → T) (ne
   pub follows_on : (a : A) (s : S) (old mid new : List Exchange) (end : Option (LineEnd B T)) → Follows line old mid (ended_by (Ok a) s) → Follows (next a s) mid new end → Follows (and_then line left next) old new end
   follows_on a s old mid new end first rest = follows_then line (λ e. go_on e.answer (left e.after) (λ x. next x e.after)) (record { answer = Ok a; after = s }) old mid new end first rest
 
-  stopped : (fault : LineFault) (s : S) (old new : List Exchange) → Follows line old new (Some (record { answer = Err fault; after = s })) → Follows (and_then line left next) old new (Some (record { answer = Err fault; after = left s }))
+  pub stopped : (fault : LineFault) (s : S) (old new : List Exchange) → Follows line old new (Some (record { answer = Err fault; after = s })) → Follows (and_then line left next) old new (Some (record { answer = Err fault; after = left s }))
   stopped fault s old new first =
       follows_then line (λ e. go_on e.answer (left e.after) (λ x. next x e.after)) (record { answer = Err fault; after = s }) old new new (Some (record { answer = Err fault; after = left s })) first (follows_end _ new)
 

@@ -1,5 +1,5 @@
 -- The lines of a client: what each asks, in order, each as the answers before demand, and what it answers of them.
-use Rattle.std.specs.Prelude.{◌≡◌, ◌==◌, ◌+◌, ℕ, Bool, true, false, List, [], ◌∷◌, ◌++◌, Option, Some, None, Result, Ok, Err, if◌then◌else◌}
+use Rattle.std.specs.Prelude.{◌≡◌, ◌⊎◌, ◌==◌, ◌+◌, ℕ, Bool, true, false, List, [], ◌∷◌, ◌++◌, Option, Some, None, Result, Ok, Err, if◌then◌else◌}
 use Rattle.std.specs.List.{All}
 use Rattle.tq_shape.specs.declared.part.Part.TheVariants as parts
 use Rattle.tq_store.specs.declared.copies.FileCopy.{FileCopy}
@@ -34,7 +34,8 @@ use Rattle.tq_txn.specs.declared.applying.Applied.{Applied}
 use Rattle.tq_txn.specs.declared.applying.Applied.TheVariants.{Installed, Discarded}
 use Rattle.tq_states.specs.Cited.{answers_of, grant_told}
 use Rattle.tq_states.specs.Ended.{EndedView, decide_ask}
-use Rattle.tq_txn.specs.Dialogue.{Told, Dialogue, LineEnd, Ends, AsksNode, done, failed, and_then, unless, node_line, view_line}
+use Rattle.tq_txn.specs.declared.asker.Exchange.{Exchange}
+use Rattle.tq_txn.specs.Dialogue.{Told, Dialogue, LineEnd, Ends, AsksNode, Follows, IsUnfailed, done, failed, and_then, unless, node_line, view_line}
 use Rattle.tq_states.specs.Open.{OpenView, pending, seen, written, has_all_ops, read_fault, read_copy, read_after, write_fault, write_after, grants_of, touched_by, rewritten}
 use Rattle.tq_states.specs.Voting.{VotingView, has_vote, ask_fault, prepare_work, prepare_ask, vote_fault, vote_after}
 
@@ -120,6 +121,13 @@ abbrev pub quorum_line : List ℕ → Mode → OpenView → Dialogue (LineEnd (L
 quorum_line file mode old =
     and_then (choose_line old.levels (purpose_of mode)) (λ none. old)
     (λ servers none. and_then (locks_line file mode servers (record { answers = []; txn = old })) (λ new. new.txn) (λ all new. done new.answers new.txn))
+
+-- where memory ran out in an operation, its quorum still had an ask to come, or each of its servers has granted the lock and only
+-- the operation is not there; each server that granted a lock is noted
+abbrev pub IsNoted : {A : Type 0} → Result A LineFault → OpenView → Dialogue (LineEnd (List NodeTold) OpenView) → List Exchange → List Exchange → Type 0
+IsNoted (Err faults.Memory) after quorum old new =
+    IsUnfailed {A = List NodeTold} (Err faults.Memory) after quorum old new ⊎ ((answers : List NodeTold) × Follows quorum old new (Some (record { answer = Ok answers; after = after })))
+IsNoted result after quorum old new = Unit {0}
 
 -- ---- read
 

@@ -90,6 +90,7 @@ fn told_verdict(verdict: Verdict) -> Resolution
 fn end_aborted<A: Asker>(asker: &mut A, alloc: Global, ended: Ended) -> Abortion
     requires { ended.levels ≡ A.levels asker.old }
     ensures asks { line.Follows (spec.ending_of ended) (A.told asker.old) (A.told asker.new) (line.ended_by result.answer result.txn) }
+    ensures memory { line.IsUnended result.answer result.txn (spec.ending_of ended) (A.told asker.old) (A.told asker.new) }
     ensures same { result.txn ≡ Txn.Ended ended }
     ensures tree { A.levels asker.new ≡ A.levels asker.old }
 {
@@ -115,6 +116,7 @@ fn end_where_aborted<A: Asker>(
 ) -> Abortion
     requires { states.levels_of txn ≡ A.levels asker.old }
     ensures asks { (reply : DeskReply) → aborts ≡ spec.is_abort reply → answer ≡ spec.aborted reply → line.Follows (spec.abort_end reply txn) (A.told asker.old) (A.told asker.new) (line.ended_by result.answer result.txn) }
+    ensures memory { (reply : DeskReply) → aborts ≡ spec.is_abort reply → answer ≡ spec.aborted reply → line.IsUnended result.answer result.txn (spec.abort_end reply txn) (A.told asker.old) (A.told asker.new) }
     ensures same { result.txn ≡ txn }
     ensures tree { A.levels asker.new ≡ A.levels asker.old }
 {
@@ -140,6 +142,7 @@ fn end_where_aborted<A: Asker>(
 pub fn abort<A: Asker>(asker: &mut A, alloc: Global, txn: Txn) -> Abortion
     requires { states.levels_of txn ≡ A.levels asker.old }
     ensures asks { line.Follows (spec.abort_line txn) (A.told asker.old) (A.told asker.new) (line.ended_by result.answer result.txn) }
+    ensures memory { line.IsUnended result.answer result.txn (spec.abort_line txn) (A.told asker.old) (A.told asker.new) }
     ensures levels { states.levels_of result.txn ≡ states.levels_of txn }
     ensures still { states.IsStill txn result.txn }
     ensures verdict { EndsAsTold txn (A.told asker.old) (A.told asker.new) result.txn }
@@ -162,6 +165,7 @@ fn resolve_and_end<A: Asker>(asker: &mut A, alloc: Global, txn: Txn, told: DeskT
     requires tree { states.levels_of txn ≡ A.levels asker.old }
     requires asked { told.ask ≡ DeskAsk.Resolve (states.number_of txn) }
     ensures asks { line.Follows (spec.abort_end told.reply (spec.resolved txn told)) (A.told asker.old) (A.told asker.new) (line.ended_by result.answer result.txn) }
+    ensures memory { line.IsUnended result.answer result.txn (spec.abort_end told.reply (spec.resolved txn told)) (A.told asker.old) (A.told asker.new) }
     ensures value { result.txn ≡ spec.resolved txn told }
     ensures tree { A.levels asker.new ≡ A.levels asker.old }
 {

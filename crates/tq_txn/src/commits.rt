@@ -4,6 +4,7 @@ ghost use Rattle.tq_coterie.specs.Coterie.{numbers_of};
 ghost use Rattle.tq_desk.specs.DeskStep as log;
 ghost use Rattle.tq_evidence.specs.declared.vote.Vote.{Vote};
 ghost use Rattle.tq_states.specs.Ended as ending;
+ghost use Rattle.tq_states.specs.Open.{HasVoters};
 ghost use Rattle.tq_states.specs.Voting.{IsVotedOn, evidence_of};
 ghost use Rattle.tq_txn.specs.Commits as spec;
 ghost use Rattle.tq_txn.specs.Dialogue as line;
@@ -28,6 +29,7 @@ fn prepare_each<A: Asker>(
 ) -> Result<(), LineFault>
     requires { list_all (λ id. id.levels == A.levels asker.old) servers.now ≡ true }
     ensures asks { line.Follows (spec.prepares_line (numbers_of servers.now) voting.old) (A.told asker.old) (A.told asker.new) (line.ended_by result voting.new) }
+    ensures memory { line.IsUnfailed result voting.new (spec.prepares_line (numbers_of servers.now) voting.old) (A.told asker.old) (A.told asker.new) }
     ensures txn { voting.new.txn ≡ voting.old.txn }
     ensures kept { IsVotedOn voting.old voting.new }
     ensures knows { Knows (A.told asker.old) (Txn.Voting voting.old) → Knows (A.told asker.new) (Txn.Voting voting.new) }
@@ -103,6 +105,7 @@ fn decided(ready: Ready, told: DeskTold, cited: SharedSeq<CitedVote>) -> Decisio
 /// it read and wrote and with its votes, or ended where the desk said how it ended before.
 pub fn decide<A: Asker>(asker: &mut A, alloc: Global, voting: Voting) -> Decision
     ensures asks { line.Follows (spec.decide_line voting) (A.told asker.old) (A.told asker.new) (line.ended_by result.answer result.txn) }
+    ensures memory { line.IsUnfailed result.answer result.txn (spec.decide_line voting) (A.told asker.old) (A.told asker.new) }
     ensures levels { states.levels_of result.txn ≡ voting.txn.levels }
     ensures kept { states.IsGathered voting result.txn }
     ensures verdict { EndsAsTold (Txn.Voting voting) (A.told asker.old) (A.told asker.new) result.txn }
@@ -146,6 +149,7 @@ pub fn decide<A: Asker>(asker: &mut A, alloc: Global, voting: Voting) -> Decisio
 fn voters_of(alloc: Global, voting: &Voting) -> Result<Vec<ServerId>, Memory>
     ensures numbers { IfOk result (λ voters. numbers_of voters.items ≡ voting.now.txn.voters) }
     ensures tree { IfOk result (λ voters. list_all (λ id. id.levels == voting.now.txn.levels) voters.items ≡ true) }
+    ensures exact { HasVoters voting.now.txn }
 {
     let voters = Vec::from_slice(alloc, voting.voters())?;
     Ok(voters)
@@ -157,6 +161,7 @@ fn voters_of(alloc: Global, voting: &Voting) -> Result<Vec<ServerId>, Memory>
 pub fn commit<A: Asker>(asker: &mut A, alloc: Global, voting: Voting) -> Decision
     requires { voting.txn.levels ≡ A.levels asker.old }
     ensures asks { line.Follows (spec.commit_line voting) (A.told asker.old) (A.told asker.new) (line.ended_by result.answer result.txn) }
+    ensures memory { line.IsUnended result.answer result.txn (spec.commit_line voting) (A.told asker.old) (A.told asker.new) }
     ensures levels { states.levels_of result.txn ≡ voting.txn.levels }
     ensures kept { states.IsGathered voting result.txn }
     ensures verdict { EndsAsTold (Txn.Voting voting) (A.told asker.old) (A.told asker.new) result.txn }
@@ -193,6 +198,7 @@ pub fn commit<A: Asker>(asker: &mut A, alloc: Global, voting: Voting) -> Decisio
 fn end_committed<A: Asker>(asker: &mut A, alloc: Global, serial: u64, txn: Txn) -> Decision
     requires { states.levels_of txn ≡ A.levels asker.old }
     ensures asks { line.Follows (spec.commit_end serial txn) (A.told asker.old) (A.told asker.new) (line.ended_by result.answer result.txn) }
+    ensures memory { line.IsUnended result.answer result.txn (spec.commit_end serial txn) (A.told asker.old) (A.told asker.new) }
     ensures same { result.txn ≡ txn }
     ensures tree { A.levels asker.new ≡ A.levels asker.old }
 {

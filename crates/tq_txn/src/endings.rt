@@ -41,6 +41,7 @@ pub fn prepare_at<A: Asker>(
     ensures kept { IsVotedOn voting.old voting.new }
     ensures knows { Knows (A.told asker.old) (states.Voting voting.old) → Knows (A.told asker.new) (states.Voting voting.new) }
     ensures unasked { line.IsUnasked result (A.told asker.old) (A.told asker.new) }
+    ensures memory { line.IsUnfailed result voting.new (spec.prepare_line voting.old server.number) (A.told asker.old) (A.told asker.new) }
     ensures err { OnErr result (voting.new ≡ voting.old) }
     ensures tree { A.levels asker.new ≡ A.levels asker.old }
 {
@@ -99,6 +100,7 @@ pub fn ask_any<A: Asker>(
     requires { server.levels ≡ A.levels asker.old }
     ensures asks { IfOk result (λ reply. line.Follows (spec.any_line server.number ask) (A.told asker.old) (A.told asker.new) (Some (record { answer = Ok reply; after = tt }))) }
     ensures err { OnErr result (line.Follows (spec.any_line server.number ask) (A.told asker.old) (A.told asker.new) None) }
+    ensures unasked { OnErr result (A.told asker.new ≡ A.told asker.old) }
     ensures tree { A.levels asker.new ≡ A.levels asker.old }
 {
     match asker.node(alloc, server, ask) {
@@ -128,6 +130,7 @@ fn release_at<A: Asker>(
 ) -> Result<(), LineFault>
     requires { server.levels ≡ A.levels asker.old }
     ensures asks { line.Follows (spec.release_line txn server.number wanted) (A.told asker.old) (A.told asker.new) (line.ended_by result tt) }
+    ensures memory { line.IsUnended result tt (spec.release_line txn server.number wanted) (A.told asker.old) (A.told asker.new) }
     ensures tree { A.levels asker.new ≡ A.levels asker.old }
 {
     if !wanted {
@@ -160,6 +163,7 @@ fn end_at<A: Asker>(
     requires of_tree { server.levels ≡ A.levels asker.old }
     requires decide { decide.now ≡ decide_ask ended.now }
     ensures asks { line.Follows (spec.end_line ended.now server.number) (A.told asker.old) (A.told asker.new) (line.ended_by result tt) }
+    ensures memory { line.IsUnended result tt (spec.end_line ended.now server.number) (A.told asker.old) (A.told asker.new) }
     ensures tree { A.levels asker.new ≡ A.levels asker.old }
 {
     let ask = decide_again(ended, decide)?;
@@ -180,6 +184,7 @@ fn end_by<A: Asker>(
     requires of_tree { list_all (λ id. id.levels == A.levels asker.old) servers.now ≡ true }
     requires decide { decide.now ≡ decide_ask ended.now }
     ensures asks { line.Follows (spec.ending_line ended.now (numbers_of servers.now)) (A.told asker.old) (A.told asker.new) (line.ended_by result tt) }
+    ensures memory { line.IsUnended result tt (spec.ending_line ended.now (numbers_of servers.now)) (A.told asker.old) (A.told asker.new) }
     ensures tree { A.levels asker.new ≡ A.levels asker.old }
 {
     for server in servers {
@@ -188,7 +193,7 @@ fn end_by<A: Asker>(
     Ok(())
 }
 
-/// Tells each of the servers the verdict, in their order.
+/// Tells each of the servers the verdict, in their order. Where there is none it takes no memory.
 pub(crate) fn end_at_each<A: Asker>(
     asker: &mut A,
     alloc: Global,
@@ -197,8 +202,12 @@ pub(crate) fn end_at_each<A: Asker>(
 ) -> Result<(), LineFault>
     requires { list_all (λ id. id.levels == A.levels asker.old) servers.now ≡ true }
     ensures asks { line.Follows (spec.ending_line ended.now (numbers_of servers.now)) (A.told asker.old) (A.told asker.new) (line.ended_by result tt) }
+    ensures memory { line.IsUnended result tt (spec.ending_line ended.now (numbers_of servers.now)) (A.told asker.old) (A.told asker.new) }
     ensures tree { A.levels asker.new ≡ A.levels asker.old }
 {
+    if servers.is_empty() {
+        return Ok(());
+    }
     let decide = match ended.decide(alloc) {
         Ok(decide) => decide,
         Err(_) => return Err(LineFault::Memory),
@@ -234,6 +243,7 @@ pub fn apply_at<A: Asker>(
 ) -> Result<Applied, LineFault>
     requires { server.levels ≡ A.levels asker.old }
     ensures asks { line.Follows (spec.apply_line txn verdict cite server.number) (A.told asker.old) (A.told asker.new) (line.ended_by result tt) }
+    ensures memory { line.IsUnfailed result tt (spec.apply_line txn verdict cite server.number) (A.told asker.old) (A.told asker.new) }
     ensures tree { A.levels asker.new ≡ A.levels asker.old }
 {
     let decide = WorkAsk::Decide { txn, verdict, cite };

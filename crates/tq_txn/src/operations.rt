@@ -65,6 +65,7 @@ fn choose<A: Asker>(
     purpose: Purpose,
 ) -> Result<Quorum, LineFault>
     ensures asks { line.Follows (spec.choose_line levels purpose) (A.told asker.old) (A.told asker.new) (line.ended_by (spec.servers_of result) tt) }
+    ensures unasked { line.IsUnasked result (A.told asker.old) (A.told asker.new) }
     ensures quorum { IfOk result (λ quorum. quorum.levels ≡ levels) }
     ensures tree { A.levels asker.new ≡ A.levels asker.old }
 {
@@ -159,6 +160,8 @@ fn lock_next<A: Asker>(
     ensures asks { line.Follows (spec.next_lock lock.now.file lock.now.mode server.number (record { answers = answers_of open.now.txn lock.now.file grants.old.items; txn = open_spec.noted open.now noting.old })) (A.told asker.old) (A.told asker.new)
         (line.ended_by (spec.without_ask result) (record { answers = answers_of open.now.txn lock.now.file grants.new.items; txn = open_spec.noted open.now noting.new })) }
     ensures unasked { line.IsUnasked result (A.told asker.old) (A.told asker.new) }
+    ensures memory { line.IsUnfailed (spec.without_ask result) (record { answers = answers_of open.now.txn lock.now.file grants.new.items; txn = open_spec.noted open.now noting.new })
+        (spec.next_lock lock.now.file lock.now.mode server.number (record { answers = answers_of open.now.txn lock.now.file grants.old.items; txn = open_spec.noted open.now noting.old })) (A.told asker.old) (A.told asker.new) }
     ensures noting { (more : List ℕ) → open_spec.CanNote open.now noting.old (server.number ∷ more) → open_spec.CanNote open.now noting.new more }
     ensures kept { open_spec.IsTouched (open_spec.noted open.now noting.old) (open_spec.noted open.now noting.new) }
     ensures room { vec_len grants.new ≤ vec_len grants.old + 1 }
@@ -198,6 +201,8 @@ fn lock_each<A: Asker>(
     requires room { vec_len grants.old + length servers.now ≤ vec_capacity grants.old }
     ensures asks { line.Follows (spec.locks_line lock.now.file lock.now.mode (numbers_of servers.now) (record { answers = answers_of open.now.txn lock.now.file grants.old.items; txn = open_spec.noted open.now noting.old })) (A.told asker.old) (A.told asker.new)
         (line.ended_by result (record { answers = answers_of open.now.txn lock.now.file grants.new.items; txn = open_spec.noted open.now noting.new })) }
+    ensures memory { line.IsUnfailed result (record { answers = answers_of open.now.txn lock.now.file grants.new.items; txn = open_spec.noted open.now noting.new })
+        (spec.locks_line lock.now.file lock.now.mode (numbers_of servers.now) (record { answers = answers_of open.now.txn lock.now.file grants.old.items; txn = open_spec.noted open.now noting.old })) (A.told asker.old) (A.told asker.new) }
     ensures noting { open_spec.CanNote open.now noting.new [] }
     ensures kept { open_spec.IsTouched (open_spec.noted open.now noting.old) (open_spec.noted open.now noting.new) }
     ensures heard { AreTold (A.told asker.old) (answers_of open.now.txn lock.now.file grants.old.items) → AreTold (A.told asker.new) (answers_of open.now.txn lock.now.file grants.new.items) }
@@ -237,6 +242,7 @@ fn lock_quorum<A: Asker>(
 ) -> Result<Seq<Grant>, LineFault>
     requires { open.old.levels ≡ A.levels asker.old }
     ensures asks { line.Follows (spec.quorum_line file.now mode open.old) (A.told asker.old) (A.told asker.new) (line.ended_by (spec.grants_answer open.old.txn file.now result) open.new) }
+    ensures memory { line.IsUnfailed (spec.grants_answer open.old.txn file.now result) open.new (spec.quorum_line file.now mode open.old) (A.told asker.old) (A.told asker.new) }
     ensures levels { open.new.levels ≡ open.old.levels }
     ensures kept { open_spec.IsTouched open.old open.new }
     ensures heard { IfOk result (λ grants. AreTold (A.told asker.new) (answers_of open.old.txn file.now grants)) }
@@ -286,6 +292,7 @@ pub fn read_file<A: Asker>(
 ) -> Result<Reading, LineFault>
     requires { open.old.levels ≡ A.levels asker.old }
     ensures asks { line.Follows (spec.read_line open.old file.now) (A.told asker.old) (A.told asker.new) (line.ended_by result open.new) }
+    ensures memory { spec.IsNoted result open.new (spec.quorum_line file.now Mode.Shared open.old) (A.told asker.old) (A.told asker.new) }
     ensures levels { open.new.levels ≡ open.old.levels }
     ensures err { OnErr result (open_spec.IsTouched open.old open.new) }
     ensures knows { Knows (A.told asker.old) (states.Open open.old) → Knows (A.told asker.new) (states.Open open.new) }
@@ -317,6 +324,7 @@ fn read_at_quorum<A: Asker>(
     requires fresh { open_spec.is_used open.old.ops file.now ≡ false }
     requires few { open_spec.has_all_ops open.old ≡ false }
     ensures asks { line.Follows (spec.quorum_read open.old file.now) (A.told asker.old) (A.told asker.new) (line.ended_by result open.new) }
+    ensures memory { spec.IsNoted result open.new (spec.quorum_line file.now Mode.Shared open.old) (A.told asker.old) (A.told asker.new) }
     ensures levels { open.new.levels ≡ open.old.levels }
     ensures err { OnErr result (open_spec.IsTouched open.old open.new) }
     ensures knows { Knows (A.told asker.old) (states.Open open.old) → Knows (A.told asker.new) (states.Open open.new) }
@@ -343,6 +351,7 @@ pub fn write_file<A: Asker>(
 ) -> Result<u64, LineFault>
     requires { open.old.levels ≡ A.levels asker.old }
     ensures asks { line.Follows (spec.write_line open.old file.now content) (A.told asker.old) (A.told asker.new) (line.ended_by result open.new) }
+    ensures memory { spec.IsNoted result open.new (spec.quorum_line file.now Mode.Exclusive open.old) (A.told asker.old) (A.told asker.new) }
     ensures levels { open.new.levels ≡ open.old.levels }
     ensures err { OnErr result (open_spec.IsTouched open.old open.new) }
     ensures knows { Knows (A.told asker.old) (states.Open open.old) → Knows (A.told asker.new) (states.Open open.new) }
@@ -371,6 +380,7 @@ fn write_at_quorum<A: Asker>(
     requires fresh { open_spec.is_written open.old.ops file.now ≡ false }
     requires few { open_spec.has_all_ops open.old ≡ false }
     ensures asks { line.Follows (spec.quorum_write open.old file.now content) (A.told asker.old) (A.told asker.new) (line.ended_by result open.new) }
+    ensures memory { spec.IsNoted result open.new (spec.quorum_line file.now Mode.Exclusive open.old) (A.told asker.old) (A.told asker.new) }
     ensures levels { open.new.levels ≡ open.old.levels }
     ensures err { OnErr result (open_spec.IsTouched open.old open.new) }
     ensures knows { Knows (A.told asker.old) (states.Open open.old) → Knows (A.told asker.new) (states.Open open.new) }

@@ -14,6 +14,7 @@ use tq_shape::{ServerId, Shared};
 /// Marks a server down.
 fn mark_down<A: Asker>(asker: &mut A, alloc: Global, server: u64) -> Result<(), LineFault>
     ensures asks { line.Follows (spec.down_line server) (A.told asker.old) (A.told asker.new) (line.ended_by result tt) }
+    ensures memory { line.IsUnfailed result tt (spec.down_line server) (A.told asker.old) (A.told asker.new) }
     ensures tree { A.levels asker.new ≡ A.levels asker.old }
 {
     match asker.view(alloc, ViewAsk::Mark { server, up: false }) {
@@ -33,6 +34,7 @@ pub fn stop_at<A: Asker>(
 ) -> Result<(), LineFault>
     requires { server.levels ≡ A.levels asker.old }
     ensures asks { line.Follows (spec.stop_line server.number ask after) (A.told asker.old) (A.told asker.new) (line.ended_by result tt) }
+    ensures memory { line.IsUnfailed result tt (spec.stop_line server.number ask after) (A.told asker.old) (A.told asker.new) }
     ensures tree { A.levels asker.new ≡ A.levels asker.old }
 {
     let ask = Shared::new(alloc, ask)?;
@@ -53,6 +55,7 @@ pub fn prepare_stopping<A: Asker>(
 ) -> Result<bool, LineFault>
     requires { server.levels ≡ A.levels asker.old }
     ensures asks { line.Follows (spec.prepare_stop_line voting.now server.number after) (A.told asker.old) (A.told asker.new) (line.ended_by result voting.now) }
+    ensures memory { line.IsUnfailed result voting.now (spec.prepare_stop_line voting.now server.number after) (A.told asker.old) (A.told asker.new) }
     ensures knows { Knows (A.told asker.old) (states.Voting voting.now) → Knows (A.told asker.new) (states.Voting voting.now) }
     ensures tree { A.levels asker.new ≡ A.levels asker.old }
 {

@@ -12,6 +12,7 @@ use Rattle.tq_txn.specs.Told.{IsAnswered, is_ended}
 use Rattle.tq_txn.proofs.Deskless.{deskless_untold, deskless_abort_end}
 use Rattle.tq_txn.proofs.EndLaws.{resolved_answered, resolved_still, resolved_levels, resolved_ends, ends_refused, ends_answered, ends_before}
 use Rattle.tq_txn.specs.Dialogue.{ended_by}
+use Rattle.tq_txn.proofs.BreakLaws.{abort_unasked, abort_unended}
 use Rattle.tq_txn.proofs.AbortLaws.{abort_on, abort_off}
 use Rattle.tq_txn.proofs.aborts.abort.Goals as goal
 
@@ -81,3 +82,12 @@ returns-in-Ok-clause-knows g c =
 pub returns-in-Err-clause-knows : goal.returns-in-Err-clause-knows
 returns-in-Err-clause-knows g c =
     knows_grow (g.A.Asker.told c.args.asker.now) (g.A.Asker.told c.desk.new.self) (desk_exchange (Resolve c.number-number.result) (Err c.in-Err.fault), c.in-Err.ensures.exchanges) c.args.txn
+
+pub returns-in-Err-clause-memory : goal.returns-in-Err-clause-memory
+returns-in-Err-clause-memory g c =
+    abort_unasked c.args.txn c.number-number.result c.number-number.ensures (g.A.Asker.told c.args.asker.now) (g.A.Asker.told c.desk.new.self) c.in-Err.fault c.from.result c.from.ensures c.in-Err.ensures.exchanges
+
+pub returns-in-Ok-clause-memory : goal.returns-in-Ok-clause-memory
+returns-in-Ok-clause-memory g c =
+    abort_unended c.args.txn c.number-number.result c.number-number.ensures (g.A.Asker.told c.args.asker.now) (g.A.Asker.told c.resolve_and_end.new.asker) (g.A.Asker.told c.desk.new.self) c.in-Ok.told
+    c.resolve_and_end.result.answer c.resolve_and_end.result.txn c.in-Ok.ensures.exchanges c.in-Ok.ensures.same c.resolve_and_end.ensures.memory

@@ -1,3 +1,4 @@
+use Rattle.tq_txn.proofs.BreakLaws.{aborted_unended}
 use Rattle.tq_txn.proofs.AbortLaws.{aborted_on, aborted_off}
 use Rattle.tq_txn.proofs.aborts.end_aborted.Goals as goal
 
@@ -8,3 +9,7 @@ returns-in-Ok-clause-asks g c =
 pub returns-in-Err-clause-asks : goal.returns-in-Err-clause-asks
 returns-in-Err-clause-asks g c =
     aborted_off c.args.ended c.servers.result.now c.servers.ensures.numbers (g.A.Asker.told c.args.asker.now) (g.A.Asker.told c.end_at_each.new.asker) c.in-Err.fault c.in-Err.ensures.asks
+
+pub returns-in-Err-clause-memory : goal.returns-in-Err-clause-memory
+returns-in-Err-clause-memory g c =
+    aborted_unended c.args.ended c.servers.result.now c.servers.ensures.numbers c.in-Err.fault (g.A.Asker.told c.args.asker.now) (g.A.Asker.told c.end_at_each.new.asker) c.in-Err.ensures.memory

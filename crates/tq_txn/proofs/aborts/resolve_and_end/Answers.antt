@@ -1,6 +1,6 @@
 use Rattle.std.proofs.Common.{◌≡◌, ◌∙◌, ap, sym, subst}
 use Rattle.tq_txn.specs.Aborts.{abort_end, resolved_with, resolved}
-use Rattle.tq_txn.specs.Dialogue.{Follows, ended_by}
+use Rattle.tq_txn.specs.Dialogue.{Follows, IsUnended, ended_by}
 use Rattle.tq_txn.specs.States.{levels_of}
 use Rattle.tq_txn.specs.declared.txn.Txn.{Txn}
 use Rattle.tq_txn.proofs.EndLaws.{resolved_told, resolved_levels}
@@ -21,3 +21,10 @@ returns-clause-asks g c =
     let reply = c.args.told.reply in
     let P : Txn → Type 0 = λ t. Follows (abort_end reply t) (g.A.Asker.told c.args.asker.now) (g.A.Asker.told c.end_where_aborted.new.asker) (ended_by c.end_where_aborted.result.answer c.end_where_aborted.result.txn) in
     subst P is (c.end_where_aborted.ensures.asks reply c.resolution_in-aborts.ensures.aborts c.resolution_in-aborts.ensures.answer)
+
+pub returns-clause-memory : goal.returns-clause-memory
+returns-clause-memory g c =
+    let is = c.resolved-txn.ensures ∙ ap (resolved_with c.args.txn c.args.told.number) c.resolution_in-aborts.ensures.verdict ∙ resolved_told c.args.txn c.args.told c.requires.asked in
+    let reply = c.args.told.reply in
+    let P : Txn → Type 0 = λ t. IsUnended c.end_where_aborted.result.answer c.end_where_aborted.result.txn (abort_end reply t) (g.A.Asker.told c.args.asker.now) (g.A.Asker.told c.end_where_aborted.new.asker) in
+    subst P is (c.end_where_aborted.ensures.memory reply c.resolution_in-aborts.ensures.aborts c.resolution_in-aborts.ensures.answer)

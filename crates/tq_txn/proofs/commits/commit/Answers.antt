@@ -14,6 +14,7 @@ use Rattle.tq_txn.specs.States.{IsGathered}
 use Rattle.tq_coterie.specs.Coterie.{numbers_of}
 use Rattle.tq_txn.specs.Commits.{commit_line}
 use Rattle.tq_txn.specs.Dialogue.{ended_by}
+use Rattle.tq_txn.proofs.BreakLaws.{commit_asks, commit_stopped, commit_undecided, commit_unended}
 use Rattle.tq_txn.proofs.CommitLaws.{commit_on, commit_off, decide_on, decide_off}
 use Rattle.tq_txn.proofs.LineLaws.{follows_memory}
 use Rattle.tq_txn.proofs.commits.commit.Goals as goal
@@ -139,3 +140,22 @@ returns-in-Ok-answer-clause-ends g c =
     let ends = subst (λ (t : OpenView). EndsWhereTold t.txn mid last txn) c.prepare_each.ensures.txn c.decide-answer.ensures.ends in
     let P : Txn → Type 0 = λ t. EndsWhereTold number now new t in
     subst P (sym c.end_committed.ensures.same) (ends_before number now last new txn (ends_after number now mid last txn votes ends) ending)
+
+pub returns-in-Err-clause-memory : goal.returns-in-Err-clause-memory
+returns-in-Err-clause-memory g c = commit_asks c.args.voting (g.A.Asker.told c.args.asker.now) c.voters_of.ensures.exact
+
+pub returns-in-Err-prepare_each-clause-memory : goal.returns-in-Err-prepare_each-clause-memory
+returns-in-Err-prepare_each-clause-memory g c =
+    commit_stopped c.args.voting c.prepare_each.new.voting c.as_slice.result.now (ap numbers_of c.as_slice.ensures.value ∙ c.in-Ok.ensures.numbers) (g.A.Asker.told c.args.asker.now) (g.A.Asker.told c.prepare_each.new.asker)
+    c.in-Err-prepare_each.fault c.in-Err-prepare_each.ensures.memory
+
+pub returns-clause-memory : goal.returns-clause-memory
+returns-clause-memory g c =
+    commit_undecided c.args.voting c.prepare_each.new.voting c.as_slice.result.now (ap numbers_of c.as_slice.ensures.value ∙ c.in-Ok.ensures.numbers) (g.A.Asker.told c.args.asker.now) (g.A.Asker.told c.prepare_each.new.asker)
+    c.in_default.ensures.asks c.decide-answer.result.answer c.in-Err-answer.fault c.decide-answer.result.txn (g.A.Asker.told c.decide-answer.new.asker) c.in-Err-answer.is c.decide-answer.ensures.memory
+
+pub returns-in-Ok-answer-clause-memory : goal.returns-in-Ok-answer-clause-memory
+returns-in-Ok-answer-clause-memory g c =
+    commit_unended c.args.voting c.prepare_each.new.voting c.as_slice.result.now (ap numbers_of c.as_slice.ensures.value ∙ c.in-Ok.ensures.numbers) (g.A.Asker.told c.args.asker.now) (g.A.Asker.told c.prepare_each.new.asker)
+    c.in_default.ensures.asks c.decide-answer.result.answer c.decide-answer.result.txn c.end_committed.result.txn c.in-Ok-answer.serial c.end_committed.result.answer (g.A.Asker.told c.decide-answer.new.asker) (g.A.Asker.told c.end_committed.new.asker)
+    c.in-Ok-answer.is c.decide-answer.ensures.asks c.end_committed.ensures.memory

@@ -1,12 +1,15 @@
 use Rattle.tq_states.specs.Cited.{VotesOnly}
 use Rattle.tq_txn.specs.Told.{answers_in}
 use Rattle.tq_txn.specs.Dialogue.{desk_exchange}
-use Rattle.std.proofs.Common.{Ok, Err}
+use Rattle.std.proofs.Common.{Ok, Err, refl}
 use Rattle.tq_txn.proofs.KnownLaws.{knows_grow, knows_answered, cites_ask}
 use Rattle.tq_txn.specs.declared.txn.Txn.TheVariants as states
 use Rattle.tq_txn.specs.States.{levels_of, IsGathered}
 use Rattle.tq_txn.specs.Told.{EndsAsTold, EndsWhereTold, IsAnswered, is_ended}
 use Rattle.tq_txn.proofs.LineLaws.{told_desk}
+use Rattle.tq_txn.specs.declared.fault.LineFault.TheVariants.{Memory}
+use Rattle.tq_txn.specs.Commits.{decide_line}
+use Rattle.tq_txn.proofs.BreakLaws.{decide_unended, missing_unended, unfailed_never}
 use Rattle.tq_txn.proofs.CommitLaws.{decide_ready, ready_on}
 use Rattle.tq_txn.proofs.EndLaws.{resolved_answered, resolved_still, resolved_levels, resolved_ends, ends_nothing, ends_refused, ends_answered, unasked_refused, unasked_answered}
 use Rattle.tq_states.specs.Voting.{VotingView}
@@ -132,3 +135,28 @@ returns-in-Err-desk-clause-cited g c =
     let now = g.A.Asker.told c.args.asker.now in
     let new = g.A.Asker.told c.desk.new.self in
     λ is. cites_ask now new c.in-Ok-evidence.ask (Err c.in-Err-desk.fault) c.in-Err-desk.ensures.exchanges (c.in-Ok-evidence.ensures.cited (answers_in now) (subst (VotesOnly (answers_in now)) (sym c.in-Ok.ensures.succeeds.1) is))
+
+pub returns-in-Err-clause-memory : goal.returns-in-Err-clause-memory
+returns-in-Err-clause-memory g c = missing_unended c.args.voting (states.Voting c.in-Err.back.0) (g.A.Asker.told c.args.asker.now) c.in-Err.back.1 c.from.result c.in-Err.ensures.fault.1 c.from.ensures
+
+pub returns-in-Err-evidence-clause-memory : goal.returns-in-Err-evidence-clause-memory
+returns-in-Err-evidence-clause-memory g c =
+    let told = g.A.Asker.told c.args.asker.now in
+    decide_unended c.args.voting c.into_voting.result (Err Memory) told told c.in-Ok.ensures.succeeds.0 (c.into_voting.ensures ∙ c.in-Ok.ensures.succeeds.1) refl
+
+pub returns-in-Err-citations-clause-memory : goal.returns-in-Err-citations-clause-memory
+returns-in-Err-citations-clause-memory g c =
+    let told = g.A.Asker.told c.args.asker.now in
+    decide_unended c.args.voting c.into_voting-in-Err-citations.result (Err Memory) told told c.in-Ok.ensures.succeeds.0 (c.into_voting-in-Err-citations.ensures ∙ c.in-Ok.ensures.succeeds.1) refl
+
+pub returns-in-Ok-desk-clause-memory : goal.returns-in-Ok-desk-clause-memory
+returns-in-Ok-desk-clause-memory g c =
+    unfailed_never c.decided.result.answer c.decided.result.txn (decide_line c.args.voting) (g.A.Asker.told c.args.asker.now) (g.A.Asker.told c.desk.new.self)
+    (λ before later. unasked_answered c.in-Ok-desk.told.reply c.decided.result.answer before later c.decided.ensures.answer)
+
+pub returns-in-Err-desk-clause-memory : goal.returns-in-Err-desk-clause-memory
+returns-in-Err-desk-clause-memory g c =
+    let old = g.A.Asker.told c.args.asker.now in
+    let new = g.A.Asker.told c.desk.new.self in
+    decide_unended c.args.voting c.into_voting-in-Err-desk.result (Err c.from-in-Err-desk.result) old new c.in-Ok.ensures.succeeds.0 (c.into_voting-in-Err-desk.ensures ∙ c.in-Ok.ensures.succeeds.1)
+    (unasked_refused c.in-Ok-evidence.ask c.in-Err-desk.fault c.from-in-Err-desk.result old new c.from-in-Err-desk.ensures c.in-Err-desk.ensures.exchanges)

@@ -6,9 +6,10 @@ use Rattle.std.specs.Prelude.{Option, Result}
 use Rattle.tq_coterie.specs.Coterie.{numbers_of}
 use Rattle.tq_shape.specs.Tree.{Server}
 use Rattle.tq_states.specs.Voting.{VotingView}
-use Rattle.tq_txn.specs.Dialogue.{Follows, LineEnd, ended_by}
+use Rattle.tq_txn.specs.Dialogue.{Follows, IsUnfailed, LineEnd, ended_by}
 use Rattle.tq_txn.specs.Commits.{prepares_line}
 use Rattle.tq_txn.specs.declared.fault.LineFault.{LineFault}
+use Rattle.tq_txn.proofs.BreakLaws.{prepares_stopped, prepares_unended}
 use Rattle.tq_txn.proofs.CommitLaws.{prepares_on, prepares_off}
 use Rattle.tq_txn.proofs.KeptVotes.{voted_on_same, voted_on_on}
 use Rattle.tq_txn.proofs.LineLaws.{follows_end, left_from}
@@ -22,6 +23,7 @@ loop-server-init g c = record {
   kept = voted_on_same c.args.voting.now c.args.voting.now refl;
   knows = λ before. before;
   asks = λ after end more. more;
+  memory = λ result left after more. more;
 }
 
 pub loop-server-preserved : goal.loop-server-preserved
@@ -40,6 +42,7 @@ loop-server-preserved g c =
       kept = voted_on_on c.args.voting.now c.loop-server.voting c.prepare_at.new.voting held.kept c.prepare_at.ensures.kept;
       knows = λ before. c.prepare_at.ensures.knows (held.knows before);
       asks = λ after end more. held.asks after end (prepares_on all rest c.server-item.result c.loop-server.voting c.prepare_at.new.voting is (g.A.Asker.told c.loop-server.asker) (g.A.Asker.told c.prepare_at.new.asker) after end c.in_ok-prepare_at.ensures.asks more);
+      memory = λ result left after more. held.memory result left after (prepares_unended all rest c.server-item.result c.loop-server.voting c.prepare_at.new.voting is result left (g.A.Asker.told c.loop-server.asker) (g.A.Asker.told c.prepare_at.new.asker) after c.in_ok-prepare_at.ensures.asks more);
     }
 
 pub returns-clause-asks : goal.returns-clause-asks
@@ -62,3 +65,14 @@ returns-in_err-prepare_at-clause-asks g c =
 
 pub returns-in_err-prepare_at-clause-kept : goal.returns-in_err-prepare_at-clause-kept
 returns-in_err-prepare_at-clause-kept g c = voted_on_on c.args.voting.now c.loop-server.voting c.prepare_at.new.voting c.loop-server.invariant.kept c.prepare_at.ensures.kept
+
+pub returns-in_err-prepare_at-clause-memory : goal.returns-in_err-prepare_at-clause-memory
+returns-in_err-prepare_at-clause-memory g c =
+    let all = drop c.loop-server.server-index c.args.servers.now in
+    let rest = drop (c.loop-server.server-index + 1) c.args.servers.now in
+    let is = left_from c.args.servers.now c.loop-server.server-index c.server-item.result c.loop-server-test.true c.server-item.is in
+    let told = g.A.Asker.told c.prepare_at.new.asker in
+    let fault : Err c.in_err-prepare_at.field-0.0 ≡ c.from_residual.result = Prim.search (c.from_residual.ensures, rules) in
+    let P : Result (Unit {0}) LineFault → Type 0 = λ result. IsUnfailed result c.prepare_at.new.voting (prepares_line (numbers_of c.args.servers.now) c.args.voting.now) (g.A.Asker.told c.args.asker.now) told in
+    subst P fault (c.loop-server.invariant.memory (Err c.in_err-prepare_at.field-0.0) c.prepare_at.new.voting told
+    (prepares_stopped all rest c.server-item.result c.loop-server.voting c.prepare_at.new.voting is c.in_err-prepare_at.field-0.0 (g.A.Asker.told c.loop-server.asker) told c.in_err-prepare_at.ensures.memory))

@@ -1,9 +1,10 @@
 use Rattle.std.proofs.Common.{◌≡◌, ◌==◌, List, true, drop}
 use Rattle.std.specs.List.{list_all}
-use Rattle.std.specs.Prelude.{Option}
+use Rattle.std.specs.Prelude.{Option, Result}
 use Rattle.tq_coterie.specs.Coterie.{numbers_of}
 use Rattle.tq_states.specs.Voting.{IsVotedOn, VotingView}
-use Rattle.tq_txn.specs.Dialogue.{Follows, LineEnd}
+use Rattle.tq_txn.specs.declared.fault.LineFault.{LineFault}
+use Rattle.tq_txn.specs.Dialogue.{Follows, IsUnfailed, LineEnd}
 use Rattle.tq_txn.specs.Commits.{prepares_line}
 use Rattle.tq_txn.specs.Told.{Knows}
 use Rattle.tq_txn.specs.declared.asker.Exchange.{Exchange}
@@ -21,4 +22,7 @@ invariant-loop-server g l = record {
   asks : (after : List Exchange) (end : Option (LineEnd (Unit {0}) VotingView))
       → Follows (prepares_line (numbers_of (drop l.server-index l.servers)) l.voting) (g.A.Asker.told l.asker) after end
       → Follows (prepares_line (numbers_of l.servers) l.initial.voting) (g.A.Asker.told l.initial.asker) after end;
+  memory : (result : Result (Unit {0}) LineFault) (left : VotingView) (after : List Exchange)
+      → IsUnfailed result left (prepares_line (numbers_of (drop l.server-index l.servers)) l.voting) (g.A.Asker.told l.asker) after
+      → IsUnfailed result left (prepares_line (numbers_of l.servers) l.initial.voting) (g.A.Asker.told l.initial.asker) after;
 }

@@ -5,9 +5,10 @@ use Rattle.std.specs.List.{list_all}
 use Rattle.std.specs.Prelude.{Option, Result}
 use Rattle.tq_coterie.specs.Coterie.{numbers_of}
 use Rattle.tq_shape.specs.Tree.{Server}
-use Rattle.tq_txn.specs.Dialogue.{Follows, LineEnd, ended_by}
+use Rattle.tq_txn.specs.Dialogue.{Follows, IsUnended, LineEnd, ended_by}
 use Rattle.tq_txn.specs.Lines.{ending_line}
 use Rattle.tq_txn.specs.declared.fault.LineFault.{LineFault}
+use Rattle.tq_txn.proofs.BreakLaws.{ending_stopped, ending_unended}
 use Rattle.tq_txn.proofs.LineLaws.{ending_off, ending_on, follows_end, left_from}
 use Rattle.tq_txn.proofs.endings.end_by.Goals as goal
 
@@ -24,6 +25,7 @@ loop-server-preserved g c =
       tree = c.end_at.ensures.tree ∙ held.tree;
       of_tree = subst R (sym c.end_at.ensures.tree) parts.1;
       asks = λ after end more. held.asks after end (ending_on c.args.ended.now all rest c.server-item.result is (g.A.Asker.told c.loop-server.asker) (g.A.Asker.told c.end_at.new.asker) after end c.in_ok-end_at.ensures.asks more);
+      memory = λ result after more. held.memory result after (ending_unended c.args.ended.now all rest c.server-item.result is result (g.A.Asker.told c.loop-server.asker) (g.A.Asker.told c.end_at.new.asker) after c.in_ok-end_at.ensures.asks more);
     }
 
 pub returns-clause-asks : goal.returns-clause-asks
@@ -43,3 +45,14 @@ returns-in_err-end_at-clause-asks g c =
     let P : Result (Unit {0}) LineFault → Type 0 = λ result. Follows (ending_line c.args.ended.now (numbers_of c.args.servers.now)) (g.A.Asker.told c.args.asker.now) told (ended_by result tt) in
     subst P fault (c.loop-server.invariant.asks told (ended_by (Err c.in_err-end_at.field-0.0) tt)
     (ending_off c.args.ended.now all rest c.server-item.result is c.in_err-end_at.field-0.0 (g.A.Asker.told c.loop-server.asker) told c.in_err-end_at.ensures.asks))
+
+pub returns-in_err-end_at-clause-memory : goal.returns-in_err-end_at-clause-memory
+returns-in_err-end_at-clause-memory g c =
+    let all = drop c.loop-server.server-index c.args.servers.now in
+    let rest = drop (c.loop-server.server-index + 1) c.args.servers.now in
+    let is = left_from c.args.servers.now c.loop-server.server-index c.server-item.result c.loop-server-test.true c.server-item.is in
+    let told = g.A.Asker.told c.end_at.new.asker in
+    let fault : Err c.in_err-end_at.field-0.0 ≡ c.from_residual.result = Prim.search (c.from_residual.ensures, rules) in
+    let P : Result (Unit {0}) LineFault → Type 0 = λ result. IsUnended result tt (ending_line c.args.ended.now (numbers_of c.args.servers.now)) (g.A.Asker.told c.args.asker.now) told in
+    subst P fault (c.loop-server.invariant.memory (Err c.in_err-end_at.field-0.0) told
+    (ending_stopped c.args.ended.now all rest c.server-item.result is c.in_err-end_at.field-0.0 (g.A.Asker.told c.loop-server.asker) told c.in_err-end_at.ensures.memory))

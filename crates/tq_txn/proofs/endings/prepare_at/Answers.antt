@@ -3,8 +3,10 @@ use Rattle.tq_states.specs.Cited.{VotesOnly}
 use Rattle.tq_states.specs.declared.told.NodeTold.{NodeTold}
 use Rattle.tq_states.specs.Voting.{VotingView, IsVotedOn, IsVoting, has_vote}
 use Rattle.tq_txn.specs.declared.txn.Txn.TheVariants as states
-use Rattle.tq_txn.specs.Dialogue.{Follows, ended_by, node_exchange}
-use Rattle.tq_txn.specs.Lines.{voted}
+use Rattle.tq_txn.specs.Dialogue.{Follows, IsUnfailed, ended_by, node_exchange}
+use Rattle.tq_txn.specs.declared.fault.LineFault.TheVariants.{Memory}
+use Rattle.tq_txn.specs.Lines.{prepare_line, voted}
+use Rattle.tq_txn.proofs.BreakLaws.{prepare_asks, prepare_refused, unfailed_first, unfailed_never}
 use Rattle.tq_txn.specs.Told.{Knows, answers_in}
 use Rattle.tq_txn.proofs.KnownLaws.{answers_more, knows_grow}
 use Rattle.tq_txn.proofs.KeptVotes.{voted_on_same}
@@ -74,3 +76,29 @@ returns-in-Ok-node-clause-unasked g c = c.take_vote.ensures.unasked (g.A.Asker.t
 pub returns-in-Err-node-clause-unasked : goal.returns-in-Err-node-clause-unasked
 returns-in-Err-node-clause-unasked g c =
     unasked_node c.args.server.number c.in-Ok.ask c.in-Err-node.fault c.from-in-Err-node.result (g.A.Asker.told c.args.asker.now) (g.A.Asker.told c.node.new.self) c.from-in-Err-node.ensures c.in-Err-node.ensures.exchanges
+
+pub returns-in-Err-clause-memory : goal.returns-in-Err-clause-memory
+returns-in-Err-clause-memory g c =
+    prepare_refused c.args.voting.now c.args.server.number c.in-Err.fault c.from.result (g.A.Asker.told c.args.asker.now) c.from.ensures (sym c.has_vote.ensures ∙ c.if-has_vote.false) c.in-Err.ensures.memory
+
+pub returns-in-Err-room_for_vote-clause-memory : goal.returns-in-Err-room_for_vote-clause-memory
+returns-in-Err-room_for_vote-clause-memory g c =
+    let told = g.A.Asker.told c.args.asker.now in
+    let P : VotingView → Type 0 = λ v. IsUnfailed {A = Unit {0}} (Err Memory) v (prepare_line c.args.voting.now c.args.server.number) told told in
+    subst P (sym c.in-Err-room_for_vote.ensures.err)
+    (prepare_asks c.args.voting.now c.args.server.number told (sym c.has_vote.ensures ∙ c.if-has_vote.false) c.in-Ok.ensures.succeeds)
+
+pub returns-in-Err-node-clause-memory : goal.returns-in-Err-node-clause-memory
+returns-in-Err-node-clause-memory g c =
+    let old = g.A.Asker.told c.args.asker.now in
+    let new = g.A.Asker.told c.node.new.self in
+    let line = prepare_line c.args.voting.now c.args.server.number in
+    let asks = prepare_asks c.args.voting.now c.args.server.number old (sym c.has_vote.ensures ∙ c.if-has_vote.false) c.in-Ok.ensures.succeeds in
+    let P : VotingView → Type 0 = λ v. IsUnfailed {A = Unit {0}} (Err c.from-in-Err-node.result) v line old new in
+    subst P (sym (c.put_back.ensures ∙ c.in-Ok-room_for_vote.ensures.value))
+    (unfailed_first (Err c.from-in-Err-node.result) c.args.voting.now line old new asks
+    (unasked_node c.args.server.number c.in-Ok.ask c.in-Err-node.fault c.from-in-Err-node.result old new c.from-in-Err-node.ensures c.in-Err-node.ensures.exchanges))
+
+pub returns-in-Ok-node-clause-memory : goal.returns-in-Ok-node-clause-memory
+returns-in-Ok-node-clause-memory g c =
+    unfailed_never c.take_vote.result c.take_vote.new.voting (prepare_line c.args.voting.now c.args.server.number) (g.A.Asker.told c.args.asker.now) (g.A.Asker.told c.node.new.self) c.take_vote.ensures.unasked

@@ -12,6 +12,7 @@ use Rattle.tq_states.proofs.NotedLaws.{can_note_first, can_note_none}
 use Rattle.tq_txn.specs.Dialogue.{Follows, LineEnd, ended_by}
 use Rattle.tq_txn.specs.Lines.{LocksView, locks_line}
 use Rattle.tq_txn.proofs.GrantLaws.{servers_left}
+use Rattle.tq_txn.proofs.LockBreaks.{locks_stopped, locks_unfailed}
 use Rattle.tq_txn.proofs.LineLaws.{follows_end, left_from, locks_on, locks_off}
 use Rattle.tq_txn.proofs.operations.lock_each.Goals as goal
 
@@ -47,6 +48,7 @@ loop-server-preserved g c =
       servers = servers_left c.loop-server.grants.items c.lock_next.new.grants.items c.server-item.result all rest c.in-Ok.ensures.servers is ∙ held.servers;
       modes = λ before. c.lock_next.ensures.modes (held.modes before);
       asks = λ after end more. held.asks after end (locks_on c.args.lock.now.file c.args.lock.now.mode all rest c.server-item.result record { answers = answers_of c.args.open.now.txn c.args.lock.now.file c.loop-server.grants.items; txn = noted c.args.open.now c.loop-server.noting } record { answers = answers_of c.args.open.now.txn c.args.lock.now.file c.lock_next.new.grants.items; txn = noted c.args.open.now c.lock_next.new.noting } is (g.A.Asker.told c.loop-server.asker) (g.A.Asker.told c.lock_next.new.asker) after end c.in-Ok.ensures.asks more);
+      memory = λ result left after more. held.memory result left after (locks_unfailed c.args.lock.now.file c.args.lock.now.mode all rest c.server-item.result record { answers = answers_of c.args.open.now.txn c.args.lock.now.file c.loop-server.grants.items; txn = noted c.args.open.now c.loop-server.noting } record { answers = answers_of c.args.open.now.txn c.args.lock.now.file c.lock_next.new.grants.items; txn = noted c.args.open.now c.lock_next.new.noting } is result left (g.A.Asker.told c.loop-server.asker) (g.A.Asker.told c.lock_next.new.asker) after c.in-Ok.ensures.asks more);
     }
 
 pub returns-clause-noting : goal.returns-clause-noting
@@ -88,3 +90,13 @@ returns-clause-servers g c =
 
 pub returns-in-Err-clause-modes : goal.returns-in-Err-clause-modes
 returns-in-Err-clause-modes g c = λ before. c.lock_next.ensures.modes (c.loop-server.invariant.modes before)
+
+pub returns-in-Err-clause-memory : goal.returns-in-Err-clause-memory
+returns-in-Err-clause-memory g c =
+    let all = drop c.loop-server.server-index c.args.servers.now in
+    let rest = drop (c.loop-server.server-index + 1) c.args.servers.now in
+    let is = left_from c.args.servers.now c.loop-server.server-index c.server-item.result c.loop-server-test.true c.server-item.is in
+    let new : LocksView = record { answers = answers_of c.args.open.now.txn c.args.lock.now.file c.lock_next.new.grants.items; txn = noted c.args.open.now c.lock_next.new.noting } in
+    let told = g.A.Asker.told c.lock_next.new.asker in
+    c.loop-server.invariant.memory (Err c.in-Err.fault) new told
+    (locks_stopped c.args.lock.now.file c.args.lock.now.mode all rest c.server-item.result record { answers = answers_of c.args.open.now.txn c.args.lock.now.file c.loop-server.grants.items; txn = noted c.args.open.now c.loop-server.noting } new is c.in-Err.fault (g.A.Asker.told c.loop-server.asker) told c.in-Err.ensures.memory)

@@ -1,11 +1,12 @@
 use Rattle.std.proofs.Common.{◌≡◌, ◌==◌, ◌+◌, ◌++◌, ◌≤◌, List, true, length, drop, vec_len, vec_capacity}
 use Rattle.std.specs.List.{list_all}
-use Rattle.std.specs.Prelude.{Option}
+use Rattle.std.specs.Prelude.{Option, Result}
 use Rattle.tq_coterie.specs.Coterie.{numbers_of}
 use Rattle.tq_evidence.specs.Evidence.{granters}
 use Rattle.tq_states.specs.Cited.{answers_of}
 use Rattle.tq_states.specs.Open.{CanNote, IsTouched, noted}
-use Rattle.tq_txn.specs.Dialogue.{Follows, LineEnd}
+use Rattle.tq_txn.specs.declared.fault.LineFault.{LineFault}
+use Rattle.tq_txn.specs.Dialogue.{Follows, IsUnfailed, LineEnd}
 use Rattle.tq_txn.specs.Lines.{AreOf, LocksView, lock_ask, locks_line}
 use Rattle.tq_txn.specs.Told.{AreTold}
 use Rattle.tq_txn.specs.declared.asker.Exchange.{Exchange}
@@ -26,4 +27,7 @@ invariant-loop-server g l = record {
   asks : (after : List Exchange) (end : Option (LineEnd (Unit {0}) LocksView))
       → Follows (locks_line l.lock.file l.lock.mode (numbers_of (drop l.server-index l.servers)) (record { answers = answers_of l.open.txn l.lock.file l.grants.items; txn = noted l.open l.noting })) (g.A.Asker.told l.asker) after end
       → Follows (locks_line l.lock.file l.lock.mode (numbers_of l.servers) (record { answers = answers_of l.open.txn l.lock.file l.initial.grants.items; txn = noted l.open l.initial.noting })) (g.A.Asker.told l.initial.asker) after end;
+  memory : (result : Result (Unit {0}) LineFault) (left : LocksView) (after : List Exchange)
+      → IsUnfailed result left (locks_line l.lock.file l.lock.mode (numbers_of (drop l.server-index l.servers)) (record { answers = answers_of l.open.txn l.lock.file l.grants.items; txn = noted l.open l.noting })) (g.A.Asker.told l.asker) after
+      → IsUnfailed result left (locks_line l.lock.file l.lock.mode (numbers_of l.servers) (record { answers = answers_of l.open.txn l.lock.file l.initial.grants.items; txn = noted l.open l.initial.noting })) (g.A.Asker.told l.initial.asker) after;
 }

@@ -8,6 +8,7 @@ use Rattle.tq_txn.specs.Told.{answers_in}
 use Rattle.tq_txn.specs.Dialogue.{Follows, ended_by}
 use Rattle.tq_txn.proofs.GrantLaws.{answers_push, granters_push, modes_push, next_locked}
 use Rattle.tq_txn.proofs.KnownLaws.{told_same, told_push}
+use Rattle.tq_txn.proofs.LockBreaks.{next_unfailed}
 use Rattle.tq_txn.proofs.ToldLaws.{grown_along}
 use Rattle.tq_txn.proofs.operations.lock_next.Goals as goal
 
@@ -52,3 +53,8 @@ returns-clause-servers g c = granters_push c.args.grants.now.items c.push_reserv
 
 pub returns-clause-modes : goal.returns-clause-modes
 returns-clause-modes g c = modes_push c.args.lock.now.mode c.args.grants.now.items c.push_reserved.new.self.items c.in-Ok.locked.0 c.push_reserved.ensures.items c.in-Ok.ensures.grant.1
+
+pub returns-in-Err-clause-memory : goal.returns-in-Err-clause-memory
+returns-in-Err-clause-memory g c =
+    let old : LocksView = record { answers = answers_of c.args.open.now.txn c.args.lock.now.file c.args.grants.now.items; txn = noted c.args.open.now c.args.noting.now } in
+    next_unfailed c.args.lock.now.file c.args.lock.now.mode c.args.server.number old c.in-Err.fault (g.A.Asker.told c.args.asker.now) (g.A.Asker.told c.lock_at.new.asker) c.in-Err.ensures.unasked

@@ -15,6 +15,9 @@ use Rattle.tq_evidence.specs.Evidence.{granters}
 use Rattle.tq_states.specs.Cited.{answers_of}
 use Rattle.tq_states.specs.Open.{OpenView, IsTouched, noted}
 use Rattle.tq_txn.proofs.GrantLaws.{member_of}
+use Rattle.tq_txn.specs.Dialogue.{IsUnfailed}
+use Rattle.tq_txn.specs.Lines.{grants_answer}
+use Rattle.tq_txn.proofs.LockBreaks.{quorum_same, quorum_unchosen, quorum_unfailed, quorum_unlocked}
 use Rattle.tq_txn.proofs.LineLaws.{follows_memory, quorum_off, quorum_stopped, quorum_locked}
 use Rattle.tq_states.proofs.Tested.{of_tree}
 use Rattle.tq_txn.proofs.operations.lock_quorum.Goals as goal
@@ -125,3 +128,37 @@ returns-in-Ok-locked-clause-kept g c =
 pub returns-clause-kept : goal.returns-clause-kept
 returns-clause-kept g c =
     kept c.args.open.now (noted c.room_for.new.self c.in-Ok-room_for.noting) (noted c.room_for.new.self c.lock_each-locked.new.noting) c.take_back.new.self c.in-Ok-room_for.ensures.value c.take_back.ensures.after c.lock_each-locked.ensures.kept
+
+pub returns-in_err-ask-clause-memory : goal.returns-in_err-ask-clause-memory
+returns-in_err-ask-clause-memory g c =
+    quorum_same c.args.file.now c.args.mode c.args.open.now (grants_answer c.args.open.now.txn c.args.file.now c.from_residual.result) (g.A.Asker.told c.args.asker.now)
+
+pub returns-in-Err-clause-memory : goal.returns-in-Err-clause-memory
+returns-in-Err-clause-memory g c =
+    quorum_unchosen c.args.file.now c.args.mode c.args.open.now c.in-Err.fault (g.A.Asker.told c.args.asker.now) (g.A.Asker.told c.choose.new.asker) c.in-Err.ensures.unasked
+
+pub returns-in-Err-with_capacity-clause-memory : goal.returns-in-Err-with_capacity-clause-memory
+returns-in-Err-with_capacity-clause-memory g c =
+    quorum_unlocked c.args.file.now c.args.mode c.args.open.now c.levels.result c.levels.ensures c.purpose_of.result c.purpose_of.ensures c.in-Ok.quorum.servers c.servers-servers.result.now c.servers-servers.ensures.numbers
+    (g.A.Asker.told c.args.asker.now) (g.A.Asker.told c.choose.new.asker) c.in-Ok.ensures.asks c.in-Ok.quorum.levels c.servers-servers.ensures.member c.args.open.now refl
+
+pub returns-in-Err-room_for-clause-memory : goal.returns-in-Err-room_for-clause-memory
+returns-in-Err-room_for-clause-memory g c =
+    quorum_unlocked c.args.file.now c.args.mode c.args.open.now c.levels.result c.levels.ensures c.purpose_of.result c.purpose_of.ensures c.in-Ok.quorum.servers c.servers-servers.result.now c.servers-servers.ensures.numbers
+    (g.A.Asker.told c.args.asker.now) (g.A.Asker.told c.choose.new.asker) c.in-Ok.ensures.asks c.in-Ok.quorum.levels c.servers-servers.ensures.member c.room_for.new.self c.in-Err-room_for.ensures.err
+
+pub returns-clause-memory : goal.returns-clause-memory
+returns-clause-memory g c =
+    let file = c.args.file.now in
+    let told = g.A.Asker.told c.args.asker.now in
+    let mid = g.A.Asker.told c.choose.new.asker in
+    let after = g.A.Asker.told c.lock_each-locked.new.asker in
+    let old = c.args.open.now in
+    let handed = c.room_for.new.self in
+    let none = answers_of handed.txn file c.in-Ok-with_capacity.grants.items in
+    let empty : none ≡ [] = ap (answers_of handed.txn file) c.in-Ok-with_capacity.ensures.items in
+    let new : LocksView = record { answers = answers_of handed.txn file c.lock_each-locked.new.grants.items; txn = noted handed c.lock_each-locked.new.noting } in
+    let P : OpenView → Type 0 = λ v. IsUnfailed {A = List NodeTold} (Err c.in-Err-locked.fault) v (quorum_line file c.args.mode old) told after in
+    subst P (sym c.take_back.ensures.after)
+    (quorum_unfailed file c.args.mode old c.levels.result c.levels.ensures c.purpose_of.result c.purpose_of.ensures c.in-Ok.quorum.servers c.servers-servers.result.now c.servers-servers.ensures.numbers
+    told mid c.in-Ok.ensures.asks none empty (noted handed c.in-Ok-room_for.noting) c.in-Ok-room_for.ensures.value c.in-Err-locked.fault new after c.in-Err-locked.ensures.memory)

@@ -11,10 +11,12 @@ use Rattle.tq_states.specs.Open.{read_copy, read_op, taken}
 use Rattle.tq_states.specs.declared.fault.TxnFault.TheVariants as txn_faults
 use Rattle.tq_states.proofs.Granted.{any_fit, grants_again, read_as_told}
 use Rattle.tq_txn.specs.declared.fault.LineFault.TheVariants.{Memory}
+use Rattle.tq_txn.specs.declared.reading.Reading.{Reading}
 use Rattle.tq_txn.specs.declared.reading.Reading.TheVariants.{Copy}
 use Rattle.tq_txn.specs.Dialogue.{ended_by}
 use Rattle.tq_txn.specs.Lines.{grants_answer, quorum_line, read_end}
 use Rattle.tq_txn.proofs.GrantLaws.{same_answers, still_few, still_member, still_unused}
+use Rattle.tq_txn.proofs.LockBreaks.{noted_last, noted_off}
 use Rattle.tq_txn.proofs.LineLaws.{follows_off, follows_on, read_ended, read_refused}
 use Rattle.tq_txn.proofs.operations.read_at_quorum.Goals as goal
 
@@ -85,3 +87,12 @@ returns-in-Err-read_granted-clause-knows g c =
     let new = g.A.Asker.told c.lock_quorum.new.asker in
     let more = grown_along (quorum_line c.args.file.now Shared c.args.open.now) old new (ended_by (grants_answer c.args.open.now.txn c.args.file.now c.lock_quorum.result) c.lock_quorum.new.open) c.lock_quorum.ensures.asks in
     λ is. subst (KeepsOnly (answers_in new)) (sym c.in-Err-read_granted.ensures.err) (knows_touched old new c.args.open.now c.lock_quorum.new.open more c.lock_quorum.ensures.kept is)
+
+pub returns-in-Err-clause-memory : goal.returns-in-Err-clause-memory
+returns-in-Err-clause-memory g c =
+    noted_off (quorum_line c.args.file.now Shared c.args.open.now) c.lock_quorum.new.open (g.A.Asker.told c.args.asker.now) (g.A.Asker.told c.lock_quorum.new.asker) Reading c.in-Err.fault c.in-Err.ensures.memory
+
+pub returns-in-Err-read_granted-clause-memory : goal.returns-in-Err-read_granted-clause-memory
+returns-in-Err-read_granted-clause-memory g c =
+    noted_last (quorum_line c.args.file.now Shared c.args.open.now) c.read_granted.new.self (g.A.Asker.told c.args.asker.now) (g.A.Asker.told c.lock_quorum.new.asker) Reading Memory
+    (answers_of c.args.open.now.txn c.args.file.now c.in-Ok.grants) c.lock_quorum.new.open c.in-Ok.ensures.asks c.in-Err-read_granted.ensures.err

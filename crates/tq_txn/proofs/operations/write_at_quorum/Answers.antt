@@ -1,7 +1,7 @@
 use Rattle.tq_txn.specs.Told.{AreTold, answers_in}
 use Rattle.tq_states.specs.Cited.{KeepsOnly, answers_of}
 use Rattle.std.proofs.lemmas.List.Elements.{All-contains_itself}
-use Rattle.std.proofs.Common.{sym, subst, ap, ◌∙◌, ◌+◌}
+use Rattle.std.proofs.Common.{ℕ, sym, subst, ap, ◌∙◌, ◌+◌}
 use Rattle.tq_txn.proofs.KnownLaws.{knows_touched, knows_taken}
 use Rattle.tq_txn.proofs.ToldLaws.{grown_along}
 use Rattle.std.proofs.Common.{Some, Ok, Err, refl}
@@ -13,6 +13,7 @@ use Rattle.tq_states.proofs.Granted.{grants_again, write_as_told}
 use Rattle.tq_txn.specs.Dialogue.{ended_by}
 use Rattle.tq_txn.specs.Lines.{grants_answer, quorum_line, write_end}
 use Rattle.tq_txn.proofs.GrantLaws.{all_exclusive, same_answers, still_few, still_member, still_unwritten}
+use Rattle.tq_txn.proofs.LockBreaks.{noted_last, noted_off}
 use Rattle.tq_txn.proofs.LineLaws.{follows_off, follows_on, write_ended, write_refused}
 use Rattle.tq_txn.proofs.operations.write_at_quorum.Goals as goal
 
@@ -90,3 +91,12 @@ returns-in-Err-write_granted-clause-knows g c =
     let new = g.A.Asker.told c.lock_quorum.new.asker in
     let more = grown_along (quorum_line c.args.file.now Exclusive c.args.open.now) old new (ended_by (grants_answer c.args.open.now.txn c.args.file.now c.lock_quorum.result) c.lock_quorum.new.open) c.lock_quorum.ensures.asks in
     λ is. subst (KeepsOnly (answers_in new)) (sym c.in-Err-write_granted.ensures.err) (knows_touched old new c.args.open.now c.lock_quorum.new.open more c.lock_quorum.ensures.kept is)
+
+pub returns-in-Err-clause-memory : goal.returns-in-Err-clause-memory
+returns-in-Err-clause-memory g c =
+    noted_off (quorum_line c.args.file.now Exclusive c.args.open.now) c.lock_quorum.new.open (g.A.Asker.told c.args.asker.now) (g.A.Asker.told c.lock_quorum.new.asker) ℕ c.in-Err.fault c.in-Err.ensures.memory
+
+pub returns-in-Err-write_granted-clause-memory : goal.returns-in-Err-write_granted-clause-memory
+returns-in-Err-write_granted-clause-memory g c =
+    noted_last (quorum_line c.args.file.now Exclusive c.args.open.now) c.write_granted.new.self (g.A.Asker.told c.args.asker.now) (g.A.Asker.told c.lock_quorum.new.asker) ℕ c.from.result
+    (answers_of c.args.open.now.txn c.args.file.now c.in-Ok.grants) c.lock_quorum.new.open c.in-Ok.ensures.asks c.in-Err-write_granted.ensures.err

@@ -1,0 +1,136 @@
+-- Where memory ran out in the locks of a quorum a further ask was to come, and what was granted is noted.
+use Rattle.std.proofs.Common.{◌≡◌, ◌==◌, ◌∙◌, Bool, true, if◌then◌else◌, ◌++◌, ℕ, false, List, [], ◌∷◌, Option, Some, None, Result, Ok, Err, refl, sym, ap, subst, inl, inr, append-nil}
+use Rattle.std.proofs.lemmas.Bool.{false≢true}
+use Rattle.tq_part.specs.declared.fault.AskFault.{AskFault}
+use Rattle.tq_part.specs.declared.fault.AskFault.TheVariants as ask_faults
+use Rattle.tq_shape.specs.Tree.{Server}
+use Rattle.tq_coterie.specs.Coterie.{ServerList, IsMemberList, is_quorum, numbers_of}
+use Rattle.tq_live.specs.declared.purpose.Purpose.{Purpose}
+use Rattle.tq_live.specs.declared.view.ViewAsk.{ViewAsk}
+use Rattle.tq_live.specs.declared.view.ViewAsk.TheVariants.{Choose}
+use Rattle.tq_live.specs.declared.view.ViewReply.{ViewReply}
+use Rattle.tq_live.specs.declared.view.ViewReply.TheVariants as view_replies
+use Rattle.tq_locks.specs.declared.mode.Mode.{Mode}
+use Rattle.tq_states.specs.Open.{OpenView, touched_by}
+use Rattle.tq_states.specs.declared.fault.TxnFault.TheVariants.{NotAMember}
+use Rattle.tq_states.specs.declared.told.NodeTold.{NodeTold}
+use Rattle.tq_states.proofs.Tested.{a_member, empty_set}
+use Rattle.tq_txn.specs.declared.asker.Exchange.{Exchange}
+use Rattle.tq_txn.specs.declared.asker.Exchange.TheVariants as exchanges
+use Rattle.tq_txn.specs.declared.asker.ViewTold.{ViewTold}
+use Rattle.tq_txn.specs.declared.fault.LineFault.{LineFault}
+use Rattle.tq_txn.specs.declared.fault.LineFault.TheVariants as faults
+use Rattle.tq_txn.specs.Dialogue.{Dialogue, LineEnd, Follows, IsUnasked, IsUnfailed, and_then, done, ended_by, fault_of_ask, view_exchange, view_line}
+use Rattle.tq_txn.specs.Lines.{IsNoted, LocksView, answers, granted, chosen, choose_line, lock_ask, lock_line, locks_line, next_lock, purpose_of, quorum_line, servers_of}
+use Rattle.tq_txn.proofs.BreakLaws.{fails, full, node_fails, unfailed_first, unfailed_off, unfailed_on, unfailed_same}
+use Rattle.tq_txn.proofs.LineLaws.{refused_view}
+
+-- ---- the view's choice
+
+-- what the view answers is no want of memory
+said : (levels : ℕ) (reply : ViewReply) (before later : List Exchange) → IsUnasked (chosen levels reply) before later
+said levels (view_replies.Chosen quorum cost) before later = by (quorum.levels == levels)
+  where
+    by : (same : Bool) → IsUnasked (if same then Ok quorum.servers else Err (faults.Txn NotAMember)) before later
+    by true = tt
+    by false = tt
+said levels (view_replies.Refused refusal) before later = tt
+said levels reply before later = tt
+
+pub unasked_chosen : (levels : ℕ) (reply : ViewReply) (result : Result ServerList LineFault) (before later : List Exchange) → servers_of result ≡ chosen levels reply → IsUnasked result before later
+unasked_chosen levels reply (Ok quorum) before later is = tt
+unasked_chosen levels reply (Err fault) before later is =
+    let P : Result (List ℕ) LineFault → Type 0 = λ r. IsUnasked r before later in
+    subst P (sym is) (said levels reply before later)
+
+pub unasked_view : (ask : ViewAsk) (fault : AskFault) (line_fault : LineFault) (old new : List Exchange) → line_fault ≡ fault_of_ask fault → new ≡ old ++ view_exchange ask (Err fault) → IsUnasked {A = Unit {0}} (Err line_fault) old new
+unasked_view ask fault line_fault old new is grown =
+    let P : LineFault → Type 0 = λ f. IsUnasked {A = Unit {0}} (Err f) old new in
+    subst P (sym is) (by fault grown)
+  where
+    by : (fault : AskFault) → new ≡ old ++ view_exchange ask (Err fault) → IsUnasked {A = Unit {0}} (Err (fault_of_ask fault)) old new
+    by ask_faults.Memory grown = grown ∙ append-nil old
+    by (ask_faults.JournalFull part) grown = tt
+    by (ask_faults.Unfounded part n) grown = tt
+
+choose_asks : (levels : ℕ) (purpose : Purpose) (told : List Exchange) → IsUnfailed {A = List ℕ} (Err faults.Memory) tt (choose_line levels purpose) told told
+choose_asks levels purpose told =
+    let first = exchanges.View (Choose purpose) (Err full) in
+    (fault_of_ask full, fails (view_line (Choose purpose)) (λ none. none) (λ t none. answers (chosen levels t.reply) none) (fault_of_ask full) tt told told (first, [], refl, refused_view (Choose purpose) full told (told ++ first ∷ []) refl))
+
+-- ---- locks
+
+lock_asks : (file : List ℕ) (mode : Mode) (server : ℕ) (old : LocksView) (told : List Exchange) → IsUnfailed {A = Unit {0}} (Err faults.Memory) old (next_lock file mode server old) told told
+lock_asks file mode server old told =
+    unfailed_off (lock_line old.txn.txn file mode server) (λ none. old) (λ t none. done tt (record { answers = old.answers ++ t ∷ []; txn = touched_by old.txn server })) faults.Memory tt told told
+    (node_fails server (lock_ask old.txn.txn file mode) (λ none. none) (λ t none. answers (granted t t.reply) none) told)
+
+pub next_unfailed : (file : List ℕ) (mode : Mode) (server : ℕ) (old : LocksView) (fault : LineFault) (told new : List Exchange) → IsUnasked {A = Unit {0}} (Err fault) told new → IsUnfailed {A = Unit {0}} (Err fault) old (next_lock file mode server old) told new
+next_unfailed file mode server old fault told new unasked = unfailed_first (Err fault) old (next_lock file mode server old) told new (lock_asks file mode server old told) unasked
+
+module _ (file : List ℕ) (mode : Mode) (servers rest : List Server) (server : Server) (old new : LocksView) (is : servers ≡ server ∷ rest) where
+  pub locks_unfailed : (result : Result (Unit {0}) LineFault) (after : LocksView) (told mid last : List Exchange) → Follows (next_lock file mode server.number old) told mid (Some (record { answer = Ok tt; after = new })) → IsUnfailed result after (locks_line file mode (numbers_of rest) new) mid last → IsUnfailed result after (locks_line file mode (numbers_of servers) old) told last
+  locks_unfailed result after told mid last first more =
+      rw is (unfailed_on (next_lock file mode server.number old) (λ s. s) (λ all s. locks_line file mode (numbers_of rest) s) result after tt new told mid last first more)
+
+  pub locks_stopped : (fault : LineFault) (told last : List Exchange) → IsUnfailed {A = Unit {0}} (Err fault) new (next_lock file mode server.number old) told last → IsUnfailed {A = Unit {0}} (Err fault) new (locks_line file mode (numbers_of servers) old) told last
+  locks_stopped fault told last first =
+      rw is (unfailed_off (next_lock file mode server.number old) (λ s. s) (λ all s. locks_line file mode (numbers_of rest) s) fault new told last first)
+
+-- ---- a quorum
+
+-- a quorum has a server
+locks_ask : (file : List ℕ) (mode : Mode) (tree : ℕ) (ids : List Server) (old : LocksView) (told : List Exchange) → IsMemberList tree ids → IsUnfailed {A = Unit {0}} (Err faults.Memory) old (locks_line file mode (numbers_of ids) old) told told
+locks_ask file mode tree [] old told is = absurd (false≢true (sym (empty_set tree) ∙ a_member tree [] is.member))
+locks_ask file mode tree (first ∷ rest) old told is = locks_stopped file mode (first ∷ rest) rest first old old refl faults.Memory told told (lock_asks file mode first.number old told)
+
+module _ (file : List ℕ) (mode : Mode) (old : OpenView) where
+  pub quorum_asks : (told : List Exchange) → IsUnfailed {A = List NodeTold} (Err faults.Memory) old (quorum_line file mode old) told told
+  quorum_asks told = unfailed_off (choose_line old.levels (purpose_of mode)) (λ none. old) (λ servers none. and_then (locks_line file mode servers (record { answers = []; txn = old })) (λ new. new.txn) (λ all new. done new.answers new.txn)) faults.Memory tt told told (choose_asks old.levels (purpose_of mode) told)
+
+  -- nothing was told
+  pub quorum_same : (result : Result (List NodeTold) LineFault) (told : List Exchange) → IsUnfailed result old (quorum_line file mode old) told told
+  quorum_same result told = unfailed_same result old (quorum_line file mode old) told (quorum_asks told)
+
+  pub quorum_unchosen : (fault : LineFault) (told new : List Exchange) → IsUnasked {A = Unit {0}} (Err fault) told new → IsUnfailed {A = List NodeTold} (Err fault) old (quorum_line file mode old) told new
+  quorum_unchosen fault told new unasked = unfailed_first (Err fault) old (quorum_line file mode old) told new (quorum_asks told) unasked
+
+  module _ (levels : ℕ) (same : levels ≡ old.levels) (purpose : Purpose) (fits : purpose ≡ purpose_of mode) (servers : List ℕ) (ids : List Server) (numbers : numbers_of ids ≡ servers) (told mid : List Exchange) (first : Follows (choose_line levels purpose) told mid (Some (record { answer = Ok servers; after = tt }))) where
+    chosen_first : Follows (choose_line old.levels (purpose_of mode)) told mid (Some (record { answer = Ok servers; after = tt }))
+    chosen_first =
+        let P : ℕ → Type 0 = λ l. Follows (choose_line l (purpose_of mode)) told mid (Some (record { answer = Ok servers; after = tt })) in
+        let Q : Purpose → Type 0 = λ p. Follows (choose_line levels p) told mid (Some (record { answer = Ok servers; after = tt })) in
+        subst P same (subst Q fits first)
+
+    -- memory ran out in the locks
+    pub quorum_unfailed : (none : List NodeTold) → none ≡ [] → (start : OpenView) → start ≡ old → (fault : LineFault) (new : LocksView) (after : List Exchange) → IsUnfailed {A = Unit {0}} (Err fault) new (locks_line file mode (numbers_of ids) (record { answers = none; txn = start })) mid after → IsUnfailed {A = List NodeTold} (Err fault) new.txn (quorum_line file mode old) told after
+    quorum_unfailed none empty start same_start fault new after more =
+        let view : record { answers = none; txn = start } ≡ record { answers = []; txn = old } = λ i. record { answers = empty i; txn = same_start i } in
+        let P : List ℕ → Type 0 = λ ns. IsUnfailed {A = Unit {0}} (Err fault) new (locks_line file mode ns (record { answers = []; txn = old })) mid after in
+        let Q : LocksView → Type 0 = λ v. IsUnfailed {A = Unit {0}} (Err fault) new (locks_line file mode (numbers_of ids) v) mid after in
+        unfailed_on (choose_line old.levels (purpose_of mode)) (λ none. old) (λ servers none. and_then (locks_line file mode servers (record { answers = []; txn = old })) (λ s. s.txn) (λ all s. done s.answers s.txn)) (Err fault) new.txn servers tt told mid after chosen_first
+        (unfailed_off (locks_line file mode servers (record { answers = []; txn = old })) (λ s. s.txn) (λ all s. done s.answers s.txn) fault new mid after (subst P numbers (subst Q view more)))
+
+    -- or before the first of them
+    pub quorum_unlocked : (tree : ℕ) → IsMemberList tree ids → (left : OpenView) → left ≡ old → IsUnfailed {A = List NodeTold} (Err faults.Memory) left (quorum_line file mode old) told mid
+    quorum_unlocked tree is left same_left =
+        let P : OpenView → Type 0 = λ v. IsUnfailed {A = List NodeTold} (Err faults.Memory) v (quorum_line file mode old) told mid in
+        subst P (sym same_left) (quorum_unfailed [] refl old refl faults.Memory (record { answers = []; txn = old }) mid (locks_ask file mode tree ids (record { answers = []; txn = old }) mid is))
+
+-- ---- an operation
+
+module _ (quorum : Dialogue (LineEnd (List NodeTold) OpenView)) (after : OpenView) (told new : List Exchange) where
+  pub noted_off : (A : Type 0) (fault : LineFault) → IsUnfailed {A = List NodeTold} (Err fault) after quorum told new → IsNoted {A = A} (Err fault) after quorum told new
+  noted_off A faults.Memory is = inl is
+  noted_off A fault is = tt
+
+  pub noted_last : (A : Type 0) (fault : LineFault) (answers : List NodeTold) (now : OpenView) → Follows quorum told new (Some (record { answer = Ok answers; after = now })) → after ≡ now → IsNoted {A = A} (Err fault) after quorum told new
+  noted_last A faults.Memory answers now follows same =
+      let P : OpenView → Type 0 = λ v. Follows quorum told new (Some (record { answer = Ok answers; after = v })) in
+      inr (answers, subst P (sym same) follows)
+  noted_last A fault answers now follows same = tt
+
+-- nothing was told in it
+pub noted_same : {A : Type 0} (result : Result A LineFault) (file : List ℕ) (mode : Mode) (old : OpenView) (told : List Exchange) → IsNoted result old (quorum_line file mode old) told told
+noted_same (Err faults.Memory) file mode old told = inl (quorum_asks file mode old told)
+noted_same result file mode old told = tt

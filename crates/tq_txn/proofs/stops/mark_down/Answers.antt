@@ -1,0 +1,10 @@
+use Rattle.tq_txn.proofs.BreakLaws.{down_unended}
+use Rattle.tq_txn.proofs.stops.mark_down.Goals.{in-Ok, in-Err}
+use Rattle.tq_txn.proofs.stops.mark_down.Goals as goal
+
+pub returns-clause-memory : goal.returns-clause-memory
+returns-clause-memory g c =
+    elim c.match-view.branch [
+      | in-Ok w ↦ rw w.result-is tt
+      | in-Err w ↦ rw w.result-is (down_unended c.args.server w.in-Err.fault w.from.result (g.A.Asker.told c.args.asker.now) (g.A.Asker.told c.view.new.self) w.from.ensures w.in-Err.ensures.exchanges)
+    ]
