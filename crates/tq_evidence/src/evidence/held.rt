@@ -5,12 +5,11 @@ ghost use Rattle.std.specs.FinMap as fin;
 ghost use Rattle.std.specs.Option.{option_copied};
 ghost use Rattle.tq_evidence.specs.Held as spec;
 
-use indexmap::IndexMap;
 use std::alloc::Global;
 use std::marker::Model;
 use tq_asks::HeldLock;
 use tq_shape::Memory;
-use tq_store::FileName;
+use tq_store::{BoundedIndexMap, FileName};
 
 /// For each file that a vote lists, the least number that it is held since.
 #[derive(Drop)]
@@ -53,7 +52,7 @@ impl HeldSince {
 /// A table by file, with the room that it has.
 #[derive(Drop)]
 struct LeastTable {
-    least: IndexMap<FileName, u64>,
+    least: BoundedIndexMap<FileName, u64>,
 }
 
 impl Model for LeastTable {
@@ -73,7 +72,7 @@ impl LeastTable {
         ensures { result.least ≡ fin.empty }
     {
         LeastTable {
-            least: IndexMap::new(alloc),
+            least: BoundedIndexMap::new(alloc),
         }
     }
 
