@@ -108,7 +108,7 @@ impl LockSlab {
     }
 
     /// Keeps one more lock under the vacant key.
-    #[inline(always)]
+    #[inline(never)]
     pub(crate) fn insert_reserved(&mut self, file: &FileName, txn: u64, lock: Lock) -> usize
         requires { HasRoomFor self.old 1 }
         ensures key { result ≡ self.old.vacant_key }
