@@ -1,5 +1,5 @@
 -- Where memory ran out in a line a further ask was to come in it, and so in the line that it is a part of.
-use Rattle.std.proofs.Common.{◌≡◌, ◌==◌, ◌||◌, ◌∙◌, ℕ, Bool, true, false, not, cond, List, [], ◌∷◌, ◌++◌, Option, Some, None, Result, Ok, Err, refl, sym, ap, subst, inl, inr, append-nil, append_assoc, length, ◌&&◌}
+use Rattle.std.proofs.Common.{◌≡◌, ◌==◌, ◌∙◌, ℕ, Bool, true, false, not, cond, List, [], ◌∷◌, ◌++◌, Option, Some, None, Result, Ok, Err, refl, sym, ap, subst, append-nil, append_assoc, length}
 use Rattle.std.specs.List.{list_all}
 use Rattle.std.proofs.lemmas.List.Folds.{list_all-append}
 use Rattle.tq_shape.specs.declared.part.Part.TheVariants as parts
@@ -15,19 +15,15 @@ use Rattle.tq_asks.specs.declared.ask.WorkAsk.{WorkAsk}
 use Rattle.tq_asks.specs.declared.ask.Verdict.{Verdict}
 use Rattle.tq_desk.specs.declared.ask.DeskAsk.{DeskAsk}
 use Rattle.tq_states.specs.declared.told.NodeTold.{NodeTold}
-use Rattle.tq_live.specs.declared.view.ViewAsk.{ViewAsk}
 use Rattle.tq_shape.specs.Tree.{Server}
 use Rattle.tq_coterie.specs.Coterie.{has, numbers_of}
 use Rattle.tq_desk.specs.declared.ask.DeskAsk.TheVariants as asks
-use Rattle.tq_desk.specs.declared.ask.DeskReply.{DeskReply}
-use Rattle.tq_desk.specs.declared.ask.DeskReply.TheVariants as desk_replies
-use Rattle.tq_desk.specs.declared.ask.DeskRefusal.TheVariants.{Decided}
 use Rattle.tq_evidence.specs.Evidence.{is_server_of}
 use Rattle.tq_states.specs.declared.fault.TxnFault.{TxnFault}
 use Rattle.tq_states.specs.declared.fault.TxnFault.TheVariants as txn_faults
 use Rattle.tq_states.specs.declared.told.DeskTold.{DeskTold}
 use Rattle.tq_states.specs.Ended.{EndedView, decide_ask}
-use Rattle.tq_states.specs.Open.{OpenView, HasVoters}
+use Rattle.tq_states.specs.Open.{HasVoters}
 use Rattle.tq_states.specs.Voting.{VotingView, has_vote, has_votes, ask_fault, prepare_work, ready_fault}
 use Rattle.tq_txn.specs.declared.applying.Applied.{Applied}
 use Rattle.tq_txn.specs.declared.asker.Exchange.{Exchange}
@@ -36,9 +32,9 @@ use Rattle.tq_txn.specs.declared.fault.LineFault.{LineFault}
 use Rattle.tq_txn.specs.declared.fault.LineFault.TheVariants as faults
 use Rattle.tq_txn.specs.declared.txn.Txn.{Txn}
 use Rattle.tq_txn.specs.declared.txn.Txn.TheVariants as states
-use Rattle.tq_txn.specs.Aborts.{aborted, resolved, ending_of, abort_end, abort_line}
+use Rattle.tq_txn.specs.Aborts.{resolved, ending_of, abort_end, abort_line}
 use Rattle.tq_txn.specs.Commits.{prepares_line, decide_line, decide_and_end_line, commit_end, commit_line}
-use Rattle.tq_txn.specs.Dialogue.{Told, Dialogue, Ends, AsksNode, AsksDesk, AsksView, Makes, Follows, IsUnasked, IsUnended, IsUnfailed, WouldEnd, is_untaken, then_line, LineEnd, done, go_on, and_then, ended_by, fault_of_ask, fault_of_txn, node_exchange, desk_exchange, view_exchange, node_line, desk_line, view_line}
+use Rattle.tq_txn.specs.Dialogue.{Told, Dialogue, Ends, AsksNode, AsksDesk, AsksView, Makes, Follows, IsUnasked, IsUnended, IsUnfailed, WouldEnd, is_untaken, LineEnd, done, and_then, ended_by, fault_of_ask, fault_of_txn, desk_exchange, view_exchange, node_line, desk_line, view_line}
 use Rattle.tq_live.specs.declared.view.ViewAsk.TheVariants.{Mark}
 use Rattle.tq_states.specs.Voting.{prepare_ask, evidence_of}
 use Rattle.tq_txn.specs.Lines.{any_line, is_nothing_here, release_line, end_line, ending_line, prepare_line, applied, down_line, stop_line, prepare_stop_line, apply_line}

@@ -1,5 +1,5 @@
 -- How a commit ends.
-use Rattle.std.proofs.Common.{◌≡◌, ℕ, true, false, not, cond, List, ◌∷◌, Option, Some, None, Result, Ok, Err, refl, sym, ◌∙◌, subst}
+use Rattle.std.proofs.Common.{◌≡◌, ℕ, true, false, not, cond, List, ◌∷◌, Option, Some, None, Result, Ok, Err, refl, sym, subst}
 use Rattle.tq_shape.specs.Tree.{Server}
 use Rattle.tq_coterie.specs.Coterie.{numbers_of}
 use Rattle.tq_desk.specs.declared.ask.DeskAsk.{DeskAsk}
@@ -13,7 +13,7 @@ use Rattle.tq_txn.specs.declared.txn.Txn.{Txn}
 use Rattle.tq_txn.specs.declared.txn.Txn.TheVariants as states
 use Rattle.tq_txn.specs.Commits.{prepares_line, committed, decided, ready_line, decide_line, commit_end, decide_and_end_line, commit_line}
 use Rattle.tq_states.specs.Ended.{EndedView}
-use Rattle.tq_txn.specs.Dialogue.{Dialogue, LineEnd, Follows, done, ended_by, fault_of_txn, desk_line}
+use Rattle.tq_txn.specs.Dialogue.{LineEnd, Follows, done, ended_by, fault_of_txn, desk_line}
 use Rattle.tq_txn.specs.Lines.{answers, prepare_line, ending_line}
 use Rattle.tq_states.specs.Voting.{VotingView, has_votes, ready_fault, evidence_of}
 use Rattle.tq_txn.proofs.LineLaws.{follows_end, follows_answer, follows_on, follows_off}

@@ -1,5 +1,5 @@
 -- What the desk's answer makes of a transaction, and where it was told how the transaction ended.
-use Rattle.std.proofs.Common.{◌≡◌, ◌==◌, ◌||◌, ℕ, Bool, true, false, cond, is_some, List, [], ◌∷◌, ◌++◌, Option, Some, None, Result, Ok, Err, refl, sym, ap, ◌∙◌, subst, append-nil, rules}
+use Rattle.std.proofs.Common.{◌≡◌, ◌||◌, ℕ, Bool, true, false, cond, is_some, List, [], ◌++◌, Option, Some, None, Result, Ok, Err, refl, sym, ap, ◌∙◌, subst, append-nil}
 use Rattle.std.specs.List.{list_any}
 use Rattle.std.proofs.lemmas.Bool.{eq-eqb}
 use Rattle.std.proofs.lemmas.List.Folds.{list_any-append}
@@ -13,13 +13,11 @@ use Rattle.tq_desk.specs.declared.ask.DeskRefusal.TheVariants.{Decided}
 use Rattle.tq_desk.specs.declared.ask.DeskReply.{DeskReply}
 use Rattle.tq_desk.specs.declared.ask.DeskReply.TheVariants as replies
 use Rattle.tq_states.specs.declared.told.DeskTold.{DeskTold}
-use Rattle.tq_states.specs.Ended.{EndedView, verdict_in, verdict_by, commit_verdict, resolve_verdict}
+use Rattle.tq_states.specs.Ended.{verdict_in, verdict_by, commit_verdict, resolve_verdict}
 use Rattle.tq_states.specs.Open.{OpenView}
 use Rattle.tq_states.specs.Voting.{VotingView, evidence_of}
 use Rattle.tq_txn.specs.declared.asker.Exchange.{Exchange}
-use Rattle.tq_txn.specs.declared.asker.Exchange.TheVariants as exchanges
 use Rattle.tq_txn.specs.declared.fault.LineFault.{LineFault}
-use Rattle.tq_txn.specs.declared.fault.LineFault.TheVariants as faults
 use Rattle.tq_txn.specs.declared.txn.Txn.{Txn}
 use Rattle.tq_txn.specs.declared.txn.Txn.TheVariants as states
 use Rattle.tq_txn.specs.Aborts.{resolved_by, resolved_with, resolved}
@@ -29,7 +27,6 @@ use Rattle.tq_txn.specs.States.{number_of, levels_of, IsStill}
 use Rattle.tq_txn.specs.Told.{IsAnswered, is_ended, tells_end, EndsWhereTold}
 use Rattle.tq_txn.proofs.LineLaws.{further}
 use Rattle.tq_txn.proofs.KeptVotes.{voted_on_same}
-use Rattle.tq_txn.proofs.ToldLaws.{Grown}
 
 -- ---- the verdict in an answer
 

@@ -1,10 +1,10 @@
 -- Where memory ran out in the locks of a quorum a further ask was to come, and what was granted is noted.
-use Rattle.std.proofs.Common.{◌≡◌, ◌==◌, ◌∙◌, Bool, true, if◌then◌else◌, ◌++◌, ℕ, false, List, [], ◌∷◌, Option, Some, None, Result, Ok, Err, refl, sym, ap, subst, inl, inr, append-nil}
+use Rattle.std.proofs.Common.{◌≡◌, ◌==◌, ◌∙◌, Bool, true, if◌then◌else◌, ◌++◌, ℕ, false, List, [], ◌∷◌, Some, Result, Ok, Err, refl, sym, subst, inl, inr, append-nil}
 use Rattle.std.proofs.lemmas.Bool.{false≢true}
 use Rattle.tq_part.specs.declared.fault.AskFault.{AskFault}
 use Rattle.tq_part.specs.declared.fault.AskFault.TheVariants as ask_faults
 use Rattle.tq_shape.specs.Tree.{Server}
-use Rattle.tq_coterie.specs.Coterie.{ServerList, IsMemberList, is_quorum, numbers_of}
+use Rattle.tq_coterie.specs.Coterie.{ServerList, IsMemberList, numbers_of}
 use Rattle.tq_live.specs.declared.purpose.Purpose.{Purpose}
 use Rattle.tq_live.specs.declared.view.ViewAsk.{ViewAsk}
 use Rattle.tq_live.specs.declared.view.ViewAsk.TheVariants.{Choose}
@@ -17,10 +17,9 @@ use Rattle.tq_states.specs.declared.told.NodeTold.{NodeTold}
 use Rattle.tq_states.proofs.Tested.{a_member, empty_set}
 use Rattle.tq_txn.specs.declared.asker.Exchange.{Exchange}
 use Rattle.tq_txn.specs.declared.asker.Exchange.TheVariants as exchanges
-use Rattle.tq_txn.specs.declared.asker.ViewTold.{ViewTold}
 use Rattle.tq_txn.specs.declared.fault.LineFault.{LineFault}
 use Rattle.tq_txn.specs.declared.fault.LineFault.TheVariants as faults
-use Rattle.tq_txn.specs.Dialogue.{Dialogue, LineEnd, Follows, IsUnasked, IsUnfailed, and_then, done, ended_by, fault_of_ask, view_exchange, view_line}
+use Rattle.tq_txn.specs.Dialogue.{Dialogue, LineEnd, Follows, IsUnasked, IsUnfailed, and_then, done, fault_of_ask, view_exchange, view_line}
 use Rattle.tq_txn.specs.Lines.{IsNoted, LocksView, answers, granted, chosen, choose_line, lock_ask, lock_line, locks_line, next_lock, purpose_of, quorum_line, servers_of}
 use Rattle.tq_txn.proofs.BreakLaws.{fails, full, node_fails, unfailed_first, unfailed_off, unfailed_on, unfailed_same}
 use Rattle.tq_txn.proofs.LineLaws.{refused_view}

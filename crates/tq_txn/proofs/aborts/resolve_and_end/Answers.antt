@@ -1,5 +1,5 @@
-use Rattle.std.proofs.Common.{◌≡◌, ◌∙◌, ap, sym, subst}
-use Rattle.tq_txn.specs.Aborts.{abort_end, resolved_with, resolved}
+use Rattle.std.proofs.Common.{◌∙◌, ap, subst}
+use Rattle.tq_txn.specs.Aborts.{abort_end, resolved_with}
 use Rattle.tq_txn.specs.Dialogue.{Follows, IsUnended, ended_by}
 use Rattle.tq_txn.specs.States.{levels_of}
 use Rattle.tq_txn.specs.declared.txn.Txn.{Txn}

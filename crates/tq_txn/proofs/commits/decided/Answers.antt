@@ -1,5 +1,4 @@
-use Rattle.std.proofs.Common.{◌≡◌, ◌∙◌, ap, sym, Option}
-use Rattle.tq_asks.specs.declared.ask.Verdict.{Verdict}
+use Rattle.std.proofs.Common.{◌∙◌, ap, sym}
 use Rattle.tq_states.specs.Voting.{VotingView}
 use Rattle.tq_txn.specs.Aborts.{resolved_by}
 use Rattle.tq_txn.specs.declared.txn.Txn.TheVariants as states

@@ -31,7 +31,7 @@ returns-clause-after c =
     (λ i. record { journals = c.self.inside.recorder.journals; known = record { levels = c.self.inside.levels; limits = c.self.inside.limits; txns = c.reserve.ensures.items i } }) ∙ c.self.view_is in
     let ran = answered_by (desk_line Begin) (λ end. begin_end known end.answer) c.self.inside.recorder c.desk-answer.new.self (line_result c.desk-answer.result) tt c.replayed.ensures c.replayed-2.ensures c.desk-answer.ensures.tree (asked_desk Begin c.desk-answer.result c.self.inside.recorder.told c.desk-answer.new.self.told c.desk-answer.ensures.exchanges c.desk-answer.ensures.same) c.in_ok-begin_end.ensures.memory in
     let is : record { journals = c.desk-answer.new.self.journals; known = record { levels = c.self.inside.levels; limits = c.self.inside.limits; txns = c.begin_end.new.txns.items } }
-        ≡ record { journals = c.desk-answer.new.self.journals; known = (begin_end known (line_result c.desk-answer.result)).known } =
+    ≡ record { journals = c.desk-answer.new.self.journals; known = (begin_end known (line_result c.desk-answer.result)).known } =
     λ i. record { journals = c.desk-answer.new.self.journals; known = sym c.begin_end.ensures.known i } in
     is ∙ ran.1 ∙ ap (λ (w : World). (answered (run_line w.journals (begin_asked w.known))).after) old
 
