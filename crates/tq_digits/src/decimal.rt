@@ -5,13 +5,13 @@ ghost use Rattle.std.specs.Fmt.{decimal};
 use std::alloc::AllocError;
 
 /// The most digits of a number of 64 bits.
-pub const MOST_DIGITS: usize = 20;
+const MOST_DIGITS: usize = 20;
 
 /// Puts the number in decimal behind the text.
 ///
 /// # Errors
 ///
-/// Refuses where there is no memory for `MOST_DIGITS` more bytes; the text stays as it is.
+/// Refuses where there is no memory for the digits of any number; the text stays as it is.
 pub fn push_number(text: &mut Vec<u8>, number: u64) -> Result<(), AllocError>
     ensures text { OnOk result (text.new.items ≡ text.old.items ++ decimal number) }
     ensures kept { OnErr result (text.new.items ≡ text.old.items) }
@@ -22,7 +22,7 @@ pub fn push_number(text: &mut Vec<u8>, number: u64) -> Result<(), AllocError>
 }
 
 /// Puts the number in decimal behind the text, which has room for its digits: two digits a step.
-pub fn push_digits(text: &mut Vec<u8>, number: u64)
+fn push_digits(text: &mut Vec<u8>, number: u64)
     requires { vec_len text.old + length (decimal number) ≤ vec_capacity text.old }
     ensures items { text.new.items ≡ text.old.items ++ decimal number }
     ensures len { vec_len text.new ≡ vec_len text.old + length (decimal number) }

@@ -52,7 +52,8 @@ fn spell(bytes: &[u8], digits: &mut [u8])
 {
     'bytes: for i in 0..bytes.len() {
         let pair = 2 * bytes[i] as usize;
-        digits[2 * i] = PAIRS[pair];
-        digits[2 * i + 1] = PAIRS[pair + 1];
+        let (high, low) = (PAIRS[pair], PAIRS[pair + 1]);
+        digits[2 * i] = high;
+        digits[2 * i + 1] = low;
     }
 }

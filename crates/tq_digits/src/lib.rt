@@ -6,5 +6,5 @@
 mod decimal;
 mod hexadecimal;
 
-pub use decimal::{MOST_DIGITS, push_digits, push_number};
+pub use decimal::push_number;
 pub use hexadecimal::push_bytes;

@@ -7,7 +7,6 @@ ghost use Rattle.tq_print.specs.Print.{Extends, printed, numbers_text, choice_te
 
 use tq_asks::Verdict;
 use tq_desk::{Grant, Op};
-use tq_digits::{MOST_DIGITS, push_digits};
 use tq_live::{ViewRefusal, ViewReply};
 use tq_shape::{Memory, ServerId};
 use tq_store::{Content, FileCopy, FileName};
@@ -210,8 +209,7 @@ fn push_spaced(text: &mut Vec<u8>, number: u64) -> Result<(), Memory>
     ensures text { OnOk result (text.new.items ≡ text.old.items ++ 32 ∷ decimal number) }
     ensures kept { OnErr result (Extends text.old.items text.new.items) }
 {
-    text.reserve(1 + MOST_DIGITS)?;
-    text.push_reserved(b' ');
-    push_digits(text, number);
+    text.push(b' ')?;
+    push_number(text, number)?;
     Ok(())
 }
