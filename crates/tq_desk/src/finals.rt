@@ -2,16 +2,16 @@ ghost use Rattle.std.specs.Prelude.{◌≡◌, ◌+◌, ◌<◌, ◌≤◌, IfOk
 ghost use Rattle.std.specs.FinMap as fin;
 ghost use Rattle.std.specs.Option.{option_copied};
 
+use indexmap::IndexMap;
 use std::alloc::Global;
 use std::marker::Model;
 use tq_asks::Verdict;
 use tq_shape::Memory;
-use tq_store::BoundedIndexMap;
 
 /// How each transaction ended that has.
 #[derive(Drop)]
 pub(crate) struct Finals {
-    verdicts: BoundedIndexMap<u64, Verdict>,
+    verdicts: IndexMap<u64, Verdict>,
 }
 
 impl Model for Finals {
@@ -32,7 +32,7 @@ impl Finals {
         ensures { result.finals ≡ fin.empty }
     {
         Finals {
-            verdicts: BoundedIndexMap::new(alloc),
+            verdicts: IndexMap::new(alloc),
         }
     }
 
