@@ -3,16 +3,17 @@ ghost use Rattle.std.specs.FinMap as fin;
 ghost use Rattle.tq_desk.specs.DeskStep as spec;
 ghost use Rattle.tq_desk.specs.DeskChanges.{names_written, with_names};
 
+use indexmap::IndexMap;
 use std::alloc::Global;
 use std::marker::Model;
 use tq_evidence::Op;
 use tq_shape::{Memory, Seq};
-use tq_store::{BoundedIndexMap, FileName};
+use tq_store::FileName;
 
 /// The files that commits wrote.
 #[derive(Drop)]
 pub(crate) struct WrittenFiles {
-    names: BoundedIndexMap<FileName, ()>,
+    names: IndexMap<FileName, ()>,
 }
 
 impl Model for WrittenFiles {
@@ -32,7 +33,7 @@ impl WrittenFiles {
         ensures { result.files ≡ fin.empty }
     {
         WrittenFiles {
-            names: BoundedIndexMap::new(alloc),
+            names: IndexMap::new(alloc),
         }
     }
 
