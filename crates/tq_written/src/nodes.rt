@@ -150,7 +150,8 @@ impl Formed for NodeAsk {
 
 /// A stop in the midst of work.
 fn put_stop(out: &mut Text, ask: &WorkAsk, after: u32) -> Result<(), Memory>
-    ensures adds { Adds result out.old out.new (compact_text (node_ask_value (NodeAsk.CrashIn after ask.now))) }
+    ensures adds { Adds result out.old out.new
+        (compact_text (node_ask_value (NodeAsk.CrashIn after ask.now))) }
     ensures fits { OnOk result (IsFitting (node_ask_value (NodeAsk.CrashIn after ask.now))) }
     ensures kept { OnOk result (IsWork ask.now × (after ≤ 4294967295)) }
 {

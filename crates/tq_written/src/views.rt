@@ -14,7 +14,8 @@ use tq_shape::{Memory, ServerId};
 
 /// The numbers of the servers.
 fn put_servers(out: &mut Text, servers: &[ServerId]) -> Result<(), Memory>
-    ensures adds { Adds result out.old out.new (compact_text (list_value whole (numbers_of servers.now))) }
+    ensures adds { Adds result out.old out.new
+        (compact_text (list_value whole (numbers_of servers.now))) }
     ensures fits { OnOk result (IsFitting (list_value whole (numbers_of servers.now))) }
 {
     put_list(out, servers)?;
