@@ -19,7 +19,6 @@ mod entry;
 mod fault;
 mod fields;
 mod file;
-mod formed;
 mod glance;
 mod locking;
 mod node_ask;
