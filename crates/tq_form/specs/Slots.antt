@@ -526,10 +526,10 @@ abbrev pub desk_refusal : Option ℕ → Option ℕ → Option Verdict → Optio
 desk_refusal code rule verdict = do
   code ← code
   cond (code == 21) (Some DeskRefusal.NoSuchTxn)
-    (cond (code == 22) (decided verdict)
-    (cond (code == 23) (bad_evidence rule)
-    (cond (code == 24) (Some DeskRefusal.TooManyOps)
-    (cond (code == 25) (Some DeskRefusal.TooManyFiles) None))))
+      (cond (code == 22) (decided verdict)
+      (cond (code == 23) (bad_evidence rule)
+      (cond (code == 24) (Some DeskRefusal.TooManyOps)
+      (cond (code == 25) (Some DeskRefusal.TooManyFiles) None))))
 
 abbrev pub desk_refused : Option ℕ → Option ℕ → Option Verdict → Option DeskReply
 desk_refused code rule verdict = do

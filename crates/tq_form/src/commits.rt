@@ -73,13 +73,25 @@ impl Fields for GrantFields {
 fn grant_from(fields: GrantFields) -> Option<Grant>
     ensures { result ≡ slots.grant_from fields }
 {
-    let GrantFields { content, mode, number, server, version } = fields;
+    let GrantFields {
+        content,
+        mode,
+        number,
+        server,
+        version,
+    } = fields;
     let mode = mode?;
     let number = number?;
     let server = server?;
     let version = version?;
     let content = content?;
-    Some(Grant { mode, number, server, version, content })
+    Some(Grant {
+        mode,
+        number,
+        server,
+        version,
+        content,
+    })
 }
 
 impl FromReader for Grant {
@@ -154,13 +166,25 @@ impl Fields for OpFields {
 fn op_from(fields: OpFields) -> Option<Op>
     ensures { result ≡ slots.op_from fields }
 {
-    let OpFields { content, file, grants, kind, version } = fields;
+    let OpFields {
+        content,
+        file,
+        grants,
+        kind,
+        version,
+    } = fields;
     let file = file?;
     let kind = kind?;
     let version = version?;
     let content = content?;
     let grants = grants?;
-    Some(Op { file, kind, version, content, grants })
+    Some(Op {
+        file,
+        kind,
+        version,
+        content,
+        grants,
+    })
 }
 
 impl FromReader for Op {
@@ -229,12 +253,22 @@ impl Fields for VoteFields {
 fn vote_from(fields: VoteFields) -> Option<Vote>
     ensures { result ≡ slots.vote_from fields }
 {
-    let VoteFields { held, number, server, writes } = fields;
+    let VoteFields {
+        held,
+        number,
+        server,
+        writes,
+    } = fields;
     let number = number?;
     let server = server?;
     let held = held?;
     let writes = writes?;
-    Some(Vote { number, server, held, writes })
+    Some(Vote {
+        number,
+        server,
+        held,
+        writes,
+    })
 }
 
 impl FromReader for Vote {
@@ -250,4 +284,3 @@ impl FromReader for Vote {
         Ok(vote_from(fields))
     }
 }
-

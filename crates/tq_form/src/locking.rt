@@ -5,11 +5,13 @@ ghost use Rattle.tq_form.specs.Locking as spec;
 use crate::fields::{Fields, take_object};
 use crate::parts::FromReader;
 use crate::plan::Plan;
-use crate::scalars::{take_content, take_file, take_mode, take_number, take_shared, take_verdict_kind, VerdictKind};
+use crate::scalars::{
+    VerdictKind, take_content, take_file, take_mode, take_number, take_shared, take_verdict_kind,
+};
 use std::alloc::Global;
 use tq_asks::{CitedVote, HeldLock, Verdict};
-use tq_members::{Format, is_text};
 use tq_locks::Mode;
+use tq_members::{Format, is_text};
 use tq_shape::SharedSeq;
 use tq_store::{Content, FileName, Write};
 use tq_value::{NotRead, Reader, pass_over};
@@ -127,11 +129,19 @@ impl Fields for WriteFields {
 fn write_from(fields: WriteFields) -> Option<Write>
     ensures { result ≡ slots.write_from fields }
 {
-    let WriteFields { content, file, version } = fields;
+    let WriteFields {
+        content,
+        file,
+        version,
+    } = fields;
     let content = content?;
     let file = file?;
     let version = version?;
-    Some(Write { content, file, version })
+    Some(Write {
+        content,
+        file,
+        version,
+    })
 }
 
 impl FromReader for Write {

@@ -5,7 +5,10 @@ ghost use Rattle.tq_form.specs.NodeAsks as spec;
 use crate::fields::{Fields, take_object};
 use crate::parts::FromReader;
 use crate::plan::Plan;
-use crate::scalars::{NodeKind, WorkKind, take_content, take_file, take_mode, take_node_kind, take_number, take_shared, take_work_kind};
+use crate::scalars::{
+    NodeKind, WorkKind, take_content, take_file, take_mode, take_node_kind, take_number,
+    take_shared, take_work_kind,
+};
 use std::alloc::Global;
 use tq_asks::{CitedVote, NodeAsk, Verdict, WorkAsk};
 use tq_locks::Mode;
@@ -193,7 +196,12 @@ fn work_by(kind: WorkKind, members: WorkMembers) -> Option<WorkAsk>
 fn lock(members: WorkMembers) -> Option<WorkAsk>
     ensures { result ≡ slots.lock members }
 {
-    let WorkMembers { file, mode, txn, .. } = members;
+    let WorkMembers {
+        file,
+        mode,
+        txn,
+        ..
+    } = members;
     let file = file?;
     let mode = mode?;
     let txn = txn?;
@@ -212,7 +220,12 @@ fn prepare(members: WorkMembers) -> Option<WorkAsk>
 fn decide(members: WorkMembers) -> Option<WorkAsk>
     ensures { result ≡ slots.decide members }
 {
-    let WorkMembers { cite, txn, verdict, .. } = members;
+    let WorkMembers {
+        cite,
+        txn,
+        verdict,
+        ..
+    } = members;
     let cite = cite?;
     let txn = txn?;
     let verdict = verdict?;
@@ -236,7 +249,13 @@ fn peek(members: WorkMembers) -> Option<WorkAsk>
 fn refresh(members: WorkMembers) -> Option<WorkAsk>
     ensures { result ≡ slots.refresh members }
 {
-    let WorkMembers { content, file, from, version, .. } = members;
+    let WorkMembers {
+        content,
+        file,
+        from,
+        version,
+        ..
+    } = members;
     let file = file?;
     let from = from?;
     let version = version?;
@@ -270,7 +289,11 @@ fn node_from(alloc: Global, fields: NodeFields) -> Result<Option<NodeAsk>, Memor
 }
 
 /// A stop: in which work, and behind how many of its records.
-fn stop(alloc: Global, after: Option<u64>, inside: Option<WorkAsk>) -> Result<Option<NodeAsk>, Memory>
+fn stop(
+    alloc: Global,
+    after: Option<u64>,
+    inside: Option<WorkAsk>,
+) -> Result<Option<NodeAsk>, Memory>
     ensures { IfOk result (λ ask. ask ≡ slots.stop after inside) }
 {
     let Some(after) = count_of(after) else {

@@ -5,7 +5,9 @@ ghost use Rattle.tq_form.specs.NodeReplies as spec;
 use crate::fields::{Fields, take_object};
 use crate::parts::FromReader;
 use crate::plan::Plan;
-use crate::scalars::{ReplyKind, take_content, take_file, take_number, take_reply_kind, take_shared};
+use crate::scalars::{
+    ReplyKind, take_content, take_file, take_number, take_reply_kind, take_shared,
+};
 use std::alloc::Global;
 use tq_asks::{HeldLock, NodeRefusal, NodeReply};
 use tq_members::is_text;

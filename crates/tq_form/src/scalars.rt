@@ -139,7 +139,10 @@ fn verdict_kind(text: &str) -> Option<VerdictKind>
     None
 }
 
-pub(crate) fn take_verdict_kind(reader: &mut Reader<'_>, depth: usize) -> Result<Option<VerdictKind>, NotRead>
+pub(crate) fn take_verdict_kind(
+    reader: &mut Reader<'_>,
+    depth: usize,
+) -> Result<Option<VerdictKind>, NotRead>
     ensures ok { IfOk result (Found (λ d kind. kind ≡ in_text kinds.verdict_kind d) (next depth reader.old) reader.new) }
     ensures err { result ≡ Err NotRead.NotJson → next depth reader.old ≡ None }
     ensures shorter { OnOk result (length reader.new < length reader.old) }
@@ -173,7 +176,10 @@ fn desk_kind(text: &str) -> Option<DeskKind>
     None
 }
 
-pub(crate) fn take_desk_kind(reader: &mut Reader<'_>, depth: usize) -> Result<Option<DeskKind>, NotRead>
+pub(crate) fn take_desk_kind(
+    reader: &mut Reader<'_>,
+    depth: usize,
+) -> Result<Option<DeskKind>, NotRead>
     ensures ok { IfOk result (Found (λ d kind. kind ≡ in_text kinds.desk_kind d) (next depth reader.old) reader.new) }
     ensures err { result ≡ Err NotRead.NotJson → next depth reader.old ≡ None }
     ensures shorter { OnOk result (length reader.new < length reader.old) }
@@ -219,7 +225,10 @@ fn work_kind(text: &str) -> Option<WorkKind>
     None
 }
 
-pub(crate) fn take_work_kind(reader: &mut Reader<'_>, depth: usize) -> Result<Option<WorkKind>, NotRead>
+pub(crate) fn take_work_kind(
+    reader: &mut Reader<'_>,
+    depth: usize,
+) -> Result<Option<WorkKind>, NotRead>
     ensures ok { IfOk result (Found (λ d kind. kind ≡ in_text kinds.work_kind d) (next depth reader.old) reader.new) }
     ensures err { result ≡ Err NotRead.NotJson → next depth reader.old ≡ None }
     ensures shorter { OnOk result (length reader.new < length reader.old) }
@@ -255,7 +264,10 @@ fn node_kind(text: &str) -> Option<NodeKind>
     Some(NodeKind::Work(work))
 }
 
-pub(crate) fn take_node_kind(reader: &mut Reader<'_>, depth: usize) -> Result<Option<NodeKind>, NotRead>
+pub(crate) fn take_node_kind(
+    reader: &mut Reader<'_>,
+    depth: usize,
+) -> Result<Option<NodeKind>, NotRead>
     ensures ok { IfOk result (Found (λ d kind. kind ≡ in_text kinds.node_kind d) (next depth reader.old) reader.new) }
     ensures err { result ≡ Err NotRead.NotJson → next depth reader.old ≡ None }
     ensures shorter { OnOk result (length reader.new < length reader.old) }
@@ -293,7 +305,10 @@ fn desk_reply_kind(text: &str) -> Option<DeskReplyKind>
     None
 }
 
-pub(crate) fn take_desk_reply_kind(reader: &mut Reader<'_>, depth: usize) -> Result<Option<DeskReplyKind>, NotRead>
+pub(crate) fn take_desk_reply_kind(
+    reader: &mut Reader<'_>,
+    depth: usize,
+) -> Result<Option<DeskReplyKind>, NotRead>
     ensures ok { IfOk result (Found (λ d kind. kind ≡ in_text kinds.desk_reply_kind d) (next depth reader.old) reader.new) }
     ensures err { result ≡ Err NotRead.NotJson → next depth reader.old ≡ None }
     ensures shorter { OnOk result (length reader.new < length reader.old) }
@@ -355,7 +370,10 @@ fn reply_kind(text: &str) -> Option<ReplyKind>
     None
 }
 
-pub(crate) fn take_reply_kind(reader: &mut Reader<'_>, depth: usize) -> Result<Option<ReplyKind>, NotRead>
+pub(crate) fn take_reply_kind(
+    reader: &mut Reader<'_>,
+    depth: usize,
+) -> Result<Option<ReplyKind>, NotRead>
     ensures ok { IfOk result (Found (λ d kind. kind ≡ in_text kinds.reply_kind d) (next depth reader.old) reader.new) }
     ensures err { result ≡ Err NotRead.NotJson → next depth reader.old ≡ None }
     ensures shorter { OnOk result (length reader.new < length reader.old) }
