@@ -4,3 +4,4 @@ pub mod Formats
 mod Rows
 mod Limited
 mod Planned
+mod Chosen

@@ -1,4 +1,3 @@
-pub mod Listed
 pub mod Locking
 pub mod NodeAsks
 pub mod NodeReplies
@@ -8,6 +7,7 @@ pub mod Views
 pub mod Entries
 pub mod Frame
 pub mod Plans
+pub mod Kinds
 pub mod Slots
 pub mod Faults
 pub mod Formats

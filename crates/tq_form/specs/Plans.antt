@@ -2,7 +2,7 @@
 use Rattle.std.specs.Prelude.{ℕ, nat_le, cond, codes, List, length, Option, Some, None}
 use Rattle.std.specs.Str.{bytes_eq}
 use Rattle.serde_json.specs.Data.{Data}
-use Rattle.serde_json.specs.Find.{get, as_array}
+use Rattle.serde_json.specs.Find.{get, as_str, as_array}
 use Rattle.tq_members.specs.Format.{format_of}
 use Rattle.tq_members.specs.Member.{◌>>=◌, number_at, each}
 use Rattle.tq_form.specs.declared.plan.Plan.{Plan}
@@ -39,3 +39,11 @@ abbrev pub listed : {A : Type 0} → (Data → Option A) → Option ℕ → Data
 listed form most value = do
   values ← as_array value
   capped most (each form values)
+
+-- what a form makes of a text
+abbrev pub in_text : {A : Type 0} → (List ℕ → Option A) → Data → Option A
+in_text form value = as_str value >>= form
+
+-- the list that a value is, of values of one form, however many
+abbrev pub all_of : {A : Type 0} → (Data → Option A) → Data → Option (List A)
+all_of form value = as_array value >>= each form

@@ -1,124 +1,173 @@
 ghost use Rattle.std.specs.Prelude.{◌≡◌, IfOk};
-ghost use Rattle.tq_value.specs.View.{view};
+ghost use Rattle.tq_form.specs.Slots as slots;
 ghost use Rattle.tq_form.specs.Desks as spec;
 
-use crate::formed::FromValue;
-use crate::locking::verdict_at;
+use crate::fields::{Fields, take_object};
+use crate::parts::FromReader;
+use crate::plan::Plan;
+use crate::scalars::{DeskReplyKind, take_desk_reply_kind, take_number};
 use std::alloc::Global;
+use tq_asks::Verdict;
 use tq_desk::{DeskRefusal, DeskReply};
 use tq_evidence::Rule;
-use tq_members::{Format, is_text};
-use tq_shape::Memory;
-use tq_value::{Value, number_at, text_at};
+use tq_members::is_text;
+use tq_value::{NotRead, Reader, pass_over};
 
-impl FromValue for DeskReply {
-    ghost form = { λ format. spec.desk_reply };
+/// What stands in a reply of the desk.
+#[derive(Drop)]
+struct DeskReplyFields {
+    code: Option<u64>,
+    kind: Option<DeskReplyKind>,
+    rule: Option<u64>,
+    serial: Option<u64>,
+    txn: Option<u64>,
+    verdict: Option<Verdict>,
+}
 
-    fn from_value(
+impl Fields for DeskReplyFields {
+    ghost of = { λ plan. slots.desk_reply_fields plan.format };
+
+    fn empty(_plan: &Plan) -> DeskReplyFields {
+        DeskReplyFields {
+            code: None,
+            kind: None,
+            rule: None,
+            serial: None,
+            txn: None,
+            verdict: None,
+        }
+    }
+
+    fn take(
+        &mut self,
         alloc: Global,
-        _format: Format,
-        value: &Value<'_>,
-    ) -> Result<Option<DeskReply>, Memory> {
-        let Some(kind) = text_at(value, "is") else {
-            return Ok(None);
-        };
-        desk_reply_by(alloc, kind, value)
+        plan: &Plan,
+        name: &str,
+        reader: &mut Reader<'_>,
+        depth: usize,
+    ) -> Result<(), NotRead> {
+        if is_text(name, "code") {
+            self.code = take_number(reader, depth)?;
+            return Ok(());
+        }
+        if is_text(name, "is") {
+            self.kind = take_desk_reply_kind(reader, depth)?;
+            return Ok(());
+        }
+        if is_text(name, "rule") {
+            self.rule = take_number(reader, depth)?;
+            return Ok(());
+        }
+        if is_text(name, "serial") {
+            self.serial = take_number(reader, depth)?;
+            return Ok(());
+        }
+        if is_text(name, "txn") {
+            self.txn = take_number(reader, depth)?;
+            return Ok(());
+        }
+        if is_text(name, "verdict") {
+            self.verdict = Verdict::from_reader(alloc, plan, reader, depth)?;
+            return Ok(());
+        }
+        pass_over(reader, depth)
     }
 }
 
-fn desk_reply_by(alloc: Global, kind: &str, value: &Value<'_>) -> Result<Option<DeskReply>, Memory>
-    ensures { IfOk result (λ reply. reply ≡ spec.desk_reply_by kind.now (view value.now)) }
+fn desk_reply_from(fields: DeskReplyFields) -> Option<DeskReply>
+    ensures { result ≡ slots.desk_reply_from fields }
 {
-    if is_text(kind, "txn") {
-        return Ok(begun(value));
+    let DeskReplyFields {
+        code,
+        kind,
+        rule,
+        serial,
+        txn,
+        verdict,
+    } = fields;
+    match kind? {
+        DeskReplyKind::Txn => begun(txn),
+        DeskReplyKind::Committed => committed(serial),
+        DeskReplyKind::Verdict => told(verdict),
+        DeskReplyKind::Refused => refused(code, rule, verdict),
     }
-    if is_text(kind, "committed") {
-        return Ok(committed(value));
-    }
-    if is_text(kind, "verdict") {
-        return told(alloc, value);
-    }
-    if is_text(kind, "refused") {
-        return refused(alloc, value);
-    }
-    Ok(None)
 }
 
-fn begun(value: &Value<'_>) -> Option<DeskReply>
-    ensures { result ≡ spec.begun (view value.now) }
+fn begun(txn: Option<u64>) -> Option<DeskReply>
+    ensures { result ≡ slots.begun txn }
 {
-    let txn = number_at(value, "txn")?;
+    let txn = txn?;
     Some(DeskReply::Txn(txn))
 }
 
-fn committed(value: &Value<'_>) -> Option<DeskReply>
-    ensures { result ≡ spec.committed (view value.now) }
+fn committed(serial: Option<u64>) -> Option<DeskReply>
+    ensures { result ≡ slots.committed serial }
 {
-    let serial = number_at(value, "serial")?;
+    let serial = serial?;
     Some(DeskReply::Committed { serial })
 }
 
-fn told(alloc: Global, value: &Value<'_>) -> Result<Option<DeskReply>, Memory>
-    ensures { IfOk result (λ reply. reply ≡ spec.told (view value.now)) }
+fn told(verdict: Option<Verdict>) -> Option<DeskReply>
+    ensures { result ≡ slots.told_verdict verdict }
 {
-    let Some(verdict) = verdict_at(alloc, value)? else {
-        return Ok(None);
-    };
-    Ok(Some(DeskReply::Verdict(verdict)))
+    let verdict = verdict?;
+    Some(DeskReply::Verdict(verdict))
 }
 
-fn refused(alloc: Global, value: &Value<'_>) -> Result<Option<DeskReply>, Memory>
-    ensures { IfOk result (λ reply. reply ≡ spec.desk_refused (view value.now)) }
+fn refused(code: Option<u64>, rule: Option<u64>, verdict: Option<Verdict>) -> Option<DeskReply>
+    ensures { result ≡ slots.desk_refused code rule verdict }
 {
-    let Some(refusal) = refusal(alloc, value)? else {
-        return Ok(None);
-    };
-    Ok(Some(DeskReply::Refused(refusal)))
+    let refusal = refusal(code, rule, verdict)?;
+    Some(DeskReply::Refused(refusal))
 }
 
-fn refusal(alloc: Global, value: &Value<'_>) -> Result<Option<DeskRefusal>, Memory>
-    ensures { IfOk result (λ refusal. refusal ≡ spec.desk_refusal (view value.now)) }
+fn refusal(code: Option<u64>, rule: Option<u64>, verdict: Option<Verdict>) -> Option<DeskRefusal>
+    ensures { result ≡ slots.desk_refusal code rule verdict }
 {
-    let Some(code) = number_at(value, "code") else {
-        return Ok(None);
-    };
-    refusal_by(alloc, code, value)
-}
-
-fn refusal_by(alloc: Global, code: u64, value: &Value<'_>) -> Result<Option<DeskRefusal>, Memory>
-    ensures { IfOk result (λ refusal. refusal ≡ spec.desk_refusal_by code (view value.now)) }
-{
+    let code = code?;
     if code == 21 {
-        return Ok(Some(DeskRefusal::NoSuchTxn));
+        return Some(DeskRefusal::NoSuchTxn);
     }
     if code == 22 {
-        return decided(alloc, value);
+        return decided(verdict);
     }
     if code == 23 {
-        return Ok(bad_evidence(value));
+        return bad_evidence(rule);
     }
     if code == 24 {
-        return Ok(Some(DeskRefusal::TooManyOps));
+        return Some(DeskRefusal::TooManyOps);
     }
     if code == 25 {
-        return Ok(Some(DeskRefusal::TooManyFiles));
+        return Some(DeskRefusal::TooManyFiles);
     }
-    Ok(None)
+    None
 }
 
-fn decided(alloc: Global, value: &Value<'_>) -> Result<Option<DeskRefusal>, Memory>
-    ensures { IfOk result (λ refusal. refusal ≡ spec.decided (view value.now)) }
+fn decided(verdict: Option<Verdict>) -> Option<DeskRefusal>
+    ensures { result ≡ slots.decided verdict }
 {
-    let Some(verdict) = verdict_at(alloc, value)? else {
-        return Ok(None);
-    };
-    Ok(Some(DeskRefusal::Decided(verdict)))
+    let verdict = verdict?;
+    Some(DeskRefusal::Decided(verdict))
 }
 
-fn bad_evidence(value: &Value<'_>) -> Option<DeskRefusal>
-    ensures { result ≡ spec.bad_evidence (view value.now) }
+fn bad_evidence(rule: Option<u64>) -> Option<DeskRefusal>
+    ensures { result ≡ slots.bad_evidence rule }
 {
-    let number = number_at(value, "rule")?;
+    let number = rule?;
     let rule = Rule::at(number)?;
     Some(DeskRefusal::BadEvidence { rule })
+}
+
+impl FromReader for DeskReply {
+    ghost form = { λ plan. spec.desk_reply };
+
+    fn from_reader(
+        alloc: Global,
+        plan: &Plan,
+        reader: &mut Reader<'_>,
+        depth: usize,
+    ) -> Result<Option<DeskReply>, NotRead> {
+        let fields: DeskReplyFields = take_object(alloc, plan, reader, depth)?;
+        Ok(desk_reply_from(fields))
+    }
 }

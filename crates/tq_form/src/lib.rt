@@ -5,9 +5,8 @@
 //! the file gives another in the end, it is read once more by that one.
 //!
 //! Files: `read.rt` `journals_from_json`; `plan.rt`, `glance.rt` the plan and the first look; `file.rt` the file; `entry.rt` an
-//! entry; `fields.rt`, `parts.rt` objects and lists from a reader; `scalars.rt` values that hold no others; `trees.rt` asks and
-//! replies, each by the tree of its value; one file for each kind of ask and reply; `commits.rt`, `locking.rt` their parts;
-//! `formed.rt` lists of values in a tree.
+//! entry; `fields.rt`, `parts.rt` objects and lists from a reader; `scalars.rt` values that hold no others, and the words of
+//! kinds; `trees.rt` what the view is asked and replies, each by the tree of its value; one file for each kind of ask and reply; `commits.rt`, `locking.rt` their parts.
 //! Definitions: `specs/Frame` and one for each kind of object; `Faults` what a reader answers. Words of the reader's own:
 //! `Plans` the plan and the members of an object by their names, `Slots` what is kept of them.
 #![tactic(auto)]
@@ -19,7 +18,6 @@ mod entry;
 mod fault;
 mod fields;
 mod file;
-mod formed;
 mod glance;
 mod locking;
 mod node_ask;

@@ -1,153 +1,189 @@
 ghost use Rattle.std.specs.Prelude.{◌≡◌, IfOk};
-ghost use Rattle.tq_value.specs.View.{view};
+ghost use Rattle.tq_form.specs.Slots as slots;
 ghost use Rattle.tq_form.specs.NodeReplies as spec;
 
-use crate::formed::{FromValue, shared_at};
+use crate::fields::{Fields, take_object};
+use crate::parts::FromReader;
+use crate::plan::Plan;
+use crate::scalars::{
+    ReplyKind, take_content, take_file, take_number, take_reply_kind, take_shared,
+};
 use std::alloc::Global;
-use tq_asks::{NodeRefusal, NodeReply};
-use tq_members::{Format, content_at, file_at, is_text};
-use tq_shape::Memory;
-use tq_value::{Value, number_at, text_at};
+use tq_asks::{HeldLock, NodeRefusal, NodeReply};
+use tq_members::is_text;
+use tq_shape::{Memory, SharedSeq};
+use tq_store::{Content, FileName, Write};
+use tq_value::{NotRead, Reader, pass_over};
 
-impl FromValue for NodeReply {
-    ghost form = { spec.node_reply };
+/// What stands in a reply of a server.
+#[derive(Drop)]
+struct ReplyFields {
+    by: Option<u64>,
+    code: Option<u64>,
+    content: Option<Content>,
+    file: Option<FileName>,
+    held: Option<SharedSeq<HeldLock>>,
+    kind: Option<ReplyKind>,
+    version: Option<u64>,
+    writes: Option<SharedSeq<Write>>,
+}
 
-    fn from_value(
+impl Fields for ReplyFields {
+    ghost of = { λ plan. slots.reply_fields plan.format };
+
+    fn empty(_plan: &Plan) -> ReplyFields {
+        ReplyFields {
+            by: None,
+            code: None,
+            content: None,
+            file: None,
+            held: None,
+            kind: None,
+            version: None,
+            writes: None,
+        }
+    }
+
+    fn take(
+        &mut self,
         alloc: Global,
-        format: Format,
-        value: &Value<'_>,
-    ) -> Result<Option<NodeReply>, Memory> {
-        let Some(kind) = text_at(value, "is") else {
-            return Ok(None);
-        };
-        node_reply_by(alloc, format, kind, value)
+        plan: &Plan,
+        name: &str,
+        reader: &mut Reader<'_>,
+        depth: usize,
+    ) -> Result<(), NotRead> {
+        if is_text(name, "by") {
+            self.by = take_number(reader, depth)?;
+            return Ok(());
+        }
+        if is_text(name, "code") {
+            self.code = take_number(reader, depth)?;
+            return Ok(());
+        }
+        if is_text(name, "content") {
+            self.content = take_content(alloc, plan.format, reader, depth)?;
+            return Ok(());
+        }
+        if is_text(name, "file") {
+            self.file = take_file(reader, depth)?;
+            return Ok(());
+        }
+        if is_text(name, "held") {
+            self.held = take_shared(alloc, plan, reader, depth)?;
+            return Ok(());
+        }
+        if is_text(name, "is") {
+            self.kind = take_reply_kind(reader, depth)?;
+            return Ok(());
+        }
+        if is_text(name, "version") {
+            self.version = take_number(reader, depth)?;
+            return Ok(());
+        }
+        if is_text(name, "writes") {
+            self.writes = take_shared(alloc, plan, reader, depth)?;
+            return Ok(());
+        }
+        pass_over(reader, depth)
     }
 }
 
-fn node_reply_by(
+fn reply_from(alloc: Global, fields: ReplyFields) -> Result<Option<NodeReply>, Memory>
+    ensures { IfOk result (λ reply. reply ≡ slots.reply_from fields) }
+{
+    let ReplyFields {
+        by,
+        code,
+        content,
+        file,
+        held,
+        kind,
+        version,
+        writes,
+    } = fields;
+    let Some(kind) = kind else {
+        return Ok(None);
+    };
+    match kind {
+        ReplyKind::Granted => Ok(granted(version, content)),
+        ReplyKind::Yes => Ok(yes_vote(held, writes)),
+        ReplyKind::Copy => Ok(copy(version, content)),
+        ReplyKind::Refused => refused(alloc, code, by, file),
+        ReplyKind::Installed => Ok(Some(NodeReply::Installed)),
+        ReplyKind::Discarded => Ok(Some(NodeReply::Discarded)),
+        ReplyKind::Released => Ok(Some(NodeReply::Released)),
+        ReplyKind::Refreshed => Ok(Some(NodeReply::Refreshed)),
+        ReplyKind::Crashed => Ok(Some(NodeReply::Crashed)),
+        ReplyKind::Returned => Ok(Some(NodeReply::Returned)),
+    }
+}
+
+fn granted(version: Option<u64>, content: Option<Content>) -> Option<NodeReply>
+    ensures { result ≡ slots.granted version content }
+{
+    let version = version?;
+    let content = content?;
+    Some(NodeReply::Granted { version, content })
+}
+
+fn copy(version: Option<u64>, content: Option<Content>) -> Option<NodeReply>
+    ensures { result ≡ slots.copy version content }
+{
+    let version = version?;
+    let content = content?;
+    Some(NodeReply::Copy { version, content })
+}
+
+fn yes_vote(
+    held: Option<SharedSeq<HeldLock>>,
+    writes: Option<SharedSeq<Write>>,
+) -> Option<NodeReply>
+    ensures { result ≡ slots.yes_vote held writes }
+{
+    let held = held?;
+    let writes = writes?;
+    Some(NodeReply::Yes { held, writes })
+}
+
+fn refused(
     alloc: Global,
-    format: Format,
-    kind: &str,
-    value: &Value<'_>,
+    code: Option<u64>,
+    by: Option<u64>,
+    file: Option<FileName>,
 ) -> Result<Option<NodeReply>, Memory>
-    ensures { IfOk result (λ reply. reply ≡ spec.node_reply_by format kind.now (view value.now)) }
+    ensures { IfOk result (λ reply. reply ≡ slots.refused code by file) }
 {
-    if is_text(kind, "granted") {
-        return granted(alloc, format, value);
-    }
-    if is_text(kind, "yes") {
-        return yes_vote(alloc, format, value);
-    }
-    if is_text(kind, "copy") {
-        return copy(alloc, format, value);
-    }
-    if is_text(kind, "refused") {
-        return refused(alloc, value);
-    }
-    Ok(bare_reply(kind))
-}
-
-/// The replies without further members.
-fn bare_reply(kind: &str) -> Option<NodeReply>
-    ensures { result ≡ spec.bare_reply kind.now }
-{
-    if is_text(kind, "installed") {
-        return Some(NodeReply::Installed);
-    }
-    if is_text(kind, "discarded") {
-        return Some(NodeReply::Discarded);
-    }
-    if is_text(kind, "released") {
-        return Some(NodeReply::Released);
-    }
-    if is_text(kind, "refreshed") {
-        return Some(NodeReply::Refreshed);
-    }
-    if is_text(kind, "crashed") {
-        return Some(NodeReply::Crashed);
-    }
-    if is_text(kind, "returned") {
-        return Some(NodeReply::Returned);
-    }
-    None
-}
-
-fn granted(alloc: Global, format: Format, value: &Value<'_>) -> Result<Option<NodeReply>, Memory>
-    ensures { IfOk result (λ reply. reply ≡ spec.granted format (view value.now)) }
-{
-    let Some(version) = number_at(value, "version") else {
-        return Ok(None);
-    };
-    let Some(content) = content_at(alloc, format, value, "content")? else {
-        return Ok(None);
-    };
-    Ok(Some(NodeReply::Granted { version, content }))
-}
-
-fn copy(alloc: Global, format: Format, value: &Value<'_>) -> Result<Option<NodeReply>, Memory>
-    ensures { IfOk result (λ reply. reply ≡ spec.copy format (view value.now)) }
-{
-    let Some(version) = number_at(value, "version") else {
-        return Ok(None);
-    };
-    let Some(content) = content_at(alloc, format, value, "content")? else {
-        return Ok(None);
-    };
-    Ok(Some(NodeReply::Copy { version, content }))
-}
-
-fn yes_vote(alloc: Global, format: Format, value: &Value<'_>) -> Result<Option<NodeReply>, Memory>
-    ensures { IfOk result (λ reply. reply ≡ spec.yes_vote format (view value.now)) }
-{
-    let Some(held) = shared_at(alloc, format, value, "held")? else {
-        return Ok(None);
-    };
-    let Some(writes) = shared_at(alloc, format, value, "writes")? else {
-        return Ok(None);
-    };
-    Ok(Some(NodeReply::Yes { held, writes }))
-}
-
-fn refused(alloc: Global, value: &Value<'_>) -> Result<Option<NodeReply>, Memory>
-    ensures { IfOk result (λ reply. reply ≡ spec.node_refused (view value.now)) }
-{
-    let Some(refusal) = refusal(value) else {
+    let Some(refusal) = refusal(code, by, file) else {
         return Ok(None);
     };
     let refused = NodeReply::refused(alloc, refusal)?;
     Ok(Some(refused))
 }
 
-fn refusal(value: &Value<'_>) -> Option<NodeRefusal>
-    ensures { result ≡ spec.node_refusal (view value.now) }
+fn refusal(code: Option<u64>, by: Option<u64>, file: Option<FileName>) -> Option<NodeRefusal>
+    ensures { result ≡ slots.refusal code by file }
 {
-    let code = number_at(value, "code")?;
-    refusal_by(code, value)
-}
-
-fn refusal_by(code: u64, value: &Value<'_>) -> Option<NodeRefusal>
-    ensures { result ≡ spec.node_refusal_by code (view value.now) }
-{
+    let code = code?;
     if code == 14 {
-        return held_by(value);
+        return held_by(by);
     }
     if code == 16 {
-        return not_locked(value);
+        return not_locked(file);
     }
     code_refusal(code)
 }
 
-fn held_by(value: &Value<'_>) -> Option<NodeRefusal>
-    ensures { result ≡ spec.held_by (view value.now) }
+fn held_by(by: Option<u64>) -> Option<NodeRefusal>
+    ensures { result ≡ slots.held_by by }
 {
-    let by = number_at(value, "by")?;
+    let by = by?;
     Some(NodeRefusal::Held { by })
 }
 
-fn not_locked(value: &Value<'_>) -> Option<NodeRefusal>
-    ensures { result ≡ spec.not_locked (view value.now) }
+fn not_locked(file: Option<FileName>) -> Option<NodeRefusal>
+    ensures { result ≡ slots.not_locked file }
 {
-    let file = file_at(value, "file")?;
+    let file = file?;
     Some(NodeRefusal::NotLocked { file })
 }
 
@@ -164,5 +200,19 @@ fn code_refusal(code: u64) -> Option<NodeRefusal>
         18 => Some(NodeRefusal::NotNewer),
         19 => Some(NodeRefusal::NothingHere),
         _ => None,
+    }
+}
+
+impl FromReader for NodeReply {
+    ghost form = { λ plan. spec.node_reply plan.format };
+
+    fn from_reader(
+        alloc: Global,
+        plan: &Plan,
+        reader: &mut Reader<'_>,
+        depth: usize,
+    ) -> Result<Option<NodeReply>, NotRead> {
+        let fields: ReplyFields = take_object(alloc, plan, reader, depth)?;
+        Ok(reply_from(alloc, fields)?)
     }
 }

@@ -18,7 +18,7 @@ pub fn file_at(value: &Value<'_>, name: &str) -> Option<FileName>
 }
 
 /// The name of a file that the text is.
-fn name_of(text: &str) -> Option<FileName>
+pub fn name_of(text: &str) -> Option<FileName>
     ensures { result ≡ spec.name_of text.now }
 {
     FileName::new(text.as_bytes())
@@ -40,7 +40,7 @@ pub fn content_at(
 }
 
 /// The content that the text is. A text with more digits than a content of the format has takes no memory.
-fn content_of(alloc: Global, format: Format, text: &str) -> Result<Option<Content>, Memory>
+pub fn content_of(alloc: Global, format: Format, text: &str) -> Result<Option<Content>, Memory>
     ensures { IfOk result (λ content. content ≡ spec.content_of format text.now) }
 {
     let most_digits = 2 * format.most_content();

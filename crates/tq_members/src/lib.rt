@@ -8,6 +8,6 @@ mod content;
 mod format;
 mod member;
 
-pub use content::{content_at, file_at};
+pub use content::{content_at, content_of, file_at, name_of};
 pub use format::Format;
 pub use member::{is_text, numbers};
