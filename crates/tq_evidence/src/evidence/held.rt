@@ -5,11 +5,12 @@ ghost use Rattle.std.specs.FinMap as fin;
 ghost use Rattle.std.specs.Option.{option_copied};
 ghost use Rattle.tq_evidence.specs.Held as spec;
 
+use indexmap::IndexMap;
 use std::alloc::Global;
 use std::marker::Model;
 use tq_asks::HeldLock;
 use tq_shape::Memory;
-use tq_store::{BoundedIndexMap, FileName};
+use tq_store::FileName;
 
 /// For each file that a vote lists, the least number that it is held since.
 #[derive(Drop)]
@@ -52,7 +53,7 @@ impl HeldSince {
 /// A table by file, with the room that it has.
 #[derive(Drop)]
 struct LeastTable {
-    least: BoundedIndexMap<FileName, u64>,
+    least: IndexMap<FileName, u64>,
 }
 
 impl Model for LeastTable {
@@ -72,7 +73,7 @@ impl LeastTable {
         ensures { result.least ≡ fin.empty }
     {
         LeastTable {
-            least: BoundedIndexMap::new(alloc),
+            least: IndexMap::new(alloc),
         }
     }
 
