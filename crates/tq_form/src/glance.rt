@@ -4,16 +4,23 @@ ghost use Rattle.std.specs.Prelude.{◌<◌, length, OnOk};
 use crate::file::{plan_from, take_limits};
 use crate::plan::Plan;
 use crate::scalars::take_number;
+use memchr::memmem;
 use std::alloc::Global;
 use tq_members::{Format, is_text};
 use tq_shape::{Levels, Limits, MOST_ENTRIES};
 use tq_value::{NotRead, Reader, Scratch, open_object};
+
+/// How the member begins that says the format.
+const FORMAT: &[u8] = b"\"format\":";
 
 /// How deep the members of a file may nest.
 const MEMBER_DEPTH: usize = 126;
 
 /// The plan that a file gives first: any plan, where it gives none.
 pub(crate) fn first_plan(alloc: Global, text: &str, scratch: &mut Scratch) -> Plan {
+    if let Some(plan) = written_plan(text.as_bytes()) {
+        return plan;
+    }
     let plan = Plan {
         format: Format::Two,
         levels: Levels::default(),
@@ -23,6 +30,34 @@ pub(crate) fn first_plan(alloc: Global, text: &str, scratch: &mut Scratch) -> Pl
         Ok(Some(found)) => found,
         _ => plan,
     }
+}
+
+/// The plan where it stands as the product writes it: so what is before it is not read for it.
+fn written_plan(text: &[u8]) -> Option<Plan> {
+    let at = memmem::find(text, FORMAT)?;
+    let (format, text) = number_behind(FORMAT, &text[at..])?;
+    let (levels, text) = number_behind(b",\"levels\":", text)?;
+    let (entries, _) = number_behind(b",\"limits\":{\"entries\":", text)?;
+    Some(Plan {
+        format: Format::of_number(format as u64)?,
+        levels: Levels::new(levels)?,
+        limit: entries,
+    })
+}
+
+/// The number behind these bytes, with which the text begins, and the rest.
+fn number_behind<'a>(before: &[u8], text: &'a [u8]) -> Option<(u32, &'a [u8])> {
+    let text = text.strip_prefix(before)?;
+    let mut number: u32 = 0;
+    for (place, byte) in text.iter().enumerate() {
+        if !byte.is_ascii_digit() {
+            return Some((number, &text[place..]));
+        }
+        number = number
+            .saturating_mul(10)
+            .saturating_add((*byte - b'0') as u32);
+    }
+    Some((number, &[]))
 }
 
 fn glance(
