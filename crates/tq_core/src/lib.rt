@@ -1,11 +1,10 @@
 //! All parts of a system as one service, which journals every ask with its reply.
 //!
-//! Files: `service.rt` the service; `unfounded.rt` the first citation that is not founded.
+//! Files: `service.rt` the service.
 //! Definitions: `specs/Service` (its tables are those of its journals), `Asked`.
 #![tactic(auto)]
 
 mod service;
-mod unfounded;
 
 pub use service::Service;
 pub use tq_part::Answered;

@@ -21,7 +21,7 @@ use tq_shape::{Levels, Limits, Memory, Part, ServerId, make_room};
 use tq_tables::{
     DeskEntry, Entry, Journals, NodeEntry, Parts, Replies, Tables, ViewEntry, replay_nodes,
 };
-use tq_world::{Citation, item_at};
+use tq_world::{Citation, CitedEntries, item_at, unfounded_in_desk_ask, unfounded_in_node_ask};
 
 /// All parts of a system, which the tables follow, and beside them a journal of each: its servers, its desk and its
 /// view. Each ask that a part answers is entered into the part's journal with the reply, and changes the rows of the
@@ -54,15 +54,32 @@ impl Model for Service {
 
     ghost Value = { JournalsView };
 
-    ghost view = { λ a. journals_in a.tables a.limits (map (λ entries. entries.items) a.servers.items) a.desk.items a.view.items };
+    ghost view = { λ a. journals_in a.tables a.limits
+        (map (λ entries. entries.items) a.servers.items) a.desk.items a.view.items };
 
-    ghost invariant = { λ a. IsService a.tables (journals_in a.tables a.limits (map (λ entries. entries.items) a.servers.items) a.desk.items a.view.items) };
+    ghost invariant = { λ a. IsService a.tables
+        (journals_in a.tables a.limits
+        (map (λ entries. entries.items) a.servers.items) a.desk.items a.view.items) };
+}
+
+impl CitedEntries for Service {
+    ghost journals = { λ service. service };
+
+    fn server_entry(&self, server: u64, number: u64) -> Option<&NodeEntry> {
+        match self.server_journal(server) {
+            Some(entries) => item_at(entries, number),
+            None => None,
+        }
+    }
+
+    fn desk_entry(&self, number: u64) -> Option<&DeskEntry> {
+        item_at(self.desk_journal(), number)
+    }
 }
 
 impl Service {
     ghost use Rattle.tq_world.specs.World as world;
     ghost use Rattle.tq_world.specs.Steps as spec;
-    ghost use Rattle.tq_world.specs.Founded as founded;
     ghost use Rattle.tq_world.specs.JournalOf as part_journals;
     ghost use Rattle.tq_world.specs.CommittedReads.{HasCommittedReads};
     ghost use Rattle.tq_world.specs.Offered.{OffersBest};
@@ -132,7 +149,8 @@ impl Service {
 
     /// The journal of a part, None where there is no such server.
     pub fn journal(&self, part: Part) -> Option<Journal<'_>>
-        ensures { option_map part_journals.entries_of result ≡ part_journals.journal_of self.now part }
+        ensures { option_map part_journals.entries_of result
+            ≡ part_journals.journal_of self.now part }
     {
         match part {
             Part::Server(server) => match self.server_journal(server) {
@@ -162,7 +180,8 @@ impl Service {
     /// Why an ask of a part that has so many entries is not taken: the journal is full, or the ask cites this, which does
     /// not stand.
     fn refusal(&self, part: Part, entries: usize, unfounded: Option<Citation>) -> Option<AskFault>
-        ensures { option_map asks.refusal_of result ≡ spec.refuse_entry self.now part entries unfounded }
+        ensures { option_map asks.refusal_of result
+            ≡ spec.refuse_entry self.now part entries unfounded }
     {
         if entries >= self.limits.entries() as usize {
             return Some(AskFault::JournalFull { part });
@@ -183,15 +202,17 @@ impl Service {
         ask: NodeAsk,
     ) -> Result<Answered<NodeReply>, AskFault>
         requires { server.levels ≡ self.old.levels }
-        ensures told { spec.IsTold self.old (Step.Node server.number ask) (told_by Reply.Node result) }
-        ensures after { OnOk result (self.new ≡ spec.world_after self.old (Step.Node server.number ask)) }
+        ensures told { spec.IsTold self.old (Step.Node server.number ask)
+            (told_by Reply.Node result) }
+        ensures after { OnOk result (self.new
+            ≡ spec.world_after self.old (Step.Node server.number ask)) }
         ensures err { OnErr result (self.new ≡ self.old) }
         ensures committed_reads { HasCommittedReads self.new }
         ensures headline { Headline self.new (tables_of self.new) }
     {
         let number = server.number();
         let place = (number - 1) as usize;
-        let unfounded = self.unfounded_in_node_ask(&ask);
+        let unfounded = unfounded_in_node_ask(self, &ask);
         let entries = self.servers[place].len();
         if let Some(fault) = self.refusal(Part::Server(number), entries, unfounded) {
             self.ran();
@@ -217,7 +238,7 @@ impl Service {
         ensures committed_reads { HasCommittedReads self.new }
         ensures headline { Headline self.new (tables_of self.new) }
     {
-        let unfounded = self.unfounded_in_desk_ask(&ask);
+        let unfounded = unfounded_in_desk_ask(self, &ask);
         if let Some(fault) = self.refusal(Part::Desk, self.desk_journal().len(), unfounded) {
             self.ran();
             return Err(fault);
@@ -232,7 +253,8 @@ impl Service {
     pub fn ask_view(&mut self, alloc: Global, ask: ViewAsk) -> Result<Answered<ViewReply>, AskFault>
         ensures told { spec.IsTold self.old (Step.View ask) (told_by Reply.View result) }
         ensures after { OnOk result (self.new ≡ spec.world_after self.old (Step.View ask)) }
-        ensures offered { IfOk result (λ told. OffersBest self.old (Step.View ask) (answer_of Reply.View told)) }
+        ensures offered { IfOk result (λ told.
+            OffersBest self.old (Step.View ask) (answer_of Reply.View told)) }
         ensures err { OnErr result (self.new ≡ self.old) }
         ensures committed_reads { HasCommittedReads self.new }
         ensures headline { Headline self.new (tables_of self.new) }
@@ -295,7 +317,8 @@ impl Service {
         steps: Vec<Step>,
     ) -> Result<Vec<Result<Answer, Refusal>>, Memory>
         ensures told { IfOk result (λ results. spec.AreTold self.old steps.items results.items) }
-        ensures after { IfOk result (λ results. self.new ≡ spec.run_from self.old (spec.taken steps.items results.items)) }
+        ensures after { IfOk result (λ results.
+            self.new ≡ spec.run_from self.old (spec.taken steps.items results.items)) }
         ensures err { OnErr result (self.new ≡ self.old) }
         ensures offered { IfOk result (λ results. AreOffered self.old steps.items results.items) }
         ensures committed_reads { HasCommittedReads self.new }
@@ -312,7 +335,8 @@ impl Service {
         steps: Vec<Step>,
     ) -> Result<Vec<Result<Answer, Refusal>>, Memory>
         ensures told { IfOk result (λ results. spec.AreTold self.old steps.items results.items) }
-        ensures after { IfOk result (λ results. self.new ≡ spec.run_from self.old (spec.taken steps.items results.items)) }
+        ensures after { IfOk result (λ results.
+            self.new ≡ spec.run_from self.old (spec.taken steps.items results.items)) }
         ensures err { OnErr result (self.new ≡ self.old) }
         ensures committed_reads { HasCommittedReads self.new }
     {
@@ -337,7 +361,8 @@ fn enter_node(
     ask: NodeAsk,
 ) -> Result<Answered<NodeReply>, Memory>
     requires { MayAskNode tables.old server (length journal.old.items + 1) }
-    ensures { IsEntered (λ journals e. with_node journals server e) tables.old tables.new journal.old.items journal.new.items ask
+    ensures { IsEntered (λ journals e. with_node journals server e)
+        tables.old tables.new journal.old.items journal.new.items ask
         (reply_of (node_in tables.old.nodes server) ask) result }
 {
     let number = journal.len() as u64 + 1;
@@ -363,7 +388,8 @@ fn enter_desk(
     ask: DeskAsk,
 ) -> Result<Answered<DeskReply>, Memory>
     requires { MayAskDesk tables.old }
-    ensures { IsEntered with_desk tables.old tables.new journal.old.items journal.new.items ask (desk_reply tables.old.desk ask) result }
+    ensures { IsEntered with_desk tables.old tables.new journal.old.items journal.new.items ask
+        (desk_reply tables.old.desk ask) result }
 {
     let number = journal.len() as u64 + 1;
     make_room(journal, 1)?;
@@ -387,7 +413,8 @@ fn enter_view(
     alloc: Global,
     ask: ViewAsk,
 ) -> Result<Answered<ViewReply>, Memory>
-    ensures { IsEntered with_view tables.old tables.new journal.old.items journal.new.items ask (view_reply tables.old.view ask) result }
+    ensures { IsEntered with_view tables.old tables.new journal.old.items journal.new.items ask
+        (view_reply tables.old.view ask) result }
 {
     let number = journal.len() as u64 + 1;
     make_room(journal, 1)?;
@@ -426,7 +453,8 @@ fn refusal_of(fault: AskFault) -> Refusal
 
 /// A journal with no entry for each server of the tree.
 fn empty_journals(alloc: Global, levels: Levels) -> Result<Vec<Vec<NodeEntry>>, Memory>
-    ensures { IfOk result (λ servers. map (λ entries. entries.items) servers.items ≡ replicate (2 ^ levels - 1) []) }
+    ensures { IfOk result (λ servers.
+        map (λ entries. entries.items) servers.items ≡ replicate (2 ^ levels - 1) []) }
 {
     let mut servers = Vec::new(alloc);
     for _ in 0..levels.servers() {

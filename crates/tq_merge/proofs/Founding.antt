@@ -2,7 +2,7 @@
 use Rattle.std.specs.Prelude.{not}
 use Rattle.std.proofs.Common.{◌≡◌, ◌≤◌, ℕ, Bool, true, false, List, [], ◌∷◌, map, take, Option, Some, None, refl, sym, ap, subst, ◌∙◌, inl, inr, arith}
 use Rattle.std.specs.List.{find}
-use Rattle.std.specs.Option.{option_map, option_map_or, option_and_then}
+use Rattle.std.specs.Option.{option_map, option_map_or, option_and_then, option_to_list}
 use Rattle.std.proofs.lemmas.Bool.{cond-false}
 use Rattle.tq_shape.specs.Journal.{Has}
 use Rattle.tq_shape.specs.declared.part.Part.{Part}
@@ -23,10 +23,10 @@ use Rattle.tq_world.specs.declared.answer.Step.{Step}
 use Rattle.tq_world.specs.declared.answer.Step.TheVariants as steps
 use Rattle.tq_world.specs.declared.citation.Citation.{Citation}
 use Rattle.tq_world.specs.World.{item_at, server_entry}
-use Rattle.tq_world.specs.Founded.{is_founded_grant, is_founded_vote, is_founded_copy, is_founded_verdict, is_granted, is_voted, is_peeked, is_ended, cited_grant, cited_vote, unless, unfounded_grant, unfounded_op, unfounded_vote, unfounded_in_work}
+use Rattle.tq_world.specs.Founded.{is_founded_grant, is_founded_vote, is_founded_copy, is_founded_verdict, is_granted, is_voted, is_peeked, is_ended, cited_grant, cited_vote, unless, unfounded_grant, unfounded_op, unfounded_vote, cited_in_work, unfounded_in_work}
 use Rattle.tq_shape.specs.Steps.{or_else}
 use Rattle.tq_world.proofs.Contents.{tested-is}
-use Rattle.tq_merge.specs.Cited.{cited_in, cited_in_ops, cited_in_work}
+use Rattle.tq_merge.specs.Cited.{cited_in, cited_in_ops}
 use Rattle.tq_merge.specs.Order.{firsts, unfounded}
 use Rattle.tq_merge.proofs.Places.{first_item, item_first, item_each}
 
@@ -109,7 +109,7 @@ module _ (world other : JournalsView) where
       (none_found (is_founded_vote other txn) votes
       (λ v has. vote_stays txn v (stay (cited_vote v) (map-Has cited_vote votes v has)) (all_founded (is_founded_vote world txn) votes clean v has)))
 
-  work_stays : (ask : WorkAsk) → ((c : Citation) → Has (cited_in_work ask) c → Stays world other c) → unfounded_in_work world ask ≡ None → unfounded_in_work other ask ≡ None
+  work_stays : (ask : WorkAsk) → ((c : Citation) → Has (option_to_list (cited_in_work ask)) c → Stays world other c) → unfounded_in_work world ask ≡ None → unfounded_in_work other ask ≡ None
   work_stays (work.Decide txn verdict cite) stay none =
       ap (λ b. unless b (record { part = parts.Desk; number = cite }))
       (test_stays (λ (e : DeskEntry). is_ended txn verdict e.ask e.reply) (item_at world.desk cite) (item_at other.desk cite)
@@ -165,7 +165,7 @@ module _ (world : JournalsView) where
       let found = tested-is (λ (e : NodeEntry). is_voted txn v e.ask e.reply) (server_entry world v.server v.number) (all_founded (is_founded_vote world txn) votes clean v from.1) in
       subst (Stands world) from.2 (found.0, found.1)
 
-  work_stands : (ask : WorkAsk) → unfounded_in_work world ask ≡ None → (c : Citation) → Has (cited_in_work ask) c → Stands world c
+  work_stands : (ask : WorkAsk) → unfounded_in_work world ask ≡ None → (c : Citation) → Has (option_to_list (cited_in_work ask)) c → Stands world c
   work_stands (work.Decide txn verdict cite) none c (inl same) =
       let found = tested-is (λ (e : DeskEntry). is_ended txn verdict e.ask e.reply) (item_at world.desk cite) (unless_true (is_founded_verdict world txn verdict cite) _ none) in
       subst (Stands world) same (found.0, found.1)

@@ -1,7 +1,7 @@
 -- Entries placed one after another: what is kept stays true.
 use Rattle.std.specs.Prelude.{slice_get, slice_set, is_none}
 use Rattle.std.proofs.Common.{◌≡◌, ◌≢◌, ◌≤◌, ◌+◌, ◌-◌, ℕ, zero, suc, Bool, true, false, List, [], ◌∷◌, ◌++◌, length, take, Option, Some, None, refl, sym, ap, subst, ◌∙◌, nat_le, ◌⊎◌, inl, inr, arith}
-use Rattle.std.specs.Option.{option_map, option_map_or, option_and_then}
+use Rattle.std.specs.Option.{option_map, option_map_or, option_and_then, option_to_list}
 use Rattle.std.proofs.lemmas.Bool.{false≢true, and_parts, and_from, leb-true}
 use Rattle.tq_tables.proofs.RowLaws.{le-true}
 use Rattle.tq_shape.specs.Journal.{Has}
@@ -20,10 +20,10 @@ use Rattle.tq_world.specs.declared.answer.Step.{Step}
 use Rattle.tq_world.specs.declared.answer.Step.TheVariants as steps
 use Rattle.tq_world.specs.declared.citation.Citation.{Citation}
 use Rattle.tq_world.specs.World.{item_at, server_entry}
-use Rattle.tq_world.specs.Founded.{unfounded_in_node_ask, unfounded_in_desk_ask}
-use Rattle.tq_merge.specs.Cited.{cited_in, cited_in_work, cited_in_node_ask, entry_cited}
+use Rattle.tq_world.specs.Founded.{cited_in_work, unfounded_in_node_ask, unfounded_in_desk_ask}
+use Rattle.tq_merge.specs.Cited.{cited_in, cited_in_node_ask, entry_cited}
 use Rattle.tq_merge.specs.Order.{times, each_from, counts_of, placed, step_at, unfounded, IsNext}
-use Rattle.tq_merge.specs.Placing.{is_placed, is_placed_in_work, is_placed_in_node_ask, is_ready, IsWanted, IsNextWanted, IsPlacing, added, left}
+use Rattle.tq_merge.specs.Placing.{is_placed, is_citation_placed, is_placed_in_node_ask, is_ready, IsWanted, IsNextWanted, IsPlacing, added, left}
 use Rattle.tq_merge.proofs.Places.{times-more, times-same, times-other, item_at-suc, item_each, each_set, each_after, each_same, take_none, take_past}
 use Rattle.tq_world.proofs.Rooms.{item_above}
 use Rattle.tq_merge.proofs.Founding.{cited_stands, entry_of_firsts, founded_whole, founded_cites, founded_firsts}
@@ -69,7 +69,7 @@ module _ (journals : JournalsView) (order : List Part) (servers : List ℕ) (cou
 
   -- ---- a server's ask is ready exactly where it is founded in what is placed
 
-  work_numbers : (desk : ℕ) → desk ≡ times order parts.Desk → (ask : WorkAsk) → is_placed_in_work servers desk ask ≡ true → (c : Citation) → Has (cited_in_work ask) c → c.number ≤ times order c.part
+  work_numbers : (desk : ℕ) → desk ≡ times order parts.Desk → (ask : WorkAsk) → option_map_or (is_citation_placed servers desk) (cited_in_work ask) true ≡ true → (c : Citation) → Has (option_to_list (cited_in_work ask)) c → c.number ≤ times order c.part
   work_numbers desk is (work.Decide txn verdict cite) ready c (inl same) =
       subst (λ (x : Citation). x.number ≤ times order x.part) same (let most = leb-true cite desk ready in omega (arith, most, is))
   work_numbers desk is (work.Decide txn verdict cite) ready c (inr none) = absurd none
@@ -91,7 +91,7 @@ module _ (journals : JournalsView) (order : List Part) (servers : List ℕ) (cou
       let halves = and_parts (is_placed_in_node_ask servers desk ask) (is_none (unfounded_in_node_ask journals ask)) ready in
       founded_firsts journals (times order) (steps.Node server ask) (none_true (unfounded_in_node_ask journals ask) halves.1) (node_numbers desk is ask halves.0)
 
-  work_placed : (desk : ℕ) → desk ≡ times order parts.Desk → (server : ℕ) (ask : WorkAsk) → unfounded (placed journals order) (steps.Node server (node_asks.Work ask)) ≡ None → is_placed_in_work servers desk ask ≡ true
+  work_placed : (desk : ℕ) → desk ≡ times order parts.Desk → (server : ℕ) (ask : WorkAsk) → unfounded (placed journals order) (steps.Node server (node_asks.Work ask)) ≡ None → option_map_or (is_citation_placed servers desk) (cited_in_work ask) true ≡ true
   work_placed desk is server (work.Decide txn verdict cite) none =
       let most = founded_cites journals (times order) (steps.Node server (node_asks.Work (work.Decide txn verdict cite))) none (record { part = parts.Desk; number = cite }) (inl refl) in
       le-true cite desk (omega (arith, most, is))

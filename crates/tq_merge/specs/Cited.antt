@@ -1,11 +1,9 @@
 -- The citations of an ask.
 use Rattle.std.specs.Prelude.{List, [], ◌∷◌, ◌++◌, map}
-use Rattle.tq_shape.specs.declared.part.Part.TheVariants.{Server, Desk}
+use Rattle.std.specs.Option.{option_to_list}
+use Rattle.tq_shape.specs.declared.part.Part.TheVariants.{Server}
 use Rattle.tq_asks.specs.declared.ask.CitedVote.{CitedVote}
 use Rattle.tq_asks.specs.declared.ask.NodeAsk.{NodeAsk}
-use Rattle.tq_asks.specs.declared.ask.NodeAsk.TheVariants as node_asks
-use Rattle.tq_asks.specs.declared.ask.WorkAsk.{WorkAsk}
-use Rattle.tq_asks.specs.declared.ask.WorkAsk.TheVariants as work
 use Rattle.tq_desk.specs.declared.ask.DeskAsk.{DeskAsk}
 use Rattle.tq_desk.specs.declared.ask.DeskAsk.TheVariants as desk_asks
 use Rattle.tq_evidence.specs.declared.op.Op.{Op}
@@ -13,17 +11,11 @@ use Rattle.tq_world.specs.declared.answer.Step.{Step}
 use Rattle.tq_world.specs.declared.answer.Step.TheVariants as steps
 use Rattle.tq_world.specs.declared.citation.Citation.{Citation}
 use Rattle.tq_world.specs.Founded.{cited_grant, cited_vote}
+use Rattle.tq_world.specs.Founded as founded
 
--- those of a server's ask
-abbrev pub cited_in_work : WorkAsk → List Citation
-cited_in_work (work.Decide txn verdict cite) = record { part = Desk; number = cite } ∷ []
-cited_in_work (work.Refresh file version content from) = record { part = Server from.server; number = from.number } ∷ []
-cited_in_work ask = []
-
+-- those of a server's ask: one or none
 abbrev pub cited_in_node_ask : NodeAsk → List Citation
-cited_in_node_ask (node_asks.Work ask) = cited_in_work ask
-cited_in_node_ask (node_asks.CrashIn after ask) = cited_in_work ask
-cited_in_node_ask ask = []
+cited_in_node_ask ask = option_to_list (founded.cited_in_node_ask ask)
 
 -- those of ops: their grants, op by op
 abbrev pub cited_in_ops : List Op → List Citation

@@ -6,13 +6,11 @@ use Rattle.tq_shape.specs.declared.part.Part.{Part}
 use Rattle.tq_shape.specs.declared.part.Part.TheVariants.{Server, Desk, View}
 use Rattle.tq_asks.specs.declared.ask.CitedVote.{CitedVote}
 use Rattle.tq_asks.specs.declared.ask.NodeAsk.{NodeAsk}
-use Rattle.tq_asks.specs.declared.ask.NodeAsk.TheVariants as node_asks
-use Rattle.tq_asks.specs.declared.ask.WorkAsk.{WorkAsk}
-use Rattle.tq_asks.specs.declared.ask.WorkAsk.TheVariants as work
 use Rattle.tq_tables.specs.Journals.{JournalsView}
 use Rattle.tq_desk.specs.DeskJournal.{DeskEntry}
 use Rattle.tq_world.specs.World.{item_at}
-use Rattle.tq_world.specs.Founded.{unfounded_in_desk_ask, unfounded_in_node_ask}
+use Rattle.tq_world.specs.declared.citation.Citation.{Citation}
+use Rattle.tq_world.specs.Founded.{cited_in_node_ask, unfounded_in_desk_ask, unfounded_in_node_ask}
 use Rattle.tq_merge.specs.Cited.{cited_in_desk_ask, entry_cited}
 use Rattle.tq_merge.specs.Order.{times, each_from, counts_of, IsNext, ArePlaced}
 
@@ -25,16 +23,18 @@ pub record PlacingView : Type 0 where
 abbrev pub is_placed : List ℕ → CitedVote → Bool
 is_placed counts entry = option_map_or (λ count. nat_le entry.number count) (item_at counts entry.server) false
 
--- the entry that a server's ask cites is placed, where so many of each server and of the desk are
-abbrev pub is_placed_in_work : List ℕ → ℕ → WorkAsk → Bool
-is_placed_in_work counts desk (work.Decide txn verdict cite) = nat_le cite desk
-is_placed_in_work counts desk (work.Refresh file version content from) = is_placed counts from
-is_placed_in_work counts desk ask = true
+-- the same of an entry of any part, where so many of the desk are placed, and all of the view
+abbrev pub is_placed_at : List ℕ → ℕ → Part → ℕ → Bool
+is_placed_at counts desk (Server server) number = is_placed counts (record { server = server; number = number })
+is_placed_at counts desk Desk number = nat_le number desk
+is_placed_at counts desk View number = true
 
+abbrev pub is_citation_placed : List ℕ → ℕ → Citation → Bool
+is_citation_placed counts desk cited = is_placed_at counts desk cited.part cited.number
+
+-- what a server's ask cites is placed
 abbrev pub is_placed_in_node_ask : List ℕ → ℕ → NodeAsk → Bool
-is_placed_in_node_ask counts desk (node_asks.Work ask) = is_placed_in_work counts desk ask
-is_placed_in_node_ask counts desk (node_asks.CrashIn after ask) = is_placed_in_work counts desk ask
-is_placed_in_node_ask counts desk ask = true
+is_placed_in_node_ask counts desk ask = option_map_or (is_citation_placed counts desk) (cited_in_node_ask ask) true
 
 -- a server's ask can be placed: what it cites is placed, and stands in the journals
 abbrev pub is_ready : JournalsView → List ℕ → ℕ → NodeAsk → Bool

@@ -4,16 +4,17 @@ ghost use Rattle.tq_merge.specs.Cited as spec;
 ghost use Rattle.tq_merge.specs.Placing as kept;
 ghost use Rattle.tq_world.specs.Founded.{cited_grant, cited_vote};
 
-use crate::stands::stands;
 use std::alloc::Global;
 use tq_asks::CitedVote;
 use tq_desk::{DeskAsk, Grant, Op, Vote};
 use tq_shape::Memory;
 use tq_tables::Journals;
+use tq_world::unfounded_in_desk_ask;
 
 /// Appends the entries that the grants cite.
 fn push_grants(wanted: &mut Vec<CitedVote>, grants: &[Grant]) -> Result<(), Memory>
-    ensures { OnOk result (map spec.entry_cited wanted.new.items ≡ map spec.entry_cited wanted.old.items ++ map cited_grant grants.now) }
+    ensures { OnOk result (map spec.entry_cited wanted.new.items
+        ≡ map spec.entry_cited wanted.old.items ++ map cited_grant grants.now) }
 {
     for grant in grants {
         wanted.push(CitedVote {
@@ -26,7 +27,8 @@ fn push_grants(wanted: &mut Vec<CitedVote>, grants: &[Grant]) -> Result<(), Memo
 
 /// Appends the entries that these ops cite, op by op.
 fn push_ops(wanted: &mut Vec<CitedVote>, ops: &[Op]) -> Result<(), Memory>
-    ensures { OnOk result (map spec.entry_cited wanted.new.items ≡ map spec.entry_cited wanted.old.items ++ spec.cited_in_ops ops.now) }
+    ensures { OnOk result (map spec.entry_cited wanted.new.items
+        ≡ map spec.entry_cited wanted.old.items ++ spec.cited_in_ops ops.now) }
 {
     for op in ops {
         push_grants(wanted, op.grants.as_slice())?;
@@ -36,7 +38,8 @@ fn push_ops(wanted: &mut Vec<CitedVote>, ops: &[Op]) -> Result<(), Memory>
 
 /// Appends the entries that the votes cite.
 fn push_votes(wanted: &mut Vec<CitedVote>, votes: &[Vote]) -> Result<(), Memory>
-    ensures { OnOk result (map spec.entry_cited wanted.new.items ≡ map spec.entry_cited wanted.old.items ++ map cited_vote votes.now) }
+    ensures { OnOk result (map spec.entry_cited wanted.new.items
+        ≡ map spec.entry_cited wanted.old.items ++ map cited_vote votes.now) }
 {
     for vote in votes {
         wanted.push(CitedVote {
@@ -49,7 +52,8 @@ fn push_votes(wanted: &mut Vec<CitedVote>, votes: &[Vote]) -> Result<(), Memory>
 
 /// The entries that the ask cites, in order.
 fn cited_in(alloc: Global, ask: &DeskAsk) -> Result<Vec<CitedVote>, Memory>
-    ensures { IfOk result (λ wanted. map spec.entry_cited wanted.items ≡ spec.cited_in_desk_ask ask.now) }
+    ensures { IfOk result (λ wanted.
+        map spec.entry_cited wanted.items ≡ spec.cited_in_desk_ask ask.now) }
 {
     let mut wanted = Vec::new(alloc);
     match ask {
@@ -57,8 +61,7 @@ fn cited_in(alloc: Global, ask: &DeskAsk) -> Result<Vec<CitedVote>, Memory>
             push_ops(&mut wanted, ops.as_slice())?;
             push_votes(&mut wanted, votes.as_slice())?;
         }
-        DeskAsk::Begin => {}
-        DeskAsk::Resolve { .. } => {}
+        _ => {}
     }
     Ok(wanted)
 }
@@ -73,7 +76,8 @@ pub(crate) struct Wanted {
 
 /// What the desk's next entry cites, where so many are placed.
 pub(crate) fn wanted_at(alloc: Global, journals: &Journals, placed: u64) -> Result<Wanted, Memory>
-    ensures { IfOk result (λ wanted. kept.IsNextWanted journals.now placed wanted.stands wanted.entries.items) }
+    ensures { IfOk result (λ wanted.
+        kept.IsNextWanted journals.now placed wanted.stands wanted.entries.items) }
 {
     match journals.desk().get(placed as usize) {
         None => Ok(Wanted {
@@ -81,7 +85,7 @@ pub(crate) fn wanted_at(alloc: Global, journals: &Journals, placed: u64) -> Resu
             entries: Vec::new(alloc),
         }),
         Some(entry) => {
-            let stands = stands(journals, &entry.ask);
+            let stands = unfounded_in_desk_ask(journals, &entry.ask).is_none();
             let entries = cited_in(alloc, &entry.ask)?;
             Ok(Wanted { stands, entries })
         }

@@ -16,7 +16,8 @@ pub fn is_legal_desk(
     limits: Limits,
     entries: &[DeskEntry],
 ) -> Result<bool, Memory>
-    ensures { IfOk result (λ legal. IsTrue legal ↔ IsLegalDesk (bounds_of levels limits) (reverse entries.now)) }
+    ensures { IfOk result (λ legal.
+        IsTrue legal ↔ IsLegalDesk (bounds_of levels limits) (reverse entries.now)) }
 {
     let mut desk = Desk::new(alloc, levels, limits);
     for entry in entries {

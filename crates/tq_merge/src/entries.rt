@@ -1,11 +1,10 @@
 ghost use Rattle.std.specs.Prelude.{◌≡◌, IfOk};
 ghost use Rattle.tq_merge.specs.Told.{found_at, node_found, desk_found, view_found};
 
-use crate::stands::server_entry;
 use tq_receipts::EntryName;
 use tq_shape::{Entry, Memory, Part};
 use tq_tables::{DeskEntry, Journals, NodeEntry, ViewEntry};
-use tq_world::{Reply, Step, item_at};
+use tq_world::{CitedEntries, Reply, Step, item_at};
 
 /// An entry of a server, whose part its ask and its reply name.
 fn of_server(server: u64, entry: &NodeEntry) -> Result<Entry<Step, Reply>, Memory>
@@ -48,11 +47,11 @@ pub fn found(journals: &Journals, name: EntryName) -> Result<Option<Entry<Step, 
 {
     let EntryName { part, number } = name;
     match part {
-        Part::Server(server) => match server_entry(journals, server, number) {
+        Part::Server(server) => match journals.server_entry(server, number) {
             Some(entry) => Ok(Some(of_server(server, entry)?)),
             None => Ok(None),
         },
-        Part::Desk => match item_at(journals.desk(), number) {
+        Part::Desk => match journals.desk_entry(number) {
             Some(entry) => Ok(Some(of_desk(entry)?)),
             None => Ok(None),
         },

@@ -27,7 +27,8 @@ pub fn explain(alloc: Global, journals: &Journals) -> Result<Order, Fault>
     ensures legal { AreLegal journals.now → IfErr result BlamesNone }
 
     // The asks in that order, run one after another, make these journals; so what holds of each run holds of them.
-    ensures run { IfOk result (λ order. run journals.now.levels journals.now.limits (asks_of journals.now order) ≡ journals.now) }
+    ensures run { IfOk result (λ order.
+        run journals.now.levels journals.now.limits (asks_of journals.now order) ≡ journals.now) }
     ensures committed_reads { IfOk result (λ order. HasCommittedReads journals.now) }
 
     // Where each SetCost has two equal costs, what is an order, a wrong entry or stuck is what it was while a server had one.
@@ -47,7 +48,8 @@ pub fn explain_legal(alloc: Global, journals: &Journals) -> Result<Order, Fault>
     ensures order { IfOk result (λ order. Explains journals.now order) }
     ensures fault { IfErr result (IsFault journals.now) }
     ensures blames_none { IfErr result BlamesNone }
-    ensures run { IfOk result (λ order. run journals.now.levels journals.now.limits (asks_of journals.now order) ≡ journals.now) }
+    ensures run { IfOk result (λ order.
+        run journals.now.levels journals.now.limits (asks_of journals.now order) ≡ journals.now) }
     ensures committed_reads { IfOk result (λ order. HasCommittedReads journals.now) }
 {
     see_lists(journals);

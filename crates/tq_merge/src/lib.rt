@@ -2,7 +2,7 @@
 //! callers were told stands in journals, each entry told once.
 //!
 //! Files: `explaining.rt` the search for an order; `placing.rt` what is placed, `waiting.rt` who waits for it; `wrong.rt`
-//! the replay; `cited.rt`, `stands.rt`, `ready.rt` citations; `compared.rt`, `told_stands.rt` what callers were told.
+//! the replay; `cited.rt`, `ready.rt` citations; `compared.rt`, `told_stands.rt` what callers were told.
 //! Definitions: `specs/Order`, `Wrong`, `Faults`; as they stood while a server had one cost `OneCost`; of a closed cluster
 //! `Told`, `Kept`, `Closed`. `Cited` and `Placing` are the code's own words.
 #![tactic(auto)]
@@ -19,7 +19,6 @@ mod lengths;
 mod names;
 mod placing;
 mod ready;
-mod stands;
 mod told_stands;
 mod waiting;
 mod wrong;

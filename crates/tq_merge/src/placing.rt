@@ -8,13 +8,14 @@ ghost use Rattle.tq_merge.specs.Placing as kept;
 
 use crate::Counts;
 use crate::cited::{Wanted, wanted_at};
-use crate::ready::{Cited, first_missing, is_ready, missing_in};
+use crate::ready::{first_missing, is_ready, missing_in};
 use crate::waiting::Waiting;
 use std::alloc::Global;
 use std::marker::Model;
 use tq_asks::CitedVote;
 use tq_shape::{Memory, Part, Seq};
 use tq_tables::{Journals, NodeEntry};
+use tq_world::Citation;
 
 /// What is placed of journals, and in which order.
 #[derive(Drop)]
@@ -39,7 +40,8 @@ impl<'a> Model for Placing<'a> {
 
     ghost view = { λ a. record { journals = a.journals.now; order = a.order.items } };
 
-    ghost invariant = { λ a. IsPlacing a.journals.now a.order.items a.servers.items a.desk a.stands a.wanted.items a.met };
+    ghost invariant = { λ a. IsPlacing a.journals.now a.order.items
+        a.servers.items a.desk a.stands a.wanted.items a.met };
 }
 
 impl<'a> Placing<'a> {
@@ -65,10 +67,13 @@ impl<'a> Placing<'a> {
     fn place_server(&mut self, place: usize) -> Result<bool, Memory>
         requires { place < length self.old.journals.servers }
         ensures journals { IfOk result (λ placed. self.new.journals ≡ self.old.journals) }
-        ensures placed { result ≡ Ok true → self.new.order ≡ self.old.order ++ parts.Server (suc place) ∷ [] }
-        ensures less { result ≡ Ok true → suc (kept.left self.new.journals self.new.order) ≡ kept.left self.old.journals self.old.order }
+        ensures placed { result ≡ Ok true → self.new.order
+            ≡ self.old.order ++ parts.Server (suc place) ∷ [] }
+        ensures less { result ≡ Ok true → suc (kept.left self.new.journals self.new.order)
+            ≡ kept.left self.old.journals self.old.order }
         ensures still { result ≡ Ok false → self.new.order ≡ self.old.order }
-        ensures blocked { result ≡ Ok false → spec.IsNext self.new.journals self.new.order (parts.Server (suc place)) → ⊥ }
+        ensures blocked { result ≡ Ok false → spec.IsNext self.new.journals self.new.order
+            (parts.Server (suc place)) → ⊥ }
     {
         let journals = self.journals;
         let count = self.servers[place];
@@ -86,9 +91,11 @@ impl<'a> Placing<'a> {
     /// Places the desk's next entry, if there is one that can be placed.
     fn place_desk(&mut self, alloc: Global) -> Result<bool, Memory>
         ensures journals { IfOk result (λ placed. self.new.journals ≡ self.old.journals) }
-        ensures less { result ≡ Ok true → suc (kept.left self.new.journals self.new.order) ≡ kept.left self.old.journals self.old.order }
+        ensures less { result ≡ Ok true → suc (kept.left self.new.journals self.new.order)
+            ≡ kept.left self.old.journals self.old.order }
         ensures still { result ≡ Ok false → self.new.order ≡ self.old.order }
-        ensures blocked { result ≡ Ok false → spec.IsNext self.new.journals self.new.order parts.Desk → ⊥ }
+        ensures blocked { result ≡ Ok false
+            → spec.IsNext self.new.journals self.new.order parts.Desk → ⊥ }
     {
         let journals = self.journals;
         if self.desk as usize >= journals.desk().len() {
@@ -115,10 +122,13 @@ impl<'a> Placing<'a> {
     fn run_server(&mut self, place: usize) -> Result<bool, Memory>
         requires { place < length self.old.journals.servers }
         ensures journals { IfOk result (λ moved. self.new.journals ≡ self.old.journals) }
-        ensures moved { result ≡ Ok true → kept.left self.new.journals self.new.order < kept.left self.old.journals self.old.order }
+        ensures moved { result ≡ Ok true → kept.left self.new.journals self.new.order
+            < kept.left self.old.journals self.old.order }
         ensures still { result ≡ Ok false → self.new.order ≡ self.old.order }
-        ensures fewer { OnOk result (kept.left self.new.journals self.new.order ≤ kept.left self.old.journals self.old.order) }
-        ensures blocked { IfOk result (λ moved. spec.IsNext self.new.journals self.new.order (parts.Server (suc place)) → ⊥) }
+        ensures fewer { OnOk result (kept.left self.new.journals self.new.order
+            ≤ kept.left self.old.journals self.old.order) }
+        ensures blocked { IfOk result (λ moved.
+            spec.IsNext self.new.journals self.new.order (parts.Server (suc place)) → ⊥) }
     {
         let mut moved = false;
         'entries: loop {
@@ -133,7 +143,8 @@ impl<'a> Placing<'a> {
     /// Places entries of the desk as far as they go.
     fn run_desk(&mut self, alloc: Global) -> Result<(), Memory>
         ensures journals { OnOk result (self.new.journals ≡ self.old.journals) }
-        ensures fewer { OnOk result (kept.left self.new.journals self.new.order ≤ kept.left self.old.journals self.old.order) }
+        ensures fewer { OnOk result (kept.left self.new.journals self.new.order
+            ≤ kept.left self.old.journals self.old.order) }
     {
         'entries: loop {
             let placed = self.place_desk(alloc)?;
@@ -148,15 +159,14 @@ impl<'a> Placing<'a> {
     fn turn_server(&mut self, waiting: &mut Waiting, place: usize) -> Result<(), Memory>
         requires { place < length self.old.journals.servers }
         ensures journals { OnOk result (self.new.journals ≡ self.old.journals) }
-        ensures fewer { OnOk result (kept.left self.new.journals self.new.order ≤ kept.left self.old.journals self.old.order) }
+        ensures fewer { OnOk result (kept.left self.new.journals self.new.order
+            ≤ kept.left self.old.journals self.old.order) }
     {
         let before = self.placed_at(place);
         let _moved = self.run_server(place)?;
         waiting.wake(place, before, self.placed_at(place))?;
-        match self.missing_at(place) {
-            Some(Cited::Desk(number)) => waiting.wait(place, self.server_count(), number),
-            Some(Cited::Server(entry)) => wait_for(waiting, place, entry),
-            None => {}
+        if let Some(missing) = self.missing_at(place) {
+            self.wait_for(waiting, place, missing);
         }
         Ok(())
     }
@@ -164,14 +174,15 @@ impl<'a> Placing<'a> {
     /// The same for the desk.
     fn turn_desk(&mut self, alloc: Global, waiting: &mut Waiting) -> Result<(), Memory>
         ensures journals { OnOk result (self.new.journals ≡ self.old.journals) }
-        ensures fewer { OnOk result (kept.left self.new.journals self.new.order ≤ kept.left self.old.journals self.old.order) }
+        ensures fewer { OnOk result (kept.left self.new.journals self.new.order
+            ≤ kept.left self.old.journals self.old.order) }
     {
         let place = self.server_count();
         let before = self.desk;
         self.run_desk(alloc)?;
         waiting.wake(place, before, self.desk)?;
         if let Some(entry) = self.wanted.get(self.met) {
-            wait_for(waiting, place, *entry);
+            wait_for_server(waiting, place, *entry);
         }
         Ok(())
     }
@@ -179,7 +190,8 @@ impl<'a> Placing<'a> {
     /// The same for the part at the place: a server, or else the desk.
     fn turn(&mut self, alloc: Global, waiting: &mut Waiting, place: usize) -> Result<(), Memory>
         ensures journals { OnOk result (self.new.journals ≡ self.old.journals) }
-        ensures fewer { OnOk result (kept.left self.new.journals self.new.order ≤ kept.left self.old.journals self.old.order) }
+        ensures fewer { OnOk result (kept.left self.new.journals self.new.order
+            ≤ kept.left self.old.journals self.old.order) }
     {
         if place < self.server_count() {
             return self.turn_server(waiting, place);
@@ -190,7 +202,8 @@ impl<'a> Placing<'a> {
     /// Places entries of the parts that are woken, until none is.
     fn follow(&mut self, alloc: Global, waiting: &mut Waiting) -> Result<(), Memory>
         ensures journals { OnOk result (self.new.journals ≡ self.old.journals) }
-        ensures fewer { OnOk result (kept.left self.new.journals self.new.order ≤ kept.left self.old.journals self.old.order) }
+        ensures fewer { OnOk result (kept.left self.new.journals self.new.order
+            ≤ kept.left self.old.journals self.old.order) }
     {
         for _ in 0..u64::MAX {
             let Some(place) = waiting.next() else {
@@ -210,17 +223,28 @@ impl<'a> Placing<'a> {
     }
 
     /// What the next entry of the server cites, where that is not placed.
-    fn missing_at(&self, place: usize) -> Option<Cited> {
+    fn missing_at(&self, place: usize) -> Option<Citation> {
         let count = self.placed_at(place);
         let entries = self.journals.servers().get(place)?;
         let entry = entries.as_slice().get(count as usize)?;
         missing_in(self.servers.as_slice(), self.desk, &entry.ask)
     }
 
+    /// The part at the place waits for the entry that is cited. The view's are all placed.
+    fn wait_for(&self, waiting: &mut Waiting, place: usize, cited: Citation) {
+        let Citation { part, number } = cited;
+        match part {
+            Part::Server(server) => wait_for_server(waiting, place, CitedVote { server, number }),
+            Part::Desk => waiting.wait(place, self.server_count(), number),
+            Part::View => {}
+        }
+    }
+
     /// Places entries of each part once, as far as they go. A round that places none leaves none that can be placed.
     fn round(&mut self, alloc: Global) -> Result<bool, Memory>
         ensures journals { IfOk result (λ moved. self.new.journals ≡ self.old.journals) }
-        ensures moved { result ≡ Ok true → kept.left self.new.journals self.new.order < kept.left self.old.journals self.old.order }
+        ensures moved { result ≡ Ok true → kept.left self.new.journals self.new.order
+            < kept.left self.old.journals self.old.order }
         ensures still { result ≡ Ok false → self.new.order ≡ self.old.order }
         ensures blocked { result ≡ Ok false → kept.IsDone self.new.journals self.new.order }
     {
@@ -269,8 +293,10 @@ impl<'a> Placing<'a> {
 
     /// Whether all entries are placed.
     pub(crate) fn is_whole(&self) -> bool
-        ensures whole { result ≡ true → (part : Part) → spec.times self.now.order part ≡ spec.entries_of self.now.journals part }
-        ensures left { result ≡ false → ((part : Part) → spec.times self.now.order part ≡ spec.entries_of self.now.journals part) → ⊥ }
+        ensures whole { result ≡ true → (part : Part) → spec.times self.now.order part
+            ≡ spec.entries_of self.now.journals part }
+        ensures left { result ≡ false → ((part : Part) → spec.times self.now.order part
+            ≡ spec.entries_of self.now.journals part) → ⊥ }
         ensures founded { spec.ArePlaced self.now.journals [] self.now.order }
     {
         if self.desk as usize != self.journals.desk().len() {
@@ -299,7 +325,7 @@ impl<'a> Placing<'a> {
 }
 
 /// The part at the place waits for the entry of a server.
-fn wait_for(waiting: &mut Waiting, place: usize, entry: CitedVote) {
+fn wait_for_server(waiting: &mut Waiting, place: usize, entry: CitedVote) {
     if entry.server > 0 {
         waiting.wait(place, (entry.server - 1) as usize, entry.number);
     }

@@ -3,12 +3,11 @@ ghost use Rattle.std.specs.Option.{option_copied};
 ghost use Rattle.tq_shape.specs.Journal.{entry};
 ghost use Rattle.tq_merge.specs.Told.{Stands};
 
-use crate::stands::server_entry;
 use tq_alike::{Alike, OfDesk, OfServer, OfView};
 use tq_shape::Entry;
 use tq_tables::Journals;
 use tq_txn::Exchange;
-use tq_world::item_at;
+use tq_world::{CitedEntries, item_at};
 
 /// Whether there is an entry, with this ask and this reply.
 fn is_entry<P: Alike>(
@@ -38,14 +37,14 @@ pub(crate) fn stands(journals: &Journals, exchange: &Exchange) -> bool
             answer,
         } => match answer {
             Ok(told) => is_entry::<OfServer>(
-                server_entry(journals, *server, told.number),
+                journals.server_entry(*server, told.number),
                 ask,
                 &told.reply,
             ),
             Err(_) => true,
         },
         Exchange::Desk { ask, answer } => match answer {
-            Ok(told) => is_entry::<OfDesk>(item_at(journals.desk(), told.number), ask, &told.reply),
+            Ok(told) => is_entry::<OfDesk>(journals.desk_entry(told.number), ask, &told.reply),
             Err(_) => true,
         },
         Exchange::View { ask, answer } => match answer {

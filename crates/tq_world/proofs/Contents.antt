@@ -1,14 +1,11 @@
 -- What an entry says that passes a test: it is that entry.
 use Rattle.std.specs.Prelude.{◌==◌, ◌&&◌}
-use Rattle.std.proofs.Common.{◌≡◌, ℕ, Bool, true, false, List, [], ◌∷◌, map, Option, Some, None, refl, sym, ap, ◌∙◌, inl, inr}
-use Rattle.std.specs.Cmp.Lexicographic.{pointwise, same_text}
-use Rattle.std.proofs.lemmas.Bool.{and_parts, eqb-true, false≢true}
+use Rattle.std.proofs.Common.{◌≡◌, ℕ, Bool, true, false, List, [], ◌∷◌, map, Option, Some, None, refl, ap, ◌∙◌, inl, inr}
+use Rattle.std.specs.Cmp.Lexicographic.{pointwise}
+use Rattle.std.proofs.lemmas.Bool.{and_from, and_parts, eqb-true, false≢true}
 use Rattle.std.specs.Option.{option_map_or}
 use Rattle.tq_store.specs.declared.write.Write.{Write}
-use Rattle.tq_locks.specs.declared.mode.Mode.{Mode}
-use Rattle.tq_locks.specs.declared.mode.Mode.TheVariants.{Shared, Exclusive}
 use Rattle.tq_asks.specs.declared.ask.CitedVote.{CitedVote}
-use Rattle.tq_asks.specs.declared.ask.HeldLock.{HeldLock}
 use Rattle.tq_asks.specs.declared.ask.NodeAsk.{NodeAsk}
 use Rattle.tq_asks.specs.declared.ask.NodeAsk.TheVariants as node_asks
 use Rattle.tq_asks.specs.declared.ask.NodeReply.{NodeReply}
@@ -27,15 +24,10 @@ use Rattle.tq_store.specs.Names.{same_name}
 use Rattle.tq_desk.specs.DeskStep.{citation}
 use Rattle.tq_desk.specs.DeskStep as log
 use Rattle.tq_desk.specs.DeskJournal.{gives_verdict}
-use Rattle.tq_asks.specs.Same.{same_cited, same_verdict}
-use Rattle.tq_world.specs.Founded.{same_mode, same_lock, same_write, cites, cites_votes, is_granted, is_voted, is_peeked, is_ended}
-use Rattle.tq_store.proofs.SameName.{same_name-is}
-
-mode-is : (a b : Mode) → same_mode a b ≡ true → a ≡ b
-mode-is Shared Shared same = refl
-mode-is Exclusive Exclusive same = refl
-mode-is Shared Exclusive same = absurd (false≢true same)
-mode-is Exclusive Shared same = absurd (false≢true same)
+use Rattle.tq_asks.specs.Same.{same_verdict}
+use Rattle.tq_world.specs.Founded.{cites, cites_votes, is_granted, is_voted, is_peeked, is_ended}
+use Rattle.tq_alike.specs.Same.{same_mode, same_lock, same_write}
+use Rattle.tq_alike.proofs.Equal.{work-is, node_reply-is, desk_reply-is}
 
 -- lists whose items are the same in pairs
 pairs-is : {A B : Type 0} (test : A → B → Bool) (f : B → A) → ((a : A) (b : B) → test a b ≡ true → a ≡ f b) → (xs : List A) (ys : List B) → pointwise test xs ys ≡ true → xs ≡ map f ys
@@ -46,38 +38,6 @@ pairs-is test f same (x ∷ xs) (y ∷ ys) is =
     let both = and_parts (test x y) (pointwise test xs ys) is in
     ap (λ z. z ∷ xs) (same x y both.0) ∙ ap (λ zs. f y ∷ zs) (pairs-is test f same xs ys both.1)
 
-map-same : {A : Type 0} (xs : List A) → map (λ x. x) xs ≡ xs
-map-same [] = refl
-map-same (x ∷ xs) = ap (λ zs. x ∷ zs) (map-same xs)
-
-list-is : {A : Type 0} (test : A → A → Bool) → ((a b : A) → test a b ≡ true → a ≡ b) → (xs ys : List A) → pointwise test xs ys ≡ true → xs ≡ ys
-list-is test same xs ys is = pairs-is test (λ y. y) same xs ys is ∙ map-same ys
-
-lock-is : (a b : HeldLock) → same_lock a b ≡ true → a ≡ b
-lock-is a b same =
-    let rest = and_parts (same_name a.file b.file && same_mode a.mode b.mode) (a.since == b.since) same in
-    let first = and_parts (same_name a.file b.file) (same_mode a.mode b.mode) rest.0 in
-    let file = same_name-is a.file b.file first.0 in
-    let mode = mode-is a.mode b.mode first.1 in
-    let since = eqb-true a.since b.since rest.1 in
-    λ i. record { file = file i; mode = mode i; since = since i }
-
-write-is : (a b : Write) → same_write a b ≡ true → a ≡ b
-write-is a b same =
-    let rest = and_parts (same_name a.file b.file && a.version == b.version) (same_name a.content b.content) same in
-    let first = and_parts (same_name a.file b.file) (a.version == b.version) rest.0 in
-    let file = same_name-is a.file b.file first.0 in
-    let version = eqb-true a.version b.version first.1 in
-    let content = same_name-is a.content b.content rest.1 in
-    λ i. record { file = file i; version = version i; content = content i }
-
-vote-is : (a b : CitedVote) → same_cited a b ≡ true → a ≡ b
-vote-is a b same =
-    let both = and_parts (a.server == b.server) (a.number == b.number) same in
-    let server = eqb-true a.server b.server both.0 in
-    let number = eqb-true a.number b.number both.1 in
-    λ i. record { server = server i; number = number i }
-
 cites-is : (a : CitedVote) (b : Vote) → cites a b ≡ true → a ≡ citation b
 cites-is a b same =
     let both = and_parts (a.server == b.server) (a.number == b.number) same in
@@ -86,10 +46,10 @@ cites-is a b same =
     λ i. record { server = server i; number = number i }
 
 verdict-is : (a b : Verdict) → same_verdict a b ≡ true → a ≡ b
-verdict-is verdicts.Abort verdicts.Abort same = refl
-verdict-is (verdicts.Commit votes) (verdicts.Commit others) same = ap (λ v. verdicts.Commit v) (list-is same_cited vote-is votes others same)
-verdict-is verdicts.Abort (verdicts.Commit others) same = absurd (false≢true same)
-verdict-is (verdicts.Commit votes) verdicts.Abort same = absurd (false≢true same)
+verdict-is a b same =
+    let told : desk_replies.Verdict a ≡ desk_replies.Verdict b =
+    desk_reply-is (desk_replies.Verdict a) (desk_replies.Verdict b) same in
+    cc
 
 commit-is : (verdict : Verdict) (votes : List Vote) → cites_votes verdict votes ≡ true → verdict ≡ verdicts.Commit (log.cited votes)
 commit-is verdicts.Abort votes same = absurd (false≢true same)
@@ -100,16 +60,13 @@ commit-is (verdicts.Commit cited) votes same = ap (λ v. verdicts.Commit v) (pai
 pub granted-is : (txn : ℕ) (file : List ℕ) (grant : Grant) (ask : NodeAsk) (reply : NodeReply) → is_granted txn file grant ask reply ≡ true
     → (ask ≡ node_asks.Work (work.Lock txn file grant.mode)) × (reply ≡ node_replies.Granted grant.version grant.content)
 granted-is txn file grant (node_asks.Work (work.Lock t f mode)) (node_replies.Granted version content) is =
-    let a = and_parts (t == txn && same_name f file && same_mode mode grant.mode && version == grant.version) (same_name content grant.content) is in
-    let b = and_parts (t == txn && same_name f file && same_mode mode grant.mode) (version == grant.version) a.0 in
-    let c = and_parts (t == txn && same_name f file) (same_mode mode grant.mode) b.0 in
-    let d = and_parts (t == txn) (same_name f file) c.0 in
-    let t_is = eqb-true t txn d.0 in
-    let f_is = same_name-is f file d.1 in
-    let mode_is = mode-is mode grant.mode c.1 in
-    let version_is = eqb-true version grant.version b.1 in
-    let content_is = same_name-is content grant.content a.1 in
-    ((λ i. node_asks.Work (work.Lock (t_is i) (f_is i) (mode_is i))), (λ i. node_replies.Granted (version_is i) (content_is i)))
+    let a = and_parts (t == txn && same_name f file && same_mode mode grant.mode && version == grant.version)
+    (same_name content grant.content) is in
+    let b = and_parts (t == txn && same_name f file && same_mode mode grant.mode) (version == grant.version) a.0 in (
+      ap (λ ask. node_asks.Work ask) (work-is (work.Lock t f mode) (work.Lock txn file grant.mode) b.0),
+      node_reply-is (node_replies.Granted version content) (node_replies.Granted grant.version grant.content)
+          (and_from (version == grant.version) (same_name content grant.content) b.1 a.1),
+    )
 granted-is txn file grant ask reply is = absurd (false≢true is)
 
 pub voted-is : (txn : ℕ) (vote : Vote) (ask : NodeAsk) (reply : NodeReply) → is_voted txn vote ask reply ≡ true
@@ -118,20 +75,20 @@ voted-is txn vote (node_asks.Work (work.Prepare t asked)) (node_replies.Yes held
     let a = and_parts (t == txn && pointwise same_lock held vote.held) (pointwise same_write writes vote.writes) is in
     let b = and_parts (t == txn) (pointwise same_lock held vote.held) a.0 in
     let t_is = eqb-true t txn b.0 in
-    let held_is = list-is same_lock lock-is held vote.held b.1 in
-    let writes_is = list-is same_write write-is writes vote.writes a.1 in
-    (asked, (λ i. node_asks.Work (work.Prepare (t_is i) asked)), (λ i. node_replies.Yes (held_is i) (writes_is i)))
+    let reply_is = node_reply-is (node_replies.Yes held writes) (node_replies.Yes vote.held vote.writes)
+    (and_from (pointwise same_lock held vote.held) (pointwise same_write writes vote.writes) b.1 a.1) in
+    (asked, (λ i. node_asks.Work (work.Prepare (t_is i) asked)), reply_is)
 voted-is txn vote ask reply is = absurd (false≢true is)
 
 pub peeked-is : (file : List ℕ) (version : ℕ) (content : List ℕ) (ask : NodeAsk) (reply : NodeReply) → is_peeked file version content ask reply ≡ true
     → (ask ≡ node_asks.Work (work.Peek file)) × (reply ≡ node_replies.Copy version content)
 peeked-is file version content (node_asks.Work (work.Peek f)) (node_replies.Copy v c) is =
     let a = and_parts (same_name f file && v == version) (same_name c content) is in
-    let b = and_parts (same_name f file) (v == version) a.0 in
-    let f_is = same_name-is f file b.0 in
-    let v_is = eqb-true v version b.1 in
-    let c_is = same_name-is c content a.1 in
-    ((λ i. node_asks.Work (work.Peek (f_is i))), (λ i. node_replies.Copy (v_is i) (c_is i)))
+    let b = and_parts (same_name f file) (v == version) a.0 in (
+      ap (λ ask. node_asks.Work ask) (work-is (work.Peek f) (work.Peek file) b.0),
+      node_reply-is (node_replies.Copy v c) (node_replies.Copy version content)
+          (and_from (v == version) (same_name c content) b.1 a.1),
+    )
 peeked-is file version content ask reply is = absurd (false≢true is)
 
 pub ended-is : (txn : ℕ) (verdict : Verdict) (ask : DeskAsk) (reply : DeskReply) → is_ended txn verdict ask reply ≡ true → gives_verdict (record { ask = ask; reply = reply }) txn verdict

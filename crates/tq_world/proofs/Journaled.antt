@@ -2,7 +2,7 @@
 use Rattle.std.specs.Prelude.{slice_get, if◌then◌else◌, not}
 use Rattle.std.proofs.Common.{◌≡◌, ◌≢◌, ◌-◌, ◌^◌, ◌<◌, ℕ, zero, suc, Bool, true, false, cond, eqb, List, [], ◌∷◌, ◌++◌, length, set, replicate, reverse, Option, Some, None, refl, sym, ap, subst, ◌∙◌, inl, inr, nat_lt, nat_le, arith}
 use Rattle.std.specs.List.{find}
-use Rattle.std.specs.Option.{option_map, option_and_then, unwrap_or}
+use Rattle.std.specs.Option.{option_and_then, unwrap_or}
 use Rattle.std.proofs.lemmas.Bool.{eqb-true, eq-eqb, false≢true}
 use Rattle.tq_shape.specs.Limits.{LimitsView}
 use Rattle.tq_shape.specs.Journal.{Has, entry_at, entry}
@@ -30,7 +30,7 @@ use Rattle.tq_world.specs.declared.answer.Step.TheVariants as steps
 use Rattle.tq_world.specs.declared.citation.Citation.{Citation}
 use Rattle.tq_world.specs.World.{item_at, server_entry, empty_world, node_at, desk_at}
 use Rattle.tq_world.specs.Founded.{is_founded_grant, is_founded_vote, is_founded_copy, is_founded_verdict, is_granted, is_voted, is_peeked, is_ended, cited_grant, cited_vote, unless, unfounded_grant, unfounded_op, unfounded_vote, unfounded_in_desk_ask, unfounded_in_node_ask, unfounded_in_work}
-use Rattle.tq_shape.specs.Steps.{or_else, state_at}
+use Rattle.tq_shape.specs.Steps.{state_at}
 use Rattle.tq_world.specs.Steps.{refuse_unfounded, refuse_at, refusal, server_journal, node_entry, desk_entry, grown, world_after, run_from, run}
 use Rattle.tq_world.proofs.Contents.{granted-is, voted-is, peeked-is, ended-is, tested-is}
 use Rattle.tq_world.proofs.Events.{Event, AtNode, AtDesk, node_journal, desk_journal, IsFoundedGrant, IsFoundedVote, IsFoundedSource, IsFoundedWork, IsFoundedAsk, IsRun}

@@ -1,6 +1,6 @@
 -- The journals of a run are legal, and what is answered in it is offered.
-use Rattle.std.specs.Prelude.{reverse, slice_get, if◌then◌else◌, Result, Ok, Err, OnOk, OnErr, IfOk}
-use Rattle.std.proofs.Common.{◌≡◌, ◌+◌, ◌-◌, nat_lt, true, cond, ℕ, zero, suc, List, [], ◌∷◌, ◌++◌, Option, Some, None, refl, sym, ap, subst, ◌∙◌, arith}
+use Rattle.std.specs.Prelude.{reverse, slice_get, if◌then◌else◌, Result, Ok, Err, IfOk}
+use Rattle.std.proofs.Common.{◌≡◌, ◌+◌, ◌-◌, nat_lt, true, cond, ℕ, suc, List, [], ◌∷◌, ◌++◌, Option, Some, None, refl, sym, ap, subst, ◌∙◌, arith}
 use Rattle.std.specs.Option.{unwrap_or}
 use Rattle.tq_shape.specs.Limits.{LimitsView}
 use Rattle.tq_shape.proofs.Joined.{legal-push}
@@ -11,7 +11,7 @@ use Rattle.tq_live.specs.View.{view_reply, view_reply_at, view_after_at, view_st
 use Rattle.tq_live.proofs.Journal.{replays}
 use Rattle.tq_live.specs.declared.view.ViewAsk.{ViewAsk}
 use Rattle.tq_live.specs.declared.view.ViewAsk.TheVariants as asks
-use Rattle.tq_tables.specs.Journals.{JournalsView, ViewEntry}
+use Rattle.tq_tables.specs.Journals.{JournalsView}
 use Rattle.tq_tables.specs.Parts.{AreLegal, AreLegalServers}
 use Rattle.tq_tables.specs.Tables.{TablesView, tables_of}
 use Rattle.tq_world.specs.declared.answer.Answer.{Answer}
@@ -22,12 +22,11 @@ use Rattle.tq_world.specs.CommittedReads.{HasCommittedReads}
 use Rattle.tq_world.specs.Headline.{AreOffered, Headline}
 use Rattle.tq_world.specs.Offered.{OffersBest}
 use Rattle.tq_world.specs.Steps.{IsOfRun}
-use Rattle.tq_world.specs.World.{empty_world, item_at, view_at}
+use Rattle.tq_world.specs.World.{empty_world, item_at}
 use Rattle.tq_world.specs.Steps.{answer, refusal, grown, world_after, run_from, run, view_entry, server_journal, told_at, is_memory, IsTold, AreTold}
 use Rattle.tq_shape.specs.Steps.{state_at}
 use Rattle.tq_world.proofs.Journaled.{bounds_of, HasEvents, run_events}
 use Rattle.tq_world.proofs.Offers.{view_offers}
-use Rattle.tq_world.proofs.ReadsOfRun.{reads_of_run}
 use Rattle.tq_world.proofs.Worlds.{legal_nodes, legal_desk}
 
 -- ---- the view's journal

@@ -1,15 +1,12 @@
 -- Committed reads, of the journals of a run.
-use Rattle.std.proofs.Common.{◌≡◌, List, [], ◌∷◌, ◌++◌, reverse, ap, subst, sym, ◌∙◌}
-use Rattle.std.specs.Prelude.{Result, Ok, Err, OnOk, OnErr}
+use Rattle.std.proofs.Common.{◌≡◌, List, ◌++◌, reverse, ap, subst, sym, ◌∙◌}
 use Rattle.tq_node_laws.proofs.Lawful.{node_laws}
 use Rattle.tq_desk_laws.proofs.DeskFinal.{desk_laws}
 use Rattle.tq_desk.specs.DeskJournal.{DeskEntry, commits, AreNumbered}
 use Rattle.tq_tables.specs.Journals.{JournalsView}
 use Rattle.tq_world.specs.declared.answer.Step.{Step}
-use Rattle.tq_world.specs.declared.answer.Answer.{Answer}
-use Rattle.tq_world.specs.declared.answer.Refusal.{Refusal}
 use Rattle.tq_world.specs.World.{empty_world}
-use Rattle.tq_world.specs.Steps.{run, run_from, world_after}
+use Rattle.tq_world.specs.Steps.{run, run_from}
 use Rattle.tq_world.specs.Steps.{IsOfRun}
 use Rattle.tq_world.specs.CommittedReads.{HasCommittedReads}
 use Rattle.tq_world.proofs.Runs.{run_from-append}

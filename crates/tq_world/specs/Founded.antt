@@ -1,13 +1,9 @@
 -- Founded citations: the entry that is cited stands in the world, with the content that is cited.
 use Rattle.std.specs.Prelude.{◌==◌, ◌&&◌, ℕ, Bool, true, false, not, List, [], ◌∷◌, Option, Some, None, find, if◌then◌else◌}
 use Rattle.std.specs.Cmp.Lexicographic.{pointwise}
-use Rattle.std.specs.Option.{option_map, option_map_or}
+use Rattle.std.specs.Option.{option_and_then, option_map, option_map_or}
 use Rattle.tq_shape.specs.declared.part.Part.TheVariants.{Server, Desk}
-use Rattle.tq_store.specs.declared.write.Write.{Write}
-use Rattle.tq_locks.specs.declared.mode.Mode.{Mode}
-use Rattle.tq_locks.specs.declared.mode.Mode.TheVariants.{Shared, Exclusive}
 use Rattle.tq_asks.specs.declared.ask.CitedVote.{CitedVote}
-use Rattle.tq_asks.specs.declared.ask.HeldLock.{HeldLock}
 use Rattle.tq_asks.specs.declared.ask.NodeAsk.{NodeAsk}
 use Rattle.tq_asks.specs.declared.ask.NodeAsk.TheVariants as node_asks
 use Rattle.tq_asks.specs.declared.ask.NodeReply.{NodeReply}
@@ -26,23 +22,13 @@ use Rattle.tq_evidence.specs.declared.grant.Grant.{Grant}
 use Rattle.tq_evidence.specs.declared.op.Op.{Op}
 use Rattle.tq_evidence.specs.declared.vote.Vote.{Vote}
 use Rattle.tq_store.specs.Names.{same_name}
+use Rattle.tq_alike.specs.Same.{same_mode, same_lock, same_write}
 use Rattle.tq_tables.specs.Journals.{JournalsView}
 use Rattle.tq_world.specs.declared.citation.Citation.{Citation}
 use Rattle.tq_world.specs.World.{item_at, server_entry}
 use Rattle.tq_shape.specs.Steps.{or_else}
 
--- ---- equal contents
-
-abbrev pub same_mode : Mode → Mode → Bool
-same_mode Shared Shared = true
-same_mode Exclusive Exclusive = true
-same_mode a b = false
-
-abbrev pub same_lock : HeldLock → HeldLock → Bool
-same_lock a b = same_name a.file b.file && same_mode a.mode b.mode && a.since == b.since
-
-abbrev pub same_write : Write → Write → Bool
-same_write a b = same_name a.file b.file && a.version == b.version && same_name a.content b.content
+-- ---- what an entry says
 
 -- the vote is cited by this server and number
 abbrev pub cites : CitedVote → Vote → Bool
@@ -51,8 +37,6 @@ cites cited vote = cited.server == vote.server && cited.number == vote.number
 abbrev pub cites_votes : Verdict → List Vote → Bool
 cites_votes verdicts.Abort votes = false
 cites_votes (verdicts.Commit cited) votes = pointwise cites cited votes
-
--- ---- what an entry says
 
 -- a lock asked for by the transaction on the file was granted, as the grant has it
 abbrev pub is_granted : ℕ → List ℕ → Grant → NodeAsk → NodeReply → Bool
@@ -117,16 +101,32 @@ abbrev pub unfounded_in_desk_ask : JournalsView → DeskAsk → Option Citation
 unfounded_in_desk_ask world (desk_asks.Commit txn ops votes) = or_else (unfounded_op world txn ops) (unfounded_vote world txn votes)
 unfounded_in_desk_ask world ask = None
 
+-- what a server's ask cites: a Decide the desk's entry with its verdict, a Refresh the Peek that told its copy
+abbrev pub cited_in_work : WorkAsk → Option Citation
+cited_in_work (work.Decide txn verdict cite) = Some (record { part = Desk; number = cite })
+cited_in_work (work.Refresh file version content from) =
+    Some (record { part = Server from.server; number = from.number })
+cited_in_work ask = None
+
+abbrev pub cited_in_node_ask : NodeAsk → Option Citation
+cited_in_node_ask (node_asks.Work ask) = cited_in_work ask
+cited_in_node_ask (node_asks.CrashIn after ask) = cited_in_work ask
+cited_in_node_ask ask = None
+
+-- the entry that it cites tells that verdict, or that copy
+abbrev pub is_founded_work : JournalsView → WorkAsk → Bool
+is_founded_work world (work.Decide txn verdict cite) = is_founded_verdict world txn verdict cite
+is_founded_work world (work.Refresh file version content from) =
+    is_founded_copy world file version content from
+is_founded_work world ask = true
+
 -- the citation, unless it is founded
 abbrev pub unless : Bool → Citation → Option Citation
 unless founded citation = if founded then None else Some citation
 
--- a Decide cites the desk's entry with its verdict, a Refresh the Peek that told its copy
+-- what the ask cites, unless that is founded
 abbrev pub unfounded_in_work : JournalsView → WorkAsk → Option Citation
-unfounded_in_work world (work.Decide txn verdict cite) = unless (is_founded_verdict world txn verdict cite) (record { part = Desk; number = cite })
-unfounded_in_work world (work.Refresh file version content from) =
-    unless (is_founded_copy world file version content from) (record { part = Server from.server; number = from.number })
-unfounded_in_work world ask = None
+unfounded_in_work world ask = option_and_then (unless (is_founded_work world ask)) (cited_in_work ask)
 
 abbrev pub unfounded_in_node_ask : JournalsView → NodeAsk → Option Citation
 unfounded_in_node_ask world (node_asks.Work ask) = unfounded_in_work world ask

@@ -3,13 +3,13 @@ ghost use Rattle.std.specs.Prelude.{◌≡◌, ◌==◌, ◌&&◌};
 ghost use Rattle.std.specs.Cmp.Lexicographic.{pointwise};
 ghost use Rattle.tq_world.specs.Founded as spec;
 
-use tq_asks::{CitedVote, HeldLock, NodeAsk, NodeReply, Verdict, WorkAsk};
+use tq_asks::{CitedVote, NodeAsk, NodeReply, Verdict, WorkAsk};
 use tq_desk::{DeskAsk, DeskRefusal, DeskReply, Grant, Vote};
-use tq_locks::Mode;
-use tq_store::{Content, FileName, Write};
+use tq_store::{Content, FileName};
 use tq_tables::{DeskEntry, NodeEntry};
 
-/// Whether the entry granted to the transaction its lock on the file, with the mode, version and content that the grant has.
+/// Whether the entry granted to the transaction its lock on the file, with the mode, version and
+/// content that the grant has.
 pub fn is_granted(entry: &NodeEntry, txn: u64, file: FileName, grant: &Grant) -> bool
     ensures { result ≡ spec.is_granted txn file grant.now entry.now.ask entry.now.reply }
 {
@@ -25,22 +25,13 @@ pub fn is_granted(entry: &NodeEntry, txn: u64, file: FileName, grant: &Grant) ->
             NodeReply::Granted { version, content } => {
                 *asked == txn
                     && *locked == file
-                    && is_same_mode(*mode, grant.mode)
+                    && *mode == grant.mode
                     && *version == grant.version
                     && *content == grant.content
             }
             _ => false,
         },
         _ => false,
-    }
-}
-
-fn is_same_mode(one: Mode, other: Mode) -> bool
-    ensures { result ≡ spec.same_mode one other }
-{
-    match one {
-        Mode::Shared => other == Mode::Shared,
-        Mode::Exclusive => other == Mode::Exclusive,
     }
 }
 
@@ -81,7 +72,8 @@ pub fn is_peeked(entry: &NodeEntry, file: FileName, version: u64, content: &Cont
     }
 }
 
-/// Whether the entry says that the transaction ended so: it recorded the commit of the votes cited, or told this verdict.
+/// Whether the entry says that the transaction ended so: it recorded the commit of the votes cited,
+/// or told this verdict.
 pub fn is_ended(entry: &DeskEntry, txn: u64, verdict: &Verdict) -> bool
     ensures { result ≡ spec.is_ended txn verdict.now entry.now.ask entry.now.reply }
 {

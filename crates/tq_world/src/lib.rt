@@ -2,8 +2,8 @@
 //! law of committed reads among them, and the tests of what an entry says. What carries the steps out stands in a crate
 //! above.
 //!
-//! Files: `answer.rt` steps, answers, refusals; `citation.rt`, `founded.rt` an entry that an ask cites, and whether it says
-//! so; `item.rt` the entry of a number.
+//! Files: `answer.rt` steps, answers, refusals; `citation.rt` what an ask cites, `founded.rt` whether an entry
+//! says so, `unfounded.rt` the first citation of an ask that is not founded; `item.rt` the entry of a number.
 //! Definitions: `specs/World`, `Founded`, `Steps`, `Offered`, `CommittedReads`, `Headline`.
 #![tactic(auto)]
 
@@ -11,9 +11,11 @@ mod answer;
 mod citation;
 mod founded;
 mod item;
+mod unfounded;
 
 pub use answer::{Answer, Journal, Refusal, Reply, Step};
-pub use citation::Citation;
+pub use citation::{Citation, cited_in_node_ask};
 pub use founded::{is_ended, is_granted, is_peeked, is_voted};
 pub use item::item_at;
 pub use tq_shape::Part;
+pub use unfounded::{CitedEntries, unfounded_in_desk_ask, unfounded_in_node_ask};

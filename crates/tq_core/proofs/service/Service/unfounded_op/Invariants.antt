@@ -1,7 +1,0 @@
-use Rattle.std.proofs.Common.{◌≡◌, drop}
-use Rattle.tq_world.specs.Founded as spec
-use Rattle.tq_core.proofs.service.Service.unfounded_op.Given as goal
-
--- what the ops that are left cite is what all of them do
-abbrev pub invariant-loop-op : goal.invariant-loop-op
-invariant-loop-op l = spec.unfounded_op l.self l.txn (drop l.op-index l.ops) ≡ spec.unfounded_op l.self l.txn l.ops
