@@ -14,8 +14,8 @@ use Rattle.tq_node.specs.NodeJournal.{NodeEntry}
 use Rattle.tq_tables.specs.Journals.{JournalsView}
 use Rattle.tq_world.specs.World.{item_at}
 use Rattle.tq_world.proofs.Rooms.{item_above}
-use Rattle.tq_receipts.specs.declared.name.EntryName.{EntryName}
-use Rattle.tq_receipts.specs.Names.{IsWithin}
+use Rattle.tq_merge.specs.declared.name.EntryName.{EntryName}
+use Rattle.tq_merge.specs.EntryNames.{IsWithin}
 use Rattle.tq_merge.specs.Told.{Stands, names_in, names_of, all_names, counts_of}
 
 pub has_at : {A : Type 0} (xs : List A) (i : ℕ) (d : A) → i < length xs → Has xs (get_or xs i d)

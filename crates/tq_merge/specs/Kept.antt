@@ -4,8 +4,8 @@ use Rattle.std.specs.List.{All}
 use Rattle.tq_shape.specs.Journal.{Has}
 use Rattle.tq_txn.specs.declared.asker.Exchange.{Exchange}
 use Rattle.tq_tables.specs.Journals.{JournalsView}
-use Rattle.tq_receipts.specs.declared.name.EntryName.{EntryName}
-use Rattle.tq_receipts.specs.Names.{Rise, IsFallen, AreDifferent, IsTwice, unnamed_from}
+use Rattle.tq_merge.specs.declared.name.EntryName.{EntryName}
+use Rattle.tq_merge.specs.EntryNames.{Rise, IsFallen, AreDifferent, IsTwice, unnamed_from}
 use Rattle.tq_merge.specs.declared.compared.Comparison.{Comparison}
 use Rattle.tq_merge.specs.declared.compared.Comparison.TheVariants.{Kept, Differs}
 use Rattle.tq_merge.specs.Told.{Stands, names_in, names_of, all_names, counts_of}

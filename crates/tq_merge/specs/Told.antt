@@ -16,7 +16,7 @@ use Rattle.tq_world.specs.declared.answer.Step.{Step}
 use Rattle.tq_world.specs.declared.answer.Step.TheVariants as steps
 use Rattle.tq_world.specs.declared.answer.Reply.{Reply}
 use Rattle.tq_world.specs.declared.answer.Reply.TheVariants as replies
-use Rattle.tq_receipts.specs.declared.name.EntryName.{EntryName}
+use Rattle.tq_merge.specs.declared.name.EntryName.{EntryName}
 
 abbrev pub entry_name : Part → ℕ → EntryName
 entry_name part number = record { part = part; number = number }

@@ -1,10 +1,12 @@
 ghost use Rattle.std.specs.Prelude.{◌≡◌, IfOk};
 ghost use Rattle.tq_merge.specs.Kept.{IsCompared};
 
+use crate::claimed::{Claimed, claim};
 use crate::lengths::counts;
+use crate::name::EntryName;
 use crate::names::{Names, names_told};
+use crate::rising::first_fallen;
 use std::alloc::Global;
-use tq_receipts::{Claimed, EntryName, claim, first_fallen};
 use tq_shape::{Memory, Seq};
 use tq_tables::Journals;
 use tq_txn::Exchange;

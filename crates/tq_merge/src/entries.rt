@@ -1,7 +1,7 @@
 ghost use Rattle.std.specs.Prelude.{◌≡◌, IfOk};
 ghost use Rattle.tq_merge.specs.Told.{found_at, node_found, desk_found, view_found};
 
-use tq_receipts::EntryName;
+use crate::name::EntryName;
 use tq_shape::{Entry, Memory, Part};
 use tq_tables::{DeskEntry, Journals, NodeEntry, ViewEntry};
 use tq_world::{CitedEntries, Reply, Step, item_at};

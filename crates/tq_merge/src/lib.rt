@@ -2,12 +2,14 @@
 //! callers were told stands in journals, each entry told once.
 //!
 //! Files: `explaining.rt` the search for an order; `placing.rt` what is placed, `waiting.rt` who waits for it; `wrong.rt`
-//! the replay; `cited.rt`, `ready.rt` citations; `compared.rt`, `told_stands.rt` what callers were told.
+//! the replay; `cited.rt`, `ready.rt` citations; `compared.rt`, `told_stands.rt` what callers were
+//! told, `name.rt`, `rising.rt`, `claimed.rt` over `marks.rt` by the names of its entries.
 //! Definitions: `specs/Order`, `Wrong`, `Faults`; as they stood while a server had one cost `OneCost`; of a closed cluster
-//! `Told`, `Kept`, `Closed`. `Cited` and `Placing` are the code's own words.
+//! `Told`, `EntryNames`, `Claims`, `Kept`, `Closed`. `Cited` and `Placing` are the code's own words.
 #![tactic(auto)]
 
 mod cited;
+mod claimed;
 mod close_fault;
 mod compared;
 mod counts;
@@ -16,9 +18,12 @@ mod entries;
 mod explaining;
 mod fault;
 mod lengths;
+mod marks;
+mod name;
 mod names;
 mod placing;
 mod ready;
+mod rising;
 mod told_stands;
 mod waiting;
 mod wrong;
@@ -30,3 +35,4 @@ pub use desk::is_legal_desk;
 pub use entries::found;
 pub use explaining::{Order, explain, explain_legal};
 pub use fault::Fault;
+pub use name::EntryName;

@@ -7,8 +7,7 @@ use crate::wrong::Wrong;
 use std::alloc::Global;
 use tq_alike::{OfDesk, OfServer, OfView, begins};
 use tq_core::{Journal, Refusal, Service, Step};
-use tq_merge::found;
-use tq_receipts::EntryName;
+use tq_merge::{EntryName, found};
 use tq_shape::Part;
 use tq_tables::Journals;
 

@@ -2,8 +2,8 @@ use Rattle.std.proofs.Common.{◌≡◌, ◌++◌, ◌∙◌, inl, inr, ℕ, Lis
 use Rattle.std.specs.List.{All}
 use Rattle.std.proofs.lemmas.List.{take_all}
 use Rattle.tq_txn.specs.declared.asker.Exchange.{Exchange}
-use Rattle.tq_receipts.specs.declared.name.EntryName.{EntryName}
-use Rattle.tq_receipts.specs.Names.{IsWithin, IsFallen, Rise}
+use Rattle.tq_merge.specs.declared.name.EntryName.{EntryName}
+use Rattle.tq_merge.specs.EntryNames.{IsWithin, IsFallen, Rise}
 use Rattle.tq_merge.specs.Told.{Stands, names_of, all_names, counts_of}
 use Rattle.tq_merge.specs.Kept.{IsStray}
 use Rattle.tq_merge.proofs.Telling.{has_item, all_next, next_all, told_within, all_within}

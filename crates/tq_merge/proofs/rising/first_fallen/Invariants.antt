@@ -1,8 +1,8 @@
 use Rattle.std.proofs.Common.{◌≡◌, take, length}
 use Rattle.std.specs.Prelude.{vec_len}
-use Rattle.tq_receipts.specs.Names.{Rise}
-use Rattle.tq_receipts.proofs.LastNumbers.{KeepsLast}
-use Rattle.tq_receipts.proofs.rising.first_fallen.Given as goal
+use Rattle.tq_merge.specs.EntryNames.{Rise}
+use Rattle.tq_merge.proofs.LastNumbers.{KeepsLast}
+use Rattle.tq_merge.proofs.rising.first_fallen.Given as goal
 
 abbrev pub invariant-loop-name : goal.invariant-loop-name
 invariant-loop-name l = record {

@@ -3,7 +3,7 @@ use Rattle.std.proofs.Common.{◌≡◌, ◌⊎◌, inl, inr, ◌<◌, ◌≤◌
 use Rattle.tq_shape.specs.Journal.{Has}
 use Rattle.tq_shape.specs.declared.part.Part.{Part}
 use Rattle.tq_shape.specs.declared.part.Part.TheVariants.{Server, Desk, View}
-use Rattle.tq_receipts.specs.Names.{place_of}
+use Rattle.tq_merge.specs.EntryNames.{place_of}
 
 pub has_end : {A : Type 0} (xs : List A) (x : A) → Has (xs ++ x ∷ []) x
 has_end [] x = inl refl

@@ -1,7 +1,7 @@
 use Rattle.std.proofs.Common.{take}
-use Rattle.tq_receipts.specs.Names.{AreDifferent}
-use Rattle.tq_receipts.proofs.Marked.{KeepsMarks}
-use Rattle.tq_receipts.proofs.claimed.claim.Given as goal
+use Rattle.tq_merge.specs.EntryNames.{AreDifferent}
+use Rattle.tq_merge.proofs.Marked.{KeepsMarks}
+use Rattle.tq_merge.proofs.claimed.claim.Given as goal
 
 abbrev pub invariant-loop-name : goal.invariant-loop-name
 invariant-loop-name l = record {

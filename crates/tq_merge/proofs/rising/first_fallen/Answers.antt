@@ -1,6 +1,6 @@
 use Rattle.std.proofs.Common.{◌≡◌, length, arith}
-use Rattle.tq_receipts.proofs.LastNumbers.{next_fallen, next_keeps, next_rises}
-use Rattle.tq_receipts.proofs.rising.first_fallen.Goals as goal
+use Rattle.tq_merge.proofs.LastNumbers.{next_fallen, next_keeps, next_rises}
+use Rattle.tq_merge.proofs.rising.first_fallen.Goals as goal
 
 pub returns-then-name-index : goal.returns-then-name-index
 returns-then-name-index c =

@@ -1,5 +1,5 @@
 ghost use Rattle.std.specs.Prelude.{◌≡◌, ◌<◌, length};
-ghost use Rattle.tq_receipts.specs.Names as spec;
+ghost use Rattle.tq_merge.specs.EntryNames as spec;
 
 use tq_shape::Part;
 

@@ -6,9 +6,9 @@ use Rattle.std.proofs.lemmas.List.{get_or-set_same, get_or-set_other, get_or_def
 use Rattle.std.proofs.lemmas.List.Elements.{All-get_or}
 use Rattle.tq_shape.specs.Journal.{Has}
 use Rattle.tq_shape.specs.declared.part.Part.{Part}
-use Rattle.tq_receipts.specs.declared.name.EntryName.{EntryName}
-use Rattle.tq_receipts.specs.Names.{place_of, IsAbove, RiseAfter, IsFallen, IsWithin}
-use Rattle.tq_receipts.proofs.Places.{has_end, has_more, has_push, same_place, counted}
+use Rattle.tq_merge.specs.declared.name.EntryName.{EntryName}
+use Rattle.tq_merge.specs.EntryNames.{place_of, IsAbove, RiseAfter, IsFallen, IsWithin}
+use Rattle.tq_merge.proofs.NamePlaces.{has_end, has_more, has_push, same_place, counted}
 
 pub rise_more : (before names : List EntryName) (name : EntryName) → RiseAfter before names → IsAbove (before ++ names) name → RiseAfter before (names ++ name ∷ [])
 rise_more before [] name rise above = (subst (λ (l : List EntryName). IsAbove l name) (append-nil before) above, tt)

@@ -1,5 +1,5 @@
 ghost use Rattle.std.specs.Prelude.{◌≡◌, All, IfOk, MatchOption};
-ghost use Rattle.tq_receipts.specs.Names.{IsFallen, IsWithin, Rise};
+ghost use Rattle.tq_merge.specs.EntryNames.{IsFallen, IsWithin, Rise};
 
 use crate::name::{EntryName, place_of};
 use std::alloc::Global;
@@ -7,7 +7,7 @@ use tq_shape::Memory;
 
 /// The first name whose number does not rise above those of the same part before it; `None` where all do. `counts` has
 /// for each part how many entries it has. Answers an error only where memory is refused.
-pub fn first_fallen(
+pub(crate) fn first_fallen(
     alloc: Global,
     counts: &[u64],
     names: &[EntryName],

@@ -2,9 +2,9 @@ use Rattle.std.proofs.Common.{◌≡◌, ◌≤◌, ◌∙◌, List, Bool, lengt
 use Rattle.std.specs.List.{All, sum_by}
 use Rattle.std.specs.Prelude.{not, count_by, take}
 use Rattle.std.proofs.lemmas.List.{take_all}
-use Rattle.tq_receipts.specs.Names.{AreDifferent}
-use Rattle.tq_receipts.proofs.Marked.{KeepsMarks, next_twice, next_keeps, next_different, all_short, unnamed_is}
-use Rattle.tq_receipts.proofs.claimed.claim.Goals as goal
+use Rattle.tq_merge.specs.EntryNames.{AreDifferent}
+use Rattle.tq_merge.proofs.Marked.{KeepsMarks, next_twice, next_keeps, next_different, all_short, unnamed_is}
+use Rattle.tq_merge.proofs.claimed.claim.Goals as goal
 
 pub returns-then-not-name : goal.returns-then-not-name
 returns-then-not-name c =

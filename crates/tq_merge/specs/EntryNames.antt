@@ -1,10 +1,11 @@
 -- Names of entries: which rise, which come twice, and how many entries no one names.
-use Rattle.std.specs.Prelude.{◌≡◌, ◌≤◌, ◌<◌, ◌==◌, ◌&&◌, ◌+◌, ℕ, zero, suc, Bool, true, false, cond, List, [], ◌∷◌, ◌++◌, get_or}
+use Rattle.std.specs.Prelude.{◌≡◌, ◌≤◌, ◌<◌, ◌==◌, ◌&&◌, ◌+◌, ℕ, zero, suc, Bool, cond, List, [], ◌∷◌, ◌++◌, get_or}
 use Rattle.std.specs.List.{list_any}
 use Rattle.tq_shape.specs.Journal.{Has}
 use Rattle.tq_shape.specs.declared.part.Part.{Part}
 use Rattle.tq_shape.specs.declared.part.Part.TheVariants.{Server, Desk, View}
-use Rattle.tq_receipts.specs.declared.name.EntryName.{EntryName}
+use Rattle.tq_merge.specs.declared.name.EntryName.{EntryName}
+use Rattle.tq_merge.specs.Order.{same_part}
 
 -- ---- numbers rise
 
@@ -46,12 +47,6 @@ pub record IsTwice (names : List EntryName) (name : EntryName) : Type 0 where
   pub first : AreDifferent before
 
 -- ---- entries that no one names
-
-abbrev pub same_part : Part → Part → Bool
-same_part (Server a) (Server b) = a == b
-same_part Desk Desk = true
-same_part View View = true
-same_part a b = false
 
 abbrev pub is_named : List EntryName → Part → ℕ → Bool
 is_named names part number = list_any (λ name. same_part name.part part && name.number == number) names
