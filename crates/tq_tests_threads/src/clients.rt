@@ -1,7 +1,7 @@
 //! Clients and workers in threads.
 ghost use Rattle.std.specs.Prelude.{◌≡◌, ◌≤◌};
 
-use crate::gates::{Across, At, Beside, By, Counted, Crossing, Meeting, Tally};
+use crate::gates::{Across, At, By, Counted, Meeting, Tally};
 use std::alloc::Global;
 use std::mem::forget;
 use std::process::Abort;
@@ -81,18 +81,18 @@ fn peek<R: Wait + Abort, G: Gate + Drop>(
 #[test]
 fn two_parts_at_once(rt: HostRuntime) {
     let alloc = rt.alloc();
-    let crossing = Crossing::new();
+    let crossing = Meeting::new();
     let cluster = cluster(&rt, alloc, Across(&crossing));
     let (one, two) = join(
         &rt,
         || peek(&rt, alloc, &cluster, 1),
         || {
-            crossing.await_held();
+            crossing.await_first();
             peek(&rt, alloc, &cluster, 2)
         },
     );
     assert!(rt; one && two);
-    assert!(rt; crossing.has_crossed());
+    assert!(rt; crossing.has_met());
     forget(cluster);
 }
 
@@ -164,7 +164,7 @@ fn two_workers_at_once(rt: HostRuntime) {
 #[test]
 fn worker_beside_client(rt: HostRuntime) {
     let alloc = rt.alloc();
-    let beside = Beside::new();
+    let beside = Meeting::new();
     let cluster = cluster(&rt, alloc, By(&beside));
     let text = b"client\nbegin\nwrite a x\ncommit\n";
     forget(ran(&rt, alloc, &cluster, text, 0, 0));

@@ -35,61 +35,13 @@ impl Sign {
     }
 }
 
-/// Holds a call at server 1, under its lock, until a call at server 2 was answered.
-#[derive(Drop)]
-pub(crate) struct Crossing {
-    /// A call holds the lock of server 1.
-    held: Sign,
-    /// A call at server 2 was answered, and has given its lock back.
-    answered: Sign,
-    gave_up: Sign,
-}
-
-impl Crossing {
-    pub(crate) fn new() -> Crossing {
-        Crossing {
-            held: Sign::new(),
-            answered: Sign::new(),
-            gave_up: Sign::new(),
-        }
-    }
-
-    /// Looks until a call holds the lock of server 1.
-    pub(crate) fn await_held(&self) {
-        self.held.await_or(&self.gave_up);
-    }
-
-    /// A call at server 2 was answered while one at server 1 was held.
-    pub(crate) fn has_crossed(&self) -> bool {
-        self.held.is_given() && self.answered.is_given() && !self.gave_up.is_given()
-    }
-}
-
-/// A crossing, as several may have it.
-#[derive(Clone, Copy)]
-pub(crate) struct Across<'a>(pub(crate) &'a Crossing);
-
-impl<'a> Gate for Across<'a> {
-    fn holding(&self, part: Part) {
-        if part == Part::Server(1) {
-            self.0.held.give();
-            self.0.answered.await_or(&self.0.gave_up);
-        }
-    }
-
-    fn answered(&self, part: Part) {
-        if part == Part::Server(2) {
-            self.0.answered.give();
-        }
-    }
-}
-
-/// Where it is shut: holds a call at server 1 or 2, under the lock of that server, until calls at both are held.
+/// Two things that come to be, each in a thread that may wait for the other.
 #[derive(Drop)]
 pub(crate) struct Meeting {
+    /// Threads wait for one another from here on, where a gate asks for it.
     shut: Sign,
-    one: Sign,
-    two: Sign,
+    first: Sign,
+    second: Sign,
     gave_up: Sign,
 }
 
@@ -97,8 +49,8 @@ impl Meeting {
     pub(crate) fn new() -> Meeting {
         Meeting {
             shut: Sign::new(),
-            one: Sign::new(),
-            two: Sign::new(),
+            first: Sign::new(),
+            second: Sign::new(),
             gave_up: Sign::new(),
         }
     }
@@ -107,9 +59,14 @@ impl Meeting {
         self.shut.give();
     }
 
-    /// Calls at both servers were held, each until the other was.
+    /// Looks until the first came.
+    pub(crate) fn await_first(&self) {
+        self.first.await_or(&self.gave_up);
+    }
+
+    /// Both came, and no thread gave up waiting.
     pub(crate) fn has_met(&self) -> bool {
-        self.one.is_given() && self.two.is_given() && !self.gave_up.is_given()
+        self.first.is_given() && self.second.is_given() && !self.gave_up.is_given()
     }
 
     fn meet(&self, mine: &Sign, other: &Sign) {
@@ -118,7 +75,25 @@ impl Meeting {
     }
 }
 
-/// A meeting, as several may have it.
+/// Holds a call at server 1, under its lock, until a call at server 2 was answered and has given its lock back.
+#[derive(Clone, Copy)]
+pub(crate) struct Across<'a>(pub(crate) &'a Meeting);
+
+impl<'a> Gate for Across<'a> {
+    fn holding(&self, part: Part) {
+        if part == Part::Server(1) {
+            self.0.meet(&self.0.first, &self.0.second);
+        }
+    }
+
+    fn answered(&self, part: Part) {
+        if part == Part::Server(2) {
+            self.0.second.give();
+        }
+    }
+}
+
+/// Where it is shut: holds a call at server 1 or 2, under the lock of that server, until calls at both are held.
 #[derive(Clone, Copy)]
 pub(crate) struct At<'a>(pub(crate) &'a Meeting);
 
@@ -129,8 +104,8 @@ impl<'a> Gate for At<'a> {
             return;
         }
         match part {
-            Part::Server(1) => meeting.meet(&meeting.one, &meeting.two),
-            Part::Server(2) => meeting.meet(&meeting.two, &meeting.one),
+            Part::Server(1) => meeting.meet(&meeting.first, &meeting.second),
+            Part::Server(2) => meeting.meet(&meeting.second, &meeting.first),
             _ => {}
         }
     }
@@ -140,58 +115,26 @@ impl<'a> Gate for At<'a> {
 
 /// Where it is shut: holds the first call at server 1, under its lock, until a call holds the lock of the view; and whom
 /// the view has answered, until a call holds the lock of server 1.
-#[derive(Drop)]
-pub(crate) struct Beside {
-    shut: Sign,
-    server: Sign,
-    view: Sign,
-    gave_up: Sign,
-}
-
-impl Beside {
-    pub(crate) fn new() -> Beside {
-        Beside {
-            shut: Sign::new(),
-            server: Sign::new(),
-            view: Sign::new(),
-            gave_up: Sign::new(),
-        }
-    }
-
-    pub(crate) fn shut(&self) {
-        self.shut.give();
-    }
-
-    /// Calls at server 1 and at the view came, each before the other had ended.
-    pub(crate) fn has_met(&self) -> bool {
-        self.server.is_given() && self.view.is_given() && !self.gave_up.is_given()
-    }
-}
-
-/// Threads beside each other, as several may have them.
 #[derive(Clone, Copy)]
-pub(crate) struct By<'a>(pub(crate) &'a Beside);
+pub(crate) struct By<'a>(pub(crate) &'a Meeting);
 
 impl<'a> Gate for By<'a> {
     fn holding(&self, part: Part) {
-        let beside = self.0;
-        if !beside.shut.is_given() {
+        let meeting = self.0;
+        if !meeting.shut.is_given() {
             return;
         }
         match part {
-            Part::Server(1) => {
-                beside.server.give();
-                beside.view.await_or(&beside.gave_up);
-            }
-            Part::View => beside.view.give(),
+            Part::Server(1) => meeting.meet(&meeting.first, &meeting.second),
+            Part::View => meeting.second.give(),
             _ => {}
         }
     }
 
     fn answered(&self, part: Part) {
-        let beside = self.0;
-        if beside.shut.is_given() && part == Part::View {
-            beside.server.await_or(&beside.gave_up);
+        let meeting = self.0;
+        if meeting.shut.is_given() && part == Part::View {
+            meeting.await_first();
         }
     }
 }
