@@ -2,6 +2,7 @@ pub mod Memberships
 pub mod Held
 pub mod Formats
 mod Rows
+mod Places
 mod Limited
 mod Planned
-mod Chosen
+mod Nested

@@ -1,22 +1,14 @@
 -- Lists within a limit, and of as many values as servers.
 use Rattle.std.proofs.Common.{◌≡◌, ◌+◌, ◌^◌, ◌==◌, ℕ, nat_lt, nat_le, Bool, true, false, cond, List, length, Option, Some, None, refl, sym, ap, ◌∙◌, arith}
-use Rattle.std.specs.Prelude.{IfOk, Result, Ok, Err}
 use Rattle.std.proofs.lemmas.Bool.{lt-leb, le-leb, ltb-false, ltb-true, eqb-true, eq-eqb, false≢true}
-use Rattle.json.specs.Token.{Token}
 use Rattle.serde_json.specs.Data.{Data, Items}
 use Rattle.serde_json.specs.Find.{as_array}
-use Rattle.tq_value.specs.Next.{Found}
 use Rattle.tq_members.specs.Member.{◌>>=◌, each}
-use Rattle.tq_form.specs.Plans.{capped, listed}
+use Rattle.tq_form.specs.Objects.{capped, listed}
 use Rattle.tq_form.specs.Entries.{count, few, journal}
 use Rattle.tq_form.specs.Frame.{one_each}
 use Rattle.tq_form.specs.Slots.{counted}
 use Rattle.tq_form.proofs.Held.{Gives, each-length}
-
--- the same value by another word for it
-pub found_as : {X D F : Type 0} (r : Result X F) (P Q : D → X → Type 0) (first : Option (D × List Token)) (rest : List Token) → ((d : D) (x : X) → P d x → Q d x) → IfOk r (Found P first rest) → IfOk r (Found Q first rest)
-found_as (Ok x) P Q first rest h (d, e, p) = (d, e, h d x p)
-found_as (Err fault) P Q first rest h p = tt
 
 none_of : {A : Type 0} (form : Data → Option A) (items : Items) (b : Bool) → each form items ≡ None → None ≡ (cond b None (Some items) >>= each form)
 none_of form items true e = refl

@@ -16,7 +16,8 @@ use Rattle.tq_members.specs.Member.{◌>>=◌, number_at}
 use Rattle.tq_form.specs.declared.plan.Plan.{Plan}
 use Rattle.tq_form.specs.declared.file.FileFields.{FileFields}
 use Rattle.tq_form.specs.Frame.{levels_at, limits_at, servers_at, desk_at, view_at, journals_in, journals_by, journals_of}
-use Rattle.tq_form.specs.Plans.{plan_of, names_of}
+use Rattle.tq_form.specs.Objects.{names_of}
+use Rattle.tq_form.specs.Plans.{plan_of}
 use Rattle.tq_form.specs.Slots.{file_fields, journals_from, IsPlanned}
 use Rattle.tq_form.proofs.Held.{read-are-journals}
 

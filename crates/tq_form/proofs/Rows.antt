@@ -13,7 +13,7 @@ use Rattle.std.proofs.lemmas.Slice.Eq.{bytes_eq-Decides}
 use Rattle.tq_value.specs.Next.{HasNoNames}
 use Rattle.tq_members.specs.Member.{◌>>=◌, each}
 use Rattle.tq_members.proofs.Listed.{with_front, no_front}
-use Rattle.tq_form.specs.Plans.{names_of, with, capped, listed}
+use Rattle.tq_form.specs.Objects.{names_of, with, capped, listed}
 
 -- ---- items
 

@@ -7,7 +7,7 @@ pub mod Views
 pub mod Entries
 pub mod Frame
 pub mod Plans
-pub mod Kinds
+pub mod Objects
 pub mod Slots
 pub mod Faults
 pub mod Formats

@@ -1,36 +1,14 @@
--- Words of the reader's own: what it keeps of the members of an object, one slot for each name that the form asks for.
-use Rattle.std.specs.Prelude.{◌≡◌, ◌≢◌, ⊤, Result, Ok, Err, ℕ, ◌&&◌, ◌==◌, nat_le, cond, codes, List, length, Option, Some, None}
+-- Words of the reader's own: what it makes of the values that it found at the names of an object.
+use Rattle.std.specs.Prelude.{◌≡◌, ◌≢◌, ⊤, Result, Ok, Err, ℕ, Bool, ◌&&◌, ◌==◌, nat_le, cond, codes, List, length, Option, Some, None}
 use Rattle.std.specs.Option.{option_and_then}
+use Rattle.std.specs.Str.{bytes_eq}
 use Rattle.serde_json.specs.Data.{Data}
 use Rattle.serde_json.specs.Find.{as_array}
-use Rattle.tq_node.specs.NodeJournal.{NodeEntry}
-use Rattle.tq_tables.specs.Journals.{JournalsView}
-use Rattle.tq_members.specs.Format.{format_of, most_levels}
+use Rattle.serde_json.specs.Read.{read}
 use Rattle.tq_shape.specs.Limits.{LimitsView}
 use Rattle.tq_shape.specs.declared.entry.Entry.{Entry}
-use Rattle.tq_members.specs.Member.{◌>>=◌, number_of, each}
-use Rattle.tq_form.specs.Entries.{journal, node_entry, desk_entry, view_entry}
-use Rattle.tq_form.specs.Frame.{limits, one_each, journals_of}
-use Rattle.serde_json.specs.Read.{read}
-use Rattle.tq_value.specs.declared.fault.NotRead.{NotRead}
-use Rattle.tq_form.specs.declared.fault.ReadFault.{ReadFault}
-use Rattle.tq_form.specs.declared.read.Reading.{Reading}
-use Rattle.tq_form.specs.declared.read.Reading.TheVariants.{Journals, NoJournals, OtherPlan}
-use Rattle.tq_form.specs.Plans.{Names, names_of, plan_of}
-use Rattle.tq_form.specs.declared.plan.Plan.{Plan}
-use Rattle.tq_form.specs.declared.file.LimitFields.{LimitFields}
-use Rattle.tq_form.specs.declared.file.FileFields.{FileFields}
-use Rattle.tq_form.specs.declared.entry.EntryFields.{EntryFields}
-use Rattle.serde_json.specs.Find.{as_str}
-use Rattle.tq_members.specs.declared.format.Format.{Format}
-use Rattle.tq_members.specs.Content.{name_of, content_of}
-use Rattle.tq_form.specs.Locking.{mode_of, held_lock, write, citation, verdict}
-use Rattle.tq_form.specs.Commits.{grant, op, vote, kind_of}
-use Rattle.tq_form.specs.NodeAsks.{work_at}
-use Rattle.tq_form.specs.NodeReplies.{code_refusal}
-use Rattle.tq_evidence.specs.Rules.{rule_at}
-use Rattle.tq_form.specs.Kinds.{verdict_kind, desk_kind, work_kind, node_kind, reply_kind, desk_reply_kind}
 use Rattle.tq_store.specs.declared.write.Write.{Write}
+use Rattle.tq_locks.specs.declared.mode.Mode.{Mode}
 use Rattle.tq_asks.specs.declared.ask.CitedVote.{CitedVote}
 use Rattle.tq_asks.specs.declared.ask.HeldLock.{HeldLock}
 use Rattle.tq_asks.specs.declared.ask.Verdict.{Verdict}
@@ -43,59 +21,54 @@ use Rattle.tq_asks.specs.declared.ask.NodeReply.{NodeReply}
 use Rattle.tq_asks.specs.declared.ask.NodeReply.TheVariants as NodeReply
 use Rattle.tq_asks.specs.declared.ask.NodeRefusal.{NodeRefusal}
 use Rattle.tq_asks.specs.declared.ask.NodeRefusal.TheVariants as NodeRefusal
+use Rattle.tq_evidence.specs.Rules.{rule_at}
+use Rattle.tq_evidence.specs.declared.grant.Grant.{Grant}
+use Rattle.tq_evidence.specs.declared.op.Op.{Op}
+use Rattle.tq_evidence.specs.declared.op.OpKind.{OpKind}
+use Rattle.tq_evidence.specs.declared.vote.Vote.{Vote}
+use Rattle.tq_node.specs.NodeJournal.{NodeEntry}
 use Rattle.tq_desk.specs.declared.ask.DeskAsk.{DeskAsk}
 use Rattle.tq_desk.specs.declared.ask.DeskAsk.TheVariants as DeskAsk
 use Rattle.tq_desk.specs.declared.ask.DeskReply.{DeskReply}
 use Rattle.tq_desk.specs.declared.ask.DeskReply.TheVariants as DeskReply
 use Rattle.tq_desk.specs.declared.ask.DeskRefusal.{DeskRefusal}
 use Rattle.tq_desk.specs.declared.ask.DeskRefusal.TheVariants as DeskRefusal
-use Rattle.tq_evidence.specs.declared.grant.Grant.{Grant}
-use Rattle.tq_evidence.specs.declared.op.Op.{Op}
-use Rattle.tq_evidence.specs.declared.op.OpKind.{OpKind}
-use Rattle.tq_evidence.specs.declared.vote.Vote.{Vote}
-use Rattle.tq_form.specs.declared.scalars.VerdictKind.{VerdictKind}
-use Rattle.tq_form.specs.declared.scalars.VerdictKind.TheVariants as VerdictKind
-use Rattle.tq_form.specs.declared.scalars.DeskKind.{DeskKind}
-use Rattle.tq_form.specs.declared.scalars.DeskKind.TheVariants as DeskKind
-use Rattle.tq_form.specs.declared.scalars.WorkKind.{WorkKind}
-use Rattle.tq_form.specs.declared.scalars.WorkKind.TheVariants as WorkKind
-use Rattle.tq_form.specs.declared.scalars.NodeKind.{NodeKind}
-use Rattle.tq_form.specs.declared.scalars.NodeKind.TheVariants as NodeKind
-use Rattle.tq_form.specs.declared.scalars.ReplyKind.{ReplyKind}
-use Rattle.tq_form.specs.declared.scalars.ReplyKind.TheVariants as ReplyKind
-use Rattle.tq_form.specs.declared.scalars.DeskReplyKind.{DeskReplyKind}
-use Rattle.tq_form.specs.declared.scalars.DeskReplyKind.TheVariants as DeskReplyKind
-use Rattle.tq_form.specs.declared.locking.HeldLockFields.{HeldLockFields}
-use Rattle.tq_form.specs.declared.locking.WriteFields.{WriteFields}
-use Rattle.tq_form.specs.declared.locking.CitedVoteFields.{CitedVoteFields}
-use Rattle.tq_form.specs.declared.locking.VerdictFields.{VerdictFields}
-use Rattle.tq_form.specs.declared.commits.GrantFields.{GrantFields}
-use Rattle.tq_form.specs.declared.commits.OpFields.{OpFields}
-use Rattle.tq_form.specs.declared.commits.VoteFields.{VoteFields}
-use Rattle.tq_form.specs.declared.desk_ask.DeskFields.{DeskFields}
-use Rattle.tq_form.specs.declared.desk_reply.DeskReplyFields.{DeskReplyFields}
+use Rattle.tq_live.specs.declared.purpose.Purpose.{Purpose}
+use Rattle.tq_live.specs.declared.purpose.Purpose.TheVariants.{Read}
+use Rattle.tq_live.specs.declared.view.ViewAsk.{ViewAsk}
+use Rattle.tq_live.specs.declared.view.ViewAsk.TheVariants as ViewAsk
+use Rattle.tq_live.specs.declared.view.ViewReply.{ViewReply}
+use Rattle.tq_live.specs.declared.view.ViewReply.TheVariants as ViewReply
+use Rattle.tq_live.specs.declared.view.ViewRefusal.TheVariants.{NoSuchServer, BadCost, Blocked}
+use Rattle.tq_tables.specs.Journals.{JournalsView}
+use Rattle.tq_value.specs.declared.fault.NotRead.{NotRead}
+use Rattle.tq_members.specs.declared.format.Format.{Format}
+use Rattle.tq_members.specs.declared.format.Format.TheVariants.{One, Two}
+use Rattle.tq_members.specs.Format.{format_of, most_levels}
+use Rattle.tq_members.specs.Member.{◌>>=◌, number_of, each}
+use Rattle.tq_form.specs.Entries.{journal, node_entry, desk_entry, view_entry}
+use Rattle.tq_form.specs.Frame.{limits, one_each, journals_of}
+use Rattle.tq_form.specs.NodeReplies.{code_refusal, bare_reply}
+use Rattle.tq_form.specs.Views.{member_of}
+use Rattle.tq_form.specs.Objects.{Names, names_of}
+use Rattle.tq_form.specs.Plans.{plan_of}
+use Rattle.tq_form.specs.declared.fault.ReadFault.{ReadFault}
+use Rattle.tq_form.specs.declared.read.Reading.{Reading}
+use Rattle.tq_form.specs.declared.read.Reading.TheVariants.{Journals, NoJournals, OtherPlan}
+use Rattle.tq_form.specs.declared.plan.Plan.{Plan}
+use Rattle.tq_form.specs.declared.file.FileFields.{FileFields}
 use Rattle.tq_form.specs.declared.node_ask.WorkMembers.{WorkMembers}
-use Rattle.tq_form.specs.declared.node_ask.WorkFields.{WorkFields}
-use Rattle.tq_form.specs.declared.node_ask.NodeFields.{NodeFields}
-use Rattle.tq_form.specs.declared.node_reply.ReplyFields.{ReplyFields}
+use Rattle.tq_form.specs.declared.node_reply.ReplyMembers.{ReplyMembers}
+use Rattle.tq_form.specs.declared.view_ask.ViewMembers.{ViewMembers}
+use Rattle.tq_form.specs.declared.view_reply.Servers.{Servers}
 
-abbrev pub entry_fields : {A R : Type 0} → (Data → Option A) → (Data → Option R) → Names → EntryFields A R
-entry_fields ask_form reply_form names = record { ask = names (codes "ask") >>= ask_form; reply = names (codes "reply") >>= reply_form }
+-- ---- entries and files
 
-abbrev pub entry_from : {A R : Type 0} → EntryFields A R → Option (Entry A R)
-entry_from fields = do
-  ask ← fields.ask
-  reply ← fields.reply
+abbrev pub entry_from : {A R : Type 0} → Option A → Option R → Option (Entry A R)
+entry_from ask reply = do
+  ask ← ask
+  reply ← reply
   Some (record { ask = ask; reply = reply })
-
--- ---- files
-
-abbrev pub limit_fields : Names → LimitFields
-limit_fields names = record {
-  entries = option_and_then number_of (names (codes "entries"));
-  files = option_and_then number_of (names (codes "files"));
-  ops = option_and_then number_of (names (codes "ops"));
-}
 
 -- a number from 1 up to the most
 abbrev pub up_to : ℕ → Option ℕ → Option ℕ
@@ -103,11 +76,11 @@ up_to most slot = do
   number ← slot
   cond (nat_le 1 number && nat_le number most) (Some number) None
 
-abbrev pub limits_from : LimitFields → Option LimitsView
-limits_from fields = do
-  entries ← up_to 1000000 fields.entries
-  files ← up_to 1000 fields.files
-  ops ← up_to 64 fields.ops
+abbrev pub limits_from : Option ℕ → Option ℕ → Option ℕ → Option LimitsView
+limits_from entries files ops = do
+  entries ← up_to 1000000 entries
+  files ← up_to 1000 files
+  ops ← up_to 64 ops
   Some (record { files = files; ops = ops; entries = entries })
 
 -- a list of as many values
@@ -116,8 +89,9 @@ counted n lists = do
   xs ← lists
   cond (length xs == n) (Some xs) None
 
-abbrev pub server_lists : Plan → Data → Option (List (List NodeEntry))
-server_lists plan value = (as_array value >>= one_each plan.levels) >>= each (journal (node_entry plan.format) plan.limit)
+-- the journals of the servers that stand in a place, one for each server of the tree
+abbrev pub server_lists : Plan → Option Data → Option (List (List NodeEntry))
+server_lists plan place = (option_and_then as_array place >>= one_each plan.levels) >>= each (journal (node_entry plan.format) plan.limit)
 
 abbrev pub file_fields : Plan → Names → FileFields
 file_fields plan names = record {
@@ -125,7 +99,7 @@ file_fields plan names = record {
   format = option_and_then number_of (names (codes "format"));
   levels = option_and_then number_of (names (codes "levels"));
   limits = names (codes "limits") >>= limits;
-  servers = (option_and_then as_array (names (codes "servers")) >>= one_each plan.levels) >>= each (journal (node_entry plan.format) plan.limit);
+  servers = server_lists plan (names (codes "servers"));
   view = names (codes "view") >>= journal (view_entry plan.format plan.levels) plan.limit;
 }
 
@@ -175,125 +149,65 @@ AnswersText (Err ReadFault.Memory) text = ⊤
 AnswersText (Err ReadFault.NotJson) text = read text ≡ None
 AnswersText (Err ReadFault.NotJournals) text = (value : Data) × (read text ≡ Some value) × (journals_of value ≡ None)
 
-abbrev pub held_lock_fields : Format → Names → HeldLockFields
-held_lock_fields format names = record {
-  file = option_and_then as_str (names (codes "file")) >>= name_of;
-  mode = option_and_then as_str (names (codes "mode")) >>= mode_of;
-  since = option_and_then number_of (names (codes "since"));
-}
+-- ---- parts of asks and replies
 
-abbrev pub held_lock_from : HeldLockFields → Option HeldLock
-held_lock_from fields = do
-  file ← fields.file
-  mode ← fields.mode
-  since ← fields.since
+abbrev pub held_lock_from : Option (List ℕ) → Option Mode → Option ℕ → Option HeldLock
+held_lock_from file mode since = do
+  file ← file
+  mode ← mode
+  since ← since
   Some (record { file = file; mode = mode; since = since })
 
-abbrev pub write_fields : Format → Names → WriteFields
-write_fields format names = record {
-  content = option_and_then as_str (names (codes "content")) >>= content_of format;
-  file = option_and_then as_str (names (codes "file")) >>= name_of;
-  version = option_and_then number_of (names (codes "version"));
-}
+abbrev pub write_from : Option (List ℕ) → Option (List ℕ) → Option ℕ → Option Write
+write_from content file version = do
+  content ← content
+  file ← file
+  version ← version
+  Some (record { file = file; version = version; content = content })
 
-abbrev pub write_from : WriteFields → Option Write
-write_from fields = do
-  content ← fields.content
-  file ← fields.file
-  version ← fields.version
-  Some (record { content = content; file = file; version = version })
-
-abbrev pub citation_fields : Format → Names → CitedVoteFields
-citation_fields format names = record {
-  number = option_and_then number_of (names (codes "number"));
-  server = option_and_then number_of (names (codes "server"));
-}
-
-abbrev pub citation_from : CitedVoteFields → Option CitedVote
-citation_from fields = do
-  number ← fields.number
-  server ← fields.server
-  Some (record { number = number; server = server })
-
-abbrev pub verdict_fields : Format → Names → VerdictFields
-verdict_fields format names = record {
-  kind = option_and_then as_str (names (codes "is")) >>= verdict_kind;
-  votes = option_and_then as_array (names (codes "votes")) >>= each citation;
-}
+abbrev pub citation_from : Option ℕ → Option ℕ → Option CitedVote
+citation_from number server = do
+  number ← number
+  server ← server
+  Some (record { server = server; number = number })
 
 abbrev pub commit_of : Option (List CitedVote) → Option Verdict
 commit_of votes = do
   votes ← votes
   Some (Verdict.Commit votes)
 
-abbrev pub verdict_by : VerdictKind → VerdictFields → Option Verdict
-verdict_by VerdictKind.Abort fields = Some Verdict.Abort
-verdict_by VerdictKind.Commit fields = commit_of fields.votes
+abbrev pub verdict_by : List ℕ → Option (List CitedVote) → Option Verdict
+verdict_by kind votes =
+    cond (bytes_eq kind (codes "abort")) (Some Verdict.Abort)
+    (cond (bytes_eq kind (codes "commit")) (commit_of votes) None)
 
-abbrev pub verdict_from : VerdictFields → Option Verdict
-verdict_from fields = do
-  kind ← fields.kind
-  verdict_by kind fields
+abbrev pub grant_from : Option (List ℕ) → Option Mode → Option ℕ → Option ℕ → Option ℕ → Option Grant
+grant_from content mode number server version = do
+  mode ← mode
+  number ← number
+  server ← server
+  version ← version
+  content ← content
+  Some (record { server = server; number = number; mode = mode; version = version; content = content })
 
-abbrev pub grant_fields : Format → Names → GrantFields
-grant_fields format names = record {
-  content = option_and_then as_str (names (codes "content")) >>= content_of format;
-  mode = option_and_then as_str (names (codes "mode")) >>= mode_of;
-  number = option_and_then number_of (names (codes "number"));
-  server = option_and_then number_of (names (codes "server"));
-  version = option_and_then number_of (names (codes "version"));
-}
-
-abbrev pub grant_from : GrantFields → Option Grant
-grant_from fields = do
-  mode ← fields.mode
-  number ← fields.number
-  server ← fields.server
-  version ← fields.version
-  content ← fields.content
-  Some (record { mode = mode; number = number; server = server; version = version; content = content })
-
-abbrev pub op_fields : Format → Names → OpFields
-op_fields format names = record {
-  content = option_and_then as_str (names (codes "content")) >>= content_of format;
-  file = option_and_then as_str (names (codes "file")) >>= name_of;
-  grants = option_and_then as_array (names (codes "grants")) >>= each (grant format);
-  kind = option_and_then as_str (names (codes "kind")) >>= kind_of;
-  version = option_and_then number_of (names (codes "version"));
-}
-
-abbrev pub op_from : OpFields → Option Op
-op_from fields = do
-  file ← fields.file
-  kind ← fields.kind
-  version ← fields.version
-  content ← fields.content
-  grants ← fields.grants
+abbrev pub op_from : Option (List ℕ) → Option (List ℕ) → Option (List Grant) → Option OpKind → Option ℕ → Option Op
+op_from content file grants kind version = do
+  file ← file
+  kind ← kind
+  version ← version
+  content ← content
+  grants ← grants
   Some (record { file = file; kind = kind; version = version; content = content; grants = grants })
 
-abbrev pub vote_fields : Format → Names → VoteFields
-vote_fields format names = record {
-  held = option_and_then as_array (names (codes "held")) >>= each held_lock;
-  number = option_and_then number_of (names (codes "number"));
-  server = option_and_then number_of (names (codes "server"));
-  writes = option_and_then as_array (names (codes "writes")) >>= each (write format);
-}
+abbrev pub vote_from : Option (List HeldLock) → Option ℕ → Option ℕ → Option (List Write) → Option Vote
+vote_from held number server writes = do
+  number ← number
+  server ← server
+  held ← held
+  writes ← writes
+  Some (record { server = server; number = number; held = held; writes = writes })
 
-abbrev pub vote_from : VoteFields → Option Vote
-vote_from fields = do
-  number ← fields.number
-  server ← fields.server
-  held ← fields.held
-  writes ← fields.writes
-  Some (record { number = number; server = server; held = held; writes = writes })
-
-abbrev pub desk_fields : Format → Names → DeskFields
-desk_fields format names = record {
-  kind = option_and_then as_str (names (codes "is")) >>= desk_kind;
-  ops = option_and_then as_array (names (codes "ops")) >>= each (op format);
-  txn = option_and_then number_of (names (codes "txn"));
-  votes = option_and_then as_array (names (codes "votes")) >>= each (vote format);
-}
+-- ---- what the desk is asked, and what it replies
 
 abbrev pub commit_ask : Option ℕ → Option (List Op) → Option (List Vote) → Option DeskAsk
 commit_ask txn ops votes = do
@@ -307,194 +221,11 @@ resolve txn = do
   txn ← txn
   Some (DeskAsk.Resolve txn)
 
-abbrev pub desk_by : DeskKind → DeskFields → Option DeskAsk
-desk_by DeskKind.Begin fields = Some DeskAsk.Begin
-desk_by DeskKind.Commit fields = commit_ask fields.txn fields.ops fields.votes
-desk_by DeskKind.Resolve fields = resolve fields.txn
-
-abbrev pub desk_from : DeskFields → Option DeskAsk
-desk_from fields = do
-  kind ← fields.kind
-  desk_by kind fields
-
-abbrev pub work_members : Format → Names → WorkMembers
-work_members format names = record {
-  cite = option_and_then number_of (names (codes "cite"));
-  content = option_and_then as_str (names (codes "content")) >>= content_of format;
-  file = option_and_then as_str (names (codes "file")) >>= name_of;
-  from = names (codes "from") >>= citation;
-  mode = option_and_then as_str (names (codes "mode")) >>= mode_of;
-  txn = option_and_then number_of (names (codes "txn"));
-  verdict = names (codes "verdict") >>= verdict;
-  version = option_and_then number_of (names (codes "version"));
-  writes = option_and_then as_array (names (codes "writes")) >>= each (write format);
-}
-
-abbrev pub work_fields : Format → Names → WorkFields
-work_fields format names = record { kind = option_and_then as_str (names (codes "is")) >>= work_kind; members = work_members format names }
-
-abbrev pub node_fields : Format → Names → NodeFields
-node_fields format names = record {
-  after = option_and_then number_of (names (codes "after"));
-  inside = names (codes "ask") >>= work_at format;
-  kind = option_and_then as_str (names (codes "is")) >>= node_kind;
-  members = work_members format names;
-}
-
-abbrev pub lock : WorkMembers → Option WorkAsk
-lock members = do
-  file ← members.file
-  mode ← members.mode
-  txn ← members.txn
-  Some (WorkAsk.Lock txn file mode)
-
-abbrev pub prepare : WorkMembers → Option WorkAsk
-prepare members = do
-  txn ← members.txn
-  writes ← members.writes
-  Some (WorkAsk.Prepare txn writes)
-
-abbrev pub decide : WorkMembers → Option WorkAsk
-decide members = do
-  cite ← members.cite
-  txn ← members.txn
-  verdict ← members.verdict
-  Some (WorkAsk.Decide txn verdict cite)
-
-abbrev pub release : WorkMembers → Option WorkAsk
-release members = do
-  txn ← members.txn
-  Some (WorkAsk.Release txn)
-
-abbrev pub peek : WorkMembers → Option WorkAsk
-peek members = do
-  file ← members.file
-  Some (WorkAsk.Peek file)
-
-abbrev pub refresh : WorkMembers → Option WorkAsk
-refresh members = do
-  file ← members.file
-  seen ← members.from
-  version ← members.version
-  content ← members.content
-  Some (WorkAsk.Refresh file version content seen)
-
-abbrev pub work_by : WorkKind → WorkMembers → Option WorkAsk
-work_by WorkKind.Lock members = lock members
-work_by WorkKind.Prepare members = prepare members
-work_by WorkKind.Decide members = decide members
-work_by WorkKind.Release members = release members
-work_by WorkKind.Peek members = peek members
-work_by WorkKind.Refresh members = refresh members
-
-abbrev pub work_from : WorkFields → Option WorkAsk
-work_from fields = do
-  kind ← fields.kind
-  work_by kind fields.members
-
-abbrev pub work : WorkKind → WorkMembers → Option NodeAsk
-work kind members = do
-  ask ← work_by kind members
-  Some (NodeAsk.Work ask)
-
-abbrev pub count_of : Option ℕ → Option ℕ
-count_of slot = do
-  after ← slot
-  cond (nat_le after 4294967295) (Some after) None
-
-abbrev pub stop : Option ℕ → Option WorkAsk → Option NodeAsk
-stop slot inside = do
-  after ← count_of slot
-  ask ← inside
-  Some (NodeAsk.CrashIn after ask)
-
-abbrev pub node_by : NodeKind → NodeFields → Option NodeAsk
-node_by NodeKind.Crash fields = Some NodeAsk.Crash
-node_by NodeKind.Return fields = Some NodeAsk.Return
-node_by NodeKind.CrashIn fields = stop fields.after fields.inside
-node_by (NodeKind.Work kind) fields = work kind fields.members
-
-abbrev pub node_from : NodeFields → Option NodeAsk
-node_from fields = do
-  kind ← fields.kind
-  node_by kind fields
-
-abbrev pub reply_fields : Format → Names → ReplyFields
-reply_fields format names = record {
-  by = option_and_then number_of (names (codes "by"));
-  code = option_and_then number_of (names (codes "code"));
-  content = option_and_then as_str (names (codes "content")) >>= content_of format;
-  file = option_and_then as_str (names (codes "file")) >>= name_of;
-  held = option_and_then as_array (names (codes "held")) >>= each held_lock;
-  kind = option_and_then as_str (names (codes "is")) >>= reply_kind;
-  version = option_and_then number_of (names (codes "version"));
-  writes = option_and_then as_array (names (codes "writes")) >>= each (write format);
-}
-
-abbrev pub granted : Option ℕ → Option (List ℕ) → Option NodeReply
-granted version content = do
-  version ← version
-  content ← content
-  Some (NodeReply.Granted version content)
-
-abbrev pub copy : Option ℕ → Option (List ℕ) → Option NodeReply
-copy version content = do
-  version ← version
-  content ← content
-  Some (NodeReply.Copy version content)
-
-abbrev pub yes_vote : Option (List HeldLock) → Option (List Write) → Option NodeReply
-yes_vote held writes = do
-  held ← held
-  writes ← writes
-  Some (NodeReply.Yes held writes)
-
-abbrev pub held_by : Option ℕ → Option NodeRefusal
-held_by by = do
-  by ← by
-  Some (NodeRefusal.Held by)
-
-abbrev pub not_locked : Option (List ℕ) → Option NodeRefusal
-not_locked file = do
-  file ← file
-  Some (NodeRefusal.NotLocked file)
-
-abbrev pub refusal : Option ℕ → Option ℕ → Option (List ℕ) → Option NodeRefusal
-refusal code by file = do
-  code ← code
-  cond (code == 14) (held_by by) (cond (code == 16) (not_locked file) (code_refusal code))
-
-abbrev pub refused : Option ℕ → Option ℕ → Option (List ℕ) → Option NodeReply
-refused code by file = do
-  refusal ← refusal code by file
-  Some (NodeReply.Refused refusal)
-
-abbrev pub reply_by : ReplyKind → ReplyFields → Option NodeReply
-reply_by ReplyKind.Granted fields = granted fields.version fields.content
-reply_by ReplyKind.Yes fields = yes_vote fields.held fields.writes
-reply_by ReplyKind.Copy fields = copy fields.version fields.content
-reply_by ReplyKind.Refused fields = refused fields.code fields.by fields.file
-reply_by ReplyKind.Installed fields = Some NodeReply.Installed
-reply_by ReplyKind.Discarded fields = Some NodeReply.Discarded
-reply_by ReplyKind.Released fields = Some NodeReply.Released
-reply_by ReplyKind.Refreshed fields = Some NodeReply.Refreshed
-reply_by ReplyKind.Crashed fields = Some NodeReply.Crashed
-reply_by ReplyKind.Returned fields = Some NodeReply.Returned
-
-abbrev pub reply_from : ReplyFields → Option NodeReply
-reply_from fields = do
-  kind ← fields.kind
-  reply_by kind fields
-
-abbrev pub desk_reply_fields : Format → Names → DeskReplyFields
-desk_reply_fields format names = record {
-  code = option_and_then number_of (names (codes "code"));
-  kind = option_and_then as_str (names (codes "is")) >>= desk_reply_kind;
-  rule = option_and_then number_of (names (codes "rule"));
-  serial = option_and_then number_of (names (codes "serial"));
-  txn = option_and_then number_of (names (codes "txn"));
-  verdict = names (codes "verdict") >>= verdict;
-}
+abbrev pub desk_ask_by : List ℕ → Option (List Op) → Option ℕ → Option (List Vote) → Option DeskAsk
+desk_ask_by kind ops txn votes =
+    cond (bytes_eq kind (codes "begin")) (Some DeskAsk.Begin)
+    (cond (bytes_eq kind (codes "commit")) (commit_ask txn ops votes)
+    (cond (bytes_eq kind (codes "resolve")) (resolve txn) None))
 
 abbrev pub begun : Option ℕ → Option DeskReply
 begun txn = do
@@ -536,13 +267,196 @@ desk_refused code rule verdict = do
   refusal ← desk_refusal code rule verdict
   Some (DeskReply.Refused refusal)
 
-abbrev pub desk_reply_by : DeskReplyKind → DeskReplyFields → Option DeskReply
-desk_reply_by DeskReplyKind.Txn fields = begun fields.txn
-desk_reply_by DeskReplyKind.Committed fields = committed fields.serial
-desk_reply_by DeskReplyKind.Verdict fields = told_verdict fields.verdict
-desk_reply_by DeskReplyKind.Refused fields = desk_refused fields.code fields.rule fields.verdict
+abbrev pub desk_reply_by : List ℕ → Option ℕ → Option ℕ → Option ℕ → Option ℕ → Option Verdict → Option DeskReply
+desk_reply_by kind code rule serial txn verdict =
+    cond (bytes_eq kind (codes "txn")) (begun txn)
+    (cond (bytes_eq kind (codes "committed")) (committed serial)
+    (cond (bytes_eq kind (codes "verdict")) (told_verdict verdict)
+    (cond (bytes_eq kind (codes "refused")) (desk_refused code rule verdict) None)))
 
-abbrev pub desk_reply_from : DeskReplyFields → Option DeskReply
-desk_reply_from fields = do
-  kind ← fields.kind
-  desk_reply_by kind fields
+-- ---- what servers are asked, and what they reply
+
+abbrev pub lock : WorkMembers → Option WorkAsk
+lock members = do
+  file ← members.file
+  mode ← members.mode
+  txn ← members.txn
+  Some (WorkAsk.Lock txn file mode)
+
+abbrev pub prepare : WorkMembers → Option WorkAsk
+prepare members = do
+  txn ← members.txn
+  writes ← members.writes
+  Some (WorkAsk.Prepare txn writes)
+
+abbrev pub decide : WorkMembers → Option WorkAsk
+decide members = do
+  cite ← members.cite
+  txn ← members.txn
+  verdict ← members.verdict
+  Some (WorkAsk.Decide txn verdict cite)
+
+abbrev pub release : WorkMembers → Option WorkAsk
+release members = do
+  txn ← members.txn
+  Some (WorkAsk.Release txn)
+
+abbrev pub peek : WorkMembers → Option WorkAsk
+peek members = do
+  file ← members.file
+  Some (WorkAsk.Peek file)
+
+abbrev pub refresh : WorkMembers → Option WorkAsk
+refresh members = do
+  file ← members.file
+  seen ← members.from
+  version ← members.version
+  content ← members.content
+  Some (WorkAsk.Refresh file version content seen)
+
+abbrev pub work_by : List ℕ → WorkMembers → Option WorkAsk
+work_by kind members =
+    cond (bytes_eq kind (codes "lock")) (lock members)
+    (cond (bytes_eq kind (codes "prepare")) (prepare members)
+    (cond (bytes_eq kind (codes "decide")) (decide members)
+    (cond (bytes_eq kind (codes "release")) (release members)
+    (cond (bytes_eq kind (codes "peek")) (peek members)
+    (cond (bytes_eq kind (codes "refresh")) (refresh members) None)))))
+
+abbrev pub work : List ℕ → WorkMembers → Option NodeAsk
+work kind members = do
+  ask ← work_by kind members
+  Some (NodeAsk.Work ask)
+
+abbrev pub count_of : Option ℕ → Option ℕ
+count_of slot = do
+  after ← slot
+  cond (nat_le after 4294967295) (Some after) None
+
+abbrev pub stop : Option ℕ → Option WorkAsk → Option NodeAsk
+stop slot inside = do
+  after ← count_of slot
+  ask ← inside
+  Some (NodeAsk.CrashIn after ask)
+
+abbrev pub node_by : List ℕ → Option ℕ → Option WorkAsk → WorkMembers → Option NodeAsk
+node_by kind after inside members =
+    cond (bytes_eq kind (codes "crash")) (Some NodeAsk.Crash)
+    (cond (bytes_eq kind (codes "return")) (Some NodeAsk.Return)
+    (cond (bytes_eq kind (codes "crashin")) (stop after inside) (work kind members)))
+
+abbrev pub granted : Option ℕ → Option (List ℕ) → Option NodeReply
+granted version content = do
+  version ← version
+  content ← content
+  Some (NodeReply.Granted version content)
+
+abbrev pub copy : Option ℕ → Option (List ℕ) → Option NodeReply
+copy version content = do
+  version ← version
+  content ← content
+  Some (NodeReply.Copy version content)
+
+abbrev pub yes_vote : Option (List HeldLock) → Option (List Write) → Option NodeReply
+yes_vote held writes = do
+  held ← held
+  writes ← writes
+  Some (NodeReply.Yes held writes)
+
+abbrev pub held_by : Option ℕ → Option NodeRefusal
+held_by by = do
+  by ← by
+  Some (NodeRefusal.Held by)
+
+abbrev pub not_locked : Option (List ℕ) → Option NodeRefusal
+not_locked file = do
+  file ← file
+  Some (NodeRefusal.NotLocked file)
+
+abbrev pub refusal : Option ℕ → Option ℕ → Option (List ℕ) → Option NodeRefusal
+refusal code by file = do
+  code ← code
+  cond (code == 14) (held_by by) (cond (code == 16) (not_locked file) (code_refusal code))
+
+abbrev pub refused : Option ℕ → Option ℕ → Option (List ℕ) → Option NodeReply
+refused code by file = do
+  refusal ← refusal code by file
+  Some (NodeReply.Refused refusal)
+
+abbrev pub reply_by : List ℕ → ReplyMembers → Option NodeReply
+reply_by kind members =
+    cond (bytes_eq kind (codes "granted")) (granted members.version members.content)
+    (cond (bytes_eq kind (codes "yes")) (yes_vote members.held members.writes)
+    (cond (bytes_eq kind (codes "copy")) (copy members.version members.content)
+    (cond (bytes_eq kind (codes "refused")) (refused members.code members.by members.file) (bare_reply kind))))
+
+-- ---- what the view is asked, and what it replies
+
+abbrev pub set_one_cost : Option ℕ → Option ℕ → Option ViewAsk
+set_one_cost cost server = do
+  cost ← cost
+  server ← server
+  Some (ViewAsk.SetCost server cost cost)
+
+abbrev pub set_costs : Option ℕ → Option ℕ → Option ℕ → Option ViewAsk
+set_costs read server write = do
+  read ← read
+  server ← server
+  write ← write
+  Some (ViewAsk.SetCost server read write)
+
+abbrev pub set_cost : Format → ViewMembers → Option ViewAsk
+set_cost One members = set_one_cost members.cost members.server
+set_cost Two members = set_costs members.read members.server members.write
+
+abbrev pub mark : Option ℕ → Option Bool → Option ViewAsk
+mark server up = do
+  server ← server
+  up ← up
+  Some (ViewAsk.Mark server up)
+
+abbrev pub choose_for : Option Purpose → Option ViewAsk
+choose_for purpose = do
+  purpose ← purpose
+  Some (ViewAsk.Choose purpose)
+
+abbrev pub choose : Format → Option Purpose → Option ViewAsk
+choose One purpose = Some (ViewAsk.Choose Read)
+choose Two purpose = choose_for purpose
+
+abbrev pub view_ask_by : Format → List ℕ → ViewMembers → Option ViewAsk
+view_ask_by format kind members =
+    cond (bytes_eq kind (codes "setcost")) (set_cost format members)
+    (cond (bytes_eq kind (codes "mark")) (mark members.server members.up)
+    (cond (bytes_eq kind (codes "choose")) (choose format members.purpose) None))
+
+abbrev pub chosen : ℕ → Option ℕ → Option Servers → Option ViewReply
+chosen levels cost servers = do
+  cost ← cost
+  servers ← servers
+  quorum ← member_of levels servers.numbers
+  Some (ViewReply.Chosen quorum cost)
+
+abbrev pub blocked : ℕ → Option Servers → Option ViewReply
+blocked levels servers = do
+  servers ← servers
+  blocker ← member_of levels servers.numbers
+  Some (ViewReply.Refused (Blocked blocker))
+
+abbrev pub view_refused_by : ℕ → ℕ → Option Servers → Option ViewReply
+view_refused_by levels code servers =
+    cond (code == 31) (Some (ViewReply.Refused NoSuchServer))
+    (cond (code == 32) (Some (ViewReply.Refused BadCost))
+    (cond (code == 33) (blocked levels servers) None))
+
+abbrev pub view_refused : ℕ → Option ℕ → Option Servers → Option ViewReply
+view_refused levels code servers = do
+  code ← code
+  view_refused_by levels code servers
+
+abbrev pub view_reply_by : ℕ → List ℕ → Option ℕ → Option ℕ → Option Servers → Option ViewReply
+view_reply_by levels kind code cost servers =
+    cond (bytes_eq kind (codes "costset")) (Some ViewReply.CostSet)
+    (cond (bytes_eq kind (codes "marked")) (Some ViewReply.Marked)
+    (cond (bytes_eq kind (codes "chosen")) (chosen levels cost servers)
+    (cond (bytes_eq kind (codes "refused")) (view_refused levels code servers) None)))

@@ -1,85 +1,42 @@
-ghost use Rattle.std.specs.Prelude.{◌≡◌, IfOk};
+ghost use Rattle.std.specs.Prelude.{◌≡◌, refl};
+ghost use Rattle.tq_form.specs.Objects.{made_by};
 ghost use Rattle.tq_form.specs.Slots as slots;
 ghost use Rattle.tq_form.specs.Commits as spec;
 
-use crate::fields::{Fields, take_object};
-use crate::parts::FromReader;
+use crate::object::take_object;
+use crate::parts::{FromReader, Taken};
 use crate::plan::Plan;
-use crate::scalars::{take_content, take_file, take_kind, take_mode, take_number, take_shared};
 use std::alloc::Global;
 use tq_asks::HeldLock;
 use tq_evidence::{Grant, Op, OpKind, Vote};
 use tq_locks::Mode;
-use tq_members::is_text;
 use tq_shape::SharedSeq;
 use tq_store::{Content, FileName, Write};
-use tq_value::{NotRead, Reader, pass_over};
+use tq_value::Reader;
 
-/// What stands in a grant.
-#[derive(Drop)]
-struct GrantFields {
+const GRANT_NAMES: &[&str] = &["content", "mode", "number", "server", "version"];
+
+impl<'a> FromReader<'a> for Grant {
+    ghost at = { λ plan. made_by (spec.grant plan.format) };
+
+    ghost none = { λ plan. refl };
+
+    fn read(alloc: Global, plan: &Plan, reader: &mut Reader<'a>, depth: usize) -> Taken<Grant> {
+        let (content, (mode, (number, (server, (version, ()))))) =
+            take_object(alloc, plan, GRANT_NAMES, reader, depth)?;
+        Ok(grant_from(content, mode, number, server, version))
+    }
+}
+
+fn grant_from(
     content: Option<Content>,
     mode: Option<Mode>,
     number: Option<u64>,
     server: Option<u64>,
     version: Option<u64>,
-}
-
-impl Fields for GrantFields {
-    ghost of = { λ plan. slots.grant_fields plan.format };
-
-    fn empty(_plan: &Plan) -> GrantFields {
-        GrantFields {
-            content: None,
-            mode: None,
-            number: None,
-            server: None,
-            version: None,
-        }
-    }
-
-    fn take(
-        &mut self,
-        alloc: Global,
-        plan: &Plan,
-        name: &str,
-        reader: &mut Reader<'_>,
-        depth: usize,
-    ) -> Result<(), NotRead> {
-        if is_text(name, "content") {
-            self.content = take_content(alloc, plan.format, reader, depth)?;
-            return Ok(());
-        }
-        if is_text(name, "mode") {
-            self.mode = take_mode(reader, depth)?;
-            return Ok(());
-        }
-        if is_text(name, "number") {
-            self.number = take_number(reader, depth)?;
-            return Ok(());
-        }
-        if is_text(name, "server") {
-            self.server = take_number(reader, depth)?;
-            return Ok(());
-        }
-        if is_text(name, "version") {
-            self.version = take_number(reader, depth)?;
-            return Ok(());
-        }
-        pass_over(reader, depth)
-    }
-}
-
-fn grant_from(fields: GrantFields) -> Option<Grant>
-    ensures { result ≡ slots.grant_from fields }
+) -> Option<Grant>
+    ensures { result ≡ slots.grant_from content mode number server version }
 {
-    let GrantFields {
-        content,
-        mode,
-        number,
-        server,
-        version,
-    } = fields;
     let mode = mode?;
     let number = number?;
     let server = server?;
@@ -94,85 +51,29 @@ fn grant_from(fields: GrantFields) -> Option<Grant>
     })
 }
 
-impl FromReader for Grant {
-    ghost form = { λ plan. spec.grant plan.format };
+const OP_NAMES: &[&str] = &["content", "file", "grants", "kind", "version"];
 
-    fn from_reader(
-        alloc: Global,
-        plan: &Plan,
-        reader: &mut Reader<'_>,
-        depth: usize,
-    ) -> Result<Option<Grant>, NotRead> {
-        let fields: GrantFields = take_object(alloc, plan, reader, depth)?;
-        Ok(grant_from(fields))
+impl<'a> FromReader<'a> for Op {
+    ghost at = { λ plan. made_by (spec.op plan.format) };
+
+    ghost none = { λ plan. refl };
+
+    fn read(alloc: Global, plan: &Plan, reader: &mut Reader<'a>, depth: usize) -> Taken<Op> {
+        let (content, (file, (grants, (kind, (version, ()))))) =
+            take_object(alloc, plan, OP_NAMES, reader, depth)?;
+        Ok(op_from(content, file, grants, kind, version))
     }
 }
 
-/// What stands in an operation.
-#[derive(Drop)]
-struct OpFields {
+fn op_from(
     content: Option<Content>,
     file: Option<FileName>,
     grants: Option<SharedSeq<Grant>>,
     kind: Option<OpKind>,
     version: Option<u64>,
-}
-
-impl Fields for OpFields {
-    ghost of = { λ plan. slots.op_fields plan.format };
-
-    fn empty(_plan: &Plan) -> OpFields {
-        OpFields {
-            content: None,
-            file: None,
-            grants: None,
-            kind: None,
-            version: None,
-        }
-    }
-
-    fn take(
-        &mut self,
-        alloc: Global,
-        plan: &Plan,
-        name: &str,
-        reader: &mut Reader<'_>,
-        depth: usize,
-    ) -> Result<(), NotRead> {
-        if is_text(name, "content") {
-            self.content = take_content(alloc, plan.format, reader, depth)?;
-            return Ok(());
-        }
-        if is_text(name, "file") {
-            self.file = take_file(reader, depth)?;
-            return Ok(());
-        }
-        if is_text(name, "grants") {
-            self.grants = take_shared(alloc, plan, reader, depth)?;
-            return Ok(());
-        }
-        if is_text(name, "kind") {
-            self.kind = take_kind(reader, depth)?;
-            return Ok(());
-        }
-        if is_text(name, "version") {
-            self.version = take_number(reader, depth)?;
-            return Ok(());
-        }
-        pass_over(reader, depth)
-    }
-}
-
-fn op_from(fields: OpFields) -> Option<Op>
-    ensures { result ≡ slots.op_from fields }
+) -> Option<Op>
+    ensures { result ≡ slots.op_from content file grants kind version }
 {
-    let OpFields {
-        content,
-        file,
-        grants,
-        kind,
-        version,
-    } = fields;
     let file = file?;
     let kind = kind?;
     let version = version?;
@@ -187,78 +88,28 @@ fn op_from(fields: OpFields) -> Option<Op>
     })
 }
 
-impl FromReader for Op {
-    ghost form = { λ plan. spec.op plan.format };
+const VOTE_NAMES: &[&str] = &["held", "number", "server", "writes"];
 
-    fn from_reader(
-        alloc: Global,
-        plan: &Plan,
-        reader: &mut Reader<'_>,
-        depth: usize,
-    ) -> Result<Option<Op>, NotRead> {
-        let fields: OpFields = take_object(alloc, plan, reader, depth)?;
-        Ok(op_from(fields))
+impl<'a> FromReader<'a> for Vote {
+    ghost at = { λ plan. made_by (spec.vote plan.format) };
+
+    ghost none = { λ plan. refl };
+
+    fn read(alloc: Global, plan: &Plan, reader: &mut Reader<'a>, depth: usize) -> Taken<Vote> {
+        let (held, (number, (server, (writes, ())))) =
+            take_object(alloc, plan, VOTE_NAMES, reader, depth)?;
+        Ok(vote_from(held, number, server, writes))
     }
 }
 
-/// What stands in a vote.
-#[derive(Drop)]
-struct VoteFields {
+fn vote_from(
     held: Option<SharedSeq<HeldLock>>,
     number: Option<u64>,
     server: Option<u64>,
     writes: Option<SharedSeq<Write>>,
-}
-
-impl Fields for VoteFields {
-    ghost of = { λ plan. slots.vote_fields plan.format };
-
-    fn empty(_plan: &Plan) -> VoteFields {
-        VoteFields {
-            held: None,
-            number: None,
-            server: None,
-            writes: None,
-        }
-    }
-
-    fn take(
-        &mut self,
-        alloc: Global,
-        plan: &Plan,
-        name: &str,
-        reader: &mut Reader<'_>,
-        depth: usize,
-    ) -> Result<(), NotRead> {
-        if is_text(name, "held") {
-            self.held = take_shared(alloc, plan, reader, depth)?;
-            return Ok(());
-        }
-        if is_text(name, "number") {
-            self.number = take_number(reader, depth)?;
-            return Ok(());
-        }
-        if is_text(name, "server") {
-            self.server = take_number(reader, depth)?;
-            return Ok(());
-        }
-        if is_text(name, "writes") {
-            self.writes = take_shared(alloc, plan, reader, depth)?;
-            return Ok(());
-        }
-        pass_over(reader, depth)
-    }
-}
-
-fn vote_from(fields: VoteFields) -> Option<Vote>
-    ensures { result ≡ slots.vote_from fields }
+) -> Option<Vote>
+    ensures { result ≡ slots.vote_from held number server writes }
 {
-    let VoteFields {
-        held,
-        number,
-        server,
-        writes,
-    } = fields;
     let number = number?;
     let server = server?;
     let held = held?;
@@ -269,18 +120,4 @@ fn vote_from(fields: VoteFields) -> Option<Vote>
         held,
         writes,
     })
-}
-
-impl FromReader for Vote {
-    ghost form = { λ plan. spec.vote plan.format };
-
-    fn from_reader(
-        alloc: Global,
-        plan: &Plan,
-        reader: &mut Reader<'_>,
-        depth: usize,
-    ) -> Result<Option<Vote>, NotRead> {
-        let fields: VoteFields = take_object(alloc, plan, reader, depth)?;
-        Ok(vote_from(fields))
-    }
 }

@@ -1,81 +1,52 @@
-ghost use Rattle.std.specs.Prelude.{◌≡◌, IfOk};
+ghost use Rattle.std.specs.Prelude.{◌≡◌, refl};
+ghost use Rattle.tq_form.specs.Objects.{made_by};
 ghost use Rattle.tq_form.specs.Slots as slots;
 ghost use Rattle.tq_form.specs.Desks as spec;
 
-use crate::fields::{Fields, take_object};
-use crate::parts::FromReader;
+use crate::object::take_object;
+use crate::parts::{FromReader, Taken};
 use crate::plan::Plan;
-use crate::scalars::{DeskKind, take_desk_kind, take_number, take_shared};
+use crate::scalars::Word;
 use std::alloc::Global;
 use tq_desk::DeskAsk;
 use tq_evidence::{Op, Vote};
-use tq_members::is_text;
 use tq_shape::SharedSeq;
-use tq_value::{NotRead, Reader, pass_over};
+use tq_value::Reader;
 
-/// What stands in an ask of the desk.
-#[derive(Drop)]
-struct DeskFields {
-    kind: Option<DeskKind>,
+const DESK_ASK_NAMES: &[&str] = &["is", "ops", "txn", "votes"];
+
+impl<'a> FromReader<'a> for DeskAsk {
+    ghost at = { λ plan. made_by (spec.desk_ask plan.format) };
+
+    ghost none = { λ plan. refl };
+
+    fn read(alloc: Global, plan: &Plan, reader: &mut Reader<'a>, depth: usize) -> Taken<DeskAsk> {
+        let (kind, (ops, (txn, (votes, ())))) = take_object(alloc, plan, DESK_ASK_NAMES, reader, depth)?;
+        let Some(kind) = kind else {
+            return Ok(None);
+        };
+        Ok(desk_ask_by(&kind, ops, txn, votes))
+    }
+}
+
+fn desk_ask_by(
+    kind: &Word<'_>,
     ops: Option<SharedSeq<Op>>,
     txn: Option<u64>,
     votes: Option<SharedSeq<Vote>>,
-}
-
-impl Fields for DeskFields {
-    ghost of = { λ plan. slots.desk_fields plan.format };
-
-    fn empty(_plan: &Plan) -> DeskFields {
-        DeskFields {
-            kind: None,
-            ops: None,
-            txn: None,
-            votes: None,
-        }
-    }
-
-    fn take(
-        &mut self,
-        alloc: Global,
-        plan: &Plan,
-        name: &str,
-        reader: &mut Reader<'_>,
-        depth: usize,
-    ) -> Result<(), NotRead> {
-        if is_text(name, "is") {
-            self.kind = take_desk_kind(reader, depth)?;
-            return Ok(());
-        }
-        if is_text(name, "ops") {
-            self.ops = take_shared(alloc, plan, reader, depth)?;
-            return Ok(());
-        }
-        if is_text(name, "txn") {
-            self.txn = take_number(reader, depth)?;
-            return Ok(());
-        }
-        if is_text(name, "votes") {
-            self.votes = take_shared(alloc, plan, reader, depth)?;
-            return Ok(());
-        }
-        pass_over(reader, depth)
-    }
-}
-
-fn desk_from(fields: DeskFields) -> Option<DeskAsk>
-    ensures { result ≡ slots.desk_from fields }
+) -> Option<DeskAsk>
+    ensures { result ≡ slots.desk_ask_by kind.now ops txn votes }
 {
-    let DeskFields {
-        kind,
-        ops,
-        txn,
-        votes,
-    } = fields;
-    match kind? {
-        DeskKind::Begin => Some(DeskAsk::Begin),
-        DeskKind::Commit => commit_ask(txn, ops, votes),
-        DeskKind::Resolve => resolve(txn),
+    if kind.is("begin") {
+        return Some(DeskAsk::Begin);
     }
+    if kind.is("commit") {
+        return commit_ask(txn, ops, votes);
+    }
+    if kind.is("resolve") {
+        return resolve(txn);
+    }
+    None
 }
 
 fn commit_ask(
@@ -96,18 +67,4 @@ fn resolve(txn: Option<u64>) -> Option<DeskAsk>
 {
     let txn = txn?;
     Some(DeskAsk::Resolve { txn })
-}
-
-impl FromReader for DeskAsk {
-    ghost form = { λ plan. spec.desk_ask plan.format };
-
-    fn from_reader(
-        alloc: Global,
-        plan: &Plan,
-        reader: &mut Reader<'_>,
-        depth: usize,
-    ) -> Result<Option<DeskAsk>, NotRead> {
-        let fields: DeskFields = take_object(alloc, plan, reader, depth)?;
-        Ok(desk_from(fields))
-    }
 }

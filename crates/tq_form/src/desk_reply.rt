@@ -1,96 +1,58 @@
-ghost use Rattle.std.specs.Prelude.{◌≡◌, IfOk};
+ghost use Rattle.std.specs.Prelude.{◌≡◌, refl};
+ghost use Rattle.tq_form.specs.Objects.{made_by};
 ghost use Rattle.tq_form.specs.Slots as slots;
 ghost use Rattle.tq_form.specs.Desks as spec;
 
-use crate::fields::{Fields, take_object};
-use crate::parts::FromReader;
+use crate::object::take_object;
+use crate::parts::{FromReader, Taken};
 use crate::plan::Plan;
-use crate::scalars::{DeskReplyKind, take_desk_reply_kind, take_number};
+use crate::scalars::Word;
 use std::alloc::Global;
 use tq_asks::Verdict;
 use tq_desk::{DeskRefusal, DeskReply};
 use tq_evidence::Rule;
-use tq_members::is_text;
-use tq_value::{NotRead, Reader, pass_over};
+use tq_value::Reader;
 
-/// What stands in a reply of the desk.
-#[derive(Drop)]
-struct DeskReplyFields {
+const DESK_REPLY_NAMES: &[&str] = &["code", "is", "rule", "serial", "txn", "verdict"];
+
+impl<'a> FromReader<'a> for DeskReply {
+    ghost at = { λ plan. made_by spec.desk_reply };
+
+    ghost none = { λ plan. refl };
+
+    fn read(alloc: Global, plan: &Plan, reader: &mut Reader<'a>, depth: usize) -> Taken<DeskReply> {
+        let (code, (kind, (rule, (serial, (txn, (verdict, ())))))) =
+            take_object(alloc, plan, DESK_REPLY_NAMES, reader, depth)?;
+        let Some(kind) = kind else {
+            return Ok(None);
+        };
+        Ok(desk_reply_by(&kind, code, rule, serial, txn, verdict))
+    }
+}
+
+fn desk_reply_by(
+    kind: &Word<'_>,
     code: Option<u64>,
-    kind: Option<DeskReplyKind>,
     rule: Option<u64>,
     serial: Option<u64>,
     txn: Option<u64>,
     verdict: Option<Verdict>,
-}
-
-impl Fields for DeskReplyFields {
-    ghost of = { λ plan. slots.desk_reply_fields plan.format };
-
-    fn empty(_plan: &Plan) -> DeskReplyFields {
-        DeskReplyFields {
-            code: None,
-            kind: None,
-            rule: None,
-            serial: None,
-            txn: None,
-            verdict: None,
-        }
-    }
-
-    fn take(
-        &mut self,
-        alloc: Global,
-        plan: &Plan,
-        name: &str,
-        reader: &mut Reader<'_>,
-        depth: usize,
-    ) -> Result<(), NotRead> {
-        if is_text(name, "code") {
-            self.code = take_number(reader, depth)?;
-            return Ok(());
-        }
-        if is_text(name, "is") {
-            self.kind = take_desk_reply_kind(reader, depth)?;
-            return Ok(());
-        }
-        if is_text(name, "rule") {
-            self.rule = take_number(reader, depth)?;
-            return Ok(());
-        }
-        if is_text(name, "serial") {
-            self.serial = take_number(reader, depth)?;
-            return Ok(());
-        }
-        if is_text(name, "txn") {
-            self.txn = take_number(reader, depth)?;
-            return Ok(());
-        }
-        if is_text(name, "verdict") {
-            self.verdict = Verdict::from_reader(alloc, plan, reader, depth)?;
-            return Ok(());
-        }
-        pass_over(reader, depth)
-    }
-}
-
-fn desk_reply_from(fields: DeskReplyFields) -> Option<DeskReply>
-    ensures { result ≡ slots.desk_reply_from fields }
+) -> Option<DeskReply>
+    ensures { result ≡ slots.desk_reply_by kind.now code rule serial txn verdict }
 {
-    let DeskReplyFields {
-        code,
-        kind,
-        rule,
-        serial,
-        txn,
-        verdict,
-    } = fields;
-    match kind? {
-        DeskReplyKind::Txn => begun(txn),
-        DeskReplyKind::Committed => committed(serial),
-        DeskReplyKind::Verdict => told(verdict),
-        DeskReplyKind::Refused => refused(code, rule, verdict),
+    if kind.is("txn") {
+        return begun(txn);
     }
+    if kind.is("committed") {
+        return committed(serial);
+    }
+    if kind.is("verdict") {
+        return told(verdict);
+    }
+    if kind.is("refused") {
+        return refused(code, rule, verdict);
+    }
+    None
 }
 
 fn begun(txn: Option<u64>) -> Option<DeskReply>
@@ -156,18 +118,4 @@ fn bad_evidence(rule: Option<u64>) -> Option<DeskRefusal>
     let number = rule?;
     let rule = Rule::at(number)?;
     Some(DeskRefusal::BadEvidence { rule })
-}
-
-impl FromReader for DeskReply {
-    ghost form = { λ plan. spec.desk_reply };
-
-    fn from_reader(
-        alloc: Global,
-        plan: &Plan,
-        reader: &mut Reader<'_>,
-        depth: usize,
-    ) -> Result<Option<DeskReply>, NotRead> {
-        let fields: DeskReplyFields = take_object(alloc, plan, reader, depth)?;
-        Ok(desk_reply_from(fields))
-    }
 }

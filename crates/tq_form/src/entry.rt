@@ -1,72 +1,38 @@
-//! An entry of a journal, its ask and its reply taken one at a time.
-ghost use Rattle.std.specs.Prelude.{◌≡◌};
+//! An entry of a journal: an ask and its reply.
+ghost use Rattle.std.specs.Prelude.{◌≡◌, Some, refl};
+ghost use Rattle.tq_form.specs.Objects.{made_by};
 ghost use Rattle.tq_form.specs.Slots as slots;
 ghost use Rattle.tq_form.specs.Entries.{entry};
 
-use crate::fields::{Fields, take_object};
-use crate::parts::FromReader;
+use crate::object::take_object;
+use crate::parts::{FromReader, Taken};
 use crate::plan::Plan;
 use std::alloc::Global;
-use tq_members::is_text;
 use tq_shape::Entry;
-use tq_value::{NotRead, Reader, pass_over};
+use tq_value::Reader;
 
-/// What stands in an entry.
-#[derive(Drop)]
-struct EntryFields<A, R> {
-    ask: Option<A>,
-    reply: Option<R>,
-}
+const ENTRY_NAMES: &[&str] = &["ask", "reply"];
 
-impl<A: FromReader, R: FromReader> Fields for EntryFields<A, R> {
-    ghost of = { λ plan. slots.entry_fields (A.form plan) (R.form plan) };
+impl<'a, A: FromReader<'a>, R: FromReader<'a>> FromReader<'a> for Entry<A, R> {
+    ghost at = { λ plan. made_by (entry (λ value. A.at plan (Some value)) (λ value. R.at plan (Some value))) };
 
-    fn empty(_plan: &Plan) -> EntryFields<A, R> {
-        EntryFields {
-            ask: None,
-            reply: None,
-        }
-    }
+    ghost none = { λ plan. refl };
 
-    fn take(
-        &mut self,
+    fn read(
         alloc: Global,
         plan: &Plan,
-        name: &str,
-        reader: &mut Reader<'_>,
+        reader: &mut Reader<'a>,
         depth: usize,
-    ) -> Result<(), NotRead> {
-        if is_text(name, "ask") {
-            self.ask = A::from_reader(alloc, plan, reader, depth)?;
-            return Ok(());
-        }
-        if is_text(name, "reply") {
-            self.reply = R::from_reader(alloc, plan, reader, depth)?;
-            return Ok(());
-        }
-        pass_over(reader, depth)
+    ) -> Taken<Entry<A, R>> {
+        let (ask, (reply, ())) = take_object(alloc, plan, ENTRY_NAMES, reader, depth)?;
+        Ok(entry_from(ask, reply))
     }
 }
 
-fn entry_from<A: Drop, R: Drop>(fields: EntryFields<A, R>) -> Option<Entry<A, R>>
-    ensures { result ≡ slots.entry_from fields }
+fn entry_from<A: Drop, R: Drop>(ask: Option<A>, reply: Option<R>) -> Option<Entry<A, R>>
+    ensures { result ≡ slots.entry_from ask reply }
 {
-    let EntryFields { ask, reply } = fields;
     let ask = ask?;
     let reply = reply?;
     Some(Entry { ask, reply })
-}
-
-impl<A: FromReader, R: FromReader> FromReader for Entry<A, R> {
-    ghost form = { λ plan. entry (A.form plan) (R.form plan) };
-
-    fn from_reader(
-        alloc: Global,
-        plan: &Plan,
-        reader: &mut Reader<'_>,
-        depth: usize,
-    ) -> Result<Option<Entry<A, R>>, NotRead> {
-        let fields: EntryFields<A, R> = take_object(alloc, plan, reader, depth)?;
-        Ok(entry_from(fields))
-    }
 }

@@ -1,62 +1,43 @@
 //! A file: its format, the levels of the tree, the limits, and the journals of all parts.
-ghost use Rattle.std.specs.Prelude.{◌≡◌, ◌<◌, ◌≤◌, length, map, Some, None, Err, IfOk, OnOk, IfSome};
+ghost use Rattle.std.specs.Prelude.{◌≡◌, ◌<◌, ◌≤◌, length, map, Some, None, Err, IfOk, OnOk, IfSome, refl};
+ghost use Rattle.std.specs.Option.{option_map, option_and_then};
+ghost use Rattle.serde_json.specs.Find.{as_array};
 ghost use Rattle.tq_value.specs.Next.{next, Found};
-ghost use Rattle.tq_form.specs.Entries.{journal};
 ghost use Rattle.tq_members.specs.Format.{most_levels};
+ghost use Rattle.tq_form.specs.Entries.{journal, node_entry};
 ghost use Rattle.tq_form.specs.Frame as frame;
+ghost use Rattle.tq_form.specs.Objects.{made_by, names_of};
 ghost use Rattle.tq_form.specs.Slots as slots;
 
-use crate::fields::{Fields, take_object};
-use crate::parts::{FromReader, take_list};
+use crate::object::take_object;
+use crate::parts::{FromReader, Taken, take_list};
 use crate::plan::Plan;
-use crate::scalars::take_number;
 use std::alloc::Global;
-use tq_members::{Format, is_text};
+use tq_members::Format;
 use tq_shape::{Levels, Limits, MOST_ENTRIES, MOST_FILES, MOST_OPS, Memory, Seq};
 use tq_tables::{DeskEntry, Journals, NodeEntry, ViewEntry};
-use tq_value::{NotRead, Reader, pass_over};
+use tq_value::{NotRead, Reader};
 
-/// What stands in the limits of a file.
-#[derive(Drop)]
-pub(crate) struct LimitFields {
-    entries: Option<u64>,
-    files: Option<u64>,
-    ops: Option<u64>,
+const LIMITS_NAMES: &[&str] = &["entries", "files", "ops"];
+
+impl<'a> FromReader<'a> for Limits {
+    ghost at = { λ plan. made_by frame.limits };
+
+    ghost none = { λ plan. refl };
+
+    fn read(alloc: Global, plan: &Plan, reader: &mut Reader<'a>, depth: usize) -> Taken<Limits> {
+        let (entries, (files, (ops, ()))) = take_object(alloc, plan, LIMITS_NAMES, reader, depth)?;
+        Ok(limits_from(entries, files, ops))
+    }
 }
 
-impl Fields for LimitFields {
-    ghost of = { λ plan. slots.limit_fields };
-
-    fn empty(_plan: &Plan) -> LimitFields {
-        LimitFields {
-            entries: None,
-            files: None,
-            ops: None,
-        }
-    }
-
-    fn take(
-        &mut self,
-        _alloc: Global,
-        _plan: &Plan,
-        name: &str,
-        reader: &mut Reader<'_>,
-        depth: usize,
-    ) -> Result<(), NotRead> {
-        if is_text(name, "entries") {
-            self.entries = take_number(reader, depth)?;
-            return Ok(());
-        }
-        if is_text(name, "files") {
-            self.files = take_number(reader, depth)?;
-            return Ok(());
-        }
-        if is_text(name, "ops") {
-            self.ops = take_number(reader, depth)?;
-            return Ok(());
-        }
-        pass_over(reader, depth)
-    }
+fn limits_from(entries: Option<u64>, files: Option<u64>, ops: Option<u64>) -> Option<Limits>
+    ensures { result ≡ slots.limits_from entries files ops }
+{
+    let entries = up_to(MOST_ENTRIES, entries)?;
+    let files = up_to(MOST_FILES, files)?;
+    let ops = up_to(MOST_OPS, ops)?;
+    Limits::new(files, ops, entries)
 }
 
 /// The number, where it is from 1 up to the most.
@@ -74,63 +55,41 @@ fn up_to(most: u32, number: Option<u64>) -> Option<u32>
     Some(number as u32)
 }
 
-fn limits_from(fields: LimitFields) -> Option<Limits>
-    ensures { result ≡ slots.limits_from fields }
-{
-    let LimitFields {
-        entries,
-        files,
-        ops,
-    } = fields;
-    let entries = up_to(MOST_ENTRIES, entries)?;
-    let files = up_to(MOST_FILES, files)?;
-    let ops = up_to(MOST_OPS, ops)?;
-    Limits::new(files, ops, entries)
-}
-
-/// The limits that the next value is.
-pub(crate) fn take_limits(
-    alloc: Global,
-    plan: &Plan,
-    reader: &mut Reader<'_>,
-    depth: usize,
-) -> Result<Option<Limits>, NotRead>
-    ensures ok { IfOk result (Found (λ d limits. limits ≡ frame.limits d) (next depth reader.old) reader.new) }
-    ensures err { result ≡ Err NotRead.NotJson → next depth reader.old ≡ None }
-    ensures shorter { OnOk result (length reader.new < length reader.old) }
-{
-    let fields: LimitFields = take_object(alloc, plan, reader, depth)?;
-    Ok(limits_from(fields))
-}
-
 /// A journal: a list of entries, no more than the limit.
-impl<T: FromReader> FromReader for Seq<T> {
-    ghost form = { λ plan. journal (T.form plan) plan.limit };
+impl<'a, T: FromReader<'a>> FromReader<'a> for Seq<T> {
+    ghost at = { λ plan. made_by (journal (λ value. T.at plan (Some value)) plan.limit) };
 
-    fn from_reader(
-        alloc: Global,
-        plan: &Plan,
-        reader: &mut Reader<'_>,
-        depth: usize,
-    ) -> Result<Option<Seq<T>>, NotRead> {
+    ghost none = { λ plan. refl };
+
+    fn read(alloc: Global, plan: &Plan, reader: &mut Reader<'a>, depth: usize) -> Taken<Seq<T>> {
         take_list(alloc, plan, Some(plan.limit as usize), reader, depth)
     }
 }
 
 /// The journals of the servers, one for each server of the tree.
-fn take_servers(
-    alloc: Global,
-    plan: &Plan,
-    reader: &mut Reader<'_>,
-    depth: usize,
-) -> Result<Option<Seq<Seq<NodeEntry>>>, NotRead>
-    ensures ok { IfOk result (Found (λ d lists. lists ≡ slots.server_lists plan.now d) (next depth reader.old) reader.new) }
-    ensures err { result ≡ Err NotRead.NotJson → next depth reader.old ≡ None }
-    ensures shorter { OnOk result (length reader.new < length reader.old) }
-{
-    let servers = plan.levels.servers() as usize;
-    let lists = take_list(alloc, plan, Some(servers), reader, depth)?;
-    Ok(one_each(servers, lists))
+#[derive(Drop)]
+struct ServerJournals {
+    lists: Seq<Seq<NodeEntry>>,
+}
+
+impl<'a> FromReader<'a> for ServerJournals {
+    ghost at = { λ plan o. option_map (λ lists. record { lists = lists }) (slots.server_lists plan o) };
+
+    ghost none = { λ plan. refl };
+
+    fn read(
+        alloc: Global,
+        plan: &Plan,
+        reader: &mut Reader<'a>,
+        depth: usize,
+    ) -> Taken<ServerJournals> {
+        let servers = plan.levels.servers() as usize;
+        let lists = take_list(alloc, plan, Some(servers), reader, depth)?;
+        let Some(lists) = one_each(servers, lists) else {
+            return Ok(None);
+        };
+        Ok(Some(ServerJournals { lists }))
+    }
 }
 
 /// The lists, where they are so many.
@@ -144,6 +103,13 @@ fn one_each<T: Drop>(servers: usize, lists: Option<Seq<T>>) -> Option<Seq<T>>
     None
 }
 
+fn lists_of(servers: Option<ServerJournals>) -> Option<Seq<Seq<NodeEntry>>>
+    ensures { result ≡ option_map (λ s. s.lists) servers }
+{
+    let servers = servers?;
+    Some(servers.lists)
+}
+
 /// What stands in a file.
 #[derive(Drop)]
 pub(crate) struct FileFields {
@@ -155,54 +121,30 @@ pub(crate) struct FileFields {
     view: Option<Seq<ViewEntry>>,
 }
 
-impl Fields for FileFields {
-    ghost of = { slots.file_fields };
+const FILE_NAMES: &[&str] = &["desk", "format", "levels", "limits", "servers", "view"];
 
-    fn empty(_plan: &Plan) -> FileFields {
-        FileFields {
-            desk: None,
-            format: None,
-            levels: None,
-            limits: None,
-            servers: None,
-            view: None,
-        }
-    }
-
-    fn take(
-        &mut self,
-        alloc: Global,
-        plan: &Plan,
-        name: &str,
-        reader: &mut Reader<'_>,
-        depth: usize,
-    ) -> Result<(), NotRead> {
-        if is_text(name, "desk") {
-            self.desk = Seq::from_reader(alloc, plan, reader, depth)?;
-            return Ok(());
-        }
-        if is_text(name, "format") {
-            self.format = take_number(reader, depth)?;
-            return Ok(());
-        }
-        if is_text(name, "levels") {
-            self.levels = take_number(reader, depth)?;
-            return Ok(());
-        }
-        if is_text(name, "limits") {
-            self.limits = take_limits(alloc, plan, reader, depth)?;
-            return Ok(());
-        }
-        if is_text(name, "servers") {
-            self.servers = take_servers(alloc, plan, reader, depth)?;
-            return Ok(());
-        }
-        if is_text(name, "view") {
-            self.view = Seq::from_reader(alloc, plan, reader, depth)?;
-            return Ok(());
-        }
-        pass_over(reader, depth)
-    }
+/// What stands in the file that the next value is.
+pub(crate) fn take_file(
+    alloc: Global,
+    plan: &Plan,
+    reader: &mut Reader<'_>,
+    depth: usize,
+) -> Result<FileFields, NotRead>
+    ensures ok { IfOk result (Found (λ d fields. fields ≡ slots.file_fields plan.now (names_of d))
+        (next depth reader.old) reader.new) }
+    ensures err { result ≡ Err NotRead.NotJson → next depth reader.old ≡ None }
+    ensures shorter { OnOk result (length reader.new < length reader.old) }
+{
+    let (desk, (format, (levels, (limits, (servers, (view, ())))))) =
+        take_object(alloc, plan, FILE_NAMES, reader, depth)?;
+    Ok(FileFields {
+        desk,
+        format,
+        levels,
+        limits,
+        servers: lists_of(servers),
+        view,
+    })
 }
 
 fn levels_of(format: Format, number: Option<u64>) -> Option<Levels>

@@ -5,10 +5,10 @@
 //! the file gives another in the end, it is read once more by that one.
 //!
 //! Files: `read.rt` `journals_from_json`; `plan.rt`, `glance.rt` the plan and the first look; `file.rt` the file; `entry.rt` an
-//! entry; `fields.rt`, `parts.rt` objects and lists from a reader; `scalars.rt` values that hold no others, and the words of
-//! kinds; `trees.rt` what the view is asked and replies, each by the tree of its value; one file for each kind of ask and reply; `commits.rt`, `locking.rt` their parts.
+//! entry; `parts.rt` what can be read, and lists; `object.rt` objects by the names of their members; `scalars.rt` values that
+//! hold no others; one file for each kind of ask and reply; `commits.rt`, `locking.rt` their parts.
 //! Definitions: `specs/Frame` and one for each kind of object; `Faults` what a reader answers. Words of the reader's own:
-//! `Plans` the plan and the members of an object by their names, `Slots` what is kept of them.
+//! `Plans` the plan, `Objects` the members of an object, `Slots` what is made of them.
 #![tactic(auto)]
 
 mod commits;
@@ -16,17 +16,16 @@ mod desk_ask;
 mod desk_reply;
 mod entry;
 mod fault;
-mod fields;
 mod file;
 mod glance;
 mod locking;
 mod node_ask;
 mod node_reply;
+mod object;
 mod parts;
 mod plan;
 mod read;
 mod scalars;
-mod trees;
 mod view_ask;
 mod view_reply;
 

@@ -1,21 +1,18 @@
-ghost use Rattle.std.specs.Prelude.{◌≡◌, IfOk};
+ghost use Rattle.std.specs.Prelude.{◌≡◌, refl, IfOk};
+ghost use Rattle.tq_form.specs.Objects.{made_by};
 ghost use Rattle.tq_form.specs.Slots as slots;
 ghost use Rattle.tq_form.specs.NodeAsks as spec;
 
-use crate::fields::{Fields, take_object};
-use crate::parts::FromReader;
+use crate::object::take_object;
+use crate::parts::{FromReader, Taken};
 use crate::plan::Plan;
-use crate::scalars::{
-    NodeKind, WorkKind, take_content, take_file, take_mode, take_node_kind, take_number,
-    take_shared, take_work_kind,
-};
+use crate::scalars::Word;
 use std::alloc::Global;
 use tq_asks::{CitedVote, NodeAsk, Verdict, WorkAsk};
 use tq_locks::Mode;
-use tq_members::is_text;
 use tq_shape::{Memory, Shared, SharedSeq};
 use tq_store::{Content, FileName, Write};
-use tq_value::{NotRead, Reader, pass_over};
+use tq_value::Reader;
 
 /// What stands in work, but for its kind.
 #[derive(Drop)]
@@ -31,168 +28,96 @@ struct WorkMembers {
     writes: Option<SharedSeq<Write>>,
 }
 
-impl Fields for WorkMembers {
-    ghost of = { λ plan. slots.work_members plan.format };
+const WORK_ASK_NAMES: &[&str] = &[
+    "cite", "content", "file", "from", "is", "mode", "txn", "verdict", "version", "writes",
+];
 
-    fn empty(_plan: &Plan) -> WorkMembers {
-        WorkMembers {
-            cite: None,
-            content: None,
-            file: None,
-            from: None,
-            mode: None,
-            txn: None,
-            verdict: None,
-            version: None,
-            writes: None,
-        }
-    }
+impl<'a> FromReader<'a> for WorkAsk {
+    ghost at = { λ plan. made_by (spec.work_at plan.format) };
 
-    fn take(
-        &mut self,
-        alloc: Global,
-        plan: &Plan,
-        name: &str,
-        reader: &mut Reader<'_>,
-        depth: usize,
-    ) -> Result<(), NotRead> {
-        if is_text(name, "cite") {
-            self.cite = take_number(reader, depth)?;
-            return Ok(());
-        }
-        if is_text(name, "content") {
-            self.content = take_content(alloc, plan.format, reader, depth)?;
-            return Ok(());
-        }
-        if is_text(name, "file") {
-            self.file = take_file(reader, depth)?;
-            return Ok(());
-        }
-        if is_text(name, "from") {
-            self.from = CitedVote::from_reader(alloc, plan, reader, depth)?;
-            return Ok(());
-        }
-        if is_text(name, "mode") {
-            self.mode = take_mode(reader, depth)?;
-            return Ok(());
-        }
-        if is_text(name, "txn") {
-            self.txn = take_number(reader, depth)?;
-            return Ok(());
-        }
-        if is_text(name, "verdict") {
-            self.verdict = Verdict::from_reader(alloc, plan, reader, depth)?;
-            return Ok(());
-        }
-        if is_text(name, "version") {
-            self.version = take_number(reader, depth)?;
-            return Ok(());
-        }
-        if is_text(name, "writes") {
-            self.writes = take_shared(alloc, plan, reader, depth)?;
-            return Ok(());
-        }
-        pass_over(reader, depth)
-    }
-}
-/// What stands in work.
-#[derive(Drop)]
-struct WorkFields {
-    kind: Option<WorkKind>,
-    members: WorkMembers,
-}
+    ghost none = { λ plan. refl };
 
-impl Fields for WorkFields {
-    ghost of = { λ plan. slots.work_fields plan.format };
-
-    fn empty(plan: &Plan) -> WorkFields {
-        WorkFields {
-            kind: None,
-            members: WorkMembers::empty(plan),
-        }
-    }
-
-    fn take(
-        &mut self,
-        alloc: Global,
-        plan: &Plan,
-        name: &str,
-        reader: &mut Reader<'_>,
-        depth: usize,
-    ) -> Result<(), NotRead> {
-        if is_text(name, "is") {
-            self.kind = take_work_kind(reader, depth)?;
-            return Ok(());
-        }
-        self.members.take(alloc, plan, name, reader, depth)
+    fn read(alloc: Global, plan: &Plan, reader: &mut Reader<'a>, depth: usize) -> Taken<WorkAsk> {
+        let (cite, (content, (file, (from, (kind, rest))))) =
+            take_object(alloc, plan, WORK_ASK_NAMES, reader, depth)?;
+        let (mode, (txn, (verdict, (version, (writes, ()))))) = rest;
+        let members = WorkMembers {
+            cite,
+            content,
+            file,
+            from,
+            mode,
+            txn,
+            verdict,
+            version,
+            writes,
+        };
+        let Some(kind) = kind else {
+            return Ok(None);
+        };
+        Ok(work_by(&kind, members))
     }
 }
 
-/// What stands in an ask of a server.
-#[derive(Drop)]
-struct NodeFields {
-    after: Option<u64>,
-    inside: Option<WorkAsk>,
-    kind: Option<NodeKind>,
-    members: WorkMembers,
-}
+/// Those that most asks have first.
+const NODE_ASK_NAMES: &[&str] = &[
+    "cite", "file", "is", "mode", "txn", "verdict", "writes", "content", "from", "version", "after",
+    "ask",
+];
 
-impl Fields for NodeFields {
-    ghost of = { λ plan. slots.node_fields plan.format };
+impl<'a> FromReader<'a> for NodeAsk {
+    ghost at = { λ plan. made_by (spec.node_ask plan.format) };
 
-    fn empty(plan: &Plan) -> NodeFields {
-        NodeFields {
-            after: None,
-            inside: None,
-            kind: None,
-            members: WorkMembers::empty(plan),
-        }
-    }
+    ghost none = { λ plan. refl };
 
-    fn take(
-        &mut self,
-        alloc: Global,
-        plan: &Plan,
-        name: &str,
-        reader: &mut Reader<'_>,
-        depth: usize,
-    ) -> Result<(), NotRead> {
-        if is_text(name, "after") {
-            self.after = take_number(reader, depth)?;
-            return Ok(());
-        }
-        if is_text(name, "ask") {
-            self.inside = WorkAsk::from_reader(alloc, plan, reader, depth)?;
-            return Ok(());
-        }
-        if is_text(name, "is") {
-            self.kind = take_node_kind(reader, depth)?;
-            return Ok(());
-        }
-        self.members.take(alloc, plan, name, reader, depth)
+    fn read(alloc: Global, plan: &Plan, reader: &mut Reader<'a>, depth: usize) -> Taken<NodeAsk> {
+        let (cite, (file, (kind, (mode, (txn, (verdict, (writes, rest))))))) =
+            take_object(alloc, plan, NODE_ASK_NAMES, reader, depth)?;
+        let (content, (from, (version, (after, (inside, ()))))) = rest;
+        let members = WorkMembers {
+            cite,
+            content,
+            file,
+            from,
+            mode,
+            txn,
+            verdict,
+            version,
+            writes,
+        };
+        let Some(kind) = kind else {
+            return Ok(None);
+        };
+        Ok(node_by(alloc, &kind, after, inside, members)?)
     }
 }
 
-fn work_from(fields: WorkFields) -> Option<WorkAsk>
-    ensures { result ≡ slots.work_from fields }
+#[inline(always)]
+fn work_by(kind: &Word<'_>, members: WorkMembers) -> Option<WorkAsk>
+    ensures { result ≡ slots.work_by kind.now members }
 {
-    let WorkFields { kind, members } = fields;
-    work_by(kind?, members)
-}
-
-fn work_by(kind: WorkKind, members: WorkMembers) -> Option<WorkAsk>
-    ensures { result ≡ slots.work_by kind members }
-{
-    match kind {
-        WorkKind::Lock => lock(members),
-        WorkKind::Prepare => prepare(members),
-        WorkKind::Decide => decide(members),
-        WorkKind::Release => release(members),
-        WorkKind::Peek => peek(members),
-        WorkKind::Refresh => refresh(members),
+    if kind.is("lock") {
+        return lock(members);
     }
+    if kind.is("prepare") {
+        return prepare(members);
+    }
+    if kind.is("decide") {
+        return decide(members);
+    }
+    if kind.is("release") {
+        return release(members);
+    }
+    if kind.is("peek") {
+        return peek(members);
+    }
+    if kind.is("refresh") {
+        return refresh(members);
+    }
+    None
 }
 
+#[inline(always)]
 fn lock(members: WorkMembers) -> Option<WorkAsk>
     ensures { result ≡ slots.lock members }
 {
@@ -208,6 +133,7 @@ fn lock(members: WorkMembers) -> Option<WorkAsk>
     Some(WorkAsk::Lock { txn, file, mode })
 }
 
+#[inline(always)]
 fn prepare(members: WorkMembers) -> Option<WorkAsk>
     ensures { result ≡ slots.prepare members }
 {
@@ -217,6 +143,7 @@ fn prepare(members: WorkMembers) -> Option<WorkAsk>
     Some(WorkAsk::Prepare { txn, writes })
 }
 
+#[inline(always)]
 fn decide(members: WorkMembers) -> Option<WorkAsk>
     ensures { result ≡ slots.decide members }
 {
@@ -232,6 +159,7 @@ fn decide(members: WorkMembers) -> Option<WorkAsk>
     Some(WorkAsk::Decide { txn, verdict, cite })
 }
 
+#[inline(always)]
 fn release(members: WorkMembers) -> Option<WorkAsk>
     ensures { result ≡ slots.release members }
 {
@@ -239,6 +167,7 @@ fn release(members: WorkMembers) -> Option<WorkAsk>
     Some(WorkAsk::Release { txn })
 }
 
+#[inline(always)]
 fn peek(members: WorkMembers) -> Option<WorkAsk>
     ensures { result ≡ slots.peek members }
 {
@@ -246,6 +175,7 @@ fn peek(members: WorkMembers) -> Option<WorkAsk>
     Some(WorkAsk::Peek { file })
 }
 
+#[inline(always)]
 fn refresh(members: WorkMembers) -> Option<WorkAsk>
     ensures { result ≡ slots.refresh members }
 {
@@ -268,24 +198,26 @@ fn refresh(members: WorkMembers) -> Option<WorkAsk>
     })
 }
 
-fn node_from(alloc: Global, fields: NodeFields) -> Result<Option<NodeAsk>, Memory>
-    ensures { IfOk result (λ ask. ask ≡ slots.node_from fields) }
+#[inline(always)]
+fn node_by(
+    alloc: Global,
+    kind: &Word<'_>,
+    after: Option<u64>,
+    inside: Option<WorkAsk>,
+    members: WorkMembers,
+) -> Result<Option<NodeAsk>, Memory>
+    ensures { IfOk result (λ ask. ask ≡ slots.node_by kind.now after inside members) }
 {
-    let NodeFields {
-        after,
-        inside,
-        kind,
-        members,
-    } = fields;
-    let Some(kind) = kind else {
-        return Ok(None);
-    };
-    match kind {
-        NodeKind::Crash => Ok(Some(NodeAsk::Crash)),
-        NodeKind::Return => Ok(Some(NodeAsk::Return)),
-        NodeKind::CrashIn => stop(alloc, after, inside),
-        NodeKind::Work(kind) => work(alloc, kind, members),
+    if kind.is("crash") {
+        return Ok(Some(NodeAsk::Crash));
     }
+    if kind.is("return") {
+        return Ok(Some(NodeAsk::Return));
+    }
+    if kind.is("crashin") {
+        return stop(alloc, after, inside);
+    }
+    work(alloc, kind, members)
 }
 
 /// A stop: in which work, and behind how many of its records.
@@ -317,40 +249,17 @@ fn count_of(after: Option<u64>) -> Option<u32>
     Some(after as u32)
 }
 
-fn work(alloc: Global, kind: WorkKind, members: WorkMembers) -> Result<Option<NodeAsk>, Memory>
-    ensures { IfOk result (λ ask. ask ≡ slots.work kind members) }
+#[inline(always)]
+fn work(
+    alloc: Global,
+    kind: &Word<'_>,
+    members: WorkMembers,
+) -> Result<Option<NodeAsk>, Memory>
+    ensures { IfOk result (λ ask. ask ≡ slots.work kind.now members) }
 {
     let Some(ask) = work_by(kind, members) else {
         return Ok(None);
     };
     let ask = Shared::new(alloc, ask)?;
     Ok(Some(NodeAsk::Work(ask)))
-}
-
-impl FromReader for WorkAsk {
-    ghost form = { λ plan. spec.work_at plan.format };
-
-    fn from_reader(
-        alloc: Global,
-        plan: &Plan,
-        reader: &mut Reader<'_>,
-        depth: usize,
-    ) -> Result<Option<WorkAsk>, NotRead> {
-        let fields: WorkFields = take_object(alloc, plan, reader, depth)?;
-        Ok(work_from(fields))
-    }
-}
-
-impl FromReader for NodeAsk {
-    ghost form = { λ plan. spec.node_ask plan.format };
-
-    fn from_reader(
-        alloc: Global,
-        plan: &Plan,
-        reader: &mut Reader<'_>,
-        depth: usize,
-    ) -> Result<Option<NodeAsk>, NotRead> {
-        let fields: NodeFields = take_object(alloc, plan, reader, depth)?;
-        Ok(node_from(alloc, fields)?)
-    }
 }

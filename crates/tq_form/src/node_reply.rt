@@ -1,121 +1,103 @@
-ghost use Rattle.std.specs.Prelude.{◌≡◌, IfOk};
+ghost use Rattle.std.specs.Prelude.{◌≡◌, refl, IfOk};
+ghost use Rattle.tq_form.specs.Objects.{made_by};
 ghost use Rattle.tq_form.specs.Slots as slots;
 ghost use Rattle.tq_form.specs.NodeReplies as spec;
 
-use crate::fields::{Fields, take_object};
-use crate::parts::FromReader;
+use crate::object::take_object;
+use crate::parts::{FromReader, Taken};
 use crate::plan::Plan;
-use crate::scalars::{
-    ReplyKind, take_content, take_file, take_number, take_reply_kind, take_shared,
-};
+use crate::scalars::Word;
 use std::alloc::Global;
 use tq_asks::{HeldLock, NodeRefusal, NodeReply};
-use tq_members::is_text;
 use tq_shape::{Memory, SharedSeq};
 use tq_store::{Content, FileName, Write};
-use tq_value::{NotRead, Reader, pass_over};
+use tq_value::Reader;
 
-/// What stands in a reply of a server.
+/// What stands in a reply of a server, but for its kind.
 #[derive(Drop)]
-struct ReplyFields {
+struct ReplyMembers {
     by: Option<u64>,
     code: Option<u64>,
     content: Option<Content>,
     file: Option<FileName>,
     held: Option<SharedSeq<HeldLock>>,
-    kind: Option<ReplyKind>,
     version: Option<u64>,
     writes: Option<SharedSeq<Write>>,
 }
 
-impl Fields for ReplyFields {
-    ghost of = { λ plan. slots.reply_fields plan.format };
+const NODE_REPLY_NAMES: &[&str] = &[
+    "by", "code", "content", "file", "held", "is", "version", "writes",
+];
 
-    fn empty(_plan: &Plan) -> ReplyFields {
-        ReplyFields {
-            by: None,
-            code: None,
-            content: None,
-            file: None,
-            held: None,
-            kind: None,
-            version: None,
-            writes: None,
-        }
-    }
+impl<'a> FromReader<'a> for NodeReply {
+    ghost at = { λ plan. made_by (spec.node_reply plan.format) };
 
-    fn take(
-        &mut self,
-        alloc: Global,
-        plan: &Plan,
-        name: &str,
-        reader: &mut Reader<'_>,
-        depth: usize,
-    ) -> Result<(), NotRead> {
-        if is_text(name, "by") {
-            self.by = take_number(reader, depth)?;
-            return Ok(());
-        }
-        if is_text(name, "code") {
-            self.code = take_number(reader, depth)?;
-            return Ok(());
-        }
-        if is_text(name, "content") {
-            self.content = take_content(alloc, plan.format, reader, depth)?;
-            return Ok(());
-        }
-        if is_text(name, "file") {
-            self.file = take_file(reader, depth)?;
-            return Ok(());
-        }
-        if is_text(name, "held") {
-            self.held = take_shared(alloc, plan, reader, depth)?;
-            return Ok(());
-        }
-        if is_text(name, "is") {
-            self.kind = take_reply_kind(reader, depth)?;
-            return Ok(());
-        }
-        if is_text(name, "version") {
-            self.version = take_number(reader, depth)?;
-            return Ok(());
-        }
-        if is_text(name, "writes") {
-            self.writes = take_shared(alloc, plan, reader, depth)?;
-            return Ok(());
-        }
-        pass_over(reader, depth)
+    ghost none = { λ plan. refl };
+
+    fn read(alloc: Global, plan: &Plan, reader: &mut Reader<'a>, depth: usize) -> Taken<NodeReply> {
+        let (by, (code, (content, (file, (held, (kind, (version, (writes, ())))))))) =
+            take_object(alloc, plan, NODE_REPLY_NAMES, reader, depth)?;
+        let members = ReplyMembers {
+            by,
+            code,
+            content,
+            file,
+            held,
+            version,
+            writes,
+        };
+        let Some(kind) = kind else {
+            return Ok(None);
+        };
+        Ok(reply_by(alloc, &kind, members)?)
     }
 }
 
-fn reply_from(alloc: Global, fields: ReplyFields) -> Result<Option<NodeReply>, Memory>
-    ensures { IfOk result (λ reply. reply ≡ slots.reply_from fields) }
+fn reply_by(
+    alloc: Global,
+    kind: &Word<'_>,
+    members: ReplyMembers,
+) -> Result<Option<NodeReply>, Memory>
+    ensures { IfOk result (λ reply. reply ≡ slots.reply_by kind.now members) }
 {
-    let ReplyFields {
-        by,
-        code,
-        content,
-        file,
-        held,
-        kind,
-        version,
-        writes,
-    } = fields;
-    let Some(kind) = kind else {
-        return Ok(None);
-    };
-    match kind {
-        ReplyKind::Granted => Ok(granted(version, content)),
-        ReplyKind::Yes => Ok(yes_vote(held, writes)),
-        ReplyKind::Copy => Ok(copy(version, content)),
-        ReplyKind::Refused => refused(alloc, code, by, file),
-        ReplyKind::Installed => Ok(Some(NodeReply::Installed)),
-        ReplyKind::Discarded => Ok(Some(NodeReply::Discarded)),
-        ReplyKind::Released => Ok(Some(NodeReply::Released)),
-        ReplyKind::Refreshed => Ok(Some(NodeReply::Refreshed)),
-        ReplyKind::Crashed => Ok(Some(NodeReply::Crashed)),
-        ReplyKind::Returned => Ok(Some(NodeReply::Returned)),
+    if kind.is("granted") {
+        return Ok(granted(members.version, members.content));
     }
+    if kind.is("yes") {
+        return Ok(yes_vote(members.held, members.writes));
+    }
+    if kind.is("copy") {
+        return Ok(copy(members.version, members.content));
+    }
+    if kind.is("refused") {
+        return refused(alloc, members.code, members.by, members.file);
+    }
+    Ok(bare_reply(kind))
+}
+
+/// The replies without further members.
+fn bare_reply(kind: &Word<'_>) -> Option<NodeReply>
+    ensures { result ≡ spec.bare_reply kind.now }
+{
+    if kind.is("installed") {
+        return Some(NodeReply::Installed);
+    }
+    if kind.is("discarded") {
+        return Some(NodeReply::Discarded);
+    }
+    if kind.is("released") {
+        return Some(NodeReply::Released);
+    }
+    if kind.is("refreshed") {
+        return Some(NodeReply::Refreshed);
+    }
+    if kind.is("crashed") {
+        return Some(NodeReply::Crashed);
+    }
+    if kind.is("returned") {
+        return Some(NodeReply::Returned);
+    }
+    None
 }
 
 fn granted(version: Option<u64>, content: Option<Content>) -> Option<NodeReply>
@@ -200,19 +182,5 @@ fn code_refusal(code: u64) -> Option<NodeRefusal>
         18 => Some(NodeRefusal::NotNewer),
         19 => Some(NodeRefusal::NothingHere),
         _ => None,
-    }
-}
-
-impl FromReader for NodeReply {
-    ghost form = { λ plan. spec.node_reply plan.format };
-
-    fn from_reader(
-        alloc: Global,
-        plan: &Plan,
-        reader: &mut Reader<'_>,
-        depth: usize,
-    ) -> Result<Option<NodeReply>, NotRead> {
-        let fields: ReplyFields = take_object(alloc, plan, reader, depth)?;
-        Ok(reply_from(alloc, fields)?)
     }
 }

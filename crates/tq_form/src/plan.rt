@@ -1,6 +1,9 @@
 use tq_members::Format;
 use tq_shape::Levels;
 
+/// How deep arrays and objects may nest.
+pub(crate) const MAX_DEPTH: usize = 127;
+
 /// What the entries of a file are read by.
 #[derive(Clone, Copy, Debug, PartialEq, Eq)]
 pub(crate) struct Plan {

@@ -3,20 +3,16 @@ ghost use Rattle.serde_json.specs.Read.{read};
 ghost use Rattle.tq_form.specs.Faults.{Answers};
 ghost use Rattle.tq_form.specs.Formats.{AreBothRead};
 ghost use Rattle.tq_form.specs.Frame as spec;
-ghost use Rattle.tq_form.specs.Plans.{names_of};
+ghost use Rattle.tq_form.specs.Objects.{names_of};
 ghost use Rattle.tq_form.specs.Slots as slots;
 
 use crate::fault::ReadFault;
-use crate::fields::take_object;
-use crate::file::{FileFields, journals_from};
+use crate::file::{FileFields, journals_from, take_file};
 use crate::glance::first_plan;
-use crate::plan::Plan;
+use crate::plan::{MAX_DEPTH, Plan};
 use std::alloc::Global;
 use tq_tables::Journals;
 use tq_value::{NotRead, Reader, Scratch, text_of_bytes};
-
-/// How deep arrays and objects may nest.
-const MAX_DEPTH: usize = 127;
 
 /// What a file is, read by a plan.
 #[derive(Drop)]
@@ -92,7 +88,7 @@ fn fields_of(
     ensures err { result ≡ Err NotRead.NotJson → read text.now ≡ None }
 {
     let mut reader = Reader::new(text, scratch)?;
-    let fields: FileFields = take_object(alloc, plan, &mut reader, MAX_DEPTH)?;
+    let fields = take_file(alloc, plan, &mut reader, MAX_DEPTH)?;
     if reader.next().is_some() {
         return Err(NotRead::NotJson);
     }

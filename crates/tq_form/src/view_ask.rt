@@ -1,49 +1,83 @@
-ghost use Rattle.std.specs.Prelude.{◌≡◌};
-ghost use Rattle.tq_value.specs.View.{view};
+ghost use Rattle.std.specs.Prelude.{◌≡◌, refl};
+ghost use Rattle.tq_form.specs.Objects.{made_by};
+ghost use Rattle.tq_form.specs.Slots as slots;
 ghost use Rattle.tq_form.specs.Views as spec;
 
+use crate::object::take_object;
+use crate::parts::{FromReader, Taken};
+use crate::plan::Plan;
+use crate::scalars::Word;
+use std::alloc::Global;
 use tq_live::{Purpose, ViewAsk};
-use tq_members::{Format, is_text};
-use tq_value::{Value, flag_at, number_at, text_at};
+use tq_members::Format;
+use tq_value::Reader;
 
-/// The ask of the view that the value is: `None` where it is none.
-pub(crate) fn view_ask(format: Format, value: &Value<'_>) -> Option<ViewAsk>
-    ensures { result ≡ spec.view_ask format (view value.now) }
-{
-    let kind = text_at(value, "is")?;
-    view_ask_by(format, kind, value)
+/// What stands in an ask of the view, but for its kind.
+#[derive(Drop)]
+struct ViewMembers {
+    cost: Option<u64>,
+    purpose: Option<Purpose>,
+    read: Option<u64>,
+    server: Option<u64>,
+    up: Option<bool>,
+    write: Option<u64>,
 }
 
-fn view_ask_by(format: Format, kind: &str, value: &Value<'_>) -> Option<ViewAsk>
-    ensures { result ≡ spec.view_ask_by format kind.now (view value.now) }
+const VIEW_ASK_NAMES: &[&str] = &["cost", "is", "purpose", "read", "server", "up", "write"];
+
+impl<'a> FromReader<'a> for ViewAsk {
+    ghost at = { λ plan. made_by (spec.view_ask plan.format) };
+
+    ghost none = { λ plan. refl };
+
+    fn read(alloc: Global, plan: &Plan, reader: &mut Reader<'a>, depth: usize) -> Taken<ViewAsk> {
+        let (cost, (kind, (purpose, (read, (server, (up, (write, ()))))))) =
+            take_object(alloc, plan, VIEW_ASK_NAMES, reader, depth)?;
+        let members = ViewMembers {
+            cost,
+            purpose,
+            read,
+            server,
+            up,
+            write,
+        };
+        let Some(kind) = kind else {
+            return Ok(None);
+        };
+        Ok(view_ask_by(plan.format, &kind, members))
+    }
+}
+
+fn view_ask_by(format: Format, kind: &Word<'_>, members: ViewMembers) -> Option<ViewAsk>
+    ensures { result ≡ slots.view_ask_by format kind.now members }
 {
-    if is_text(kind, "setcost") {
-        return set_cost(format, value);
+    if kind.is("setcost") {
+        return set_cost(format, members);
     }
-    if is_text(kind, "mark") {
-        return mark(value);
+    if kind.is("mark") {
+        return mark(members.server, members.up);
     }
-    if is_text(kind, "choose") {
-        return choose(format, value);
+    if kind.is("choose") {
+        return choose(format, members.purpose);
     }
     None
 }
 
-fn set_cost(format: Format, value: &Value<'_>) -> Option<ViewAsk>
-    ensures { result ≡ spec.set_cost format (view value.now) }
+fn set_cost(format: Format, members: ViewMembers) -> Option<ViewAsk>
+    ensures { result ≡ slots.set_cost format members }
 {
     match format {
-        Format::One => set_one_cost(value),
-        Format::Two => set_costs(value),
+        Format::One => set_one_cost(members.cost, members.server),
+        Format::Two => set_costs(members.read, members.server, members.write),
     }
 }
 
 /// One cost, for reading and for writing.
-fn set_one_cost(value: &Value<'_>) -> Option<ViewAsk>
-    ensures { result ≡ spec.set_one_cost (view value.now) }
+fn set_one_cost(cost: Option<u64>, server: Option<u64>) -> Option<ViewAsk>
+    ensures { result ≡ slots.set_one_cost cost server }
 {
-    let cost = number_at(value, "cost")?;
-    let server = number_at(value, "server")?;
+    let cost = cost?;
+    let server = server?;
     Some(ViewAsk::SetCost {
         server,
         read: cost,
@@ -51,12 +85,12 @@ fn set_one_cost(value: &Value<'_>) -> Option<ViewAsk>
     })
 }
 
-fn set_costs(value: &Value<'_>) -> Option<ViewAsk>
-    ensures { result ≡ spec.set_costs (view value.now) }
+fn set_costs(read: Option<u64>, server: Option<u64>, write: Option<u64>) -> Option<ViewAsk>
+    ensures { result ≡ slots.set_costs read server write }
 {
-    let read = number_at(value, "read")?;
-    let server = number_at(value, "server")?;
-    let write = number_at(value, "write")?;
+    let read = read?;
+    let server = server?;
+    let write = write?;
     Some(ViewAsk::SetCost {
         server,
         read,
@@ -64,36 +98,28 @@ fn set_costs(value: &Value<'_>) -> Option<ViewAsk>
     })
 }
 
-fn mark(value: &Value<'_>) -> Option<ViewAsk>
-    ensures { result ≡ spec.mark (view value.now) }
+fn mark(server: Option<u64>, up: Option<bool>) -> Option<ViewAsk>
+    ensures { result ≡ slots.mark server up }
 {
-    let server = number_at(value, "server")?;
-    let up = flag_at(value, "up")?;
+    let server = server?;
+    let up = up?;
     Some(ViewAsk::Mark { server, up })
 }
 
-fn choose(format: Format, value: &Value<'_>) -> Option<ViewAsk>
-    ensures { result ≡ spec.choose format (view value.now) }
+fn choose(format: Format, purpose: Option<Purpose>) -> Option<ViewAsk>
+    ensures { result ≡ slots.choose format purpose }
 {
     match format {
         Format::One => Some(ViewAsk::Choose {
             purpose: Purpose::Read,
         }),
-        Format::Two => choose_for(value),
+        Format::Two => choose_for(purpose),
     }
 }
 
-fn choose_for(value: &Value<'_>) -> Option<ViewAsk>
-    ensures { result ≡ spec.choose_for (view value.now) }
+fn choose_for(purpose: Option<Purpose>) -> Option<ViewAsk>
+    ensures { result ≡ slots.choose_for purpose }
 {
-    let purpose = purpose_at(value)?;
+    let purpose = purpose?;
     Some(ViewAsk::Choose { purpose })
-}
-
-/// The purpose that the object names.
-fn purpose_at(value: &Value<'_>) -> Option<Purpose>
-    ensures { result ≡ spec.purpose_at (view value.now) }
-{
-    let text = text_at(value, "purpose")?;
-    Purpose::of(text.as_bytes())
 }

@@ -1,68 +1,111 @@
-ghost use Rattle.std.specs.Prelude.{◌≡◌, IfOk};
-ghost use Rattle.std.specs.Option.{option_map};
-ghost use Rattle.tq_value.specs.View.{view};
+ghost use Rattle.std.specs.Prelude.{◌≡◌, Some, refl, IfOk};
+ghost use Rattle.std.specs.Option.{option_and_then, option_map};
+ghost use Rattle.serde_json.specs.Find.{as_array};
+ghost use Rattle.tq_members.specs.Member.{number_of};
+ghost use Rattle.tq_form.specs.Objects.{made_by, all_of};
+ghost use Rattle.tq_form.specs.Slots as slots;
 ghost use Rattle.tq_form.specs.Views as spec;
 
+use crate::object::take_object;
+use crate::parts::{FromReader, Taken, take_list};
+use crate::plan::Plan;
+use crate::scalars::Word;
 use std::alloc::Global;
 use tq_coterie::{Blocker, Quorum};
 use tq_live::{ViewRefusal, ViewReply};
-use tq_members::{is_text, numbers};
-use tq_shape::{Levels, Memory};
-use tq_value::{Value, items_at, number_at, text_at};
+use tq_shape::{Levels, Memory, Seq};
+use tq_value::{NotRead, Reader};
 
-/// The reply of the view that the value is, in a tree of so many levels: `None` where it is none.
-pub(crate) fn view_reply(
-    alloc: Global,
-    levels: Levels,
-    value: &Value<'_>,
-) -> Result<Option<ViewReply>, Memory>
-    ensures { IfOk result (λ reply. reply ≡ spec.view_reply levels (view value.now)) }
-{
-    let Some(kind) = text_at(value, "is") else {
-        return Ok(None);
-    };
-    view_reply_by(alloc, levels, kind, value)
+/// The numbers of servers.
+#[derive(Drop)]
+struct Servers {
+    numbers: Seq<u64>,
+}
+
+impl<'a> FromReader<'a> for Servers {
+    ghost at = { λ plan o. option_map (λ numbers. record { numbers = numbers }) (all_of number_of o) };
+
+    ghost none = { λ plan. refl };
+
+    fn read(alloc: Global, plan: &Plan, reader: &mut Reader<'a>, depth: usize) -> Taken<Servers> {
+        let Some(numbers) = take_list(alloc, plan, None, reader, depth)? else {
+            return Ok(None);
+        };
+        Ok(Some(Servers { numbers }))
+    }
+}
+
+const VIEW_REPLY_NAMES: &[&str] = &["code", "cost", "is", "servers"];
+
+impl<'a> FromReader<'a> for ViewReply {
+    ghost at = { λ plan. made_by (spec.view_reply plan.levels) };
+
+    ghost none = { λ plan. refl };
+
+    fn read(alloc: Global, plan: &Plan, reader: &mut Reader<'a>, depth: usize) -> Taken<ViewReply> {
+        let (code, (cost, (kind, (servers, ())))) =
+            take_object(alloc, plan, VIEW_REPLY_NAMES, reader, depth)?;
+        let Some(kind) = kind else {
+            return Ok(None);
+        };
+        Ok(view_reply_by(alloc, plan.levels, &kind, code, cost, servers)?)
+    }
 }
 
 fn view_reply_by(
     alloc: Global,
     levels: Levels,
-    kind: &str,
-    value: &Value<'_>,
+    kind: &Word<'_>,
+    code: Option<u64>,
+    cost: Option<u64>,
+    servers: Option<Servers>,
 ) -> Result<Option<ViewReply>, Memory>
-    ensures { IfOk result (λ reply. reply ≡ spec.view_reply_by levels kind.now (view value.now)) }
+    ensures { IfOk result (λ reply. reply ≡ slots.view_reply_by levels kind.now code cost servers) }
 {
-    if is_text(kind, "costset") {
+    if kind.is("costset") {
         return Ok(Some(ViewReply::CostSet));
     }
-    if is_text(kind, "marked") {
+    if kind.is("marked") {
         return Ok(Some(ViewReply::Marked));
     }
-    if is_text(kind, "chosen") {
-        return chosen(alloc, levels, value);
+    if kind.is("chosen") {
+        return chosen(alloc, levels, cost, servers);
     }
-    if is_text(kind, "refused") {
-        return refused(alloc, levels, value);
+    if kind.is("refused") {
+        return refused(alloc, levels, code, servers);
     }
     Ok(None)
 }
 
-fn chosen(alloc: Global, levels: Levels, value: &Value<'_>) -> Result<Option<ViewReply>, Memory>
-    ensures { IfOk result (λ reply. reply ≡ spec.chosen levels (view value.now)) }
+fn chosen(
+    alloc: Global,
+    levels: Levels,
+    cost: Option<u64>,
+    servers: Option<Servers>,
+) -> Result<Option<ViewReply>, Memory>
+    ensures { IfOk result (λ reply. reply ≡ slots.chosen levels cost servers) }
 {
-    let Some(cost) = number_at(value, "cost") else {
+    let Some(cost) = cost else {
         return Ok(None);
     };
-    let Some(quorum) = quorum_at(alloc, levels, value)? else {
+    let Some(servers) = servers else {
+        return Ok(None);
+    };
+    let Some(quorum) = quorum_of(alloc, levels, servers.numbers.as_slice())? else {
         return Ok(None);
     };
     Ok(Some(ViewReply::Chosen { quorum, cost }))
 }
 
-fn refused(alloc: Global, levels: Levels, value: &Value<'_>) -> Result<Option<ViewReply>, Memory>
-    ensures { IfOk result (λ reply. reply ≡ spec.view_refused levels (view value.now)) }
+fn refused(
+    alloc: Global,
+    levels: Levels,
+    code: Option<u64>,
+    servers: Option<Servers>,
+) -> Result<Option<ViewReply>, Memory>
+    ensures { IfOk result (λ reply. reply ≡ slots.view_refused levels code servers) }
 {
-    let Some(code) = number_at(value, "code") else {
+    let Some(code) = code else {
         return Ok(None);
     };
     if code == 31 {
@@ -72,51 +115,31 @@ fn refused(alloc: Global, levels: Levels, value: &Value<'_>) -> Result<Option<Vi
         return Ok(Some(ViewReply::Refused(ViewRefusal::BadCost)));
     }
     if code == 33 {
-        return blocked(alloc, levels, value);
+        return blocked(alloc, levels, servers);
     }
     Ok(None)
 }
 
-fn blocked(alloc: Global, levels: Levels, value: &Value<'_>) -> Result<Option<ViewReply>, Memory>
-    ensures { IfOk result (λ reply. reply ≡ spec.blocked levels (view value.now)) }
+fn blocked(
+    alloc: Global,
+    levels: Levels,
+    servers: Option<Servers>,
+) -> Result<Option<ViewReply>, Memory>
+    ensures { IfOk result (λ reply. reply ≡ slots.blocked levels servers) }
 {
-    let Some(blocker) = blocker_at(alloc, levels, value)? else {
+    let Some(servers) = servers else {
+        return Ok(None);
+    };
+    let Some(blocker) = blocker_of(alloc, levels, servers.numbers.as_slice())? else {
         return Ok(None);
     };
     Ok(Some(ViewReply::Refused(ViewRefusal::Blocked(blocker))))
-}
-
-fn servers_at(alloc: Global, value: &Value<'_>) -> Result<Option<Vec<u64>>, Memory>
-    ensures { IfOk result (λ numbers. option_map (λ v. v.items) numbers ≡ spec.servers_at (view value.now)) }
-{
-    let Some(values) = items_at(value, "servers") else {
-        return Ok(None);
-    };
-    numbers(alloc, values)
-}
-
-fn quorum_at(alloc: Global, levels: Levels, value: &Value<'_>) -> Result<Option<Quorum>, Memory>
-    ensures { IfOk result (λ quorum. quorum ≡ spec.member_at levels (view value.now)) }
-{
-    let Some(numbers) = servers_at(alloc, value)? else {
-        return Ok(None);
-    };
-    quorum_of(alloc, levels, numbers.as_slice())
 }
 
 fn quorum_of(alloc: Global, levels: Levels, numbers: &[u64]) -> Result<Option<Quorum>, Memory>
     ensures { IfOk result (λ quorum. quorum ≡ spec.member_of levels numbers.now) }
 {
     Ok(Quorum::of(alloc, levels, numbers)?)
-}
-
-fn blocker_at(alloc: Global, levels: Levels, value: &Value<'_>) -> Result<Option<Blocker>, Memory>
-    ensures { IfOk result (λ blocker. blocker ≡ spec.member_at levels (view value.now)) }
-{
-    let Some(numbers) = servers_at(alloc, value)? else {
-        return Ok(None);
-    };
-    blocker_of(alloc, levels, numbers.as_slice())
 }
 
 fn blocker_of(alloc: Global, levels: Levels, numbers: &[u64]) -> Result<Option<Blocker>, Memory>

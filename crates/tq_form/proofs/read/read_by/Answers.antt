@@ -1,5 +1,6 @@
 use Rattle.std.proofs.Common.{◌≡◌, Some, sym, ap, ◌∙◌}
-use Rattle.tq_form.specs.Plans.{plan_of, names_of}
+use Rattle.tq_form.specs.Objects.{names_of}
+use Rattle.tq_form.specs.Plans.{plan_of}
 use Rattle.tq_form.specs.declared.file.FileFields.{FileFields}
 use Rattle.tq_form.specs.Slots.{file_fields, plan_from, journals_from}
 use Rattle.tq_form.proofs.Planned.{is_planned, same_plan}
