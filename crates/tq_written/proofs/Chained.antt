@@ -1,18 +1,19 @@
 -- What is put behind a text, piece after piece.
-use Rattle.std.proofs.Common.{◌≡◌, ℕ, List, [], ◌∷◌, ◌++◌, Result, Ok, Err, ap, sym, ◌∙◌, append_assoc}
+use Rattle.std.proofs.Common.{◌≡◌, ℕ, List, [], ◌∷◌, ◌++◌, Result, Ok, Err, ap, sym, subst, append_assoc}
 use Rattle.json.specs.Print.{escape, quoted}
 use Rattle.tq_written.specs.Written.{Added, Adds}
 
 -- what is put first, and then more
-pub added : {old mid new some more : List ℕ} → Added old mid some → Added mid new more → Added old new (some ++ more)
-added {old} {mid} {new} {some} {more} first then = record { after = then.after ∙ ap (λ text. text ++ more) first.after ∙ append_assoc old some more }
+pub added : {O : Type 0} {Puts : O → O → List ℕ → Type 0} {old mid new : O} {some more : List ℕ} → Added Puts old mid some → Added Puts mid new more → Added Puts old new (some ++ more)
+added {O} {Puts} {old} {mid} {new} {some} {more} first then =
+    record { after = λ start before h. subst (λ text. Puts start new text) (append_assoc before some more) (then.after start (before ++ some) (first.after start before h)) }
 
 -- the same where it may be that no more was put
-pub behind : {E : Type 0} {old mid some : List ℕ} (result : Result (Unit {0}) E) (new more : List ℕ) → Added old mid some → Adds result mid new more → Adds result old new (some ++ more)
+pub behind : {O E : Type 0} {Puts : O → O → List ℕ → Type 0} {old mid : O} {some : List ℕ} (result : Result (Unit {0}) E) (new : O) (more : List ℕ) → Added Puts old mid some → Adds Puts result mid new more → Adds Puts result old new (some ++ more)
 behind (Ok u) new more first then = added first then
 behind (Err e) new more first then = tt
 
 -- a quote, a text that needs no escape, and a quote
-pub in-quotes : {old quote inside new : List ℕ} (text : List ℕ) → escape text ≡ text → Added old quote (34 ∷ []) → Added quote inside text → Added inside new (34 ∷ []) → Added old new (quoted text)
-in-quotes {old} text plain first then last =
-    record { after = (added first (added then last)).after ∙ ap (λ same. old ++ (34 ∷ (same ++ 34 ∷ []))) (sym plain) }
+pub in-quotes : {O : Type 0} {Puts : O → O → List ℕ → Type 0} {old quote inside new : O} (text : List ℕ) → escape text ≡ text → Added Puts old quote (34 ∷ []) → Added Puts quote inside text → Added Puts inside new (34 ∷ []) → Added Puts old new (quoted text)
+in-quotes {O} {Puts} {old} {quote} {inside} {new} text plain first then last =
+    subst (λ bytes. Added Puts old new bytes) (ap (λ same. 34 ∷ (same ++ 34 ∷ [])) (sym plain)) (added first (added then last))

@@ -1,4 +1,5 @@
 pub mod Chained
+pub mod Gathered
 pub mod Plain
 pub mod Fused
 pub mod Shape

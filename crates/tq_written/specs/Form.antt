@@ -1,6 +1,7 @@
 -- The journals of all parts of a system, as one value of format 2.
-use Rattle.std.specs.Prelude.{codes}
+use Rattle.std.specs.Prelude.{ℕ, List, [], ◌∷◌, ◌++◌, codes}
 use Rattle.serde_json.specs.Data.{Data, object, member, no_members}
+use Rattle.serde_json.specs.Written.{compact_text}
 use Rattle.tq_shape.specs.Limits.{LimitsView}
 use Rattle.tq_tables.specs.Journals.{JournalsView}
 use Rattle.tq_members.specs.declared.format.Format.TheVariants.{Two}
@@ -24,3 +25,7 @@ journals_value journals =
     (member (codes "limits") (limits_value journals.limits)
     (member (codes "servers") (list_value (list_value node_entry_value) journals.servers)
     (member (codes "view") (list_value view_entry_value journals.view) no_members))))))
+
+-- the journals as one line: the text of their value, and a line feed
+abbrev pub journals_line : JournalsView → List ℕ
+journals_line journals = compact_text (journals_value journals) ++ 10 ∷ []

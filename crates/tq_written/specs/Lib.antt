@@ -1,4 +1,5 @@
 pub mod Written
+pub mod Spilled
 pub mod Fitting
 pub mod Values
 pub mod Nodes

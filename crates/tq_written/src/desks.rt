@@ -1,9 +1,9 @@
 //! What the desk is asked and what it replies.
+use crate::codes;
 use crate::formed::{Formed, put_after, put_code};
-use crate::text::Text;
+use crate::out::Out;
 use tq_desk::{DeskAsk, DeskRefusal, DeskReply};
 use tq_evidence::{Grant, Op, OpKind, Rule, Vote};
-use tq_shape::Memory;
 
 impl Formed for OpKind {
     ghost use Rattle.tq_written.specs.Desks.{op_kind_value};
@@ -13,7 +13,7 @@ impl Formed for OpKind {
 
     ghost sound = { IsAny };
 
-    fn put(&self, out: &mut Text) -> Result<(), Memory> {
+    fn put<O: Out>(&self, out: &mut O) -> Result<(), O::Fault> {
         match self {
             OpKind::Read => out.push("\"read\""),
             OpKind::Write => out.push("\"write\""),
@@ -29,7 +29,7 @@ impl Formed for Grant {
 
     ghost sound = { IsGrant };
 
-    fn put(&self, out: &mut Text) -> Result<(), Memory> {
+    fn put<O: Out>(&self, out: &mut O) -> Result<(), O::Fault> {
         put_after(out, "{\"content\":", &self.content)?;
         put_after(out, ",\"mode\":", &self.mode)?;
         put_after(out, ",\"number\":", &self.number)?;
@@ -47,7 +47,7 @@ impl Formed for Op {
 
     ghost sound = { IsOp };
 
-    fn put(&self, out: &mut Text) -> Result<(), Memory> {
+    fn put<O: Out>(&self, out: &mut O) -> Result<(), O::Fault> {
         put_after(out, "{\"content\":", &self.content)?;
         put_after(out, ",\"file\":", &self.file)?;
         put_after(out, ",\"grants\":", &self.grants)?;
@@ -65,7 +65,7 @@ impl Formed for Vote {
 
     ghost sound = { IsVote };
 
-    fn put(&self, out: &mut Text) -> Result<(), Memory> {
+    fn put<O: Out>(&self, out: &mut O) -> Result<(), O::Fault> {
         put_after(out, "{\"held\":", &self.held)?;
         put_after(out, ",\"number\":", &self.number)?;
         put_after(out, ",\"server\":", &self.server)?;
@@ -82,7 +82,7 @@ impl Formed for DeskAsk {
 
     ghost sound = { IsDeskAsk };
 
-    fn put(&self, out: &mut Text) -> Result<(), Memory> {
+    fn put<O: Out>(&self, out: &mut O) -> Result<(), O::Fault> {
         match self {
             DeskAsk::Begin => out.push("{\"is\":\"begin\"}"),
             DeskAsk::Commit { txn, ops, votes } => {
@@ -107,7 +107,7 @@ impl Formed for Rule {
 
     ghost sound = { IsAny };
 
-    fn put(&self, out: &mut Text) -> Result<(), Memory> {
+    fn put<O: Out>(&self, out: &mut O) -> Result<(), O::Fault> {
         out.push_number(self.number())
     }
 }
@@ -120,21 +120,21 @@ impl Formed for DeskRefusal {
 
     ghost sound = { IsAny };
 
-    fn put(&self, out: &mut Text) -> Result<(), Memory> {
+    fn put<O: Out>(&self, out: &mut O) -> Result<(), O::Fault> {
         match self {
-            DeskRefusal::NoSuchTxn => put_code(out, 21),
+            DeskRefusal::NoSuchTxn => put_code(out, codes::NO_SUCH_TXN),
             DeskRefusal::Decided(verdict) => {
-                put_after(out, "{\"code\":", &22u64)?;
+                put_after(out, "{\"code\":", &codes::DECIDED)?;
                 put_after(out, ",\"is\":\"refused\",\"verdict\":", verdict)?;
                 out.push("}")
             }
-            DeskRefusal::TooManyOps => put_code(out, 24),
+            DeskRefusal::TooManyOps => put_code(out, codes::TOO_MANY_OPS),
             DeskRefusal::BadEvidence { rule } => {
-                put_after(out, "{\"code\":", &23u64)?;
+                put_after(out, "{\"code\":", &codes::BAD_EVIDENCE)?;
                 put_after(out, ",\"is\":\"refused\",\"rule\":", rule)?;
                 out.push("}")
             }
-            DeskRefusal::TooManyFiles => put_code(out, 25),
+            DeskRefusal::TooManyFiles => put_code(out, codes::TOO_MANY_FILES),
         }
     }
 }
@@ -147,7 +147,7 @@ impl Formed for DeskReply {
 
     ghost sound = { IsAny };
 
-    fn put(&self, out: &mut Text) -> Result<(), Memory> {
+    fn put<O: Out>(&self, out: &mut O) -> Result<(), O::Fault> {
         match self {
             DeskReply::Txn(txn) => {
                 put_after(out, "{\"is\":\"txn\",\"txn\":", txn)?;

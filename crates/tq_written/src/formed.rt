@@ -6,13 +6,17 @@ ghost use Rattle.tq_written.specs.Values.{code_value, list_value};
 ghost use Rattle.tq_written.specs.Fitting.{IsFitting};
 ghost use Rattle.tq_written.specs.Written.{Adds};
 
-use crate::text::Text;
-use tq_shape::Memory;
+use crate::out::Out;
 
 /// A piece of text that stands ready, with a value behind it.
 #[inline(always)]
-pub(crate) fn put_after<T: Formed>(out: &mut Text, piece: &str, value: &T) -> Result<(), Memory>
-    ensures adds { Adds result out.old out.new (piece.now ++ compact_text (T.value value.now)) }
+pub(crate) fn put_after<T: Formed, O: Out>(
+    out: &mut O,
+    piece: &str,
+    value: &T,
+) -> Result<(), O::Fault>
+    ensures adds { Adds O.puts result out.old out.new
+        (piece.now ++ compact_text (T.value value.now)) }
     ensures fits { OnOk result (IsFitting (T.value value.now)) }
     ensures kept { OnOk result (T.sound value.now) }
 {
@@ -22,8 +26,8 @@ pub(crate) fn put_after<T: Formed>(out: &mut Text, piece: &str, value: &T) -> Re
 }
 
 /// A refusal that tells no more than its code.
-pub(crate) fn put_code(out: &mut Text, code: u64) -> Result<(), Memory>
-    ensures adds { Adds result out.old out.new (compact_text (code_value code)) }
+pub(crate) fn put_code<O: Out>(out: &mut O, code: u64) -> Result<(), O::Fault>
+    ensures adds { Adds O.puts result out.old out.new (compact_text (code_value code)) }
     ensures fits { OnOk result (IsFitting (code_value code)) }
 {
     put_after(out, "{\"code\":", &code)?;
@@ -31,8 +35,9 @@ pub(crate) fn put_code(out: &mut Text, code: u64) -> Result<(), Memory>
 }
 
 /// A list, in order.
-pub(crate) fn put_list<T: Formed>(out: &mut Text, items: &[T]) -> Result<(), Memory>
-    ensures adds { Adds result out.old out.new (compact_text (list_value T.value items.now)) }
+pub(crate) fn put_list<T: Formed, O: Out>(out: &mut O, items: &[T]) -> Result<(), O::Fault>
+    ensures adds { Adds O.puts result out.old out.new
+        (compact_text (list_value T.value items.now)) }
     ensures fits { OnOk result (IsFitting (list_value T.value items.now)) }
     ensures kept { OnOk result (AllByRecursion T.sound items.now) }
 {
@@ -49,8 +54,8 @@ pub(crate) fn put_list<T: Formed>(out: &mut Text, items: &[T]) -> Result<(), Mem
 
 /// A comma, where something stands before.
 #[inline(always)]
-fn put_comma(out: &mut Text, later: bool) -> Result<(), Memory>
-    ensures { Adds result out.old out.new (comma_if later) }
+fn put_comma<O: Out>(out: &mut O, later: bool) -> Result<(), O::Fault>
+    ensures { Adds O.puts result out.old out.new (comma_if later) }
 {
     if later {
         return out.push(",");
@@ -73,8 +78,8 @@ pub(crate) trait Formed {
     ghost sound: { Self → Type 0 };
 
     /// Writes the value, whose numbers fit 64 bits.
-    fn put(&self, out: &mut Text) -> Result<(), Memory>
-        ensures adds { Adds result out.old out.new (compact_text (value self.now)) }
+    fn put<O: Out>(&self, out: &mut O) -> Result<(), O::Fault>
+        ensures adds { Adds O.puts result out.old out.new (compact_text (value self.now)) }
         ensures fits { OnOk result (IsFitting (value self.now)) }
         ensures kept { OnOk result (sound self.now) };
 }

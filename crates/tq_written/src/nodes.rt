@@ -7,10 +7,10 @@ ghost use Rattle.tq_written.specs.Fitting.{IsFitting};
 ghost use Rattle.tq_written.specs.Sound.{IsWork};
 ghost use Rattle.tq_written.specs.Written.{Adds};
 
+use crate::codes;
 use crate::formed::{Formed, put_after, put_code};
-use crate::text::Text;
+use crate::out::Out;
 use tq_asks::{CitedVote, HeldLock, NodeAsk, NodeRefusal, NodeReply, Verdict, WorkAsk};
-use tq_shape::Memory;
 use tq_store::Write;
 
 impl Formed for CitedVote {
@@ -21,7 +21,7 @@ impl Formed for CitedVote {
 
     ghost sound = { IsAny };
 
-    fn put(&self, out: &mut Text) -> Result<(), Memory> {
+    fn put<O: Out>(&self, out: &mut O) -> Result<(), O::Fault> {
         put_after(out, "{\"number\":", &self.number)?;
         put_after(out, ",\"server\":", &self.server)?;
         out.push("}")
@@ -36,7 +36,7 @@ impl Formed for Write {
 
     ghost sound = { IsWrite };
 
-    fn put(&self, out: &mut Text) -> Result<(), Memory> {
+    fn put<O: Out>(&self, out: &mut O) -> Result<(), O::Fault> {
         put_after(out, "{\"content\":", &self.content)?;
         put_after(out, ",\"file\":", &self.file)?;
         put_after(out, ",\"version\":", &self.version)?;
@@ -52,7 +52,7 @@ impl Formed for HeldLock {
 
     ghost sound = { IsHeldLock };
 
-    fn put(&self, out: &mut Text) -> Result<(), Memory> {
+    fn put<O: Out>(&self, out: &mut O) -> Result<(), O::Fault> {
         put_after(out, "{\"file\":", &self.file)?;
         put_after(out, ",\"mode\":", &self.mode)?;
         put_after(out, ",\"since\":", &self.since)?;
@@ -68,7 +68,7 @@ impl Formed for Verdict {
 
     ghost sound = { IsAny };
 
-    fn put(&self, out: &mut Text) -> Result<(), Memory> {
+    fn put<O: Out>(&self, out: &mut O) -> Result<(), O::Fault> {
         match self {
             Verdict::Abort => out.push("{\"is\":\"abort\"}"),
             Verdict::Commit { votes } => {
@@ -87,7 +87,7 @@ impl Formed for WorkAsk {
 
     ghost sound = { IsWork };
 
-    fn put(&self, out: &mut Text) -> Result<(), Memory> {
+    fn put<O: Out>(&self, out: &mut O) -> Result<(), O::Fault> {
         match self {
             WorkAsk::Lock { txn, file, mode } => {
                 put_after(out, "{\"file\":", file)?;
@@ -138,7 +138,7 @@ impl Formed for NodeAsk {
 
     ghost sound = { IsNodeAsk };
 
-    fn put(&self, out: &mut Text) -> Result<(), Memory> {
+    fn put<O: Out>(&self, out: &mut O) -> Result<(), O::Fault> {
         match self {
             NodeAsk::Work(work) => work.get().put(out),
             NodeAsk::Crash => out.push("{\"is\":\"crash\"}"),
@@ -149,8 +149,8 @@ impl Formed for NodeAsk {
 }
 
 /// A stop in the midst of work.
-fn put_stop(out: &mut Text, ask: &WorkAsk, after: u32) -> Result<(), Memory>
-    ensures adds { Adds result out.old out.new
+fn put_stop<O: Out>(out: &mut O, ask: &WorkAsk, after: u32) -> Result<(), O::Fault>
+    ensures adds { Adds O.puts result out.old out.new
         (compact_text (node_ask_value (NodeAsk.CrashIn after ask.now))) }
     ensures fits { OnOk result (IsFitting (node_ask_value (NodeAsk.CrashIn after ask.now))) }
     ensures kept { OnOk result (IsWork ask.now × (after ≤ 4294967295)) }
@@ -168,25 +168,25 @@ impl Formed for NodeRefusal {
 
     ghost sound = { IsNodeRefusal };
 
-    fn put(&self, out: &mut Text) -> Result<(), Memory> {
+    fn put<O: Out>(&self, out: &mut O) -> Result<(), O::Fault> {
         match self {
-            NodeRefusal::Down => put_code(out, 11),
-            NodeRefusal::AlreadyUp => put_code(out, 12),
-            NodeRefusal::AlreadyDown => put_code(out, 13),
+            NodeRefusal::Down => put_code(out, codes::DOWN),
+            NodeRefusal::AlreadyUp => put_code(out, codes::ALREADY_UP),
+            NodeRefusal::AlreadyDown => put_code(out, codes::ALREADY_DOWN),
             NodeRefusal::Held { by } => {
                 put_after(out, "{\"by\":", by)?;
-                put_after(out, ",\"code\":", &14u64)?;
+                put_after(out, ",\"code\":", &codes::HELD)?;
                 out.push(",\"is\":\"refused\"}")
             }
-            NodeRefusal::Prepared => put_code(out, 15),
+            NodeRefusal::Prepared => put_code(out, codes::PREPARED),
             NodeRefusal::NotLocked { file } => {
-                put_after(out, "{\"code\":", &16u64)?;
+                put_after(out, "{\"code\":", &codes::NOT_LOCKED)?;
                 put_after(out, ",\"file\":", file)?;
                 out.push(",\"is\":\"refused\"}")
             }
-            NodeRefusal::BadWrites => put_code(out, 17),
-            NodeRefusal::NotNewer => put_code(out, 18),
-            NodeRefusal::NothingHere => put_code(out, 19),
+            NodeRefusal::BadWrites => put_code(out, codes::BAD_WRITES),
+            NodeRefusal::NotNewer => put_code(out, codes::NOT_NEWER),
+            NodeRefusal::NothingHere => put_code(out, codes::NOTHING_HERE),
         }
     }
 }
@@ -199,7 +199,7 @@ impl Formed for NodeReply {
 
     ghost sound = { IsNodeReply };
 
-    fn put(&self, out: &mut Text) -> Result<(), Memory> {
+    fn put<O: Out>(&self, out: &mut O) -> Result<(), O::Fault> {
         match self {
             NodeReply::Granted { version, content } => {
                 put_after(out, "{\"content\":", content)?;

@@ -1,9 +1,9 @@
 //! Numbers, flags, texts, lists and entries.
 use crate::formed::{Formed, put_after, put_list};
-use crate::text::Text;
+use crate::out::{Out, put_content, put_name};
 use tq_live::Purpose;
 use tq_locks::Mode;
-use tq_shape::{Entry, Memory, Seq, ServerId, SharedSeq};
+use tq_shape::{Entry, Seq, ServerId, SharedSeq};
 use tq_store::{Content, FileName};
 
 impl Formed for u64 {
@@ -14,7 +14,7 @@ impl Formed for u64 {
 
     ghost sound = { IsAny };
 
-    fn put(&self, out: &mut Text) -> Result<(), Memory> {
+    fn put<O: Out>(&self, out: &mut O) -> Result<(), O::Fault> {
         out.push_number(*self)
     }
 }
@@ -27,7 +27,7 @@ impl Formed for u32 {
 
     ghost sound = { IsAny };
 
-    fn put(&self, out: &mut Text) -> Result<(), Memory> {
+    fn put<O: Out>(&self, out: &mut O) -> Result<(), O::Fault> {
         out.push_number(u64::from(*self))
     }
 }
@@ -40,7 +40,7 @@ impl Formed for bool {
 
     ghost sound = { IsAny };
 
-    fn put(&self, out: &mut Text) -> Result<(), Memory> {
+    fn put<O: Out>(&self, out: &mut O) -> Result<(), O::Fault> {
         match *self {
             true => out.push("true"),
             false => out.push("false"),
@@ -56,7 +56,7 @@ impl Formed for ServerId {
 
     ghost sound = { IsAny };
 
-    fn put(&self, out: &mut Text) -> Result<(), Memory> {
+    fn put<O: Out>(&self, out: &mut O) -> Result<(), O::Fault> {
         out.push_number(self.number())
     }
 }
@@ -69,8 +69,8 @@ impl Formed for FileName {
 
     ghost sound = { IsFile };
 
-    fn put(&self, out: &mut Text) -> Result<(), Memory> {
-        out.push_name(self)
+    fn put<O: Out>(&self, out: &mut O) -> Result<(), O::Fault> {
+        put_name(out, self)
     }
 }
 
@@ -82,7 +82,7 @@ impl Formed for Mode {
 
     ghost sound = { IsAny };
 
-    fn put(&self, out: &mut Text) -> Result<(), Memory> {
+    fn put<O: Out>(&self, out: &mut O) -> Result<(), O::Fault> {
         match self {
             Mode::Shared => out.push("\"shared\""),
             Mode::Exclusive => out.push("\"exclusive\""),
@@ -98,7 +98,7 @@ impl Formed for Purpose {
 
     ghost sound = { IsAny };
 
-    fn put(&self, out: &mut Text) -> Result<(), Memory> {
+    fn put<O: Out>(&self, out: &mut O) -> Result<(), O::Fault> {
         match self {
             Purpose::Read => out.push("\"read\""),
             Purpose::Write => out.push("\"write\""),
@@ -114,8 +114,8 @@ impl Formed for Content {
 
     ghost sound = { IsContent };
 
-    fn put(&self, out: &mut Text) -> Result<(), Memory> {
-        out.push_content(self.as_bytes())
+    fn put<O: Out>(&self, out: &mut O) -> Result<(), O::Fault> {
+        put_content(out, self.as_bytes())
     }
 }
 
@@ -127,7 +127,7 @@ impl<T: Formed> Formed for Seq<T> {
 
     ghost sound = { AllByRecursion T.sound };
 
-    fn put(&self, out: &mut Text) -> Result<(), Memory> {
+    fn put<O: Out>(&self, out: &mut O) -> Result<(), O::Fault> {
         put_list(out, self.as_slice())
     }
 }
@@ -140,7 +140,7 @@ impl<T: Formed> Formed for SharedSeq<T> {
 
     ghost sound = { AllByRecursion T.sound };
 
-    fn put(&self, out: &mut Text) -> Result<(), Memory> {
+    fn put<O: Out>(&self, out: &mut O) -> Result<(), O::Fault> {
         put_list(out, self.as_slice())
     }
 }
@@ -153,7 +153,7 @@ impl<T: Formed> Formed for Vec<T> {
 
     ghost sound = { λ list. AllByRecursion T.sound list.items };
 
-    fn put(&self, out: &mut Text) -> Result<(), Memory> {
+    fn put<O: Out>(&self, out: &mut O) -> Result<(), O::Fault> {
         put_list(out, self.as_slice())
     }
 }
@@ -166,7 +166,7 @@ impl<A: Formed, R: Formed> Formed for Entry<A, R> {
 
     ghost sound = { IsEntry A.sound R.sound };
 
-    fn put(&self, out: &mut Text) -> Result<(), Memory> {
+    fn put<O: Out>(&self, out: &mut O) -> Result<(), O::Fault> {
         put_after(out, "{\"ask\":", &self.ask)?;
         put_after(out, ",\"reply\":", &self.reply)?;
         out.push("}")

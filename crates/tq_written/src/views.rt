@@ -6,15 +6,16 @@ ghost use Rattle.tq_written.specs.Values.{list_value, whole};
 ghost use Rattle.tq_written.specs.Fitting.{IsFitting};
 ghost use Rattle.tq_written.specs.Written.{Adds};
 
+use crate::codes;
 use crate::formed::{Formed, put_after, put_code, put_list};
-use crate::text::Text;
+use crate::out::Out;
 use tq_coterie::{Blocker, Quorum};
 use tq_live::{ViewAsk, ViewRefusal, ViewReply};
-use tq_shape::{Memory, ServerId};
+use tq_shape::ServerId;
 
 /// The numbers of the servers.
-fn put_servers(out: &mut Text, servers: &[ServerId]) -> Result<(), Memory>
-    ensures adds { Adds result out.old out.new
+fn put_servers<O: Out>(out: &mut O, servers: &[ServerId]) -> Result<(), O::Fault>
+    ensures adds { Adds O.puts result out.old out.new
         (compact_text (list_value whole (numbers_of servers.now))) }
     ensures fits { OnOk result (IsFitting (list_value whole (numbers_of servers.now))) }
 {
@@ -30,7 +31,7 @@ impl Formed for Quorum {
 
     ghost sound = { IsMember };
 
-    fn put(&self, out: &mut Text) -> Result<(), Memory> {
+    fn put<O: Out>(&self, out: &mut O) -> Result<(), O::Fault> {
         put_servers(out, self.servers())?;
         Ok(())
     }
@@ -44,7 +45,7 @@ impl Formed for Blocker {
 
     ghost sound = { IsMember };
 
-    fn put(&self, out: &mut Text) -> Result<(), Memory> {
+    fn put<O: Out>(&self, out: &mut O) -> Result<(), O::Fault> {
         put_servers(out, self.servers())?;
         Ok(())
     }
@@ -58,7 +59,7 @@ impl Formed for ViewAsk {
 
     ghost sound = { IsAny };
 
-    fn put(&self, out: &mut Text) -> Result<(), Memory> {
+    fn put<O: Out>(&self, out: &mut O) -> Result<(), O::Fault> {
         match *self {
             ViewAsk::SetCost {
                 server,
@@ -91,12 +92,12 @@ impl Formed for ViewRefusal {
 
     ghost sound = { IsViewRefusal };
 
-    fn put(&self, out: &mut Text) -> Result<(), Memory> {
+    fn put<O: Out>(&self, out: &mut O) -> Result<(), O::Fault> {
         match self {
-            ViewRefusal::NoSuchServer => put_code(out, 31),
-            ViewRefusal::BadCost => put_code(out, 32),
+            ViewRefusal::NoSuchServer => put_code(out, codes::NO_SUCH_SERVER),
+            ViewRefusal::BadCost => put_code(out, codes::BAD_COST),
             ViewRefusal::Blocked(blocker) => {
-                put_after(out, "{\"code\":", &33u64)?;
+                put_after(out, "{\"code\":", &codes::BLOCKED)?;
                 put_after(out, ",\"is\":\"refused\",\"servers\":", blocker)?;
                 out.push("}")
             }
@@ -112,7 +113,7 @@ impl Formed for ViewReply {
 
     ghost sound = { IsViewReply };
 
-    fn put(&self, out: &mut Text) -> Result<(), Memory> {
+    fn put<O: Out>(&self, out: &mut O) -> Result<(), O::Fault> {
         match self {
             ViewReply::CostSet => out.push("{\"is\":\"costset\"}"),
             ViewReply::Marked => out.push("{\"is\":\"marked\"}"),

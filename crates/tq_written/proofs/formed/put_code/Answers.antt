@@ -4,4 +4,4 @@ use Rattle.tq_written.proofs.formed.put_code.Goals as goal
 
 pub returns-clause-adds : goal.returns-clause-adds
 unfolding escape_byte
-returns-clause-adds c = behind c.push.result _ _ c.in_ok-put_after.ensures.adds c.push.ensures
+returns-clause-adds g c = behind c.push.result _ _ c.in_ok-put_after.ensures.adds c.push.ensures

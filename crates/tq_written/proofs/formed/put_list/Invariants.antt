@@ -1,11 +1,16 @@
-use Rattle.std.proofs.Common.{◌≡◌, ◌++◌, false, drop}
+use Rattle.std.proofs.Common.{false, drop}
 use Rattle.std.specs.List.{AllByRecursion}
 use Rattle.serde_json.specs.Written.{items_text}
 use Rattle.tq_written.specs.Values.{listed}
 use Rattle.tq_written.specs.Fitting.{AreFitting}
+use Rattle.tq_written.specs.Written.{Added}
 use Rattle.tq_written.proofs.formed.put_list.Given as goal
 
--- the items that are left, with the closing bracket, stand after what is written so far; where they fit, all do, and
--- what the type keeps of them it keeps of all
+-- where the items that are left are put, with the closing bracket, all are; where they fit, all do, and what the type keeps of
+-- them it keeps of all
 abbrev pub invariant-loop-item : goal.invariant-loop-item
-invariant-loop-item g l = (l.out ++ items_text l.later (listed g.T.Formed.value (drop l.item-index l.items)) ≡ l.initial.out ++ items_text false (listed g.T.Formed.value l.items)) × (AreFitting (listed g.T.Formed.value (drop l.item-index l.items)) → AreFitting (listed g.T.Formed.value l.items)) × (AllByRecursion g.T.Formed.sound (drop l.item-index l.items) → AllByRecursion g.T.Formed.sound l.items)
+invariant-loop-item g l = record {
+  put : (end : g.row.O.Denot) → Added g.O.Out.puts l.out end (items_text l.later (listed g.T.Formed.value (drop l.item-index l.items))) → Added g.O.Out.puts l.initial.out end (items_text false (listed g.T.Formed.value l.items));
+  fits : AreFitting (listed g.T.Formed.value (drop l.item-index l.items)) → AreFitting (listed g.T.Formed.value l.items);
+  kept : AllByRecursion g.T.Formed.sound (drop l.item-index l.items) → AllByRecursion g.T.Formed.sound l.items;
+}

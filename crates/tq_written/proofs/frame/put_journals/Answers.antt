@@ -9,7 +9,7 @@ use Rattle.tq_written.proofs.frame.put_journals.Goals as goal
 
 pub returns-clause-adds : goal.returns-clause-adds
 unfolding escape_byte
-returns-clause-adds c =
+returns-clause-adds g c =
     let desk = rw c.desk.ensures.value at c.in_ok-put_list.ensures.adds in
     let format = rw c.number.ensures at c.in_ok-put_after.ensures.adds in
     let levels = rw (c.count.ensures.value, c.levels.ensures) at c.in_ok-put_after-2.ensures.adds in
@@ -20,7 +20,7 @@ returns-clause-adds c =
     added c.in_ok-push.ensures (added desk (added format (added levels (added limits (added c.in_ok-push-2.ensures (added servers last))))))
 
 pub returns-clause-fits : goal.returns-clause-fits
-returns-clause-fits c =
+returns-clause-fits g c =
     let desk = rw c.desk.ensures.value at c.in_ok-put_list.ensures.fits in
     let format = rw c.number.ensures at c.in_ok-put_after.ensures.fits in
     let levels = rw (c.count.ensures.value, c.levels.ensures) at c.in_ok-put_after-2.ensures.fits in
@@ -30,7 +30,7 @@ returns-clause-fits c =
     (desk, (format, (levels, (limits, (servers, (view, tt))))))
 
 pub returns-clause-kept : goal.returns-clause-kept
-returns-clause-kept c = record {
+returns-clause-kept g c = record {
   levels = (rw (c.count.ensures.value, c.levels.ensures) at c.count.ensures.least, rw (c.count.ensures.value, c.levels.ensures) at c.count.ensures.most);
   limits = rw c.limits.ensures at c.in_ok-put_after-3.ensures.kept;
   fit = record {

@@ -3,7 +3,7 @@ use Rattle.tq_written.proofs.Fused.{listed-map}
 use Rattle.tq_written.proofs.views.put_servers.Goals as goal
 
 pub returns-clause-adds : goal.returns-clause-adds
-returns-clause-adds c = rw (listed-map whole (λ server. server.number) c.args.servers.now) at c.in_ok-put_list.ensures.adds
+returns-clause-adds g c = rw (listed-map whole (λ server. server.number) c.args.servers.now) at c.in_ok-put_list.ensures.adds
 
 pub returns-clause-fits : goal.returns-clause-fits
-returns-clause-fits c = rw (listed-map whole (λ server. server.number) c.args.servers.now) at c.in_ok-put_list.ensures.fits
+returns-clause-fits g c = rw (listed-map whole (λ server. server.number) c.args.servers.now) at c.in_ok-put_list.ensures.fits

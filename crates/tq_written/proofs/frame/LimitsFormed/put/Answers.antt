@@ -4,7 +4,7 @@ use Rattle.tq_written.proofs.frame.LimitsFormed.put.Goals as goal
 
 pub returns-clause-adds : goal.returns-clause-adds
 unfolding escape_byte
-returns-clause-adds c =
+returns-clause-adds g c =
     let entries = rw c.entries.ensures.value at c.in_ok-put_after.ensures.adds in
     let files = rw c.files.ensures.value at c.in_ok-put_after-2.ensures.adds in
     let ops = rw c.ops.ensures.value at c.in_ok-put_after-3.ensures.adds in

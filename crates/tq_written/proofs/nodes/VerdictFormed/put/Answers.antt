@@ -4,8 +4,8 @@ use Rattle.tq_written.proofs.nodes.VerdictFormed.put.Goals as goal
 
 pub returns-in-Abort-clause-adds : goal.returns-in-Abort-clause-adds
 unfolding escape_byte
-returns-in-Abort-clause-adds c = rw c.in-Abort.is c.push.ensures
+returns-in-Abort-clause-adds g c = rw c.in-Abort.is c.push.ensures
 
 pub returns-in_ok-put_after-in-Commit-clause-adds : goal.returns-in_ok-put_after-in-Commit-clause-adds
 unfolding escape_byte
-returns-in_ok-put_after-in-Commit-clause-adds c = rw c.in-Commit.is (behind c.push-in-Commit.result _ _ c.in_ok-put_after-in-Commit.ensures.adds c.push-in-Commit.ensures)
+returns-in_ok-put_after-in-Commit-clause-adds g c = rw c.in-Commit.is (behind c.push-in-Commit.result _ _ c.in_ok-put_after-in-Commit.ensures.adds c.push-in-Commit.ensures)

@@ -3,8 +3,8 @@ use Rattle.tq_written.proofs.values.PurposeFormed.put.Goals as goal
 
 pub returns-in-Read-clause-adds : goal.returns-in-Read-clause-adds
 unfolding escape_byte
-returns-in-Read-clause-adds c = rw c.in-Read.is c.push.ensures
+returns-in-Read-clause-adds g c = rw c.in-Read.is c.push.ensures
 
 pub returns-in-Write-clause-adds : goal.returns-in-Write-clause-adds
 unfolding escape_byte
-returns-in-Write-clause-adds c = rw c.in-Write.is c.push-in-Write.ensures
+returns-in-Write-clause-adds g c = rw c.in-Write.is c.push-in-Write.ensures

@@ -1,6 +1,6 @@
 use Rattle.std.proofs.lemmas.Str.{IsUtf8-append, IsUtf8-from_ascii}
 use Rattle.tq_written.proofs.Plain.{digits-ascii}
-use Rattle.tq_written.proofs.text.Text.push_hexadecimal.Goals as goal
+use Rattle.tq_written.proofs.text.TextOut.push_digits.Goals as goal
 
 pub invariant_of-self : goal.invariant_of-self
 invariant_of-self c =
