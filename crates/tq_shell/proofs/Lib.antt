@@ -1,6 +1,6 @@
 pub mod ReadingLaws
 pub mod ReportLaws
-pub mod InputLaws
+pub mod UpgradeLaws
 pub mod ThreadsLaws
 pub mod FewScripts
 pub mod BadLine

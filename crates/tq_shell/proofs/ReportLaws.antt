@@ -1,11 +1,12 @@
 -- What a run over a journal file has written where it ends by a fault.
-use Rattle.std.proofs.Common.{◌≡◌, ◌≤◌, ℕ, List, Option, Result, Ok, Err, length, take, drop, sym, subst}
+use Rattle.std.proofs.Common.{◌≡◌, ◌≤◌, ℕ, List, [], Option, Result, Ok, Err, length, take, drop, refl, sym, subst}
 use Rattle.std.proofs.lemmas.List.{take-append-drop}
 use Rattle.std.specs.Result.{IsErrAnd}
 use Rattle.std.specs.Io.KnownBytes.{Appends}
 use Rattle.tq_devices.specs.declared.fault.RunFault.{RunFault}
 use Rattle.tq_devices.specs.declared.fault.RunFault.TheVariants.{Memory, Read, Write, TooLong}
 use Rattle.tq_devices.specs.Faults.{IsWritten}
+use Rattle.tq_written.specs.Spilled.{IsWrittenOut}
 use Rattle.tq_shell.specs.Report.{IsReportText}
 
 module _ (Tells : List ℕ → List ℕ → ℕ → Type 0) where
@@ -26,3 +27,12 @@ module _ (Tells : List ℕ → List ℕ → ℕ → Type 0) where
   ends_write Memory bytes line status taken taken_after failed failed_after tells few written = absurd written
   ends_write Read bytes line status taken taken_after failed failed_after tells few written = absurd written
   ends_write TooLong bytes line status taken taken_after failed failed_after tells few written = absurd written
+
+  -- the same where memory may be refused
+  pub ends_write_out : (fault : RunFault) (bytes line : List ℕ) (status : ℕ) (taken taken_after : Option (List ℕ)) (failed failed_after : ℕ)
+      → Tells bytes line status → length bytes ≤ 67108864 → IsWrittenOut (Err fault) line taken taken_after failed failed_after
+      → (text : List ℕ) × Appends taken taken_after text × IsReportText Tells (Err fault) bytes text
+  ends_write_out Write bytes line status taken taken_after failed failed_after tells few written = ends_write Write bytes line status taken taken_after failed failed_after tells few written
+  ends_write_out Memory bytes line status taken taken_after failed failed_after tells few written = ([], written.0, refl)
+  ends_write_out Read bytes line status taken taken_after failed failed_after tells few written = absurd written
+  ends_write_out TooLong bytes line status taken taken_after failed failed_after tells few written = absurd written

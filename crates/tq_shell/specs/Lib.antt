@@ -4,7 +4,6 @@ pub mod Verdicts
 pub mod Report
 pub mod Audit
 pub mod Upgrade
-pub mod Input
 pub mod Outcome
 pub mod Running
 pub mod Threads

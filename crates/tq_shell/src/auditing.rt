@@ -17,10 +17,13 @@ pub fn audit<R: Source, W: Sink>(
 ) -> Result<u8, RunFault>
     requires reads { R.failed reader.old < 2 ^ 64 - 1 }
     requires writes { W.failed writer.old < 2 ^ 64 - 1 }
-    ensures text { (bytes : List ℕ) × (text : List ℕ) × Appends (R.given reader.old) (R.given reader.new) bytes
-        × Appends (W.taken writer.old) (W.taken writer.new) text × IsAuditText result bytes text }
+    ensures text { (bytes : List ℕ) × (text : List ℕ)
+        × Appends (R.given reader.old) (R.given reader.new) bytes
+        × Appends (W.taken writer.old) (W.taken writer.new) text
+        × IsAuditText result bytes text }
     ensures end { OnOk result (IsTrue (R.is_ended reader.new)) }
-    ensures counts { IsRunCount result (R.failed reader.old) (R.failed reader.new) (W.failed writer.old) (W.failed writer.new) }
+    ensures counts { IsRunCount result
+        (R.failed reader.old) (R.failed reader.new) (W.failed writer.old) (W.failed writer.new) }
 {
     let bytes = read_all(alloc, reader)?;
     let verdict = judge(alloc, bytes.as_slice())?;

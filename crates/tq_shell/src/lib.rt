@@ -2,14 +2,14 @@
 //! file, whether one sequential run explains it; its upgrade to the format that is written now; and, handed on, the session of a
 //! shell, the words of the command line and the devices that they read and write.
 //!
-//! Files: `threading.rt` over `input.rt`, `running.rt`, `outcome.rt` client scripts in threads; `auditing.rt` over
-//! `reading.rt`, `judging.rt`, `verdict.rt` the audit; `upgrading.rt` the upgrade.
-//! Definitions: `specs/Running`, `Outcome`, `Threads`, `Input`; `Verdicts`, `Texts`, `Report`, `Audit`, `Upgrade`, `Reading`.
+//! Files: `threading.rt` over `reading.rt`, `running.rt`, `outcome.rt` client scripts in threads; `auditing.rt` over
+//! `reading.rt`, `judging.rt`, `verdict.rt` the audit; `upgrading.rt` the upgrade; `line.rt` a line that is written.
+//! Definitions: `specs/Running`, `Outcome`, `Threads`; `Verdicts`, `Texts`, `Report`, `Audit`, `Upgrade`, `Reading`.
 #![tactic(auto)]
 
 mod auditing;
-mod input;
 mod judging;
+mod line;
 mod outcome;
 mod reading;
 mod running;

@@ -1,11 +1,13 @@
-ghost use Rattle.std.specs.Prelude.{◌≡◌, IfOk};
+ghost use Rattle.std.specs.Prelude.{◌≡◌, ◌-◌, ◌^◌, ◌<◌};
+ghost use Rattle.tq_written.specs.Spilled.{IsWrittenOut};
 ghost use Rattle.tq_shell.specs.Outcome as spec;
 
+use crate::line::write_line;
 use std::alloc::Global;
+use tq_devices::{RunFault, Sink};
 use tq_print::{say_line, say_number};
-use tq_shape::Memory;
 use tq_tables::Journals;
-use tq_written::journals_to_json;
+use tq_written::write_journals;
 
 /// What comes of the text of client scripts.
 #[derive(Drop)]
@@ -31,16 +33,38 @@ impl Outcome {
         }
     }
 
-    /// The line that tells of it. Answers an error only where memory is refused.
-    pub fn line(&self, alloc: Global) -> Result<Vec<u8>, Memory>
-        ensures { IfOk result (λ line. line.items ≡ spec.outcome_line self.now) }
+    /// Writes the line that tells of it. Where memory is refused nothing is written; where the sink fails, a front of the line.
+    pub fn write<W: Sink>(&self, alloc: Global, writer: &mut W) -> Result<(), RunFault>
+        requires { W.failed writer.old < 2 ^ 64 - 1 }
+        ensures { IsWrittenOut result (spec.outcome_line self.now)
+            (W.taken writer.old) (W.taken writer.new) (W.failed writer.old) (W.failed writer.new) }
     {
-        let mut text = Vec::new(alloc);
         match self {
-            Outcome::Ran { journals } => return Ok(journals_to_json(alloc, journals)?.into_bytes()),
-            Outcome::Unclosed => say_line(&mut text, b"fault close")?,
-            Outcome::BadScript { line } => say_number(&mut text, b"bad script line ", *line)?,
+            Outcome::Ran { journals } => write_journals(alloc, journals, writer),
+            Outcome::Unclosed => write_unclosed(alloc, writer),
+            Outcome::BadScript { line } => write_bad_line(alloc, *line, writer),
         }
-        Ok(text)
     }
+}
+
+/// Writes the line that tells of a cluster which could not be closed.
+fn write_unclosed<W: Sink>(alloc: Global, writer: &mut W) -> Result<(), RunFault>
+    requires { W.failed writer.old < 2 ^ 64 - 1 }
+    ensures { IsWrittenOut result (spec.outcome_line Outcome.Unclosed)
+        (W.taken writer.old) (W.taken writer.new) (W.failed writer.old) (W.failed writer.new) }
+{
+    let mut line = Vec::new(alloc);
+    say_line(&mut line, b"fault close")?;
+    write_line(writer, line.as_slice())
+}
+
+/// Writes the line that tells of a bad line.
+fn write_bad_line<W: Sink>(alloc: Global, number: u64, writer: &mut W) -> Result<(), RunFault>
+    requires { W.failed writer.old < 2 ^ 64 - 1 }
+    ensures { IsWrittenOut result (spec.outcome_line (Outcome.BadScript number))
+        (W.taken writer.old) (W.taken writer.new) (W.failed writer.old) (W.failed writer.new) }
+{
+    let mut line = Vec::new(alloc);
+    say_number(&mut line, b"bad script line ", number)?;
+    write_line(writer, line.as_slice())
 }

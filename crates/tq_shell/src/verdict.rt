@@ -50,7 +50,8 @@ impl Verdict {
 
 /// Puts the name of a wrong entry behind the text, as a line.
 fn say_wrong(text: &mut Vec<u8>, part: Part, number: u64) -> Result<(), Memory>
-    ensures { OnOk result (text.new.items ≡ text.old.items ++ spec.verdict_line (Verdict.Wrong part number)) }
+    ensures { OnOk result
+        (text.new.items ≡ text.old.items ++ spec.verdict_line (Verdict.Wrong part number)) }
 {
     match part {
         Part::Server(server) => push_at(text, b"wrong server ", server)?,
@@ -62,7 +63,8 @@ fn say_wrong(text: &mut Vec<u8>, part: Part, number: u64) -> Result<(), Memory>
 
 /// Puts how many entries can be placed behind the text, as a line.
 fn say_stuck(text: &mut Vec<u8>, placed: &Counts) -> Result<(), Memory>
-    ensures { OnOk result (text.new.items ≡ text.old.items ++ spec.verdict_line (Verdict.Stuck placed.now)) }
+    ensures { OnOk result
+        (text.new.items ≡ text.old.items ++ spec.verdict_line (Verdict.Stuck placed.now)) }
 {
     text.extend_from_slice(b"stuck")?;
     push_counts(text, placed.servers.as_slice())?;

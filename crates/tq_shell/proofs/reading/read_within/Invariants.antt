@@ -1,6 +1,6 @@
-use Rattle.std.proofs.Common.{◌≡◌, ◌-◌, length}
+use Rattle.std.proofs.Common.{◌≡◌, ◌+◌, ◌-◌, length}
 use Rattle.std.specs.Io.KnownBytes.{Appends}
-use Rattle.tq_shell.proofs.input.read_input.Given as goal
+use Rattle.tq_shell.proofs.reading.read_within.Given as goal
 
 -- what the source has given is kept
 abbrev pub invariant-loop-buffer : goal.invariant-loop-buffer
@@ -10,4 +10,4 @@ invariant-loop-buffer g l = record {
 }
 
 abbrev pub decreases-loop-buffer : goal.decreases-loop-buffer
-decreases-loop-buffer g l = 16777217 - length l.bytes.items
+decreases-loop-buffer g l = l.limit + 1 - length l.bytes.items

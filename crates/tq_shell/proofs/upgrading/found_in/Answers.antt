@@ -1,4 +1,4 @@
-use Rattle.std.proofs.Common.{◌≡◌, ℕ, List, Err, inr, subst}
+use Rattle.std.proofs.Common.{◌≡◌, ℕ, List, Err, subst}
 use Rattle.tq_tables.specs.Journals.{JournalsView}
 use Rattle.tq_form.specs.declared.fault.ReadFault.{ReadFault}
 use Rattle.tq_form.specs.declared.fault.ReadFault.TheVariants.{NotJson}
@@ -6,7 +6,7 @@ use Rattle.tq_form.specs.Faults.{Answers}
 use Rattle.tq_form.specs.Frame.{journals_of}
 use Rattle.tq_shell.specs.declared.verdict.Verdict.TheVariants.{Unreadable}
 use Rattle.tq_shell.specs.Verdicts.{IsVerdict}
-use Rattle.tq_shell.proofs.upgrading.upgraded.Goals as goal
+use Rattle.tq_shell.proofs.upgrading.found_in.Goals as goal
 
 -- bytes that are no JSON are no journal file
 not_json : (bytes : List ℕ) (fault : ReadFault) → fault ≡ NotJson → Answers {X = JournalsView} (Err fault) bytes journals_of → IsVerdict bytes Unreadable
@@ -14,7 +14,6 @@ not_json bytes fault is told =
     let P : ReadFault → Type 0 = λ f. Answers {X = JournalsView} (Err f) bytes journals_of in
     λ journals file. subst P is told file.0 file.1
 
-pub returns-in_ok-unread-in-Err-NotJson : goal.returns-in_ok-unread-in-Err-NotJson
-returns-in_ok-unread-in-Err-NotJson c =
-    let said = c.in_ok-unread-in-Err-NotJson.ensures in
-    inr (not_json c.args.bytes.now c.in-Err-NotJson.field-0 c.in-Err-NotJson.field-0-is c.in-Err-NotJson.ensures.answers, said.0, said.1)
+pub returns-in-Err-NotJson : goal.returns-in-Err-NotJson
+returns-in-Err-NotJson c =
+    not_json c.args.bytes.now c.in-Err-NotJson.field-0 c.in-Err-NotJson.field-0-is c.in-Err-NotJson.ensures.answers
