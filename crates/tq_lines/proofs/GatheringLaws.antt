@@ -6,10 +6,9 @@ use Rattle.std.specs.Option.{option_map_or}
 use Rattle.std.proofs.lemmas.List.{append-nil}
 use Rattle.tq_lines.specs.declared.client.ClientLine.{ClientLine}
 use Rattle.tq_lines.specs.declared.client.ClientLine.TheVariants as line
-use Rattle.tq_script.specs.declared.script.Line.{Line}
-use Rattle.tq_script.specs.declared.script.Line.TheVariants as says
-use Rattle.tq_scripts.specs.Gathering.{Gathering, gathered_with, going_script, mark_of, nothing_gathered, said_after, scripts_so_far}
-use Rattle.tq_scripts.specs.Scripts.{Clients, IsFirstBad, are_good, clients_of, has_form, scripts_of, with_line}
+use Rattle.tq_lines.specs.declared.script.Line.{Line}
+use Rattle.tq_lines.specs.Gathering.{Gathering, gathered_with, going_script, nothing_gathered, said_after, scripts_so_far}
+use Rattle.tq_lines.specs.Scripts.{Clients, IsFirstBad, are_good, clients_of, has_form, scripts_of}
 
 -- how the lines end: all are gathered, or that of a number is bad
 pub data Outcome : Type 0 where
@@ -51,33 +50,29 @@ record Follows (gathering next : Gathering) (line : ClientLine) : Type 0 where
   scripts : (lines : List ClientLine) → scripts_behind gathering (line ∷ lines) ≡ scripts_behind next lines
   few : length (scripts_so_far next) ≤ 16
 
--- a line that says something to the client whose script goes on
-abbrev IsSaid : ClientLine → Line → Type 0
-IsSaid line said = (clients : Clients) → with_line line clients ≡ record { before = said ∷ clients.before; scripts = clients.scripts }
-
 abbrev going : List (List Line) → List Line → Gathering
 going ended lines = record { ended = ended; going = Some lines }
 
-said_follows : (ended : List (List Line)) (lines : List Line) (line : ClientLine) (said : Line) → has_form line ≡ true → IsSaid line said → length (ended ++ lines ∷ []) ≤ 16
-    → Follows (going ended lines) (going ended (lines ++ said ∷ [])) line
-said_follows ended lines line said form is few = record {
+-- what the client says whose script goes on
+said_follows : (ended : List (List Line)) (lines : List Line) (said : Line) → length (ended ++ lines ∷ []) ≤ 16
+    → Follows (going ended lines) (going ended (lines ++ said ∷ [])) (line.Said said)
+said_follows ended lines said few = record {
   good = λ more.
       let size : length (ended ++ lines ∷ []) ≡ length (ended ++ (lines ++ said ∷ []) ∷ []) = length-append ended (lines ∷ []) ∙ sym (length-append ended ((lines ++ said ∷ []) ∷ [])) in
-      rw (form, is (clients_of more), size) refl;
-  scripts = λ more.
-      rw (is (clients_of more)) (ap (λ first. ended ++ first ∷ scripts_of more) (sym (append_assoc lines (said ∷ []) (clients_of more).before)));
+      rw size refl;
+  scripts = λ more. ap (λ first. ended ++ first ∷ scripts_of more) (sym (append_assoc lines (said ∷ []) (clients_of more).before));
   few = let one = length-append ended (lines ∷ []) in
       let two = length-append ended ((lines ++ said ∷ []) ∷ []) in
       omega (arith, few, one, two);
 }
 
-said_may : (ended : List (List Line)) (now : Option (List Line)) (next : Gathering) (line : ClientLine) (said : Line) → has_form line ≡ true → IsSaid line said → length (ended ++ going_script now) ≤ 16
-    → said_after ended now said ≡ Some next → Follows (record { ended = ended; going = now }) next line
-said_may ended None next line said form is few may = absurd cc
-said_may ended (Some lines) next line said form is few may =
+said_may : (ended : List (List Line)) (now : Option (List Line)) (next : Gathering) (said : Line) → length (ended ++ going_script now) ≤ 16
+    → said_after ended now said ≡ Some next → Follows (record { ended = ended; going = now }) next (line.Said said)
+said_may ended None next said few may = absurd cc
+said_may ended (Some lines) next said few may =
     let same : going ended (lines ++ said ∷ []) ≡ next = cc in
-    let P : Gathering → Type 0 = λ n. Follows (going ended lines) n line in
-    subst P same (said_follows ended lines line said form is few)
+    let P : Gathering → Type 0 = λ n. Follows (going ended lines) n (line.Said said) in
+    subst P same (said_follows ended lines said few)
 
 -- a line `client`
 client_size : (scripts : List (List Line)) (count : ℕ) → length scripts + suc count ≡ length (scripts ++ [] ∷ []) + count
@@ -114,29 +109,19 @@ empty_may gathering next few may =
     let P : Gathering → Type 0 = λ n. Follows gathering n line.Empty in
     subst P same (record { good = λ lines. refl; scripts = λ lines. refl; few = few })
 
-mark_is : (server : ℕ) (up : Bool) → IsSaid (line.Mark server up) (mark_of server up)
-mark_is server up clients = refl
-
 follows : (gathering next : Gathering) (given : ClientLine) → length (scripts_so_far gathering) ≤ 16 → gathered_with gathering given ≡ Some next → Follows gathering next given
 follows gathering next line.Empty few may = empty_may gathering next few may
 follows gathering next line.Bad few may = absurd cc
 follows gathering next line.Client few may =
     client_may gathering.ended gathering.going next (nat_lt (length (scripts_so_far gathering)) 16) (λ fits. grind (arith, fits)) may
-follows gathering next (line.Cost server read write) few may = said_may gathering.ended gathering.going next (line.Cost server read write) (says.Cost server read write) refl (λ clients. refl) few may
-follows gathering next (line.Mark server up) few may = said_may gathering.ended gathering.going next (line.Mark server up) (mark_of server up) refl (mark_is server up) few may
-follows gathering next (line.Choose purpose) few may = said_may gathering.ended gathering.going next (line.Choose purpose) (says.Choose purpose) refl (λ clients. refl) few may
-follows gathering next line.Begin few may = said_may gathering.ended gathering.going next line.Begin says.Begin refl (λ clients. refl) few may
-follows gathering next (line.Read file) few may = said_may gathering.ended gathering.going next (line.Read file) (says.Read file) refl (λ clients. refl) few may
-follows gathering next (line.Write file content) few may = said_may gathering.ended gathering.going next (line.Write file content) (says.Write file content) refl (λ clients. refl) few may
-follows gathering next line.Commit few may = said_may gathering.ended gathering.going next line.Commit says.Commit refl (λ clients. refl) few may
-follows gathering next line.Abort few may = said_may gathering.ended gathering.going next line.Abort says.Abort refl (λ clients. refl) few may
+follows gathering next (line.Said said) few may = said_may gathering.ended gathering.going next said few may
 
 -- ---- one line that may not come
 
-said_not : (ended : List (List Line)) (now : Option (List Line)) (given : ClientLine) (said : Line) → has_form given ≡ true → IsSaid given said
-    → said_after ended now said ≡ None → good_behind (record { ended = ended; going = now }) (given ∷ []) ≡ false
-said_not ended None given said form is not = rw (form, is (clients_of [])) refl
-said_not ended (Some lines) given said form is not = absurd cc
+said_not : (ended : List (List Line)) (now : Option (List Line)) (said : Line) → said_after ended now said ≡ None
+    → good_behind (record { ended = ended; going = now }) (line.Said said ∷ []) ≡ false
+said_not ended None said not = refl
+said_not ended (Some lines) said not = absurd cc
 
 may_stand-nothing : (now : Option (List Line)) → may_stand now [] ≡ true
 may_stand-nothing None = refl
@@ -152,14 +137,7 @@ refused gathering line.Empty not = absurd cc
 refused gathering line.Bad not = refl
 refused gathering line.Client not =
     client_not gathering (nat_lt (length (scripts_so_far gathering)) 16) (going (scripts_so_far gathering) []) (λ fits. grind (arith, fits)) not
-refused gathering (line.Cost server read write) not = said_not gathering.ended gathering.going (line.Cost server read write) (says.Cost server read write) refl (λ clients. refl) not
-refused gathering (line.Mark server up) not = said_not gathering.ended gathering.going (line.Mark server up) (mark_of server up) refl (mark_is server up) not
-refused gathering (line.Choose purpose) not = said_not gathering.ended gathering.going (line.Choose purpose) (says.Choose purpose) refl (λ clients. refl) not
-refused gathering line.Begin not = said_not gathering.ended gathering.going line.Begin says.Begin refl (λ clients. refl) not
-refused gathering (line.Read file) not = said_not gathering.ended gathering.going (line.Read file) (says.Read file) refl (λ clients. refl) not
-refused gathering (line.Write file content) not = said_not gathering.ended gathering.going (line.Write file content) (says.Write file content) refl (λ clients. refl) not
-refused gathering line.Commit not = said_not gathering.ended gathering.going line.Commit says.Commit refl (λ clients. refl) not
-refused gathering line.Abort not = said_not gathering.ended gathering.going line.Abort says.Abort refl (λ clients. refl) not
+refused gathering (line.Said said) not = said_not gathering.ended gathering.going said not
 
 -- ---- all lines
 

@@ -2,10 +2,10 @@
 use Rattle.std.specs.Prelude.{◌≡◌, ◌<◌, ℕ, List, [], Some, None, Result, Ok, Err, length}
 use Rattle.std.specs.Global.{Vec}
 use Rattle.tq_lines.specs.declared.client.ClientLine.{ClientLine}
-use Rattle.tq_script.specs.declared.script.Line.{Line}
-use Rattle.tq_scripts.specs.Gathering.{Gathering, gathered_with, scripts_so_far}
-use Rattle.tq_scripts.specs.declared.fault.ScriptFault.{ScriptFault}
-use Rattle.tq_scripts.specs.declared.fault.ScriptFault.TheVariants.{Memory, Bad}
+use Rattle.tq_lines.specs.declared.script.Line.{Line}
+use Rattle.tq_lines.specs.Gathering.{Gathering, gathered_with, scripts_so_far}
+use Rattle.tq_lines.specs.declared.fault.ScriptFault.{ScriptFault}
+use Rattle.tq_lines.specs.declared.fault.ScriptFault.TheVariants.{Memory, Bad}
 
 -- the line of this number may come, and this is gathered with it; or it is bad
 abbrev pub IsGatheredWith : Gathering → ClientLine → ℕ → Result Gathering ScriptFault → Type 0

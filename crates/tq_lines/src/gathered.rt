@@ -1,16 +1,15 @@
 ghost use Rattle.std.specs.Prelude.{◌≡◌, IfOk};
 ghost use Rattle.tq_lines.specs.ClientLine.{client_line_of};
-ghost use Rattle.tq_scripts.specs.Gathering.{gathered_with, mark_of, next_client, nothing_gathered, said_more, scripts_so_far};
-ghost use Rattle.tq_scripts.specs.Gathered.{IsFinished, IsGatheredWith};
+ghost use Rattle.tq_lines.specs.Gathering.{gathered_with, next_client, nothing_gathered, said_more, scripts_so_far};
+ghost use Rattle.tq_lines.specs.Gathered.{IsFinished, IsGatheredWith};
 
+use crate::client::ClientLine;
 use crate::fault::ScriptFault;
 use crate::reader::CLIENT_LIMIT;
+use crate::script::{Line, Script};
 use std::alloc::Global;
 use std::marker::Model;
-use tq_lines::ClientLine;
-use tq_script::{Line, Script};
 use tq_shape::Memory;
-use tq_store::{Content, FileName};
 
 /// What was gathered of the lines so far: the scripts that ended, and the lines of the client whose script goes on.
 #[derive(Drop)]
@@ -22,12 +21,15 @@ pub(crate) struct Gathered {
 impl Model for Gathered {
     ghost use Rattle.std.specs.Global.{Vec};
     ghost use Rattle.std.specs.Option.{option_map};
-    ghost use Rattle.tq_script.specs.declared.script.Line.{Line};
-    ghost use Rattle.tq_scripts.specs.Gathering.{Gathering};
+    ghost use Rattle.tq_lines.specs.declared.script.Line.{Line};
+    ghost use Rattle.tq_lines.specs.Gathering.{Gathering};
 
     ghost Value = { Gathering };
 
-    ghost view = { λ gathered. record { ended = gathered.ended.items; going = option_map (λ (lines : Vec Line). lines.items) gathered.going } };
+    ghost view = { λ gathered. record {
+      ended = gathered.ended.items;
+      going = option_map (λ (lines : Vec Line). lines.items) gathered.going;
+    } };
 }
 
 impl Gathered {
@@ -65,22 +67,7 @@ impl Gathered {
             ClientLine::Empty => Ok(Some(self)),
             ClientLine::Bad => Ok(None),
             ClientLine::Client => self.with_client(alloc),
-            ClientLine::Cost {
-                server,
-                read,
-                write,
-            } => self.with_said(Line::Cost {
-                server,
-                read,
-                write,
-            }),
-            ClientLine::Mark { server, up } => self.with_mark(server, up),
-            ClientLine::Choose { purpose } => self.with_said(Line::Choose { purpose }),
-            ClientLine::Begin => self.with_said(Line::Begin),
-            ClientLine::Read { file } => self.with_read(&file),
-            ClientLine::Write { file, content } => self.with_write(&file, content),
-            ClientLine::Commit => self.with_said(Line::Commit),
-            ClientLine::Abort => self.with_said(Line::Abort),
+            ClientLine::Said(line) => self.with_said(line),
         }
     }
 
@@ -96,30 +83,6 @@ impl Gathered {
             ended,
             going: Some(Vec::new(alloc)),
         }))
-    }
-
-    fn with_mark(self, server: u64, up: bool) -> Result<Option<Gathered>, Memory>
-        ensures { IfOk result (λ gathered. gathered ≡ said_more self (mark_of server up)) }
-    {
-        if up {
-            return self.with_said(Line::Up { server });
-        }
-        self.with_said(Line::Down { server })
-    }
-
-    fn with_read(self, file: &FileName) -> Result<Option<Gathered>, Memory>
-        ensures { IfOk result (λ gathered. gathered ≡ said_more self (Line.Read file.now)) }
-    {
-        self.with_said(Line::Read { file: *file })
-    }
-
-    fn with_write(self, file: &FileName, content: Content) -> Result<Option<Gathered>, Memory>
-        ensures { IfOk result (λ gathered. gathered ≡ said_more self (Line.Write file.now content)) }
-    {
-        self.with_said(Line::Write {
-            file: *file,
-            content,
-        })
     }
 
     /// The client whose script goes on says this line, if there is one.

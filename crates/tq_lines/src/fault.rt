@@ -1,5 +1,5 @@
 ghost use Rattle.std.specs.Prelude.{◌≡◌};
-ghost use Rattle.tq_scripts.specs.declared.fault.ScriptFault.TheVariants as variants;
+ghost use Rattle.tq_lines.specs.declared.fault.ScriptFault.TheVariants as variants;
 
 use thiserror::Error;
 use tq_shape::Memory;

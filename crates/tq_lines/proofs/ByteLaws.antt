@@ -10,7 +10,7 @@ use Rattle.tq_lines.specs.Word.{without_return}
 use Rattle.tq_lines.specs.ClientLine.{client_line_of}
 use Rattle.tq_lines.specs.declared.client.ClientLine.{ClientLine}
 use Rattle.tq_lines.specs.declared.client.ClientLine.TheVariants.{Bad}
-use Rattle.tq_scripts.specs.Scripts.{last_by, lines_within}
+use Rattle.tq_lines.specs.Scripts.{last_by, lines_within}
 
 -- the first part goes on from what came before it
 abbrev onto_parts : List ℕ → List (List ℕ) → List (List ℕ)

@@ -2,14 +2,14 @@ use Rattle.std.proofs.Common.{◌≡◌, ◌∙◌, ◌+◌, ℕ, Bool, List, Er
 use Rattle.std.specs.List.{slice_range}
 use Rattle.tq_lines.specs.Word.{without_return}
 use Rattle.tq_lines.specs.ClientLine.{client_line_of}
-use Rattle.tq_scripts.specs.Gathering.{gathered_with}
-use Rattle.tq_scripts.specs.Gathered.{IsGatheredWith}
-use Rattle.tq_scripts.specs.Scripts.{lines_within}
-use Rattle.tq_scripts.proofs.ByteLaws.{line_left, line_ends, line_goes_on, lines_left, none_left, over_left, some_left}
-use Rattle.tq_scripts.proofs.GatheringLaws.{run}
-use Rattle.tq_scripts.proofs.ReadLaws.{below, line_gathered, read_finished, read_over, read_refused}
-use Rattle.tq_scripts.proofs.reader.read_within.Goals as goal
-use Rattle.tq_scripts.proofs.reader.read_within.Goals.{then-byte-eq10+in-Ok, else-byte-eq10}
+use Rattle.tq_lines.specs.Gathering.{gathered_with}
+use Rattle.tq_lines.specs.Gathered.{IsGatheredWith}
+use Rattle.tq_lines.specs.Scripts.{lines_within}
+use Rattle.tq_lines.proofs.ByteLaws.{line_left, line_ends, line_goes_on, lines_left, none_left, over_left, some_left}
+use Rattle.tq_lines.proofs.GatheringLaws.{run}
+use Rattle.tq_lines.proofs.ReadLaws.{below, line_gathered, read_finished, read_over, read_refused}
+use Rattle.tq_lines.proofs.reader.read_within.Goals as goal
+use Rattle.tq_lines.proofs.reader.read_within.Goals.{then-byte-eq10+in-Ok, else-byte-eq10}
 
 pub returns-in-Err : goal.returns-in-Err
 returns-in-Err c =

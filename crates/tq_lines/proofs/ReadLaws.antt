@@ -6,13 +6,13 @@ use Rattle.std.specs.Global.{Vec}
 use Rattle.std.specs.Option.{option_map_or}
 use Rattle.tq_lines.specs.declared.client.ClientLine.{ClientLine}
 use Rattle.tq_lines.specs.declared.client.ClientLine.TheVariants as line
-use Rattle.tq_script.specs.declared.script.Line.{Line}
-use Rattle.tq_scripts.specs.declared.fault.ScriptFault.{ScriptFault}
-use Rattle.tq_scripts.specs.declared.fault.ScriptFault.TheVariants.{Memory, Bad}
-use Rattle.tq_scripts.specs.Gathering.{Gathering, gathered_with, nothing_gathered}
-use Rattle.tq_scripts.specs.Gathered.{IsFinished, IsGatheredWith}
-use Rattle.tq_scripts.specs.Scripts.{IsRead}
-use Rattle.tq_scripts.proofs.GatheringLaws.{Gathers, Refuses, all_gathered, first_refused, run}
+use Rattle.tq_lines.specs.declared.script.Line.{Line}
+use Rattle.tq_lines.specs.declared.fault.ScriptFault.{ScriptFault}
+use Rattle.tq_lines.specs.declared.fault.ScriptFault.TheVariants.{Memory, Bad}
+use Rattle.tq_lines.specs.Gathering.{Gathering, gathered_with, nothing_gathered}
+use Rattle.tq_lines.specs.Gathered.{IsFinished, IsGatheredWith}
+use Rattle.tq_lines.specs.Scripts.{IsRead}
+use Rattle.tq_lines.proofs.GatheringLaws.{Gathers, Refuses, all_gathered, first_refused, run}
 
 -- one line more is gathered
 pub goes_on : (number : ℕ) (gathering next : Gathering) (given : ClientLine) (lines : List ClientLine) → gathered_with gathering given ≡ Some next → run number gathering (given ∷ lines) ≡ run (number + 1) next lines

@@ -7,22 +7,13 @@ use Rattle.tq_lines.specs.Text.{last_line, last_part, parts_of, whole_lines}
 use Rattle.tq_lines.specs.ClientLine.{client_line_of}
 use Rattle.tq_lines.specs.declared.client.ClientLine.{ClientLine}
 use Rattle.tq_lines.specs.declared.client.ClientLine.TheVariants as line
-use Rattle.tq_script.specs.declared.script.Line.{Line}
-use Rattle.tq_script.specs.declared.script.Line.TheVariants as says
-use Rattle.tq_scripts.specs.Gathering.{mark_of}
-use Rattle.tq_scripts.specs.declared.fault.ScriptFault.{ScriptFault}
-use Rattle.tq_scripts.specs.declared.fault.ScriptFault.TheVariants.{Memory, Bad}
+use Rattle.tq_lines.specs.declared.script.Line.{Line}
+use Rattle.tq_lines.specs.declared.fault.ScriptFault.{ScriptFault}
+use Rattle.tq_lines.specs.declared.fault.ScriptFault.TheVariants.{Memory, Bad}
 
 -- what a line says to the client whose script it stands in. An empty one says nothing, nor does one that is no line of a client
 abbrev pub said_by : ClientLine → List Line
-said_by (line.Cost server read write) = says.Cost server read write ∷ []
-said_by (line.Mark server up) = mark_of server up ∷ []
-said_by (line.Choose purpose) = says.Choose purpose ∷ []
-said_by line.Begin = says.Begin ∷ []
-said_by (line.Read file) = says.Read file ∷ []
-said_by (line.Write file content) = says.Write file content ∷ []
-said_by line.Commit = says.Commit ∷ []
-said_by line.Abort = says.Abort ∷ []
+said_by (line.Said said) = said ∷ []
 said_by other = []
 
 -- what stands before the first line `client`, and the scripts of the clients

@@ -1,7 +1,7 @@
 use Rattle.std.proofs.Common.{ℕ, List, length, nat_lt, arith, subst}
-use Rattle.tq_scripts.specs.Scripts.{IsRead, lines_within}
-use Rattle.tq_scripts.proofs.ByteLaws.{front_bytes}
-use Rattle.tq_scripts.proofs.reader.read_scripts.Goals as goal
+use Rattle.tq_lines.specs.Scripts.{IsRead, lines_within}
+use Rattle.tq_lines.proofs.ByteLaws.{front_bytes}
+use Rattle.tq_lines.proofs.reader.read_scripts.Goals as goal
 
 pub returns : goal.returns
 returns c =

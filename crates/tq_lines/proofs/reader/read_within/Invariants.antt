@@ -1,10 +1,10 @@
 use Rattle.std.proofs.Common.{◌≡◌, ◌≤◌, drop}
 use Rattle.std.specs.List.{slice_range}
-use Rattle.tq_scripts.specs.Gathering.{nothing_gathered}
-use Rattle.tq_scripts.specs.Scripts.{lines_within}
-use Rattle.tq_scripts.proofs.ByteLaws.{lines_left}
-use Rattle.tq_scripts.proofs.GatheringLaws.{run}
-use Rattle.tq_scripts.proofs.reader.read_within.Given as goal
+use Rattle.tq_lines.specs.Gathering.{nothing_gathered}
+use Rattle.tq_lines.specs.Scripts.{lines_within}
+use Rattle.tq_lines.proofs.ByteLaws.{lines_left}
+use Rattle.tq_lines.proofs.GatheringLaws.{run}
+use Rattle.tq_lines.proofs.reader.read_within.Given as goal
 
 -- the bytes from `start` on belong to the line that goes on: with it and the bytes that are left the lines end as all of them do
 abbrev pub invariant-loop-place : goal.invariant-loop-place

@@ -1,11 +1,11 @@
 ghost use Rattle.std.specs.Prelude.{◌≤◌, length};
-ghost use Rattle.tq_scripts.specs.Scripts.{IsRead, lines_within, said_lines};
+ghost use Rattle.tq_lines.specs.Scripts.{IsRead, lines_within, said_lines};
 
 use crate::fault::ScriptFault;
 use crate::gathered::Gathered;
+use crate::script::Script;
+use crate::word::without_return;
 use std::alloc::Global;
-use tq_lines::without_return;
-use tq_script::Script;
 
 /// The most bytes of a text that is not bad.
 pub const SCRIPT_LIMIT: usize = 16_777_216;
