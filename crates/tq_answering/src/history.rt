@@ -1,6 +1,4 @@
 //! A list that contracts alone see.
-#![tactic(auto)]
-
 ghost use Rattle.std.specs.Prelude.{◌≡◌, List};
 ghost use Rattle.std.specs.Coded.{coded_list};
 ghost use base.Fml.{ftrue};
@@ -9,7 +7,7 @@ use std::marker::{Model, PhantomData};
 
 /// A list that contracts alone see: it has no bytes, and no code can read it. What it says is what the contract of its
 /// owner ties it to, and nothing by itself.
-pub struct History<T> {
+pub(crate) struct History<T> {
     marker: PhantomData<T>,
     pub ghost items: { List T } by { coded_list T.code },
 }
@@ -20,7 +18,7 @@ impl<T> Model for History<T> {
 
 impl<T> History<T> {
     /// The history of a list that the caller's proof picks, by what these facts show. It takes no memory.
-    pub fn of<A>(facts: &A) -> History<T>
+    pub(crate) fn of<A>(facts: &A) -> History<T>
         ghost list: { List T }
         ensures { result.items ≡ list }
     {

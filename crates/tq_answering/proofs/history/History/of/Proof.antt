@@ -18,9 +18,8 @@ use sound.WpLaws.{WpFn-mono}
 use types.Kit.{‵, raw, ◌⊛◌, ◌$◌, ◌∵◌, !, qed, move, keep, split, join, fjoin, use0, suffices, done}
 use types.Run.{no_more, and_then, returns, enter}
 use types.Part.{agg}
-use types.ByLocal.{alloc_all, pass_all, free_all, look_at, get, sets, env}
+use types.ByLocal.{alloc_all, pass_all, free_all, look_at, get, sets}
 use denote.RattleType.{RattleType, owns}
-use denote.Memory.{mem}
 use denote.Exit.{yes}
 use denote.Laws.{Are, Ises, owns_show, showss}
 use denote.Param.{param, layouts}
@@ -34,10 +33,10 @@ use denote.Triple.Entry.{on_entry, alive}
 use denote.Triple.Spec.{Meets, triple_of}
 use denote.Triple.Table.{entered}
 use denote.Triple.Walked.{says, Stays, stay_dropped, walk_of, ends_at, Goes-dropped, walk_Meets}
-use Rattle.tq_history.specs.contracts.History.of.{ended, clauses}
-use Rattle.tq_history.specs.contracts.History.of.Key.{name as #self}
-use Rattle.tq_history.proofs.History.of.Statement as stated
-use Rattle.tq_history.proofs.History.of.Code as code
+use Rattle.tq_answering.specs.contracts.history.History.of.{ended, clauses}
+use Rattle.tq_answering.specs.contracts.history.History.of.Key.{name as #self}
+use Rattle.tq_answering.proofs.history.History.of.Statement as stated
+use Rattle.tq_answering.proofs.history.History.of.Code as code
 
 module _ (T A : RattleType) where
   abbrev R : RattleType
