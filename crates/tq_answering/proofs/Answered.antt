@@ -9,8 +9,12 @@ use Rattle.tq_answering.specs.declared.kept.Kept.{Kept}
 use Rattle.tq_answering.specs.TxnAsked.{TxnAnswer, IsAnswered, answered, answer_end, result_text, is_refused_memory}
 use Rattle.tq_answering.specs.Asking.{Ran, run_line}
 use Rattle.tq_print.specs.Print.{printed}
+use Rattle.tq_answering.specs.Progress.{Progress}
 use Rattle.tq_answering.specs.Recorded.{RecorderView, IsReplayed}
 use Rattle.tq_answering.proofs.Leading.{follows_ran, ran_as, then_ran}
+
+abbrev pub got_to : JournalsView → List ℕ → Progress
+got_to journals text = record { journals = journals; text = text }
 
 -- the end of a line that did not meet want of memory
 pub ended_some : {A S : Type 0} (result : Result A LineFault) (after : S) → is_refused_memory result ≡ false → ended_by result after ≡ Some (record { answer = result; after = after })
@@ -30,7 +34,7 @@ line_ran {A} {S} line f old new result after replayed_old replayed_new levels fo
 pub answered_by : {A S : Type 0} (line : Dialogue (LineEnd A S)) (kept : S → Kept) (servers : S → List ℕ) (text : S → A → List ℕ) (old new : RecorderView) (result : Result A LineFault) (after : S) (before written : List ℕ) (left : Kept)
     → IsReplayed old → IsReplayed new → new.journals.levels ≡ old.journals.levels → Follows line old.told new.told (ended_by result after) → is_refused_memory result ≡ false
     → written ≡ before ++ printed (result_text (servers after) (text after) result) → left ≡ kept after
-    → IsAnswered (answered line kept servers text) old.journals new.journals before written left
+    → IsAnswered (answered line kept servers text) (got_to old.journals before) (got_to new.journals written) left
 answered_by line kept servers text old new result after before written left replayed_old replayed_new levels follows fine wrote is =
     let ran = line_ran line (answer_end kept servers text) old new result after replayed_old replayed_new levels follows fine in
     record {
@@ -43,7 +47,7 @@ answered_by line kept servers text old new result after before written left repl
 pub said_by : {A S : Type 0} (line : Dialogue (LineEnd A S)) (f : LineEnd A S → TxnAnswer) (old new : RecorderView) (result : Result A LineFault) (after : S) (before written : List ℕ) (left : Kept)
     → IsReplayed old → IsReplayed new → new.journals.levels ≡ old.journals.levels → Follows line old.told new.told (ended_by result after) → is_refused_memory result ≡ false
     → written ≡ before ++ printed (f (record { answer = result; after = after })).text → left ≡ (f (record { answer = result; after = after })).kept
-    → IsAnswered (then_line line (λ end. Ends (f end))) old.journals new.journals before written left
+    → IsAnswered (then_line line (λ end. Ends (f end))) (got_to old.journals before) (got_to new.journals written) left
 said_by line f old new result after before written left replayed_old replayed_new levels follows fine wrote is =
     let ran = line_ran line f old new result after replayed_old replayed_new levels follows fine in
     record {
@@ -53,8 +57,8 @@ said_by line f old new result after before written left replayed_old replayed_ne
     }
 
 -- a line that is another in the state of the transaction
-pub answered_as : (line found : Dialogue TxnAnswer) (old new : JournalsView) (before mid after : List ℕ) (left : Kept) → line ≡ found → mid ≡ before → IsAnswered found old new mid after left → IsAnswered line old new before after left
+pub answered_as : (line found : Dialogue TxnAnswer) (old new : JournalsView) (before mid after : List ℕ) (left : Kept) → line ≡ found → mid ≡ before → IsAnswered found (got_to old mid) (got_to new after) left → IsAnswered line (got_to old before) (got_to new after) left
 answered_as line found old new before mid after left lines texts said =
-    let P : Dialogue TxnAnswer → Type 0 = λ d. IsAnswered d old new before after left in
-    let Q : List ℕ → Type 0 = λ t. IsAnswered found old new t after left in
+    let P : Dialogue TxnAnswer → Type 0 = λ d. IsAnswered d (got_to old before) (got_to new after) left in
+    let Q : List ℕ → Type 0 = λ t. IsAnswered found (got_to old t) (got_to new after) left in
     subst P (sym lines) (subst Q texts said)

@@ -14,7 +14,8 @@ use Rattle.tq_part.specs.declared.fault.AskFault.{AskFault}
 use Rattle.tq_part.specs.declared.fault.AskFault.TheVariants as faults
 use Rattle.tq_txn.specs.Dialogue.{Told, Dialogue, Ends, AsksNode, AsksDesk, AsksView, then_line, node_exchange, fault_of_ask}
 use Rattle.tq_refresh.specs.declared.job.Job.{Job}
-use Rattle.tq_answering.specs.Operators.{LeadsOn, Mended, nothing_mended, behind, so_far, answer_in, job_asked, jobs_asked, with_job, job_text, count_text, refresh_asked, refresh_jobs, refreshed_text}
+use Rattle.tq_refresh.specs.Mending.{answer_in, mends_asked}
+use Rattle.tq_answering.specs.Operators.{LeadsOn, Mended, nothing_mended, behind, so_far, jobs_asked, with_job, job_text, count_text, refresh_asked, refresh_jobs, refreshed_text}
 use Rattle.tq_print.specs.Print.{printed}
 use Rattle.tq_print.specs.Refusals.{is_memory}
 use Rattle.tq_answering.specs.Asking.{Ran, run_line, node_told, desk_told, view_told}
@@ -74,12 +75,12 @@ counted_fits false count index fits = omega (arith, fits)
 -- after one job more, the jobs left come to what all come to
 pub jobs_on : (all : Mended) (end : JournalsView) (old after : JournalsView) (mended : Mended) (job : Job) (jobs : List Job) (refreshed : Bool)
     → (run_line old (jobs_asked mended (job ∷ jobs))).end ≡ all → (run_line old (jobs_asked mended (job ∷ jobs))).after ≡ end
-    → refreshed ≡ (run_line old (job_asked job)).end → after ≡ (run_line old (job_asked job)).after
+    → refreshed ≡ (run_line old (mends_asked job)).end → after ≡ (run_line old (mends_asked job)).after
     → ((run_line after (jobs_asked (with_job mended job refreshed) jobs)).end ≡ all) × ((run_line after (jobs_asked (with_job mended job refreshed) jobs)).after ≡ end)
 jobs_on all end old after mended job jobs refreshed ends leads is there =
     let next = λ (done : Bool). jobs_asked (with_job mended job done) jobs in (
-      ap (λ w. (run_line w (next refreshed)).end) there ∙ ap (λ r. (run_line (run_line old (job_asked job)).after (next r)).end) is ∙ sym (then_end (job_asked job) next old) ∙ ends,
-      ap (λ w. (run_line w (next refreshed)).after) there ∙ ap (λ r. (run_line (run_line old (job_asked job)).after (next r)).after) is ∙ sym (then_after (job_asked job) next old) ∙ leads,
+      ap (λ w. (run_line w (next refreshed)).end) there ∙ ap (λ r. (run_line (run_line old (mends_asked job)).after (next r)).end) is ∙ sym (then_end (mends_asked job) next old) ∙ ends,
+      ap (λ w. (run_line w (next refreshed)).after) there ∙ ap (λ r. (run_line (run_line old (mends_asked job)).after (next r)).after) is ∙ sym (then_after (mends_asked job) next old) ∙ leads,
     )
 
 -- jobs that lead on lead on through those that they lead to
@@ -92,7 +93,7 @@ leads_from {old = old} {new = new} {start = start} {done = done} {jobs = jobs} s
 
 -- after one job more, the jobs behind it come to what all come to
 pub one_on : (old : JournalsView) (start : Mended) (jobs : List Job) (now after : JournalsView) (text_now text_after : List ℕ) (count number : ℕ) (job : Job) (left : List Job) (refreshed : Bool)
-    → LeadsOn old start jobs now (so_far text_now count) (job ∷ left) → refreshed ≡ (run_line now (job_asked job)).end → after ≡ (run_line now (job_asked job)).after
+    → LeadsOn old start jobs now (so_far text_now count) (job ∷ left) → refreshed ≡ (run_line now (mends_asked job)).end → after ≡ (run_line now (mends_asked job)).after
     → text_after ≡ text_now ++ printed (job_text job refreshed) → number ≡ from_bool refreshed → LeadsOn old start jobs after (so_far text_after (count + number)) left
 one_on old start jobs now after text_now text_after count number job left refreshed leads is there said counts =
     let before = so_far text_now count in
@@ -122,20 +123,20 @@ line_behind text mended job refreshed = λ k. record { text = append_assoc text 
 pub end_behind : (text : List ℕ) (jobs : List Job) (mended : Mended) (old : JournalsView) → (run_line old (jobs_asked (behind text mended) jobs)).end ≡ behind text (run_line old (jobs_asked mended jobs)).end
 end_behind text [] mended old = refl
 end_behind text (job ∷ jobs) mended old =
-    let done = run_line old (job_asked job) in
-    then_end (job_asked job) (λ r. jobs_asked (with_job (behind text mended) job r) jobs) old
+    let done = run_line old (mends_asked job) in
+    then_end (mends_asked job) (λ r. jobs_asked (with_job (behind text mended) job r) jobs) old
     ∙ ap (λ m. (run_line done.after (jobs_asked m jobs)).end) (line_behind text mended job done.end)
     ∙ end_behind text jobs (with_job mended job done.end) done.after
-    ∙ ap (behind text) (sym (then_end (job_asked job) (λ r. jobs_asked (with_job mended job r) jobs) old))
+    ∙ ap (behind text) (sym (then_end (mends_asked job) (λ r. jobs_asked (with_job mended job r) jobs) old))
 
 pub after_behind : (text : List ℕ) (jobs : List Job) (mended : Mended) (old : JournalsView) → (run_line old (jobs_asked (behind text mended) jobs)).after ≡ (run_line old (jobs_asked mended jobs)).after
 after_behind text [] mended old = refl
 after_behind text (job ∷ jobs) mended old =
-    let done = run_line old (job_asked job) in
-    then_after (job_asked job) (λ r. jobs_asked (with_job (behind text mended) job r) jobs) old
+    let done = run_line old (mends_asked job) in
+    then_after (mends_asked job) (λ r. jobs_asked (with_job (behind text mended) job r) jobs) old
     ∙ ap (λ m. (run_line done.after (jobs_asked m jobs)).after) (line_behind text mended job done.end)
     ∙ after_behind text jobs (with_job mended job done.end) done.after
-    ∙ sym (then_after (job_asked job) (λ r. jobs_asked (with_job mended job r) jobs) old)
+    ∙ sym (then_after (mends_asked job) (λ r. jobs_asked (with_job mended job r) jobs) old)
 
 -- ---- the whole line
 

@@ -1,7 +1,6 @@
 -- A line of the shell says an answer, or a fault that can come.
 use Rattle.std.proofs.Common.{◌≡◌, ◌∙◌, ℕ, Bool, true, false, cond, List, [], ◌++◌, Option, Some, None, Result, Ok, Err, refl, ap, subst, codes}
 use Rattle.std.specs.Fmt.{decimal}
-use Rattle.std.specs.List.{All}
 use Rattle.std.specs.Prelude.{◌-◌, nat_lt, slice_get}
 use Rattle.std.proofs.lemmas.List.{append-nil}
 use Rattle.std.proofs.lemmas.List.Elements.{All-get_or}
@@ -27,16 +26,17 @@ use Rattle.tq_lines.specs.declared.line.Line.{Line}
 use Rattle.tq_lines.specs.declared.line.Line.TheVariants as of
 use Rattle.tq_lines.specs.declared.line.TxnLine.{TxnLine}
 use Rattle.tq_answering.specs.Asking.{run_line}
+use Rattle.tq_script.specs.Script.{mark_ask}
 use Rattle.tq_print.specs.Print.{printed, choice_text}
 use Rattle.tq_answering.specs.declared.kept.Kept.{Kept}
-use Rattle.tq_answering.specs.Known.{Known, with_kept}
+use Rattle.tq_answering.specs.Known.{AreOfTree, Known, with_kept}
 use Rattle.tq_answering.specs.PossibleTxn.{Fails, IsFit}
 use Rattle.tq_answering.specs.TxnAsked.{result_text, line_asked}
 use Rattle.tq_answering.proofs.Replies.{IsDeskReply, IsViewReply}
 use Rattle.tq_answering.proofs.EndsIn.{EndsIn, Answers, IsWell, Any, ends_so, ends_then, desk_ends, view_ends, any_ends}
 use Rattle.tq_answering.proofs.Fits.{fit, fits_text}
 use Rattle.tq_answering.proofs.Says.{Says, line_says}
-use Rattle.tq_answering.specs.Asked.{LineAnswer, said, of_txn, ok_text, chosen_text, marked_text, cost_asked, mark_ask, mark_asked, choose_asked, begun, begin_end, begin_asked}
+use Rattle.tq_answering.specs.Asked.{LineAnswer, said, of_txn, ok_text, chosen_text, marked_text, cost_asked, mark_asked, choose_asked, begun, begin_end, begin_asked}
 use Rattle.tq_answering.specs.Answer.{World, answer}
 use Rattle.tq_answering.specs.Possible.{Saying, BadLine, BadCost, OffTree, NotBegun, CostSet, Marked, Chosen, Begun, OfTxn, saying_text, CanCome, IsSaid, IsSaidOf}
 
@@ -107,10 +107,6 @@ txn_says levels tree line number known (Some kept) same =
     (line_says levels tree line number kept (same kept refl)) (λ end says. (OfTxn says.0, says.1, ap printed says.2))
 
 -- ---- all lines
-
--- every transaction that is known is of the tree
-abbrev pub AreOfTree : ℕ → List Kept → Type 0
-AreOfTree levels txns = All (λ kept. levels_of kept.txn ≡ levels) txns
 
 fits : (saying : Saying) → CanCome saying → IsFit (saying_text saying)
 fits BadLine can = fit (saying_text BadLine) refl refl refl

@@ -155,7 +155,7 @@ line_says levels tree (of.ApplyCrash server after) number kept same = server_say
 
 -- what was printed of a line of a transaction of the world's tree
 pub said_by_line : (levels : ℕ) (line : TxnLine) (number : ℕ) (kept : Kept) (old new : JournalsView) (before after : List ℕ) (left : Kept)
-    → levels_of kept.txn ≡ old.levels → IsAnswered (line_asked levels line number kept) old new before after left → IsSaid before after
+    → levels_of kept.txn ≡ old.levels → IsAnswered (line_asked levels line number kept) (record { journals = old; text = before }) (record { journals = new; text = after }) left → IsSaid before after
 said_by_line levels line number kept old new before after left same is =
     let says = ends_so Says (line_asked levels line number kept) old (line_says old.levels levels line number kept same) in
     record {

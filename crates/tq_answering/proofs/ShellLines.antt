@@ -24,7 +24,7 @@ use Rattle.tq_print.specs.Print.{printed}
 use Rattle.tq_answering.specs.Recorded.{RecorderView, IsReplayed, Replays, full_limits}
 use Rattle.tq_answering.specs.Asked.{LineAnswer, begin_end, of_txn}
 use Rattle.tq_answering.proofs.Leading.{item_of, ran_as, replays_more, then_ran}
-use Rattle.tq_answering.proofs.Answered.{line_ran}
+use Rattle.tq_answering.proofs.Answered.{got_to, line_ran}
 use Rattle.tq_answering.specs.Operators.{refresh_asked}
 use Rattle.tq_answering.specs.Asked.{refresh_line, shown}
 use Rattle.tq_answering.specs.Known.{Known}
@@ -40,7 +40,7 @@ answered_by line f old new result after replayed_old replayed_new levels follows
 
 -- a line of a transaction that is kept, answered so
 pub txn_answered : (w : World) (number place : ℕ) (line : TxnLine) (kept new : Kept) (after : JournalsView) (before text : List ℕ) → number ≡ place + 1 → place < length w.known.txns → kept ≡ get_or w.known.txns place kept
-    → IsAnswered (line_asked w.known.levels line number kept) w.journals after before text new
+    → IsAnswered (line_asked w.known.levels line number kept) (got_to w.journals before) (got_to after text) new
     → (text ≡ before ++ (answer w (shell_lines.Txn number line)).text)
     × (record { journals = after; known = record { levels = w.known.levels; limits = w.known.limits; txns = slice_set w.known.txns place new } } ≡ (answer w (shell_lines.Txn number line)).after)
 txn_answered w number place line kept new after before text is less here said =

@@ -3,6 +3,7 @@ use Rattle.std.specs.Prelude.{◌≡◌, ◌⊎◌, ℕ, List}
 use Rattle.tq_tables.specs.Journals.{JournalsView}
 use Rattle.tq_world.specs.World.{empty_world}
 use Rattle.tq_txn.specs.declared.asker.Exchange.{Exchange}
+use Rattle.tq_txn.specs.Dialogue.{Dialogue}
 use Rattle.tq_answering.specs.Asking.{Ran, run_line}
 use Rattle.tq_answering.specs.Asked.{LineAnswer, asked}
 use Rattle.tq_answering.specs.Recorded.{full_limits}
@@ -27,9 +28,13 @@ pub record Answer : Type 0 where
 abbrev pub answered : Ran LineAnswer → Answer
 answered ran = record { text = ran.end.text; exchanges = ran.exchanges; after = record { journals = ran.after; known = ran.end.known } }
 
+-- what a line that asks so gives, by what is known
+abbrev pub given_by : World → (Known → Dialogue LineAnswer) → Answer
+given_by world line = answered (run_line world.journals (line world.known))
+
 -- the asks of the line, by the journals before it and by what is known, answered by the service
 abbrev pub answer : World → Line → Answer
-answer world line = answered (run_line world.journals (asked world.journals world.known line))
+answer world line = given_by world (λ known. asked world.journals known line)
 
 -- the world stands before the line, or behind it: what was told of its asks stands in it
 abbrev pub IsWhole : World → Line → World → Type 0

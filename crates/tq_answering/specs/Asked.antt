@@ -2,8 +2,6 @@
 -- that is printed, and what is known of the transactions afterwards. All from what was known before.
 use Rattle.std.specs.Prelude.{ℕ, Bool, cond, List, [], ◌++◌, Option, Some, None, Result, Ok, Err, codes}
 use Rattle.std.specs.Fmt.{decimal}
-use Rattle.tq_asks.specs.declared.ask.NodeAsk.{NodeAsk}
-use Rattle.tq_asks.specs.declared.ask.NodeAsk.TheVariants.{Crash, Return}
 use Rattle.tq_desk.specs.declared.ask.DeskAsk.TheVariants as desk_asks
 use Rattle.tq_desk.specs.declared.ask.DeskReply.{DeskReply}
 use Rattle.tq_desk.specs.declared.ask.DeskReply.TheVariants as desk_replies
@@ -17,7 +15,7 @@ use Rattle.tq_txn.specs.declared.asker.ViewTold.{ViewTold}
 use Rattle.tq_states.specs.declared.told.DeskTold.{DeskTold}
 use Rattle.tq_txn.specs.Dialogue as asks
 use Rattle.tq_txn.specs.Dialogue.{LineEnd, Ends, then_line, desk_line, view_line}
-use Rattle.tq_txn.specs.Lines as lines
+use Rattle.tq_script.specs.Script.{mark_line}
 use Rattle.tq_answering.specs.declared.kept.Kept.{Kept}
 use Rattle.tq_lines.specs.declared.line.Line.{Line}
 use Rattle.tq_lines.specs.declared.line.Line.TheVariants as is
@@ -64,15 +62,9 @@ abbrev pub cost_asked : Known → ℕ → ℕ → ℕ → asks.Dialogue LineAnsw
 cost_asked known server read write =
     then_line (view_line (view_asks.SetCost server read write)) (λ end. Ends (record { text = printed (result_text [] ok_text end.answer); known = known }))
 
-abbrev pub mark_ask : Bool → NodeAsk
-mark_ask up = cond up Return Crash
-
--- whatever the server answers, the view is asked
 abbrev pub mark_asked : Known → ℕ → Bool → asks.Dialogue LineAnswer
 mark_asked known server up =
-    then_line (lines.any_line server (mark_ask up)) (λ any.
-    then_line (view_line (view_asks.Mark server up)) (λ end.
-    Ends (record { text = printed (result_text [] (marked_text server up) end.answer); known = known })))
+    then_line (mark_line server up) (λ end. Ends (record { text = printed (result_text [] (marked_text server up) end.answer); known = known }))
 
 abbrev pub choose_asked : Known → Purpose → asks.Dialogue LineAnswer
 choose_asked known purpose =

@@ -1,9 +1,12 @@
 -- What the shell knows of transactions.
-use Rattle.std.specs.Prelude.{ℕ, ◌-◌, List, [], ◌∷◌, ◌++◌, Option, Some, None, slice_set}
+use Rattle.std.specs.Prelude.{◌≡◌, ℕ, ◌-◌, List, [], ◌∷◌, ◌++◌, Option, Some, None, slice_set}
+use Rattle.std.specs.Global.{Vec}
+use Rattle.std.specs.List.{All}
 use Rattle.tq_shape.specs.Limits.{LimitsView}
 use Rattle.tq_asks.specs.declared.ask.Verdict.{Verdict}
 use Rattle.tq_txn.specs.declared.txn.Txn.{Txn}
 use Rattle.tq_txn.specs.declared.txn.Txn.TheVariants as states
+use Rattle.tq_txn.specs.States.{levels_of}
 use Rattle.tq_states.specs.Open as first
 use Rattle.tq_answering.specs.declared.kept.Kept.{Kept}
 use Rattle.tq_answering.specs.declared.kept.Ending.{Ending}
@@ -17,6 +20,14 @@ pub record Known : Type 0 where
 -- nothing was begun
 abbrev pub nothing_known : ℕ → LimitsView → Known
 nothing_known levels limits = record { levels = levels; limits = limits; txns = [] }
+
+-- the same, the transactions as a program keeps them
+abbrev pub known_of : ℕ → LimitsView → Vec Kept → Known
+known_of levels limits txns = record { levels = levels; limits = limits; txns = txns.items }
+
+-- every transaction is of a tree of that many levels
+abbrev pub AreOfTree : ℕ → List Kept → Type 0
+AreOfTree levels txns = All (λ kept. levels_of kept.txn ≡ levels) txns
 
 -- a transaction that did nothing yet, and of which no verdict was told
 abbrev pub fresh : ℕ → LimitsView → ℕ → Kept

@@ -1,5 +1,6 @@
 pub mod Asking
 pub mod Recorded
+pub mod Progress
 pub mod Known
 pub mod TxnAsked
 pub mod States

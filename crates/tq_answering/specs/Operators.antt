@@ -1,47 +1,25 @@
 -- The lines of operators: the refresh of stale copies, and the board.
-use Rattle.std.specs.Prelude.{◌≡◌, ℕ, ◌+◌, Bool, true, false, cond, List, [], ◌∷◌, ◌++◌, length, Option, Some, None, Ok, Err, codes}
+use Rattle.std.specs.Prelude.{◌≡◌, ◌≤◌, ℕ, ◌+◌, Bool, true, false, cond, List, [], ◌∷◌, ◌++◌, length, codes}
 use Rattle.std.specs.Fmt.{decimal}
-use Rattle.std.specs.Option.{option_and_then, option_map_or}
-use Rattle.tq_asks.specs.declared.ask.NodeAsk.{NodeAsk}
-use Rattle.tq_asks.specs.declared.ask.NodeReply.{NodeReply}
-use Rattle.tq_asks.specs.declared.ask.NodeReply.TheVariants.{Refreshed}
+use Rattle.std.specs.Global.{Vec}
 use Rattle.tq_tables.specs.Journals.{JournalsView}
 use Rattle.tq_tables.specs.Parts.{view_at}
 use Rattle.tq_tables.specs.Tables.{tables_of}
-use Rattle.tq_refresh.specs.Plan.{peek_of, plan_of, refresh_of}
+use Rattle.tq_refresh.specs.Mending.{mends_asked}
+use Rattle.tq_refresh.specs.Plan.{jobs_of_plan, plan_of}
+use Rattle.tq_refresh.specs.declared.file_jobs.PlanByFile.{PlanByFile}
 use Rattle.tq_refresh.specs.declared.job.Job.{Job}
 use Rattle.tq_rendered.specs.Board.{board_text}
 use Rattle.tq_txn.specs.Dialogue as asks
-use Rattle.tq_txn.specs.Dialogue.{Told, Ends, AsksNode, then_line}
+use Rattle.tq_txn.specs.Dialogue.{Ends, then_line}
 use Rattle.tq_print.specs.Print.{printed}
-use Rattle.tq_answering.specs.Asking.{run_line}
+use Rattle.tq_answering.specs.Asking.{Ran, run_line}
+use Rattle.tq_answering.specs.Recorded.{RecorderView}
+use Rattle.tq_answering.specs.declared.operators.Counts.{Counts}
 
--- ---- one job of a refresh
-
--- the reply to an ask, with the number of its entry; none where the ask was not taken
-abbrev pub answer_in : Told NodeReply → Option (ℕ × NodeReply)
-answer_in (Ok told) = Some (told.number, told.reply)
-answer_in (Err fault) = None
-
-abbrev pub is_refreshed : NodeReply → Bool
-is_refreshed Refreshed = true
-is_refreshed reply = false
-
--- the copy was taken
-abbrev pub took : Option (ℕ × NodeReply) → Bool
-took answer = option_map_or (λ a. is_refreshed a.1) answer false
-
--- what the server to be mended is asked once its source has answered
-abbrev pub mend_ask : Job → Option (ℕ × NodeReply) → Option NodeAsk
-mend_ask job answer = option_and_then (λ a. refresh_of job a.0 a.1) answer
-
-abbrev pub mend_asked : Job → Option NodeAsk → asks.Dialogue Bool
-mend_asked job None = Ends false
-mend_asked job (Some ask) = AsksNode job.server.number ask (λ told. Ends (took (answer_in told)))
-
--- the source is asked for its copy, and where it tells one the server is asked to take it
-abbrev pub job_asked : Job → asks.Dialogue Bool
-job_asked job = AsksNode job.source.number (peek_of job.file) (λ told. mend_asked job (mend_ask job (answer_in told)))
+-- no more copies were mended than there were jobs, and no more jobs than bytes that are written
+abbrev pub IsCounted : Counts → Vec ℕ → Type 0
+IsCounted counts text = (counts.mended ≤ counts.jobs) × (counts.jobs ≤ length text.items)
 
 -- the servers of the job are of a tree of those levels
 abbrev pub IsOfTree : ℕ → Job → Type 0
@@ -77,7 +55,7 @@ with_job mended job refreshed = record { text = mended.text ++ printed (job_text
 
 abbrev pub jobs_asked : Mended → List Job → asks.Dialogue Mended
 jobs_asked mended [] = Ends mended
-jobs_asked mended (job ∷ jobs) = then_line (job_asked job) (λ refreshed. jobs_asked (with_job mended job refreshed) jobs)
+jobs_asked mended (job ∷ jobs) = then_line (mends_asked job) (λ refreshed. jobs_asked (with_job mended job refreshed) jobs)
 
 -- what jobs came to so far, as text and count stand
 abbrev pub so_far : List ℕ → ℕ → Mended
@@ -87,6 +65,10 @@ so_far text count = record { text = text; count = count }
 pub record LeadsOn (old : JournalsView) (start : Mended) (jobs : List Job) (new : JournalsView) (mended : Mended) (left : List Job) : Type 0 where
   pub end : (run_line new (jobs_asked mended left)).end ≡ (run_line old (jobs_asked start jobs)).end
   pub after : (run_line new (jobs_asked mended left)).after ≡ (run_line old (jobs_asked start jobs)).after
+
+-- what the jobs of the plan come to behind a text
+abbrev pub plan_run : RecorderView → Vec ℕ → PlanByFile → Ran Mended
+plan_run recorder text plan = run_line recorder.journals (jobs_asked (behind text.items nothing_mended) (jobs_of_plan plan))
 
 -- how many of the jobs mended a copy
 abbrev pub count_text : ℕ → ℕ → List ℕ
@@ -103,6 +85,10 @@ refresh_jobs journals = plan_of (tables_of journals) (view_at journals.levels jo
 abbrev pub refresh_asked : JournalsView → asks.Dialogue (List ℕ)
 refresh_asked journals =
     then_line (jobs_asked nothing_mended (refresh_jobs journals)) (λ mended. Ends (refreshed_text (length (refresh_jobs journals)) mended))
+
+-- what the line comes to
+abbrev pub refresh_run : JournalsView → Ran (List ℕ)
+refresh_run journals = run_line journals (refresh_asked journals)
 
 -- ---- the board
 

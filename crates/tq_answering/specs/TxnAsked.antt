@@ -7,7 +7,6 @@ use Rattle.tq_desk.specs.declared.ask.DeskReply.{DeskReply}
 use Rattle.tq_desk.specs.declared.ask.DeskReply.TheVariants as desk_replies
 use Rattle.tq_live.specs.View.{is_server}
 use Rattle.tq_asks.specs.declared.ask.WorkAsk.TheVariants.{Decide}
-use Rattle.tq_tables.specs.Journals.{JournalsView}
 use Rattle.tq_txn.specs.declared.fault.LineFault.{LineFault}
 use Rattle.tq_txn.specs.declared.reading.Reading.{Reading}
 use Rattle.tq_txn.specs.declared.applying.Applied.{Applied}
@@ -36,6 +35,7 @@ use Rattle.tq_answering.specs.declared.errands.Duty.TheVariants as duties
 use Rattle.tq_lines.specs.declared.line.TxnLine.{TxnLine}
 use Rattle.tq_lines.specs.declared.line.TxnLine.TheVariants as of
 use Rattle.tq_answering.specs.Asking.{run_line}
+use Rattle.tq_answering.specs.Progress.{Progress}
 use Rattle.tq_answering.specs.Known.{in_state, with_told, ending_in}
 use Rattle.tq_print.specs.Print.{printed, reading_text, writing_text, applied_text, verdict_text}
 use Rattle.tq_print.specs.Refusals.{fault_text, is_memory, txn_fault_text, decided_text, desk_refusal_text}
@@ -130,8 +130,11 @@ abbrev pub down_text : ℕ → List ℕ
 down_text server = codes "down " ++ decimal server
 
 -- the vote that is there, or that the server is down
+abbrev pub stop_text : ℕ → Bool → List ℕ
+stop_text server there = cond there (codes "yes " ++ decimal server) (down_text server)
+
 abbrev pub stopped_text : ℕ → VotingView → Bool → List ℕ
-stopped_text server new there = cond there (codes "yes " ++ decimal server) (down_text server)
+stopped_text server new there = stop_text server there
 
 -- the server votes; or it stops in its vote, behind so many of its records
 abbrev pub prepare_voting : Option ℕ → ℕ → Kept → VotingView → asks.Dialogue TxnAnswer
@@ -230,7 +233,7 @@ line_asked levels (of.PrepareCrash server after) = server_asked levels server (p
 line_asked levels (of.ApplyCrash server after) = server_asked levels server (apply_asked (Some after))
 
 -- a line of a transaction that was printed so: the text that it adds, the journals and what is kept of the transaction
-pub record IsAnswered (line : asks.Dialogue TxnAnswer) (old new : JournalsView) (before after : List ℕ) (left : Kept) : Type 0 where
-  pub text : after ≡ before ++ printed (run_line old line).end.text
-  pub journals : new ≡ (run_line old line).after
-  pub kept : left ≡ (run_line old line).end.kept
+pub record IsAnswered (line : asks.Dialogue TxnAnswer) (old new : Progress) (left : Kept) : Type 0 where
+  pub text : new.text ≡ old.text ++ printed (run_line old.journals line).end.text
+  pub journals : new.journals ≡ (run_line old.journals line).after
+  pub kept : left ≡ (run_line old.journals line).end.kept

@@ -4,6 +4,7 @@ ghost use Rattle.tq_txn.specs.States.{levels_of};
 ghost use Rattle.tq_answering.specs.PossibleTxn.{IsSaid};
 ghost use Rattle.tq_answering.specs.TxnAsked as spec;
 ghost use Rattle.tq_print.specs.Print.{Extends};
+ghost use Rattle.tq_answering.specs.Progress.{progress_of};
 
 use crate::decisions::{Course, decide_txn};
 use crate::endings::{abort_txn, resolve};
@@ -28,7 +29,8 @@ pub(crate) fn answer_txn(
 ) -> Result<(), Memory>
     requires txn { levels_of kept.old.txn ≡ recorder.old.journals.levels }
     requires levels { levels ≡ recorder.old.journals.levels }
-    ensures answered { OnOk result (spec.IsAnswered (spec.line_asked levels line number kept.old) recorder.old.journals recorder.new.journals text.old.items text.new.items kept.new) }
+    ensures answered { OnOk result (spec.IsAnswered (spec.line_asked levels line number kept.old)
+        (progress_of recorder.old text.old) (progress_of recorder.new text.new) kept.new) }
     ensures levels { levels_of kept.new.txn ≡ levels_of kept.old.txn }
     ensures tree { recorder.new.journals.levels ≡ recorder.old.journals.levels }
     ensures possible { OnOk result (IsSaid text.old.items text.new.items) }
@@ -49,7 +51,8 @@ fn answer_line(
 ) -> Result<(), Memory>
     requires txn { levels_of kept.old.txn ≡ recorder.old.journals.levels }
     requires levels { levels ≡ recorder.old.journals.levels }
-    ensures answered { OnOk result (spec.IsAnswered (spec.line_asked levels line number kept.old) recorder.old.journals recorder.new.journals text.old.items text.new.items kept.new) }
+    ensures answered { OnOk result (spec.IsAnswered (spec.line_asked levels line number kept.old)
+        (progress_of recorder.old text.old) (progress_of recorder.new text.new) kept.new) }
     ensures levels { levels_of kept.new.txn ≡ levels_of kept.old.txn }
     ensures tree { recorder.new.journals.levels ≡ recorder.old.journals.levels }
     ensures kept { OnErr result (Extends text.old.items text.new.items) }

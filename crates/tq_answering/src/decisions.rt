@@ -5,6 +5,7 @@ ghost use Rattle.tq_txn.specs.Dialogue.{Follows, ended_by};
 ghost use Rattle.tq_txn.specs.States.{levels_of};
 ghost use Rattle.tq_answering.specs.TxnAsked as spec;
 ghost use Rattle.tq_print.specs.Print.{Extends, printed};
+ghost use Rattle.tq_answering.specs.Progress.{Prints, progress_of};
 
 use crate::kept::Kept;
 use crate::recorder::Recorder;
@@ -33,7 +34,9 @@ pub(crate) fn decide_txn(
     text: &mut Vec<u8>,
 ) -> Result<(), Memory>
     requires { levels_of kept.old.txn ≡ recorder.old.journals.levels }
-    ensures answered { OnOk result (spec.IsAnswered (spec.decision_asked (spec.course_line course) 0 kept.old) recorder.old.journals recorder.new.journals text.old.items text.new.items kept.new) }
+    ensures answered { OnOk result (spec.IsAnswered
+        (spec.decision_asked (spec.course_line course) 0 kept.old)
+        (progress_of recorder.old text.old) (progress_of recorder.new text.new) kept.new) }
     ensures levels { levels_of kept.new.txn ≡ levels_of kept.old.txn }
     ensures tree { recorder.new.journals.levels ≡ recorder.old.journals.levels }
     ensures kept { OnErr result (Extends text.old.items text.new.items) }
@@ -57,7 +60,8 @@ pub(crate) fn decide_txn(
 
 fn decision(recorder: &mut Recorder, alloc: Global, voting: Voting, course: Course) -> Decision
     requires { voting.txn.levels ≡ recorder.old.journals.levels }
-    ensures asks { Follows (spec.course_line course voting) recorder.old.told recorder.new.told (ended_by result.answer result.txn) }
+    ensures asks { Follows (spec.course_line course voting) recorder.old.told recorder.new.told
+        (ended_by result.answer result.txn) }
     ensures levels { levels_of result.txn ≡ voting.txn.levels }
     ensures tree { recorder.new.journals.levels ≡ recorder.old.journals.levels }
 {
@@ -79,7 +83,8 @@ fn missing_in(alloc: Global, txn: &Txn) -> Result<Vec<u64>, Memory>
 
 /// Those of the servers whose votes are not there.
 fn missing_of(alloc: Global, voting: &Voting, voters: &[ServerId]) -> Result<Vec<u64>, Memory>
-    ensures { IfOk result (λ servers. servers.items ≡ spec.missing_of voting.now (numbers_of voters.now)) }
+    ensures { IfOk result (λ servers.
+        servers.items ≡ spec.missing_of voting.now (numbers_of voters.now)) }
 {
     let mut servers = Vec::new(alloc);
     for voter in voters {
@@ -97,7 +102,7 @@ fn say_committed(
     answer: Result<u64, LineFault>,
     txn: &Txn,
 ) -> Result<(), Memory>
-    ensures text { OnOk result (text.new.items ≡ text.old.items ++ printed (spec.committed_text txn.now answer)) }
+    ensures text { OnOk result (Prints text.old text.new (spec.committed_text txn.now answer)) }
     ensures memory { OnOk result (spec.is_refused_memory answer ≡ false) }
     ensures kept { OnErr result (Extends text.old.items text.new.items) }
 {

@@ -3,6 +3,7 @@ ghost use Rattle.std.specs.Prelude.{◌≡◌, ◌++◌, [], false, codes, IfOk,
 ghost use Rattle.tq_txn.specs.States.{levels_of};
 ghost use Rattle.tq_answering.specs.TxnAsked as spec;
 ghost use Rattle.tq_print.specs.Print.{Extends, printed};
+ghost use Rattle.tq_answering.specs.Progress.{Prints, progress_of};
 
 use crate::kept::{Ending, Kept};
 use crate::recorder::Recorder;
@@ -22,7 +23,8 @@ pub(crate) fn abort_txn(
     text: &mut Vec<u8>,
 ) -> Result<(), Memory>
     requires { levels_of kept.old.txn ≡ recorder.old.journals.levels }
-    ensures answered { OnOk result (spec.IsAnswered (spec.abort_asked 0 kept.old) recorder.old.journals recorder.new.journals text.old.items text.new.items kept.new) }
+    ensures answered { OnOk result (spec.IsAnswered (spec.abort_asked 0 kept.old)
+        (progress_of recorder.old text.old) (progress_of recorder.new text.new) kept.new) }
     ensures levels { levels_of kept.new.txn ≡ levels_of kept.old.txn }
     ensures tree { recorder.new.journals.levels ≡ recorder.old.journals.levels }
     ensures kept { OnErr result (Extends text.old.items text.new.items) }
@@ -39,7 +41,8 @@ pub(crate) fn abort_txn(
 
 /// Puts that a transaction aborted behind the text, as a line, or why it did not.
 fn say_aborted(text: &mut Vec<u8>, answer: Result<(), LineFault>) -> Result<(), Memory>
-    ensures text { OnOk result (text.new.items ≡ text.old.items ++ printed (spec.result_text [] (λ all. codes "aborted") answer)) }
+    ensures text { OnOk result
+        (Prints text.old text.new (spec.result_text [] (λ all. codes "aborted") answer)) }
     ensures memory { OnOk result (spec.is_refused_memory answer ≡ false) }
     ensures kept { OnErr result (Extends text.old.items text.new.items) }
 {
@@ -58,7 +61,8 @@ pub(crate) fn resolve(
     kept: &mut Kept,
     text: &mut Vec<u8>,
 ) -> Result<(), Memory>
-    ensures answered { OnOk result (spec.IsAnswered (spec.resolve_asked number kept.old) recorder.old.journals recorder.new.journals text.old.items text.new.items kept.new) }
+    ensures answered { OnOk result (spec.IsAnswered (spec.resolve_asked number kept.old)
+        (progress_of recorder.old text.old) (progress_of recorder.new text.new) kept.new) }
     ensures levels { levels_of kept.new.txn ≡ levels_of kept.old.txn }
     ensures tree { recorder.new.journals.levels ≡ recorder.old.journals.levels }
     ensures kept { OnErr result (Extends text.old.items text.new.items) }
@@ -81,7 +85,7 @@ pub(crate) fn resolve(
 
 /// Puts how the desk says that a transaction ended behind the text, as a line.
 fn say_resolved(text: &mut Vec<u8>, reply: &DeskReply) -> Result<(), Memory>
-    ensures text { OnOk result (text.new.items ≡ text.old.items ++ printed (spec.resolved_text reply.now)) }
+    ensures text { OnOk result (Prints text.old text.new (spec.resolved_text reply.now)) }
     ensures kept { OnErr result (Extends text.old.items text.new.items) }
 {
     match reply {

@@ -5,6 +5,7 @@ ghost use Rattle.tq_txn.specs.States.{levels_of};
 ghost use Rattle.tq_answering.specs.TxnAsked as spec;
 ghost use Rattle.tq_answering.specs.Known.{in_state};
 ghost use Rattle.tq_print.specs.Print.{Extends, printed, applied_text};
+ghost use Rattle.tq_answering.specs.Progress.{Prints, progress_of};
 
 use crate::kept::{Ending, Kept};
 use crate::recorder::Recorder;
@@ -72,7 +73,9 @@ pub(crate) fn run_errand(
 ) -> Result<(), Memory>
     requires txn { levels_of kept.old.txn ≡ recorder.old.journals.levels }
     requires levels { levels ≡ recorder.old.journals.levels }
-    ensures answered { OnOk result (spec.IsAnswered (spec.errand_asked levels errand number kept.old) recorder.old.journals recorder.new.journals text.old.items text.new.items kept.new) }
+    ensures answered { OnOk result (spec.IsAnswered
+        (spec.errand_asked levels errand number kept.old)
+        (progress_of recorder.old text.old) (progress_of recorder.new text.new) kept.new) }
     ensures levels { levels_of kept.new.txn ≡ levels_of kept.old.txn }
     ensures tree { recorder.new.journals.levels ≡ recorder.old.journals.levels }
     ensures kept { OnErr result (Extends text.old.items text.new.items) }
@@ -98,7 +101,9 @@ fn prepare(
 ) -> Result<(), Memory>
     requires txn { levels_of kept.old.txn ≡ recorder.old.journals.levels }
     requires server { server.levels ≡ recorder.old.journals.levels }
-    ensures answered { OnOk result (spec.IsAnswered (spec.prepare_asked stop server.number 0 kept.old) recorder.old.journals recorder.new.journals text.old.items text.new.items kept.new) }
+    ensures answered { OnOk result (spec.IsAnswered
+        (spec.prepare_asked stop server.number 0 kept.old)
+        (progress_of recorder.old text.old) (progress_of recorder.new text.new) kept.new) }
     ensures levels { levels_of kept.new.txn ≡ levels_of kept.old.txn }
     ensures tree { recorder.new.journals.levels ≡ recorder.old.journals.levels }
     ensures kept { OnErr result (Extends text.old.items text.new.items) }
@@ -122,7 +127,10 @@ fn vote(
     text: &mut Vec<u8>,
 ) -> Result<Txn, Memory>
     requires { server.levels ≡ recorder.old.journals.levels }
-    ensures answered { IfOk result (λ txn. (kept : Kept) → spec.IsAnswered (spec.prepare_voting stop server.number kept voting) recorder.old.journals recorder.new.journals text.old.items text.new.items (in_state kept txn)) }
+    ensures answered { IfOk result (λ txn. (kept : Kept) →
+        spec.IsAnswered (spec.prepare_voting stop server.number kept voting)
+        (progress_of recorder.old text.old) (progress_of recorder.new text.new)
+        (in_state kept txn)) }
     ensures levels { IfOk result (λ txn. levels_of txn ≡ voting.txn.levels) }
     ensures tree { recorder.new.journals.levels ≡ recorder.old.journals.levels }
     ensures kept { OnErr result (Extends text.old.items text.new.items) }
@@ -152,7 +160,8 @@ fn say_stopped(
     server: u64,
     answer: Result<bool, LineFault>,
 ) -> Result<(), Memory>
-    ensures text { OnOk result (text.new.items ≡ text.old.items ++ printed (spec.result_text (server ∷ []) (λ there. cond there (codes "yes " ++ decimal server) (spec.down_text server)) answer)) }
+    ensures text { OnOk result (Prints text.old text.new
+        (spec.result_text (server ∷ []) (spec.stop_text server) answer)) }
     ensures memory { OnOk result (spec.is_refused_memory answer ≡ false) }
     ensures kept { OnErr result (Extends text.old.items text.new.items) }
 {
@@ -175,7 +184,9 @@ fn apply(
     text: &mut Vec<u8>,
 ) -> Result<(), Memory>
     requires { server.levels ≡ recorder.old.journals.levels }
-    ensures answered { OnOk result (spec.IsAnswered (spec.apply_asked stop server.number number kept.now) recorder.old.journals recorder.new.journals text.old.items text.new.items kept.now) }
+    ensures answered { OnOk result (spec.IsAnswered
+        (spec.apply_asked stop server.number number kept.now)
+        (progress_of recorder.old text.old) (progress_of recorder.new text.new) kept.now) }
     ensures tree { recorder.new.journals.levels ≡ recorder.old.journals.levels }
     ensures kept { OnErr result (Extends text.old.items text.new.items) }
 {
@@ -196,7 +207,9 @@ fn tell(
     text: &mut Vec<u8>,
 ) -> Result<(), Memory>
     requires { server.levels ≡ recorder.old.journals.levels }
-    ensures answered { OnOk result ((kept : Kept) → spec.IsAnswered (spec.apply_ending stop server.number number kept ending) recorder.old.journals recorder.new.journals text.old.items text.new.items kept) }
+    ensures answered { OnOk result ((kept : Kept) →
+        spec.IsAnswered (spec.apply_ending stop server.number number kept ending)
+        (progress_of recorder.old text.old) (progress_of recorder.new text.new) kept) }
     ensures tree { recorder.new.journals.levels ≡ recorder.old.journals.levels }
     ensures kept { OnErr result (Extends text.old.items text.new.items) }
 {
@@ -226,7 +239,8 @@ fn say_told(
     server: u64,
     answer: Result<Applied, LineFault>,
 ) -> Result<(), Memory>
-    ensures text { OnOk result (text.new.items ≡ text.old.items ++ printed (spec.result_text [] (λ applied. applied_text server applied) answer)) }
+    ensures text { OnOk result (Prints text.old text.new
+        (spec.result_text [] (λ applied. applied_text server applied) answer)) }
     ensures memory { OnOk result (spec.is_refused_memory answer ≡ false) }
     ensures kept { OnErr result (Extends text.old.items text.new.items) }
 {
@@ -245,7 +259,8 @@ fn say_server(
     servers: &[u64],
     answer: Result<(), LineFault>,
 ) -> Result<(), Memory>
-    ensures text { OnOk result (text.new.items ≡ text.old.items ++ printed (spec.result_text servers.now (λ all. words.now ++ decimal server) answer)) }
+    ensures text { OnOk result (Prints text.old text.new
+        (spec.result_text servers.now (λ all. words.now ++ decimal server) answer)) }
     ensures memory { OnOk result (spec.is_refused_memory answer ≡ false) }
     ensures kept { OnErr result (Extends text.old.items text.new.items) }
 {

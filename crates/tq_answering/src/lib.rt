@@ -2,8 +2,8 @@
 //! the lines of transactions and of operators, and what is answered.
 //!
 //! Files: `shell.rt` any line; `answering.rt` a line of a transaction: `operations.rt`, `errands.rt`, `decisions.rt`,
-//! `endings.rt`, over `kept.rt` and `states.rt`; `operators.rt` refresh and board; `recorder.rt`, `told.rt` the service
-//! asked.
+//! `endings.rt`, over `kept.rt` and `states.rt`; `operators.rt` refresh and board; `recorder.rt`, `told.rt`,
+//! `history.rt` the service asked, and what contracts see of its answers.
 //! Definitions: `specs/Asked` and `TxnAsked` (what lines ask), `Operators`, `Answer`, `Possible`; `Recorded` is the code's
 //! own word.
 #![tactic(auto)]
@@ -12,6 +12,7 @@ mod answering;
 mod decisions;
 mod endings;
 mod errands;
+mod history;
 mod kept;
 mod operations;
 mod operators;

@@ -5,6 +5,7 @@ ghost use Rattle.tq_txn.specs.declared.txn.Txn.TheVariants as states;
 ghost use Rattle.tq_answering.specs.Known.{in_state};
 ghost use Rattle.tq_answering.specs.TxnAsked as spec;
 ghost use Rattle.tq_print.specs.Print.{Extends, printed};
+ghost use Rattle.tq_answering.specs.Progress.{Prints, progress_of};
 
 use crate::kept::Kept;
 use crate::recorder::Recorder;
@@ -33,7 +34,9 @@ pub(crate) fn operate(
     text: &mut Vec<u8>,
 ) -> Result<(), Memory>
     requires { levels_of kept.old.txn ≡ recorder.old.journals.levels }
-    ensures answered { OnOk result (spec.IsAnswered (spec.operation_asked operation file.now number kept.old) recorder.old.journals recorder.new.journals text.old.items text.new.items kept.new) }
+    ensures answered { OnOk result (spec.IsAnswered
+        (spec.operation_asked operation file.now number kept.old)
+        (progress_of recorder.old text.old) (progress_of recorder.new text.new) kept.new) }
     ensures levels { levels_of kept.new.txn ≡ levels_of kept.old.txn }
     ensures tree { recorder.new.journals.levels ≡ recorder.old.journals.levels }
     ensures kept { OnErr result (Extends text.old.items text.new.items) }
@@ -55,7 +58,10 @@ fn operate_open(
     text: &mut Vec<u8>,
 ) -> Result<(), Memory>
     requires { «open».old.levels ≡ recorder.old.journals.levels }
-    ensures answered { OnOk result ((kept : Kept) → spec.IsAnswered (spec.operation_open operation file.now kept «open».old) recorder.old.journals recorder.new.journals text.old.items text.new.items (in_state kept (states.Open «open».new))) }
+    ensures answered { OnOk result ((kept : Kept) →
+        spec.IsAnswered (spec.operation_open operation file.now kept «open».old)
+        (progress_of recorder.old text.old) (progress_of recorder.new text.new)
+        (in_state kept (states.Open «open».new))) }
     ensures levels { «open».new.levels ≡ «open».old.levels }
     ensures tree { recorder.new.journals.levels ≡ recorder.old.journals.levels }
     ensures kept { OnErr result (Extends text.old.items text.new.items) }
@@ -84,7 +90,8 @@ fn say_read(
     reader: &Open,
     answer: Result<Reading, LineFault>,
 ) -> Result<(), Memory>
-    ensures text { OnOk result (text.new.items ≡ text.old.items ++ printed (spec.result_text [] (spec.read_text file.now reader.now) answer)) }
+    ensures text { OnOk result (Prints text.old text.new
+        (spec.result_text [] (spec.read_text file.now reader.now) answer)) }
     ensures memory { OnOk result (spec.is_refused_memory answer ≡ false) }
     ensures kept { OnErr result (Extends text.old.items text.new.items) }
 {
@@ -102,7 +109,8 @@ fn say_written(
     writer: &Open,
     answer: Result<u64, LineFault>,
 ) -> Result<(), Memory>
-    ensures text { OnOk result (text.new.items ≡ text.old.items ++ printed (spec.result_text [] (spec.written_text file.now writer.now) answer)) }
+    ensures text { OnOk result (Prints text.old text.new
+        (spec.result_text [] (spec.written_text file.now writer.now) answer)) }
     ensures memory { OnOk result (spec.is_refused_memory answer ≡ false) }
     ensures kept { OnErr result (Extends text.old.items text.new.items) }
 {

@@ -4,6 +4,7 @@ ghost use Rattle.std.specs.Fmt.{decimal};
 ghost use Rattle.std.specs.Option.{option_map};
 ghost use Rattle.tq_world.specs.Steps.{world_after};
 ghost use Rattle.tq_world.specs.declared.answer.Step.TheVariants as steps;
+ghost use Rattle.tq_refresh.specs.Mending.{answer_in, is_refreshed, mends_asked};
 ghost use Rattle.tq_refresh.specs.Plan.{ArePlanned, IsPlanned, jobs_in, jobs_of_plan, peek_of};
 ghost use Rattle.tq_refresh.specs.declared.job.Job.{Job};
 ghost use Rattle.tq_txn.specs.Dialogue.{fault_of_ask};
@@ -11,6 +12,7 @@ ghost use Rattle.tq_answering.specs.Asking.{node_told, run_line};
 ghost use Rattle.tq_answering.specs.Operators as spec;
 ghost use Rattle.tq_print.specs.Print.{Extends, printed};
 ghost use Rattle.tq_print.specs.Refusals.{is_memory};
+ghost use Rattle.tq_answering.specs.Progress.{Appends, Prints};
 
 use crate::recorder::{Recorder, copy_of_node_ask};
 use std::alloc::{AllocError, Global};
@@ -39,7 +41,7 @@ struct MendedText {
 
 /// Puts the board of the service behind the text.
 pub(crate) fn say_board(service: &Service, alloc: Global, text: &mut Vec<u8>) -> Result<(), Memory>
-    ensures text { OnOk result (text.new.items ≡ text.old.items ++ spec.board_of service.now) }
+    ensures text { OnOk result (Appends text.old text.new (spec.board_of service.now)) }
     ensures kept { OnErr result (Extends text.old.items text.new.items) }
 {
     let board = board_of(service, alloc)?;
@@ -62,8 +64,10 @@ pub(crate) fn refresh_all(
     alloc: Global,
     text: &mut Vec<u8>,
 ) -> Result<(), Memory>
-    ensures text { OnOk result (text.new.items ≡ text.old.items ++ (run_line recorder.old.journals (spec.refresh_asked recorder.old.journals)).end) }
-    ensures after { OnOk result (recorder.new.journals ≡ (run_line recorder.old.journals (spec.refresh_asked recorder.old.journals)).after) }
+    ensures text { OnOk result
+        (Appends text.old text.new (spec.refresh_run recorder.old.journals).end) }
+    ensures after { OnOk result
+        (recorder.new.journals ≡ (spec.refresh_run recorder.old.journals).after) }
     ensures tree { recorder.new.journals.levels ≡ recorder.old.journals.levels }
     ensures kept { OnErr result (Extends text.old.items text.new.items) }
 {
@@ -91,10 +95,13 @@ fn mend_all(
     text: &mut Vec<u8>,
 ) -> Result<Counts, Memory>
     requires { ArePlanned recorder.old.journals.levels plan.now }
-    ensures text { OnOk result (text.new.items ≡ (run_line recorder.old.journals (spec.jobs_asked (spec.behind text.old.items spec.nothing_mended) (jobs_of_plan plan.now))).end.text) }
-    ensures count { IfOk result (λ counts. counts.mended ≡ (run_line recorder.old.journals (spec.jobs_asked (spec.behind text.old.items spec.nothing_mended) (jobs_of_plan plan.now))).end.count) }
+    ensures text { OnOk result
+        (text.new.items ≡ (spec.plan_run recorder.old text.old plan.now).end.text) }
+    ensures count { IfOk result (λ counts.
+        counts.mended ≡ (spec.plan_run recorder.old text.old plan.now).end.count) }
     ensures jobs { IfOk result (λ counts. counts.jobs ≡ length (jobs_of_plan plan.now)) }
-    ensures after { OnOk result (recorder.new.journals ≡ (run_line recorder.old.journals (spec.jobs_asked (spec.behind text.old.items spec.nothing_mended) (jobs_of_plan plan.now))).after) }
+    ensures after { OnOk result
+        (recorder.new.journals ≡ (spec.plan_run recorder.old text.old plan.now).after) }
     ensures tree { recorder.new.journals.levels ≡ recorder.old.journals.levels }
     ensures kept { Extends text.old.items text.new.items }
 {
@@ -117,11 +124,14 @@ fn mend_file(
 ) -> Result<(), Memory>
     requires planned { IsPlanned recorder.old.journals.levels of_file.now }
     requires up { up.now.levels ≡ recorder.old.journals.levels }
-    requires fits { (counts.old.mended ≤ counts.old.jobs) × (counts.old.jobs ≤ length text.old.items) }
-    ensures mended { OnOk result ((more : List Job) → spec.LeadsOn recorder.old.journals (spec.so_far text.old.items counts.old.mended) (jobs_in up.now of_file.now ++ more)
+    requires fits { spec.IsCounted counts.old text.old }
+    ensures mended { OnOk result ((more : List Job) →
+        spec.LeadsOn recorder.old.journals (spec.so_far text.old.items counts.old.mended)
+        (jobs_in up.now of_file.now ++ more)
         recorder.new.journals (spec.so_far text.new.items counts.new.mended) more) }
-    ensures jobs { OnOk result (counts.new.jobs ≡ counts.old.jobs + length (jobs_in up.now of_file.now)) }
-    ensures fits { OnOk result ((counts.new.mended ≤ counts.new.jobs) × (counts.new.jobs ≤ length text.new.items)) }
+    ensures jobs { OnOk result
+        (counts.new.jobs ≡ counts.old.jobs + length (jobs_in up.now of_file.now)) }
+    ensures fits { OnOk result (spec.IsCounted counts.new text.new) }
     ensures tree { recorder.new.journals.levels ≡ recorder.old.journals.levels }
     ensures kept { Extends text.old.items text.new.items }
 {
@@ -149,8 +159,10 @@ fn mend_file(
 fn mend(recorder: &mut Recorder, alloc: Global, job: &Job, peek: NodeAsk) -> Result<bool, Memory>
     requires of_tree { spec.IsOfTree recorder.old.journals.levels job.now }
     requires peek { peek ≡ peek_of job.now.file }
-    ensures value { IfOk result (λ refreshed. refreshed ≡ (run_line recorder.old.journals (spec.job_asked job.now)).end) }
-    ensures after { OnOk result (recorder.new.journals ≡ (run_line recorder.old.journals (spec.job_asked job.now)).after) }
+    ensures value { IfOk result (λ refreshed.
+        refreshed ≡ (run_line recorder.old.journals (mends_asked job.now)).end) }
+    ensures after { OnOk result
+        (recorder.new.journals ≡ (run_line recorder.old.journals (mends_asked job.now)).after) }
     ensures tree { recorder.new.journals.levels ≡ recorder.old.journals.levels }
 {
     let Some(told) = answer_of(recorder, alloc, job.source, peek)? else {
@@ -159,35 +171,14 @@ fn mend(recorder: &mut Recorder, alloc: Global, job: &Job, peek: NodeAsk) -> Res
     let Some(ask) = copy_ask_of(alloc, job, told.number, told.reply)? else {
         return Ok(false);
     };
-    let taken = takes(recorder, alloc, job.server, ask)?;
-    Ok(taken)
-}
-
-/// Whether the server to be mended takes the copy.
-fn takes(
-    recorder: &mut Recorder,
-    alloc: Global,
-    server: ServerId,
-    ask: NodeAsk,
-) -> Result<bool, Memory>
-    requires { server.levels ≡ recorder.old.journals.levels }
-    ensures value { IfOk result (λ taken. taken ≡ spec.took (spec.answer_in (node_told recorder.old.journals server.number ask))) }
-    ensures after { OnOk result (recorder.new.journals ≡ world_after recorder.old.journals (steps.Node server.number ask)) }
-    ensures tree { recorder.new.journals.levels ≡ recorder.old.journals.levels }
-{
-    recorder.replayed();
-    let result = recorder.put(alloc, server, ask);
-    recorder.replayed();
-    match result {
-        Ok(told) => Ok(is_refreshed(&told.reply)),
-        Err(fault) => {
-            pass_over(fault)?;
-            Ok(false)
-        }
+    match answer_of(recorder, alloc, job.server, ask)? {
+        Some(answer) => Ok(is_refreshed(&answer.reply)),
+        None => Ok(false),
     }
 }
 
 /// What a server answers to an ask; none where the ask was not taken.
+#[inline(always)]
 fn answer_of(
     recorder: &mut Recorder,
     alloc: Global,
@@ -195,8 +186,11 @@ fn answer_of(
     ask: NodeAsk,
 ) -> Result<Option<Answered<NodeReply>>, Memory>
     requires { server.levels ≡ recorder.old.journals.levels }
-    ensures answer { IfOk result (λ told. option_map (λ t. (t.number, t.reply)) told ≡ spec.answer_in (node_told recorder.old.journals server.number ask)) }
-    ensures after { OnOk result (recorder.new.journals ≡ world_after recorder.old.journals (steps.Node server.number ask)) }
+    ensures answer { IfOk result (λ told.
+        option_map (λ t. (t.number, t.reply)) told
+        ≡ answer_in (node_told recorder.old.journals server.number ask)) }
+    ensures after { OnOk result (recorder.new.journals
+        ≡ world_after recorder.old.journals (steps.Node server.number ask)) }
     ensures tree { recorder.new.journals.levels ≡ recorder.old.journals.levels }
 {
     recorder.replayed();
@@ -224,7 +218,7 @@ fn pass_over(fault: AskFault) -> Result<(), Memory>
 
 /// Whether a server says that it took a copy.
 fn is_refreshed(reply: &NodeReply) -> bool
-    ensures { result ≡ spec.is_refreshed reply.now }
+    ensures { result ≡ is_refreshed reply.now }
 {
     match reply {
         NodeReply::Refreshed => true,
@@ -236,7 +230,7 @@ fn is_refreshed(reply: &NodeReply) -> bool
 fn say_job(text: &mut Vec<u8>, said: &MendedText, job: &Job, refreshed: bool) -> Result<(), Memory>
     requires front { said.now.front.items ≡ spec.mended_front job.now.file }
     requires back { said.now.back.items ≡ spec.mended_back job.now.source.number }
-    ensures text { OnOk result (text.new.items ≡ text.old.items ++ printed (spec.job_text job.now refreshed)) }
+    ensures text { OnOk result (Prints text.old text.new (spec.job_text job.now refreshed)) }
     ensures kept { OnErr result (Extends text.old.items text.new.items) }
 {
     if refreshed {
@@ -261,7 +255,8 @@ fn mended_text(alloc: Global, file: &FileName, source: ServerId) -> Result<Mende
 }
 
 fn say_mended(text: &mut Vec<u8>, said: &MendedText, server: ServerId) -> Result<(), Memory>
-    ensures text { OnOk result (text.new.items ≡ text.old.items ++ said.now.front.items ++ decimal server.number ++ said.now.back.items) }
+    ensures text { OnOk result (Appends text.old text.new
+        (said.now.front.items ++ decimal server.number ++ said.now.back.items)) }
     ensures kept { OnErr result (Extends text.old.items text.new.items) }
 {
     push_at(text, said.front.as_slice(), server.number())?;
@@ -270,7 +265,7 @@ fn say_mended(text: &mut Vec<u8>, said: &MendedText, server: ServerId) -> Result
 }
 
 fn say_not_refreshed(text: &mut Vec<u8>, job: &Job) -> Result<(), Memory>
-    ensures text { OnOk result (text.new.items ≡ text.old.items ++ printed (spec.job_text job.now false)) }
+    ensures text { OnOk result (Prints text.old text.new (spec.job_text job.now false)) }
     ensures kept { OnErr result (Extends text.old.items text.new.items) }
 {
     text.extend_from_slice(b"not refreshed ")?;
@@ -281,7 +276,7 @@ fn say_not_refreshed(text: &mut Vec<u8>, job: &Job) -> Result<(), Memory>
 
 /// Puts how many copies were mended, of how many jobs, behind the text, as a line.
 fn say_count(text: &mut Vec<u8>, count: u64, jobs: u64) -> Result<(), Memory>
-    ensures text { OnOk result (text.new.items ≡ text.old.items ++ printed (spec.count_text count jobs)) }
+    ensures text { OnOk result (Prints text.old text.new (spec.count_text count jobs)) }
     ensures kept { OnErr result (Extends text.old.items text.new.items) }
 {
     push_at(text, b"refreshed ", count)?;

@@ -1,12 +1,12 @@
 ghost use Rattle.std.specs.Prelude.{◌≡◌, IfOk};
 
+use crate::history::History;
 use crate::told::{handed, nothing, with_answer, with_desk, with_fault, with_handed, with_view};
 use std::alloc::Global;
 use std::marker::Model;
 use tq_asks::{NodeAsk, NodeReply};
 use tq_core::Service;
 use tq_desk::DeskAsk;
-use tq_history::History;
 use tq_live::ViewAsk;
 use tq_part::Answered;
 use tq_shape::{Levels, Limits, Memory, ServerId};
@@ -38,7 +38,8 @@ impl Recorder {
 
     /// A service with full limits that was asked nothing.
     pub(crate) fn new(alloc: Global, levels: Levels) -> Result<Recorder, Memory>
-        ensures { IfOk result (λ recorder. recorder ≡ record { journals = empty_world levels full_limits; told = [] }) }
+        ensures { IfOk result (λ recorder.
+            recorder ≡ record { journals = empty_world levels full_limits; told = [] }) }
     {
         let service = Service::new(alloc, levels, Limits::full())?;
         let told = nothing();
@@ -60,7 +61,8 @@ impl Recorder {
         ask: NodeAsk,
     ) -> Result<Answered<NodeReply>, AskFault>
         requires { server.levels ≡ self.old.journals.levels }
-        ensures exchanges { self.new.told ≡ self.old.told ++ noted result (exchanges.Node server.number ask result) }
+        ensures exchanges { self.new.told
+            ≡ self.old.told ++ noted result (exchanges.Node server.number ask result) }
         ensures tree { self.new.journals.levels ≡ self.old.journals.levels }
     {
         let number = server.number();
@@ -101,7 +103,8 @@ impl Asker for Recorder {
 
     fn node(&mut self, alloc: Global, server: ServerId, ask: NodeAsk) -> Result<NodeTold, AskFault>
         requires { server.levels ≡ self.old.journals.levels }
-        ensures exchanges { self.new.told ≡ self.old.told ++ node_exchange server.number ask result }
+        ensures exchanges { self.new.told ≡ self.old.told
+            ++ node_exchange server.number ask result }
         ensures same { IfOk result (λ t. (t.server ≡ server.number) × (t.ask ≡ ask)) }
         ensures tree { self.new.journals.levels ≡ self.old.journals.levels }
     {

@@ -6,6 +6,7 @@ ghost use Rattle.tq_answering.specs.Asked as asked;
 ghost use Rattle.tq_answering.specs.Known as known;
 ghost use Rattle.tq_answering.specs.TxnAsked as said;
 ghost use Rattle.tq_print.specs.Print.{Extends, printed, mark_word};
+ghost use Rattle.tq_answering.specs.Progress.{Appends, Prints};
 
 use crate::answering::answer_txn;
 use crate::kept::Kept;
@@ -13,14 +14,14 @@ use crate::operators::{refresh_all, say_board};
 use crate::recorder::Recorder;
 use std::alloc::Global;
 use std::marker::Model;
-use tq_asks::NodeAsk;
 use tq_core::Service;
 use tq_desk::{DeskAsk, DeskReply};
 use tq_lines::{Line, TxnLine};
 use tq_live::{Purpose, ViewAsk, is_cost};
 use tq_print::{push_desk_refusal, say_choice, say_fault, say_line, say_number};
+use tq_script::mark_server;
 use tq_shape::{Levels, Limits, Memory, ServerId};
-use tq_txn::{AskFault, Asker, DeskTold, LineFault, Open, Txn, ViewTold, ask_any};
+use tq_txn::{AskFault, Asker, DeskTold, LineFault, Open, Txn, ViewTold};
 
 /// A service that lines are asked of, and what is known of the transactions.
 #[derive(Drop)]
@@ -33,9 +34,8 @@ pub struct Shell {
 
 impl Model for Shell {
     ghost use Rattle.std.specs.Prelude.{◌≡◌};
-    ghost use Rattle.std.specs.List.{All};
-    ghost use Rattle.tq_txn.specs.States.{levels_of};
     ghost use Rattle.tq_answering.specs.Answer.{World};
+    ghost use Rattle.tq_answering.specs.Known.{AreOfTree};
 
     ghost Value = { World };
 
@@ -44,15 +44,15 @@ impl Model for Shell {
       known = record { levels = shell.levels; limits = shell.limits; txns = shell.txns.items };
     } };
 
-    ghost invariant = { λ shell. (shell.recorder.journals.levels ≡ shell.levels) × All (λ kept. levels_of kept.txn ≡ shell.levels) shell.txns.items };
+    ghost invariant = { λ shell.
+        (shell.recorder.journals.levels ≡ shell.levels) × AreOfTree shell.levels shell.txns.items };
 }
 
 impl Shell {
     ghost use Rattle.std.specs.Prelude.{◌≡◌, ◌++◌, IfOk, OnOk, OnErr};
     ghost use Rattle.tq_world.specs.World.{item_at};
-    ghost use Rattle.tq_answering.specs.Answer.{opening, answer, answered, IsWhole};
+    ghost use Rattle.tq_answering.specs.Answer.{opening, answer, given_by, IsWhole};
     ghost use Rattle.tq_answering.specs.Possible.{IsSaidOf};
-    ghost use Rattle.tq_answering.specs.Asking.{run_line};
     ghost use Rattle.tq_print.specs.Print.{Extends};
 
     /// Every server at cost 1 and up, nothing stored, and no transaction.
@@ -79,7 +79,7 @@ impl Shell {
     /// Answers one line, and puts the answer behind the text: of all that the definitions have texts for, no more than what
     /// can come.
     pub fn answer(&mut self, alloc: Global, line: Line, text: &mut Vec<u8>) -> Result<(), Memory>
-        ensures text { OnOk result (text.new.items ≡ text.old.items ++ (answer self.old line).text) }
+        ensures text { OnOk result (Appends text.old text.new (answer self.old line).text) }
         ensures after { OnOk result (self.new ≡ (answer self.old line).after) }
         ensures possible { OnOk result (IsSaidOf line text.old.items text.new.items) }
         ensures begun { OnErr result (line ≡ Line.Begin → IsWhole self.old line self.new) }
@@ -91,7 +91,7 @@ impl Shell {
     }
 
     fn answer_line(&mut self, alloc: Global, line: Line, text: &mut Vec<u8>) -> Result<(), Memory>
-        ensures text { OnOk result (text.new.items ≡ text.old.items ++ (answer self.old line).text) }
+        ensures text { OnOk result (Appends text.old text.new (answer self.old line).text) }
         ensures after { OnOk result (self.new ≡ (answer self.old line).after) }
         ensures begun { OnErr result (line ≡ Line.Begin → IsWhole self.old line self.new) }
         ensures kept { OnErr result (Extends text.old.items text.new.items) }
@@ -121,8 +121,10 @@ impl Shell {
         write: u64,
         text: &mut Vec<u8>,
     ) -> Result<(), Memory>
-        ensures text { OnOk result (text.new.items ≡ text.old.items ++ (answer self.old (Line.Cost server read write)).text) }
-        ensures after { OnOk result (self.new ≡ (answer self.old (Line.Cost server read write)).after) }
+        ensures text { OnOk result (Appends text.old text.new
+            (answer self.old (Line.Cost server read write)).text) }
+        ensures after { OnOk result
+            (self.new ≡ (answer self.old (Line.Cost server read write)).after) }
         ensures kept { OnErr result (Extends text.old.items text.new.items) }
     {
         if self.levels.server(server).is_none() {
@@ -145,8 +147,10 @@ impl Shell {
         write: u64,
         text: &mut Vec<u8>,
     ) -> Result<(), Memory>
-        ensures text { OnOk result (text.new.items ≡ text.old.items ++ (answered (run_line self.old.journals (asked.cost_asked self.old.known server read write))).text) }
-        ensures after { OnOk result (self.new ≡ (answered (run_line self.old.journals (asked.cost_asked self.old.known server read write))).after) }
+        ensures text { OnOk result (Appends text.old text.new
+            (given_by self.old (λ k. asked.cost_asked k server read write)).text) }
+        ensures after { OnOk result (self.new
+            ≡ (given_by self.old (λ k. asked.cost_asked k server read write)).after) }
         ensures kept { OnErr result (Extends text.old.items text.new.items) }
     {
         self.recorder.replayed();
@@ -168,7 +172,8 @@ impl Shell {
         up: bool,
         text: &mut Vec<u8>,
     ) -> Result<(), Memory>
-        ensures text { OnOk result (text.new.items ≡ text.old.items ++ (answer self.old (Line.Mark server up)).text) }
+        ensures text { OnOk result
+            (Appends text.old text.new (answer self.old (Line.Mark server up)).text) }
         ensures after { OnOk result (self.new ≡ (answer self.old (Line.Mark server up)).after) }
         ensures kept { OnErr result (Extends text.old.items text.new.items) }
     {
@@ -186,23 +191,23 @@ impl Shell {
         text: &mut Vec<u8>,
     ) -> Result<(), Memory>
         requires { id.levels ≡ self.old.journals.levels }
-        ensures text { OnOk result (text.new.items ≡ text.old.items ++ (answered (run_line self.old.journals (asked.mark_asked self.old.known id.number up))).text) }
-        ensures after { OnOk result (self.new ≡ (answered (run_line self.old.journals (asked.mark_asked self.old.known id.number up))).after) }
+        ensures text { OnOk result (Appends text.old text.new
+            (given_by self.old (λ k. asked.mark_asked k id.number up)).text) }
+        ensures after { OnOk result (self.new
+            ≡ (given_by self.old (λ k. asked.mark_asked k id.number up)).after) }
         ensures kept { OnErr result (Extends text.old.items text.new.items) }
     {
         let server = id.number();
-        let ask = mark_ask(up);
         self.recorder.replayed();
-        let reply = ask_any(&mut self.recorder, alloc, id, ask)?;
-        let _ = &reply;
-        let answer = self.recorder.view(alloc, ViewAsk::Mark { server, up });
+        let answer = mark_server(&mut self.recorder, alloc, id, up);
         self.recorder.replayed();
         say_marked(text, server, up, &answer)?;
         Ok(())
     }
 
     fn choose(&mut self, alloc: Global, purpose: Purpose, text: &mut Vec<u8>) -> Result<(), Memory>
-        ensures text { OnOk result (text.new.items ≡ text.old.items ++ (answer self.old (Line.Choose purpose)).text) }
+        ensures text { OnOk result
+            (Appends text.old text.new (answer self.old (Line.Choose purpose)).text) }
         ensures after { OnOk result (self.new ≡ (answer self.old (Line.Choose purpose)).after) }
         ensures kept { OnErr result (Extends text.old.items text.new.items) }
     {
@@ -215,7 +220,7 @@ impl Shell {
 
     /// Begins a transaction. Room for it is made before the desk is asked, so that one whose number was told is kept.
     fn begin(&mut self, alloc: Global, text: &mut Vec<u8>) -> Result<(), Memory>
-        ensures text { OnOk result (text.new.items ≡ text.old.items ++ (answer self.old Line.Begin).text) }
+        ensures text { OnOk result (Appends text.old text.new (answer self.old Line.Begin).text) }
         ensures after { OnOk result (self.new ≡ (answer self.old Line.Begin).after) }
         ensures whole { OnErr result (IsWhole self.old Line.Begin self.new) }
         ensures kept { OnErr result (Extends text.old.items text.new.items) }
@@ -230,7 +235,7 @@ impl Shell {
     }
 
     fn refresh(&mut self, alloc: Global, text: &mut Vec<u8>) -> Result<(), Memory>
-        ensures text { OnOk result (text.new.items ≡ text.old.items ++ (answer self.old Line.Refresh).text) }
+        ensures text { OnOk result (Appends text.old text.new (answer self.old Line.Refresh).text) }
         ensures after { OnOk result (self.new ≡ (answer self.old Line.Refresh).after) }
         ensures kept { OnErr result (Extends text.old.items text.new.items) }
     {
@@ -239,7 +244,7 @@ impl Shell {
     }
 
     fn board(&self, alloc: Global, text: &mut Vec<u8>) -> Result<(), Memory>
-        ensures text { OnOk result (text.new.items ≡ text.old.items ++ (answer self.now Line.Board).text) }
+        ensures text { OnOk result (Appends text.old text.new (answer self.now Line.Board).text) }
         ensures kept { OnErr result (Extends text.old.items text.new.items) }
     {
         say_board(self.service(), alloc, text)?;
@@ -248,7 +253,8 @@ impl Shell {
 
     /// Where the transaction of that number is kept.
     fn place_of(&self, number: u64) -> Option<usize>
-        ensures some { IfSome result (λ place. (number ≡ place + 1) × (place < length self.now.known.txns)) }
+        ensures some { IfSome result (λ place.
+            (number ≡ place + 1) × (place < length self.now.known.txns)) }
         ensures none { IsNone result → item_at self.now.known.txns number ≡ None }
     {
         if number == 0 || number > self.txns.len() as u64 {
@@ -264,7 +270,8 @@ impl Shell {
         line: TxnLine,
         text: &mut Vec<u8>,
     ) -> Result<(), Memory>
-        ensures text { OnOk result (text.new.items ≡ text.old.items ++ (answer self.old (Line.Txn number line)).text) }
+        ensures text { OnOk result
+            (Appends text.old text.new (answer self.old (Line.Txn number line)).text) }
         ensures after { OnOk result (self.new ≡ (answer self.old (Line.Txn number line)).after) }
         ensures kept { OnErr result (Extends text.old.items text.new.items) }
     {
@@ -290,8 +297,11 @@ fn begin_end(
     text: &mut Vec<u8>,
 ) -> Result<(), Memory>
     requires { vec_len txns.old < vec_capacity txns.old }
-    ensures text { OnOk result (text.new.items ≡ text.old.items ++ (asked.begin_end (record { levels = levels; limits = limits; txns = txns.old.items }) (line_result answer)).text) }
-    ensures known { (asked.begin_end (record { levels = levels; limits = limits; txns = txns.old.items }) (line_result answer)).known ≡ record { levels = levels; limits = limits; txns = txns.new.items } }
+    ensures text { OnOk result (Appends text.old text.new
+        (asked.begin_end (known.known_of levels limits txns.old) (line_result answer)).text) }
+    ensures known { (asked.begin_end
+        (known.known_of levels limits txns.old) (line_result answer)).known
+        ≡ known.known_of levels limits txns.new }
     ensures memory { OnOk result (said.is_refused_memory (line_result answer) ≡ false) }
     ensures kept { OnErr result (Extends text.old.items text.new.items) }
 {
@@ -312,8 +322,10 @@ fn begun(
     text: &mut Vec<u8>,
 ) -> Result<(), Memory>
     requires { vec_len txns.old < vec_capacity txns.old }
-    ensures text { OnOk result (text.new.items ≡ text.old.items ++ (asked.begun (record { levels = levels; limits = limits; txns = txns.old.items }) reply).text) }
-    ensures known { (asked.begun (record { levels = levels; limits = limits; txns = txns.old.items }) reply).known ≡ record { levels = levels; limits = limits; txns = txns.new.items } }
+    ensures text { OnOk result (Appends text.old text.new
+        (asked.begun (known.known_of levels limits txns.old) reply).text) }
+    ensures known { (asked.begun (known.known_of levels limits txns.old) reply).known
+        ≡ known.known_of levels limits txns.new }
     ensures kept { OnErr result (Extends text.old.items text.new.items) }
 {
     match reply {
@@ -339,16 +351,10 @@ fn fresh(alloc: Global, levels: Levels, limits: Limits, number: u64) -> Kept
     }
 }
 
-/// What a server is asked that is to be marked.
-fn mark_ask(up: bool) -> NodeAsk
-    ensures { result ≡ asked.mark_ask up }
-{
-    if up { NodeAsk::Return } else { NodeAsk::Crash }
-}
-
 /// Puts that a cost was set behind the text, as a line, or why it was not.
 fn say_ok(text: &mut Vec<u8>, answer: &Result<ViewTold, AskFault>) -> Result<(), Memory>
-    ensures text { OnOk result (text.new.items ≡ text.old.items ++ printed (said.result_text [] asked.ok_text (line_result answer.now))) }
+    ensures text { OnOk result (Prints text.old text.new
+        (said.result_text [] asked.ok_text (line_result answer.now))) }
     ensures memory { OnOk result (said.is_refused_memory (line_result answer.now) ≡ false) }
     ensures kept { OnErr result (Extends text.old.items text.new.items) }
 {
@@ -361,7 +367,8 @@ fn say_ok(text: &mut Vec<u8>, answer: &Result<ViewTold, AskFault>) -> Result<(),
 
 /// Puts what the view chose behind the text, as a line, or why it did not.
 fn say_chosen(text: &mut Vec<u8>, answer: &Result<ViewTold, AskFault>) -> Result<(), Memory>
-    ensures text { OnOk result (text.new.items ≡ text.old.items ++ printed (said.result_text [] asked.chosen_text (line_result answer.now))) }
+    ensures text { OnOk result (Prints text.old text.new
+        (said.result_text [] asked.chosen_text (line_result answer.now))) }
     ensures memory { OnOk result (said.is_refused_memory (line_result answer.now) ≡ false) }
     ensures kept { OnErr result (Extends text.old.items text.new.items) }
 {
@@ -379,7 +386,8 @@ fn say_marked(
     up: bool,
     answer: &Result<ViewTold, AskFault>,
 ) -> Result<(), Memory>
-    ensures text { OnOk result (text.new.items ≡ text.old.items ++ printed (said.result_text [] (asked.marked_text server up) (line_result answer.now))) }
+    ensures text { OnOk result (Prints text.old text.new
+        (said.result_text [] (asked.marked_text server up) (line_result answer.now))) }
     ensures memory { OnOk result (said.is_refused_memory (line_result answer.now) ≡ false) }
     ensures kept { OnErr result (Extends text.old.items text.new.items) }
 {
@@ -392,7 +400,7 @@ fn say_marked(
 
 /// Puts a server's new mark behind the text, as a line.
 fn say_mark(text: &mut Vec<u8>, server: u64, up: bool) -> Result<(), Memory>
-    ensures text { OnOk result (text.new.items ≡ text.old.items ++ printed (mark_word up ++ decimal server)) }
+    ensures text { OnOk result (Prints text.old text.new (mark_word up ++ decimal server)) }
     ensures kept { OnErr result (Extends text.old.items text.new.items) }
 {
     if up {

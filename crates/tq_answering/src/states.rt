@@ -6,6 +6,7 @@ ghost use Rattle.tq_answering.specs.Known.{ending_in};
 ghost use Rattle.tq_print.specs.Refusals.{decided_text};
 ghost use Rattle.tq_txn.specs.States.{levels_of};
 ghost use Rattle.tq_answering.specs.States as spec;
+ghost use Rattle.tq_answering.specs.Progress.{Prints};
 
 use crate::kept::{Ending, Kept};
 use std::alloc::Global;
@@ -23,7 +24,7 @@ pub(crate) enum Closed {
 
 /// Puts how a transaction ended behind the text, as a line.
 pub(crate) fn say_decided(text: &mut Vec<u8>, verdict: &Verdict) -> Result<(), Memory>
-    ensures text { OnOk result (text.new.items ≡ text.old.items ++ printed (decided_text verdict.now)) }
+    ensures text { OnOk result (Prints text.old text.new (decided_text verdict.now)) }
     ensures kept { OnErr result (Extends text.old.items text.new.items) }
 {
     push_decided(text, verdict)?;
@@ -54,7 +55,8 @@ pub(crate) fn voting_of(txn: Txn, text: &mut Vec<u8>) -> Result<Closed, Memory>
 }
 
 fn close(still_open: Open, text: &mut Vec<u8>) -> Result<Closed, Memory>
-    ensures closed { IfOk result (λ state. spec.IsClosed (Txn.Open still_open) state text.old.items text.new.items) }
+    ensures closed { IfOk result (λ state.
+        spec.IsClosed (Txn.Open still_open) state text.old.items text.new.items) }
     ensures kept { OnErr result (Extends text.old.items text.new.items) }
 {
     match still_open.close() {

@@ -4,9 +4,9 @@ ghost use Rattle.tq_txn.specs.declared.asker.Exchange.TheVariants as exchanges;
 ghost use Rattle.tq_txn.specs.Dialogue.{unless_memory};
 ghost use Rattle.tq_answering.specs.Recorded.{noted};
 
+use crate::history::History;
 use tq_asks::{NodeAsk, NodeReply};
 use tq_desk::{DeskAsk, DeskReply};
-use tq_history::History;
 use tq_live::{ViewAsk, ViewReply};
 use tq_part::{Answered, AskFault};
 use tq_txn::Exchange;
@@ -62,7 +62,9 @@ pub(crate) fn with_answer(
     number: u64,
     reply: &NodeReply,
 ) -> History<Exchange>
-    ensures { result.items ≡ before.now.items ++ exchanges.Node server ask.now (Ok (record { number = number; reply = reply.now })) ∷ [] }
+    ensures { result.items ≡ before.now.items
+        ++ exchanges.Node server ask.now
+        (Ok (record { number = number; reply = reply.now })) ∷ [] }
 {
     History::of(&ServerAnswered {
         before,
@@ -80,7 +82,8 @@ pub(crate) fn with_fault(
     ask: NodeAsk,
     fault: &AskFault,
 ) -> History<Exchange>
-    ensures { result.items ≡ before.now.items ++ unless_memory fault.now (exchanges.Node server ask (Err fault.now)) }
+    ensures { result.items ≡ before.now.items
+        ++ unless_memory fault.now (exchanges.Node server ask (Err fault.now)) }
 {
     History::of(&ServerUnasked {
         before,
@@ -104,7 +107,9 @@ pub(crate) fn with_handed(
     ask: &History<NodeAsk>,
     answer: &Result<Answered<NodeReply>, AskFault>,
 ) -> History<Exchange>
-    ensures { result.items ≡ before.now.items ++ flat_map (λ ask. noted answer.now (exchanges.Node server ask answer.now)) ask.now.items }
+    ensures { result.items ≡ before.now.items
+        ++ flat_map (λ ask. noted answer.now (exchanges.Node server ask answer.now))
+        ask.now.items }
 {
     History::of(&ServerHanded {
         before,
@@ -120,7 +125,8 @@ pub(crate) fn with_desk(
     ask: &DeskAsk,
     answer: &Result<Answered<DeskReply>, AskFault>,
 ) -> History<Exchange>
-    ensures { result.items ≡ before.now.items ++ noted answer.now (exchanges.Desk ask.now answer.now) }
+    ensures { result.items ≡ before.now.items
+        ++ noted answer.now (exchanges.Desk ask.now answer.now) }
 {
     History::of(&Asked {
         before,
@@ -135,7 +141,8 @@ pub(crate) fn with_view(
     ask: &ViewAsk,
     answer: &Result<Answered<ViewReply>, AskFault>,
 ) -> History<Exchange>
-    ensures { result.items ≡ before.now.items ++ noted answer.now (exchanges.View ask.now answer.now) }
+    ensures { result.items ≡ before.now.items
+        ++ noted answer.now (exchanges.View ask.now answer.now) }
 {
     History::of(&Asked {
         before,

@@ -3,7 +3,7 @@ use Rattle.std.specs.Prelude.{◌≡◌, ℕ, List, [], ◌∷◌, ◌++◌, len
 use Rattle.std.specs.List.{AllByRecursion}
 use Rattle.tq_txn.specs.Dialogue.{Makes}
 use Rattle.tq_txn.specs.declared.asker.Exchange.{Exchange}
-use Rattle.tq_script.specs.declared.script.Line.{Line}
+use Rattle.tq_lines.specs.declared.script.Line.{Line}
 use Rattle.tq_script.specs.Script.{script_asked}
 use Rattle.tq_shape.specs.Limits.{LimitsView}
 use Rattle.tq_refresh.specs.declared.job.Job.{Job}

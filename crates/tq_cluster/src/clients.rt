@@ -17,8 +17,9 @@ use std::sync::Wait;
 use std::thread;
 use std::thread::{Promise, Scope, Threads};
 use tq_cells::Gate;
+use tq_lines::Script;
 use tq_queue::Putter;
-use tq_script::{Script, run_script};
+use tq_script::run_script;
 use tq_shape::{Levels, Limits};
 
 /// How many jobs wait in the queue at most.

@@ -1,2 +1,5 @@
 mod WordLaws
 mod NumberLaws
+mod GatheringLaws
+mod ByteLaws
+mod ReadLaws

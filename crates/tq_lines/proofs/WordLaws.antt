@@ -1,8 +1,6 @@
 -- Words and numbers of a line.
-use Rattle.std.proofs.Common.{◌≡◌, ℕ, suc, ◌-◌, ◌<◌, ◌≤◌, ◌==◌, nat_lt, false, List, [], ◌∷◌, Some, None, Option, length, get_or, drop, take, refl, ap, ◌∙◌, arith, drop-cons}
-use Rattle.tq_lines.specs.Word.{digits_then, digit_after, word_of, rest_of, without_return}
-use Rattle.tq_lines.specs.Line.{line_of, line_by}
-use Rattle.tq_lines.specs.ClientLine as client
+use Rattle.std.proofs.Common.{◌≡◌, ℕ, suc, ◌-◌, ◌<◌, ◌≤◌, ◌==◌, false, List, [], ◌∷◌, Some, None, Option, length, get_or, drop, take, refl, ap, ◌∙◌, arith, drop-cons}
+use Rattle.tq_lines.specs.Word.{digits_then, digit_after, without_return}
 
 digits_then-none : (digits : List ℕ) → digits_then digits None ≡ None
 digits_then-none [] = refl
@@ -39,17 +37,3 @@ no_return_at (first ∷ bytes) isnt =
     let one : suc (length bytes) - 1 ≡ length bytes = omega arith in
     let last = rw one at isnt in
     no_return first bytes last
-
--- what a line of some bytes asks for
-pub line_of-some : (bytes : List ℕ) → length bytes ≤ 4200 → (length bytes == 0) ≡ false → line_by (word_of bytes) (rest_of bytes) ≡ line_of bytes
-line_of-some [] few some = absurd (grind arith)
-line_of-some (byte ∷ bytes) few some =
-    let short : nat_lt 4200 (suc (length bytes)) ≡ false = grind arith in
-    rw short refl
-
--- and what one of a client's script does
-pub client_line_of-some : (bytes : List ℕ) → length bytes ≤ 4200 → (length bytes == 0) ≡ false → client.line_by (word_of bytes) (rest_of bytes) ≡ client.client_line_of bytes
-client_line_of-some [] few some = absurd (grind arith)
-client_line_of-some (byte ∷ bytes) few some =
-    let short : nat_lt 4200 (suc (length bytes)) ≡ false = grind arith in
-    rw short refl

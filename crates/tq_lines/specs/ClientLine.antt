@@ -1,73 +1,37 @@
--- What the bytes of a line of client scripts ask for. Its words, numbers, files and texts are those of the shell's lines.
-use Rattle.std.specs.Prelude.{ℕ, Bool, true, false, nat_lt, cond, List, [], ◌∷◌, Option, Some, None, length, codes}
+-- What the bytes of a line of client scripts ask for: what a client says, or that the next client's script begins.
+use Rattle.std.specs.Prelude.{ℕ, nat_lt, ◌==◌, cond, List, Option, None, length, codes, option_map, unwrap_or}
 use Rattle.std.specs.Str.{bytes_eq}
-use Rattle.tq_live.specs.declared.purpose.Purpose.{Purpose}
 use Rattle.tq_lines.specs.Word.{word_of, rest_of}
-use Rattle.tq_lines.specs.Line.{one_number, cost_words, chosen_for, file_of, text_of}
-use Rattle.tq_lines.specs.declared.operands.CostWords.{CostWords}
+use Rattle.tq_lines.specs.Operands.{nothing_in, one_number, cost_words, chosen_for, file_of, written_of}
+use Rattle.tq_lines.specs.declared.script.Line.{Line}
+use Rattle.tq_lines.specs.declared.script.Line.TheVariants.{Cost, Down, Up, Choose, Begin, Read, Write, Commit, Abort}
 use Rattle.tq_lines.specs.declared.client.ClientLine.{ClientLine}
-use Rattle.tq_lines.specs.declared.client.ClientLine.TheVariants.{Empty, Bad, Client, Cost, Mark, Choose, Begin, Read, Write, Commit, Abort}
+use Rattle.tq_lines.specs.declared.client.ClientLine.TheVariants.{Empty, Bad, Client, Said}
 
--- nothing follows the verb
-abbrev pub alone : ClientLine → Option (List ℕ) → ClientLine
-alone line None = line
-alone line (Some words) = Bad
+-- what a client says, other than a write; the lines of its one transaction name none
+abbrev pub short_by : List ℕ → Option (List ℕ) → Option Line
+short_by verb rest =
+    cond (bytes_eq verb (codes "read")) (option_map (λ file. Read file) (file_of rest))
+    (cond (bytes_eq verb (codes "begin")) (option_map (λ nothing. Begin) (nothing_in rest))
+    (cond (bytes_eq verb (codes "commit")) (option_map (λ nothing. Commit) (nothing_in rest))
+    (cond (bytes_eq verb (codes "abort")) (option_map (λ nothing. Abort) (nothing_in rest))
+    (cond (bytes_eq verb (codes "choose")) (option_map (λ purpose. Choose purpose) (chosen_for rest))
+    (cond (bytes_eq verb (codes "cost")) (option_map (λ c. Cost c.server c.read c.write) (cost_words rest))
+    (cond (bytes_eq verb (codes "down")) (option_map (λ server. Down server) (one_number rest))
+    (cond (bytes_eq verb (codes "up")) (option_map (λ server. Up server) (one_number rest)) None)))))))
 
-abbrev pub mark_line : Bool → Option ℕ → ClientLine
-mark_line up None = Bad
-mark_line up (Some server) = Mark server up
+abbrev pub said_by : List ℕ → Option (List ℕ) → Option Line
+said_by verb rest = cond (bytes_eq verb (codes "write")) (option_map (λ w. Write w.file w.content) (written_of rest)) (short_by verb rest)
 
-abbrev pub cost_line : Option CostWords → ClientLine
-cost_line None = Bad
-cost_line (Some words) = Cost words.server words.read words.write
+abbrev pub client_by : Option (List ℕ) → Option ClientLine
+client_by rest = option_map (λ nothing. Client) (nothing_in rest)
 
-abbrev pub choose_line : Option Purpose → ClientLine
-choose_line None = Bad
-choose_line (Some purpose) = Choose purpose
+abbrev pub line_by : List ℕ → Option (List ℕ) → Option ClientLine
+line_by verb rest = cond (bytes_eq verb (codes "client")) (client_by rest) (option_map (λ line. Said line) (said_by verb rest))
 
-abbrev pub read_by : Option (List ℕ) → ClientLine
-read_by None = Bad
-read_by (Some file) = Read file
-
--- what follows `read`: a file
-abbrev pub read_line : Option (List ℕ) → ClientLine
-read_line None = Bad
-read_line (Some word) = read_by (file_of word)
-
-abbrev pub write_by : Option (List ℕ) → Option (List ℕ) → ClientLine
-write_by None text = Bad
-write_by (Some file) None = Bad
-write_by (Some file) (Some text) = Write file text
-
--- what follows `write`: a file and a text
-abbrev pub write_line : Option (List ℕ) → ClientLine
-write_line None = Bad
-write_line (Some words) = write_by (file_of (word_of words)) (text_of (rest_of words))
-
--- the lines that concern no transaction
-abbrev pub operator_by : List ℕ → Option (List ℕ) → ClientLine
-operator_by verb rest =
-    cond (bytes_eq verb (codes "choose")) (choose_line (chosen_for rest))
-    (cond (bytes_eq verb (codes "cost")) (cost_line (cost_words rest))
-    (cond (bytes_eq verb (codes "down")) (mark_line false (one_number rest))
-    (cond (bytes_eq verb (codes "up")) (mark_line true (one_number rest)) Bad)))
-
--- the lines that begin and end the client's transaction
-abbrev pub ending_by : List ℕ → Option (List ℕ) → ClientLine
-ending_by verb rest =
-    cond (bytes_eq verb (codes "begin")) (alone Begin rest)
-    (cond (bytes_eq verb (codes "commit")) (alone Commit rest)
-    (cond (bytes_eq verb (codes "abort")) (alone Abort rest) (operator_by verb rest)))
-
-abbrev pub line_by : List ℕ → Option (List ℕ) → ClientLine
-line_by verb rest =
-    cond (bytes_eq verb (codes "client")) (alone Client rest)
-    (cond (bytes_eq verb (codes "read")) (read_line rest)
-    (cond (bytes_eq verb (codes "write")) (write_line rest) (ending_by verb rest)))
-
+-- a line without a byte is empty; another that has no form of a line is a bad one
 abbrev pub short_line : List ℕ → ClientLine
-short_line [] = Empty
-short_line (byte ∷ bytes) = line_by (word_of (byte ∷ bytes)) (rest_of (byte ∷ bytes))
+short_line bytes = cond (length bytes == 0) Empty (unwrap_or (line_by (word_of bytes) (rest_of bytes)) Bad)
 
 -- a line of more bytes than the limit is a bad line
 abbrev pub client_line_of : List ℕ → ClientLine

@@ -1,12 +1,12 @@
-ghost use Rattle.std.specs.Str.{bytes_eq};
-ghost use Rattle.std.specs.Prelude.{◌≡◌, IfOk};
+ghost use Rattle.std.specs.Prelude.{◌≡◌, IfOk, unwrap_or};
 ghost use Rattle.tq_lines.specs.Line as spec;
 ghost use Rattle.tq_lines.specs.Word.{options_now};
 
 use crate::operands::{
-    chosen_for, cost_words, one_number, stop_of, target_of, text_of, two_numbers,
+    Visit, Written, chosen_for, cost_words, file_of, first_number, nothing_in, one_number,
+    visit_of, written_of,
 };
-use crate::word::first_word;
+use crate::word::{first_word, is_same};
 use std::alloc::Global;
 use tq_live::Purpose;
 use tq_shape::Memory;
@@ -64,244 +64,129 @@ impl Line {
             return Ok(Line::Empty);
         }
         let (verb, rest) = first_word(bytes);
-        Ok(Line::by(alloc, verb, rest)?)
+        match Line::operator_by(verb, rest) {
+            Some(line) => Ok(line),
+            None => Ok(Line::txn_by(alloc, verb, rest)?),
+        }
     }
 
-    fn by(alloc: Global, verb: &[u8], rest: Option<&[u8]>) -> Result<Line, Memory>
-        ensures { IfOk result (λ line. line ≡ spec.line_by verb.now (options_now rest.entry)) }
-    {
-        if is_same(verb, b"choose") {
-            return Ok(choose(rest));
-        }
-        if is_same(verb, b"begin") {
-            return Ok(alone(rest, Line::Begin));
-        }
-        if is_same(verb, b"cost") {
-            return Ok(cost(rest));
-        }
-        if is_same(verb, b"down") {
-            return Ok(mark(rest, false));
-        }
-        if is_same(verb, b"up") {
-            return Ok(mark(rest, true));
-        }
-        Ok(Line::txn_by(alloc, verb, rest)?)
-    }
-
-    fn txn_by(alloc: Global, verb: &[u8], rest: Option<&[u8]>) -> Result<Line, Memory>
-        ensures { IfOk result (λ line. line ≡ spec.txn_by verb.now (options_now rest.entry)) }
-    {
-        if is_same(verb, b"read") {
-            return Ok(read(rest));
-        }
-        if is_same(verb, b"write") {
-            return Ok(write(alloc, rest)?);
-        }
-        if is_same(verb, b"prepare") {
-            return Ok(prepare(rest));
-        }
-        if is_same(verb, b"apply") {
-            return Ok(apply(rest));
-        }
-        Ok(Line::end_by(verb, rest))
-    }
-
-    fn end_by(verb: &[u8], rest: Option<&[u8]>) -> Line
-        ensures { result ≡ spec.end_by verb.now (options_now rest.entry) }
-    {
-        if is_same(verb, b"decide") {
-            return of_number(rest, TxnLine::Decide);
-        }
-        if is_same(verb, b"commit") {
-            return of_number(rest, TxnLine::Commit);
-        }
-        if is_same(verb, b"abort") {
-            return of_number(rest, TxnLine::Abort);
-        }
-        if is_same(verb, b"resolve") {
-            return of_number(rest, TxnLine::Resolve);
-        }
-        Line::operator_by(verb, rest)
-    }
-
-    fn operator_by(verb: &[u8], rest: Option<&[u8]>) -> Line
+    /// The line that concerns no transaction.
+    fn operator_by(verb: &[u8], rest: Option<&[u8]>) -> Option<Line>
         ensures { result ≡ spec.operator_by verb.now (options_now rest.entry) }
     {
+        if is_same(verb, b"choose") {
+            let purpose = chosen_for(rest)?;
+            return Some(Line::Choose { purpose });
+        }
+        if is_same(verb, b"begin") {
+            nothing_in(rest)?;
+            return Some(Line::Begin);
+        }
+        if is_same(verb, b"cost") {
+            let words = cost_words(rest)?;
+            return Some(Line::Cost {
+                server: words.server,
+                read: words.read,
+                write: words.write,
+            });
+        }
+        if is_same(verb, b"down") {
+            let server = one_number(rest)?;
+            return Some(Line::Mark { server, up: false });
+        }
+        if is_same(verb, b"up") {
+            let server = one_number(rest)?;
+            return Some(Line::Mark { server, up: true });
+        }
         if is_same(verb, b"refresh") {
-            return alone(rest, Line::Refresh);
+            nothing_in(rest)?;
+            return Some(Line::Refresh);
         }
         if is_same(verb, b"board") {
-            return alone(rest, Line::Board);
+            nothing_in(rest)?;
+            return Some(Line::Board);
         }
-        Line::Bad
+        None
     }
-}
 
-/// Whether a word is this text.
-// Compiled into its callers: they pass a text that is known, so that its bytes are compared one by one with no call.
-#[inline(always)]
-pub(crate) fn is_same(word: &[u8], text: &[u8]) -> bool
-    ensures { result ≡ bytes_eq word.now text.now }
-{
-    if word.len() != text.len() {
-        return false;
-    }
-    for place in 0..text.len() {
-        if word[place] != text[place] {
-            return false;
+    /// The line of the transaction whose number follows; a bad one where it has no such form.
+    fn txn_by(alloc: Global, verb: &[u8], rest: Option<&[u8]>) -> Result<Line, Memory>
+        ensures { IfOk result (λ line.
+            line ≡ unwrap_or (spec.txn_by verb.now (options_now rest.entry)) Line.Bad) }
+    {
+        let Some(txn) = first_number(rest) else {
+            return Ok(Line::Bad);
+        };
+        let number = txn.number;
+        if is_same(verb, b"write") {
+            return match written_of(alloc, txn.rest)? {
+                Some(Written { file, content }) => Ok(Line::Txn {
+                    number,
+                    line: TxnLine::Write { file, content },
+                }),
+                None => Ok(Line::Bad),
+            };
+        }
+        match TxnLine::step_by(verb, txn.rest) {
+            Some(line) => Ok(Line::Txn { number, line }),
+            None => Ok(Line::Bad),
         }
     }
-    true
 }
 
-fn alone(rest: Option<&[u8]>, line: Line) -> Line
-    ensures { result ≡ spec.alone line (options_now rest.entry) }
-{
-    match rest {
-        None => line,
-        Some(_) => Line::Bad,
+impl TxnLine {
+    /// The line of a transaction that is no write, its number left out.
+    fn step_by(verb: &[u8], rest: Option<&[u8]>) -> Option<TxnLine>
+        ensures { result ≡ spec.step_by verb.now (options_now rest.entry) }
+    {
+        if is_same(verb, b"read") {
+            let file = file_of(rest)?;
+            return Some(TxnLine::Read { file });
+        }
+        if is_same(verb, b"prepare") {
+            let visit = visit_of(rest)?;
+            return Some(TxnLine::prepare(visit));
+        }
+        if is_same(verb, b"apply") {
+            let visit = visit_of(rest)?;
+            return Some(TxnLine::apply(visit));
+        }
+        if is_same(verb, b"decide") {
+            nothing_in(rest)?;
+            return Some(TxnLine::Decide);
+        }
+        if is_same(verb, b"commit") {
+            nothing_in(rest)?;
+            return Some(TxnLine::Commit);
+        }
+        if is_same(verb, b"abort") {
+            nothing_in(rest)?;
+            return Some(TxnLine::Abort);
+        }
+        if is_same(verb, b"resolve") {
+            nothing_in(rest)?;
+            return Some(TxnLine::Resolve);
+        }
+        None
     }
-}
 
-fn of_number(rest: Option<&[u8]>, line: TxnLine) -> Line
-    ensures { result ≡ spec.with_number (λ txn. Line.Txn txn line) (spec.one_number (options_now rest.entry)) }
-{
-    match one_number(rest) {
-        None => Line::Bad,
-        Some(number) => Line::Txn { number, line },
+    fn prepare(visit: Visit) -> TxnLine
+        ensures { result ≡ spec.prepare_at visit.server visit.crash }
+    {
+        let server = visit.server;
+        match visit.crash {
+            None => TxnLine::Prepare { server },
+            Some(after) => TxnLine::PrepareCrash { server, after },
+        }
     }
-}
 
-fn mark(rest: Option<&[u8]>, up: bool) -> Line
-    ensures { result ≡ spec.with_number (λ server. Line.Mark server up) (spec.one_number (options_now rest.entry)) }
-{
-    match one_number(rest) {
-        None => Line::Bad,
-        Some(server) => Line::Mark { server, up },
-    }
-}
-
-fn cost(rest: Option<&[u8]>) -> Line
-    ensures { result ≡ spec.cost_line (spec.cost_words (options_now rest.entry)) }
-{
-    match cost_words(rest) {
-        None => Line::Bad,
-        Some(words) => Line::Cost {
-            server: words.server,
-            read: words.read,
-            write: words.write,
-        },
-    }
-}
-
-fn choose(rest: Option<&[u8]>) -> Line
-    ensures { result ≡ spec.choose_line (spec.chosen_for (options_now rest.entry)) }
-{
-    match chosen_for(rest) {
-        None => Line::Bad,
-        Some(purpose) => Line::Choose { purpose },
-    }
-}
-
-fn prepare(rest: Option<&[u8]>) -> Line
-    ensures { result ≡ spec.prepare_line (options_now rest.entry) }
-{
-    match two_numbers(rest) {
-        None => prepare_crash(rest),
-        Some(numbers) => Line::Txn {
-            number: numbers.first,
-            line: TxnLine::Prepare {
-                server: numbers.second,
-            },
-        },
-    }
-}
-
-fn prepare_crash(rest: Option<&[u8]>) -> Line
-    ensures { result ≡ spec.with_stop (λ txn server after. Line.Txn txn (TxnLine.PrepareCrash server after)) (spec.stop_of (options_now rest.entry)) }
-{
-    match stop_of(rest) {
-        None => Line::Bad,
-        Some(stop) => Line::Txn {
-            number: stop.txn,
-            line: TxnLine::PrepareCrash {
-                server: stop.server,
-                after: stop.after,
-            },
-        },
-    }
-}
-
-fn apply(rest: Option<&[u8]>) -> Line
-    ensures { result ≡ spec.apply_line (options_now rest.entry) }
-{
-    match two_numbers(rest) {
-        None => apply_crash(rest),
-        Some(numbers) => Line::Txn {
-            number: numbers.first,
-            line: TxnLine::Apply {
-                server: numbers.second,
-            },
-        },
-    }
-}
-
-fn apply_crash(rest: Option<&[u8]>) -> Line
-    ensures { result ≡ spec.with_stop (λ txn server after. Line.Txn txn (TxnLine.ApplyCrash server after)) (spec.stop_of (options_now rest.entry)) }
-{
-    match stop_of(rest) {
-        None => Line::Bad,
-        Some(stop) => Line::Txn {
-            number: stop.txn,
-            line: TxnLine::ApplyCrash {
-                server: stop.server,
-                after: stop.after,
-            },
-        },
-    }
-}
-
-fn read(rest: Option<&[u8]>) -> Line
-    ensures { result ≡ spec.read_line (options_now rest.entry) }
-{
-    let Some(words) = rest else {
-        return Line::Bad;
-    };
-    let (first, more) = first_word(words);
-    let Some(file) = more else {
-        return Line::Bad;
-    };
-    match target_of(first, file) {
-        None => Line::Bad,
-        Some(target) => Line::Txn {
-            number: target.txn,
-            line: TxnLine::Read { file: target.file },
-        },
-    }
-}
-
-fn write(alloc: Global, rest: Option<&[u8]>) -> Result<Line, Memory>
-    ensures { IfOk result (λ line. line ≡ spec.write_line (options_now rest.entry)) }
-{
-    let Some(words) = rest else {
-        return Ok(Line::Bad);
-    };
-    let (first, more) = first_word(words);
-    let Some(others) = more else {
-        return Ok(Line::Bad);
-    };
-    let (second, text) = first_word(others);
-    let Some(target) = target_of(first, second) else {
-        return Ok(Line::Bad);
-    };
-    match text_of(alloc, text)? {
-        None => Ok(Line::Bad),
-        Some(content) => Ok(Line::Txn {
-            number: target.txn,
-            line: TxnLine::Write {
-                file: target.file,
-                content,
-            },
-        }),
+    fn apply(visit: Visit) -> TxnLine
+        ensures { result ≡ spec.apply_at visit.server visit.crash }
+    {
+        let server = visit.server;
+        match visit.crash {
+            None => TxnLine::Apply { server },
+            Some(after) => TxnLine::ApplyCrash { server, after },
+        }
     }
 }

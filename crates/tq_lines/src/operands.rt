@@ -1,16 +1,22 @@
-ghost use Rattle.std.specs.Prelude.{◌≡◌, IfOk};
+ghost use Rattle.std.specs.Prelude.{◌≡◌, IfOk, option_map};
 ghost use Rattle.std.specs.List.{list_all};
-ghost use Rattle.tq_lines.specs.Line as spec;
+ghost use Rattle.tq_lines.specs.Operands as spec;
 ghost use Rattle.tq_lines.specs.Word.{options_now, number_of};
 
-use crate::line::is_same;
-use crate::word::{first_word, number_of};
+use crate::word::{first_word, is_same, number_of};
 use std::alloc::Global;
 use tq_live::Purpose;
 use tq_shape::Memory;
 use tq_store::{Content, FileName, MAX_CONTENT};
 
-/// Two numbers that follow a verb.
+/// A number, and what follows it.
+#[derive(Clone, Copy)]
+pub(crate) struct Numbered<'a> {
+    pub(crate) number: u64,
+    pub(crate) rest: Option<&'a [u8]>,
+}
+
+/// Two numbers.
 #[derive(Clone, Copy)]
 pub(crate) struct Numbers {
     pub(crate) first: u64,
@@ -25,82 +31,83 @@ pub(crate) struct CostWords {
     pub(crate) write: u64,
 }
 
-/// A transaction, a server, and behind how many records it stops.
+/// A server, and behind how many records it crashes, if it does.
 #[derive(Clone, Copy)]
-pub(crate) struct Stop {
-    pub(crate) txn: u64,
+pub(crate) struct Visit {
     pub(crate) server: u64,
-    pub(crate) after: u32,
+    pub(crate) crash: Option<u32>,
 }
 
-/// A transaction and a file that follow a verb.
-#[derive(Clone, Copy)]
-pub(crate) struct Target {
-    pub(crate) txn: u64,
+/// What is written to a file.
+#[derive(Drop)]
+pub(crate) struct Written {
     pub(crate) file: FileName,
+    pub(crate) content: Content,
+}
+
+/// Nothing follows.
+pub(crate) fn nothing_in(rest: Option<&[u8]>) -> Option<()>
+    ensures { result ≡ spec.nothing_in (options_now rest.entry) }
+{
+    match rest {
+        None => Some(()),
+        Some(_) => None,
+    }
 }
 
 /// The one number that follows.
 pub(crate) fn one_number(rest: Option<&[u8]>) -> Option<u64>
     ensures { result ≡ spec.one_number (options_now rest.entry) }
 {
-    match rest {
-        Some(word) => number_of(word),
-        None => None,
-    }
+    number_of(rest?)
 }
 
-/// The two numbers that follow.
-pub(crate) fn two_numbers(rest: Option<&[u8]>) -> Option<Numbers>
+/// The number that follows, and what follows it.
+pub(crate) fn first_number(rest: Option<&[u8]>) -> Option<Numbered<'_>>
+    ensures { option_map (λ n. (n.number, options_now n.rest)) result
+        ≡ spec.first_number (options_now rest.entry) }
+{
+    let (word, rest) = first_word(rest?);
+    let number = number_of(word)?;
+    Some(Numbered { number, rest })
+}
+
+fn two_numbers(rest: Option<&[u8]>) -> Option<Numbers>
     ensures { result ≡ spec.two_numbers (options_now rest.entry) }
 {
-    let Some(words) = rest else {
-        return None;
-    };
-    let (word, more) = first_word(words);
-    let Some(first) = number_of(word) else {
-        return None;
-    };
-    match one_number(more) {
-        Some(second) => Some(Numbers { first, second }),
-        None => None,
+    let one = first_number(rest)?;
+    let second = one_number(one.rest)?;
+    Some(Numbers {
+        first: one.number,
+        second,
+    })
+}
+
+/// The cost for both purposes, or one for each.
+fn costs_of(rest: Option<&[u8]>) -> Option<Numbers>
+    ensures { result ≡ spec.costs_of (options_now rest.entry) }
+{
+    match one_number(rest) {
+        Some(both) => Some(Numbers {
+            first: both,
+            second: both,
+        }),
+        None => two_numbers(rest),
     }
 }
 
-/// The server and its cost for both purposes, or one for each, that follow.
+/// The server and its costs that follow.
 #[inline(always)]
 pub(crate) fn cost_words(rest: Option<&[u8]>) -> Option<CostWords>
     ensures { result ≡ spec.cost_words (options_now rest.entry) }
 {
-    match two_numbers(rest) {
-        Some(numbers) => Some(CostWords {
-            server: numbers.first,
-            read: numbers.second,
-            write: numbers.second,
-        }),
-        None => three_numbers(rest),
-    }
-}
-
-/// The server and its two costs that follow.
-fn three_numbers(rest: Option<&[u8]>) -> Option<CostWords>
-    ensures { result ≡ spec.three_numbers (options_now rest.entry) }
-{
-    let Some(words) = rest else {
-        return None;
-    };
-    let (word, more) = first_word(words);
-    let Some(server) = number_of(word) else {
-        return None;
-    };
-    match two_numbers(more) {
-        Some(costs) => Some(CostWords {
-            server,
-            read: costs.first,
-            write: costs.second,
-        }),
-        None => None,
-    }
+    let server = first_number(rest)?;
+    let costs = costs_of(server.rest)?;
+    Some(CostWords {
+        server: server.number,
+        read: costs.first,
+        write: costs.second,
+    })
 }
 
 /// The purpose that follows: reading, where nothing does.
@@ -113,89 +120,49 @@ pub(crate) fn chosen_for(rest: Option<&[u8]>) -> Option<Purpose>
     }
 }
 
-/// The numbers that two words spell.
-fn both_numbers(first: &[u8], second: &[u8]) -> Option<Numbers>
-    ensures { result ≡ spec.both_numbers (number_of first.now) (number_of second.now) }
-{
-    let Some(first) = number_of(first) else {
-        return None;
-    };
-    match number_of(second) {
-        Some(second) => Some(Numbers { first, second }),
-        None => None,
-    }
-}
-
 /// The one number of 32 bits that follows.
 fn small_number(rest: Option<&[u8]>) -> Option<u32>
     ensures { result ≡ spec.small_of (spec.one_number (options_now rest.entry)) }
 {
-    let Some(number) = one_number(rest) else {
-        return None;
-    };
+    let number = one_number(rest)?;
     if number > u32::MAX as u64 {
         return None;
     }
     Some(number as u32)
 }
 
-/// Behind how many records a server stops, where `crash` and their number follow.
-fn crash_of(rest: Option<&[u8]>) -> Option<u32>
+/// Behind how many records a server crashes, where `crash` and their number follow; that it does not, where nothing does.
+fn crash_of(rest: Option<&[u8]>) -> Option<Option<u32>>
     ensures { result ≡ spec.crash_of (options_now rest.entry) }
 {
     let Some(words) = rest else {
-        return None;
+        return Some(None);
     };
     let (word, more) = first_word(words);
     if !is_same(word, b"crash") {
         return None;
     }
-    small_number(more)
+    let after = small_number(more)?;
+    Some(Some(after))
 }
 
-/// The transaction, the server and the stop that follow.
-pub(crate) fn stop_of(rest: Option<&[u8]>) -> Option<Stop>
-    ensures { result ≡ spec.stop_of (options_now rest.entry) }
+/// The server that follows, which may crash.
+pub(crate) fn visit_of(rest: Option<&[u8]>) -> Option<Visit>
+    ensures { result ≡ spec.visit_of (options_now rest.entry) }
 {
-    let Some(words) = rest else {
-        return None;
-    };
-    let (first, more) = first_word(words);
-    let Some(others) = more else {
-        return None;
-    };
-    let (second, last) = first_word(others);
-    let Some(numbers) = both_numbers(first, second) else {
-        return None;
-    };
-    match crash_of(last) {
-        Some(after) => Some(Stop {
-            txn: numbers.first,
-            server: numbers.second,
-            after,
-        }),
-        None => None,
-    }
+    let server = first_number(rest)?;
+    let crash = crash_of(server.rest)?;
+    Some(Visit {
+        server: server.number,
+        crash,
+    })
 }
 
-/// The file that a word names, if it is a name.
-pub(crate) fn file_of(word: &[u8]) -> Option<FileName>
-    ensures { result ≡ spec.file_of word.now }
+/// The file that follows, if it is a name.
+pub(crate) fn file_of(rest: Option<&[u8]>) -> Option<FileName>
+    ensures { result ≡ spec.file_of (options_now rest.entry) }
 {
-    FileName::new(word)
-}
-
-/// The transaction and the file that two words name.
-pub(crate) fn target_of(first: &[u8], second: &[u8]) -> Option<Target>
-    ensures { result ≡ spec.target_of first.now second.now }
-{
-    let Some(txn) = number_of(first) else {
-        return None;
-    };
-    match file_of(second) {
-        Some(file) => Some(Target { txn, file }),
-        None => None,
-    }
+    FileName::new(rest?)
 }
 
 fn is_printed(byte: u8) -> bool
@@ -226,11 +193,28 @@ fn content_of(alloc: Global, text: &[u8]) -> Result<Option<Content>, Memory>
 }
 
 /// The text that follows a file.
-pub(crate) fn text_of(alloc: Global, rest: Option<&[u8]>) -> Result<Option<Content>, Memory>
+fn text_of(alloc: Global, rest: Option<&[u8]>) -> Result<Option<Content>, Memory>
     ensures { IfOk result (λ content. content ≡ spec.text_of (options_now rest.entry)) }
 {
     match rest {
         Some(text) => Ok(content_of(alloc, text)?),
         None => Ok(Some(Content::empty())),
+    }
+}
+
+/// The file that follows, and the text that is written to it.
+pub(crate) fn written_of(alloc: Global, rest: Option<&[u8]>) -> Result<Option<Written>, Memory>
+    ensures { IfOk result (λ written. written ≡ spec.written_of (options_now rest.entry)) }
+{
+    let Some(words) = rest else {
+        return Ok(None);
+    };
+    let (word, text) = first_word(words);
+    let Some(file) = FileName::new(word) else {
+        return Ok(None);
+    };
+    match text_of(alloc, text)? {
+        Some(content) => Ok(Some(Written { file, content })),
+        None => Ok(None),
     }
 }

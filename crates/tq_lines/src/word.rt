@@ -1,5 +1,6 @@
 ghost use Rattle.std.specs.Prelude.{◌≡◌, ◌+◌, ◌*◌, ◌<◌, ◌^◌, ℕ, IfSome, Some, List, length};
 ghost use Rattle.std.specs.Fmt.{decimal};
+ghost use Rattle.std.specs.Str.{bytes_eq};
 ghost use Rattle.tq_lines.specs.Word.{number_of, digits_after, digit_after, word_of, rest_of, options_now, without_return};
 
 /// The bytes before the first space, and those after it where there is one.
@@ -13,6 +14,23 @@ pub(crate) fn first_word(bytes: &[u8]) -> (&[u8], Option<&[u8]>)
         }
     }
     (bytes, None)
+}
+
+/// Whether a word is this text.
+// Compiled into its callers: they pass a text that is known, so that its bytes are compared one by one with no call.
+#[inline(always)]
+pub(crate) fn is_same(word: &[u8], text: &[u8]) -> bool
+    ensures { result ≡ bytes_eq word.now text.now }
+{
+    if word.len() != text.len() {
+        return false;
+    }
+    for place in 0..text.len() {
+        if word[place] != text[place] {
+            return false;
+        }
+    }
+    true
 }
 
 /// The number that the word spells in decimal digits, if it is one of 64 bits without leading zeros.
@@ -83,7 +101,8 @@ fn with_digit(value: u64, digit: u8) -> Option<u64>
 /// The decimal text of a number of 64 bits is read as that number, and no other text is.
 pub fn numbers_are_read_again()
     ensures read { (number : ℕ) → number < 2 ^ 64 → number_of (decimal number) ≡ Some number }
-    ensures only { (word : List ℕ) (number : ℕ) → number_of word ≡ Some number → word ≡ decimal number }
+    ensures only { (word : List ℕ) (number : ℕ) →
+        number_of word ≡ Some number → word ≡ decimal number }
 {}
 
 /// The bytes without one carriage return at their end.

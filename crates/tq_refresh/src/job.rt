@@ -78,7 +78,8 @@ fn taking_ask(
     version: u64,
     content: Content,
 ) -> Result<NodeAsk, Memory>
-    ensures { IfOk result (λ ask. Some ask ≡ refresh_of job.now number (NodeReply.Copy version content)) }
+    ensures { IfOk result (λ ask.
+        Some ask ≡ refresh_of job.now number (NodeReply.Copy version content)) }
 {
     let from = CitedVote {
         server: job.source.number(),

@@ -1,5 +1,5 @@
 ghost use Rattle.std.specs.Prelude.{◌≡◌, true, false, IfOk, OnOk, OnErr};
-ghost use Rattle.tq_refresh.specs.Mending.{IsAnswered, IsBegun, Grows, job_asked, refresh_asked};
+ghost use Rattle.tq_refresh.specs.Mending.{IsAnswered, IsBegun, Grows, refresh_asked, worker_asked};
 
 use crate::job::{Job, copy_ask, peek_ask};
 use std::alloc::{AllocError, Global};
@@ -12,8 +12,10 @@ use tq_txn::{Asker, NodeTold};
 /// another tree nothing is asked.
 pub fn refresh<A: Asker>(asker: &mut A, alloc: Global, levels: Levels, job: &Job) -> bool
     requires { levels ≡ A.levels asker.old }
-    ensures asked { result ≡ false → Grows (refresh_asked levels job.now) (A.told asker.old) (A.told asker.new) }
-    ensures begun { result ≡ true → IsBegun (refresh_asked levels job.now) (A.told asker.old) (A.told asker.new) }
+    ensures asked { result ≡ false →
+        Grows (refresh_asked levels job.now) (A.told asker.old) (A.told asker.new) }
+    ensures begun { result ≡ true →
+        IsBegun (refresh_asked levels job.now) (A.told asker.old) (A.told asker.new) }
     ensures tree { A.levels asker.new ≡ A.levels asker.old }
 {
     if job.source.levels() != levels {
@@ -30,8 +32,10 @@ pub fn refresh<A: Asker>(asker: &mut A, alloc: Global, levels: Levels, job: &Job
 pub fn mend<A: Asker>(asker: &mut A, alloc: Global, job: &Job) -> Result<(), Memory>
     requires source { job.now.source.levels ≡ A.levels asker.old }
     requires server { job.now.server.levels ≡ A.levels asker.old }
-    ensures asked { OnOk result (Grows (job_asked job.now) (A.told asker.old) (A.told asker.new)) }
-    ensures begun { OnErr result (IsBegun (job_asked job.now) (A.told asker.old) (A.told asker.new)) }
+    ensures asked { OnOk result
+        (Grows (worker_asked job.now) (A.told asker.old) (A.told asker.new)) }
+    ensures begun { OnErr result
+        (IsBegun (worker_asked job.now) (A.told asker.old) (A.told asker.new)) }
     ensures tree { A.levels asker.new ≡ A.levels asker.old }
 {
     let peek = peek_ask(alloc, job)?;
@@ -53,7 +57,8 @@ fn answer_of<A: Asker>(
     ask: NodeAsk,
 ) -> Result<Option<NodeTold>, Memory>
     requires { server.levels ≡ A.levels asker.old }
-    ensures told { IfOk result (λ told. IsAnswered server.number ask told (A.told asker.old) (A.told asker.new)) }
+    ensures told { IfOk result (λ told.
+        IsAnswered server.number ask told (A.told asker.old) (A.told asker.new)) }
     ensures untold { OnErr result (A.told asker.new ≡ A.told asker.old) }
     ensures tree { A.levels asker.new ≡ A.levels asker.old }
 {

@@ -4,15 +4,18 @@ use Rattle.tq_shape.specs.Limits.{LimitsView}
 use Rattle.tq_states.specs.Open.{OpenView}
 use Rattle.tq_txn.specs.declared.asker.Exchange.{Exchange}
 use Rattle.tq_txn.specs.declared.asker.Exchange.TheVariants as exchanges
+use Rattle.tq_part.specs.declared.fault.AskFault.{AskFault}
+use Rattle.tq_part.specs.declared.fault.AskFault.TheVariants as ask_faults
+use Rattle.tq_txn.specs.declared.asker.ViewTold.{ViewTold}
 use Rattle.tq_txn.specs.declared.fault.LineFault.{LineFault}
 use Rattle.tq_txn.specs.declared.fault.LineFault.TheVariants as faults
-use Rattle.tq_txn.specs.Dialogue.{Dialogue, Ends, AsksNode, AsksDesk, AsksView, Begins, Follows, LineEnd, then_line, ended_by}
+use Rattle.tq_txn.specs.Dialogue.{Dialogue, Ends, AsksNode, AsksDesk, AsksView, Begins, Follows, LineEnd, then_line, ended_by, line_result}
 use Rattle.tq_txn.proofs.LineLaws.{follows_end, follows_node, follows_desk, follows_view}
 use Rattle.std.proofs.lemmas.List.{drop_more, at_drop_all}
 use Rattle.tq_shape.specs.Tree.{Server, IsServer}
 use Rattle.tq_live.specs.View.{is_server}
-use Rattle.tq_script.specs.declared.script.Line.{Line}
-use Rattle.tq_script.specs.Script.{leaving, went, is_answered, server_marked, mark_asked, closing, line_asked, script_asked}
+use Rattle.tq_lines.specs.declared.script.Line.{Line}
+use Rattle.tq_script.specs.Script.{leaving, passed, went, is_answered, server_marked, mark_asked, closing, line_asked, script_asked}
 
 behind : (old mid first : List Exchange) (entry : Exchange) (told : List Exchange) → mid ≡ old ++ told → told ≡ entry ∷ first → mid ≡ (old ++ entry ∷ []) ++ first
 behind old mid first entry told grown is = grown ∙ ap (λ t. old ++ t) is ∙ sym (append_assoc old (entry ∷ []) first)
@@ -79,6 +82,13 @@ module _ {A S B : Type 0} (line : Dialogue (LineEnd A S)) (next : Bool → S →
   follows_went_out (Ok a) after old new is first = absurd cc
   follows_went_out (Err faults.Memory) after old new is first = follows_cut line (λ e. next (is_answered e.answer) e.after) old new first
   follows_went_out (Err fault) after old new is first = absurd cc
+
+-- ---- the view's answer is passed over
+
+pub follows_passed : {A : Type 0} (line : Dialogue (LineEnd ViewTold A)) (answer : Result ViewTold AskFault) (after : A) (old new : List Exchange) → Follows line old new (ended_by (line_result answer) after) → Follows (then_line line (λ end. Ends tt)) old new (passed answer)
+follows_passed line (Ok told) after old new first = follows_then line (λ end. Ends tt) (record { answer = Ok told; after = after }) old new new (Some tt) first (follows_end tt new)
+follows_passed line (Err ask_faults.Memory) after old new first = follows_cut line (λ end. Ends tt) old new first
+follows_passed line (Err fault) after old new first = follows_then line (λ end. Ends tt) (record { answer = line_result (Err fault); after = after }) old new new (Some tt) first (follows_end tt new)
 
 -- ---- a server of the tree
 

@@ -19,13 +19,14 @@ use Rattle.tq_txn.specs.declared.fault.LineFault.{LineFault}
 use Rattle.tq_txn.specs.declared.fault.LineFault.TheVariants as faults
 use Rattle.tq_txn.specs.declared.txn.Txn.{Txn}
 use Rattle.tq_txn.specs.declared.txn.Txn.TheVariants as states
-use Rattle.tq_txn.specs.Dialogue.{Told, Dialogue, Ends, AsksDesk, AsksView, then_line}
+use Rattle.tq_txn.specs.declared.asker.ViewTold.{ViewTold}
+use Rattle.tq_txn.specs.Dialogue.{Told, Dialogue, LineEnd, Ends, AsksDesk, then_line, view_line}
 use Rattle.tq_txn.specs.Lines.{any_line, read_line, write_line}
 use Rattle.tq_txn.specs.Commits.{commit_line}
 use Rattle.tq_txn.specs.Aborts.{abort_line}
 use Rattle.tq_states.specs.declared.told.DeskTold.{DeskTold}
-use Rattle.tq_script.specs.declared.script.Line.{Line}
-use Rattle.tq_script.specs.declared.script.Line.TheVariants as is
+use Rattle.tq_lines.specs.declared.script.Line.{Line}
+use Rattle.tq_lines.specs.declared.script.Line.TheVariants as is
 
 -- the line is asked, and leaves this
 abbrev pub leaving : {S : Type 0} → S → Dialogue (Unit {0}) → Dialogue S
@@ -33,16 +34,25 @@ leaving after line = then_line line (λ asked. Ends after)
 
 -- ---- the lines that concern no transaction
 
+-- an answer of the view was waited for, unless memory ran out
+abbrev pub passed : Result ViewTold AskFault → Option (Unit {0})
+passed (Err ask_faults.Memory) = None
+passed answer = Some tt
+
 -- an ask of the view, whatever it answers
 abbrev pub view_asked : ViewAsk → Dialogue (Unit {0})
-view_asked ask = AsksView ask (λ answer. Ends tt)
+view_asked ask = then_line (view_line ask) (λ end. Ends tt)
 
 abbrev pub mark_ask : Bool → NodeAsk
 mark_ask up = cond up Return Crash
 
 -- whatever the server answers, the view is asked
+abbrev pub mark_line : ℕ → Bool → Dialogue (LineEnd ViewTold (Unit {0}))
+mark_line server up = then_line (any_line server (mark_ask up)) (λ end. view_line (view_asks.Mark server up))
+
+-- whatever the view answers as well
 abbrev pub server_marked : ℕ → Bool → Dialogue (Unit {0})
-server_marked server up = then_line (any_line server (mark_ask up)) (λ end. view_asked (view_asks.Mark server up))
+server_marked server up = then_line (mark_line server up) (λ end. Ends tt)
 
 -- outside the tree the view is asked alone
 abbrev pub mark_asked : ℕ → ℕ → Bool → Dialogue (Unit {0})

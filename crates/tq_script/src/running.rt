@@ -5,8 +5,9 @@ ghost use Rattle.tq_script.specs.Script as spec;
 
 use crate::operating::{ask_view, mark};
 use crate::transacting::{abort_open, begin, close, commit_open, read, write};
-use crate::{Line, Script};
 use std::alloc::Global;
+use tq_lines::Script;
+use tq_lines::script::Line;
 use tq_live::ViewAsk;
 use tq_shape::{Levels, Limits, Memory};
 use tq_txn::{Asker, Open};
@@ -22,7 +23,8 @@ pub fn run_script<A: Asker>(
     script: &Script,
 ) -> Result<(), Memory>
     requires { A.levels asker.old ≡ levels }
-    ensures asks { Follows (spec.script_asked levels limits script.now None) (A.told asker.old) (A.told asker.new) (result_ok result) }
+    ensures asks { Follows (spec.script_asked levels limits script.now None)
+        (A.told asker.old) (A.told asker.new) (result_ok result) }
     ensures tree { A.levels asker.new ≡ A.levels asker.old }
 {
     let lines = script.lines();
@@ -44,7 +46,8 @@ fn run_line<A: Asker>(
 ) -> Result<Option<Open>, Memory>
     requires tree { A.levels asker.old ≡ levels }
     requires txn { IfSome open_txn (λ o. o.levels ≡ levels) }
-    ensures asks { Follows (spec.line_asked levels limits line.now open_txn) (A.told asker.old) (A.told asker.new) (result_ok result) }
+    ensures asks { Follows (spec.line_asked levels limits line.now open_txn)
+        (A.told asker.old) (A.told asker.new) (result_ok result) }
     ensures levels { IfOk result (λ txn. IfSome txn (λ o. o.levels ≡ levels)) }
     ensures tree { A.levels asker.new ≡ A.levels asker.old }
 {
@@ -82,7 +85,8 @@ fn view_beside<A: Asker>(
     open_txn: Option<Open>,
     ask: ViewAsk,
 ) -> Result<Option<Open>, Memory>
-    ensures asks { Follows (spec.leaving open_txn (spec.view_asked ask)) (A.told asker.old) (A.told asker.new) (result_ok result) }
+    ensures asks { Follows (spec.leaving open_txn (spec.view_asked ask))
+        (A.told asker.old) (A.told asker.new) (result_ok result) }
     ensures same { IfOk result (λ txn. txn ≡ open_txn) }
     ensures tree { A.levels asker.new ≡ A.levels asker.old }
 {
@@ -100,7 +104,8 @@ fn mark_beside<A: Asker>(
     up: bool,
 ) -> Result<Option<Open>, Memory>
     requires { A.levels asker.old ≡ levels }
-    ensures asks { Follows (spec.leaving open_txn (spec.mark_asked levels server up)) (A.told asker.old) (A.told asker.new) (result_ok result) }
+    ensures asks { Follows (spec.leaving open_txn (spec.mark_asked levels server up))
+        (A.told asker.old) (A.told asker.new) (result_ok result) }
     ensures same { IfOk result (λ txn. txn ≡ open_txn) }
     ensures tree { A.levels asker.new ≡ A.levels asker.old }
 {

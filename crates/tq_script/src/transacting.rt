@@ -28,7 +28,8 @@ fn went<T: Drop>(answer: Result<T, LineFault>) -> Result<bool, Memory>
 /// Aborts a transaction, whatever is answered.
 fn give_up<A: Asker>(asker: &mut A, alloc: Global, txn: Txn) -> Result<(), Memory>
     requires { levels_of txn ≡ A.levels asker.old }
-    ensures asks { Follows (spec.given_up txn) (A.told asker.old) (A.told asker.new) (result_ok result) }
+    ensures asks { Follows (spec.given_up txn)
+        (A.told asker.old) (A.told asker.new) (result_ok result) }
     ensures tree { A.levels asker.new ≡ A.levels asker.old }
 {
     let Abortion {
@@ -46,7 +47,8 @@ pub(crate) fn close<A: Asker>(
     open_txn: Option<Open>,
 ) -> Result<(), Memory>
     requires { IfSome open_txn (λ o. o.levels ≡ A.levels asker.old) }
-    ensures asks { Follows (spec.closing open_txn) (A.told asker.old) (A.told asker.new) (result_ok result) }
+    ensures asks { Follows (spec.closing open_txn)
+        (A.told asker.old) (A.told asker.new) (result_ok result) }
     ensures tree { A.levels asker.new ≡ A.levels asker.old }
 {
     match open_txn {
@@ -92,7 +94,8 @@ pub(crate) fn begin<A: Asker>(
     open_txn: Option<Open>,
 ) -> Result<Option<Open>, Memory>
     requires { IfSome open_txn (λ o. o.levels ≡ A.levels asker.old) }
-    ensures asks { Follows (spec.begin_asked levels limits open_txn) (A.told asker.old) (A.told asker.new) (result_ok result) }
+    ensures asks { Follows (spec.begin_asked levels limits open_txn)
+        (A.told asker.old) (A.told asker.new) (result_ok result) }
     ensures levels { IfOk result (λ txn. IfSome txn (λ o. o.levels ≡ levels)) }
     ensures tree { A.levels asker.new ≡ A.levels asker.old }
 {
@@ -106,7 +109,8 @@ fn ask_begin<A: Asker>(
     levels: Levels,
     limits: Limits,
 ) -> Result<Option<Open>, Memory>
-    ensures asks { Follows (spec.desk_begun levels limits) (A.told asker.old) (A.told asker.new) (result_ok result) }
+    ensures asks { Follows (spec.desk_begun levels limits)
+        (A.told asker.old) (A.told asker.new) (result_ok result) }
     ensures levels { IfOk result (λ txn. IfSome txn (λ o. o.levels ≡ levels)) }
     ensures tree { A.levels asker.new ≡ A.levels asker.old }
 {
@@ -122,7 +126,8 @@ fn after<A: Asker>(
     answered: bool,
 ) -> Result<Option<Open>, Memory>
     requires { open_txn.levels ≡ A.levels asker.old }
-    ensures asks { Follows (spec.after answered open_txn) (A.told asker.old) (A.told asker.new) (result_ok result) }
+    ensures asks { Follows (spec.after answered open_txn)
+        (A.told asker.old) (A.told asker.new) (result_ok result) }
     ensures levels { IfOk result (λ txn. IfSome txn (λ o. o.levels ≡ A.levels asker.old)) }
     ensures tree { A.levels asker.new ≡ A.levels asker.old }
 {
@@ -134,7 +139,8 @@ fn after<A: Asker>(
 
 fn abort_in<A: Asker>(asker: &mut A, alloc: Global, open_txn: Open) -> Result<Option<Open>, Memory>
     requires { open_txn.levels ≡ A.levels asker.old }
-    ensures asks { Follows (spec.leaving None (spec.given_up (Txn.Open open_txn))) (A.told asker.old) (A.told asker.new) (result_ok result) }
+    ensures asks { Follows (spec.leaving None (spec.given_up (Txn.Open open_txn)))
+        (A.told asker.old) (A.told asker.new) (result_ok result) }
     ensures none { IfOk result (λ txn. txn ≡ None) }
     ensures tree { A.levels asker.new ≡ A.levels asker.old }
 {
@@ -150,7 +156,8 @@ pub(crate) fn read<A: Asker>(
     file: &FileName,
 ) -> Result<Option<Open>, Memory>
     requires { IfSome open_txn (λ o. o.levels ≡ A.levels asker.old) }
-    ensures asks { Follows (spec.in_open (spec.read_asked file.now) open_txn) (A.told asker.old) (A.told asker.new) (result_ok result) }
+    ensures asks { Follows (spec.in_open (spec.read_asked file.now) open_txn)
+        (A.told asker.old) (A.told asker.new) (result_ok result) }
     ensures levels { IfOk result (λ txn. IfSome txn (λ o. o.levels ≡ A.levels asker.old)) }
     ensures tree { A.levels asker.new ≡ A.levels asker.old }
 {
@@ -167,7 +174,8 @@ fn read_in<A: Asker>(
     file: &FileName,
 ) -> Result<Option<Open>, Memory>
     requires { open_txn.levels ≡ A.levels asker.old }
-    ensures asks { Follows (spec.read_asked file.now open_txn) (A.told asker.old) (A.told asker.new) (result_ok result) }
+    ensures asks { Follows (spec.read_asked file.now open_txn)
+        (A.told asker.old) (A.told asker.new) (result_ok result) }
     ensures levels { IfOk result (λ txn. IfSome txn (λ o. o.levels ≡ A.levels asker.old)) }
     ensures tree { A.levels asker.new ≡ A.levels asker.old }
 {
@@ -186,7 +194,8 @@ pub(crate) fn write<A: Asker>(
     content: &Content,
 ) -> Result<Option<Open>, Memory>
     requires { IfSome open_txn (λ o. o.levels ≡ A.levels asker.old) }
-    ensures asks { Follows (spec.in_open (spec.write_asked file.now content.now) open_txn) (A.told asker.old) (A.told asker.new) (result_ok result) }
+    ensures asks { Follows (spec.in_open (spec.write_asked file.now content.now) open_txn)
+        (A.told asker.old) (A.told asker.new) (result_ok result) }
     ensures levels { IfOk result (λ txn. IfSome txn (λ o. o.levels ≡ A.levels asker.old)) }
     ensures tree { A.levels asker.new ≡ A.levels asker.old }
 {
@@ -204,7 +213,8 @@ fn write_in<A: Asker>(
     content: &Content,
 ) -> Result<Option<Open>, Memory>
     requires { open_txn.levels ≡ A.levels asker.old }
-    ensures asks { Follows (spec.write_asked file.now content.now open_txn) (A.told asker.old) (A.told asker.new) (result_ok result) }
+    ensures asks { Follows (spec.write_asked file.now content.now open_txn)
+        (A.told asker.old) (A.told asker.new) (result_ok result) }
     ensures levels { IfOk result (λ txn. IfSome txn (λ o. o.levels ≡ A.levels asker.old)) }
     ensures tree { A.levels asker.new ≡ A.levels asker.old }
 {
@@ -222,7 +232,8 @@ pub(crate) fn commit_open<A: Asker>(
     open_txn: Option<Open>,
 ) -> Result<Option<Open>, Memory>
     requires { IfSome open_txn (λ o. o.levels ≡ A.levels asker.old) }
-    ensures asks { Follows (spec.in_open (λ t. spec.leaving None (spec.commit_asked t)) open_txn) (A.told asker.old) (A.told asker.new) (result_ok result) }
+    ensures asks { Follows (spec.in_open (λ t. spec.leaving None (spec.commit_asked t)) open_txn)
+        (A.told asker.old) (A.told asker.new) (result_ok result) }
     ensures none { IfOk result (λ txn. txn ≡ None) }
     ensures tree { A.levels asker.new ≡ A.levels asker.old }
 {
@@ -234,7 +245,8 @@ pub(crate) fn commit_open<A: Asker>(
 
 fn commit_in<A: Asker>(asker: &mut A, alloc: Global, open_txn: Open) -> Result<Option<Open>, Memory>
     requires { open_txn.levels ≡ A.levels asker.old }
-    ensures asks { Follows (spec.leaving None (spec.commit_asked open_txn)) (A.told asker.old) (A.told asker.new) (result_ok result) }
+    ensures asks { Follows (spec.leaving None (spec.commit_asked open_txn))
+        (A.told asker.old) (A.told asker.new) (result_ok result) }
     ensures none { IfOk result (λ txn. txn ≡ None) }
     ensures tree { A.levels asker.new ≡ A.levels asker.old }
 {
@@ -249,7 +261,9 @@ pub(crate) fn abort_open<A: Asker>(
     open_txn: Option<Open>,
 ) -> Result<Option<Open>, Memory>
     requires { IfSome open_txn (λ o. o.levels ≡ A.levels asker.old) }
-    ensures asks { Follows (spec.in_open (λ t. spec.leaving None (spec.given_up (Txn.Open t))) open_txn) (A.told asker.old) (A.told asker.new) (result_ok result) }
+    ensures asks { Follows
+        (spec.in_open (λ t. spec.leaving None (spec.given_up (Txn.Open t))) open_txn)
+        (A.told asker.old) (A.told asker.new) (result_ok result) }
     ensures none { IfOk result (λ txn. txn ≡ None) }
     ensures tree { A.levels asker.new ≡ A.levels asker.old }
 {
@@ -261,7 +275,8 @@ pub(crate) fn abort_open<A: Asker>(
 
 fn commit_or_abort<A: Asker>(asker: &mut A, alloc: Global, open_txn: Open) -> Result<(), Memory>
     requires { open_txn.levels ≡ A.levels asker.old }
-    ensures asks { Follows (spec.commit_asked open_txn) (A.told asker.old) (A.told asker.new) (result_ok result) }
+    ensures asks { Follows (spec.commit_asked open_txn)
+        (A.told asker.old) (A.told asker.new) (result_ok result) }
     ensures tree { A.levels asker.new ≡ A.levels asker.old }
 {
     match open_txn.close() {
@@ -272,7 +287,8 @@ fn commit_or_abort<A: Asker>(asker: &mut A, alloc: Global, open_txn: Open) -> Re
 
 fn commit_voting<A: Asker>(asker: &mut A, alloc: Global, voting: Voting) -> Result<(), Memory>
     requires { voting.txn.levels ≡ A.levels asker.old }
-    ensures asks { Follows (spec.voting_asked voting) (A.told asker.old) (A.told asker.new) (result_ok result) }
+    ensures asks { Follows (spec.voting_asked voting)
+        (A.told asker.old) (A.told asker.new) (result_ok result) }
     ensures tree { A.levels asker.new ≡ A.levels asker.old }
 {
     let Decision { answer, txn } = commit(asker, alloc, voting);

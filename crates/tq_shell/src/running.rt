@@ -7,8 +7,7 @@ use std::sync::Wait;
 use std::thread::Threads;
 use tq_cells::OpenGate;
 use tq_cluster::{CloseFault, Cluster, Ran};
-use tq_script::Script;
-use tq_scripts::{ScriptFault, read_scripts};
+use tq_lines::{Script, ScriptFault, read_scripts};
 use tq_shape::{Levels, Limits, Memory};
 
 /// Runs the client scripts of the text in threads, over a new cluster, which is closed then. Answers an error only where

@@ -1,5 +1,5 @@
 use Rattle.std.proofs.Common.{Ok, ap}
-use Rattle.tq_answering.specs.Operators.{answer_in}
+use Rattle.tq_refresh.specs.Mending.{answer_in}
 use Rattle.tq_answering.proofs.Operating.{node_answered, node_refused}
 use Rattle.tq_answering.proofs.operators.answer_of.Goals as goal
 

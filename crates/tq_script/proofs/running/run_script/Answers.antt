@@ -4,7 +4,7 @@ use Rattle.std.specs.Option.{IfSome}
 use Rattle.std.specs.Result.{result_ok}
 use Rattle.tq_states.specs.Open.{OpenView}
 use Rattle.tq_txn.specs.Dialogue.{Follows}
-use Rattle.tq_script.specs.declared.script.Line.{Line}
+use Rattle.tq_lines.specs.declared.script.Line.{Line}
 use Rattle.tq_script.specs.Script.{script_asked}
 use Rattle.tq_script.proofs.Following.{next_line, last_line, no_line}
 use Rattle.tq_script.proofs.running.run_script.Goals as goal

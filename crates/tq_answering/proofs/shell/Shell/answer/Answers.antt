@@ -1,6 +1,7 @@
 use Rattle.std.proofs.Common.{ℕ, sym, subst}
 use Rattle.tq_answering.specs.Answer.{World}
-use Rattle.tq_answering.proofs.Sayings.{AreOfTree, said_of}
+use Rattle.tq_answering.specs.Known.{AreOfTree}
+use Rattle.tq_answering.proofs.Sayings.{said_of}
 use Rattle.tq_answering.proofs.shell.Shell.answer.Goals as goal
 
 pub returns-clause-possible : goal.returns-clause-possible

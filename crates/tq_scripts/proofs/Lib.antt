@@ -1,3 +1,0 @@
-mod GatheringLaws
-mod ByteLaws
-mod ReadLaws

@@ -1,3 +1,0 @@
-pub mod Gathering
-pub mod Gathered
-pub mod Scripts
