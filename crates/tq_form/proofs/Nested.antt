@@ -23,12 +23,12 @@ stops (Some n) (Some d) f = refl
 
 pub view_ask_read : (format : Format) (d : Data)
     → (text_at (codes "is") d >>= λ kind. slots.view_ask_by format kind (record {
-        cost = number_at (codes "cost") d;
-        purpose = views.purpose_at d;
-        read = number_at (codes "read") d;
-        server = number_at (codes "server") d;
-        up = flag_at (codes "up") d;
-        write = number_at (codes "write") d;
-      })) ≡ views.view_ask format d
+      cost = number_at (codes "cost") d;
+      purpose = views.purpose_at d;
+      read = number_at (codes "read") d;
+      server = number_at (codes "server") d;
+      up = flag_at (codes "up") d;
+      write = number_at (codes "write") d;
+    })) ≡ views.view_ask format d
 view_ask_read One d = refl
 view_ask_read Two d = refl

@@ -1,10 +1,8 @@
 -- What the entries of a file are read by.
-use Rattle.std.specs.Prelude.{ℕ, nat_le, cond, codes, List, length, Option, Some, None}
-use Rattle.std.specs.Str.{bytes_eq}
+use Rattle.std.specs.Prelude.{codes, Option, Some}
 use Rattle.serde_json.specs.Data.{Data}
-use Rattle.serde_json.specs.Find.{get, as_str, as_array}
 use Rattle.tq_members.specs.Format.{format_of}
-use Rattle.tq_members.specs.Member.{◌>>=◌, number_at, each}
+use Rattle.tq_members.specs.Member.{◌>>=◌, number_at}
 use Rattle.tq_form.specs.declared.plan.Plan.{Plan}
 use Rattle.tq_form.specs.Frame.{levels_at, limits_at}
 

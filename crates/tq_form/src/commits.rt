@@ -22,8 +22,13 @@ impl<'a> FromReader<'a> for Grant {
     ghost none = { λ plan. refl };
 
     fn read(alloc: Global, plan: &Plan, reader: &mut Reader<'a>, depth: usize) -> Taken<Grant> {
-        let (content, (mode, (number, (server, (version, ()))))) =
-            take_object(alloc, plan, GRANT_NAMES, reader, depth)?;
+        let (content, (mode, (number, (server, (version, ()))))) = take_object(
+            alloc,
+            plan,
+            GRANT_NAMES,
+            reader,
+            depth,
+        )?;
         Ok(grant_from(content, mode, number, server, version))
     }
 }
@@ -59,8 +64,9 @@ impl<'a> FromReader<'a> for Op {
     ghost none = { λ plan. refl };
 
     fn read(alloc: Global, plan: &Plan, reader: &mut Reader<'a>, depth: usize) -> Taken<Op> {
-        let (content, (file, (grants, (kind, (version, ()))))) =
-            take_object(alloc, plan, OP_NAMES, reader, depth)?;
+        let (content, (file, (grants, (kind, (version, ()))))) = take_object(
+            alloc, plan, OP_NAMES, reader, depth,
+        )?;
         Ok(op_from(content, file, grants, kind, version))
     }
 }
@@ -96,8 +102,9 @@ impl<'a> FromReader<'a> for Vote {
     ghost none = { λ plan. refl };
 
     fn read(alloc: Global, plan: &Plan, reader: &mut Reader<'a>, depth: usize) -> Taken<Vote> {
-        let (held, (number, (server, (writes, ())))) =
-            take_object(alloc, plan, VOTE_NAMES, reader, depth)?;
+        let (held, (number, (server, (writes, ())))) = take_object(
+            alloc, plan, VOTE_NAMES, reader, depth,
+        )?;
         Ok(vote_from(held, number, server, writes))
     }
 }

@@ -21,7 +21,13 @@ impl<'a> FromReader<'a> for DeskAsk {
     ghost none = { λ plan. refl };
 
     fn read(alloc: Global, plan: &Plan, reader: &mut Reader<'a>, depth: usize) -> Taken<DeskAsk> {
-        let (kind, (ops, (txn, (votes, ())))) = take_object(alloc, plan, DESK_ASK_NAMES, reader, depth)?;
+        let (kind, (ops, (txn, (votes, ())))) = take_object(
+            alloc,
+            plan,
+            DESK_ASK_NAMES,
+            reader,
+            depth,
+        )?;
         let Some(kind) = kind else {
             return Ok(None);
         };

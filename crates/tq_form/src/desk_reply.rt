@@ -21,8 +21,13 @@ impl<'a> FromReader<'a> for DeskReply {
     ghost none = { λ plan. refl };
 
     fn read(alloc: Global, plan: &Plan, reader: &mut Reader<'a>, depth: usize) -> Taken<DeskReply> {
-        let (code, (kind, (rule, (serial, (txn, (verdict, ())))))) =
-            take_object(alloc, plan, DESK_REPLY_NAMES, reader, depth)?;
+        let (code, (kind, (rule, (serial, (txn, (verdict, ())))))) = take_object(
+            alloc,
+            plan,
+            DESK_REPLY_NAMES,
+            reader,
+            depth,
+        )?;
         let Some(kind) = kind else {
             return Ok(None);
         };

@@ -135,8 +135,9 @@ pub(crate) fn take_file(
     ensures err { result ≡ Err NotRead.NotJson → next depth reader.old ≡ None }
     ensures shorter { OnOk result (length reader.new < length reader.old) }
 {
-    let (desk, (format, (levels, (limits, (servers, (view, ())))))) =
-        take_object(alloc, plan, FILE_NAMES, reader, depth)?;
+    let (desk, (format, (levels, (limits, (servers, (view, ())))))) = take_object(
+        alloc, plan, FILE_NAMES, reader, depth,
+    )?;
     Ok(FileFields {
         desk,
         format,

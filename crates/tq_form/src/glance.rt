@@ -64,7 +64,12 @@ fn glance(
     scratch: &mut Scratch,
 ) -> Result<Option<Plan>, NotRead> {
     let mut reader = Reader::new(text, scratch)?;
-    let (format, (levels, (limits, ()))) =
-        take_object(alloc, plan, PLAN_NAMES, &mut reader, MAX_DEPTH)?;
+    let (format, (levels, (limits, ()))) = take_object(
+        alloc,
+        plan,
+        PLAN_NAMES,
+        &mut reader,
+        MAX_DEPTH,
+    )?;
     Ok(plan_from(format, levels, limits))
 }

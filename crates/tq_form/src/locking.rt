@@ -48,7 +48,13 @@ impl<'a> FromReader<'a> for Write {
     ghost none = { λ plan. refl };
 
     fn read(alloc: Global, plan: &Plan, reader: &mut Reader<'a>, depth: usize) -> Taken<Write> {
-        let (content, (file, (version, ()))) = take_object(alloc, plan, WRITE_NAMES, reader, depth)?;
+        let (content, (file, (version, ()))) = take_object(
+            alloc,
+            plan,
+            WRITE_NAMES,
+            reader,
+            depth,
+        )?;
         Ok(write_from(content, file, version))
     }
 }
@@ -107,10 +113,7 @@ impl<'a> FromReader<'a> for Verdict {
     }
 }
 
-fn verdict_by(
-    kind: &Word<'_>,
-    votes: Option<SharedSeq<CitedVote>>,
-) -> Option<Verdict>
+fn verdict_by(kind: &Word<'_>, votes: Option<SharedSeq<CitedVote>>) -> Option<Verdict>
     ensures { result ≡ slots.verdict_by kind.now votes }
 {
     if kind.is("abort") {

@@ -38,8 +38,13 @@ impl<'a> FromReader<'a> for WorkAsk {
     ghost none = { λ plan. refl };
 
     fn read(alloc: Global, plan: &Plan, reader: &mut Reader<'a>, depth: usize) -> Taken<WorkAsk> {
-        let (cite, (content, (file, (from, (kind, rest))))) =
-            take_object(alloc, plan, WORK_ASK_NAMES, reader, depth)?;
+        let (cite, (content, (file, (from, (kind, rest))))) = take_object(
+            alloc,
+            plan,
+            WORK_ASK_NAMES,
+            reader,
+            depth,
+        )?;
         let (mode, (txn, (verdict, (version, (writes, ()))))) = rest;
         let members = WorkMembers {
             cite,
@@ -61,8 +66,8 @@ impl<'a> FromReader<'a> for WorkAsk {
 
 /// Those that most asks have first.
 const NODE_ASK_NAMES: &[&str] = &[
-    "cite", "file", "is", "mode", "txn", "verdict", "writes", "content", "from", "version", "after",
-    "ask",
+    "cite", "file", "is", "mode", "txn", "verdict", "writes", "content", "from", "version",
+    "after", "ask",
 ];
 
 impl<'a> FromReader<'a> for NodeAsk {
@@ -71,8 +76,13 @@ impl<'a> FromReader<'a> for NodeAsk {
     ghost none = { λ plan. refl };
 
     fn read(alloc: Global, plan: &Plan, reader: &mut Reader<'a>, depth: usize) -> Taken<NodeAsk> {
-        let (cite, (file, (kind, (mode, (txn, (verdict, (writes, rest))))))) =
-            take_object(alloc, plan, NODE_ASK_NAMES, reader, depth)?;
+        let (cite, (file, (kind, (mode, (txn, (verdict, (writes, rest))))))) = take_object(
+            alloc,
+            plan,
+            NODE_ASK_NAMES,
+            reader,
+            depth,
+        )?;
         let (content, (from, (version, (after, (inside, ()))))) = rest;
         let members = WorkMembers {
             cite,
@@ -250,11 +260,7 @@ fn count_of(after: Option<u64>) -> Option<u32>
 }
 
 #[inline(always)]
-fn work(
-    alloc: Global,
-    kind: &Word<'_>,
-    members: WorkMembers,
-) -> Result<Option<NodeAsk>, Memory>
+fn work(alloc: Global, kind: &Word<'_>, members: WorkMembers) -> Result<Option<NodeAsk>, Memory>
     ensures { IfOk result (λ ask. ask ≡ slots.work kind.now members) }
 {
     let Some(ask) = work_by(kind, members) else {

@@ -35,8 +35,13 @@ impl<'a> FromReader<'a> for NodeReply {
     ghost none = { λ plan. refl };
 
     fn read(alloc: Global, plan: &Plan, reader: &mut Reader<'a>, depth: usize) -> Taken<NodeReply> {
-        let (by, (code, (content, (file, (held, (kind, (version, (writes, ())))))))) =
-            take_object(alloc, plan, NODE_REPLY_NAMES, reader, depth)?;
+        let (by, (code, (content, (file, (held, (kind, (version, (writes, ())))))))) = take_object(
+            alloc,
+            plan,
+            NODE_REPLY_NAMES,
+            reader,
+            depth,
+        )?;
         let members = ReplyMembers {
             by,
             code,

@@ -136,7 +136,7 @@ fn take_members<'a, S: Slots<'a>>(
     requires { IsTrue (are_distinct (texts names.now)) }
     ensures ok { IfOk result
         (Found (λ ms slots. slots ≡ S.of plan.now
-            (slots_at (texts names.now) (λ name. get_member name ms)))
+        (slots_at (texts names.now) (λ name. get_member name ms)))
         (next_members depth reader.old) reader.new) }
     ensures err { result ≡ Err NotRead.NotJson → next_members depth reader.old ≡ None }
     ensures shorter { OnOk result (length reader.new ≤ length reader.old) }
@@ -144,7 +144,9 @@ fn take_members<'a, S: Slots<'a>>(
     let mut slots = S::empty(plan);
     let mut expected = 0;
     'members: while let Some(name) = reader.next_key()? {
-        expected = take_member(alloc, plan, names, name, expected, &mut slots, reader, depth)?;
+        expected = take_member(
+            alloc, plan, names, name, expected, &mut slots, reader, depth,
+        )?;
     }
     Ok(slots)
 }

@@ -53,7 +53,12 @@ impl<'a> FromReader<'a> for Word<'a> {
 
     ghost none = { λ plan. refl };
 
-    fn read(_alloc: Global, _plan: &Plan, reader: &mut Reader<'a>, depth: usize) -> Taken<Word<'a>> {
+    fn read(
+        _alloc: Global,
+        _plan: &Plan,
+        reader: &mut Reader<'a>,
+        depth: usize,
+    ) -> Taken<Word<'a>> {
         match take_leaf(reader, depth)? {
             Leaf::Text(text) => Ok(Some(Word { text })),
             _ => Ok(None),
@@ -92,7 +97,12 @@ impl<'a> FromReader<'a> for FileName {
 
     ghost none = { λ plan. refl };
 
-    fn read(_alloc: Global, _plan: &Plan, reader: &mut Reader<'a>, depth: usize) -> Taken<FileName> {
+    fn read(
+        _alloc: Global,
+        _plan: &Plan,
+        reader: &mut Reader<'a>,
+        depth: usize,
+    ) -> Taken<FileName> {
         match take_leaf(reader, depth)? {
             Leaf::Text(text) => Ok(name_of(text)),
             _ => Ok(None),

@@ -31,8 +31,13 @@ impl<'a> FromReader<'a> for ViewAsk {
     ghost none = { λ plan. refl };
 
     fn read(alloc: Global, plan: &Plan, reader: &mut Reader<'a>, depth: usize) -> Taken<ViewAsk> {
-        let (cost, (kind, (purpose, (read, (server, (up, (write, ()))))))) =
-            take_object(alloc, plan, VIEW_ASK_NAMES, reader, depth)?;
+        let (cost, (kind, (purpose, (read, (server, (up, (write, ()))))))) = take_object(
+            alloc,
+            plan,
+            VIEW_ASK_NAMES,
+            reader,
+            depth,
+        )?;
         let members = ViewMembers {
             cost,
             purpose,

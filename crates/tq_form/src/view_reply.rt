@@ -43,8 +43,13 @@ impl<'a> FromReader<'a> for ViewReply {
     ghost none = { λ plan. refl };
 
     fn read(alloc: Global, plan: &Plan, reader: &mut Reader<'a>, depth: usize) -> Taken<ViewReply> {
-        let (code, (cost, (kind, (servers, ())))) =
-            take_object(alloc, plan, VIEW_REPLY_NAMES, reader, depth)?;
+        let (code, (cost, (kind, (servers, ())))) = take_object(
+            alloc,
+            plan,
+            VIEW_REPLY_NAMES,
+            reader,
+            depth,
+        )?;
         let Some(kind) = kind else {
             return Ok(None);
         };

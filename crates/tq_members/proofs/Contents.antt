@@ -1,5 +1,5 @@
 -- A content of a format: a text of more digits than it has is none, and one of no more gives what its bytes are.
-use Rattle.std.proofs.Common.{◌≡◌, ◌<◌, ◌≤◌, ◌*◌, nat_le, false, cond, ℕ, List, length, Option, Some, None, Result, Ok, Err, refl, sym, ap, arith, ◌∙◌}
+use Rattle.std.proofs.Common.{◌≡◌, ◌<◌, ◌≤◌, ◌*◌, cond, ℕ, List, length, Option, Some, None, Result, Ok, Err, refl, sym, ap, arith, ◌∙◌}
 use Rattle.std.proofs.lemmas.Bool.{lt-leb, le-leb, false≢true}
 use Rattle.std.specs.Prelude.{◌↔◌, IfOk, IfSome, IsSome}
 use Rattle.hex.specs.Hex.{decode_of}

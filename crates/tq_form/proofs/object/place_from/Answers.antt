@@ -1,4 +1,4 @@
-use Rattle.std.proofs.Common.{◌≡◌, ◌<◌, length, ◌∙◌, arith}
+use Rattle.std.proofs.Common.{◌<◌, length, ◌∙◌, arith}
 use Rattle.tq_form.specs.Objects.{texts}
 use Rattle.tq_form.proofs.Places.{found_at, passed, length-texts}
 use Rattle.tq_form.proofs.object.place_from.Goals as goal

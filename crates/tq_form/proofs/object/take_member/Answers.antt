@@ -1,4 +1,4 @@
-use Rattle.std.proofs.Common.{◌≡◌, ap, ◌∙◌}
+use Rattle.std.proofs.Common.{ap, ◌∙◌}
 use Rattle.tq_form.specs.Objects.{texts, slots_at}
 use Rattle.tq_form.proofs.Places.{all_filled, none_filled}
 use Rattle.tq_form.proofs.object.take_member.Goals as goal

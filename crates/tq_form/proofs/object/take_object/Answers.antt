@@ -1,4 +1,4 @@
-use Rattle.std.proofs.Common.{◌≡◌, ap, ◌∙◌}
+use Rattle.std.proofs.Common.{ap, ◌∙◌}
 use Rattle.tq_form.specs.Objects.{texts, slots_at}
 use Rattle.tq_form.proofs.Places.{empty_slots}
 use Rattle.tq_form.proofs.Rows.{no_names_at}

@@ -1,8 +1,8 @@
-use Rattle.std.proofs.Common.{◌≡◌, List, Some, option_map, sym, ap, ◌∙◌}
+use Rattle.std.proofs.Common.{List, option_map, sym, ap, ◌∙◌}
 use Rattle.tq_node.specs.NodeJournal.{NodeEntry}
 use Rattle.tq_form.specs.declared.file.ServerJournals.{ServerJournals}
 use Rattle.tq_form.specs.Entries.{node_entry, journal}
-use Rattle.tq_form.specs.Slots.{counted, server_lists}
+use Rattle.tq_form.specs.Slots.{counted}
 use Rattle.tq_form.proofs.Limited.{counted-listed}
 use Rattle.tq_form.proofs.file.ServerJournalsFromReader.read.Goals as goal
 

@@ -1,4 +1,4 @@
-use Rattle.std.proofs.Common.{◌≡◌, cond, codes, Some, ap, ◌∙◌}
+use Rattle.std.proofs.Common.{cond, codes, Some, ap, ◌∙◌}
 use Rattle.std.specs.Str.{bytes_eq}
 use Rattle.serde_json.specs.Find.{get}
 use Rattle.tq_asks.specs.declared.ask.NodeAsk.TheVariants.{Crash, Return}
@@ -12,10 +12,13 @@ pub returns-clause-ok : goal.returns-clause-ok
 returns-clause-ok c =
     let d = c.in_ok-cite.ensures.ok in
     let format = c.args.plan.now.format in
-    let by = by_kind d.2 (λ s. s.1.1.0) (λ s kind. slots.node_by kind s.1.1.1.1.1.1.1.1.1.1.0 s.1.1.1.1.1.1.1.1.1.1.1.0 (record { cite = s.0; content = s.1.1.1.1.1.1.1.0; file = s.1.0; from = s.1.1.1.1.1.1.1.1.0; mode = s.1.1.1.0; txn = s.1.1.1.1.0; verdict = s.1.1.1.1.1.0; version = s.1.1.1.1.1.1.1.1.1.0; writes = s.1.1.1.1.1.1.0 })) c.in-Some.kind c.in-Some.is in
-    (d.0, d.1, c.in_ok-node_by.ensures ∙ by
-    ∙ ap (λ stopped. text_at (codes "is") d.0 >>= λ kind.
-        cond (bytes_eq kind (codes "crash")) (Some Crash)
-        (cond (bytes_eq kind (codes "return")) (Some Return)
-        (cond (bytes_eq kind (codes "crashin")) stopped (asks.work format kind d.0))))
-      (stops (asks.count_at d.0) (get (codes "ask") d.0) (asks.work_at format)))
+    let by = by_kind d.2 (λ s. s.1.1.0) (λ s kind. slots.node_by kind s.1.1.1.1.1.1.1.1.1.1.0 s.1.1.1.1.1.1.1.1.1.1.1.0 (record { cite = s.0; content = s.1.1.1.1.1.1.1.0; file = s.1.0; from = s.1.1.1.1.1.1.1.1.0; mode = s.1.1.1.0; txn = s.1.1.1.1.0; verdict = s.1.1.1.1.1.0; version = s.1.1.1.1.1.1.1.1.1.0; writes = s.1.1.1.1.1.1.0 })) c.in-Some.kind c.in-Some.is in (
+      d.0,
+      d.1,
+      c.in_ok-node_by.ensures ∙ by
+          ∙ ap (λ stopped. text_at (codes "is") d.0 >>= λ kind.
+          cond (bytes_eq kind (codes "crash")) (Some Crash)
+          (cond (bytes_eq kind (codes "return")) (Some Return)
+          (cond (bytes_eq kind (codes "crashin")) stopped (asks.work format kind d.0))))
+          (stops (asks.count_at d.0) (get (codes "ask") d.0) (asks.work_at format)),
+    )

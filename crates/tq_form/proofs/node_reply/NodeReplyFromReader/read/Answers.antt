@@ -1,4 +1,4 @@
-use Rattle.std.proofs.Common.{◌≡◌, ◌∙◌}
+use Rattle.std.proofs.Common.{◌∙◌}
 use Rattle.tq_form.specs.Slots as slots
 use Rattle.tq_form.proofs.Nested.{by_kind}
 use Rattle.tq_form.proofs.node_reply.NodeReplyFromReader.read.Goals as goal

@@ -1,4 +1,4 @@
-use Rattle.std.proofs.Common.{◌≡◌, ◌<◌, ℕ, length, subst, arith}
+use Rattle.std.proofs.Common.{◌≡◌, ◌<◌, length, subst, arith}
 use Rattle.tq_form.specs.Objects.{texts, IsNameAt}
 use Rattle.tq_form.proofs.Places.{found_at, length-texts}
 use Rattle.tq_form.proofs.object.Tuple2OptionSlots.is_named.Goals as goal

@@ -1,4 +1,4 @@
-use Rattle.std.proofs.Common.{◌≡◌, suc, ap}
+use Rattle.std.proofs.Common.{suc, ap}
 use Rattle.tq_form.proofs.Places.{found_as, filled_first, filled_later}
 use Rattle.tq_form.proofs.object.Tuple2OptionSlots.put.Goals as goal
 

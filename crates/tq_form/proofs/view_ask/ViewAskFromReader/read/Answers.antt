@@ -1,4 +1,4 @@
-use Rattle.std.proofs.Common.{◌≡◌, ◌∙◌}
+use Rattle.std.proofs.Common.{◌∙◌}
 use Rattle.tq_form.specs.Slots as slots
 use Rattle.tq_form.proofs.Nested.{by_kind, view_ask_read}
 use Rattle.tq_form.proofs.view_ask.ViewAskFromReader.read.Goals as goal
