@@ -6,17 +6,16 @@
 //! Definitions: `specs/Cluster`, `Told`, `Pulls`, `Rounds`, `Clients`, `Closes`; `Backwards` is the code's own word.
 #![tactic(auto)]
 
+mod asked;
 mod asking;
-mod call;
 mod caller;
 mod clients;
 mod close;
 mod cluster;
 mod explained;
-mod heard;
 mod journals;
 mod live_board;
-mod retold;
+mod recorded;
 mod rounds;
 mod workers;
 

@@ -1,0 +1,31 @@
+use std::alloc::AllocError;
+use tq_shape::Entry;
+
+/// What a part told of an ask, twice: one entry to keep, and an equal one to hand on. It is plain data.
+#[derive(Drop)]
+pub struct Twice<A, R> {
+    /// The number of the ask's entry: its place in the journal of the part, from 1.
+    pub number: u64,
+    pub kept: Entry<A, R>,
+    pub told: Entry<A, R>,
+}
+
+/// Why an ask was not taken. Then the part and its journal are as they were.
+#[derive(Drop)]
+pub enum Untaken<A> {
+    /// Memory was refused.
+    Memory,
+    /// The journal has as many entries as it may have. The ask is given back.
+    JournalFull { ask: A },
+}
+
+impl<A> From<AllocError> for Untaken<A> {
+    ghost use Rattle.std.specs.Prelude.{◌≡◌};
+    ghost use Rattle.tq_cells.specs.declared.told.Untaken.TheVariants as variants;
+
+    ghost from_gives = { λ _ fault. fault ≡ variants.Memory };
+
+    fn from(_refused: AllocError) -> Untaken<A> {
+        Untaken::Memory
+    }
+}
