@@ -75,10 +75,18 @@ impl<P: Answers> Held<P> {
             return Err(Untaken::JournalFull { ask });
         }
         let number = self.journaled.entries().len() as u64 + 1;
-        let plan = self.journaled.part().plan(alloc, number, &ask)?;
-        let kept = same::<P>(alloc, &ask, &plan.reply)?;
-        let told = same::<P>(alloc, &ask, &plan.reply)?;
-        self.journaled.enter(alloc, ask, plan)?;
+        let Ok(plan) = self.journaled.part().plan(alloc, number, &ask) else {
+            return Err(Untaken::Memory);
+        };
+        let Ok(kept) = same::<P>(alloc, &ask, &plan.reply) else {
+            return Err(Untaken::Memory);
+        };
+        let Ok(told) = same::<P>(alloc, &ask, &plan.reply) else {
+            return Err(Untaken::Memory);
+        };
+        let Ok(()) = self.journaled.enter(alloc, ask, plan) else {
+            return Err(Untaken::Memory);
+        };
         Ok(Twice { number, kept, told })
     }
 
@@ -172,6 +180,7 @@ fn copied<P: Answers>(
 }
 
 /// An equal ask with an equal reply. Answers an error only where memory is refused.
+#[inline(always)]
 fn same<P: Answers>(
     alloc: Global,
     ask: &P::Ask,

@@ -1,4 +1,3 @@
-use std::alloc::AllocError;
 use tq_shape::Entry;
 
 /// What a part told of an ask, twice: one entry to keep, and an equal one to hand on. It is plain data.
@@ -17,15 +16,4 @@ pub enum Untaken<A> {
     Memory,
     /// The journal has as many entries as it may have. The ask is given back.
     JournalFull { ask: A },
-}
-
-impl<A> From<AllocError> for Untaken<A> {
-    ghost use Rattle.std.specs.Prelude.{◌≡◌};
-    ghost use Rattle.tq_cells.specs.declared.told.Untaken.TheVariants as variants;
-
-    ghost from_gives = { λ _ fault. fault ≡ variants.Memory };
-
-    fn from(_refused: AllocError) -> Untaken<A> {
-        Untaken::Memory
-    }
 }

@@ -29,9 +29,12 @@ pub(crate) fn ask_part<P: Recorded, R: Wait, G: Gate>(
     told: &mut Vec<Exchange>,
     ask: P::Ask,
 ) -> Result<Numbered<P::Ask, P::Reply>, AskFault>
-    ensures exchanges { told.new.items ≡ told.old.items ++ exchanges_of (P.exchange part) ask result }
+    requires { part ≡ cell.now }
+    ensures exchanges { told.new.items
+        ≡ told.old.items ++ exchanges_of (P.exchange part) ask result }
     ensures same { IfOk result (λ t. t.entry.ask ≡ ask) }
-    ensures reply { IfOk result (λ t. IsToldBy P.reply P.after P.opening t.number t.entry.ask t.entry.reply) }
+    ensures reply { IfOk result (λ t.
+        IsToldBy P.reply P.after P.opening t.number t.entry.ask t.entry.reply) }
     ensures seen { IfOk result (λ t. pass.new.seen ≡ max pass.old.seen t.number) }
     ensures not_told { OnErr result (pass.new.seen ≡ pass.old.seen) }
     ensures fault { IfErr result (λ f. (f ≡ AskFault.Memory) ⊎ (f ≡ AskFault.JournalFull part)) }

@@ -40,7 +40,11 @@ impl Model for Caller {
     ghost view = { λ c. record {
       levels = c.levels;
       told = c.told.items;
-      seen = record { servers = map (λ pass. pass.seen) c.servers.items; desk = c.desk.seen; view = c.view.seen };
+      seen = record {
+        servers = map (λ pass. pass.seen) c.servers.items;
+        desk = c.desk.seen;
+        view = c.view.seen;
+      };
     } };
 
     ghost invariant = { λ c. length c.servers.items + 1 ≡ 2 ^ c.levels };
@@ -59,7 +63,11 @@ impl Caller {
         ensures { result ≡ record {
           levels = levels;
           told = [];
-          seen = record { servers = map (λ pass. pass.seen) servers.items; desk = desk.seen; view = view.seen };
+          seen = record {
+            servers = map (λ pass. pass.seen) servers.items;
+            desk = desk.seen;
+            view = view.seen;
+          };
         } }
     {
         Caller {

@@ -27,10 +27,13 @@ impl<G: Gate + Drop> Cluster<G> {
     pub fn close(self, alloc: Global, callers: Vec<Caller>) -> Result<Explained, CloseFault>
         ensures levels { IfOk result (λ e. e.journals.levels ≡ self.levels) }
         ensures limits { IfOk result (λ e. e.journals.limits ≡ self.limits) }
-        ensures kept { IfOk result (λ e. AreKept e.journals (map (λ caller. caller.told) callers.items)) }
-        ensures unclaimed { IfOk result (λ e. e.unclaimed ≡ kept_words.unclaimed e.journals (map (λ caller. caller.told) callers.items)) }
+        ensures kept { IfOk result (λ e.
+            AreKept e.journals (map (λ caller. caller.told) callers.items)) }
+        ensures unclaimed { IfOk result (λ e. e.unclaimed
+            ≡ kept_words.unclaimed e.journals (map (λ caller. caller.told) callers.items)) }
         ensures order { IfOk result (λ e. Explains e.journals e.order) }
-        ensures run { IfOk result (λ e. run e.journals.levels e.journals.limits (asks_of e.journals e.order) ≡ e.journals) }
+        ensures run { IfOk result (λ e.
+            run e.journals.levels e.journals.limits (asks_of e.journals e.order) ≡ e.journals) }
         ensures committed_reads { IfOk result (λ e. HasCommittedReads e.journals) }
         ensures fault { IfErr result (IsClosedBy self (map (λ caller. caller.told) callers.items)) }
     {

@@ -84,7 +84,11 @@ impl<G: Gate + Drop> Cluster<G> {
 
     /// A caller that was told nothing. Answers an error only where memory is refused.
     pub fn caller(&self, alloc: Global) -> Result<Caller, Memory>
-        ensures { IfOk result (λ caller. caller ≡ record { levels = self.now.levels; told = []; seen = nothing_seen self.now.levels }) }
+        ensures { IfOk result (λ caller. caller ≡ record {
+          levels = self.now.levels;
+          told = [];
+          seen = nothing_seen self.now.levels;
+        }) }
     {
         let servers = passes(alloc, self.servers.as_slice())?;
         let desk = self.desk.pass(alloc);
@@ -152,14 +156,17 @@ impl<G: Gate + Drop> Cluster<G> {
     ) -> Result<NodeTold, AskFault>
         requires levels { caller.old.levels ≡ self.now.levels }
         requires server { server.levels ≡ self.now.levels }
-        ensures exchanges { caller.new.told ≡ caller.old.told ++ node_exchange server.number ask result }
+        ensures exchanges { caller.new.told
+            ≡ caller.old.told ++ node_exchange server.number ask result }
         ensures same { IfOk result (λ t. (t.server ≡ server.number) × (t.ask ≡ ask)) }
         ensures reply { IfOk result (λ t. IsToldByServer t.number t.ask t.reply) }
         ensures seen { IfOk result (λ t. seen_of caller.new (Part.Server server.number)
             ≡ max (seen_of caller.old (Part.Server server.number)) t.number) }
         ensures not_told { OnErr result (caller.new.seen ≡ caller.old.seen) }
-        ensures fault { IfErr result (λ f. (f ≡ AskFault.Memory) ⊎ (f ≡ AskFault.JournalFull (Part.Server server.number))) }
-        ensures others { caller.new.seen ≡ (having_seen caller.old (Part.Server server.number) (seen_of caller.new (Part.Server server.number))).seen }
+        ensures fault { IfErr result (λ f. (f ≡ AskFault.Memory)
+            ⊎ (f ≡ AskFault.JournalFull (Part.Server server.number))) }
+        ensures others { caller.new.seen ≡ (having_seen caller.old (Part.Server server.number)
+            (seen_of caller.new (Part.Server server.number))).seen }
         ensures tree { caller.new.levels ≡ caller.old.levels }
     {
         let number = server.number();
@@ -200,8 +207,10 @@ impl<G: Gate + Drop> Cluster<G> {
         ensures seen { IfOk result (λ t. seen_of caller.new Part.Desk
             ≡ max (seen_of caller.old Part.Desk) t.number) }
         ensures not_told { OnErr result (caller.new.seen ≡ caller.old.seen) }
-        ensures fault { IfErr result (λ f. (f ≡ AskFault.Memory) ⊎ (f ≡ AskFault.JournalFull Part.Desk)) }
-        ensures others { caller.new.seen ≡ (having_seen caller.old Part.Desk (seen_of caller.new Part.Desk)).seen }
+        ensures fault { IfErr result (λ f. (f ≡ AskFault.Memory)
+            ⊎ (f ≡ AskFault.JournalFull Part.Desk)) }
+        ensures others { caller.new.seen
+            ≡ (having_seen caller.old Part.Desk (seen_of caller.new Part.Desk)).seen }
         ensures tree { caller.new.levels ≡ caller.old.levels }
     {
         let told = ask_part(
@@ -237,8 +246,10 @@ impl<G: Gate + Drop> Cluster<G> {
         ensures seen { IfOk result (λ t. seen_of caller.new Part.View
             ≡ max (seen_of caller.old Part.View) t.number) }
         ensures not_told { OnErr result (caller.new.seen ≡ caller.old.seen) }
-        ensures fault { IfErr result (λ f. (f ≡ AskFault.Memory) ⊎ (f ≡ AskFault.JournalFull Part.View)) }
-        ensures others { caller.new.seen ≡ (having_seen caller.old Part.View (seen_of caller.new Part.View)).seen }
+        ensures fault { IfErr result (λ f. (f ≡ AskFault.Memory)
+            ⊎ (f ≡ AskFault.JournalFull Part.View)) }
+        ensures others { caller.new.seen
+            ≡ (having_seen caller.old Part.View (seen_of caller.new Part.View)).seen }
         ensures tree { caller.new.levels ≡ caller.old.levels }
     {
         let told = ask_part(
@@ -263,7 +274,8 @@ impl<G: Gate + Drop> Cluster<G> {
 /// A pass for each of these cells, with nothing seen.
 fn passes(alloc: Global, cells: &[Cell<Node>]) -> Result<Vec<Pass<Node>>, Memory>
     ensures one_each { IfOk result (λ passes. vec_len passes ≡ length cells.now) }
-    ensures unseen { IfOk result (λ passes. map (λ pass. pass.seen) passes.items ≡ replicate (length cells.now) 0) }
+    ensures unseen { IfOk result (λ passes.
+        map (λ pass. pass.seen) passes.items ≡ replicate (length cells.now) 0) }
 {
     let mut passes = Vec::new(alloc);
     for cell in cells {

@@ -1,4 +1,5 @@
 ghost use Rattle.std.specs.Prelude.{◌≡◌};
+ghost use Rattle.tq_txn.specs.declared.asker.Exchange.TheVariants as exchanges;
 ghost use Rattle.tq_cluster.specs.Told as spec;
 
 use tq_asks::{NodeAsk, NodeReply};
@@ -25,12 +26,11 @@ pub(crate) trait Recorded: Answers {
 }
 
 impl Recorded for Node {
-    ghost use Rattle.tq_txn.specs.declared.asker.Exchange.TheVariants as exchanges;
-    ghost use Rattle.tq_cluster.specs.Told.{server_of};
+    ghost exchange = { λ part ask answer. exchanges.Node (spec.server_of part) ask answer };
 
-    ghost exchange = { λ part ask answer. exchanges.Node (server_of part) ask answer };
-
-    fn record(part: Part, ask: NodeAsk, answer: Told<NodeReply>) -> Exchange {
+    fn record(part: Part, ask: NodeAsk, answer: Told<NodeReply>) -> Exchange
+        ensures { result ≡ exchanges.Node (spec.server_of part) ask answer }
+    {
         let server = server_of(part);
         Exchange::Node {
             server,
@@ -41,21 +41,21 @@ impl Recorded for Node {
 }
 
 impl Recorded for Desk {
-    ghost use Rattle.tq_txn.specs.declared.asker.Exchange.TheVariants as exchanges;
-
     ghost exchange = { λ part ask answer. exchanges.Desk ask answer };
 
-    fn record(_part: Part, ask: DeskAsk, answer: Told<DeskReply>) -> Exchange {
+    fn record(_part: Part, ask: DeskAsk, answer: Told<DeskReply>) -> Exchange
+        ensures { result ≡ exchanges.Desk ask answer }
+    {
         Exchange::Desk { ask, answer }
     }
 }
 
 impl Recorded for View {
-    ghost use Rattle.tq_txn.specs.declared.asker.Exchange.TheVariants as exchanges;
-
     ghost exchange = { λ part ask answer. exchanges.View ask answer };
 
-    fn record(_part: Part, ask: ViewAsk, answer: Told<ViewReply>) -> Exchange {
+    fn record(_part: Part, ask: ViewAsk, answer: Told<ViewReply>) -> Exchange
+        ensures { result ≡ exchanges.View ask answer }
+    {
         Exchange::View { ask, answer }
     }
 }
