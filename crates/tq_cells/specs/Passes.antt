@@ -1,8 +1,10 @@
 -- What a caller of a cell was told.
-use Rattle.std.specs.Prelude.{◌≡◌, ◌≤◌, ◌-◌, ◌+◌, ℕ, zero, suc, List, [], ◌∷◌, ◌++◌, slice_get, Some}
+use Rattle.std.specs.Prelude.{◌≡◌, ◌≤◌, ◌⊎◌, ◌-◌, ◌+◌, ℕ, zero, suc, List, [], ◌∷◌, ◌++◌, slice_get, Some}
 use Rattle.tq_shape.specs.declared.entry.Entry.{Entry}
 use Rattle.tq_shape.specs.declared.part.Part.{Part}
 use Rattle.tq_shape.specs.Journal.{IsLegalFrom, entry}
+use Rattle.tq_cells.specs.declared.told.Untaken.{Untaken}
+use Rattle.tq_cells.specs.declared.told.Untaken.TheVariants as untaken
 
 -- a receipt: the part that was asked, the number of the entry, the ask and the reply
 pub record Told (A R : Type 0) : Type 0 where
@@ -27,6 +29,10 @@ seen_by receipts seen = record { receipts = receipts; seen = seen }
 abbrev pub last_behind : ℕ → ℕ → ℕ
 last_behind number zero = 0
 last_behind number (suc more) = number + suc more
+
+-- why the ask was not taken: memory was refused, or the journal is full, and this ask is given back
+abbrev pub IsUntaken : {A : Type 0} → A → Untaken A → Type 0
+IsUntaken ask fault = (fault ≡ untaken.Memory) ⊎ (fault ≡ untaken.JournalFull ask)
 
 -- the receipts of the passes, pass by pass
 abbrev pub receipts_of : {A R : Type 0} → List (Seen A R) → List (Told A R)

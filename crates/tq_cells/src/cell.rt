@@ -1,13 +1,14 @@
-ghost use Rattle.std.specs.Prelude.{◌≡◌, ◌+◌, ◌∷◌, ◌++◌, [], ◌≤◌, ◌<◌, List, drop, max, vec_len, IfOk, OnErr};
+ghost use Rattle.std.specs.Prelude.{◌≡◌, ◌+◌, ◌∷◌, ◌++◌, [], ◌≤◌, ◌<◌, List, drop, max, vec_len, IfOk, IfErr, OnErr};
 ghost use Rattle.tq_shape.specs.declared.entry.Entry.{Entry};
 ghost use Rattle.tq_shape.specs.Journal.{IsLegalFrom};
-ghost use Rattle.tq_cells.specs.Passes.{IsToldBy, last_behind, seen_by, receipts_of};
+ghost use Rattle.tq_cells.specs.Passes.{IsToldBy, IsUntaken, last_behind, seen_by, receipts_of};
 
 use crate::CallFault;
 use crate::gate::Gate;
 use crate::held::Held;
 use crate::pass::Pass;
 use crate::receipt::Receipt;
+use crate::told::{Twice, Untaken};
 use std::alloc::Global;
 use std::marker::Model;
 use std::sync::{Mutex, Wait};
@@ -71,10 +72,41 @@ impl<P: Answers> Cell<P> {
     {
         let mut held = self.held.lock(rt);
         gate.holding(self.part);
-        let receipt = held.answer(alloc, self.part, pass, ask);
+        let receipt = held.answer_to(alloc, self.part, pass, ask);
         drop(held);
         gate.answered(self.part);
         receipt
+    }
+
+    /// Asks the part as `call` does, and gives its number, the ask and the reply back, twice, in place of receipts: the pass
+    /// is told of the number alone. Answers `JournalFull` with the ask where the journal has as many entries as it may
+    /// have, and `Memory` where memory is refused: then part, journal and pass are as they were.
+    pub fn tell<R: Wait, G: Gate>(
+        &self,
+        rt: &R,
+        alloc: Global,
+        pass: &mut Pass<P>,
+        gate: &G,
+        ask: P::Ask,
+    ) -> Result<Twice<P::Ask, P::Reply>, Untaken<P::Ask>>
+        ensures asked { IfOk result (λ r. r.told.ask ≡ ask) }
+        ensures kept { IfOk result (λ r. r.kept ≡ r.told) }
+        ensures reply { IfOk result (λ r.
+            IsToldBy P.reply P.after P.opening r.number r.told.ask r.told.reply) }
+        ensures receipts { pass.new.receipts ≡ pass.old.receipts }
+        ensures seen { IfOk result (λ r. pass.new.seen ≡ max pass.old.seen r.number) }
+        ensures err { OnErr result (pass.new ≡ pass.old) }
+        ensures fault { IfErr result (IsUntaken ask) }
+    {
+        let mut held = self.held.lock(rt);
+        gate.holding(self.part);
+        let told = held.answer(alloc, ask);
+        drop(held);
+        gate.answered(self.part);
+        if let Ok(told) = &told {
+            pass.seen = pass.seen.max(told.number);
+        }
+        told
     }
 
     /// The entries after a number, none where the journal has fewer; the greatest number that the pass was told rises to
@@ -86,9 +118,11 @@ impl<P: Answers> Cell<P> {
         pass: &mut Pass<P>,
         number: u64,
     ) -> Result<Vec<Entry<P::Ask, P::Reply>>, Memory>
-        ensures entries { IfOk result (λ v. (s : P) × (journal : List (Entry P.Ask P.Reply)) × IsLegalFrom P.reply P.after (P.opening s) 1 journal × (v.items ≡ drop number journal)) }
+        ensures entries { IfOk result (λ v. (s : P) × (journal : List (Entry P.Ask P.Reply))
+            × IsLegalFrom P.reply P.after (P.opening s) 1 journal × (v.items ≡ drop number journal)) }
         ensures receipts { pass.new.receipts ≡ pass.old.receipts }
-        ensures seen { IfOk result (λ v. pass.new.seen ≡ max pass.old.seen (last_behind number (vec_len v))) }
+        ensures seen { IfOk result (λ v. pass.new.seen
+            ≡ max pass.old.seen (last_behind number (vec_len v))) }
         ensures err { OnErr result (pass.new ≡ pass.old) }
     {
         self.held.lock(rt).since(alloc, pass, number)
@@ -111,7 +145,8 @@ impl<P: Answers> Cell<P> {
         alloc: Global,
         passes: Vec<Pass<P>>,
     ) -> Result<(Vec<Entry<P::Ask, P::Reply>>, Vec<Receipt<P>>), Memory>
-        ensures legal { IfOk result (λ r. (s : P) × IsLegalFrom P.reply P.after (P.opening s) 1 r.0.items) }
+        ensures legal { IfOk result (λ r. (s : P)
+            × IsLegalFrom P.reply P.after (P.opening s) 1 r.0.items) }
         ensures receipts { IfOk result (λ r. r.1.items ≡ receipts_of passes.items) }
     {
         let receipts = joined(alloc, passes)?;

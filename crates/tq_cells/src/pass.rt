@@ -1,4 +1,4 @@
-ghost use Rattle.std.specs.Prelude.{◌≡◌, ◌++◌, ◌<◌, ◌↔◌, [], length, max, option_to_list, IsSome};
+ghost use Rattle.std.specs.Prelude.{◌≡◌, [], max};
 ghost use Rattle.tq_cells.specs.Passes.{seen_by};
 
 use crate::receipt::Receipt;
@@ -44,15 +44,6 @@ impl<P: Answers> Pass<P> {
         ensures { result ≡ self.now.seen }
     {
         self.seen
-    }
-
-    /// Takes the last receipt, if there is one. What the caller has seen stays.
-    pub fn pop(&mut self) -> Option<Receipt<P>>
-        ensures receipts { self.old.receipts ≡ self.new.receipts ++ option_to_list result }
-        ensures some { IsSome result ↔ (0 < length self.old.receipts) }
-        ensures seen { self.new.seen ≡ self.old.seen }
-    {
-        self.receipts.pop()
     }
 
     /// Has seen what another pass of the same cell has seen, too. The receipts stay.

@@ -1,11 +1,10 @@
-ghost use Rattle.std.specs.Prelude.{◌≡◌, IfOk};
+ghost use Rattle.std.specs.Prelude.{◌≡◌};
 ghost use Rattle.tq_shape.specs.Journal.{entry};
 ghost use Rattle.tq_cells.specs.Passes.{told};
 
-use std::alloc::Global;
 use std::marker::Model;
 use tq_part::Answers;
-use tq_shape::{Entry, Memory, Part};
+use tq_shape::{Entry, Part};
 
 /// What a caller was told of an ask: which part was asked, under which number, and what it replied. Only a cell makes
 /// one.
@@ -26,24 +25,17 @@ impl<P: Answers> Model for Receipt<P> {
 }
 
 impl<P: Answers> Receipt<P> {
-    /// A receipt of an equal ask and an equal reply. Answers an error only where memory is refused.
-    pub(crate) fn new(
-        alloc: Global,
-        part: Part,
-        number: u64,
-        ask: &P::Ask,
-        reply: &P::Reply,
-    ) -> Result<Receipt<P>, Memory>
-        ensures { IfOk result (λ r. r ≡ told part number ask.now reply.now) }
+    /// A receipt of that entry of the part.
+    pub(crate) fn new(part: Part, number: u64, entry: Entry<P::Ask, P::Reply>) -> Receipt<P>
+        ensures { result ≡ told part number entry.ask entry.reply }
     {
-        let ask = P::same_ask(alloc, ask)?;
-        let reply = P::same_reply(alloc, reply)?;
-        Ok(Receipt {
+        let Entry { ask, reply } = entry;
+        Receipt {
             part,
             number,
             ask,
             reply,
-        })
+        }
     }
 
     /// The part that was asked.

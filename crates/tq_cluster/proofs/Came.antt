@@ -13,7 +13,7 @@ use Rattle.tq_prefixes.specs.declared.entries.Entries.TheVariants as entries
 use Rattle.tq_prefixes.specs.declared.fault.PullFault.{PullFault}
 use Rattle.tq_prefixes.specs.Prefixes.{IsPullFault, grown, prefix_length}
 use Rattle.tq_cluster.specs.Told.{CallerView, having_seen, seen_of}
-use Rattle.tq_cluster.specs.Pulls.{Continues, EachContinues, EndedAt, HasSeenBefore, HasSeenServers, SawWhatCame, seen_then}
+use Rattle.tq_cluster.specs.Pulls.{Continues, EachContinues, EndedAt, HasSeenBefore, HasSeenServers, IsPull, SawWhatCame, seen_then}
 use Rattle.tq_cluster.proofs.Pulled.{continues-grown, continues-same, other-prefix, other-seen, servers-desk}
 
 -- ---- numbers
@@ -70,6 +70,18 @@ module _ (old seen fresh known before after count : ℕ) (saw : seen ≡ max old
       let most = last-most known count in
       let is : last_behind known count ≤ after = omega (arith, most, at, grew) in
       subst (λ (n : ℕ). n ≤ after) (sym (saw ∙ ap (max old) (told ∙ zero-max (last_behind known count)))) (max-le enough is)
+
+-- the part was pulled
+pub pull-ok : {T : Type 0} (part : Part) (old new : JournalsView) (more : Entries) (before after fresh known count : ℕ) (x : T) → new ≡ grown old part more → before ≤ prefix_length new part → prefix_length new part ≡ prefix_length old part + count
+    → after ≡ max before fresh → fresh ≡ max 0 (last_behind known count) → known ≡ prefix_length old part → IsPull part old new before after (Ok x)
+pull-ok part old new more before after fresh known count x grew enough long saw told at =
+    record {
+      grows = (more, grew);
+      seen = took_enough before after fresh known (prefix_length old part) (prefix_length new part) count saw told at long enough;
+      err = tt;
+      fault = tt;
+      saw = took before after fresh known (prefix_length old part) (prefix_length new part) count saw told at long;
+    }
 
 pub took_none : (seen : ℕ) (old new : JournalsView) (part : Part) → new ≡ old → seen ≡ max seen (last_behind (prefix_length old part) (prefix_length new part - prefix_length old part))
 took_none seen old new part same =

@@ -23,7 +23,6 @@ use Rattle.tq_live.specs.contracts.view.ViewAsk as ViewAsk
 use Rattle.tq_live.specs.contracts.view.ViewReply as ViewReply
 use Rattle.tq_live.specs.contracts.view.View as View
 use Rattle.tq_txn.specs.contracts.asker.Exchange as Exchange
-use Rattle.tq_cluster.specs.contracts.heard.Heard as Heard
 use Rattle.tq_cluster.specs.contracts.caller.Caller as Caller
 use Rattle.tq_cluster.specs.contracts.cluster.Cluster as Cluster
 use Rattle.tq_lines.specs.contracts.script.Script as Script
@@ -88,11 +87,8 @@ view_send = search (tree_send, sendable, crosses, maps.crosses, others.crosses) 
 exchange_send : IsSend Exchange.the_field.row
 exchange_send = search (node_ask_send, node_reply_send, desk_ask_send, desk_reply_send, view_ask_send, view_reply_send, sendable, crosses, maps.crosses, others.crosses) depth 60 fits 30000
 
-heard_send : IsSend Heard.the_field.row
-heard_send = search (exchange_send, node_ask_send, node_reply_send, desk_ask_send, desk_reply_send, view_ask_send, view_reply_send, sendable, crosses, maps.crosses, others.crosses) depth 60 fits 30000
-
 pub caller_send : IsSend Caller.the_field.row
-caller_send = search (heard_send, node_ask_send, node_reply_send, desk_ask_send, desk_reply_send, view_ask_send, view_reply_send, sendable, crosses) depth 60 fits 30000
+caller_send = search (exchange_send, node_ask_send, node_reply_send, desk_ask_send, desk_reply_send, view_ask_send, view_reply_send, sendable, crosses) depth 60 fits 30000
 
 pub script_sync : IsSync Script.the_field.row
 script_sync = search (sendable, crosses) depth 60 fits 30000

@@ -2,8 +2,6 @@
 use Rattle.std.proofs.Common.{◌≡◌, ◌<◌, ◌≤◌, ◌+◌, ◌-◌, ℕ, zero, suc, List, [], ◌∷◌, ◌++◌, length, get_or, ap, sym, subst, ◌∙◌, arith, length-append}
 use Rattle.tq_shape.specs.declared.part.Part.{Part}
 use Rattle.tq_shape.specs.declared.part.Part.TheVariants as parts
-use Rattle.std.specs.Prelude.{Result, Ok, Err, IfOk}
-use Rattle.tq_cluster.specs.declared.call.Receipts.{Receipts}
 use Rattle.tq_cluster.specs.Cluster.{AreServers}
 
 pub one_more : (first : ℕ) (names : List Part) → AreServers first names → AreServers first (names ++ parts.Server (first + length names) ∷ [])
@@ -26,17 +24,6 @@ one_server_more names longer count name before is grown =
     let long = ap length grown in
     let sum = length-append names (name ∷ []) in
     (subst (λ (l : List Part). AreServers 1 l) (sym ends) (one_more 1 names before.0), omega arith)
-
--- what was told names the part that was asked, by its other name
-pub asked_by : {P A R C E : Type 0} (called : Result (Receipts P A R C) E) (ask : A) (here there : Part) → here ≡ there → IfOk called (λ r. (r.told.part ≡ here) × (r.told.ask ≡ ask)) → IfOk called (λ r. r.told.part ≡ there)
-asked_by (Ok r) ask here there same asked = asked.0 ∙ same
-asked_by (Err e) ask here there same asked = tt
-
--- what was told is kept, and is of a copy of the ask too
-pub told_of_copy : {P A R C E : Type 0} (called : Result (Receipts P A R C) E) (ask copy : A) (here : Part) → copy ≡ ask → IfOk called (λ r. r.kept ≡ r.told) → IfOk called (λ r. (r.told.part ≡ here) × (r.told.ask ≡ ask))
-    → IfOk called (λ r. (r.kept ≡ r.told) × (r.told.ask ≡ copy))
-told_of_copy (Ok r) ask copy here copied same asked = (same, asked.1 ∙ sym copied)
-told_of_copy (Err e) ask copy here copied same asked = tt
 
 -- the cell at a server's place has that server's name
 pub named_by : (names : List Part) (number : ℕ) (here : Part) → AreServers 1 names → 0 < number → number ≤ length names → here ≡ get_or names (number - 1) here → here ≡ parts.Server number

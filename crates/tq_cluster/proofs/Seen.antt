@@ -2,7 +2,7 @@
 use Rattle.std.proofs.Common.{◌≡◌, ◌≤◌, ◌<◌, ◌+◌, ◌-◌, ◌^◌, ℕ, zero, suc, List, [], ◌∷◌, ◌++◌, length, map, max, set, get_or, replicate, refl, sym, ap, subst, ◌∙◌, arith}
 use Rattle.std.proofs.lemmas.List.{length-map, map-set, map-append, get_or-map, get_or-set_same, set-get_or, replicate_more}
 use Rattle.std.specs.Prelude.{Result, Ok, Err, IfOk, IfErr, OnOk, OnErr}
-use Rattle.tq_cells.specs.Passes.{Seen, last_behind}
+use Rattle.tq_cells.specs.Passes.{Seen}
 use Rattle.tq_shape.specs.Tree.{IsServer}
 use Rattle.tq_shape.specs.declared.part.Part.{Part}
 use Rattle.tq_shape.specs.declared.part.Part.TheVariants as parts
@@ -16,7 +16,7 @@ use Rattle.tq_prefixes.specs.declared.fault.PullFault.{PullFault}
 use Rattle.tq_prefixes.specs.declared.fault.PullFault.TheVariants as faults
 use Rattle.tq_prefixes.specs.Prefixes.{IsPartOf, IsPullFault, grown, prefix_length}
 use Rattle.tq_cluster.specs.Told.{CallerView, SeesOn, seen_of, having_seen}
-use Rattle.tq_cluster.specs.Pulls.{seen_then}
+use Rattle.tq_cluster.specs.Pulls.{IsPull, last_come, seen_then}
 
 module _ {A R : Type 0} where
   abbrev numbers : List (Seen A R) → List ℕ
@@ -88,40 +88,21 @@ seen_again caller (parts.Server number) = λ i. record { servers = set-get_or ca
 seen_again caller parts.Desk = refl
 seen_again caller parts.View = refl
 
--- the part was asked, and told a number or nothing
-pub asked_seen : {T E : Type 0} (number : T → ℕ) (r : Result T E) (old new : CallerView) (part : Part) (before after : ℕ) → SawOne old new part before after
-    → IfOk r (λ t. after ≡ max before (number t)) → IfOk r (λ t. seen_of new part ≡ max (seen_of old part) (number t))
-asked_seen number (Ok t) old new part before after saw told = saw.here ∙ told ∙ ap (λ (n : ℕ). max n (number t)) (sym saw.was)
-asked_seen number (Err f) old new part before after saw told = tt
+-- the part was asked, and told a number
+pub asked_seen : (old new : CallerView) (part : Part) (before after number : ℕ) → SawOne old new part before after → after ≡ max before number → seen_of new part ≡ max (seen_of old part) number
+asked_seen old new part before after number saw told = saw.here ∙ told ∙ ap (λ (n : ℕ). max n number) (sym saw.was)
 
-pub asked_none : {T E : Type 0} (r : Result T E) (old new : CallerView) (part : Part) (before after : ℕ) → SawOne old new part before after → OnErr r (after ≡ before) → OnErr r (new.seen ≡ old.seen)
-asked_none (Ok t) old new part before after saw told = tt
-asked_none (Err f) old new part before after saw told =
+-- or nothing
+pub asked_none : (old new : CallerView) (part : Part) (before after : ℕ) → SawOne old new part before after → after ≡ before → new.seen ≡ old.seen
+asked_none old new part before after saw told =
     ap (λ (c : CallerView). c.seen) saw.others ∙ ap (λ (n : ℕ). (having_seen old part n).seen) (told ∙ sym saw.was) ∙ seen_again old part
 
 pub asked_others : (old new : CallerView) (part : Part) (before after : ℕ) → SawOne old new part before after → new.seen ≡ (having_seen old part (seen_of new part)).seen
 asked_others old new part before after saw = ap (λ (c : CallerView). c.seen) saw.others ∙ ap (λ (n : ℕ). (having_seen old part n).seen) (sym saw.here)
 
--- it was not asked
-pub not_asked : (old new : CallerView) (part : Part) → new ≡ old → new.seen ≡ (having_seen old part (seen_of new part)).seen
-not_asked old new part same = subst (λ (o : CallerView). new.seen ≡ (having_seen o part (seen_of new part)).seen) same (sym (seen_again new part))
-
 pub on_err : {T E : Type 0} (P : Type 0) (r : Result T E) → P → OnErr r P
 on_err P (Ok x) holds = tt
 on_err P (Err f) holds = holds
-
--- the part was pulled: the caller was told of what came
-pub pulled_saw : (old new : CallerView) (part there : Part) (before after : ℕ) (prefixes start grew : JournalsView) → SawOne old new part before after → part ≡ there → prefixes ≡ start
-    → after ≡ max before (last_behind (prefix_length prefixes there) (prefix_length grew there - prefix_length prefixes there)) → seen_of new part ≡ seen_then start grew old part
-pulled_saw old new part there before after prefixes start grew saw named same told =
-    let at_start : after ≡ max before (last_behind (prefix_length start there) (prefix_length grew there - prefix_length start there)) =
-    subst (λ (o : JournalsView). after ≡ max before (last_behind (prefix_length o there) (prefix_length grew there - prefix_length o there))) same told in
-    let at_part : after ≡ max before (last_behind (prefix_length start part) (prefix_length grew part - prefix_length start part)) =
-    subst (λ (p : Part). after ≡ max before (last_behind (prefix_length start p) (prefix_length grew p - prefix_length start p))) (sym named) at_start in
-    saw.here ∙ at_part ∙ ap (λ (n : ℕ). max n (last_behind (prefix_length start part) (prefix_length grew part - prefix_length start part))) (sym saw.was)
-
-pub pulled_others : (old new : CallerView) (part : Part) (before after : ℕ) → SawOne old new part before after → new ≡ having_seen old part (seen_of new part)
-pulled_others old new part before after saw = saw.others ∙ ap (λ (n : ℕ). having_seen old part n) (sym saw.here)
 
 -- the pass of the server that the part is lies within the passes
 pub has_pass : (passes : List (Seen NodeAsk NodeReply)) (levels number : ℕ) (part : Part) (old : CallerView) → IsPartOf levels part → part ≡ parts.Server number → old.levels ≡ levels → length passes + 1 ≡ 2 ^ old.levels
@@ -132,30 +113,28 @@ has_pass passes levels number part old within named same count =
     let most : number < 2 ^ old.levels = subst (λ (l : ℕ). number < 2 ^ l) (sym same) of_tree.1 in
     omega (arith, count, least, most)
 
-module _ {T : Type 0} (r : Result T PullFault) (part there : Part) (prefixes old new : JournalsView) (named : part ≡ there) (same : prefixes ≡ old) where
-  -- the board grew by the entries of the part of that name
-  pub pulled_grown : OnOk r ((more : Entries) × (new ≡ grown prefixes there more)) → OnOk r ((more : Entries) × (new ≡ grown old part more))
-  pulled_grown is =
-      subst (λ (o : JournalsView). OnOk r ((more : Entries) × (new ≡ grown o part more))) same
-      (subst (λ (p : Part). OnOk r ((more : Entries) × (new ≡ grown prefixes p more))) (sym named) is)
+-- a part of that name was pulled by its pass: so was the part, by the caller
+pub record PartPull {T : Type 0} (end : Result T PullFault) (part : Part) (old new : JournalsView) (before after : CallerView) : Type 0 where
+  pub grows : OnOk end ((more : Entries) × (new ≡ grown old part more))
+  pub seen : OnOk end (seen_of after part ≤ prefix_length new part)
+  pub err : OnErr end (new ≡ old)
+  pub fault : IfErr end (λ fault. (more : Entries) × IsPullFault old part more (seen_of after part) fault)
+  pub saw : seen_of after part ≡ seen_then old new before part
+  pub others : after ≡ having_seen before part (seen_of after part)
 
-  -- or is as it was
-  pub pulled_err : OnErr r (new ≡ prefixes) → OnErr r (new ≡ old)
-  pulled_err is = subst (λ (o : JournalsView). OnErr r (new ≡ o)) same is
-
-module _ {T : Type 0} (r : Result T PullFault) (new : CallerView) (part there : Part) (seen : ℕ) (named : part ≡ there) (here : seen_of new there ≡ seen) where
-  -- the part of that name has on the board what the caller has seen of it
-  pub pulled_seen : (prefixes : JournalsView) → OnOk r (seen ≤ prefix_length prefixes there) → OnOk r (seen_of new part ≤ prefix_length prefixes part)
-  pulled_seen prefixes least =
-      subst (λ (p : Part). OnOk r (seen_of new p ≤ prefix_length prefixes p)) (sym named) (subst (λ (n : ℕ). OnOk r (n ≤ prefix_length prefixes there)) (sym here) least)
-
-  -- or the fault is that of its pull
-  pub pulled_fault : (prefixes old : JournalsView) → prefixes ≡ old → IfErr r (λ f. (more : Entries) × IsPullFault prefixes there more seen f)
-      → IfErr r (λ f. (more : Entries) × IsPullFault old part more (seen_of new part) f)
-  pulled_fault prefixes old same fault =
-      subst (λ (p : Part). IfErr r (λ f. (more : Entries) × IsPullFault old p more (seen_of new p) f)) (sym named)
-      (subst (λ (n : ℕ). IfErr r (λ f. (more : Entries) × IsPullFault old there more n f)) (sym here)
-      (subst (λ (o : JournalsView). IfErr r (λ f. (more : Entries) × IsPullFault o there more seen f)) same fault))
+pub part_pull : {T : Type 0} (end : Result T PullFault) (part there : Part) (prefixes old new : JournalsView) (before after : CallerView) (seen sees : ℕ) → part ≡ there → prefixes ≡ old → SawOne before after part seen sees
+    → IsPull there prefixes new seen sees end → PartPull end part old new before after
+part_pull {T} end part there prefixes old new before after seen sees named same saw pulled =
+    let pull : IsPull part old new seen sees end =
+    subst (λ (p : Part). IsPull p old new seen sees end) (sym named) (subst (λ (o : JournalsView). IsPull there o new seen sees end) same pulled) in
+    record {
+      grows = pull.grows;
+      seen = subst (λ (n : ℕ). OnOk end (n ≤ prefix_length new part)) (sym saw.here) pull.seen;
+      err = pull.err;
+      fault = subst (λ (n : ℕ). IfErr end (λ f. (more : Entries) × IsPullFault old part more n f)) (sym saw.here) pull.fault;
+      saw = saw.here ∙ pull.saw ∙ ap (λ (n : ℕ). max n (last_come old new part)) (sym saw.was);
+      others = saw.others ∙ ap (λ (n : ℕ). having_seen before part n) (sym saw.here);
+    }
 
 -- ---- what was seen, and no less after
 

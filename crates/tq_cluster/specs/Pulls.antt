@@ -1,5 +1,5 @@
 -- What pulls do to the prefixes on a board.
-use Rattle.std.specs.Prelude.{◌≡◌, ◌≤◌, ◌<◌, ◌-◌, ℕ, max, List, [], ◌∷◌, ◌++◌, ⊤}
+use Rattle.std.specs.Prelude.{◌≡◌, ◌≤◌, ◌<◌, ◌-◌, ℕ, max, List, [], ◌∷◌, ◌++◌, Result, OnOk, OnErr, IfErr, ⊤}
 use Rattle.tq_shape.specs.declared.part.Part.{Part}
 use Rattle.tq_shape.specs.declared.part.Part.TheVariants as parts
 use Rattle.tq_desk.specs.DeskJournal.{DeskEntry}
@@ -7,7 +7,7 @@ use Rattle.tq_tables.specs.Journals.{JournalsView, ViewEntry}
 use Rattle.tq_cells.specs.Passes.{last_behind}
 use Rattle.tq_prefixes.specs.declared.entries.Entries.{Entries}
 use Rattle.tq_prefixes.specs.declared.fault.PullFault.{PullFault}
-use Rattle.tq_prefixes.specs.Prefixes.{IsPartOf, IsPullFault, prefix_length}
+use Rattle.tq_prefixes.specs.Prefixes.{IsPartOf, IsPullFault, grown, prefix_length}
 use Rattle.tq_prefixes.specs.Astray.{ComesBefore}
 use Rattle.tq_cluster.specs.Told.{CallerView, seen_of}
 
@@ -36,6 +36,15 @@ HasSeenServers prefixes caller count = (number : ℕ) → 0 < number → number 
 -- the number of the last entry that came of a part, where what was pulled of it went from the one to the other; 0 where none came
 abbrev pub last_come : JournalsView → JournalsView → Part → ℕ
 last_come old new part = last_behind (prefix_length old part) (prefix_length new part - prefix_length old part)
+
+-- a pull of the part onto the prefixes, by one who had seen and then has seen so many of its entries: at Ok the prefix grew, and
+-- has what was seen; at a fault it is as it was, and some entries were not those that come next; one saw just what came
+pub record IsPull {T : Type 0} (part : Part) (old new : JournalsView) (before after : ℕ) (end : Result T PullFault) : Type 0 where
+  pub grows : OnOk end ((more : Entries) × (new ≡ grown old part more))
+  pub seen : OnOk end (after ≤ prefix_length new part)
+  pub err : OnErr end (new ≡ old)
+  pub fault : IfErr end (λ fault. (more : Entries) × IsPullFault old part more after fault)
+  pub saw : after ≡ max before (last_come old new part)
 
 -- the greatest number that a caller was told of the part then
 abbrev pub seen_then : JournalsView → JournalsView → CallerView → Part → ℕ

@@ -1,5 +1,5 @@
 -- What a caller of a cluster was told.
-use Rattle.std.specs.Prelude.{◌≤◌, ℕ, ◌-◌, ◌^◌, List, [], Ok, get_or, set, replicate}
+use Rattle.std.specs.Prelude.{◌≤◌, ℕ, ◌-◌, ◌^◌, List, [], ◌∷◌, Result, Ok, Err, get_or, set, replicate}
 use Rattle.tq_shape.specs.declared.part.Part.{Part}
 use Rattle.tq_shape.specs.declared.part.Part.TheVariants as parts
 use Rattle.tq_cells.specs.Passes.{IsToldBy}
@@ -17,9 +17,9 @@ use Rattle.tq_live.specs.View.{view_state, view_reply, view_after}
 use Rattle.tq_live.specs.declared.view.ViewAsk.{ViewAsk}
 use Rattle.tq_live.specs.declared.view.ViewReply.{ViewReply}
 use Rattle.tq_txn.specs.declared.asker.Exchange.{Exchange}
-use Rattle.tq_txn.specs.declared.asker.Exchange.TheVariants as exchanges
-use Rattle.tq_cluster.specs.declared.heard.Heard.{Heard}
-use Rattle.tq_cluster.specs.declared.heard.Heard.TheVariants as heard
+use Rattle.tq_txn.specs.Dialogue.{Told, unless_memory}
+use Rattle.tq_part.specs.declared.fault.AskFault.{AskFault}
+use Rattle.tq_cluster.specs.declared.asked.Numbered.{Numbered}
 
 -- of each part the greatest number of an entry that one was told of, 0 where of none: of the servers upwards from server 1,
 -- of the desk and of the view
@@ -59,12 +59,10 @@ abbrev pub server_of : Part → ℕ
 server_of (parts.Server number) = number
 server_of other = 0
 
--- the ask that was heard of, and what was told of it
-abbrev pub exchange_of : Heard → Exchange
-exchange_of (heard.Server r) = exchanges.Node (server_of r.part) r.ask (Ok (record { number = r.number; reply = r.reply }))
-exchange_of (heard.Desk r) = exchanges.Desk r.ask (Ok (record { number = r.number; reply = r.reply }))
-exchange_of (heard.View r) = exchanges.View r.ask (Ok (record { number = r.number; reply = r.reply }))
-exchange_of (heard.Full exchange) = exchange
+-- what an ask adds to what its caller was told: the exchange of it; nothing where memory was refused
+abbrev pub exchanges_of : {A R : Type 0} → (A → Told R → Exchange) → A → Result (Numbered A R) AskFault → List Exchange
+exchanges_of exchange ask (Ok told) = exchange ask (Ok (record { number = told.number; reply = told.entry.reply })) ∷ []
+exchanges_of exchange ask (Err fault) = unless_memory fault (exchange ask (Err fault))
 
 -- a legal journal of some server has this entry at this number; of some desk; of some view
 abbrev pub IsToldByServer : ℕ → NodeAsk → NodeReply → Type 0

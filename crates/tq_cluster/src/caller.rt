@@ -1,14 +1,13 @@
 ghost use Rattle.std.specs.Prelude.{◌≡◌, ◌+◌, ◌^◌, [], map, vec_len};
-ghost use Rattle.tq_cluster.specs.Told.{exchange_of};
 
-use crate::heard::Heard;
 use std::alloc::Global;
 use std::marker::Model;
 use tq_cells::Pass;
 use tq_desk::Desk;
 use tq_live::View;
 use tq_node::Node;
-use tq_shape::Levels;
+use tq_shape::{Levels, Seq};
+use tq_txn::Exchange;
 
 /// One who asks the parts of a cluster: a pass for each part, and what it was told of its asks, in their order.
 pub struct Caller {
@@ -16,7 +15,7 @@ pub struct Caller {
     pub(crate) servers: Vec<Pass<Node>>,
     pub(crate) desk: Pass<Desk>,
     pub(crate) view: Pass<View>,
-    pub(crate) heard: Vec<Heard>,
+    pub(crate) told: Vec<Exchange>,
 }
 
 // Written out, so that each function lets go of one by a call.
@@ -27,21 +26,25 @@ impl Drop for Caller {
             servers: _,
             desk: _,
             view: _,
-            heard: _,
+            told: _,
         } = self;
     }
 }
 
 impl Model for Caller {
     ghost use Rattle.std.specs.Prelude.{◌≡◌, ◌+◌, ◌^◌, length, map};
-    ghost use Rattle.tq_cluster.specs.Told.{CallerView, exchange_of};
+    ghost use Rattle.tq_cluster.specs.Told.{CallerView};
 
     ghost Value = { CallerView };
 
     ghost view = { λ c. record {
       levels = c.levels;
-      told = map exchange_of c.heard.items;
-      seen = record { servers = map (λ pass. pass.seen) c.servers.items; desk = c.desk.seen; view = c.view.seen };
+      told = c.told.items;
+      seen = record {
+        servers = map (λ pass. pass.seen) c.servers.items;
+        desk = c.desk.seen;
+        view = c.view.seen;
+      };
     } };
 
     ghost invariant = { λ c. length c.servers.items + 1 ≡ 2 ^ c.levels };
@@ -60,7 +63,11 @@ impl Caller {
         ensures { result ≡ record {
           levels = levels;
           told = [];
-          seen = record { servers = map (λ pass. pass.seen) servers.items; desk = desk.seen; view = view.seen };
+          seen = record {
+            servers = map (λ pass. pass.seen) servers.items;
+            desk = desk.seen;
+            view = view.seen;
+          };
         } }
     {
         Caller {
@@ -68,21 +75,21 @@ impl Caller {
             servers,
             desk,
             view,
-            heard: Vec::new(alloc),
+            told: Vec::new(alloc),
         }
     }
 
-    /// What it heard of its asks, in their order. It takes no memory.
-    pub(crate) fn into_heard(self) -> Vec<Heard>
-        ensures { map exchange_of result.items ≡ self.told }
+    /// What it was told of its asks, in their order. It takes no memory.
+    pub(crate) fn into_told(self) -> Seq<Exchange>
+        ensures { result ≡ self.told }
     {
         let Caller {
             levels: _,
             servers: _,
             desk: _,
             view: _,
-            heard,
+            told,
         } = self;
-        heard
+        Seq::from_vec(told)
     }
 }

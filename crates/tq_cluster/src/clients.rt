@@ -51,7 +51,8 @@ fn run_client<R: Wait, G: Gate + Drop>(
 ) -> Client
     requires tree { caller.levels ≡ cluster.now.levels }
     requires fresh { caller.told ≡ [] }
-    ensures { result.memory ≡ false → RunsScript cluster.now.levels cluster.now.limits script.now result.caller }
+    ensures { result.memory ≡ false
+        → RunsScript cluster.now.levels cluster.now.limits script.now result.caller }
 {
     let levels = cluster.levels();
     let limits = cluster.limits();
@@ -85,10 +86,15 @@ fn run_all<'s, 'e: 's, R: Threads + Wait + Sync, G: Gate + Drop + Sync>(
     callers: &mut Vec<Caller>,
 ) -> bool
     requires parts { team.workers < (view putter.old.pass).parts }
-    requires room { vec_len callers.old + length scripts.now + team.workers + 1 ≤ vec_capacity callers.old }
-    ensures ran { result ≡ false → (more : List CallerView) × (taken : List (ℕ × Message)) × (callers.new.items ≡ callers.old.items ++ more) × ((view putter.new.pass).taken ≡ (view putter.old.pass).taken ++ taken) × RunBackwards cluster.now.levels cluster.now.limits scripts.now team.workers taken more }
+    requires room { vec_len callers.old + length scripts.now + team.workers + 1
+        ≤ vec_capacity callers.old }
+    ensures ran { result ≡ false → (more : List CallerView) × (taken : List (ℕ × Message))
+        × (callers.new.items ≡ callers.old.items ++ more)
+        × ((view putter.new.pass).taken ≡ (view putter.old.pass).taken ++ taken)
+        × RunBackwards cluster.now.levels cluster.now.limits scripts.now team.workers taken more }
     ensures parts { result ≡ false → (view putter.new.pass).parts ≡ (view putter.old.pass).parts }
-    ensures len { vec_len callers.new ≤ vec_len callers.old + length scripts.now + team.workers + 1 }
+    ensures len { vec_len callers.new
+        ≤ vec_len callers.old + length scripts.now + team.workers + 1 }
     ensures room { vec_capacity callers.new ≡ vec_capacity callers.old }
 {
     let [script, rest @ ..] = scripts else {
@@ -101,7 +107,8 @@ fn run_all<'s, 'e: 's, R: Threads + Wait + Sync, G: Gate + Drop + Sync>(
         Follows(cluster.levels(), cluster.limits(), script),
         move || -> Client
             requires { (caller.levels ≡ cluster.now.levels) × (caller.told ≡ []) }
-            ensures { result.memory ≡ false → RunsScript cluster.entry.now.levels cluster.entry.now.limits script.entry.now result.caller }
+            ensures { result.memory ≡ false → RunsScript cluster.entry.now.levels
+                cluster.entry.now.limits script.entry.now result.caller }
         { run_client(rt, alloc, cluster, caller, script) },
     );
     match started {
@@ -145,15 +152,22 @@ fn run_in_threads<R: Threads + Wait + Sync, G: Gate + Drop + Sync>(
     requires room { length scripts.now + team.workers + 1 ≤ vec_capacity callers }
     requires empty { callers.items ≡ [] }
     requires fresh { view putter.pass ≡ hand 1024 true [] [] }
-    ensures ran { result.memory ≡ false → RunBackwards cluster.now.levels cluster.now.limits scripts.now team.workers (view result.queue.value.pass).taken result.callers.items }
-    ensures once { result.memory ≡ false → (items : List Message) × IsPrefixTaken (view result.queue.value.pass).put (view result.queue.value.pass).taken items }
+    ensures ran { result.memory ≡ false
+        → RunBackwards cluster.now.levels cluster.now.limits scripts.now team.workers
+        (view result.queue.value.pass).taken result.callers.items }
+    ensures once { result.memory ≡ false → (items : List Message) × IsPrefixTaken
+        (view result.queue.value.pass).put (view result.queue.value.pass).taken items }
 {
     let (callers, mut putter, memory) = thread::scope(
         thread::scope_env(),
         rt,
         |scope| -> (Vec<Caller>, Putter<Message>, bool)
-            requires { (team.workers ≤ 2) × (vec_len callers + length scripts.now + team.workers + 1 ≤ vec_capacity callers) × (callers.items ≡ []) × (view putter.pass ≡ hand 1024 true [] []) }
-            ensures { result.2 ≡ false → RunBackwards cluster.entry.now.levels cluster.entry.now.limits scripts.entry.now team.workers (view result.1.pass).taken result.0.items × ((view result.1.pass).parts ≡ 1024) }
+            requires { (team.workers ≤ 2)
+                × (vec_len callers + length scripts.now + team.workers + 1 ≤ vec_capacity callers)
+                × (callers.items ≡ []) × (view putter.pass ≡ hand 1024 true [] []) }
+            ensures { result.2 ≡ false → RunBackwards cluster.entry.now.levels
+                cluster.entry.now.limits scripts.entry.now team.workers (view result.1.pass).taken
+                result.0.items × ((view result.1.pass).parts ≡ 1024) }
         {
             let memory = run_all(
                 scope,
@@ -201,7 +215,8 @@ impl<G: Gate + Drop + Sync> Cluster<G> {
         requires scripts { vec_len scripts ≤ 16 }
         requires workers { workers ≤ 2 }
         requires rounds { rounds ≤ 1000 }
-        ensures { result.memory ≡ false → AllRan self.now.levels self.now.limits scripts.items workers result.callers.items }
+        ensures { result.memory ≡ false
+            → AllRan self.now.levels self.now.limits scripts.items workers result.callers.items }
     {
         let mut callers = Vec::new(alloc);
         let many = scripts.len() + workers as usize + 1;

@@ -9,10 +9,11 @@ ghost use Rattle.tq_cluster.specs.Closes.{IsClosedBy};
 use crate::caller::Caller;
 use crate::cluster::Cluster;
 use crate::explained::{Explained, settle};
-use crate::retold::told_to_all;
 use std::alloc::Global;
 use tq_cells::Gate;
 use tq_merge::CloseFault;
+use tq_shape::{Memory, Seq};
+use tq_txn::Exchange;
 
 impl<G: Gate + Drop> Cluster<G> {
     /// Opens all cells, once no thread asks the parts any more, compares what these callers were told with the journals,
@@ -26,10 +27,13 @@ impl<G: Gate + Drop> Cluster<G> {
     pub fn close(self, alloc: Global, callers: Vec<Caller>) -> Result<Explained, CloseFault>
         ensures levels { IfOk result (λ e. e.journals.levels ≡ self.levels) }
         ensures limits { IfOk result (λ e. e.journals.limits ≡ self.limits) }
-        ensures kept { IfOk result (λ e. AreKept e.journals (map (λ caller. caller.told) callers.items)) }
-        ensures unclaimed { IfOk result (λ e. e.unclaimed ≡ kept_words.unclaimed e.journals (map (λ caller. caller.told) callers.items)) }
+        ensures kept { IfOk result (λ e.
+            AreKept e.journals (map (λ caller. caller.told) callers.items)) }
+        ensures unclaimed { IfOk result (λ e. e.unclaimed
+            ≡ kept_words.unclaimed e.journals (map (λ caller. caller.told) callers.items)) }
         ensures order { IfOk result (λ e. Explains e.journals e.order) }
-        ensures run { IfOk result (λ e. run e.journals.levels e.journals.limits (asks_of e.journals e.order) ≡ e.journals) }
+        ensures run { IfOk result (λ e.
+            run e.journals.levels e.journals.limits (asks_of e.journals e.order) ≡ e.journals) }
         ensures committed_reads { IfOk result (λ e. HasCommittedReads e.journals) }
         ensures fault { IfErr result (IsClosedBy self (map (λ caller. caller.told) callers.items)) }
     {
@@ -40,4 +44,15 @@ impl<G: Gate + Drop> Cluster<G> {
             Err(fault) => Err(fault),
         }
     }
+}
+
+/// What each of the callers was told of its asks. Answers an error only where memory is refused.
+fn told_to_all(alloc: Global, callers: Vec<Caller>) -> Result<Vec<Seq<Exchange>>, Memory>
+    ensures { IfOk result (λ told. told.items ≡ map (λ caller. caller.told) callers.items) }
+{
+    let mut told = Vec::new(alloc);
+    for caller in callers {
+        told.push(caller.into_told())?;
+    }
+    Ok(told)
 }

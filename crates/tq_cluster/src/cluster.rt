@@ -1,24 +1,23 @@
 ghost use Rattle.std.specs.Prelude.{◌≡◌, ◌≤◌, ◌<◌, ◌+◌, ◌^◌, ◌++◌, ◌⊎◌, ℕ, [], length, map, max, replicate, IfOk, IfErr, OnErr, vec_len, vec_capacity};
 ghost use Rattle.tq_txn.specs.Dialogue.{node_exchange, desk_exchange, view_exchange};
 ghost use Rattle.tq_tables.specs.Parts.{AreLegal};
-ghost use Rattle.tq_cluster.specs.Told.{IsToldByServer, IsToldByDesk, IsToldByView, exchange_of, having_seen, nothing_seen, seen_of};
+ghost use Rattle.tq_cluster.specs.Told.{IsToldByServer, IsToldByDesk, IsToldByView, having_seen, nothing_seen, seen_of};
 
-use crate::call::{Receipts, call};
+use crate::asked::ask_part;
 use crate::caller::Caller;
-use crate::heard::Heard;
 use crate::journals::{desk_journal, server_journals, view_journal};
 use std::alloc::Global;
 use std::marker::Model;
 use std::sync::Wait;
 use tq_asks::NodeAsk;
-use tq_cells::{CallFault, Cell, Gate, Pass, Receipt};
+use tq_cells::{Cell, Gate, Pass};
 use tq_desk::{Desk, DeskAsk};
 use tq_live::{View, ViewAsk};
 use tq_node::Node;
 use tq_part::AskFault;
 use tq_shape::{Entry, Levels, Limits, Memory, Part, ServerId};
 use tq_tables::{Journals, NodeEntry};
-use tq_txn::{DeskTold, Exchange, NodeTold, ViewTold};
+use tq_txn::{DeskTold, NodeTold, ViewTold};
 
 /// All parts of a system, each in a cell of its own: its servers, its desk and its view. Many threads may ask them at
 /// once. No cell is locked while another one is asked.
@@ -85,7 +84,11 @@ impl<G: Gate + Drop> Cluster<G> {
 
     /// A caller that was told nothing. Answers an error only where memory is refused.
     pub fn caller(&self, alloc: Global) -> Result<Caller, Memory>
-        ensures { IfOk result (λ caller. caller ≡ record { levels = self.now.levels; told = []; seen = nothing_seen self.now.levels }) }
+        ensures { IfOk result (λ caller. caller ≡ record {
+          levels = self.now.levels;
+          told = [];
+          seen = nothing_seen self.now.levels;
+        }) }
     {
         let servers = passes(alloc, self.servers.as_slice())?;
         let desk = self.desk.pass(alloc);
@@ -153,23 +156,38 @@ impl<G: Gate + Drop> Cluster<G> {
     ) -> Result<NodeTold, AskFault>
         requires levels { caller.old.levels ≡ self.now.levels }
         requires server { server.levels ≡ self.now.levels }
-        ensures exchanges { caller.new.told ≡ caller.old.told ++ node_exchange server.number ask result }
+        ensures exchanges { caller.new.told
+            ≡ caller.old.told ++ node_exchange server.number ask result }
         ensures same { IfOk result (λ t. (t.server ≡ server.number) × (t.ask ≡ ask)) }
         ensures reply { IfOk result (λ t. IsToldByServer t.number t.ask t.reply) }
         ensures seen { IfOk result (λ t. seen_of caller.new (Part.Server server.number)
             ≡ max (seen_of caller.old (Part.Server server.number)) t.number) }
         ensures not_told { OnErr result (caller.new.seen ≡ caller.old.seen) }
-        ensures fault { IfErr result (λ f. (f ≡ AskFault.Memory) ⊎ (f ≡ AskFault.JournalFull (Part.Server server.number))) }
-        ensures others { caller.new.seen ≡ (having_seen caller.old (Part.Server server.number) (seen_of caller.new (Part.Server server.number))).seen }
+        ensures fault { IfErr result (λ f. (f ≡ AskFault.Memory)
+            ⊎ (f ≡ AskFault.JournalFull (Part.Server server.number))) }
+        ensures others { caller.new.seen ≡ (having_seen caller.old (Part.Server server.number)
+            (seen_of caller.new (Part.Server server.number))).seen }
         ensures tree { caller.new.levels ≡ caller.old.levels }
     {
         let number = server.number();
         let place = (number - 1) as usize;
-        let copy = ask.clone()?;
-        caller.heard.reserve(1)?;
-        let cell = &self.servers[place];
-        let called = call(rt, alloc, cell, &mut caller.servers[place], &self.gate, ask);
-        hear_node(&mut caller.heard, number, copy, called)
+        let told = ask_part(
+            rt,
+            alloc,
+            &self.servers[place],
+            &self.gate,
+            Part::Server(number),
+            &mut caller.servers[place],
+            &mut caller.told,
+            ask,
+        )?;
+        let Entry { ask, reply } = told.entry;
+        Ok(NodeTold {
+            server: number,
+            number: told.number,
+            ask,
+            reply,
+        })
     }
 
     /// Asks the desk, once it has its lock: the reply is that of the desk after the entries of its journal, and the ask
@@ -189,14 +207,28 @@ impl<G: Gate + Drop> Cluster<G> {
         ensures seen { IfOk result (λ t. seen_of caller.new Part.Desk
             ≡ max (seen_of caller.old Part.Desk) t.number) }
         ensures not_told { OnErr result (caller.new.seen ≡ caller.old.seen) }
-        ensures fault { IfErr result (λ f. (f ≡ AskFault.Memory) ⊎ (f ≡ AskFault.JournalFull Part.Desk)) }
-        ensures others { caller.new.seen ≡ (having_seen caller.old Part.Desk (seen_of caller.new Part.Desk)).seen }
+        ensures fault { IfErr result (λ f. (f ≡ AskFault.Memory)
+            ⊎ (f ≡ AskFault.JournalFull Part.Desk)) }
+        ensures others { caller.new.seen
+            ≡ (having_seen caller.old Part.Desk (seen_of caller.new Part.Desk)).seen }
         ensures tree { caller.new.levels ≡ caller.old.levels }
     {
-        let copy = ask.clone()?;
-        caller.heard.reserve(1)?;
-        let called = call(rt, alloc, &self.desk, &mut caller.desk, &self.gate, ask);
-        hear_desk(&mut caller.heard, copy, called)
+        let told = ask_part(
+            rt,
+            alloc,
+            &self.desk,
+            &self.gate,
+            Part::Desk,
+            &mut caller.desk,
+            &mut caller.told,
+            ask,
+        )?;
+        let Entry { ask, reply } = told.entry;
+        Ok(DeskTold {
+            number: told.number,
+            ask,
+            reply,
+        })
     }
 
     /// Asks the view, as `ask_desk` asks the desk.
@@ -214,165 +246,40 @@ impl<G: Gate + Drop> Cluster<G> {
         ensures seen { IfOk result (λ t. seen_of caller.new Part.View
             ≡ max (seen_of caller.old Part.View) t.number) }
         ensures not_told { OnErr result (caller.new.seen ≡ caller.old.seen) }
-        ensures fault { IfErr result (λ f. (f ≡ AskFault.Memory) ⊎ (f ≡ AskFault.JournalFull Part.View)) }
-        ensures others { caller.new.seen ≡ (having_seen caller.old Part.View (seen_of caller.new Part.View)).seen }
+        ensures fault { IfErr result (λ f. (f ≡ AskFault.Memory)
+            ⊎ (f ≡ AskFault.JournalFull Part.View)) }
+        ensures others { caller.new.seen
+            ≡ (having_seen caller.old Part.View (seen_of caller.new Part.View)).seen }
         ensures tree { caller.new.levels ≡ caller.old.levels }
     {
-        caller.heard.reserve(1)?;
-        let called = call(rt, alloc, &self.view, &mut caller.view, &self.gate, ask);
-        hear_view(&mut caller.heard, ask, called)
+        let told = ask_part(
+            rt,
+            alloc,
+            &self.view,
+            &self.gate,
+            Part::View,
+            &mut caller.view,
+            &mut caller.told,
+            ask,
+        )?;
+        let Entry { ask, reply } = told.entry;
+        Ok(ViewTold {
+            number: told.number,
+            ask,
+            reply,
+        })
     }
-}
-
-/// What the server of that number told.
-fn node_told(server: u64, receipt: Receipt<Node>) -> NodeTold
-    ensures { result ≡ record { server = server; number = receipt.number; ask = receipt.ask; reply = receipt.reply } }
-{
-    let number = receipt.number();
-    let Entry { ask, reply } = receipt.into_entry();
-    NodeTold {
-        server,
-        number,
-        ask,
-        reply,
-    }
-}
-
-/// What the desk told.
-fn desk_told(receipt: Receipt<Desk>) -> DeskTold
-    ensures { result ≡ record { number = receipt.number; ask = receipt.ask; reply = receipt.reply } }
-{
-    let number = receipt.number();
-    let Entry { ask, reply } = receipt.into_entry();
-    DeskTold { number, ask, reply }
-}
-
-/// What the view told.
-fn view_told(receipt: Receipt<View>) -> ViewTold
-    ensures { result ≡ record { number = receipt.number; ask = receipt.ask; reply = receipt.reply } }
-{
-    let number = receipt.number();
-    let Entry { ask, reply } = receipt.into_entry();
-    ViewTold { number, ask, reply }
 }
 
 /// A pass for each of these cells, with nothing seen.
 fn passes(alloc: Global, cells: &[Cell<Node>]) -> Result<Vec<Pass<Node>>, Memory>
     ensures one_each { IfOk result (λ passes. vec_len passes ≡ length cells.now) }
-    ensures unseen { IfOk result (λ passes. map (λ pass. pass.seen) passes.items ≡ replicate (length cells.now) 0) }
+    ensures unseen { IfOk result (λ passes.
+        map (λ pass. pass.seen) passes.items ≡ replicate (length cells.now) 0) }
 {
     let mut passes = Vec::new(alloc);
     for cell in cells {
         passes.push(cell.pass(alloc))?;
     }
     Ok(passes)
-}
-
-/// Puts what a server answered behind what the caller heard, and tells it. Want of memory is not heard of.
-fn hear_node(
-    heard: &mut Vec<Heard>,
-    server: u64,
-    ask: NodeAsk,
-    called: Result<Receipts<Node>, CallFault>,
-) -> Result<NodeTold, AskFault>
-    requires room { vec_len heard.old < vec_capacity heard.old }
-    requires told { IfOk called (λ r. (r.kept ≡ r.told) × (r.told.ask ≡ ask)) }
-    requires part { IfOk called (λ r. r.told.part ≡ Part.Server server) }
-    ensures exchanges { map exchange_of heard.new.items ≡ map exchange_of heard.old.items ++ node_exchange server ask result }
-    ensures same { IfOk result (λ t. (t.server ≡ server) × (t.ask ≡ ask)) }
-    ensures reply { IfOk called (λ r. IsToldByServer r.told.number r.told.ask r.told.reply) → IfOk result (λ t. IsToldByServer t.number t.ask t.reply) }
-    ensures seen { (old new : ℕ) → IfOk called (λ r. new ≡ max old r.told.number) → IfOk result (λ t. new ≡ max old t.number) }
-    ensures not_told { (old new : ℕ) → OnErr called (new ≡ old) → OnErr result (new ≡ old) }
-    ensures fault { IfErr result (λ f. (f ≡ AskFault.Memory) ⊎ (f ≡ AskFault.JournalFull (Part.Server server))) }
-{
-    match called {
-        Ok(receipts) => {
-            drop(ask);
-            heard.push_reserved(Heard::Server(receipts.kept));
-            Ok(node_told(server, receipts.told))
-        }
-        Err(CallFault::Memory) => {
-            drop(ask);
-            Err(AskFault::Memory)
-        }
-        Err(CallFault::JournalFull) => {
-            let fault = AskFault::JournalFull {
-                part: Part::Server(server),
-            };
-            heard.push_reserved(Heard::Full(Exchange::Node {
-                server,
-                ask,
-                answer: Err(fault),
-            }));
-            Err(fault)
-        }
-    }
-}
-
-/// Puts what the desk answered behind what the caller heard, and tells it. Want of memory is not heard of.
-fn hear_desk(
-    heard: &mut Vec<Heard>,
-    ask: DeskAsk,
-    called: Result<Receipts<Desk>, CallFault>,
-) -> Result<DeskTold, AskFault>
-    requires room { vec_len heard.old < vec_capacity heard.old }
-    requires told { IfOk called (λ r. (r.kept ≡ r.told) × (r.told.ask ≡ ask)) }
-    ensures exchanges { map exchange_of heard.new.items ≡ map exchange_of heard.old.items ++ desk_exchange ask result }
-    ensures same { IfOk result (λ t. t.ask ≡ ask) }
-    ensures reply { IfOk called (λ r. IsToldByDesk r.told.number r.told.ask r.told.reply) → IfOk result (λ t. IsToldByDesk t.number t.ask t.reply) }
-    ensures seen { (old new : ℕ) → IfOk called (λ r. new ≡ max old r.told.number) → IfOk result (λ t. new ≡ max old t.number) }
-    ensures not_told { (old new : ℕ) → OnErr called (new ≡ old) → OnErr result (new ≡ old) }
-    ensures fault { IfErr result (λ f. (f ≡ AskFault.Memory) ⊎ (f ≡ AskFault.JournalFull Part.Desk)) }
-{
-    match called {
-        Ok(receipts) => {
-            drop(ask);
-            heard.push_reserved(Heard::Desk(receipts.kept));
-            Ok(desk_told(receipts.told))
-        }
-        Err(CallFault::Memory) => {
-            drop(ask);
-            Err(AskFault::Memory)
-        }
-        Err(CallFault::JournalFull) => {
-            let fault = AskFault::JournalFull { part: Part::Desk };
-            heard.push_reserved(Heard::Full(Exchange::Desk {
-                ask,
-                answer: Err(fault),
-            }));
-            Err(fault)
-        }
-    }
-}
-
-/// Puts what the view answered behind what the caller heard, and tells it. Want of memory is not heard of.
-fn hear_view(
-    heard: &mut Vec<Heard>,
-    ask: ViewAsk,
-    called: Result<Receipts<View>, CallFault>,
-) -> Result<ViewTold, AskFault>
-    requires room { vec_len heard.old < vec_capacity heard.old }
-    requires told { IfOk called (λ r. (r.kept ≡ r.told) × (r.told.ask ≡ ask)) }
-    ensures exchanges { map exchange_of heard.new.items ≡ map exchange_of heard.old.items ++ view_exchange ask result }
-    ensures same { IfOk result (λ t. t.ask ≡ ask) }
-    ensures reply { IfOk called (λ r. IsToldByView r.told.number r.told.ask r.told.reply) → IfOk result (λ t. IsToldByView t.number t.ask t.reply) }
-    ensures seen { (old new : ℕ) → IfOk called (λ r. new ≡ max old r.told.number) → IfOk result (λ t. new ≡ max old t.number) }
-    ensures not_told { (old new : ℕ) → OnErr called (new ≡ old) → OnErr result (new ≡ old) }
-    ensures fault { IfErr result (λ f. (f ≡ AskFault.Memory) ⊎ (f ≡ AskFault.JournalFull Part.View)) }
-{
-    match called {
-        Ok(receipts) => {
-            heard.push_reserved(Heard::View(receipts.kept));
-            Ok(view_told(receipts.told))
-        }
-        Err(CallFault::Memory) => Err(AskFault::Memory),
-        Err(CallFault::JournalFull) => {
-            let fault = AskFault::JournalFull { part: Part::View };
-            heard.push_reserved(Heard::Full(Exchange::View {
-                ask,
-                answer: Err(fault),
-            }));
-            Err(fault)
-        }
-    }
 }

@@ -35,8 +35,10 @@ impl Explained {
     pub fn begins(&self, board: &LiveBoard) -> Option<Part>
         requires levels { board.now.levels ≡ self.now.journals.levels }
         requires limits { board.now.limits ≡ self.now.journals.limits }
-        ensures first { MatchOption result (AllBegin board.now self.now.journals) (IsFirstAstray board.now self.now.journals) }
-        ensures tables { IfNone result (AreTablesOfPrefixes self.now.journals (tables_of board.now)) }
+        ensures first { MatchOption result (AllBegin board.now self.now.journals)
+            (IsFirstAstray board.now self.now.journals) }
+        ensures tables { IfNone result
+            (AreTablesOfPrefixes self.now.journals (tables_of board.now)) }
     {
         board.prefixes.first_astray(&self.journals)
     }
@@ -54,7 +56,8 @@ pub(crate) fn settle(
     ensures kept { IfOk result (λ e. AreKept journals callers.now) }
     ensures unclaimed { IfOk result (λ e. e.unclaimed ≡ spec.unclaimed journals callers.now) }
     ensures order { IfOk result (λ e. Explains journals e.order) }
-    ensures run { IfOk result (λ e. run journals.levels journals.limits (asks_of journals e.order) ≡ journals) }
+    ensures run { IfOk result (λ e.
+        run journals.levels journals.limits (asks_of journals e.order) ≡ journals) }
     ensures committed_reads { IfOk result (λ e. HasCommittedReads journals) }
     ensures fault { IfErr result (IsCloseFault journals callers.now) }
 {
@@ -77,7 +80,8 @@ fn ordered(alloc: Global, journals: Journals, unclaimed: u64) -> Result<Explaine
     ensures journals { IfOk result (λ e. e.journals ≡ journals) }
     ensures unclaimed { IfOk result (λ e. e.unclaimed ≡ unclaimed) }
     ensures order { IfOk result (λ e. Explains journals e.order) }
-    ensures run { IfOk result (λ e. run journals.levels journals.limits (asks_of journals e.order) ≡ journals) }
+    ensures run { IfOk result (λ e.
+        run journals.levels journals.limits (asks_of journals e.order) ≡ journals) }
     ensures committed_reads { IfOk result (λ e. HasCommittedReads journals) }
     ensures fault { IfErr result (IsNoOrder journals) }
 {

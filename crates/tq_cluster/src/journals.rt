@@ -28,7 +28,8 @@ pub(crate) fn server_journals(
     requires room { vec_len cells ≤ vec_capacity room }
     ensures one_each { vec_len result ≡ vec_len cells }
     ensures legal { AreLegalServers 1 (map (λ journal. journal.items) result.items) }
-    ensures fit { All (λ journal. length journal ≤ entries) (map (λ journal. journal.items) result.items) }
+    ensures fit { All (λ journal. length journal ≤ entries)
+        (map (λ journal. journal.items) result.items) }
 {
     let mut journals = room;
     for cell in cells {
@@ -72,7 +73,8 @@ pub(crate) fn desk_journal(
     limits: Limits,
     journaled: Journaled<Desk>,
 ) -> Result<Vec<DeskEntry>, Memory>
-    ensures legal { IfOk result (λ entries. IsLegalDesk (bounds_of levels limits) (reverse entries.items)) }
+    ensures legal { IfOk result (λ entries.
+        IsLegalDesk (bounds_of levels limits) (reverse entries.items)) }
     ensures fits { IfOk result (λ entries. vec_len entries ≤ limits.entries) }
     ensures whole { IsLegalDesk (bounds_of levels limits) (reverse journaled.journal)
         → length journaled.journal ≤ limits.entries

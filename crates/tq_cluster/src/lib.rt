@@ -1,22 +1,21 @@
 //! The running cluster: each part of a system in a cell of its own, and callers that many threads may have.
 //!
-//! Files: `cluster.rt` the cells and the three calls; `caller.rt`, `call.rt`, `heard.rt`, `asking.rt` a caller;
-//! `clients.rt`, `workers.rt`, `rounds.rt` threads; `live_board.rt` a board; `close.rt`, `explained.rt`, `journals.rt` the
-//! close.
+//! Files: `cluster.rt` the cells and the three calls; `asked.rt`, `recorded.rt` a call of any part; `caller.rt`, `asking.rt` a
+//! caller; `clients.rt`, `workers.rt`, `rounds.rt` threads; `live_board.rt` a board; `close.rt`, `explained.rt`, `journals.rt`
+//! the close.
 //! Definitions: `specs/Cluster`, `Told`, `Pulls`, `Rounds`, `Clients`, `Closes`; `Backwards` is the code's own word.
 #![tactic(auto)]
 
+mod asked;
 mod asking;
-mod call;
 mod caller;
 mod clients;
 mod close;
 mod cluster;
 mod explained;
-mod heard;
 mod journals;
 mod live_board;
-mod retold;
+mod recorded;
 mod rounds;
 mod workers;
 

@@ -1,10 +1,10 @@
-ghost use Rattle.std.specs.Prelude.{◌≡◌, ◌≤◌, ◌-◌, ◌^◌, max, IfOk, IfErr, OnOk, OnErr};
+ghost use Rattle.std.specs.Prelude.{◌≡◌, ◌≤◌, ◌-◌, ◌^◌, IfOk, IfErr, OnOk, OnErr};
 ghost use Rattle.tq_shape.specs.Tree.{IsServer};
 ghost use Rattle.tq_tables.specs.Parts.{AreLegal};
 ghost use Rattle.tq_tables.specs.Tables.{tables_of};
 ghost use Rattle.tq_prefixes.specs.Prefixes.{IsPartOf, IsPullFault, grown, nothing_pulled, prefix_length, server_prefix};
 ghost use Rattle.tq_cluster.specs.Told.{SeesOn, having_seen, seen_of};
-ghost use Rattle.tq_cluster.specs.Pulls.{Continues, EndedAt, HasSeenAll, HasSeenServers, SawWhatCame, last_come, seen_then};
+ghost use Rattle.tq_cluster.specs.Pulls.{Continues, EndedAt, HasSeenAll, HasSeenServers, IsPull, SawWhatCame, seen_then};
 
 use crate::caller::Caller;
 use crate::cluster::Cluster;
@@ -114,7 +114,8 @@ impl LiveBoard {
         ensures grown { OnOk result ((more : Entries) × (self.new ≡ grown self.old part more)) }
         ensures seen { OnOk result (seen_of caller.new part ≤ prefix_length self.new part) }
         ensures err { OnErr result (self.new ≡ self.old) }
-        ensures fault { IfErr result (λ fault. (more : Entries) × IsPullFault self.old part more (seen_of caller.new part) fault) }
+        ensures fault { IfErr result (λ fault. (more : Entries)
+            × IsPullFault self.old part more (seen_of caller.new part) fault) }
         ensures saw { seen_of caller.new part ≡ seen_then self.old self.new caller.old part }
         ensures others { caller.new ≡ having_seen caller.old part (seen_of caller.new part) }
     {
@@ -179,7 +180,8 @@ impl LiveBoard {
         requires levels { self.old.levels ≡ cluster.now.levels }
         requires limits { self.old.limits ≡ cluster.now.limits }
         ensures continues { Continues self.old self.new }
-        ensures seen { OnOk result (HasSeenServers self.new caller.new (2 ^ cluster.now.levels - 1)) }
+        ensures seen { OnOk result
+            (HasSeenServers self.new caller.new (2 ^ cluster.now.levels - 1)) }
         ensures fault { IfErr result (EndedAt self.new caller.new) }
         ensures saw { SawWhatCame self.old self.new caller.old caller.new }
         ensures told { caller.new.told ≡ caller.old.told }
@@ -206,23 +208,15 @@ fn pull_server<R: Wait>(
     number: u64,
 ) -> Result<(), PullFault>
     requires { IsServer prefixes.old.levels number }
-    ensures grown { OnOk result ((more : Entries) × (prefixes.new ≡ grown prefixes.old (Part.Server number) more)) }
-    ensures seen { OnOk result (pass.new.seen ≤ prefix_length prefixes.new (Part.Server number)) }
-    ensures err { OnErr result (prefixes.new ≡ prefixes.old) }
-    ensures fault { IfErr result (λ fault. (more : Entries) × IsPullFault prefixes.old (Part.Server number) more pass.new.seen fault) }
-    ensures saw { pass.new.seen ≡ max pass.old.seen (last_come prefixes.old prefixes.new (Part.Server number)) }
+    ensures { IsPull (Part.Server number) prefixes.old prefixes.new
+        pass.old.seen pass.new.seen result }
 {
     let known = prefixes.server(number).len() as u64;
     let mut fresh = cell.pass(alloc);
     let entries = cell.since(rt, alloc, &mut fresh, known)?;
-    let seen = pass.seen();
-    match prefixes.take_server(alloc, number, entries, seen) {
-        Ok(()) => {
-            pass.see(&fresh);
-            Ok(())
-        }
-        Err(fault) => Err(fault),
-    }
+    prefixes.take_server(alloc, number, entries, pass.seen())?;
+    pass.see(&fresh);
+    Ok(())
 }
 
 /// Pulls the desk, as `pull_server` does a server.
@@ -233,23 +227,14 @@ fn pull_desk<R: Wait>(
     cell: &Cell<Desk>,
     pass: &mut Pass<Desk>,
 ) -> Result<(), PullFault>
-    ensures grown { OnOk result ((more : Entries) × (prefixes.new ≡ grown prefixes.old Part.Desk more)) }
-    ensures seen { OnOk result (pass.new.seen ≤ prefix_length prefixes.new Part.Desk) }
-    ensures err { OnErr result (prefixes.new ≡ prefixes.old) }
-    ensures fault { IfErr result (λ fault. (more : Entries) × IsPullFault prefixes.old Part.Desk more pass.new.seen fault) }
-    ensures saw { pass.new.seen ≡ max pass.old.seen (last_come prefixes.old prefixes.new Part.Desk) }
+    ensures { IsPull Part.Desk prefixes.old prefixes.new pass.old.seen pass.new.seen result }
 {
     let known = prefixes.desk().len() as u64;
     let mut fresh = cell.pass(alloc);
     let entries = cell.since(rt, alloc, &mut fresh, known)?;
-    let seen = pass.seen();
-    match prefixes.take_desk(alloc, entries, seen) {
-        Ok(()) => {
-            pass.see(&fresh);
-            Ok(())
-        }
-        Err(fault) => Err(fault),
-    }
+    prefixes.take_desk(alloc, entries, pass.seen())?;
+    pass.see(&fresh);
+    Ok(())
 }
 
 /// Pulls the view, as `pull_server` does a server.
@@ -258,23 +243,14 @@ fn pull_view<R: Wait>(
     rt: &R,
     alloc: Global,
     cell: &Cell<View>,
-    view_pass: &mut Pass<View>,
+    pass: &mut Pass<View>,
 ) -> Result<(), PullFault>
-    ensures grown { OnOk result ((more : Entries) × (prefixes.new ≡ grown prefixes.old Part.View more)) }
-    ensures seen { OnOk result (view_pass.new.seen ≤ prefix_length prefixes.new Part.View) }
-    ensures err { OnErr result (prefixes.new ≡ prefixes.old) }
-    ensures fault { IfErr result (λ fault. (more : Entries) × IsPullFault prefixes.old Part.View more view_pass.new.seen fault) }
-    ensures saw { view_pass.new.seen ≡ max view_pass.old.seen (last_come prefixes.old prefixes.new Part.View) }
+    ensures { IsPull Part.View prefixes.old prefixes.new pass.old.seen pass.new.seen result }
 {
     let known = prefixes.view().len() as u64;
     let mut fresh = cell.pass(alloc);
     let entries = cell.since(rt, alloc, &mut fresh, known)?;
-    let seen = view_pass.seen();
-    match prefixes.take_view(alloc, entries, seen) {
-        Ok(()) => {
-            view_pass.see(&fresh);
-            Ok(())
-        }
-        Err(fault) => Err(fault),
-    }
+    prefixes.take_view(alloc, entries, pass.seen())?;
+    pass.see(&fresh);
+    Ok(())
 }

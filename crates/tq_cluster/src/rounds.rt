@@ -42,7 +42,8 @@ fn put_jobs_of<R: Wait>(
     up: &ServerSet,
 ) -> bool
     requires { of_file.now.stale.levels ≡ up.now.levels }
-    ensures put { OnTrue result ((view putter.new.pass).put ≡ with_jobs (view putter.old.pass).put (jobs_in up.now of_file.now)) }
+    ensures put { OnTrue result ((view putter.new.pass).put
+        ≡ with_jobs (view putter.old.pass).put (jobs_in up.now of_file.now)) }
     ensures channel { sends_on putter.new.sender ≡ sends_on putter.old.sender }
     ensures parts { (view putter.new.pass).parts ≡ (view putter.old.pass).parts }
     ensures taken { (view putter.new.pass).taken ≡ (view putter.old.pass).taken }
@@ -65,7 +66,8 @@ fn put_jobs_of<R: Wait>(
 /// Puts the jobs of a plan, file by file, as `put_jobs_of` those of one.
 fn put_jobs<R: Wait>(rt: &R, putter: &mut Putter<Message>, plan: &PlanByFile) -> bool
     requires { ArePlanned plan.now.up.levels plan.now }
-    ensures put { OnTrue result ((view putter.new.pass).put ≡ with_jobs (view putter.old.pass).put (jobs_of_plan plan.now)) }
+    ensures put { OnTrue result ((view putter.new.pass).put
+        ≡ with_jobs (view putter.old.pass).put (jobs_of_plan plan.now)) }
     ensures channel { sends_on putter.new.sender ≡ sends_on putter.old.sender }
     ensures parts { (view putter.new.pass).parts ≡ (view putter.old.pass).parts }
     ensures taken { (view putter.new.pass).taken ≡ (view putter.old.pass).taken }
@@ -165,7 +167,10 @@ pub(crate) fn run_rounds<R: Wait, G: Gate + Drop>(
     callers: &mut Vec<Caller>,
 ) -> bool
     requires room { vec_len callers.old + 1 ≤ vec_capacity callers.old }
-    ensures ran { result ≡ false → (more : List CallerView) × (taken : List (ℕ × Message)) × (callers.new.items ≡ callers.old.items ++ more) × ((view putter.new.pass).taken ≡ (view putter.old.pass).taken ++ taken) × WorkBackwards cluster.now.levels 0 taken more }
+    ensures ran { result ≡ false → (more : List CallerView) × (taken : List (ℕ × Message))
+        × (callers.new.items ≡ callers.old.items ++ more)
+        × ((view putter.new.pass).taken ≡ (view putter.old.pass).taken ++ taken)
+        × WorkBackwards cluster.now.levels 0 taken more }
     ensures channel { sends_on putter.new.sender ≡ sends_on putter.old.sender }
     ensures parts { (view putter.new.pass).parts ≡ (view putter.old.pass).parts }
     ensures len { vec_len callers.new ≤ vec_len callers.old + 1 }

@@ -43,8 +43,10 @@ pub(crate) struct Worked {
 /// The job that is next in the queue; none at a stop.
 fn next_job<R: Wait>(rt: &R, taker: &mut Taker<Message>) -> Option<Job>
     ensures channel { receives_on taker.new.receiver ≡ receives_on taker.old.receiver }
-    ensures job { IfSome result (λ job. jobs_in (view taker.new.pass).taken ≡ jobs_in (view taker.old.pass).taken ++ job ∷ []) }
-    ensures stop { IfNone result (jobs_in (view taker.new.pass).taken ≡ jobs_in (view taker.old.pass).taken) }
+    ensures job { IfSome result (λ job. jobs_in (view taker.new.pass).taken
+        ≡ jobs_in (view taker.old.pass).taken ++ job ∷ []) }
+    ensures stop { IfNone result (jobs_in (view taker.new.pass).taken
+        ≡ jobs_in (view taker.old.pass).taken) }
 {
     match taker.take(rt) {
         Some(Message::Job(job)) => Some(job),
@@ -65,7 +67,8 @@ fn work<R: Wait, G: Gate + Drop>(
     requires tree { caller.levels ≡ cluster.now.levels }
     requires fresh { caller.told ≡ [] }
     requires idle { (view taker.pass).taken ≡ [] }
-    ensures told { result.memory ≡ false → Works cluster.now.levels (view result.taker.pass).taken result.caller }
+    ensures told { result.memory ≡ false
+        → Works cluster.now.levels (view result.taker.pass).taken result.caller }
     ensures channel { receives_on result.taker.receiver ≡ receives_on taker.receiver }
 {
     let levels = cluster.levels();
@@ -92,7 +95,8 @@ fn work<R: Wait, G: Gate + Drop>(
 pub(crate) struct Refreshed(Levels, Snapshot<Taker<Message>>);
 
 impl Promise<Worked> for Refreshed {
-    ghost kept_by = { λ p r. (r.memory ≡ false → Works p.0 (view r.taker.pass).taken r.caller) × (receives_on r.taker.receiver ≡ receives_on p.1.value.receiver) };
+    ghost kept_by = { λ p r. (r.memory ≡ false → Works p.0 (view r.taker.pass).taken r.caller)
+        × (receives_on r.taker.receiver ≡ receives_on p.1.value.receiver) };
 }
 
 /// What a worker's thread takes along.
@@ -111,8 +115,11 @@ fn what_one_takes<R: Wait, G: Gate + Drop>(
     putter: &mut Putter<Message>,
 ) -> Option<Ready>
     requires { 1 < (view putter.old.pass).parts }
-    ensures caller { IfSome result (λ r. (r.caller.levels ≡ cluster.now.levels) × (r.caller.told ≡ [])) }
-    ensures taker { IfSome result (λ r. (receives_on r.taker.receiver ≡ sends_on putter.new.sender) × ((view r.taker.pass).taken ≡ []) × ((view putter.new.pass).parts + 1 ≡ (view putter.old.pass).parts)) }
+    ensures caller { IfSome result (λ r. (r.caller.levels ≡ cluster.now.levels)
+        × (r.caller.told ≡ [])) }
+    ensures taker { IfSome result (λ r. (receives_on r.taker.receiver ≡ sends_on putter.new.sender)
+        × ((view r.taker.pass).taken ≡ [])
+        × ((view putter.new.pass).parts + 1 ≡ (view putter.old.pass).parts)) }
     ensures channel { sends_on putter.new.sender ≡ sends_on putter.old.sender }
     ensures taken { (view putter.new.pass).taken ≡ (view putter.old.pass).taken }
     ensures some_part { 0 < (view putter.new.pass).parts }
@@ -152,7 +159,10 @@ pub(crate) fn run_workers<'s, 'e: 's, R: Threads + Wait + Sync, G: Gate + Drop +
     requires started { started ≤ team.workers }
     requires parts { team.workers - started < (view putter.old.pass).parts }
     requires room { vec_len callers.old + (team.workers - started) + 1 ≤ vec_capacity callers.old }
-    ensures ran { result ≡ false → (more : List CallerView) × (taken : List (ℕ × Message)) × (callers.new.items ≡ callers.old.items ++ more) × ((view putter.new.pass).taken ≡ (view putter.old.pass).taken ++ taken) × WorkBackwards cluster.now.levels (team.workers - started) taken more }
+    ensures ran { result ≡ false → (more : List CallerView) × (taken : List (ℕ × Message))
+        × (callers.new.items ≡ callers.old.items ++ more)
+        × ((view putter.new.pass).taken ≡ (view putter.old.pass).taken ++ taken)
+        × WorkBackwards cluster.now.levels (team.workers - started) taken more }
     ensures channel { sends_on putter.new.sender ≡ sends_on putter.old.sender }
     ensures parts { result ≡ false → (view putter.new.pass).parts ≡ (view putter.old.pass).parts }
     ensures some_part { 0 < (view putter.new.pass).parts }
@@ -169,8 +179,11 @@ pub(crate) fn run_workers<'s, 'e: 's, R: Threads + Wait + Sync, G: Gate + Drop +
     let child = scope.spawn_with(
         Refreshed(cluster.levels(), Snapshot::of(&taker)),
         move || -> Worked
-            requires { (caller.levels ≡ cluster.now.levels) × (caller.told ≡ []) × ((view taker.pass).taken ≡ []) }
-            ensures { (result.memory ≡ false → Works cluster.entry.now.levels (view result.taker.pass).taken result.caller) × (receives_on result.taker.receiver ≡ receives_on taker.receiver) }
+            requires { (caller.levels ≡ cluster.now.levels) × (caller.told ≡ [])
+                × ((view taker.pass).taken ≡ []) }
+            ensures { (result.memory ≡ false → Works cluster.entry.now.levels
+                (view result.taker.pass).taken result.caller)
+                × (receives_on result.taker.receiver ≡ receives_on taker.receiver) }
         { work(rt, alloc, cluster, caller, taker) },
     );
     match child {

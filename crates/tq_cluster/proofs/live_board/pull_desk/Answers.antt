@@ -1,29 +1,30 @@
-use Rattle.std.proofs.Common.{◌≡◌, ℕ, refl, subst, rules}
+use Rattle.std.proofs.Common.{◌≡◌, length, max, refl, ap, arith, rules}
 use Rattle.std.specs.Prelude.{IfErr}
+use Rattle.tq_cells.specs.Passes.{last_behind}
 use Rattle.tq_shape.specs.declared.part.Part.TheVariants as parts
 use Rattle.tq_prefixes.specs.declared.entries.Entries.TheVariants as entries
 use Rattle.tq_prefixes.specs.declared.fault.PullFault.TheVariants as faults
-use Rattle.tq_prefixes.specs.Prefixes.{IsPullFault}
 use Rattle.tq_cluster.proofs.Seen.{memory_fault}
-use Rattle.tq_cluster.proofs.Came.{took_none}
+use Rattle.tq_cluster.proofs.Came.{pull-ok, took_none}
 use Rattle.tq_cluster.proofs.live_board.pull_desk.Goals as goal
 
-pub returns-in_err-entries-clause-fault : goal.returns-in_err-entries-clause-fault
-returns-in_err-entries-clause-fault g c =
+pub returns-in_err-entries : goal.returns-in_err-entries
+returns-in_err-entries g c =
     let refused : IfErr c.from_residual.result (λ f. f ≡ faults.Memory) = search rules in
-    memory_fault c.args.prefixes.now parts.Desk c.args.pass.now.seen c.from_residual.result refused
+    record {
+      grows = search rules;
+      seen = search rules;
+      err = search rules;
+      fault = memory_fault c.args.prefixes.now parts.Desk c.args.pass.now.seen c.from_residual.result refused;
+      saw = took_none c.args.pass.now.seen c.args.prefixes.now c.args.prefixes.now parts.Desk refl;
+    }
 
-pub returns-in_err-entries-clause-saw : goal.returns-in_err-entries-clause-saw
-returns-in_err-entries-clause-saw g c = took_none c.args.pass.now.seen c.args.prefixes.now c.args.prefixes.now parts.Desk refl
-
-pub returns-clause-saw : goal.returns-clause-saw
-returns-clause-saw g c = took_none c.args.pass.now.seen c.args.prefixes.now c.take_desk.new.self parts.Desk c.in-Err.ensures.err
-
-pub returns-in-Ok-clause-grown : goal.returns-in-Ok-clause-grown
-returns-in-Ok-clause-grown g c = (entries.Desk c.in_ok-entries.entries.items, c.in-Ok.ensures.grown)
-
-pub returns-clause-fault : goal.returns-clause-fault
-returns-clause-fault g c = (
-  entries.Desk c.in_ok-entries.entries.items,
-  subst (λ (n : ℕ). IsPullFault c.args.prefixes.now parts.Desk (entries.Desk c.in_ok-entries.entries.items) n c.in-Err.fault) c.seen-seen.ensures c.in-Err.ensures.fault,
-)
+pub returns : goal.returns
+returns g c =
+    let came = c.in_ok-entries.entries.items in
+    let took = c.in_ok-take_desk.ensures in
+    let known = length c.desk.result.now in
+    let least = took.least in
+    let seen = c.seen.ensures in
+    let told : c.since.new.pass.seen ≡ max 0 (last_behind known (length came)) = search rules in
+    pull-ok parts.Desk c.args.prefixes.now c.take_desk.new.self (entries.Desk came) c.args.pass.now.seen c.see.new.self.seen c.since.new.pass.seen known (length came) tt took.grown (omega (arith, least, seen)) took.count c.see.ensures.seen told (ap length c.desk.ensures)

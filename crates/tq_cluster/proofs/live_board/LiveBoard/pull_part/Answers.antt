@@ -1,66 +1,48 @@
-use Rattle.std.proofs.Common.{refl, ◌-◌, ◌^◌, ◌∙◌, map, set, ap}
+use Rattle.std.proofs.Common.{◌-◌, ◌^◌, ◌∙◌, set, ap}
 use Rattle.tq_shape.specs.declared.part.Part.TheVariants as parts
-use Rattle.tq_cluster.specs.Told.{CallerView, exchange_of}
-use Rattle.tq_cluster.proofs.Seen.{seeing, seen_here, has_pass, server_saw, desk_saw, view_saw, pulled_saw, pulled_others, pulled_grown, pulled_err, pulled_seen, pulled_fault}
+use Rattle.tq_cluster.specs.Told.{CallerView}
+use Rattle.tq_cluster.proofs.Seen.{desk_saw, has_pass, part_pull, seeing, server_saw, view_saw}
 use Rattle.tq_cluster.proofs.live_board.LiveBoard.pull_part.Goals as goal
+
+pub returns-in-Server-clause-grown : goal.returns-in-Server-clause-grown
+returns-in-Server-clause-grown g c =
+    let own = c.caller.inside in
+    let passes = own.servers.items in
+    let number = c.in-Server.number in
+    let less = has_pass passes c.args.cluster.now.levels number c.args.part c.args.caller.now c.requires.part c.in-Server.is c.requires.caller (c.caller.invariant ∙ ap (λ (v : CallerView). 2 ^ v.levels) c.caller.view_is) in
+    let saw = server_saw own.levels own.told.items passes own.desk.seen own.view.seen number c.args.part c.index_mut-pass.result.now c.pull_server.new.pass c.args.caller.now c.caller.view_is less c.in-Server.is c.index_mut-pass.ensures.value in
+    let after = seeing own.levels own.told.items (set passes (number - 1) c.pull_server.new.pass) own.desk.seen own.view.seen in
+    (part_pull c.pull_server.result c.args.part (parts.Server number) c.self.inside.prefixes c.args.self.now c.pull_server.new.prefixes c.args.caller.now after c.index_mut-pass.result.now.seen c.pull_server.new.pass.seen c.in-Server.is c.self.view_is saw c.pull_server.ensures).grows
 
 pub returns-in-Server-clause-seen : goal.returns-in-Server-clause-seen
 returns-in-Server-clause-seen g c =
     let own = c.caller.inside in
     let passes = own.servers.items in
     let number = c.in-Server.number in
-    let pass = c.pull_server.new.pass in
     let less = has_pass passes c.args.cluster.now.levels number c.args.part c.args.caller.now c.requires.part c.in-Server.is c.requires.caller (c.caller.invariant ∙ ap (λ (v : CallerView). 2 ^ v.levels) c.caller.view_is) in
-    pulled_seen c.pull_server.result (seeing own.levels (map exchange_of own.heard.items) (set passes (number - 1) pass) own.desk.seen own.view.seen) c.args.part (parts.Server number) pass.seen c.in-Server.is
-    (seen_here passes (number - 1) pass less) c.pull_server.new.prefixes c.pull_server.ensures.seen
+    let saw = server_saw own.levels own.told.items passes own.desk.seen own.view.seen number c.args.part c.index_mut-pass.result.now c.pull_server.new.pass c.args.caller.now c.caller.view_is less c.in-Server.is c.index_mut-pass.ensures.value in
+    let after = seeing own.levels own.told.items (set passes (number - 1) c.pull_server.new.pass) own.desk.seen own.view.seen in
+    (part_pull c.pull_server.result c.args.part (parts.Server number) c.self.inside.prefixes c.args.self.now c.pull_server.new.prefixes c.args.caller.now after c.index_mut-pass.result.now.seen c.pull_server.new.pass.seen c.in-Server.is c.self.view_is saw c.pull_server.ensures).seen
+
+pub returns-in-Server-clause-err : goal.returns-in-Server-clause-err
+returns-in-Server-clause-err g c =
+    let own = c.caller.inside in
+    let passes = own.servers.items in
+    let number = c.in-Server.number in
+    let less = has_pass passes c.args.cluster.now.levels number c.args.part c.args.caller.now c.requires.part c.in-Server.is c.requires.caller (c.caller.invariant ∙ ap (λ (v : CallerView). 2 ^ v.levels) c.caller.view_is) in
+    let saw = server_saw own.levels own.told.items passes own.desk.seen own.view.seen number c.args.part c.index_mut-pass.result.now c.pull_server.new.pass c.args.caller.now c.caller.view_is less c.in-Server.is c.index_mut-pass.ensures.value in
+    let after = seeing own.levels own.told.items (set passes (number - 1) c.pull_server.new.pass) own.desk.seen own.view.seen in
+    (part_pull c.pull_server.result c.args.part (parts.Server number) c.self.inside.prefixes c.args.self.now c.pull_server.new.prefixes c.args.caller.now after c.index_mut-pass.result.now.seen c.pull_server.new.pass.seen c.in-Server.is c.self.view_is saw c.pull_server.ensures).err
 
 pub returns-in-Server-clause-fault : goal.returns-in-Server-clause-fault
 returns-in-Server-clause-fault g c =
     let own = c.caller.inside in
     let passes = own.servers.items in
     let number = c.in-Server.number in
-    let pass = c.pull_server.new.pass in
     let less = has_pass passes c.args.cluster.now.levels number c.args.part c.args.caller.now c.requires.part c.in-Server.is c.requires.caller (c.caller.invariant ∙ ap (λ (v : CallerView). 2 ^ v.levels) c.caller.view_is) in
-    pulled_fault c.pull_server.result (seeing own.levels (map exchange_of own.heard.items) (set passes (number - 1) pass) own.desk.seen own.view.seen) c.args.part (parts.Server number) pass.seen c.in-Server.is
-    (seen_here passes (number - 1) pass less) c.self.inside.prefixes c.args.self.now c.self.view_is c.pull_server.ensures.fault
-
-pub returns-in-Server-clause-grown : goal.returns-in-Server-clause-grown
-returns-in-Server-clause-grown g c = pulled_grown c.pull_server.result c.args.part (parts.Server c.in-Server.number) c.self.inside.prefixes c.args.self.now c.pull_server.new.prefixes c.in-Server.is c.self.view_is c.pull_server.ensures.grown
-
-pub returns-in-Server-clause-err : goal.returns-in-Server-clause-err
-returns-in-Server-clause-err g c = pulled_err c.pull_server.result c.args.part (parts.Server c.in-Server.number) c.self.inside.prefixes c.args.self.now c.pull_server.new.prefixes c.in-Server.is c.self.view_is c.pull_server.ensures.err
-
-pub returns-in-Desk-clause-grown : goal.returns-in-Desk-clause-grown
-returns-in-Desk-clause-grown g c = pulled_grown c.pull_desk.result c.args.part (parts.Desk) c.self.inside.prefixes c.args.self.now c.pull_desk.new.prefixes c.in-Desk.is c.self.view_is c.pull_desk.ensures.grown
-
-pub returns-in-Desk-clause-err : goal.returns-in-Desk-clause-err
-returns-in-Desk-clause-err g c = pulled_err c.pull_desk.result c.args.part (parts.Desk) c.self.inside.prefixes c.args.self.now c.pull_desk.new.prefixes c.in-Desk.is c.self.view_is c.pull_desk.ensures.err
-
-pub returns-in-View-clause-grown : goal.returns-in-View-clause-grown
-returns-in-View-clause-grown g c = pulled_grown c.pull_view.result c.args.part (parts.View) c.self.inside.prefixes c.args.self.now c.pull_view.new.prefixes c.in-View.is c.self.view_is c.pull_view.ensures.grown
-
-pub returns-in-View-clause-err : goal.returns-in-View-clause-err
-returns-in-View-clause-err g c = pulled_err c.pull_view.result c.args.part (parts.View) c.self.inside.prefixes c.args.self.now c.pull_view.new.prefixes c.in-View.is c.self.view_is c.pull_view.ensures.err
-
-pub returns-in-Desk-clause-seen : goal.returns-in-Desk-clause-seen
-returns-in-Desk-clause-seen g c =
-    let own = c.caller.inside in
-    pulled_seen c.pull_desk.result (seeing own.levels (map exchange_of own.heard.items) own.servers.items c.pull_desk.new.pass.seen own.view.seen) c.args.part parts.Desk c.pull_desk.new.pass.seen c.in-Desk.is refl c.pull_desk.new.prefixes c.pull_desk.ensures.seen
-
-pub returns-in-Desk-clause-fault : goal.returns-in-Desk-clause-fault
-returns-in-Desk-clause-fault g c =
-    let own = c.caller.inside in
-    pulled_fault c.pull_desk.result (seeing own.levels (map exchange_of own.heard.items) own.servers.items c.pull_desk.new.pass.seen own.view.seen) c.args.part parts.Desk c.pull_desk.new.pass.seen c.in-Desk.is refl c.self.inside.prefixes c.args.self.now c.self.view_is c.pull_desk.ensures.fault
-
-pub returns-in-View-clause-seen : goal.returns-in-View-clause-seen
-returns-in-View-clause-seen g c =
-    let own = c.caller.inside in
-    pulled_seen c.pull_view.result (seeing own.levels (map exchange_of own.heard.items) own.servers.items own.desk.seen c.pull_view.new.view_pass.seen) c.args.part parts.View c.pull_view.new.view_pass.seen c.in-View.is refl c.pull_view.new.prefixes c.pull_view.ensures.seen
-
-pub returns-in-View-clause-fault : goal.returns-in-View-clause-fault
-returns-in-View-clause-fault g c =
-    let own = c.caller.inside in
-    pulled_fault c.pull_view.result (seeing own.levels (map exchange_of own.heard.items) own.servers.items own.desk.seen c.pull_view.new.view_pass.seen) c.args.part parts.View c.pull_view.new.view_pass.seen c.in-View.is refl c.self.inside.prefixes c.args.self.now c.self.view_is c.pull_view.ensures.fault
+    let saw = server_saw own.levels own.told.items passes own.desk.seen own.view.seen number c.args.part c.index_mut-pass.result.now c.pull_server.new.pass c.args.caller.now c.caller.view_is less c.in-Server.is c.index_mut-pass.ensures.value in
+    let after = seeing own.levels own.told.items (set passes (number - 1) c.pull_server.new.pass) own.desk.seen own.view.seen in
+    (part_pull c.pull_server.result c.args.part (parts.Server number) c.self.inside.prefixes c.args.self.now c.pull_server.new.prefixes c.args.caller.now after c.index_mut-pass.result.now.seen c.pull_server.new.pass.seen c.in-Server.is c.self.view_is saw c.pull_server.ensures).fault
 
 pub returns-in-Server-clause-saw : goal.returns-in-Server-clause-saw
 returns-in-Server-clause-saw g c =
@@ -68,9 +50,9 @@ returns-in-Server-clause-saw g c =
     let passes = own.servers.items in
     let number = c.in-Server.number in
     let less = has_pass passes c.args.cluster.now.levels number c.args.part c.args.caller.now c.requires.part c.in-Server.is c.requires.caller (c.caller.invariant ∙ ap (λ (v : CallerView). 2 ^ v.levels) c.caller.view_is) in
-    pulled_saw c.args.caller.now (seeing own.levels (map exchange_of own.heard.items) (set passes (number - 1) c.pull_server.new.pass) own.desk.seen own.view.seen) c.args.part (parts.Server number) c.index_mut-pass.result.now.seen c.pull_server.new.pass.seen c.self.inside.prefixes c.args.self.now c.pull_server.new.prefixes
-    (server_saw own.levels (map exchange_of own.heard.items) passes own.desk.seen own.view.seen number c.args.part c.index_mut-pass.result.now c.pull_server.new.pass c.args.caller.now c.caller.view_is less c.in-Server.is c.index_mut-pass.ensures.value)
-    c.in-Server.is c.self.view_is c.pull_server.ensures.saw
+    let saw = server_saw own.levels own.told.items passes own.desk.seen own.view.seen number c.args.part c.index_mut-pass.result.now c.pull_server.new.pass c.args.caller.now c.caller.view_is less c.in-Server.is c.index_mut-pass.ensures.value in
+    let after = seeing own.levels own.told.items (set passes (number - 1) c.pull_server.new.pass) own.desk.seen own.view.seen in
+    (part_pull c.pull_server.result c.args.part (parts.Server number) c.self.inside.prefixes c.args.self.now c.pull_server.new.prefixes c.args.caller.now after c.index_mut-pass.result.now.seen c.pull_server.new.pass.seen c.in-Server.is c.self.view_is saw c.pull_server.ensures).saw
 
 pub returns-in-Server-clause-others : goal.returns-in-Server-clause-others
 returns-in-Server-clause-others g c =
@@ -78,31 +60,90 @@ returns-in-Server-clause-others g c =
     let passes = own.servers.items in
     let number = c.in-Server.number in
     let less = has_pass passes c.args.cluster.now.levels number c.args.part c.args.caller.now c.requires.part c.in-Server.is c.requires.caller (c.caller.invariant ∙ ap (λ (v : CallerView). 2 ^ v.levels) c.caller.view_is) in
-    pulled_others c.args.caller.now (seeing own.levels (map exchange_of own.heard.items) (set passes (number - 1) c.pull_server.new.pass) own.desk.seen own.view.seen) c.args.part c.index_mut-pass.result.now.seen c.pull_server.new.pass.seen
-    (server_saw own.levels (map exchange_of own.heard.items) passes own.desk.seen own.view.seen number c.args.part c.index_mut-pass.result.now c.pull_server.new.pass c.args.caller.now c.caller.view_is less c.in-Server.is c.index_mut-pass.ensures.value)
+    let saw = server_saw own.levels own.told.items passes own.desk.seen own.view.seen number c.args.part c.index_mut-pass.result.now c.pull_server.new.pass c.args.caller.now c.caller.view_is less c.in-Server.is c.index_mut-pass.ensures.value in
+    let after = seeing own.levels own.told.items (set passes (number - 1) c.pull_server.new.pass) own.desk.seen own.view.seen in
+    (part_pull c.pull_server.result c.args.part (parts.Server number) c.self.inside.prefixes c.args.self.now c.pull_server.new.prefixes c.args.caller.now after c.index_mut-pass.result.now.seen c.pull_server.new.pass.seen c.in-Server.is c.self.view_is saw c.pull_server.ensures).others
+
+pub returns-in-Desk-clause-grown : goal.returns-in-Desk-clause-grown
+returns-in-Desk-clause-grown g c =
+    let own = c.caller.inside in
+    let saw = desk_saw own.levels own.told.items own.servers.items own.desk.seen c.pull_desk.new.pass.seen own.view.seen c.args.part c.args.caller.now c.caller.view_is c.in-Desk.is in
+    let after = seeing own.levels own.told.items own.servers.items c.pull_desk.new.pass.seen own.view.seen in
+    (part_pull c.pull_desk.result c.args.part parts.Desk c.self.inside.prefixes c.args.self.now c.pull_desk.new.prefixes c.args.caller.now after own.desk.seen c.pull_desk.new.pass.seen c.in-Desk.is c.self.view_is saw c.pull_desk.ensures).grows
+
+pub returns-in-Desk-clause-seen : goal.returns-in-Desk-clause-seen
+returns-in-Desk-clause-seen g c =
+    let own = c.caller.inside in
+    let saw = desk_saw own.levels own.told.items own.servers.items own.desk.seen c.pull_desk.new.pass.seen own.view.seen c.args.part c.args.caller.now c.caller.view_is c.in-Desk.is in
+    let after = seeing own.levels own.told.items own.servers.items c.pull_desk.new.pass.seen own.view.seen in
+    (part_pull c.pull_desk.result c.args.part parts.Desk c.self.inside.prefixes c.args.self.now c.pull_desk.new.prefixes c.args.caller.now after own.desk.seen c.pull_desk.new.pass.seen c.in-Desk.is c.self.view_is saw c.pull_desk.ensures).seen
+
+pub returns-in-Desk-clause-err : goal.returns-in-Desk-clause-err
+returns-in-Desk-clause-err g c =
+    let own = c.caller.inside in
+    let saw = desk_saw own.levels own.told.items own.servers.items own.desk.seen c.pull_desk.new.pass.seen own.view.seen c.args.part c.args.caller.now c.caller.view_is c.in-Desk.is in
+    let after = seeing own.levels own.told.items own.servers.items c.pull_desk.new.pass.seen own.view.seen in
+    (part_pull c.pull_desk.result c.args.part parts.Desk c.self.inside.prefixes c.args.self.now c.pull_desk.new.prefixes c.args.caller.now after own.desk.seen c.pull_desk.new.pass.seen c.in-Desk.is c.self.view_is saw c.pull_desk.ensures).err
+
+pub returns-in-Desk-clause-fault : goal.returns-in-Desk-clause-fault
+returns-in-Desk-clause-fault g c =
+    let own = c.caller.inside in
+    let saw = desk_saw own.levels own.told.items own.servers.items own.desk.seen c.pull_desk.new.pass.seen own.view.seen c.args.part c.args.caller.now c.caller.view_is c.in-Desk.is in
+    let after = seeing own.levels own.told.items own.servers.items c.pull_desk.new.pass.seen own.view.seen in
+    (part_pull c.pull_desk.result c.args.part parts.Desk c.self.inside.prefixes c.args.self.now c.pull_desk.new.prefixes c.args.caller.now after own.desk.seen c.pull_desk.new.pass.seen c.in-Desk.is c.self.view_is saw c.pull_desk.ensures).fault
 
 pub returns-in-Desk-clause-saw : goal.returns-in-Desk-clause-saw
 returns-in-Desk-clause-saw g c =
     let own = c.caller.inside in
-    pulled_saw c.args.caller.now (seeing own.levels (map exchange_of own.heard.items) own.servers.items c.pull_desk.new.pass.seen own.view.seen) c.args.part parts.Desk own.desk.seen c.pull_desk.new.pass.seen c.self.inside.prefixes c.args.self.now c.pull_desk.new.prefixes
-    (desk_saw own.levels (map exchange_of own.heard.items) own.servers.items own.desk.seen c.pull_desk.new.pass.seen own.view.seen c.args.part c.args.caller.now c.caller.view_is c.in-Desk.is)
-    c.in-Desk.is c.self.view_is c.pull_desk.ensures.saw
+    let saw = desk_saw own.levels own.told.items own.servers.items own.desk.seen c.pull_desk.new.pass.seen own.view.seen c.args.part c.args.caller.now c.caller.view_is c.in-Desk.is in
+    let after = seeing own.levels own.told.items own.servers.items c.pull_desk.new.pass.seen own.view.seen in
+    (part_pull c.pull_desk.result c.args.part parts.Desk c.self.inside.prefixes c.args.self.now c.pull_desk.new.prefixes c.args.caller.now after own.desk.seen c.pull_desk.new.pass.seen c.in-Desk.is c.self.view_is saw c.pull_desk.ensures).saw
 
 pub returns-in-Desk-clause-others : goal.returns-in-Desk-clause-others
 returns-in-Desk-clause-others g c =
     let own = c.caller.inside in
-    pulled_others c.args.caller.now (seeing own.levels (map exchange_of own.heard.items) own.servers.items c.pull_desk.new.pass.seen own.view.seen) c.args.part own.desk.seen c.pull_desk.new.pass.seen
-    (desk_saw own.levels (map exchange_of own.heard.items) own.servers.items own.desk.seen c.pull_desk.new.pass.seen own.view.seen c.args.part c.args.caller.now c.caller.view_is c.in-Desk.is)
+    let saw = desk_saw own.levels own.told.items own.servers.items own.desk.seen c.pull_desk.new.pass.seen own.view.seen c.args.part c.args.caller.now c.caller.view_is c.in-Desk.is in
+    let after = seeing own.levels own.told.items own.servers.items c.pull_desk.new.pass.seen own.view.seen in
+    (part_pull c.pull_desk.result c.args.part parts.Desk c.self.inside.prefixes c.args.self.now c.pull_desk.new.prefixes c.args.caller.now after own.desk.seen c.pull_desk.new.pass.seen c.in-Desk.is c.self.view_is saw c.pull_desk.ensures).others
+
+pub returns-in-View-clause-grown : goal.returns-in-View-clause-grown
+returns-in-View-clause-grown g c =
+    let own = c.caller.inside in
+    let saw = view_saw own.levels own.told.items own.servers.items own.desk.seen own.view.seen c.pull_view.new.pass.seen c.args.part c.args.caller.now c.caller.view_is c.in-View.is in
+    let after = seeing own.levels own.told.items own.servers.items own.desk.seen c.pull_view.new.pass.seen in
+    (part_pull c.pull_view.result c.args.part parts.View c.self.inside.prefixes c.args.self.now c.pull_view.new.prefixes c.args.caller.now after own.view.seen c.pull_view.new.pass.seen c.in-View.is c.self.view_is saw c.pull_view.ensures).grows
+
+pub returns-in-View-clause-seen : goal.returns-in-View-clause-seen
+returns-in-View-clause-seen g c =
+    let own = c.caller.inside in
+    let saw = view_saw own.levels own.told.items own.servers.items own.desk.seen own.view.seen c.pull_view.new.pass.seen c.args.part c.args.caller.now c.caller.view_is c.in-View.is in
+    let after = seeing own.levels own.told.items own.servers.items own.desk.seen c.pull_view.new.pass.seen in
+    (part_pull c.pull_view.result c.args.part parts.View c.self.inside.prefixes c.args.self.now c.pull_view.new.prefixes c.args.caller.now after own.view.seen c.pull_view.new.pass.seen c.in-View.is c.self.view_is saw c.pull_view.ensures).seen
+
+pub returns-in-View-clause-err : goal.returns-in-View-clause-err
+returns-in-View-clause-err g c =
+    let own = c.caller.inside in
+    let saw = view_saw own.levels own.told.items own.servers.items own.desk.seen own.view.seen c.pull_view.new.pass.seen c.args.part c.args.caller.now c.caller.view_is c.in-View.is in
+    let after = seeing own.levels own.told.items own.servers.items own.desk.seen c.pull_view.new.pass.seen in
+    (part_pull c.pull_view.result c.args.part parts.View c.self.inside.prefixes c.args.self.now c.pull_view.new.prefixes c.args.caller.now after own.view.seen c.pull_view.new.pass.seen c.in-View.is c.self.view_is saw c.pull_view.ensures).err
+
+pub returns-in-View-clause-fault : goal.returns-in-View-clause-fault
+returns-in-View-clause-fault g c =
+    let own = c.caller.inside in
+    let saw = view_saw own.levels own.told.items own.servers.items own.desk.seen own.view.seen c.pull_view.new.pass.seen c.args.part c.args.caller.now c.caller.view_is c.in-View.is in
+    let after = seeing own.levels own.told.items own.servers.items own.desk.seen c.pull_view.new.pass.seen in
+    (part_pull c.pull_view.result c.args.part parts.View c.self.inside.prefixes c.args.self.now c.pull_view.new.prefixes c.args.caller.now after own.view.seen c.pull_view.new.pass.seen c.in-View.is c.self.view_is saw c.pull_view.ensures).fault
 
 pub returns-in-View-clause-saw : goal.returns-in-View-clause-saw
 returns-in-View-clause-saw g c =
     let own = c.caller.inside in
-    pulled_saw c.args.caller.now (seeing own.levels (map exchange_of own.heard.items) own.servers.items own.desk.seen c.pull_view.new.view_pass.seen) c.args.part parts.View own.view.seen c.pull_view.new.view_pass.seen c.self.inside.prefixes c.args.self.now c.pull_view.new.prefixes
-    (view_saw own.levels (map exchange_of own.heard.items) own.servers.items own.desk.seen own.view.seen c.pull_view.new.view_pass.seen c.args.part c.args.caller.now c.caller.view_is c.in-View.is)
-    c.in-View.is c.self.view_is c.pull_view.ensures.saw
+    let saw = view_saw own.levels own.told.items own.servers.items own.desk.seen own.view.seen c.pull_view.new.pass.seen c.args.part c.args.caller.now c.caller.view_is c.in-View.is in
+    let after = seeing own.levels own.told.items own.servers.items own.desk.seen c.pull_view.new.pass.seen in
+    (part_pull c.pull_view.result c.args.part parts.View c.self.inside.prefixes c.args.self.now c.pull_view.new.prefixes c.args.caller.now after own.view.seen c.pull_view.new.pass.seen c.in-View.is c.self.view_is saw c.pull_view.ensures).saw
 
 pub returns-in-View-clause-others : goal.returns-in-View-clause-others
 returns-in-View-clause-others g c =
     let own = c.caller.inside in
-    pulled_others c.args.caller.now (seeing own.levels (map exchange_of own.heard.items) own.servers.items own.desk.seen c.pull_view.new.view_pass.seen) c.args.part own.view.seen c.pull_view.new.view_pass.seen
-    (view_saw own.levels (map exchange_of own.heard.items) own.servers.items own.desk.seen own.view.seen c.pull_view.new.view_pass.seen c.args.part c.args.caller.now c.caller.view_is c.in-View.is)
+    let saw = view_saw own.levels own.told.items own.servers.items own.desk.seen own.view.seen c.pull_view.new.pass.seen c.args.part c.args.caller.now c.caller.view_is c.in-View.is in
+    let after = seeing own.levels own.told.items own.servers.items own.desk.seen c.pull_view.new.pass.seen in
+    (part_pull c.pull_view.result c.args.part parts.View c.self.inside.prefixes c.args.self.now c.pull_view.new.prefixes c.args.caller.now after own.view.seen c.pull_view.new.pass.seen c.in-View.is c.self.view_is saw c.pull_view.ensures).others

@@ -1,0 +1,61 @@
+ghost use Rattle.std.specs.Prelude.{◌≡◌, ◌++◌, ◌⊎◌, max, IfOk, IfErr, OnErr};
+ghost use Rattle.tq_cells.specs.Passes.{IsToldBy};
+ghost use Rattle.tq_cluster.specs.Told.{exchanges_of};
+
+use crate::recorded::Recorded;
+use std::alloc::Global;
+use std::sync::Wait;
+use tq_cells::{Cell, Gate, Pass, Twice, Untaken};
+use tq_part::{Answered, AskFault};
+use tq_shape::{Entry, Part};
+use tq_txn::Exchange;
+
+/// An entry with its number.
+#[derive(Drop)]
+pub(crate) struct Numbered<A, R> {
+    pub(crate) number: u64,
+    pub(crate) entry: Entry<A, R>,
+}
+
+/// Asks the part of that name in its cell, and puts the exchange behind those that the caller was told. Want of memory is
+/// not told of.
+pub(crate) fn ask_part<P: Recorded, R: Wait, G: Gate>(
+    rt: &R,
+    alloc: Global,
+    cell: &Cell<P>,
+    gate: &G,
+    part: Part,
+    pass: &mut Pass<P>,
+    told: &mut Vec<Exchange>,
+    ask: P::Ask,
+) -> Result<Numbered<P::Ask, P::Reply>, AskFault>
+    requires { part ≡ cell.now }
+    ensures exchanges { told.new.items
+        ≡ told.old.items ++ exchanges_of (P.exchange part) ask result }
+    ensures same { IfOk result (λ t. t.entry.ask ≡ ask) }
+    ensures reply { IfOk result (λ t.
+        IsToldBy P.reply P.after P.opening t.number t.entry.ask t.entry.reply) }
+    ensures seen { IfOk result (λ t. pass.new.seen ≡ max pass.old.seen t.number) }
+    ensures not_told { OnErr result (pass.new.seen ≡ pass.old.seen) }
+    ensures fault { IfErr result (λ f. (f ≡ AskFault.Memory) ⊎ (f ≡ AskFault.JournalFull part)) }
+{
+    told.reserve(1)?;
+    match cell.tell(rt, alloc, pass, gate, ask) {
+        Ok(twice) => {
+            let Twice {
+                number,
+                kept,
+                told: entry,
+            } = twice;
+            let Entry { ask, reply } = kept;
+            told.push_reserved(P::record(part, ask, Ok(Answered { number, reply })));
+            Ok(Numbered { number, entry })
+        }
+        Err(Untaken::Memory) => Err(AskFault::Memory),
+        Err(Untaken::JournalFull { ask }) => {
+            let fault = AskFault::JournalFull { part };
+            told.push_reserved(P::record(part, ask, Err(fault)));
+            Err(fault)
+        }
+    }
+}
