@@ -11,7 +11,7 @@ use std::mem;
 use std::sync::Wait;
 use std::thread::Threads;
 use tq_devices::{RunFault, Sink, Source};
-use tq_scripts::SCRIPT_LIMIT;
+use tq_lines::SCRIPT_LIMIT;
 use tq_shape::Levels;
 
 /// Reads client scripts, runs them in threads over a new cluster, closes it, and writes the journals of all parts as one
