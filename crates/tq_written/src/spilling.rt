@@ -1,5 +1,6 @@
 //! Text that is written as it comes.
 ghost use Rattle.std.specs.Prelude.{◌≡◌, ◌-◌, ◌*◌, ◌^◌, ◌<◌, ◌≤◌, [], length};
+ghost use Rattle.std.specs.Fmt.{decimal};
 ghost use Rattle.hex.specs.Hex.{encode_lower};
 ghost use Rattle.tq_written.specs.Spilled.{Ends, IsSpilled, Settles, Spills, spill};
 
@@ -8,20 +9,17 @@ use itoa::Buffer;
 use std::convert::Infallible;
 use tq_devices::{RunFault, Sink, write_out};
 
-/// With so many bytes the room is full.
-const FULL: usize = 65_536;
-
-/// No piece that is put at once has more bytes: a content is put by parts.
-const LONGEST: usize = 256;
-
 /// The bytes that the room has a place for.
-pub(crate) const ROOM: usize = FULL + LONGEST;
+pub(crate) const ROOM: usize = 65_536;
 
-/// So many bytes are spelled at a time.
+/// The most digits of a number.
+const MOST_DIGITS: usize = 20;
+
+/// So many bytes are spelled at a time, where the room has no place for the digits of all.
 const PART: usize = 32;
 
-/// Text that is written as it comes: it is gathered in a room, and goes to the sink when the room is full. Once the sink has
-/// failed nothing more is written. No piece needs memory: what the room has no place for is written at once.
+/// Text that is written as it comes: it is gathered in a room, which never grows, and goes to the sink when the room has no place
+/// for the next piece. Once the sink has failed nothing more is written. A piece longer than the room is written at once.
 #[derive(Drop)]
 pub(crate) struct Spilling<'a, W: Sink> {
     pub(crate) sink: &'a mut W,
@@ -63,6 +61,7 @@ impl<'a, W: Sink> Spilling<'a, W> {
     }
 
     /// Writes out what the room keeps.
+    #[inline(never)]
     fn flush(&mut self)
         ensures same_sink { self.new.sink.ghost_name ≡ self.old.sink.ghost_name }
         ensures same_room { self.new.room.ghost_name ≡ self.old.room.ghost_name }
@@ -75,21 +74,13 @@ impl<'a, W: Sink> Spilling<'a, W> {
         self.room.clear();
     }
 
-    /// Writes out what the room keeps, where it is full.
+    /// How many bytes the room has a place for.
     #[inline(always)]
-    fn make_room(&mut self)
-        ensures same_sink { self.new.sink.ghost_name ≡ self.old.sink.ghost_name }
-        ensures same_room { self.new.room.ghost_name ≡ self.old.room.ghost_name }
-        ensures settles { Settles
-            (spill W.taken W.failed self.old.sink.now self.old.has_failed self.old.room.now.items)
-            (spill W.taken W.failed self.new.sink.now self.new.has_failed self.new.room.now.items) }
-    {
-        if self.room.len() >= FULL {
-            self.flush();
-        }
+    fn spare(&self) -> usize {
+        self.room.capacity() - self.room.len()
     }
 
-    /// Puts the bytes into the room; where it has no place for them, they are written.
+    /// Puts the bytes into the room, which is written out first where it has no place for them.
     #[inline(always)]
     fn put(&mut self, bytes: &[u8])
         ensures same_sink { self.new.sink.ghost_name ≡ self.old.sink.ghost_name }
@@ -99,14 +90,83 @@ impl<'a, W: Sink> Spilling<'a, W> {
             (spill W.taken W.failed self.new.sink.now self.new.has_failed self.new.room.now.items)
             bytes.now }
     {
-        self.make_room();
-        if self.room.extend_from_slice(bytes).is_err() {
-            self.put_through(bytes);
+        if bytes.len() <= self.spare() {
+            if self.room.extend_from_slice(bytes).is_ok() {
+                return;
+            }
         }
+        self.put_anew(bytes);
     }
 
-    /// Puts the digits of no more than `PART` bytes. It stands apart, so that its loop stays one.
+    /// Puts the bytes into the room once it is written out; where it has no place for them even then, they are written too.
+    #[cold]
     #[inline(never)]
+    fn put_anew(&mut self, bytes: &[u8])
+        ensures same_sink { self.new.sink.ghost_name ≡ self.old.sink.ghost_name }
+        ensures same_room { self.new.room.ghost_name ≡ self.old.room.ghost_name }
+        ensures spills { Spills
+            (spill W.taken W.failed self.old.sink.now self.old.has_failed self.old.room.now.items)
+            (spill W.taken W.failed self.new.sink.now self.new.has_failed self.new.room.now.items)
+            bytes.now }
+    {
+        self.flush();
+        if bytes.len() <= self.spare() {
+            if self.room.extend_from_slice(bytes).is_ok() {
+                return;
+            }
+        }
+        self.put_through(bytes);
+    }
+
+    /// Writes out what the room keeps, and the bytes behind it.
+    fn put_through(&mut self, bytes: &[u8])
+        ensures same_sink { self.new.sink.ghost_name ≡ self.old.sink.ghost_name }
+        ensures same_room { self.new.room.ghost_name ≡ self.old.room.ghost_name }
+        ensures spills { Spills
+            (spill W.taken W.failed self.old.sink.now self.old.has_failed self.old.room.now.items)
+            (spill W.taken W.failed self.new.sink.now self.new.has_failed self.new.room.now.items)
+            bytes.now }
+    {
+        self.flush();
+        self.has_failed = pass_on(self.sink, self.has_failed, bytes);
+    }
+
+    /// Puts the number in decimal, as `put_anew` puts its digits.
+    #[cold]
+    #[inline(never)]
+    fn put_number_anew(&mut self, number: u64)
+        ensures same_sink { self.new.sink.ghost_name ≡ self.old.sink.ghost_name }
+        ensures same_room { self.new.room.ghost_name ≡ self.old.room.ghost_name }
+        ensures spills { Spills
+            (spill W.taken W.failed self.old.sink.now self.old.has_failed self.old.room.now.items)
+            (spill W.taken W.failed self.new.sink.now self.new.has_failed self.new.room.now.items)
+            (decimal number) }
+    {
+        let mut digits = Buffer::new();
+        self.put_anew(digits.format(number).as_bytes());
+    }
+
+    /// Puts the bytes in hexadecimal, a part behind another: as much of them as there is place for before the room is written out.
+    #[cold]
+    #[inline(never)]
+    fn put_parts(&mut self, bytes: &[u8])
+        ensures same_sink { self.new.sink.ghost_name ≡ self.old.sink.ghost_name }
+        ensures same_room { self.new.room.ghost_name ≡ self.old.room.ghost_name }
+        ensures spills { Spills
+            (spill W.taken W.failed self.old.sink.now self.old.has_failed self.old.room.now.items)
+            (spill W.taken W.failed self.new.sink.now self.new.has_failed self.new.room.now.items)
+            (encode_lower bytes.now) }
+    {
+        let mut rest = bytes;
+        while rest.len() > PART {
+            let (part, more) = rest.split_at(PART);
+            self.put_part(part);
+            rest = more;
+        }
+        self.put_part(rest);
+    }
+
+    /// Puts the digits of no more than `PART` bytes.
     fn put_part(&mut self, part: &[u8])
         requires { length part.now ≤ 32 }
         ensures same_sink { self.new.sink.ghost_name ≡ self.old.sink.ghost_name }
@@ -120,21 +180,6 @@ impl<'a, W: Sink> Spilling<'a, W> {
         let digits = &mut room[..2 * part.len()];
         spell(part, digits);
         self.put(digits);
-    }
-
-    /// Writes out what the room keeps, and the bytes behind it.
-    #[cold]
-    #[inline(never)]
-    fn put_through(&mut self, bytes: &[u8])
-        ensures same_sink { self.new.sink.ghost_name ≡ self.old.sink.ghost_name }
-        ensures same_room { self.new.room.ghost_name ≡ self.old.room.ghost_name }
-        ensures spills { Spills
-            (spill W.taken W.failed self.old.sink.now self.old.has_failed self.old.room.now.items)
-            (spill W.taken W.failed self.new.sink.now self.new.has_failed self.new.room.now.items)
-            bytes.now }
-    {
-        self.flush();
-        self.has_failed = pass_on(self.sink, self.has_failed, bytes);
     }
 }
 
@@ -180,23 +225,26 @@ impl<'a, W: Sink> Out for Spilling<'a, W> {
         Ok(())
     }
 
+    #[inline(always)]
     fn push_number(&mut self, number: u64) -> Result<(), Infallible> {
-        self.make_room();
-        if tq_digits::push_number(self.room, number).is_err() {
-            let mut digits = Buffer::new();
-            self.put_through(digits.format(number).as_bytes());
+        if MOST_DIGITS <= self.spare() {
+            if tq_digits::push_number(self.room, number).is_ok() {
+                return Ok(());
+            }
         }
+        self.put_number_anew(number);
         Ok(())
     }
 
     fn push_digits(&mut self, bytes: &[u8]) -> Result<(), Infallible> {
-        let mut rest = bytes;
-        while rest.len() > PART {
-            let (part, more) = rest.split_at(PART);
-            self.put_part(part);
-            rest = more;
+        if bytes.len() <= self.spare() / 2 {
+            let len = self.room.len();
+            if tq_digits::push_bytes(self.room, bytes).is_ok() {
+                return Ok(());
+            }
+            self.room.truncate(len);
         }
-        self.put_part(rest);
+        self.put_parts(bytes);
         Ok(())
     }
 }

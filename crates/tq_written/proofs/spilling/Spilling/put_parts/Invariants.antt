@@ -1,7 +1,7 @@
 use Rattle.std.proofs.Common.{◌≡◌, ◌++◌, ℕ, List, length}
 use Rattle.hex.specs.Hex.{encode_lower}
 use Rattle.tq_written.specs.Spilled.{Spills}
-use Rattle.tq_written.proofs.spilling.SpillingOut.push_digits.Given as goal
+use Rattle.tq_written.proofs.spilling.Spilling.put_parts.Given as goal
 
 -- the digits of the bytes before those that are left are put
 abbrev pub invariant-loop-rest : goal.invariant-loop-rest

@@ -1,6 +1,6 @@
 use Rattle.std.proofs.Common.{◌++◌, [], ap, sym, refl, ◌∙◌, append_assoc}
 use Rattle.tq_written.proofs.Gathered.{more-digits, no-digits}
-use Rattle.tq_written.proofs.spilling.SpillingOut.push_digits.Goals as goal
+use Rattle.tq_written.proofs.spilling.Spilling.put_parts.Goals as goal
 
 pub loop-rest-init : goal.loop-rest-init
 loop-rest-init g c = record { same_sink = refl; same_room = refl; put = ([], refl, no-digits _) }
@@ -21,6 +21,8 @@ pub returns : goal.returns
 returns g c =
     let before = c.loop-rest.invariant.put in
     let all = rw before.1 at (more-digits _ _ _ before.0 c.loop-rest.rest.now before.2 c.put_part-2.ensures.spills) in
-    let same_sink = c.put_part-2.ensures.same_sink ∙ c.loop-rest.invariant.same_sink in
-    let same_room = c.put_part-2.ensures.same_room ∙ c.loop-rest.invariant.same_room in
-    record { after = λ start text h. (same_sink ∙ h.0, same_room ∙ h.1, all.after _ _ text h.2) }
+    record {
+      same_sink = c.put_part-2.ensures.same_sink ∙ c.loop-rest.invariant.same_sink;
+      same_room = c.put_part-2.ensures.same_room ∙ c.loop-rest.invariant.same_room;
+      spills = all;
+    }
