@@ -3,7 +3,7 @@
 #![tactic(auto)]
 
 ghost use Rattle.std.specs.Prelude.{◌≤◌, ℕ, List};
-ghost use Rattle.tq_words.specs.Command.{IsRead};
+ghost use Rattle.tq_cli.specs.Command.{IsRead};
 
 use std::process::ExitCode;
 use std::sync::Wait;

@@ -4,7 +4,7 @@ use Rattle.std.specs.Prelude.{reverse}
 use Rattle.std.specs.List.{AllByRecursion}
 use Rattle.std.proofs.lemmas.List.{reverse-append, length-reverse, take_all}
 use Rattle.tq_shape.specs.Limits.{LimitsView}
-use Rattle.tq_lines.specs.declared.script.Line.{Line}
+use Rattle.tq_syntax.specs.declared.script.Line.{Line}
 use Rattle.tq_txn.specs.Dialogue.{Makes}
 use Rattle.tq_txn.specs.declared.asker.Exchange.{Exchange}
 use Rattle.tq_refresh.specs.declared.job.Job.{Job}

@@ -6,7 +6,7 @@ use Rattle.tq_txn.specs.declared.asker.Exchange.{Exchange}
 use Rattle.tq_tables.specs.Journals.{JournalsView}
 use Rattle.tq_tables.specs.Parts.{AreLegal}
 use Rattle.tq_tables.specs.Tables.{tables_of}
-use Rattle.tq_prefixes.specs.Astray.{AllBegin}
+use Rattle.tq_mirror.specs.Astray.{AllBegin}
 use Rattle.tq_merge.specs.declared.close_fault.CloseFault.{CloseFault}
 use Rattle.tq_merge.specs.declared.close_fault.CloseFault.TheVariants as faults
 use Rattle.tq_merge.specs.Closed.{IsCloseFault}

@@ -25,7 +25,7 @@ use Rattle.tq_live.specs.contracts.view.View as View
 use Rattle.tq_txn.specs.contracts.asker.Exchange as Exchange
 use Rattle.tq_cluster.specs.contracts.caller.Caller as Caller
 use Rattle.tq_cluster.specs.contracts.cluster.Cluster as Cluster
-use Rattle.tq_lines.specs.contracts.script.Script as Script
+use Rattle.tq_syntax.specs.contracts.script.Script as Script
 use Rattle.tq_queue.specs.contracts.ends.Taker as Taker
 use Rattle.tq_queue.proofs.ends.Taker.TheSendSync as takers
 use Rattle.tq_cluster.specs.contracts.workers.Message as Message

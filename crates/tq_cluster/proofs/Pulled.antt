@@ -7,10 +7,10 @@ use Rattle.tq_shape.specs.Tree.{IsServer}
 use Rattle.tq_shape.specs.declared.part.Part.{Part}
 use Rattle.tq_shape.specs.declared.part.Part.TheVariants as parts
 use Rattle.tq_tables.specs.Journals.{JournalsView}
-use Rattle.tq_prefixes.specs.declared.entries.Entries.{Entries}
-use Rattle.tq_prefixes.specs.declared.entries.Entries.TheVariants as entries
-use Rattle.tq_prefixes.specs.declared.fault.PullFault.{PullFault}
-use Rattle.tq_prefixes.specs.Prefixes.{IsPartOf, prefix_length, server_prefix, grown}
+use Rattle.tq_mirror.specs.declared.entries.Entries.{Entries}
+use Rattle.tq_mirror.specs.declared.entries.Entries.TheVariants as entries
+use Rattle.tq_mirror.specs.declared.fault.PullFault.{PullFault}
+use Rattle.tq_mirror.specs.Prefixes.{IsPartOf, prefix_length, server_prefix, grown}
 use Rattle.tq_cluster.specs.Told.{CallerView, seen_of, having_seen}
 use Rattle.tq_cluster.specs.Pulls.{EachContinues, Continues, HasSeenAll, HasSeenServers}
 

@@ -10,11 +10,11 @@ use Rattle.tq_asks.specs.declared.ask.NodeAsk.{NodeAsk}
 use Rattle.tq_asks.specs.declared.ask.NodeReply.{NodeReply}
 use Rattle.tq_txn.specs.declared.asker.Exchange.{Exchange}
 use Rattle.tq_tables.specs.Journals.{JournalsView}
-use Rattle.tq_prefixes.specs.declared.entries.Entries.{Entries}
-use Rattle.tq_prefixes.specs.declared.entries.Entries.TheVariants as entries
-use Rattle.tq_prefixes.specs.declared.fault.PullFault.{PullFault}
-use Rattle.tq_prefixes.specs.declared.fault.PullFault.TheVariants as faults
-use Rattle.tq_prefixes.specs.Prefixes.{IsPartOf, IsPullFault, grown, prefix_length}
+use Rattle.tq_mirror.specs.declared.entries.Entries.{Entries}
+use Rattle.tq_mirror.specs.declared.entries.Entries.TheVariants as entries
+use Rattle.tq_mirror.specs.declared.fault.PullFault.{PullFault}
+use Rattle.tq_mirror.specs.declared.fault.PullFault.TheVariants as faults
+use Rattle.tq_mirror.specs.Prefixes.{IsPartOf, IsPullFault, grown, prefix_length}
 use Rattle.tq_cluster.specs.Told.{CallerView, SeesOn, seen_of, having_seen}
 use Rattle.tq_cluster.specs.Pulls.{IsPull, last_come, seen_then}
 

@@ -1,6 +1,6 @@
 -- The callers of a run as their threads are joined: the one that was started last comes first.
 use Rattle.std.specs.Prelude.{◌≡◌, ℕ, List, [], ◌∷◌, ◌++◌, length}
-use Rattle.tq_lines.specs.declared.script.Line.{Line}
+use Rattle.tq_syntax.specs.declared.script.Line.{Line}
 use Rattle.tq_shape.specs.Limits.{LimitsView}
 use Rattle.tq_refresh.specs.declared.job.Job.{Job}
 use Rattle.tq_cluster.specs.declared.workers.Message.{Message}

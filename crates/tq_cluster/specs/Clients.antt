@@ -3,8 +3,8 @@ use Rattle.std.specs.Prelude.{◌≡◌, ℕ, List, [], ◌∷◌, ◌++◌, len
 use Rattle.std.specs.List.{AllByRecursion}
 use Rattle.tq_txn.specs.Dialogue.{Makes}
 use Rattle.tq_txn.specs.declared.asker.Exchange.{Exchange}
-use Rattle.tq_lines.specs.declared.script.Line.{Line}
-use Rattle.tq_script.specs.Script.{script_asked}
+use Rattle.tq_syntax.specs.declared.script.Line.{Line}
+use Rattle.tq_client.specs.Script.{script_asked}
 use Rattle.tq_shape.specs.Limits.{LimitsView}
 use Rattle.tq_refresh.specs.declared.job.Job.{Job}
 use Rattle.tq_refresh.specs.Mending.{refresh_asked}

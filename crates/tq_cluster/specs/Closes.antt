@@ -9,7 +9,7 @@ use Rattle.tq_merge.specs.declared.close_fault.CloseFault.{CloseFault}
 use Rattle.tq_merge.specs.declared.close_fault.CloseFault.TheVariants as faults
 use Rattle.tq_merge.specs.Told.{entry_name, found_at}
 use Rattle.tq_merge.specs.Kept.{AreKept, IsBad}
-use Rattle.tq_prefixes.specs.Astray.{AllBegin}
+use Rattle.tq_mirror.specs.Astray.{AllBegin}
 use Rattle.tq_cluster.specs.Cluster.{ClusterView}
 
 -- they are legal journals of the parts of this cluster

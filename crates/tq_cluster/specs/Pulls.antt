@@ -5,10 +5,10 @@ use Rattle.tq_shape.specs.declared.part.Part.TheVariants as parts
 use Rattle.tq_desk.specs.DeskJournal.{DeskEntry}
 use Rattle.tq_tables.specs.Journals.{JournalsView, ViewEntry}
 use Rattle.tq_cells.specs.Passes.{last_behind}
-use Rattle.tq_prefixes.specs.declared.entries.Entries.{Entries}
-use Rattle.tq_prefixes.specs.declared.fault.PullFault.{PullFault}
-use Rattle.tq_prefixes.specs.Prefixes.{IsPartOf, IsPullFault, grown, prefix_length}
-use Rattle.tq_prefixes.specs.Astray.{ComesBefore}
+use Rattle.tq_mirror.specs.declared.entries.Entries.{Entries}
+use Rattle.tq_mirror.specs.declared.fault.PullFault.{PullFault}
+use Rattle.tq_mirror.specs.Prefixes.{IsPartOf, IsPullFault, grown, prefix_length}
+use Rattle.tq_mirror.specs.Astray.{ComesBefore}
 use Rattle.tq_cluster.specs.Told.{CallerView, seen_of}
 
 -- each list is the one at its place before with more behind it

@@ -17,10 +17,10 @@ use std::sync::Wait;
 use std::thread;
 use std::thread::{Promise, Scope, Threads};
 use tq_cells::Gate;
-use tq_lines::Script;
+use tq_client::run_script;
 use tq_queue::Putter;
-use tq_script::run_script;
 use tq_shape::{Levels, Limits};
+use tq_syntax::Script;
 
 /// How many jobs wait in the queue at most.
 const ROOM: usize = 64;

@@ -7,7 +7,7 @@ ghost use Rattle.tq_merge.specs.Order.{Explains, asks_of};
 ghost use Rattle.tq_merge.specs.Kept.{AreKept};
 ghost use Rattle.tq_merge.specs.Kept as spec;
 ghost use Rattle.tq_merge.specs.Closed.{IsCloseFault, IsNoOrder};
-ghost use Rattle.tq_prefixes.specs.Astray.{AllBegin, IsFirstAstray};
+ghost use Rattle.tq_mirror.specs.Astray.{AllBegin, IsFirstAstray};
 ghost use Rattle.tq_cluster.specs.Closes.{AreTablesOfPrefixes};
 
 use crate::live_board::LiveBoard;

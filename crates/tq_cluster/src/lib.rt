@@ -26,4 +26,4 @@ pub use cluster::Cluster;
 pub use explained::Explained;
 pub use live_board::LiveBoard;
 pub use tq_merge::CloseFault;
-pub use tq_prefixes::{Entries, PullFault};
+pub use tq_mirror::{Entries, PullFault};

@@ -2,7 +2,7 @@ ghost use Rattle.std.specs.Prelude.{◌≡◌, ◌≤◌, ◌-◌, ◌^◌, IfOk
 ghost use Rattle.tq_shape.specs.Tree.{IsServer};
 ghost use Rattle.tq_tables.specs.Parts.{AreLegal};
 ghost use Rattle.tq_tables.specs.Tables.{tables_of};
-ghost use Rattle.tq_prefixes.specs.Prefixes.{IsPartOf, IsPullFault, grown, nothing_pulled, prefix_length, server_prefix};
+ghost use Rattle.tq_mirror.specs.Prefixes.{IsPartOf, IsPullFault, grown, nothing_pulled, prefix_length, server_prefix};
 ghost use Rattle.tq_cluster.specs.Told.{SeesOn, having_seen, seen_of};
 ghost use Rattle.tq_cluster.specs.Pulls.{Continues, EndedAt, HasSeenAll, HasSeenServers, IsPull, SawWhatCame, seen_then};
 
@@ -14,8 +14,8 @@ use std::sync::Wait;
 use tq_cells::{Cell, Gate, Pass};
 use tq_desk::Desk;
 use tq_live::View;
+use tq_mirror::{Entries, Prefixes, PullFault};
 use tq_node::Node;
-use tq_prefixes::{Entries, Prefixes, PullFault};
 use tq_shape::{Levels, Limits, Memory, Part};
 use tq_tables::{DeskEntry, NodeEntry, Tables, ViewEntry};
 

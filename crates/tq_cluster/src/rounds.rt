@@ -15,7 +15,7 @@ use crate::workers::{Message, Team};
 use std::alloc::Global;
 use std::sync::Wait;
 use tq_cells::Gate;
-use tq_prefixes::PullFault;
+use tq_mirror::PullFault;
 use tq_queue::Putter;
 use tq_refresh::{FileJobs, Job, PlanByFile, plan_by_file};
 use tq_shape::ServerSet;

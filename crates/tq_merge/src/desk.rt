@@ -3,8 +3,8 @@ ghost use Rattle.tq_desk.specs.DeskJournal.{IsLegalDesk};
 ghost use Rattle.tq_tables.specs.Parts.{bounds_of};
 
 use std::alloc::Global;
-use tq_alike::{Alike, OfDesk};
 use tq_desk::Desk;
+use tq_equality::{Alike, OfDesk};
 use tq_shape::{Levels, Limits, Memory};
 use tq_tables::DeskEntry;
 

@@ -3,7 +3,7 @@ ghost use Rattle.std.specs.Option.{option_copied};
 ghost use Rattle.tq_shape.specs.Journal.{entry};
 ghost use Rattle.tq_merge.specs.Told.{Stands};
 
-use tq_alike::{Alike, OfDesk, OfServer, OfView};
+use tq_equality::{Alike, OfDesk, OfServer, OfView};
 use tq_shape::Entry;
 use tq_tables::Journals;
 use tq_txn::Exchange;

@@ -8,7 +8,7 @@ use Rattle.tq_asks.specs.declared.ask.NodeReply.{NodeReply}
 use Rattle.tq_txn.specs.Dialogue.{Told, Ends, Makes}
 use Rattle.tq_txn.specs.declared.asker.Exchange.{Exchange}
 use Rattle.tq_txn.specs.declared.asker.Exchange.TheVariants as exchanges
-use Rattle.tq_states.specs.declared.told.NodeTold.{NodeTold}
+use Rattle.tq_txn_states.specs.declared.told.NodeTold.{NodeTold}
 use Rattle.tq_refresh.specs.declared.job.Job.{Job}
 use Rattle.tq_refresh.specs.Plan.{refresh_of}
 use Rattle.tq_refresh.specs.Mending.{worker_asked, mend_asked, is_of_tree, refresh_asked, IsAnswered, Grows}

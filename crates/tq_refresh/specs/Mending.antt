@@ -8,7 +8,7 @@ use Rattle.tq_txn.specs.Dialogue.{Told, Dialogue, Ends, AsksNode, Makes, Begins}
 use Rattle.tq_txn.specs.declared.asker.Exchange.{Exchange}
 use Rattle.tq_txn.specs.declared.asker.Exchange.TheVariants as exchanges
 use Rattle.tq_part.specs.declared.fault.AskFault.{AskFault}
-use Rattle.tq_states.specs.declared.told.NodeTold.{NodeTold}
+use Rattle.tq_txn_states.specs.declared.told.NodeTold.{NodeTold}
 use Rattle.tq_refresh.specs.declared.job.Job.{Job}
 use Rattle.tq_refresh.specs.Plan.{peek_of, refresh_of}
 

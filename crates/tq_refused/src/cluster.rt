@@ -1,6 +1,6 @@
 //! A cluster whose parts are asked by one caller what journals say.
 ghost use Rattle.std.specs.Prelude.{◌≡◌, IfOk};
-ghost use Rattle.tq_prefixes.specs.Prefixes.{IsPartOf};
+ghost use Rattle.tq_mirror.specs.Prefixes.{IsPartOf};
 
 use crate::board::board_of;
 use crate::input::text_of;

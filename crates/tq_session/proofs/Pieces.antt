@@ -4,8 +4,8 @@ use Rattle.std.proofs.lemmas.List.{append-nil, take_all, take-append-drop}
 use Rattle.std.proofs.lemmas.Bool.{cases_lt, ne_eqb}
 use Rattle.std.proofs.Math.Seq.{take-append-add, take-append_seam}
 use Rattle.memchr.specs.Find.{Nowhere, Passes, is_byte}
-use Rattle.tq_lines.specs.Line.{line_of}
-use Rattle.tq_lines.specs.Word.{without_return}
+use Rattle.tq_syntax.specs.Line.{line_of}
+use Rattle.tq_syntax.specs.Word.{without_return}
 use Rattle.tq_session.specs.Stream.{Received, kept, grown, line_answer, received_byte, received_all, answers_to, taken_at_once}
 use Rattle.tq_session.proofs.StreamLaws.{kept_more, kept_return, received_other, answered_other, received_all-append, answers_to-append}
 

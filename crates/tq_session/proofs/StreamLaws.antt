@@ -4,12 +4,12 @@ use Rattle.std.proofs.lemmas.List.{append-nil, take_all, take-append-le, length-
 use Rattle.std.proofs.lemmas.Bool.{ne_eqb, cases_lt}
 use Rattle.std.specs.List.{onto_first}
 use Rattle.std.proofs.lemmas.List.Splits.{length-slice_split}
-use Rattle.tq_lines.specs.declared.line.Line.{Line}
-use Rattle.tq_lines.specs.declared.line.Line.TheVariants.{Bad}
-use Rattle.tq_lines.specs.Line.{line_of}
-use Rattle.tq_answering.specs.Answer.{World, opening, answer}
-use Rattle.tq_lines.specs.Word.{without_return}
-use Rattle.tq_lines.specs.Text.{last_line, whole_parts, last_part, parts_of}
+use Rattle.tq_syntax.specs.declared.line.Line.{Line}
+use Rattle.tq_syntax.specs.declared.line.Line.TheVariants.{Bad}
+use Rattle.tq_syntax.specs.Line.{line_of}
+use Rattle.tq_interpreter.specs.Answer.{World, opening, answer}
+use Rattle.tq_syntax.specs.Word.{without_return}
+use Rattle.tq_syntax.specs.Text.{last_line, whole_parts, last_part, parts_of}
 use Rattle.tq_session.specs.Text.{lines_text, text_of, whole_text}
 use Rattle.tq_session.specs.Stream.{Received, nothing_received, kept, grown, line_answer, received_byte, answer_to_byte, received_all, answers_to, answer_to_rest, answer_to_last}
 

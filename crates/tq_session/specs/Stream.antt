@@ -1,9 +1,9 @@
 -- Bytes that come in pieces: a machine that goes from byte to byte and keeps one line.
 use Rattle.std.specs.Prelude.{ℕ, ◌+◌, ◌==◌, ◌&&◌, nat_le, cond, List, [], ◌∷◌, ◌++◌, take, length}
 use Rattle.tq_session.specs.declared.receiver.TheConstants.{KEPT, FLUSH_AT}
-use Rattle.tq_lines.specs.Line.{line_of}
-use Rattle.tq_answering.specs.Answer.{World, Answer, opening, answer}
-use Rattle.tq_lines.specs.Word.{without_return}
+use Rattle.tq_syntax.specs.Line.{line_of}
+use Rattle.tq_interpreter.specs.Answer.{World, Answer, opening, answer}
+use Rattle.tq_syntax.specs.Word.{without_return}
 
 -- what was received: the world after the whole lines, and what is kept of the line that goes on
 pub record Received : Type 0 where

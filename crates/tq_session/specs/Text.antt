@@ -1,8 +1,8 @@
 -- The text that answers the lines of bytes.
 use Rattle.std.specs.Prelude.{ℕ, List, [], ◌∷◌, ◌++◌}
-use Rattle.tq_lines.specs.Line.{line_of}
-use Rattle.tq_lines.specs.Text.{lines_of, whole_lines}
-use Rattle.tq_answering.specs.Answer.{World, opening, answer}
+use Rattle.tq_syntax.specs.Line.{line_of}
+use Rattle.tq_syntax.specs.Text.{lines_of, whole_lines}
+use Rattle.tq_interpreter.specs.Answer.{World, opening, answer}
 
 -- the answers to lines, one after another
 abbrev pub lines_text : World → List (List ℕ) → List ℕ

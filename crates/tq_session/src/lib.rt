@@ -8,4 +8,4 @@ mod receiver;
 mod runner;
 
 pub use runner::{INPUT_LIMIT, run};
-pub use tq_answering::Shell;
+pub use tq_interpreter::Shell;

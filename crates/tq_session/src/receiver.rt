@@ -1,12 +1,12 @@
 ghost use Rattle.std.specs.Prelude.{◌≡◌, ◌++◌, [], OnOk, OnErr};
-ghost use Rattle.tq_answering.specs.Answer.{answer};
+ghost use Rattle.tq_interpreter.specs.Answer.{answer};
 
 use memchr::memchr;
 use std::alloc::Global;
 use std::marker::Model;
-use tq_answering::Shell;
-use tq_lines::{LINE_LIMIT, Line, without_return};
+use tq_interpreter::Shell;
 use tq_shape::{Levels, Memory};
+use tq_syntax::{LINE_LIMIT, Line, without_return};
 
 /// How many bytes are kept of a line. With these it is too long, also if the last is a carriage return that is dropped.
 const KEPT: usize = LINE_LIMIT + 2;

@@ -4,8 +4,8 @@ use Rattle.std.specs.Prelude.{nat_le}
 use Rattle.tq_shape.specs.Journal.{is_empty}
 use Rattle.std.specs.List.{list_all}
 use Rattle.std.proofs.lemmas.Bool.{and_parts, leb-true}
-use Rattle.tq_lines.specs.declared.client.ClientLine.{ClientLine}
-use Rattle.tq_lines.specs.Scripts.{are_good, clients_of, has_form, scripts_of}
+use Rattle.tq_syntax.specs.declared.client.ClientLine.{ClientLine}
+use Rattle.tq_syntax.specs.Scripts.{are_good, clients_of, has_form, scripts_of}
 
 pub few_scripts : (lines : List ClientLine) → are_good lines ≡ true → length (scripts_of lines) ≤ 16
 few_scripts lines good =

@@ -6,7 +6,7 @@ use Rattle.std.specs.Io.KnownBytes.{Appends}
 use Rattle.tq_devices.specs.declared.fault.RunFault.{RunFault}
 use Rattle.tq_devices.specs.declared.fault.RunFault.TheVariants.{Memory, Read, Write, TooLong}
 use Rattle.tq_devices.specs.Faults.{IsWritten}
-use Rattle.tq_written.specs.Spilled.{IsWrittenOut}
+use Rattle.tq_json_write.specs.Spilled.{IsWrittenOut}
 use Rattle.tq_shell.specs.Report.{IsReportText}
 
 module _ (Tells : List ℕ → List ℕ → ℕ → Type 0) where

@@ -6,7 +6,7 @@ use Rattle.std.specs.Result.{IsErrAnd}
 use Rattle.std.specs.Io.KnownBytes.{Appends}
 use Rattle.tq_devices.specs.declared.fault.RunFault.{RunFault}
 use Rattle.tq_devices.specs.declared.fault.RunFault.TheVariants.{Memory, Read, Write, TooLong}
-use Rattle.tq_written.specs.Spilled.{IsWrittenOut}
+use Rattle.tq_json_write.specs.Spilled.{IsWrittenOut}
 use Rattle.tq_shell.specs.declared.outcome.Outcome.{Outcome}
 use Rattle.tq_shell.specs.Outcome.{outcome_line}
 use Rattle.tq_shell.specs.Running.{IsOutcome}

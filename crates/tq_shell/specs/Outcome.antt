@@ -2,8 +2,8 @@
 use Rattle.std.specs.Prelude.{ℕ, List, [], ◌∷◌, ◌++◌, codes}
 use Rattle.std.specs.Fmt.{decimal}
 use Rattle.serde_json.specs.Written.{compact_text}
-use Rattle.tq_print.specs.Print.{printed}
-use Rattle.tq_written.specs.Form.{journals_value}
+use Rattle.tq_text.specs.Print.{printed}
+use Rattle.tq_json_write.specs.Form.{journals_value}
 use Rattle.tq_shell.specs.declared.outcome.Outcome.{Outcome}
 use Rattle.tq_shell.specs.declared.outcome.Outcome.TheVariants.{Ran, Unclosed, BadScript}
 

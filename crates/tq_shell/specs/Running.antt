@@ -2,9 +2,9 @@
 use Rattle.std.specs.Prelude.{◌≡◌, ℕ, true, List, map, Err}
 use Rattle.tq_shape.specs.declared.part.Part.{Part}
 use Rattle.tq_shape.specs.Limits.{LimitsView}
-use Rattle.tq_lines.specs.declared.script.Line.{Line}
-use Rattle.tq_lines.specs.Scripts.{are_good, scripts_of, said_lines, IsRead}
-use Rattle.tq_lines.specs.declared.fault.ScriptFault.TheVariants.{Bad}
+use Rattle.tq_syntax.specs.declared.script.Line.{Line}
+use Rattle.tq_syntax.specs.Scripts.{are_good, scripts_of, said_lines, IsRead}
+use Rattle.tq_syntax.specs.declared.fault.ScriptFault.TheVariants.{Bad}
 use Rattle.tq_tables.specs.Journals.{JournalsView}
 use Rattle.tq_merge.specs.Order.{Explains}
 use Rattle.tq_merge.specs.Kept.{AreKept}

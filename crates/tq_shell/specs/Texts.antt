@@ -1,8 +1,8 @@
 -- The line and the status that tell of what an audit found.
 use Rattle.std.specs.Prelude.{ℕ, List, ◌++◌, codes}
 use Rattle.std.specs.Fmt.{decimal}
-use Rattle.tq_print.specs.Print.{numbers_text, printed}
-use Rattle.tq_print.specs.Refusals.{part_text}
+use Rattle.tq_text.specs.Print.{numbers_text, printed}
+use Rattle.tq_text.specs.Refusals.{part_text}
 use Rattle.tq_shell.specs.declared.verdict.Verdict.{Verdict}
 use Rattle.tq_shell.specs.declared.verdict.Verdict.TheVariants.{Explained, Wrong, Stuck, Unreadable}
 

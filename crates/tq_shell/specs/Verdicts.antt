@@ -3,8 +3,8 @@ use Rattle.std.specs.Prelude.{◌≡◌, ℕ, List, Some, length}
 use Rattle.serde_json.specs.Data.{Data}
 use Rattle.tq_shape.specs.declared.part.Part.{Part}
 use Rattle.tq_tables.specs.Journals.{JournalsView}
-use Rattle.tq_form.specs.Faults.{IsJson}
-use Rattle.tq_form.specs.Frame.{journals_of}
+use Rattle.tq_json_read.specs.Faults.{IsJson}
+use Rattle.tq_json_read.specs.Frame.{journals_of}
 use Rattle.tq_merge.specs.Order.{Explains, IsStuck}
 use Rattle.tq_merge.specs.Wrong.{IsWrong}
 use Rattle.tq_shell.specs.declared.verdict.Verdict.{Verdict}

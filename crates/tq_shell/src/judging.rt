@@ -3,7 +3,7 @@ ghost use Rattle.tq_shell.specs.Verdicts.{IsVerdict};
 
 use crate::verdict::Verdict;
 use std::alloc::{AllocError, Global};
-use tq_form::{ReadFault, journals_from_json};
+use tq_json_read::{ReadFault, journals_from_json};
 use tq_merge::{Fault, explain};
 use tq_shape::Memory;
 

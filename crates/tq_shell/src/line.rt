@@ -1,5 +1,5 @@
 ghost use Rattle.std.specs.Prelude.{◌-◌, ◌^◌, ◌<◌};
-ghost use Rattle.tq_written.specs.Spilled.{IsWrittenOut};
+ghost use Rattle.tq_json_write.specs.Spilled.{IsWrittenOut};
 
 use tq_devices::{RunFault, Sink, write_out};
 

@@ -1,13 +1,13 @@
 ghost use Rattle.std.specs.Prelude.{◌≡◌, ◌-◌, ◌^◌, ◌<◌};
-ghost use Rattle.tq_written.specs.Spilled.{IsWrittenOut};
+ghost use Rattle.tq_json_write.specs.Spilled.{IsWrittenOut};
 ghost use Rattle.tq_shell.specs.Outcome as spec;
 
 use crate::line::write_line;
 use std::alloc::Global;
 use tq_devices::{RunFault, Sink};
-use tq_print::{say_line, say_number};
+use tq_json_write::write_journals;
 use tq_tables::Journals;
-use tq_written::write_journals;
+use tq_text::{say_line, say_number};
 
 /// What comes of the text of client scripts.
 #[derive(Drop)]

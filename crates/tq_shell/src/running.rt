@@ -7,8 +7,8 @@ use std::sync::Wait;
 use std::thread::Threads;
 use tq_cells::OpenGate;
 use tq_cluster::{CloseFault, Cluster, Ran};
-use tq_lines::{Script, ScriptFault, read_scripts};
 use tq_shape::{Levels, Limits, Memory};
+use tq_syntax::{Script, ScriptFault, read_scripts};
 
 /// Runs the client scripts of the text in threads, over a new cluster, which is closed then. Answers an error only where
 /// memory was refused, to this call or to one of its threads; all threads have ended then too.

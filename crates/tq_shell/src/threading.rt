@@ -11,8 +11,8 @@ use std::mem;
 use std::sync::Wait;
 use std::thread::Threads;
 use tq_devices::{RunFault, Sink, Source};
-use tq_lines::SCRIPT_LIMIT;
 use tq_shape::Levels;
+use tq_syntax::SCRIPT_LIMIT;
 
 /// Reads client scripts, runs them in threads over a new cluster, closes it, and writes the journals of all parts as one
 /// line. Answers the status 0; 1 where the cluster could not be closed, and 2 where a line makes a bad script: then the

@@ -1,7 +1,7 @@
 ghost use Rattle.std.specs.Prelude.{◌≡◌, ◌-◌, ◌^◌, ◌<◌, ℕ, List, IfOk, IsTrue, OnOk};
 ghost use Rattle.std.specs.Io.KnownBytes.{Appends};
 ghost use Rattle.tq_devices.specs.Faults.{IsRunCount};
-ghost use Rattle.tq_written.specs.Spilled.{IsWrittenOut};
+ghost use Rattle.tq_json_write.specs.Spilled.{IsWrittenOut};
 ghost use Rattle.tq_shell.specs.Texts.{verdict_line};
 ghost use Rattle.tq_shell.specs.Upgrade.{IsFound, IsUpgradeText, found_line, found_status};
 
@@ -11,10 +11,10 @@ use crate::verdict::Verdict;
 use std::alloc::{AllocError, Global};
 use std::mem;
 use tq_devices::{RunFault, Sink, Source};
-use tq_form::{ReadFault, journals_from_json};
+use tq_json_read::{ReadFault, journals_from_json};
+use tq_json_write::write_journals;
 use tq_shape::Memory;
 use tq_tables::Journals;
-use tq_written::write_journals;
 
 /// Reads a journal file of either format to its end, writes its journals in format 2, as one line, and answers the status 0;
 /// where it is no journal file it writes and answers what an audit of it does. The entries are not judged. Nothing is written

@@ -1,11 +1,11 @@
 ghost use Rattle.std.specs.Prelude.{◌≡◌, ◌++◌, IfOk, OnOk};
-ghost use Rattle.tq_print.specs.Print.{numbers_text};
 ghost use Rattle.tq_shell.specs.Texts as spec;
+ghost use Rattle.tq_text.specs.Print.{numbers_text};
 
 use std::alloc::Global;
 use tq_merge::Counts;
-use tq_print::{push_at, say_line, say_number};
 use tq_shape::{Memory, Part};
+use tq_text::{push_at, say_line, say_number};
 
 /// What an audit finds in the bytes of a journal file.
 #[derive(Debug, Drop, PartialEq)]

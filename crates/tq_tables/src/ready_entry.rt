@@ -1,9 +1,9 @@
 ghost use Rattle.std.specs.Prelude.{◌≡◌, ◌↔◌, IsTrue, IfOk};
 
 use crate::PartEntry;
-use tq_alike::{Alike, OfDesk, OfServer, OfView};
 use tq_asks::NodeAsk;
 use tq_desk::DeskAsk;
+use tq_equality::{Alike, OfDesk, OfServer, OfView};
 use tq_live::ViewAsk;
 use tq_shape::{Memory, Part};
 

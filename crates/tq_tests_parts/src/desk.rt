@@ -1,6 +1,6 @@
+use crate::check::{Wrong, check};
 use std::alloc::Global;
 use tq_asks::Verdict;
-use tq_check::{Wrong, check};
 use tq_desk::{Desk, DeskAsk, DeskReply};
 use tq_desk_laws::{decision_log, desk_laws};
 use tq_shape::{Levels, Limits};

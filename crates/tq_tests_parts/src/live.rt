@@ -1,5 +1,5 @@
+use crate::check::{Wrong, check};
 use std::alloc::Global;
-use tq_check::{Wrong, check};
 use tq_live::{Choice, Least, LiveTree, Purpose, Turns, View, ViewAsk, ViewReply};
 use tq_part::{Fault, Journaled, foresee};
 use tq_shape::{Entry, Levels, Memory, ServerId, ServerSet};

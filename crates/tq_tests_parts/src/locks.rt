@@ -1,6 +1,6 @@
+use crate::check::{Wrong, check};
 use std::alloc::Global;
 use std::mem::forget;
-use tq_check::{Wrong, check};
 use tq_locks::{Lock, LockEntry, LockOutcome, LockTable, Mode};
 use tq_store::FileName;
 

@@ -1,6 +1,6 @@
+use crate::check::{Wrong, check};
 use std::alloc::Global;
 use tq_asks::{CitedVote, NodeAsk, NodeReply, WorkAsk};
-use tq_check::{Wrong, check};
 use tq_node::Node;
 use tq_shape::{Levels, Memory, Shared};
 use tq_store::{Content, FileName};

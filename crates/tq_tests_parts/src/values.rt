@@ -1,5 +1,5 @@
+use crate::check::{Wrong, check};
 use std::alloc::{AllocError, Global};
-use tq_check::{Wrong, check};
 use tq_coterie::{Quorum, holds_quorum, is_quorum, meet};
 use tq_intents::{Intents, Record, SharedWrite};
 use tq_shape::{Levels, Memory, ServerId, ServerSet};

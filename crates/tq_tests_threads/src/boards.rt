@@ -6,11 +6,11 @@ use std::mem::forget;
 use std::process::Abort;
 use std::sync::Wait;
 use tq_asks::NodeAsk;
+use tq_board_text::render;
 use tq_cells::OpenGate;
 use tq_cluster::{Asking, Caller, Cluster, Entries, LiveBoard, PullFault};
 use tq_desk::{DeskAsk, DeskReply};
 use tq_live::{Purpose, ViewAsk};
-use tq_rendered::render;
 use tq_shape::{Levels, Limits, Part};
 use tq_store::{Content, FileName};
 use tq_txn::{

@@ -10,9 +10,9 @@ use std::thread::{Threads, join};
 use tq_asks::{NodeAsk, WorkAsk};
 use tq_cells::{Gate, OpenGate};
 use tq_cluster::{Caller, Cluster, LiveBoard, Ran};
-use tq_lines::{Script, read_scripts};
 use tq_shape::{Levels, Limits, Shared};
 use tq_store::FileName;
+use tq_syntax::{Script, read_scripts};
 use tq_tables::{FileRow, Tables};
 
 // What clusters, callers, boards and journals drop is dear to prove in a crate that lets one go. So a test leaves them

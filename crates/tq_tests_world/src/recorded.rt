@@ -2,7 +2,7 @@
 use super::asked::journals_of;
 use std::alloc::Global;
 use std::mem::forget;
-use tq_alike::{Alike, OfServer};
+use tq_equality::{Alike, OfServer};
 use tq_intents::{Record, SharedLock, SharedWrite};
 use tq_locks::Mode;
 use tq_node::Node;

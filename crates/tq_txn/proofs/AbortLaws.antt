@@ -4,13 +4,13 @@ use Rattle.tq_shape.specs.Tree.{Server}
 use Rattle.tq_coterie.specs.Coterie.{numbers_of}
 use Rattle.tq_part.specs.declared.fault.AskFault.{AskFault}
 use Rattle.tq_desk.specs.declared.ask.DeskAsk.TheVariants as asks
-use Rattle.tq_states.specs.declared.told.DeskTold.{DeskTold}
+use Rattle.tq_txn_states.specs.declared.told.DeskTold.{DeskTold}
 use Rattle.tq_txn.specs.declared.asker.Exchange.{Exchange}
 use Rattle.tq_txn.specs.declared.fault.LineFault.{LineFault}
 use Rattle.tq_txn.specs.declared.txn.Txn.{Txn}
 use Rattle.tq_txn.specs.declared.txn.Txn.TheVariants as states
 use Rattle.tq_txn.specs.Aborts.{resolved, ending_of, abort_end, abort_line}
-use Rattle.tq_states.specs.Ended.{EndedView}
+use Rattle.tq_txn_states.specs.Ended.{EndedView}
 use Rattle.tq_txn.specs.Dialogue.{LineEnd, Follows, done, ended_by, fault_of_ask, desk_exchange, desk_line}
 use Rattle.tq_txn.specs.Lines.{ending_line}
 use Rattle.tq_txn.specs.States.{number_of}

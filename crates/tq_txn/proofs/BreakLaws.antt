@@ -14,17 +14,17 @@ use Rattle.tq_asks.specs.declared.ask.NodeReply.TheVariants as replies
 use Rattle.tq_asks.specs.declared.ask.WorkAsk.{WorkAsk}
 use Rattle.tq_asks.specs.declared.ask.Verdict.{Verdict}
 use Rattle.tq_desk.specs.declared.ask.DeskAsk.{DeskAsk}
-use Rattle.tq_states.specs.declared.told.NodeTold.{NodeTold}
+use Rattle.tq_txn_states.specs.declared.told.NodeTold.{NodeTold}
 use Rattle.tq_shape.specs.Tree.{Server}
 use Rattle.tq_coterie.specs.Coterie.{has, numbers_of}
 use Rattle.tq_desk.specs.declared.ask.DeskAsk.TheVariants as asks
 use Rattle.tq_evidence.specs.Evidence.{is_server_of}
-use Rattle.tq_states.specs.declared.fault.TxnFault.{TxnFault}
-use Rattle.tq_states.specs.declared.fault.TxnFault.TheVariants as txn_faults
-use Rattle.tq_states.specs.declared.told.DeskTold.{DeskTold}
-use Rattle.tq_states.specs.Ended.{EndedView, decide_ask}
-use Rattle.tq_states.specs.Open.{HasVoters}
-use Rattle.tq_states.specs.Voting.{VotingView, has_vote, has_votes, ask_fault, prepare_work, ready_fault}
+use Rattle.tq_txn_states.specs.declared.fault.TxnFault.{TxnFault}
+use Rattle.tq_txn_states.specs.declared.fault.TxnFault.TheVariants as txn_faults
+use Rattle.tq_txn_states.specs.declared.told.DeskTold.{DeskTold}
+use Rattle.tq_txn_states.specs.Ended.{EndedView, decide_ask}
+use Rattle.tq_txn_states.specs.Open.{HasVoters}
+use Rattle.tq_txn_states.specs.Voting.{VotingView, has_vote, has_votes, ask_fault, prepare_work, ready_fault}
 use Rattle.tq_txn.specs.declared.applying.Applied.{Applied}
 use Rattle.tq_txn.specs.declared.asker.Exchange.{Exchange}
 use Rattle.tq_txn.specs.declared.asker.Exchange.TheVariants as exchanges
@@ -36,7 +36,7 @@ use Rattle.tq_txn.specs.Aborts.{resolved, ending_of, abort_end, abort_line}
 use Rattle.tq_txn.specs.Commits.{prepares_line, decide_line, decide_and_end_line, commit_end, commit_line}
 use Rattle.tq_txn.specs.Dialogue.{Told, Dialogue, Ends, AsksNode, AsksDesk, AsksView, Makes, Follows, IsUnasked, IsUnended, IsUnfailed, WouldEnd, is_untaken, LineEnd, done, and_then, ended_by, fault_of_ask, fault_of_txn, desk_exchange, view_exchange, node_line, desk_line, view_line}
 use Rattle.tq_live.specs.declared.view.ViewAsk.TheVariants.{Mark}
-use Rattle.tq_states.specs.Voting.{prepare_ask, evidence_of}
+use Rattle.tq_txn_states.specs.Voting.{prepare_ask, evidence_of}
 use Rattle.tq_txn.specs.Lines.{any_line, is_nothing_here, release_line, end_line, ending_line, prepare_line, applied, down_line, stop_line, prepare_stop_line, apply_line}
 use Rattle.tq_txn.specs.States.{number_of}
 use Rattle.tq_txn.proofs.CommitLaws.{missing, there}

@@ -6,16 +6,16 @@ use Rattle.tq_desk.specs.declared.ask.DeskAsk.{DeskAsk}
 use Rattle.tq_txn.specs.declared.asker.Exchange.{Exchange}
 use Rattle.tq_txn.specs.declared.fault.LineFault.{LineFault}
 use Rattle.tq_txn.specs.declared.fault.LineFault.TheVariants as faults
-use Rattle.tq_states.specs.declared.fault.TxnFault.{TxnFault}
-use Rattle.tq_states.specs.declared.fault.TxnFault.TheVariants as txn_faults
-use Rattle.tq_states.specs.declared.told.DeskTold.{DeskTold}
+use Rattle.tq_txn_states.specs.declared.fault.TxnFault.{TxnFault}
+use Rattle.tq_txn_states.specs.declared.fault.TxnFault.TheVariants as txn_faults
+use Rattle.tq_txn_states.specs.declared.told.DeskTold.{DeskTold}
 use Rattle.tq_txn.specs.declared.txn.Txn.{Txn}
 use Rattle.tq_txn.specs.declared.txn.Txn.TheVariants as states
 use Rattle.tq_txn.specs.Commits.{prepares_line, committed, decided, ready_line, decide_line, commit_end, decide_and_end_line, commit_line}
-use Rattle.tq_states.specs.Ended.{EndedView}
+use Rattle.tq_txn_states.specs.Ended.{EndedView}
 use Rattle.tq_txn.specs.Dialogue.{LineEnd, Follows, done, ended_by, fault_of_txn, desk_line}
 use Rattle.tq_txn.specs.Lines.{answers, prepare_line, ending_line}
-use Rattle.tq_states.specs.Voting.{VotingView, has_votes, ready_fault, evidence_of}
+use Rattle.tq_txn_states.specs.Voting.{VotingView, has_votes, ready_fault, evidence_of}
 use Rattle.tq_txn.proofs.LineLaws.{follows_end, follows_answer, follows_on, follows_off}
 
 module _ (servers rest : List Server) (server : Server) (old new : VotingView) (is : servers ≡ server ∷ rest) where

@@ -5,10 +5,10 @@ use Rattle.tq_asks.specs.declared.ask.NodeReply.{NodeReply}
 use Rattle.tq_asks.specs.declared.ask.NodeRefusal.{NodeRefusal}
 use Rattle.tq_desk.specs.declared.ask.DeskReply.{DeskReply}
 use Rattle.tq_live.specs.declared.view.ViewReply.{ViewReply}
-use Rattle.tq_states.specs.declared.fault.TxnFault.{TxnFault}
-use Rattle.tq_states.specs.declared.told.NodeTold.{NodeTold}
-use Rattle.tq_states.specs.Ended.{EndedView, decide_ask}
-use Rattle.tq_states.specs.Voting.{VotingView, has_vote, ask_fault, prepare_ask, vote_fault, vote_after}
+use Rattle.tq_txn_states.specs.declared.fault.TxnFault.{TxnFault}
+use Rattle.tq_txn_states.specs.declared.told.NodeTold.{NodeTold}
+use Rattle.tq_txn_states.specs.Ended.{EndedView, decide_ask}
+use Rattle.tq_txn_states.specs.Voting.{VotingView, has_vote, ask_fault, prepare_ask, vote_fault, vote_after}
 use Rattle.tq_txn.specs.declared.asker.Exchange.{Exchange}
 use Rattle.tq_txn.specs.declared.asker.Exchange.TheVariants as exchanges
 use Rattle.tq_txn.specs.declared.fault.LineFault.{LineFault}

@@ -12,10 +12,10 @@ use Rattle.tq_desk.specs.declared.ask.DeskRefusal.{DeskRefusal}
 use Rattle.tq_desk.specs.declared.ask.DeskRefusal.TheVariants.{Decided}
 use Rattle.tq_desk.specs.declared.ask.DeskReply.{DeskReply}
 use Rattle.tq_desk.specs.declared.ask.DeskReply.TheVariants as replies
-use Rattle.tq_states.specs.declared.told.DeskTold.{DeskTold}
-use Rattle.tq_states.specs.Ended.{verdict_in, verdict_by, commit_verdict, resolve_verdict}
-use Rattle.tq_states.specs.Open.{OpenView}
-use Rattle.tq_states.specs.Voting.{VotingView, evidence_of}
+use Rattle.tq_txn_states.specs.declared.told.DeskTold.{DeskTold}
+use Rattle.tq_txn_states.specs.Ended.{verdict_in, verdict_by, commit_verdict, resolve_verdict}
+use Rattle.tq_txn_states.specs.Open.{OpenView}
+use Rattle.tq_txn_states.specs.Voting.{VotingView, evidence_of}
 use Rattle.tq_txn.specs.declared.asker.Exchange.{Exchange}
 use Rattle.tq_txn.specs.declared.fault.LineFault.{LineFault}
 use Rattle.tq_txn.specs.declared.txn.Txn.{Txn}

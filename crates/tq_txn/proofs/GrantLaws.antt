@@ -18,10 +18,10 @@ use Rattle.tq_asks.specs.declared.ask.NodeReply.TheVariants as replies
 use Rattle.tq_evidence.specs.declared.grant.Grant.{Grant}
 use Rattle.tq_evidence.specs.declared.op.Op.{Op}
 use Rattle.tq_evidence.specs.Evidence.{granters, is_exclusively_granted, is_write, writes_file}
-use Rattle.tq_states.specs.declared.told.NodeTold.{NodeTold}
-use Rattle.tq_states.specs.Cited.{answers_of, grant_told}
-use Rattle.tq_states.specs.Open.{OpenView, IsTouched, has_all_ops, is_member, is_read_of, is_used, is_written, pending, seen, touched_by, written}
-use Rattle.tq_states.proofs.Tested.{a_member, rise_too}
+use Rattle.tq_txn_states.specs.declared.told.NodeTold.{NodeTold}
+use Rattle.tq_txn_states.specs.Cited.{answers_of, grant_told}
+use Rattle.tq_txn_states.specs.Open.{OpenView, IsTouched, has_all_ops, is_member, is_read_of, is_used, is_written, pending, seen, touched_by, written}
+use Rattle.tq_txn_states.proofs.Tested.{a_member, rise_too}
 use Rattle.tq_txn.specs.declared.asker.Exchange.{Exchange}
 use Rattle.tq_txn.specs.declared.fault.LineFault.{LineFault}
 use Rattle.tq_txn.specs.declared.fault.LineFault.TheVariants as faults

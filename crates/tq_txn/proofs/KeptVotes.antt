@@ -8,13 +8,13 @@ use Rattle.tq_asks.specs.declared.ask.NodeAsk.TheVariants.{Work}
 use Rattle.tq_asks.specs.declared.ask.NodeReply.{NodeReply}
 use Rattle.tq_asks.specs.declared.ask.NodeReply.TheVariants.{Yes}
 use Rattle.tq_asks.specs.declared.ask.WorkAsk.TheVariants.{Prepare}
-use Rattle.tq_states.specs.declared.told.NodeTold.{NodeTold}
-use Rattle.tq_states.specs.Sets.{put}
-use Rattle.tq_states.specs.Open.{OpenView}
+use Rattle.tq_txn_states.specs.declared.told.NodeTold.{NodeTold}
+use Rattle.tq_txn_states.specs.Sets.{put}
+use Rattle.tq_txn_states.specs.Open.{OpenView}
 use Rattle.tq_txn.specs.declared.txn.Txn.{Txn}
 use Rattle.tq_txn.specs.declared.txn.Txn.TheVariants as states
 use Rattle.tq_txn.specs.States.{IsEndOf, IsGathered, IsStill}
-use Rattle.tq_states.specs.Voting.{VotingView, IsVotedOn, has_vote, with_vote, voted, voted_by, vote_after}
+use Rattle.tq_txn_states.specs.Voting.{VotingView, IsVotedOn, has_vote, with_vote, voted, voted_by, vote_after}
 
 Contains-first : {X : Type 0} (x : X) (xs : List X) → Contains (x ∷ xs) x
 Contains-first x xs = (0, omega arith, refl)

@@ -9,11 +9,11 @@ use Rattle.tq_part.specs.declared.fault.AskFault.TheVariants as ask_faults
 use Rattle.tq_evidence.specs.declared.grant.Grant.{Grant}
 use Rattle.tq_evidence.specs.declared.op.Op.{Op}
 use Rattle.tq_evidence.specs.declared.vote.Vote.{Vote}
-use Rattle.tq_states.specs.declared.told.NodeTold.{NodeTold}
-use Rattle.tq_states.specs.declared.told.DeskTold.{DeskTold}
-use Rattle.tq_states.specs.Cited.{grant_told, vote_told, IsOpTold, IsVoteTold, CitesOnly, KeepsOnly, VotesOnly}
-use Rattle.tq_states.specs.Open.{OpenView, IsTouched}
-use Rattle.tq_states.specs.Voting.{VotingView}
+use Rattle.tq_txn_states.specs.declared.told.NodeTold.{NodeTold}
+use Rattle.tq_txn_states.specs.declared.told.DeskTold.{DeskTold}
+use Rattle.tq_txn_states.specs.Cited.{grant_told, vote_told, IsOpTold, IsVoteTold, CitesOnly, KeepsOnly, VotesOnly}
+use Rattle.tq_txn_states.specs.Open.{OpenView, IsTouched}
+use Rattle.tq_txn_states.specs.Voting.{VotingView}
 use Rattle.tq_txn.specs.declared.asker.Exchange.{Exchange}
 use Rattle.tq_txn.specs.declared.txn.Txn.{Txn}
 use Rattle.tq_txn.specs.declared.txn.Txn.TheVariants as states

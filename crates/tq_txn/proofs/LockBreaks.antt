@@ -11,10 +11,10 @@ use Rattle.tq_live.specs.declared.view.ViewAsk.TheVariants.{Choose}
 use Rattle.tq_live.specs.declared.view.ViewReply.{ViewReply}
 use Rattle.tq_live.specs.declared.view.ViewReply.TheVariants as view_replies
 use Rattle.tq_locks.specs.declared.mode.Mode.{Mode}
-use Rattle.tq_states.specs.Open.{OpenView, touched_by}
-use Rattle.tq_states.specs.declared.fault.TxnFault.TheVariants.{NotAMember}
-use Rattle.tq_states.specs.declared.told.NodeTold.{NodeTold}
-use Rattle.tq_states.proofs.Tested.{a_member, empty_set}
+use Rattle.tq_txn_states.specs.Open.{OpenView, touched_by}
+use Rattle.tq_txn_states.specs.declared.fault.TxnFault.TheVariants.{NotAMember}
+use Rattle.tq_txn_states.specs.declared.told.NodeTold.{NodeTold}
+use Rattle.tq_txn_states.proofs.Tested.{a_member, empty_set}
 use Rattle.tq_txn.specs.declared.asker.Exchange.{Exchange}
 use Rattle.tq_txn.specs.declared.asker.Exchange.TheVariants as exchanges
 use Rattle.tq_txn.specs.declared.fault.LineFault.{LineFault}

@@ -7,11 +7,11 @@ use Rattle.tq_part.specs.declared.fault.AskFault.TheVariants as ask_faults
 use Rattle.tq_evidence.specs.declared.op.Op.{Op}
 use Rattle.tq_evidence.specs.declared.vote.Vote.{Vote}
 use Rattle.tq_evidence.specs.Evidence.{has_writes, is_server_of}
-use Rattle.tq_states.specs.declared.fault.TxnFault.{TxnFault}
-use Rattle.tq_states.specs.declared.fault.TxnFault.TheVariants as txn_faults
-use Rattle.tq_states.specs.declared.told.NodeTold.{NodeTold}
-use Rattle.tq_states.specs.Open.{ComesOf}
-use Rattle.tq_states.specs.Voting.{VotingView, lost, vote_fault, vote_of, vote_refusal, writes_in}
+use Rattle.tq_txn_states.specs.declared.fault.TxnFault.{TxnFault}
+use Rattle.tq_txn_states.specs.declared.fault.TxnFault.TheVariants as txn_faults
+use Rattle.tq_txn_states.specs.declared.told.NodeTold.{NodeTold}
+use Rattle.tq_txn_states.specs.Open.{ComesOf}
+use Rattle.tq_txn_states.specs.Voting.{VotingView, lost, vote_fault, vote_of, vote_refusal, writes_in}
 use Rattle.tq_txn.specs.declared.asker.Exchange.{Exchange}
 use Rattle.tq_txn.specs.declared.fault.LineFault.{LineFault}
 use Rattle.tq_txn.specs.Dialogue.{IsUnasked, fault_of_ask, fault_of_txn, node_exchange}

@@ -9,11 +9,11 @@ use Rattle.tq_txn.specs.declared.fault.LineFault.TheVariants as faults
 use Rattle.tq_txn.specs.Dialogue.{Dialogue, LineEnd, done, and_then, desk_line, is_commit, fault_of_desk}
 use Rattle.tq_txn.specs.Lines.{answers, ending_line}
 use Rattle.tq_asks.specs.declared.ask.Verdict.{Verdict}
-use Rattle.tq_states.specs.declared.told.DeskTold.{DeskTold}
+use Rattle.tq_txn_states.specs.declared.told.DeskTold.{DeskTold}
 use Rattle.tq_txn.specs.declared.txn.Txn.{Txn}
 use Rattle.tq_txn.specs.declared.txn.Txn.TheVariants as states
-use Rattle.tq_states.specs.Ended.{EndedView, verdict_in, ended_with}
-use Rattle.tq_states.specs.Open.{OpenView}
+use Rattle.tq_txn_states.specs.Ended.{EndedView, verdict_in, ended_with}
+use Rattle.tq_txn_states.specs.Open.{OpenView}
 use Rattle.tq_txn.specs.States.{number_of}
 
 -- a verdict ends the transaction; with none it is as before

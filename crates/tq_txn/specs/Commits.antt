@@ -5,14 +5,14 @@ use Rattle.tq_desk.specs.declared.ask.DeskReply.{DeskReply}
 use Rattle.tq_desk.specs.declared.ask.DeskReply.TheVariants as replies
 use Rattle.tq_txn.specs.declared.fault.LineFault.{LineFault}
 use Rattle.tq_txn.specs.declared.fault.LineFault.TheVariants as faults
-use Rattle.tq_states.specs.declared.fault.TxnFault.TheVariants as txn_faults
-use Rattle.tq_states.specs.declared.told.DeskTold.{DeskTold}
+use Rattle.tq_txn_states.specs.declared.fault.TxnFault.TheVariants as txn_faults
+use Rattle.tq_txn_states.specs.declared.told.DeskTold.{DeskTold}
 use Rattle.tq_txn.specs.declared.txn.Txn.{Txn}
 use Rattle.tq_txn.specs.declared.txn.Txn.TheVariants as states
 use Rattle.tq_txn.specs.Aborts.{resolved}
 use Rattle.tq_txn.specs.Dialogue.{Dialogue, LineEnd, done, failed, and_then, desk_line, fault_of_desk}
 use Rattle.tq_txn.specs.Lines.{answers, prepare_line, ending_line}
-use Rattle.tq_states.specs.Voting.{VotingView, has_votes, evidence_of}
+use Rattle.tq_txn_states.specs.Voting.{VotingView, has_votes, evidence_of}
 
 -- the votes of the servers, in their order; one that is there is not asked for
 abbrev pub prepares_line : List ℕ → VotingView → Dialogue (LineEnd (Unit {0}) VotingView)

@@ -19,10 +19,10 @@ use Rattle.tq_txn.specs.declared.asker.Exchange.TheVariants as exchanges
 use Rattle.tq_txn.specs.declared.asker.ViewTold.{ViewTold}
 use Rattle.tq_txn.specs.declared.fault.LineFault.{LineFault}
 use Rattle.tq_txn.specs.declared.fault.LineFault.TheVariants as faults
-use Rattle.tq_states.specs.declared.fault.TxnFault.{TxnFault}
-use Rattle.tq_states.specs.declared.fault.TxnFault.TheVariants as txn_faults
-use Rattle.tq_states.specs.declared.told.DeskTold.{DeskTold}
-use Rattle.tq_states.specs.declared.told.NodeTold.{NodeTold}
+use Rattle.tq_txn_states.specs.declared.fault.TxnFault.{TxnFault}
+use Rattle.tq_txn_states.specs.declared.fault.TxnFault.TheVariants as txn_faults
+use Rattle.tq_txn_states.specs.declared.told.DeskTold.{DeskTold}
+use Rattle.tq_txn_states.specs.declared.told.NodeTold.{NodeTold}
 
 -- what is told of an ask: the part's reply with the number of its entry, or why it was not taken
 abbrev pub Told : Type 0 → Type 0

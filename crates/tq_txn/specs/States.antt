@@ -2,9 +2,9 @@
 use Rattle.std.specs.Prelude.{◌≡◌, ℕ}
 use Rattle.tq_txn.specs.declared.txn.Txn.{Txn}
 use Rattle.tq_txn.specs.declared.txn.Txn.TheVariants as states
-use Rattle.tq_states.specs.Ended.{EndedView}
-use Rattle.tq_states.specs.Open.{OpenView}
-use Rattle.tq_states.specs.Voting.{VotingView, IsVotedOn}
+use Rattle.tq_txn_states.specs.Ended.{EndedView}
+use Rattle.tq_txn_states.specs.Open.{OpenView}
+use Rattle.tq_txn_states.specs.Voting.{VotingView, IsVotedOn}
 
 -- the number that the desk gave it
 abbrev pub number_of : Txn → ℕ

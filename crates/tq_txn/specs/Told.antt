@@ -3,10 +3,10 @@ use Rattle.std.specs.Prelude.{◌≡◌, ℕ, Bool, true, false, is_some, List, 
 use Rattle.std.specs.List.{All, Contains, filter_map, list_any}
 use Rattle.tq_desk.specs.declared.ask.DeskAsk.{DeskAsk}
 use Rattle.tq_desk.specs.declared.ask.DeskReply.{DeskReply}
-use Rattle.tq_states.specs.declared.told.DeskTold.{DeskTold}
-use Rattle.tq_states.specs.declared.told.NodeTold.{NodeTold}
-use Rattle.tq_states.specs.Cited.{CitesOnly, KeepsOnly, VotesOnly}
-use Rattle.tq_states.specs.Ended.{EndedView, verdict_by, verdict_in}
+use Rattle.tq_txn_states.specs.declared.told.DeskTold.{DeskTold}
+use Rattle.tq_txn_states.specs.declared.told.NodeTold.{NodeTold}
+use Rattle.tq_txn_states.specs.Cited.{CitesOnly, KeepsOnly, VotesOnly}
+use Rattle.tq_txn_states.specs.Ended.{EndedView, verdict_by, verdict_in}
 use Rattle.tq_txn.specs.declared.asker.Exchange.{Exchange}
 use Rattle.tq_txn.specs.declared.asker.Exchange.TheVariants as exchanges
 use Rattle.tq_txn.specs.declared.txn.Txn.{Txn}

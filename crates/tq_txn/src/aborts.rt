@@ -1,9 +1,9 @@
 ghost use Rattle.std.specs.Prelude.{◌≡◌, Some};
-ghost use Rattle.tq_states.specs.Ended as ending;
 ghost use Rattle.tq_txn.specs.Aborts as spec;
 ghost use Rattle.tq_txn.specs.Dialogue as line;
 ghost use Rattle.tq_txn.specs.States as states;
 ghost use Rattle.tq_txn.specs.Told.{EndsAsTold, EndsWhereTold, Knows};
+ghost use Rattle.tq_txn_states.specs.Ended as ending;
 
 use crate::endings::end_at_each;
 use crate::fault::is_commit;

@@ -3,13 +3,13 @@ ghost use Rattle.std.specs.List.{list_all};
 ghost use Rattle.tq_coterie.specs.Coterie.{numbers_of};
 ghost use Rattle.tq_desk.specs.DeskStep as log;
 ghost use Rattle.tq_evidence.specs.declared.vote.Vote.{Vote};
-ghost use Rattle.tq_states.specs.Ended as ending;
-ghost use Rattle.tq_states.specs.Open.{HasVoters};
-ghost use Rattle.tq_states.specs.Voting.{IsVotedOn, evidence_of};
 ghost use Rattle.tq_txn.specs.Commits as spec;
 ghost use Rattle.tq_txn.specs.Dialogue as line;
 ghost use Rattle.tq_txn.specs.States as states;
 ghost use Rattle.tq_txn.specs.Told.{CitesSince, EndsAsTold, EndsWhereTold, Knows};
+ghost use Rattle.tq_txn_states.specs.Ended as ending;
+ghost use Rattle.tq_txn_states.specs.Open.{HasVoters};
+ghost use Rattle.tq_txn_states.specs.Voting.{IsVotedOn, evidence_of};
 
 use crate::aborts::resolved_voting;
 use crate::endings::{end_at_each, prepare_at};

@@ -1,21 +1,21 @@
 ghost use Rattle.std.specs.Prelude.{◌≡◌, ◌==◌, ◌++◌, ◌≤◌, [], ◌∷◌, true, false, List, Some, None, Ok, IfOk, OnErr};
 ghost use Rattle.std.specs.List.{list_all};
 ghost use Rattle.tq_coterie.specs.Coterie.{numbers_of};
-ghost use Rattle.tq_states.specs.Ballots.{with_ballots};
-ghost use Rattle.tq_states.specs.Cited.{VotesOnly};
-ghost use Rattle.tq_states.specs.Ended.{decide_ask};
-ghost use Rattle.tq_states.specs.Voting.{IsVotedOn, IsVoting, has_vote};
 ghost use Rattle.tq_txn.specs.Dialogue as line;
 ghost use Rattle.tq_txn.specs.Lines as spec;
 ghost use Rattle.tq_txn.specs.Told.{Knows};
 ghost use Rattle.tq_txn.specs.declared.asker.Exchange.{Exchange};
 ghost use Rattle.tq_txn.specs.declared.txn.Txn.TheVariants as states;
+ghost use Rattle.tq_txn_states.specs.Ballots.{with_ballots};
+ghost use Rattle.tq_txn_states.specs.Cited.{VotesOnly};
+ghost use Rattle.tq_txn_states.specs.Ended.{decide_ask};
+ghost use Rattle.tq_txn_states.specs.Voting.{IsVotedOn, IsVoting, has_vote};
 
 use crate::{Applied, AskFault, Asker, Ended, LineFault, NodeTold, Voting};
 use std::alloc::{AllocError, Global};
 use tq_asks::{NodeAsk, NodeRefusal, NodeReply, Verdict, WorkAsk};
 use tq_shape::{Memory, Part, ServerId, Shared};
-use tq_states::Ballots;
+use tq_txn_states::Ballots;
 
 /// The refusal, where the reply is one.
 fn refusal_in(reply: &NodeReply) -> Option<NodeRefusal>

@@ -26,5 +26,5 @@ pub use operations::{read_file, write_file};
 pub use reading::Reading;
 pub use stops::{prepare_stopping, stop_at};
 pub use tq_part::{Answered, AskFault};
-pub use tq_states::{DeskTold, Ended, NodeTold, Open, Ready, TxnFault, Voting};
+pub use tq_txn_states::{DeskTold, Ended, NodeTold, Open, Ready, TxnFault, Voting};
 pub use txn::{Abortion, Decision, Txn};

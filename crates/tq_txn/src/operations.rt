@@ -2,12 +2,12 @@ ghost use Rattle.std.specs.List.{list_all, Contains};
 ghost use Rattle.std.specs.Prelude.{◌≡◌, ◌==◌, ◌+◌, ◌<◌, ◌≤◌, ℕ, List, [], ◌∷◌, Ok, Err, true, length, vec_len, vec_capacity, IfOk, OnErr, OnOk, ◌++◌, false};
 ghost use Rattle.tq_coterie.specs.Coterie.{numbers_of};
 ghost use Rattle.tq_evidence.specs.Evidence.{granters};
-ghost use Rattle.tq_states.specs.Cited.{answers_of, grant_told};
-ghost use Rattle.tq_states.specs.Open as open_spec;
 ghost use Rattle.tq_txn.specs.Dialogue as line;
 ghost use Rattle.tq_txn.specs.Lines as spec;
 ghost use Rattle.tq_txn.specs.Told.{AreTold, Knows, answers_in};
 ghost use Rattle.tq_txn.specs.declared.txn.Txn.TheVariants as states;
+ghost use Rattle.tq_txn_states.specs.Cited.{answers_of, grant_told};
+ghost use Rattle.tq_txn_states.specs.Open as open_spec;
 
 use crate::{Asker, LineFault, NodeTold, Open, Reading, TxnFault};
 use std::alloc::Global;
@@ -17,8 +17,8 @@ use tq_evidence::Grant;
 use tq_live::{Purpose, ViewAsk, ViewReply};
 use tq_locks::Mode;
 use tq_shape::{Levels, Memory, Part, Seq, ServerId, Shared};
-use tq_states::Noting;
 use tq_store::{Content, FileCopy, FileName};
+use tq_txn_states::Noting;
 
 /// Whether the servers are of a tree of these levels.
 fn are_of(levels: Levels, servers: &[ServerId]) -> bool

@@ -26,8 +26,8 @@ use Rattle.tq_desk.specs.DeskStep as log
 use Rattle.tq_desk.specs.DeskJournal.{gives_verdict}
 use Rattle.tq_asks.specs.Same.{same_verdict}
 use Rattle.tq_world.specs.Founded.{cites, cites_votes, is_granted, is_voted, is_peeked, is_ended}
-use Rattle.tq_alike.specs.Same.{same_mode, same_lock, same_write}
-use Rattle.tq_alike.proofs.Equal.{work-is, node_reply-is, desk_reply-is}
+use Rattle.tq_equality.specs.Same.{same_mode, same_lock, same_write}
+use Rattle.tq_equality.proofs.Equal.{work-is, node_reply-is, desk_reply-is}
 
 -- lists whose items are the same in pairs
 pairs-is : {A B : Type 0} (test : A → B → Bool) (f : B → A) → ((a : A) (b : B) → test a b ≡ true → a ≡ f b) → (xs : List A) (ys : List B) → pointwise test xs ys ≡ true → xs ≡ map f ys

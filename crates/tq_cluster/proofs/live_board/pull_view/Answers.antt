@@ -2,8 +2,8 @@ use Rattle.std.proofs.Common.{◌≡◌, length, max, refl, ap, arith, rules}
 use Rattle.std.specs.Prelude.{IfErr}
 use Rattle.tq_cells.specs.Passes.{last_behind}
 use Rattle.tq_shape.specs.declared.part.Part.TheVariants as parts
-use Rattle.tq_prefixes.specs.declared.entries.Entries.TheVariants as entries
-use Rattle.tq_prefixes.specs.declared.fault.PullFault.TheVariants as faults
+use Rattle.tq_mirror.specs.declared.entries.Entries.TheVariants as entries
+use Rattle.tq_mirror.specs.declared.fault.PullFault.TheVariants as faults
 use Rattle.tq_cluster.proofs.Seen.{memory_fault}
 use Rattle.tq_cluster.proofs.Came.{pull-ok, took_none}
 use Rattle.tq_cluster.proofs.live_board.pull_view.Goals as goal

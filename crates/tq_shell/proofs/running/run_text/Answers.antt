@@ -1,6 +1,6 @@
 use Rattle.std.proofs.Common.{◌≤◌, List, length, sym, subst, arith}
-use Rattle.tq_lines.specs.declared.script.Line.{Line}
-use Rattle.tq_lines.specs.Scripts.{said_lines}
+use Rattle.tq_syntax.specs.declared.script.Line.{Line}
+use Rattle.tq_syntax.specs.Scripts.{said_lines}
 use Rattle.tq_shell.proofs.BadLine.{bad_line}
 use Rattle.tq_shell.proofs.FewScripts.{few_scripts}
 use Rattle.tq_shell.proofs.running.run_text.Goals as goal

@@ -1,5 +1,5 @@
 use Rattle.std.proofs.Common.{◌≡◌, ◌++◌, drop}
-use Rattle.tq_print.specs.Print.{numbers_text}
+use Rattle.tq_text.specs.Print.{numbers_text}
 use Rattle.tq_shell.proofs.verdict.push_counts.Given as goal
 
 -- the text so far and the numbers that are left are the whole text

@@ -6,7 +6,7 @@ use Rattle.tq_txn.specs.Aborts.{abort_end, resolved}
 use Rattle.tq_txn.proofs.ToldLaws.{grown_along, ends_as_told, ends_unasked}
 use Rattle.tq_txn.proofs.KeptVotes.{still_same}
 use Rattle.std.proofs.Common.{◌≡◌, is_some, true, refl, sym, ap, ◌∙◌, subst}
-use Rattle.tq_states.specs.Ended.{verdict_in}
+use Rattle.tq_txn_states.specs.Ended.{verdict_in}
 use Rattle.tq_txn.specs.States.{number_of, levels_of, IsStill}
 use Rattle.tq_txn.specs.Told.{IsAnswered, is_ended}
 use Rattle.tq_txn.proofs.Deskless.{deskless_untold, deskless_abort_end}

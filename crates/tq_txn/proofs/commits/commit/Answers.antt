@@ -1,6 +1,6 @@
 use Rattle.tq_txn.proofs.Deskless.{deskless_cites, deskless_untold, deskless_prepares, deskless_commit_end}
 use Rattle.tq_txn.proofs.EndLaws.{ends_nothing, ends_after, ends_before}
-use Rattle.tq_states.specs.Open.{OpenView}
+use Rattle.tq_txn_states.specs.Open.{OpenView}
 use Rattle.tq_txn.proofs.KnownLaws.{cites_on}
 use Rattle.tq_txn.specs.declared.txn.Txn.TheVariants as states
 use Rattle.tq_txn.specs.Told.{EndsAsTold, EndsWhereTold}

@@ -1,4 +1,4 @@
-use Rattle.tq_states.specs.Cited.{VotesOnly}
+use Rattle.tq_txn_states.specs.Cited.{VotesOnly}
 use Rattle.tq_txn.specs.Told.{answers_in}
 use Rattle.tq_txn.specs.Dialogue.{desk_exchange}
 use Rattle.std.proofs.Common.{Ok, Err, refl}
@@ -12,9 +12,9 @@ use Rattle.tq_txn.specs.Commits.{decide_line}
 use Rattle.tq_txn.proofs.BreakLaws.{decide_unended, missing_unended, unfailed_never}
 use Rattle.tq_txn.proofs.CommitLaws.{decide_ready, ready_on}
 use Rattle.tq_txn.proofs.EndLaws.{resolved_answered, resolved_still, resolved_levels, resolved_ends, ends_nothing, ends_refused, ends_answered, unasked_refused, unasked_answered}
-use Rattle.tq_states.specs.Voting.{VotingView}
+use Rattle.tq_txn_states.specs.Voting.{VotingView}
 use Rattle.std.proofs.Common.{◌≡◌, is_some, true, [], sym, subst, append-nil, ap}
-use Rattle.tq_states.specs.Ended.{verdict_in}
+use Rattle.tq_txn_states.specs.Ended.{verdict_in}
 use Rattle.tq_txn.proofs.ToldLaws.{ends_as_told}
 use Rattle.std.proofs.Common.{◌∙◌}
 use Rattle.tq_txn.proofs.KeptVotes.{voted_on_same}

@@ -1,5 +1,5 @@
 use Rattle.std.proofs.Common.{◌∙◌, ap, sym}
-use Rattle.tq_states.specs.Voting.{VotingView}
+use Rattle.tq_txn_states.specs.Voting.{VotingView}
 use Rattle.tq_txn.specs.Aborts.{resolved_by}
 use Rattle.tq_txn.specs.declared.txn.Txn.TheVariants as states
 use Rattle.tq_txn.proofs.EndLaws.{commit_told}

@@ -5,7 +5,7 @@ use Rattle.std.specs.List.{list_all}
 use Rattle.std.specs.Prelude.{Option, Result}
 use Rattle.tq_coterie.specs.Coterie.{numbers_of}
 use Rattle.tq_shape.specs.Tree.{Server}
-use Rattle.tq_states.specs.Voting.{VotingView}
+use Rattle.tq_txn_states.specs.Voting.{VotingView}
 use Rattle.tq_txn.specs.Dialogue.{Follows, IsUnfailed, LineEnd, ended_by}
 use Rattle.tq_txn.specs.Commits.{prepares_line}
 use Rattle.tq_txn.specs.declared.fault.LineFault.{LineFault}

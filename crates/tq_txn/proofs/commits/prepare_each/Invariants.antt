@@ -2,7 +2,7 @@ use Rattle.std.proofs.Common.{◌≡◌, ◌==◌, List, true, drop}
 use Rattle.std.specs.List.{list_all}
 use Rattle.std.specs.Prelude.{Option, Result}
 use Rattle.tq_coterie.specs.Coterie.{numbers_of}
-use Rattle.tq_states.specs.Voting.{IsVotedOn, VotingView}
+use Rattle.tq_txn_states.specs.Voting.{IsVotedOn, VotingView}
 use Rattle.tq_txn.specs.declared.fault.LineFault.{LineFault}
 use Rattle.tq_txn.specs.Dialogue.{Follows, IsUnfailed, LineEnd}
 use Rattle.tq_txn.specs.Commits.{prepares_line}

@@ -1,5 +1,5 @@
 use Rattle.std.proofs.Common.{◌∙◌, ap, sym}
-use Rattle.tq_states.specs.Ended.{commit_verdict}
+use Rattle.tq_txn_states.specs.Ended.{commit_verdict}
 use Rattle.tq_txn.proofs.commits.ruling_in.Goals as goal
 
 pub returns-in-Refused-clause-verdict : goal.returns-in-Refused-clause-verdict

@@ -1,7 +1,7 @@
 use Rattle.std.proofs.Common.{◌≡◌, false, List, Err, refl, ap, ◌∙◌, sym, subst}
-use Rattle.tq_states.specs.Cited.{VotesOnly}
-use Rattle.tq_states.specs.declared.told.NodeTold.{NodeTold}
-use Rattle.tq_states.specs.Voting.{VotingView, IsVotedOn, IsVoting, has_vote}
+use Rattle.tq_txn_states.specs.Cited.{VotesOnly}
+use Rattle.tq_txn_states.specs.declared.told.NodeTold.{NodeTold}
+use Rattle.tq_txn_states.specs.Voting.{VotingView, IsVotedOn, IsVoting, has_vote}
 use Rattle.tq_txn.specs.declared.txn.Txn.TheVariants as states
 use Rattle.tq_txn.specs.Dialogue.{Follows, IsUnfailed, ended_by, node_exchange}
 use Rattle.tq_txn.specs.declared.fault.LineFault.TheVariants.{Memory}

@@ -1,5 +1,5 @@
 use Rattle.std.proofs.Common.{◌∙◌, sym}
-use Rattle.tq_states.specs.Ballots.{with_ballots}
+use Rattle.tq_txn_states.specs.Ballots.{with_ballots}
 use Rattle.tq_txn.proofs.KnownLaws.{knows_voted}
 use Rattle.tq_txn.proofs.KeptVotes.{voted_on_same, voted_on_after}
 use Rattle.tq_txn.proofs.LineLaws.{vote_refused}

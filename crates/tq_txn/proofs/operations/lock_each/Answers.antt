@@ -6,9 +6,9 @@ use Rattle.std.specs.Prelude.{Option}
 use Rattle.tq_coterie.specs.Coterie.{numbers_of}
 use Rattle.tq_shape.specs.Tree.{Server}
 use Rattle.tq_evidence.specs.Evidence.{granters}
-use Rattle.tq_states.specs.Cited.{answers_of}
-use Rattle.tq_states.specs.Open.{CanNote, noted}
-use Rattle.tq_states.proofs.NotedLaws.{can_note_first, can_note_none}
+use Rattle.tq_txn_states.specs.Cited.{answers_of}
+use Rattle.tq_txn_states.specs.Open.{CanNote, noted}
+use Rattle.tq_txn_states.proofs.NotedLaws.{can_note_first, can_note_none}
 use Rattle.tq_txn.specs.Dialogue.{Follows, LineEnd, ended_by}
 use Rattle.tq_txn.specs.Lines.{LocksView, locks_line}
 use Rattle.tq_txn.proofs.GrantLaws.{servers_left}

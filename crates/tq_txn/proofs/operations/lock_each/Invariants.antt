@@ -3,8 +3,8 @@ use Rattle.std.specs.List.{list_all}
 use Rattle.std.specs.Prelude.{Option, Result}
 use Rattle.tq_coterie.specs.Coterie.{numbers_of}
 use Rattle.tq_evidence.specs.Evidence.{granters}
-use Rattle.tq_states.specs.Cited.{answers_of}
-use Rattle.tq_states.specs.Open.{CanNote, IsTouched, noted}
+use Rattle.tq_txn_states.specs.Cited.{answers_of}
+use Rattle.tq_txn_states.specs.Open.{CanNote, IsTouched, noted}
 use Rattle.tq_txn.specs.declared.fault.LineFault.{LineFault}
 use Rattle.tq_txn.specs.Dialogue.{Follows, IsUnfailed, LineEnd}
 use Rattle.tq_txn.specs.Lines.{AreOf, LocksView, lock_ask, locks_line}

@@ -1,8 +1,8 @@
 use Rattle.std.proofs.Common.{ℕ, Some, Ok, refl, subst}
 use Rattle.std.specs.List.{Contains}
-use Rattle.tq_states.specs.Cited.{answers_of, grant_told}
-use Rattle.tq_states.specs.Open.{noted}
-use Rattle.tq_states.proofs.NotedLaws.{can_note_rest}
+use Rattle.tq_txn_states.specs.Cited.{answers_of, grant_told}
+use Rattle.tq_txn_states.specs.Open.{noted}
+use Rattle.tq_txn_states.proofs.NotedLaws.{can_note_rest}
 use Rattle.tq_txn.specs.Lines.{LocksView, grant_answer, lock_line}
 use Rattle.tq_txn.specs.Told.{answers_in}
 use Rattle.tq_txn.specs.Dialogue.{Follows, ended_by}

@@ -3,7 +3,7 @@ use Rattle.std.proofs.lemmas.List.Elements.{All-nil}
 use Rattle.std.specs.List.{Contains}
 use Rattle.std.proofs.Common.{◌≡◌, ◌==◌, ◌∙◌, ◌++◌, ℕ, List, [], true, refl, sym, ap, subst, Option, Some, Ok, Err}
 use Rattle.std.specs.List.{list_all}
-use Rattle.tq_states.specs.declared.told.NodeTold.{NodeTold}
+use Rattle.tq_txn_states.specs.declared.told.NodeTold.{NodeTold}
 use Rattle.tq_txn.specs.declared.fault.LineFault.TheVariants.{Memory}
 use Rattle.tq_coterie.specs.Coterie.{numbers_of}
 use Rattle.tq_locks.specs.declared.mode.Mode.{Mode}
@@ -12,14 +12,14 @@ use Rattle.tq_txn.specs.Dialogue.{Follows, LineEnd, ended_by}
 use Rattle.tq_txn.specs.Lines.{AreOf, LocksView, lock_ask, locks_line, quorum_line}
 use Rattle.tq_evidence.specs.declared.grant.Grant.{Grant}
 use Rattle.tq_evidence.specs.Evidence.{granters}
-use Rattle.tq_states.specs.Cited.{answers_of}
-use Rattle.tq_states.specs.Open.{OpenView, IsTouched, noted}
+use Rattle.tq_txn_states.specs.Cited.{answers_of}
+use Rattle.tq_txn_states.specs.Open.{OpenView, IsTouched, noted}
 use Rattle.tq_txn.proofs.GrantLaws.{member_of}
 use Rattle.tq_txn.specs.Dialogue.{IsUnfailed}
 use Rattle.tq_txn.specs.Lines.{grants_answer}
 use Rattle.tq_txn.proofs.LockBreaks.{quorum_same, quorum_unchosen, quorum_unfailed, quorum_unlocked}
 use Rattle.tq_txn.proofs.LineLaws.{follows_memory, quorum_off, quorum_stopped, quorum_locked}
-use Rattle.tq_states.proofs.Tested.{of_tree}
+use Rattle.tq_txn_states.proofs.Tested.{of_tree}
 use Rattle.tq_txn.proofs.operations.lock_quorum.Goals as goal
 
 -- the locks begin with the transaction that gave out its set, as it was before

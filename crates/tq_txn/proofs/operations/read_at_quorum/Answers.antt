@@ -1,5 +1,5 @@
 use Rattle.tq_txn.specs.Told.{AreTold, answers_in}
-use Rattle.tq_states.specs.Cited.{KeepsOnly, answers_of}
+use Rattle.tq_txn_states.specs.Cited.{KeepsOnly, answers_of}
 use Rattle.std.proofs.lemmas.List.Elements.{All-contains_itself}
 use Rattle.std.proofs.Common.{sym, subst, ap, ◌∙◌}
 use Rattle.tq_txn.proofs.KnownLaws.{knows_touched, knows_taken}
@@ -7,9 +7,9 @@ use Rattle.tq_txn.proofs.ToldLaws.{grown_along}
 use Rattle.std.proofs.Common.{Some, Ok, Err, refl}
 use Rattle.tq_evidence.specs.declared.op.OpKind.TheVariants as kinds
 use Rattle.tq_locks.specs.declared.mode.Mode.TheVariants.{Shared}
-use Rattle.tq_states.specs.Open.{read_copy, read_op, taken}
-use Rattle.tq_states.specs.declared.fault.TxnFault.TheVariants as txn_faults
-use Rattle.tq_states.proofs.Granted.{any_fit, grants_again, read_as_told}
+use Rattle.tq_txn_states.specs.Open.{read_copy, read_op, taken}
+use Rattle.tq_txn_states.specs.declared.fault.TxnFault.TheVariants as txn_faults
+use Rattle.tq_txn_states.proofs.Granted.{any_fit, grants_again, read_as_told}
 use Rattle.tq_txn.specs.declared.fault.LineFault.TheVariants.{Memory}
 use Rattle.tq_txn.specs.declared.reading.Reading.{Reading}
 use Rattle.tq_txn.specs.declared.reading.Reading.TheVariants.{Copy}

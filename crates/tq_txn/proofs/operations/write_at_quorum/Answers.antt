@@ -1,5 +1,5 @@
 use Rattle.tq_txn.specs.Told.{AreTold, answers_in}
-use Rattle.tq_states.specs.Cited.{KeepsOnly, answers_of}
+use Rattle.tq_txn_states.specs.Cited.{KeepsOnly, answers_of}
 use Rattle.std.proofs.lemmas.List.Elements.{All-contains_itself}
 use Rattle.std.proofs.Common.{ℕ, sym, subst, ap, ◌∙◌, ◌+◌}
 use Rattle.tq_txn.proofs.KnownLaws.{knows_touched, knows_taken}
@@ -8,8 +8,8 @@ use Rattle.std.proofs.Common.{Some, Ok, Err, refl}
 use Rattle.tq_evidence.specs.Evidence.{greatest}
 use Rattle.tq_evidence.specs.declared.op.OpKind.TheVariants as kinds
 use Rattle.tq_locks.specs.declared.mode.Mode.TheVariants.{Exclusive}
-use Rattle.tq_states.specs.Open.{ComesOf, taken, write_op}
-use Rattle.tq_states.proofs.Granted.{grants_again, write_as_told}
+use Rattle.tq_txn_states.specs.Open.{ComesOf, taken, write_op}
+use Rattle.tq_txn_states.proofs.Granted.{grants_again, write_as_told}
 use Rattle.tq_txn.specs.Dialogue.{ended_by}
 use Rattle.tq_txn.specs.Lines.{grants_answer, quorum_line, write_end}
 use Rattle.tq_txn.proofs.GrantLaws.{all_exclusive, same_answers, still_few, still_member, still_unwritten}

@@ -1,7 +1,7 @@
 use Rattle.std.proofs.Common.{◌∙◌, ap, sym, subst}
 use Rattle.tq_shape.specs.declared.part.Part.TheVariants as parts
 use Rattle.tq_tables.specs.Journals.{JournalsView}
-use Rattle.tq_prefixes.specs.Prefixes.{IsPullFault}
+use Rattle.tq_mirror.specs.Prefixes.{IsPullFault}
 use Rattle.tq_cluster.specs.Told.{CallerView, seen_of}
 use Rattle.tq_cluster.specs.Pulls.{Continues}
 use Rattle.tq_cluster.proofs.Seen.{sees-on-after}

@@ -1,6 +1,6 @@
 use Rattle.std.proofs.Common.{◌≡◌, ◌∙◌, ◌++◌, length, ap, arith}
-use Rattle.tq_lines.specs.Line.{line_of}
-use Rattle.tq_answering.specs.Answer.{answer}
+use Rattle.tq_syntax.specs.Line.{line_of}
+use Rattle.tq_interpreter.specs.Answer.{answer}
 use Rattle.tq_session.proofs.Pieces.{line-whole, no-bytes}
 use Rattle.tq_session.proofs.receiver.Receiver.end_line.Goals as goal
 

@@ -1,6 +1,6 @@
 use Rattle.std.proofs.Common.{◌≡◌, ◌∙◌, ◌++◌, ℕ, List, [], ◌∷◌, refl, ap}
-use Rattle.tq_lines.specs.Line.{line_of}
-use Rattle.tq_answering.specs.Answer.{World, answer}
+use Rattle.tq_syntax.specs.Line.{line_of}
+use Rattle.tq_interpreter.specs.Answer.{World, answer}
 use Rattle.tq_session.specs.Stream.{answer_to_rest}
 use Rattle.tq_session.proofs.receiver.Receiver.finish.Goals as goal
 

@@ -1,0 +1,51 @@
+-- Lists of words, and lines of servers upwards.
+use Rattle.std.proofs.Common.{◌≡◌, ℕ, suc, ◌+◌, ◌-◌, ◌<◌, List, [], ◌∷◌, ◌++◌, map, refl, sym, ap, ◌∙◌, arith, append_assoc}
+use Rattle.std.proofs.lemmas.List.{append-nil}
+use Rattle.std.specs.Fmt.{decimal}
+use Rattle.std.specs.List.{flat_map}
+use Rattle.tq_shape.specs.Tree.{Server}
+use Rattle.tq_shape.specs.ServerSet.{numbered}
+use Rattle.tq_coterie.specs.Coterie.{numbers_of}
+use Rattle.tq_live.specs.Live.{Live}
+use Rattle.tq_live.specs.View.{upwards}
+use Rattle.tq_tables.specs.Tables.{TablesView}
+use Rattle.tq_board_text.specs.Board.{spaced, listed, server_line, servers_text}
+
+-- where there is a word, no `-` is printed
+pub listed_words : {A : Type 0} (word : A → List ℕ) (items : List A) → (items ≡ [] → ⊥) → listed (map word items) ≡ spaced (map word items)
+listed_words word [] some = absurd (some refl)
+listed_words word (first ∷ rest) some = refl
+
+-- the servers of a set have its numbers
+pub numbers_of-numbered : (levels : ℕ) (numbers : List ℕ) → numbers_of (numbered levels numbers) ≡ numbers
+numbers_of-numbered levels [] = refl
+numbers_of-numbered levels (first ∷ rest) = ap (λ more. first ∷ more) (numbers_of-numbered levels rest)
+
+-- a set whose last server was written
+pub set_written : (text old : List ℕ) (left servers : List Server) (levels : ℕ) (numbers : List ℕ) → text ++ spaced (map decimal (numbers_of left)) ≡ old ++ spaced (map decimal (numbers_of servers)) → left ≡ [] → servers ≡ numbered levels numbers → (numbers ≡ [] → ⊥) → text ≡ old ++ servers_text numbers
+set_written text old left servers levels numbers all none are some =
+    sym (append-nil text)
+    ∙ ap (λ left. text ++ spaced (map decimal (numbers_of left))) (sym none)
+    ∙ all
+    ∙ ap (λ servers. old ++ spaced (map decimal (numbers_of servers))) are
+    ∙ ap (λ numbers. old ++ spaced (map decimal numbers)) (numbers_of-numbered levels numbers)
+    ∙ ap (λ words. old ++ words) (sym (listed_words decimal numbers some))
+
+-- a number, and those behind it
+upwards_step : (number past : ℕ) → number < past → upwards number (past - number) ≡ number ∷ upwards (number + 1) (past - (number + 1))
+upwards_step number past before =
+    let more : past - number ≡ suc (past - (number + 1)) = omega arith in
+    ap (upwards number) more
+
+-- one more line was written, and the lines behind it are left
+pub line_written : (line : ℕ → List ℕ) (text next total : List ℕ) (number past : ℕ) → number < past → text ++ flat_map line (upwards number (past - number)) ≡ total → next ≡ text ++ line number → next ++ flat_map line (upwards (number + 1) (past - (number + 1))) ≡ total
+line_written line text next total number past before all is =
+    let left = flat_map line (upwards (number + 1) (past - (number + 1))) in
+    ap (λ next. next ++ left) is ∙ append_assoc text (line number) left ∙ sym (ap (λ numbers. text ++ flat_map line numbers) (upwards_step number past before)) ∙ all
+
+-- the line of a server, from the tree of the view and its number
+pub server_line_is : (tables : TablesView) (view tree : Live) (server number : ℕ) (text next : List ℕ) → next ≡ text ++ server_line tables tree server → tree ≡ view → server ≡ number → next ≡ text ++ server_line tables view number
+server_line_is tables view tree server number text next is live same =
+    is
+    ∙ ap (λ tree. text ++ server_line tables tree server) live
+    ∙ ap (λ server. text ++ server_line tables view server) same

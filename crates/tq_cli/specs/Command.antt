@@ -1,0 +1,127 @@
+-- The words of the command line, as clap reads them.
+use Rattle.std.specs.Prelude.{◌≡◌, ◌⊎◌, ◌≤◌, ℕ, Bool, true, false, List, [], map, String, Option, Some, None, pos, codes}
+use Rattle.std.specs.Str.Parse.{digits_value, without_leading_plus}
+use Rattle.clap.specs.Words.{App, IsAmong, IsSignedIn, Row, Rule, Text, fault_of, kind_of, new_app, new_rule, one_of, subcommand_of, with_rule, without_minus, with_subcommand}
+use Rattle.clap.specs.Simple.{on_top}
+use Rattle.clap.specs.declared.builder.action.ArgAction.TheVariants.{Set}
+use Rattle.clap.specs.declared.builder.value_parser.ValueParser.TheVariants as vp
+use Rattle.clap.specs.declared.error.Error.{Error}
+use Rattle.clap.specs.declared.error.kind.ErrorKind.{ErrorKind}
+use Rattle.clap.specs.declared.error.kind.ErrorKind.TheVariants.{OutOfMemory}
+use Rattle.std.specs.String.{string_bytes}
+use Rattle.tq_cli.specs.declared.command.Words.{Words}
+use Rattle.tq_cli.specs.declared.command.Words.TheVariants.{Shell, Threads, Audit, Upgrade}
+use Rattle.tq_cli.specs.declared.command.WordsFault.{WordsFault}
+use Rattle.tq_cli.specs.declared.command.WordsFault.TheVariants.{Memory, Refused}
+
+-- an option that is given a number in a range
+abbrev pub number_rule : Text → ℕ → ℕ → Bool → Rule
+number_rule name least most is_required = record (new_rule name) {
+  long = Some name;
+  value_names = 1;
+  action = Some Set;
+  parser = Some (vp.Signed (pos least) (pos most));
+  required = is_required;
+}
+
+abbrev pub levels_rule : Rule
+levels_rule = number_rule (codes "levels") 1 10 true
+
+abbrev pub workers_rule : Rule
+workers_rule = number_rule (codes "workers") 0 2 false
+
+abbrev pub rounds_rule : Rule
+rounds_rule = number_rule (codes "rounds") 0 1000 false
+
+-- `shell --levels N`
+abbrev pub shell_app : App
+shell_app = with_rule (new_app (codes "shell")) levels_rule
+
+-- `threads --levels N [--workers W] [--rounds R]`
+abbrev pub threads_app : App
+threads_app = with_rule (with_rule (with_rule (new_app (codes "threads")) levels_rule) workers_rule) rounds_rule
+
+-- `audit`, which has no options
+abbrev pub audit_app : App
+audit_app = new_app (codes "audit")
+
+-- `upgrade`, which has none either
+abbrev pub upgrade_app : App
+upgrade_app = new_app (codes "upgrade")
+
+-- the program without its subcommands, of which one is wanted
+abbrev pub top_app : App
+top_app = on_top (λ top. record top { has_version = true; disable_help_subcommand = true; subcommand_required = true }) (new_app (codes "tq"))
+
+-- the program's words: a subcommand with its options
+abbrev pub tq_app : App
+tq_app = with_subcommand (with_subcommand (with_subcommand (with_subcommand top_app shell_app.top) threads_app.top) audit_app.top) upgrade_app.top
+
+-- the number that was given under this name
+abbrev pub IsGiven : Text → List Row → ℕ → Type 0
+IsGiven name rows number = (text : Text) × (one_of name rows ≡ Some text) × (number ≡ digits_value 10 (without_leading_plus text))
+
+-- the number that a text spells, and 0 where there is no text
+abbrev pub number_or_zero : Option Text → ℕ
+number_or_zero None = 0
+number_or_zero (Some text) = digits_value 10 (without_leading_plus text)
+
+-- the number that was given under this name, which is not above the most, or 0 where none was given
+abbrev pub IsGivenOrZero : Text → ℕ → List Row → ℕ → Type 0
+IsGivenOrZero name most rows number = (number ≡ number_or_zero (one_of name rows)) × (number ≤ most)
+
+-- a number in the range was given under this name
+abbrev pub HasNumber : Text → ℕ → ℕ → List Row → Type 0
+HasNumber name least most rows = (text : Text) × (one_of name rows ≡ Some (without_minus text)) × IsSignedIn (pos least) (pos most) text
+
+-- no number was given under this name, or one that is not above the most
+abbrev pub MayHaveNumber : Text → ℕ → List Row → Type 0
+MayHaveNumber name most rows = (one_of name rows ≡ None) ⊎ HasNumber name 0 most rows
+
+-- the options of `threads` say this
+abbrev pub AreGiven : List Row → ℕ → ℕ → ℕ → Type 0
+AreGiven rows levels workers rounds =
+    IsGiven (codes "levels") rows levels × IsGivenOrZero (codes "workers") 2 rows workers × IsGivenOrZero (codes "rounds") 1000 rows rounds
+
+-- the options of `threads` are such that they can be read
+abbrev pub CanBeGiven : List Row → Type 0
+CanBeGiven rows = HasNumber (codes "levels") 1 10 rows × MayHaveNumber (codes "workers") 2 rows × MayHaveNumber (codes "rounds") 1000 rows
+
+-- the subcommand that was found, with its options, asks for this
+abbrev pub AsksFor : Option (Text × List Row) → Words → Type 0
+AsksFor found (Shell levels) = (rows : List Row) × (found ≡ Some (codes "shell", rows)) × IsGiven (codes "levels") rows levels
+AsksFor found (Threads levels workers rounds) = (rows : List Row) × (found ≡ Some (codes "threads", rows)) × AreGiven rows levels workers rounds
+AsksFor found Audit = (rows : List Row) × (found ≡ Some (codes "audit", rows))
+AsksFor found Upgrade = (rows : List Row) × (found ≡ Some (codes "upgrade", rows))
+
+-- a subcommand that needs no options was found
+abbrev pub CanAskBare : Option (Text × List Row) → Type 0
+CanAskBare found = ((rows : List Row) × (found ≡ Some (codes "audit", rows))) ⊎ ((rows : List Row) × (found ≡ Some (codes "upgrade", rows)))
+
+-- a subcommand other than `shell` was found, with the options that it needs
+abbrev pub CanAskOther : Option (Text × List Row) → Type 0
+CanAskOther found = ((rows : List Row) × (found ≡ Some (codes "threads", rows)) × CanBeGiven rows) ⊎ CanAskBare found
+
+-- a subcommand of the program was found, with the options that it needs
+abbrev pub CanAsk : Option (Text × List Row) → Type 0
+CanAsk found = ((rows : List Row) × (found ≡ Some (codes "shell", rows)) × HasNumber (codes "levels") 1 10 rows) ⊎ CanAskOther found
+
+abbrev pub texts_of : {Z : Type 0} → List (String Z) → List Text
+texts_of words = map string_bytes words
+
+-- clap finds no fault with the words, and this is what they ask for
+abbrev pub IsRead : List Text → Words → Type 0
+IsRead words read = (fault_of tq_app words ≡ []) × AsksFor (subcommand_of tq_app words) read
+
+-- clap refuses the words for such a fault, or no memory was left to read them
+abbrev pub IsRefused : List Text → WordsFault → Type 0
+IsRefused words Memory = Unit {0}
+IsRefused words (Refused error) = IsAmong (kind_of error) (fault_of tq_app words)
+
+-- the fault that an error of clap stands for
+abbrev pub fault_by : ErrorKind → Error → WordsFault
+fault_by OutOfMemory error = Memory
+fault_by _ error = Refused error
+
+abbrev pub fault_for : Error → WordsFault
+fault_for error = fault_by (kind_of error) error

@@ -1,0 +1,16 @@
+use Rattle.std.proofs.Common.{Option, None}
+use Rattle.std.proofs.lemmas.Result.{err_from_is_err_and}
+use Rattle.tq_txn_states.specs.Open.{OpenView}
+use Rattle.tq_txn.specs.Dialogue.{Ends}
+use Rattle.tq_client.specs.Script.{commit_asked}
+use Rattle.tq_client.proofs.Following.{follows_cut, follows_leaving}
+use Rattle.tq_client.proofs.transacting.commit_in.Goals as goal
+
+pub returns-in_err-commit_or_abort-clause-asks : goal.returns-in_err-commit_or_abort-clause-asks
+returns-in_err-commit_or_abort-clause-asks g c =
+    let p = err_from_is_err_and c.from_residual.result c.from_residual.ensures.1 in
+    rw p.1 (follows_cut {B = Option OpenView} (commit_asked c.args.open_txn) (λ asked. Ends None) (g.A.Asker.told c.args.asker.now) (g.A.Asker.told c.commit_or_abort.new.asker) c.in_err-commit_or_abort.ensures.asks)
+
+pub returns-clause-asks : goal.returns-clause-asks
+returns-clause-asks g c =
+    follows_leaving {S = Option OpenView} (commit_asked c.args.open_txn) None (g.A.Asker.told c.args.asker.now) (g.A.Asker.told c.commit_or_abort.new.asker) c.in_ok-commit_or_abort.ensures.asks

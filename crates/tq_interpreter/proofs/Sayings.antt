@@ -1,0 +1,175 @@
+-- A line of the shell says an answer, or a fault that can come.
+use Rattle.std.proofs.Common.{◌≡◌, ◌∙◌, ℕ, Bool, true, false, cond, List, [], ◌++◌, Option, Some, None, Result, Ok, Err, refl, ap, subst, codes}
+use Rattle.std.specs.Fmt.{decimal}
+use Rattle.std.specs.Prelude.{◌-◌, nat_lt, slice_get}
+use Rattle.std.proofs.lemmas.List.{append-nil}
+use Rattle.std.proofs.lemmas.List.Elements.{All-get_or}
+use Rattle.std.proofs.lemmas.Option.{get_or_from_slice_get, slice_get_within}
+use Rattle.tq_desk.specs.declared.ask.DeskAsk.TheVariants as desk_asks
+use Rattle.tq_desk.specs.declared.ask.DeskReply.{DeskReply}
+use Rattle.tq_desk.specs.declared.ask.DeskReply.TheVariants as desk_replies
+use Rattle.tq_live.specs.View.{is_server, is_cost}
+use Rattle.tq_live.specs.declared.purpose.Purpose.{Purpose}
+use Rattle.tq_live.specs.declared.view.ViewAsk.TheVariants as view_asks
+use Rattle.tq_live.specs.declared.view.ViewReply.{ViewReply}
+use Rattle.tq_live.specs.declared.view.ViewReply.TheVariants as view_replies
+use Rattle.tq_live.specs.declared.view.ViewRefusal.TheVariants as view_refusals
+use Rattle.tq_txn_states.specs.declared.told.DeskTold.{DeskTold}
+use Rattle.tq_world.specs.World.{item_at}
+use Rattle.tq_txn.specs.declared.asker.ViewTold.{ViewTold}
+use Rattle.tq_txn.specs.declared.fault.LineFault.{LineFault}
+use Rattle.tq_txn.specs.declared.fault.LineFault.TheVariants as faults
+use Rattle.tq_txn.specs.Dialogue.{Dialogue, LineEnd, Ends, then_line, desk_line, view_line}
+use Rattle.tq_txn.specs.Lines.{any_line}
+use Rattle.tq_txn.specs.States.{levels_of}
+use Rattle.tq_syntax.specs.declared.line.Line.{Line}
+use Rattle.tq_syntax.specs.declared.line.Line.TheVariants as of
+use Rattle.tq_syntax.specs.declared.line.TxnLine.{TxnLine}
+use Rattle.tq_interpreter.specs.Asking.{run_line}
+use Rattle.tq_client.specs.Script.{mark_ask}
+use Rattle.tq_text.specs.Print.{printed, choice_text}
+use Rattle.tq_interpreter.specs.declared.kept.Kept.{Kept}
+use Rattle.tq_interpreter.specs.Known.{AreOfTree, Known, with_kept}
+use Rattle.tq_interpreter.specs.PossibleTxn.{Fails, IsFit}
+use Rattle.tq_interpreter.specs.TxnAsked.{result_text, line_asked}
+use Rattle.tq_interpreter.proofs.Replies.{IsDeskReply, IsViewReply}
+use Rattle.tq_interpreter.proofs.EndsIn.{EndsIn, Answers, IsWell, Any, ends_so, ends_then, desk_ends, view_ends, any_ends}
+use Rattle.tq_interpreter.proofs.Fits.{fit, fits_text}
+use Rattle.tq_interpreter.proofs.Says.{Says, line_says}
+use Rattle.tq_interpreter.specs.Asked.{LineAnswer, said, of_txn, ok_text, chosen_text, marked_text, cost_asked, mark_asked, choose_asked, begun, begin_end, begin_asked}
+use Rattle.tq_interpreter.specs.Answer.{World, answer}
+use Rattle.tq_interpreter.specs.Possible.{Saying, BadLine, BadCost, OffTree, NotBegun, CostSet, Marked, Chosen, Begun, OfTxn, saying_text, CanCome, IsSaid, IsSaidOf}
+
+-- the text is, as a line, one that can come
+abbrev Shows : LineAnswer → Type 0
+Shows answer = (saying : Saying) × CanCome saying × (answer.text ≡ printed (saying_text saying))
+
+-- a line of one ask shows what it answers, or the fault
+shown_by : {A S : Type 0} (P : A → S → Type 0) (text : A → List ℕ) → ((a : A) (after : S) → P a after → (saying : Saying) × CanCome saying × (text a ≡ saying_text saying))
+    → (known : Known) (end : LineEnd A S) → IsWell P end → Shows (record { text = printed (result_text [] text end.answer); known = known })
+shown_by {A} {S} P text step known end well = by end.answer end.after well
+  where
+    by : (answer : Result A LineFault) (after : S) → Answers P answer after → Shows (record { text = printed (result_text [] text answer); known = known })
+    by (Ok a) after so = let says = step a after so in (says.0, says.1, ap printed says.2)
+    by (Err fault) after possible = (OfTxn (Fails [] fault), possible, refl)
+
+-- ---- the lines of the parts
+
+chosen_says : (levels : ℕ) (purpose : Purpose) (reply : ViewReply) → IsViewReply levels reply (view_asks.Choose purpose) → (saying : Saying) × CanCome saying × (choice_text reply ≡ saying_text saying)
+chosen_says levels purpose (view_replies.Chosen quorum cost) is = (Chosen quorum.servers cost, tt, refl)
+chosen_says levels purpose (view_replies.Refused (view_refusals.Blocked blocker)) is = (OfTxn (Fails [] (faults.View (view_refusals.Blocked blocker))), tt, refl)
+chosen_says levels purpose (view_replies.Refused view_refusals.NoSuchServer) is = absurd is
+chosen_says levels purpose (view_replies.Refused view_refusals.BadCost) is = absurd is
+chosen_says levels purpose view_replies.CostSet is = absurd is
+chosen_says levels purpose view_replies.Marked is = absurd is
+
+choose_says : (levels : ℕ) (purpose : Purpose) (known : Known) → EndsIn levels Shows (choose_asked known purpose)
+choose_says levels purpose known =
+    ends_then levels (IsWell (λ (told : ViewTold) none. IsViewReply levels told.reply (view_asks.Choose purpose))) Shows (view_line (view_asks.Choose purpose))
+    (λ end. Ends (record { text = printed (result_text [] chosen_text end.answer); known = known })) (view_ends levels (view_asks.Choose purpose))
+    (shown_by (λ (told : ViewTold) none. IsViewReply levels told.reply (view_asks.Choose purpose)) chosen_text (λ told none so. chosen_says levels purpose told.reply so) known)
+
+cost_says : (levels server read write : ℕ) (known : Known) → EndsIn levels Shows (cost_asked known server read write)
+cost_says levels server read write known =
+    ends_then levels (IsWell (λ (told : ViewTold) none. IsViewReply levels told.reply (view_asks.SetCost server read write))) Shows (view_line (view_asks.SetCost server read write))
+    (λ end. Ends (record { text = printed (result_text [] ok_text end.answer); known = known })) (view_ends levels (view_asks.SetCost server read write))
+    (shown_by (λ (told : ViewTold) none. IsViewReply levels told.reply (view_asks.SetCost server read write)) ok_text (λ told none so. (CostSet, tt, refl)) known)
+
+mark_says : (levels server : ℕ) (up : Bool) (known : Known) → EndsIn levels Shows (mark_asked known server up)
+mark_says levels server up known =
+    ends_then levels (IsWell Any) Shows (any_line server (mark_ask up))
+    (λ any. then_line (view_line (view_asks.Mark server up)) (λ end. Ends (record { text = printed (result_text [] (marked_text server up) end.answer); known = known }))) (any_ends levels server (mark_ask up))
+    (λ any so.
+    ends_then levels (IsWell (λ (told : ViewTold) none. IsViewReply levels told.reply (view_asks.Mark server up))) Shows (view_line (view_asks.Mark server up))
+    (λ end. Ends (record { text = printed (result_text [] (marked_text server up) end.answer); known = known })) (view_ends levels (view_asks.Mark server up))
+    (shown_by (λ (told : ViewTold) none. IsViewReply levels told.reply (view_asks.Mark server up)) (marked_text server up) (λ told none so. (Marked server up, tt, refl)) known))
+
+begun_says : (known : Known) (reply : DeskReply) → IsDeskReply reply desk_asks.Begin → Shows (begun known reply)
+begun_says known (desk_replies.Txn number) is = (Begun number, tt, refl)
+begun_says known (desk_replies.Refused refusal) is = (OfTxn (Fails [] (faults.Desk refusal)), tt, refl)
+begun_says known (desk_replies.Verdict verdict) is = absurd is
+begun_says known (desk_replies.Committed serial) is = absurd is
+
+begin_says : (levels : ℕ) (known : Known) → EndsIn levels Shows (begin_asked known)
+begin_says levels known =
+    ends_then levels (IsWell (λ (told : DeskTold) none. IsDeskReply told.reply desk_asks.Begin)) Shows (desk_line desk_asks.Begin) (λ end. Ends (begin_end known end.answer))
+    (desk_ends levels desk_asks.Begin) (λ end well. by end.answer end.after well)
+  where
+    by : (answer : Result DeskTold LineFault) (after : Unit {0}) → Answers (λ (told : DeskTold) none. IsDeskReply told.reply desk_asks.Begin) answer after → Shows (begin_end known answer)
+    by (Ok told) after so = begun_says known told.reply so
+    by (Err fault) after possible = (OfTxn (Fails [] fault), possible, refl)
+
+-- a line of a transaction that was begun
+txn_says : (levels tree : ℕ) (line : TxnLine) (number : ℕ) (known : Known) (kept : Option Kept) → ((some : Kept) → kept ≡ Some some → levels_of some.txn ≡ levels) → EndsIn levels Shows (of_txn known number kept (line_asked tree line))
+txn_says levels tree line number known None same = (NotBegun number, tt, refl)
+txn_says levels tree line number known (Some kept) same =
+    ends_then levels Says Shows (line_asked tree line number kept) (λ end. Ends (record { text = printed end.text; known = with_kept known number end.kept }))
+    (line_says levels tree line number kept (same kept refl)) (λ end says. (OfTxn says.0, says.1, ap printed says.2))
+
+-- ---- all lines
+
+fits : (saying : Saying) → CanCome saying → IsFit (saying_text saying)
+fits BadLine can = fit (saying_text BadLine) refl refl refl
+fits (BadCost cost) can = fit (saying_text (BadCost cost)) refl refl refl
+fits (OffTree server) can = fit (saying_text (OffTree server)) refl refl refl
+fits (NotBegun number) can = fit (saying_text (NotBegun number)) refl refl refl
+fits CostSet can = fit (saying_text CostSet) refl refl refl
+fits (Marked server true) can = fit (saying_text (Marked server true)) refl refl refl
+fits (Marked server false) can = fit (saying_text (Marked server false)) refl refl refl
+fits (Chosen servers cost) can = fit (saying_text (Chosen servers cost)) refl refl refl
+fits (Begun number) can = fit (saying_text (Begun number)) refl refl refl
+fits (OfTxn saying) can = fits_text saying can
+
+said_as : (before after : List ℕ) (answer : LineAnswer) → after ≡ before ++ answer.text → Shows answer → IsSaid before after
+said_as before after answer is shows =
+    record {
+      saying = shows.0;
+      possible = shows.1;
+      text = is ∙ ap (λ (t : List ℕ). before ++ t) shows.2;
+      fit = fits shows.0 shows.1;
+    }
+
+if_server : (levels : ℕ) (there : Bool) (server : ℕ) (known : Known) (line : Dialogue LineAnswer) → EndsIn levels Shows line → EndsIn levels Shows (cond there line (said known (saying_text (OffTree server))))
+if_server levels true server known line is = is
+if_server levels false server known line is = (OffTree server, tt, refl)
+
+if_cost : (levels : ℕ) (good : Bool) (cost : ℕ) (known : Known) (line : Dialogue LineAnswer) → EndsIn levels Shows line → EndsIn levels Shows (cond good line (said known (saying_text (BadCost cost))))
+if_cost levels true cost known line is = is
+if_cost levels false cost known line is = (BadCost cost, tt, refl)
+
+kept_in : (levels : ℕ) (txns : List Kept) (number : ℕ) (kept : Kept) → AreOfTree levels txns → item_at txns number ≡ Some kept → levels_of kept.txn ≡ levels
+kept_in levels txns number kept all is = by (nat_lt 0 number) is
+  where
+    On : Kept → Type 0
+    On some = levels_of some.txn ≡ levels
+
+    by : (some : Bool) → cond some (slice_get txns (number - 1)) None ≡ Some kept → levels_of kept.txn ≡ levels
+    by true e = subst On (get_or_from_slice_get txns (number - 1) kept kept e) (All-get_or On txns (number - 1) kept (slice_get_within txns (number - 1) kept e) all)
+    by false e = absurd cc
+
+-- what was printed of a line
+pub said_of : (w : World) (line : Line) (before after : List ℕ) → AreOfTree w.journals.levels w.known.txns → after ≡ before ++ (answer w line).text → IsSaidOf line before after
+said_of w of.Empty before after all is = is ∙ append-nil before
+said_of w of.Refresh before after all is = tt
+said_of w of.Board before after all is = tt
+said_of w of.Bad before after all is = said_as before after (record { text = printed (codes "bad line"); known = w.known }) is (BadLine, tt, refl)
+said_of w (of.Cost server read write) before after all is =
+    let levels = w.known.levels in
+    let good = cond (is_cost write) (cost_asked w.known server read write) (said w.known (codes "bad cost " ++ decimal write)) in
+    let line = cond (is_server levels server) (cond (is_cost read) good (said w.known (codes "bad cost " ++ decimal read))) (said w.known (codes "no such server " ++ decimal server)) in
+    said_as before after (run_line w.journals line).end is
+    (ends_so Shows line w.journals
+    (if_server w.journals.levels (is_server levels server) server w.known _
+    (if_cost w.journals.levels (is_cost read) read w.known _
+    (if_cost w.journals.levels (is_cost write) write w.known _ (cost_says w.journals.levels server read write w.known)))))
+said_of w (of.Mark server up) before after all is =
+    let line = cond (is_server w.known.levels server) (mark_asked w.known server up) (said w.known (codes "no such server " ++ decimal server)) in
+    said_as before after (run_line w.journals line).end is
+    (ends_so Shows line w.journals (if_server w.journals.levels (is_server w.known.levels server) server w.known _ (mark_says w.journals.levels server up w.known)))
+said_of w (of.Choose purpose) before after all is =
+    said_as before after (run_line w.journals (choose_asked w.known purpose)).end is (ends_so Shows (choose_asked w.known purpose) w.journals (choose_says w.journals.levels purpose w.known))
+said_of w of.Begin before after all is = said_as before after (run_line w.journals (begin_asked w.known)).end is (ends_so Shows (begin_asked w.known) w.journals (begin_says w.journals.levels w.known))
+said_of w (of.Txn number line) before after all is =
+    let asks = of_txn w.known number (item_at w.known.txns number) (line_asked w.known.levels line) in
+    said_as before after (run_line w.journals asks).end is
+    (ends_so Shows asks w.journals (txn_says w.journals.levels w.known.levels line number w.known (item_at w.known.txns number) (λ kept there. kept_in w.journals.levels w.known.txns number kept all there)))

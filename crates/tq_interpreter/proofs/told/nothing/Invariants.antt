@@ -1,0 +1,5 @@
+use Rattle.std.proofs.Common.{[]}
+use Rattle.tq_interpreter.proofs.told.nothing.Given as goal
+
+abbrev pub ghost-of : goal.ghost-of
+ghost-of a = []

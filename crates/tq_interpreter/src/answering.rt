@@ -1,0 +1,89 @@
+//! The lines of a transaction, by what they ask for.
+ghost use Rattle.std.specs.Prelude.{◌≡◌, IfOk, OnOk, OnErr};
+ghost use Rattle.tq_txn.specs.States.{levels_of};
+ghost use Rattle.tq_interpreter.specs.PossibleTxn.{IsSaid};
+ghost use Rattle.tq_interpreter.specs.TxnAsked as spec;
+ghost use Rattle.tq_text.specs.Print.{Extends};
+ghost use Rattle.tq_interpreter.specs.Progress.{progress_of};
+
+use crate::decisions::{Course, decide_txn};
+use crate::endings::{abort_txn, resolve};
+use crate::errands::{Duty, Errand, run_errand};
+use crate::kept::Kept;
+use crate::operations::{Operation, operate};
+use crate::recorder::Recorder;
+use std::alloc::Global;
+use tq_shape::{Levels, Memory};
+use tq_syntax::TxnLine;
+
+/// Answers a line of a transaction: puts its text behind the text, as a line. No text stands for an answer that no part
+/// gives: a line says an answer, or one of the faults that can come.
+pub(crate) fn answer_txn(
+    recorder: &mut Recorder,
+    alloc: Global,
+    levels: Levels,
+    number: u64,
+    kept: &mut Kept,
+    line: TxnLine,
+    text: &mut Vec<u8>,
+) -> Result<(), Memory>
+    requires txn { levels_of kept.old.txn ≡ recorder.old.journals.levels }
+    requires levels { levels ≡ recorder.old.journals.levels }
+    ensures answered { OnOk result (spec.IsAnswered (spec.line_asked levels line number kept.old)
+        (progress_of recorder.old text.old) (progress_of recorder.new text.new) kept.new) }
+    ensures levels { levels_of kept.new.txn ≡ levels_of kept.old.txn }
+    ensures tree { recorder.new.journals.levels ≡ recorder.old.journals.levels }
+    ensures possible { OnOk result (IsSaid text.old.items text.new.items) }
+    ensures kept { OnErr result (Extends text.old.items text.new.items) }
+{
+    answer_line(recorder, alloc, levels, number, kept, line, text)?;
+    Ok(())
+}
+
+fn answer_line(
+    recorder: &mut Recorder,
+    alloc: Global,
+    levels: Levels,
+    number: u64,
+    kept: &mut Kept,
+    line: TxnLine,
+    text: &mut Vec<u8>,
+) -> Result<(), Memory>
+    requires txn { levels_of kept.old.txn ≡ recorder.old.journals.levels }
+    requires levels { levels ≡ recorder.old.journals.levels }
+    ensures answered { OnOk result (spec.IsAnswered (spec.line_asked levels line number kept.old)
+        (progress_of recorder.old text.old) (progress_of recorder.new text.new) kept.new) }
+    ensures levels { levels_of kept.new.txn ≡ levels_of kept.old.txn }
+    ensures tree { recorder.new.journals.levels ≡ recorder.old.journals.levels }
+    ensures kept { OnErr result (Extends text.old.items text.new.items) }
+{
+    match line {
+        TxnLine::Read { file } => {
+            operate(recorder, alloc, number, kept, &file, Operation::Read, text)
+        }
+        TxnLine::Write { file, content } => {
+            let operation = Operation::Write { content };
+            operate(recorder, alloc, number, kept, &file, operation, text)
+        }
+        TxnLine::Prepare { server } => {
+            let errand = Errand::whole(Duty::Prepare, server);
+            run_errand(recorder, alloc, levels, number, kept, errand, text)
+        }
+        TxnLine::Decide => decide_txn(recorder, alloc, kept, Course::Decide, text),
+        TxnLine::Apply { server } => {
+            let errand = Errand::whole(Duty::Apply, server);
+            run_errand(recorder, alloc, levels, number, kept, errand, text)
+        }
+        TxnLine::Commit => decide_txn(recorder, alloc, kept, Course::Commit, text),
+        TxnLine::Abort => abort_txn(recorder, alloc, kept, text),
+        TxnLine::Resolve => resolve(recorder, alloc, number, kept, text),
+        TxnLine::PrepareCrash { server, after } => {
+            let errand = Errand::stopping(Duty::Prepare, server, after);
+            run_errand(recorder, alloc, levels, number, kept, errand, text)
+        }
+        TxnLine::ApplyCrash { server, after } => {
+            let errand = Errand::stopping(Duty::Apply, server, after);
+            run_errand(recorder, alloc, levels, number, kept, errand, text)
+        }
+    }
+}

@@ -1,0 +1,117 @@
+//! The lines of a transaction that bring its desk to a decision.
+ghost use Rattle.std.specs.Prelude.{◌≡◌, ◌++◌, false, IfOk, OnOk, OnErr};
+ghost use Rattle.tq_coterie.specs.Coterie.{numbers_of};
+ghost use Rattle.tq_txn.specs.Dialogue.{Follows, ended_by};
+ghost use Rattle.tq_txn.specs.States.{levels_of};
+ghost use Rattle.tq_interpreter.specs.TxnAsked as spec;
+ghost use Rattle.tq_text.specs.Print.{Extends, printed};
+ghost use Rattle.tq_interpreter.specs.Progress.{Prints, progress_of};
+
+use crate::kept::Kept;
+use crate::recorder::Recorder;
+use crate::states::{Closed, stand_in, voting_of};
+use std::alloc::Global;
+use std::mem;
+use tq_shape::{Memory, ServerId};
+use tq_text::{say_fault, say_number};
+use tq_txn::{Decision, LineFault, Txn, Voting, commit, decide};
+
+/// How much of a commit a line asks for.
+#[derive(Drop)]
+pub(crate) enum Course {
+    /// The desk's decision alone: the votes have to be there.
+    Decide,
+    /// The votes missing, the desk, and the ending.
+    Commit,
+}
+
+/// Asks the desk to commit a transaction.
+pub(crate) fn decide_txn(
+    recorder: &mut Recorder,
+    alloc: Global,
+    kept: &mut Kept,
+    course: Course,
+    text: &mut Vec<u8>,
+) -> Result<(), Memory>
+    requires { levels_of kept.old.txn ≡ recorder.old.journals.levels }
+    ensures answered { OnOk result (spec.IsAnswered
+        (spec.decision_asked (spec.course_line course) 0 kept.old)
+        (progress_of recorder.old text.old) (progress_of recorder.new text.new) kept.new) }
+    ensures levels { levels_of kept.new.txn ≡ levels_of kept.old.txn }
+    ensures tree { recorder.new.journals.levels ≡ recorder.old.journals.levels }
+    ensures kept { OnErr result (Extends text.old.items text.new.items) }
+{
+    let vacant = stand_in(alloc, &kept.txn);
+    let txn = mem::replace(&mut kept.txn, vacant);
+    let voting = match voting_of(txn, text)? {
+        Closed::Said(txn) => {
+            kept.txn = txn;
+            return Ok(());
+        }
+        Closed::Voting(voting) => voting,
+    };
+    recorder.replayed();
+    let Decision { answer, txn } = decision(recorder, alloc, voting, course);
+    recorder.replayed();
+    kept.txn = txn;
+    say_committed(alloc, text, answer, &kept.txn)?;
+    Ok(())
+}
+
+fn decision(recorder: &mut Recorder, alloc: Global, voting: Voting, course: Course) -> Decision
+    requires { voting.txn.levels ≡ recorder.old.journals.levels }
+    ensures asks { Follows (spec.course_line course voting) recorder.old.told recorder.new.told
+        (ended_by result.answer result.txn) }
+    ensures levels { levels_of result.txn ≡ voting.txn.levels }
+    ensures tree { recorder.new.journals.levels ≡ recorder.old.journals.levels }
+{
+    match course {
+        Course::Decide => decide(recorder, alloc, voting),
+        Course::Commit => commit(recorder, alloc, voting),
+    }
+}
+
+/// The voters whose votes are not there.
+fn missing_in(alloc: Global, txn: &Txn) -> Result<Vec<u64>, Memory>
+    ensures { IfOk result (λ servers. servers.items ≡ spec.missing_in txn.now) }
+{
+    match txn {
+        Txn::Voting(voting) => Ok(missing_of(alloc, voting, voting.voters())?),
+        _ => Ok(Vec::new(alloc)),
+    }
+}
+
+/// Those of the servers whose votes are not there.
+fn missing_of(alloc: Global, voting: &Voting, voters: &[ServerId]) -> Result<Vec<u64>, Memory>
+    ensures { IfOk result (λ servers.
+        servers.items ≡ spec.missing_of voting.now (numbers_of voters.now)) }
+{
+    let mut servers = Vec::new(alloc);
+    for voter in voters {
+        if !voting.has_vote(*voter) {
+            servers.push(voter.number())?;
+        }
+    }
+    Ok(servers)
+}
+
+/// Puts what the desk answered to a commit behind the text, as a line.
+fn say_committed(
+    alloc: Global,
+    text: &mut Vec<u8>,
+    answer: Result<u64, LineFault>,
+    txn: &Txn,
+) -> Result<(), Memory>
+    ensures text { OnOk result (Prints text.old text.new (spec.committed_text txn.now answer)) }
+    ensures memory { OnOk result (spec.is_refused_memory answer ≡ false) }
+    ensures kept { OnErr result (Extends text.old.items text.new.items) }
+{
+    match answer {
+        Ok(serial) => say_number(text, b"committed ", serial)?,
+        Err(fault) => {
+            let servers = missing_in(alloc, txn)?;
+            say_fault(text, servers.as_slice(), fault)?;
+        }
+    }
+    Ok(())
+}

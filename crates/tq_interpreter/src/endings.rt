@@ -1,0 +1,110 @@
+//! The lines of a transaction that abort it and that ask how it ended.
+ghost use Rattle.std.specs.Prelude.{◌≡◌, ◌++◌, [], false, codes, IfOk, OnOk, OnErr};
+ghost use Rattle.tq_txn.specs.States.{levels_of};
+ghost use Rattle.tq_interpreter.specs.TxnAsked as spec;
+ghost use Rattle.tq_text.specs.Print.{Extends, printed};
+ghost use Rattle.tq_interpreter.specs.Progress.{Prints, progress_of};
+
+use crate::kept::{Ending, Kept};
+use crate::recorder::Recorder;
+use crate::states::stand_in;
+use std::alloc::Global;
+use std::mem;
+use tq_desk::{DeskAsk, DeskReply};
+use tq_shape::Memory;
+use tq_text::{push_desk_refusal, say_fault, say_line, say_verdict};
+use tq_txn::{Abortion, Asker, LineFault, abort};
+
+/// Aborts a transaction, and ends it at its servers.
+pub(crate) fn abort_txn(
+    recorder: &mut Recorder,
+    alloc: Global,
+    kept: &mut Kept,
+    text: &mut Vec<u8>,
+) -> Result<(), Memory>
+    requires { levels_of kept.old.txn ≡ recorder.old.journals.levels }
+    ensures answered { OnOk result (spec.IsAnswered (spec.abort_asked 0 kept.old)
+        (progress_of recorder.old text.old) (progress_of recorder.new text.new) kept.new) }
+    ensures levels { levels_of kept.new.txn ≡ levels_of kept.old.txn }
+    ensures tree { recorder.new.journals.levels ≡ recorder.old.journals.levels }
+    ensures kept { OnErr result (Extends text.old.items text.new.items) }
+{
+    let vacant = stand_in(alloc, &kept.txn);
+    let txn = mem::replace(&mut kept.txn, vacant);
+    recorder.replayed();
+    let Abortion { answer, txn } = abort(recorder, alloc, txn);
+    recorder.replayed();
+    kept.txn = txn;
+    say_aborted(text, answer)?;
+    Ok(())
+}
+
+/// Puts that a transaction aborted behind the text, as a line, or why it did not.
+fn say_aborted(text: &mut Vec<u8>, answer: Result<(), LineFault>) -> Result<(), Memory>
+    ensures text { OnOk result
+        (Prints text.old text.new (spec.result_text [] (λ all. codes "aborted") answer)) }
+    ensures memory { OnOk result (spec.is_refused_memory answer ≡ false) }
+    ensures kept { OnErr result (Extends text.old.items text.new.items) }
+{
+    match answer {
+        Ok(()) => say_line(text, b"aborted")?,
+        Err(fault) => say_fault(text, &[], fault)?,
+    }
+    Ok(())
+}
+
+/// Asks the desk how a transaction ended, and keeps the verdict.
+pub(crate) fn resolve(
+    recorder: &mut Recorder,
+    alloc: Global,
+    number: u64,
+    kept: &mut Kept,
+    text: &mut Vec<u8>,
+) -> Result<(), Memory>
+    ensures answered { OnOk result (spec.IsAnswered (spec.resolve_asked number kept.old)
+        (progress_of recorder.old text.old) (progress_of recorder.new text.new) kept.new) }
+    ensures levels { levels_of kept.new.txn ≡ levels_of kept.old.txn }
+    ensures tree { recorder.new.journals.levels ≡ recorder.old.journals.levels }
+    ensures kept { OnErr result (Extends text.old.items text.new.items) }
+{
+    recorder.replayed();
+    let answer = recorder.desk(alloc, DeskAsk::Resolve { txn: number });
+    recorder.replayed();
+    match answer {
+        Ok(told) => {
+            say_resolved(text, &told.reply)?;
+            keep_reply(kept, told.number, told.reply);
+            Ok(())
+        }
+        Err(fault) => {
+            say_fault(text, &[], LineFault::from(fault))?;
+            Ok(())
+        }
+    }
+}
+
+/// Puts how the desk says that a transaction ended behind the text, as a line.
+fn say_resolved(text: &mut Vec<u8>, reply: &DeskReply) -> Result<(), Memory>
+    ensures text { OnOk result (Prints text.old text.new (spec.resolved_text reply.now)) }
+    ensures kept { OnErr result (Extends text.old.items text.new.items) }
+{
+    match reply {
+        DeskReply::Verdict(verdict) => say_verdict(text, verdict),
+        DeskReply::Refused(refusal) => {
+            push_desk_refusal(text, refusal)?;
+            text.push(b'\n')?;
+            Ok(())
+        }
+        _ => say_line(text, b"bad answer"),
+    }
+}
+
+/// Keeps the verdict that the desk's answer tells.
+fn keep_reply(kept: &mut Kept, cite: u64, reply: DeskReply)
+    ensures kept { kept.new ≡ spec.resolved_kept kept.old cite reply }
+    ensures txn { kept.new.txn ≡ kept.old.txn }
+{
+    if let DeskReply::Verdict(verdict) = reply {
+        kept.told = Some(Ending { verdict, cite });
+    }
+}

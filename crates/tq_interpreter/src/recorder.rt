@@ -1,0 +1,172 @@
+ghost use Rattle.std.specs.Prelude.{◌≡◌, IfOk};
+
+use crate::history::History;
+use crate::told::{handed, nothing, with_answer, with_desk, with_fault, with_handed, with_view};
+use std::alloc::Global;
+use std::marker::Model;
+use tq_asks::{NodeAsk, NodeReply};
+use tq_core::Service;
+use tq_desk::DeskAsk;
+use tq_live::ViewAsk;
+use tq_part::Answered;
+use tq_shape::{Levels, Limits, Memory, ServerId};
+use tq_txn::{AskFault, Asker, DeskTold, Exchange, NodeTold, ViewTold};
+
+/// A service that is asked. Contracts see beside it what was told of its asks, in their order; no memory is taken for
+/// that.
+#[derive(Drop)]
+pub(crate) struct Recorder {
+    service: Service,
+    told: History<Exchange>,
+}
+
+impl Model for Recorder {
+    ghost use Rattle.tq_interpreter.specs.Recorded.{RecorderView, IsReplayed};
+
+    ghost Value = { RecorderView };
+
+    ghost view = { λ a. record { journals = a.service; told = a.told.items } };
+
+    ghost invariant = { λ a. IsReplayed (record { journals = a.service; told = a.told.items }) };
+}
+
+impl Recorder {
+    ghost use Rattle.std.specs.Prelude.{◌≡◌, ◌++◌, [], IfOk};
+    ghost use Rattle.tq_world.specs.World.{empty_world};
+    ghost use Rattle.tq_interpreter.specs.Recorded.{full_limits, noted, IsReplayed};
+    ghost use Rattle.tq_txn.specs.declared.asker.Exchange.TheVariants as exchanges;
+
+    /// A service with full limits that was asked nothing.
+    pub(crate) fn new(alloc: Global, levels: Levels) -> Result<Recorder, Memory>
+        ensures { IfOk result (λ recorder.
+            recorder ≡ record { journals = empty_world levels full_limits; told = [] }) }
+    {
+        let service = Service::new(alloc, levels, Limits::full())?;
+        let told = nothing();
+        Ok(Recorder { service, told })
+    }
+
+    /// The service that is asked.
+    pub(crate) fn service(&self) -> &Service
+        ensures { result.now ≡ self.now.journals }
+    {
+        &self.service
+    }
+
+    /// Asks the server, as the asker's `node` does, and keeps no copy of the ask: the entry's number and the reply are told.
+    pub(crate) fn put(
+        &mut self,
+        alloc: Global,
+        server: ServerId,
+        ask: NodeAsk,
+    ) -> Result<Answered<NodeReply>, AskFault>
+        requires { server.levels ≡ self.old.journals.levels }
+        ensures exchanges { self.new.told
+            ≡ self.old.told ++ noted result (exchanges.Node server.number ask result) }
+        ensures tree { self.new.journals.levels ≡ self.old.journals.levels }
+    {
+        let number = server.number();
+        let given = handed(&ask);
+        let answer = self.service.ask_node(alloc, server, ask);
+        self.told = with_handed(&self.told, number, &given, &answer);
+        answer
+    }
+
+    /// What was told, replayed from empty journals, leads to these: this does nothing, and says so.
+    pub(crate) fn replayed(&self)
+        ensures { IsReplayed self.now }
+    {
+        let _ = &self.service;
+    }
+}
+
+/// An ask equal to this.
+pub(crate) fn copy_of_node_ask(ask: &NodeAsk) -> Result<NodeAsk, Memory>
+    ensures { IfOk result (λ copy. copy ≡ ask.now) }
+{
+    Ok(ask.clone()?)
+}
+
+fn copy_of_desk_ask(ask: &DeskAsk) -> Result<DeskAsk, Memory>
+    ensures { IfOk result (λ copy. copy ≡ ask.now) }
+{
+    Ok(ask.clone()?)
+}
+
+impl Asker for Recorder {
+    ghost use Rattle.std.specs.Prelude.{◌≡◌, ◌++◌, IfOk};
+    ghost use Rattle.tq_txn.specs.Dialogue.{node_exchange, desk_exchange, view_exchange};
+
+    ghost told = { λ a. a.told };
+
+    ghost levels = { λ a. a.journals.levels };
+
+    fn node(&mut self, alloc: Global, server: ServerId, ask: NodeAsk) -> Result<NodeTold, AskFault>
+        requires { server.levels ≡ self.old.journals.levels }
+        ensures exchanges { self.new.told ≡ self.old.told
+            ++ node_exchange server.number ask result }
+        ensures same { IfOk result (λ t. (t.server ≡ server.number) × (t.ask ≡ ask)) }
+        ensures tree { self.new.journals.levels ≡ self.old.journals.levels }
+    {
+        let number = server.number();
+        let copy = match copy_of_node_ask(&ask) {
+            Ok(copy) => copy,
+            Err(_) => return Err(AskFault::Memory),
+        };
+        match self.service.ask_node(alloc, server, ask) {
+            Ok(told) => {
+                // Taken apart and built anew: moved whole, the reply is copied once more.
+                let Answered {
+                    number: entry,
+                    reply,
+                } = told;
+                self.told = with_answer(&self.told, number, &copy, entry, &reply);
+                Ok(NodeTold {
+                    server: number,
+                    number: entry,
+                    ask: copy,
+                    reply,
+                })
+            }
+            Err(fault) => {
+                self.told = with_fault(&self.told, number, copy, &fault);
+                Err(fault)
+            }
+        }
+    }
+
+    fn desk(&mut self, alloc: Global, ask: DeskAsk) -> Result<DeskTold, AskFault>
+        ensures exchanges { self.new.told ≡ self.old.told ++ desk_exchange ask result }
+        ensures same { IfOk result (λ t. t.ask ≡ ask) }
+        ensures tree { self.new.journals.levels ≡ self.old.journals.levels }
+    {
+        let copy = copy_of_desk_ask(&ask)?;
+        let answer = self.service.ask_desk(alloc, ask);
+        self.told = with_desk(&self.told, &copy, &answer);
+        match answer {
+            Ok(told) => Ok(DeskTold {
+                number: told.number,
+                ask: copy,
+                reply: told.reply,
+            }),
+            Err(fault) => Err(fault),
+        }
+    }
+
+    fn view(&mut self, alloc: Global, ask: ViewAsk) -> Result<ViewTold, AskFault>
+        ensures exchanges { self.new.told ≡ self.old.told ++ view_exchange ask result }
+        ensures same { IfOk result (λ t. t.ask ≡ ask) }
+        ensures tree { self.new.journals.levels ≡ self.old.journals.levels }
+    {
+        let answer = self.service.ask_view(alloc, ask);
+        self.told = with_view(&self.told, &ask, &answer);
+        match answer {
+            Ok(told) => Ok(ViewTold {
+                number: told.number,
+                ask,
+                reply: told.reply,
+            }),
+            Err(fault) => Err(fault),
+        }
+    }
+}

@@ -1,0 +1,411 @@
+ghost use Rattle.std.specs.Prelude.{◌≡◌, ◌++◌, ◌<◌, ◌+◌, [], false, length, None, IfOk, OnOk, OnErr, IfSome, IsNone, vec_len, vec_capacity};
+ghost use Rattle.tq_txn.specs.Dialogue.{line_result};
+ghost use Rattle.tq_txn.specs.States.{levels_of};
+ghost use Rattle.std.specs.Fmt.{decimal};
+ghost use Rattle.tq_interpreter.specs.Asked as asked;
+ghost use Rattle.tq_interpreter.specs.Known as known;
+ghost use Rattle.tq_interpreter.specs.TxnAsked as said;
+ghost use Rattle.tq_text.specs.Print.{Extends, printed, mark_word};
+ghost use Rattle.tq_interpreter.specs.Progress.{Appends, Prints};
+
+use crate::answering::answer_txn;
+use crate::kept::Kept;
+use crate::operators::{refresh_all, say_board};
+use crate::recorder::Recorder;
+use std::alloc::Global;
+use std::marker::Model;
+use tq_client::mark_server;
+use tq_core::Service;
+use tq_desk::{DeskAsk, DeskReply};
+use tq_live::{Purpose, ViewAsk, is_cost};
+use tq_shape::{Levels, Limits, Memory, ServerId};
+use tq_syntax::{Line, TxnLine};
+use tq_text::{push_desk_refusal, say_choice, say_fault, say_line, say_number};
+use tq_txn::{AskFault, Asker, DeskTold, LineFault, Open, Txn, ViewTold};
+
+/// A service that lines are asked of, and what is known of the transactions.
+#[derive(Drop)]
+pub struct Shell {
+    levels: Levels,
+    limits: Limits,
+    recorder: Recorder,
+    txns: Vec<Kept>,
+}
+
+impl Model for Shell {
+    ghost use Rattle.std.specs.Prelude.{◌≡◌};
+    ghost use Rattle.tq_interpreter.specs.Answer.{World};
+    ghost use Rattle.tq_interpreter.specs.Known.{AreOfTree};
+
+    ghost Value = { World };
+
+    ghost view = { λ shell. record {
+      journals = shell.recorder.journals;
+      known = record { levels = shell.levels; limits = shell.limits; txns = shell.txns.items };
+    } };
+
+    ghost invariant = { λ shell.
+        (shell.recorder.journals.levels ≡ shell.levels) × AreOfTree shell.levels shell.txns.items };
+}
+
+impl Shell {
+    ghost use Rattle.std.specs.Prelude.{◌≡◌, ◌++◌, IfOk, OnOk, OnErr};
+    ghost use Rattle.tq_world.specs.World.{item_at};
+    ghost use Rattle.tq_interpreter.specs.Answer.{opening, answer, given_by, IsWhole};
+    ghost use Rattle.tq_interpreter.specs.Possible.{IsSaidOf};
+    ghost use Rattle.tq_text.specs.Print.{Extends};
+
+    /// Every server at cost 1 and up, nothing stored, and no transaction.
+    pub fn new(alloc: Global, levels: Levels) -> Result<Shell, Memory>
+        ensures { IfOk result (λ shell. shell ≡ opening levels) }
+    {
+        let limits = Limits::full();
+        let recorder = Recorder::new(alloc, levels)?;
+        Ok(Shell {
+            levels,
+            limits,
+            recorder,
+            txns: Vec::new(alloc),
+        })
+    }
+
+    /// The service that lines are asked of.
+    pub fn service(&self) -> &Service
+        ensures { result.now ≡ self.now.journals }
+    {
+        self.recorder.service()
+    }
+
+    /// Answers one line, and puts the answer behind the text: of all that the definitions have texts for, no more than what
+    /// can come.
+    pub fn answer(&mut self, alloc: Global, line: Line, text: &mut Vec<u8>) -> Result<(), Memory>
+        ensures text { OnOk result (Appends text.old text.new (answer self.old line).text) }
+        ensures after { OnOk result (self.new ≡ (answer self.old line).after) }
+        ensures possible { OnOk result (IsSaidOf line text.old.items text.new.items) }
+        ensures begun { OnErr result (line ≡ Line.Begin → IsWhole self.old line self.new) }
+        ensures kept { OnErr result (Extends text.old.items text.new.items) }
+    {
+        let _ = &self.recorder;
+        self.answer_line(alloc, line, text)?;
+        Ok(())
+    }
+
+    fn answer_line(&mut self, alloc: Global, line: Line, text: &mut Vec<u8>) -> Result<(), Memory>
+        ensures text { OnOk result (Appends text.old text.new (answer self.old line).text) }
+        ensures after { OnOk result (self.new ≡ (answer self.old line).after) }
+        ensures begun { OnErr result (line ≡ Line.Begin → IsWhole self.old line self.new) }
+        ensures kept { OnErr result (Extends text.old.items text.new.items) }
+    {
+        match line {
+            Line::Empty => Ok(()),
+            Line::Bad => say_line(text, b"bad line"),
+            Line::Cost {
+                server,
+                read,
+                write,
+            } => self.cost(alloc, server, read, write, text),
+            Line::Mark { server, up } => self.mark(alloc, server, up, text),
+            Line::Choose { purpose } => self.choose(alloc, purpose, text),
+            Line::Begin => self.begin(alloc, text),
+            Line::Refresh => self.refresh(alloc, text),
+            Line::Board => self.board(alloc, text),
+            Line::Txn { number, line } => self.txn(alloc, number, line, text),
+        }
+    }
+
+    fn cost(
+        &mut self,
+        alloc: Global,
+        server: u64,
+        read: u64,
+        write: u64,
+        text: &mut Vec<u8>,
+    ) -> Result<(), Memory>
+        ensures text { OnOk result (Appends text.old text.new
+            (answer self.old (Line.Cost server read write)).text) }
+        ensures after { OnOk result
+            (self.new ≡ (answer self.old (Line.Cost server read write)).after) }
+        ensures kept { OnErr result (Extends text.old.items text.new.items) }
+    {
+        if self.levels.server(server).is_none() {
+            return say_number(text, b"no such server ", server);
+        }
+        if !is_cost(read) {
+            return say_number(text, b"bad cost ", read);
+        }
+        if !is_cost(write) {
+            return say_number(text, b"bad cost ", write);
+        }
+        self.set_cost(alloc, server, read, write, text)
+    }
+
+    fn set_cost(
+        &mut self,
+        alloc: Global,
+        server: u64,
+        read: u64,
+        write: u64,
+        text: &mut Vec<u8>,
+    ) -> Result<(), Memory>
+        ensures text { OnOk result (Appends text.old text.new
+            (given_by self.old (λ k. asked.cost_asked k server read write)).text) }
+        ensures after { OnOk result (self.new
+            ≡ (given_by self.old (λ k. asked.cost_asked k server read write)).after) }
+        ensures kept { OnErr result (Extends text.old.items text.new.items) }
+    {
+        self.recorder.replayed();
+        let ask = ViewAsk::SetCost {
+            server,
+            read,
+            write,
+        };
+        let answer = self.recorder.view(alloc, ask);
+        self.recorder.replayed();
+        say_ok(text, &answer)?;
+        Ok(())
+    }
+
+    fn mark(
+        &mut self,
+        alloc: Global,
+        server: u64,
+        up: bool,
+        text: &mut Vec<u8>,
+    ) -> Result<(), Memory>
+        ensures text { OnOk result
+            (Appends text.old text.new (answer self.old (Line.Mark server up)).text) }
+        ensures after { OnOk result (self.new ≡ (answer self.old (Line.Mark server up)).after) }
+        ensures kept { OnErr result (Extends text.old.items text.new.items) }
+    {
+        let Some(id) = self.levels.server(server) else {
+            return say_number(text, b"no such server ", server);
+        };
+        self.set_mark(alloc, id, up, text)
+    }
+
+    fn set_mark(
+        &mut self,
+        alloc: Global,
+        id: ServerId,
+        up: bool,
+        text: &mut Vec<u8>,
+    ) -> Result<(), Memory>
+        requires { id.levels ≡ self.old.journals.levels }
+        ensures text { OnOk result (Appends text.old text.new
+            (given_by self.old (λ k. asked.mark_asked k id.number up)).text) }
+        ensures after { OnOk result (self.new
+            ≡ (given_by self.old (λ k. asked.mark_asked k id.number up)).after) }
+        ensures kept { OnErr result (Extends text.old.items text.new.items) }
+    {
+        let server = id.number();
+        self.recorder.replayed();
+        let answer = mark_server(&mut self.recorder, alloc, id, up);
+        self.recorder.replayed();
+        say_marked(text, server, up, &answer)?;
+        Ok(())
+    }
+
+    fn choose(&mut self, alloc: Global, purpose: Purpose, text: &mut Vec<u8>) -> Result<(), Memory>
+        ensures text { OnOk result
+            (Appends text.old text.new (answer self.old (Line.Choose purpose)).text) }
+        ensures after { OnOk result (self.new ≡ (answer self.old (Line.Choose purpose)).after) }
+        ensures kept { OnErr result (Extends text.old.items text.new.items) }
+    {
+        self.recorder.replayed();
+        let answer = self.recorder.view(alloc, ViewAsk::Choose { purpose });
+        self.recorder.replayed();
+        say_chosen(text, &answer)?;
+        Ok(())
+    }
+
+    /// Begins a transaction. Room for it is made before the desk is asked, so that one whose number was told is kept.
+    fn begin(&mut self, alloc: Global, text: &mut Vec<u8>) -> Result<(), Memory>
+        ensures text { OnOk result (Appends text.old text.new (answer self.old Line.Begin).text) }
+        ensures after { OnOk result (self.new ≡ (answer self.old Line.Begin).after) }
+        ensures whole { OnErr result (IsWhole self.old Line.Begin self.new) }
+        ensures kept { OnErr result (Extends text.old.items text.new.items) }
+    {
+        self.txns.reserve(1)?;
+        self.recorder.replayed();
+        let answer = self.recorder.desk(alloc, DeskAsk::Begin);
+        self.recorder.replayed();
+        let (levels, limits) = (self.levels, self.limits);
+        begin_end(&mut self.txns, alloc, levels, limits, answer, text)?;
+        Ok(())
+    }
+
+    fn refresh(&mut self, alloc: Global, text: &mut Vec<u8>) -> Result<(), Memory>
+        ensures text { OnOk result (Appends text.old text.new (answer self.old Line.Refresh).text) }
+        ensures after { OnOk result (self.new ≡ (answer self.old Line.Refresh).after) }
+        ensures kept { OnErr result (Extends text.old.items text.new.items) }
+    {
+        refresh_all(&mut self.recorder, alloc, text)?;
+        Ok(())
+    }
+
+    fn board(&self, alloc: Global, text: &mut Vec<u8>) -> Result<(), Memory>
+        ensures text { OnOk result (Appends text.old text.new (answer self.now Line.Board).text) }
+        ensures kept { OnErr result (Extends text.old.items text.new.items) }
+    {
+        say_board(self.service(), alloc, text)?;
+        Ok(())
+    }
+
+    /// Where the transaction of that number is kept.
+    fn place_of(&self, number: u64) -> Option<usize>
+        ensures some { IfSome result (λ place.
+            (number ≡ place + 1) × (place < length self.now.known.txns)) }
+        ensures none { IsNone result → item_at self.now.known.txns number ≡ None }
+    {
+        if number == 0 || number > self.txns.len() as u64 {
+            return None;
+        }
+        Some((number - 1) as usize)
+    }
+
+    fn txn(
+        &mut self,
+        alloc: Global,
+        number: u64,
+        line: TxnLine,
+        text: &mut Vec<u8>,
+    ) -> Result<(), Memory>
+        ensures text { OnOk result
+            (Appends text.old text.new (answer self.old (Line.Txn number line)).text) }
+        ensures after { OnOk result (self.new ≡ (answer self.old (Line.Txn number line)).after) }
+        ensures kept { OnErr result (Extends text.old.items text.new.items) }
+    {
+        let place = match self.place_of(number) {
+            None => return say_number(text, b"no such transaction ", number),
+            Some(place) => place,
+        };
+        let levels = self.levels;
+        let kept = &mut self.txns[place];
+        answer_txn(&mut self.recorder, alloc, levels, number, kept, line, text)?;
+        Ok(())
+    }
+}
+
+/// Keeps the transaction that the desk began in a list that has room for it, and puts the answer behind the text. Memory is
+/// taken for the text alone.
+fn begin_end(
+    txns: &mut Vec<Kept>,
+    alloc: Global,
+    levels: Levels,
+    limits: Limits,
+    answer: Result<DeskTold, AskFault>,
+    text: &mut Vec<u8>,
+) -> Result<(), Memory>
+    requires { vec_len txns.old < vec_capacity txns.old }
+    ensures text { OnOk result (Appends text.old text.new
+        (asked.begin_end (known.known_of levels limits txns.old) (line_result answer)).text) }
+    ensures known { (asked.begin_end
+        (known.known_of levels limits txns.old) (line_result answer)).known
+        ≡ known.known_of levels limits txns.new }
+    ensures memory { OnOk result (said.is_refused_memory (line_result answer) ≡ false) }
+    ensures kept { OnErr result (Extends text.old.items text.new.items) }
+{
+    match answer {
+        Ok(told) => begun(txns, alloc, levels, limits, told.reply, text)?,
+        Err(fault) => say_fault(text, &[], LineFault::from(fault))?,
+    }
+    Ok(())
+}
+
+/// The same for the desk's answer.
+fn begun(
+    txns: &mut Vec<Kept>,
+    alloc: Global,
+    levels: Levels,
+    limits: Limits,
+    reply: DeskReply,
+    text: &mut Vec<u8>,
+) -> Result<(), Memory>
+    requires { vec_len txns.old < vec_capacity txns.old }
+    ensures text { OnOk result (Appends text.old text.new
+        (asked.begun (known.known_of levels limits txns.old) reply).text) }
+    ensures known { (asked.begun (known.known_of levels limits txns.old) reply).known
+        ≡ known.known_of levels limits txns.new }
+    ensures kept { OnErr result (Extends text.old.items text.new.items) }
+{
+    match reply {
+        DeskReply::Txn(number) => {
+            txns.push_reserved(fresh(alloc, levels, limits, number));
+            say_number(text, b"begun ", number)
+        }
+        DeskReply::Refused(refusal) => {
+            push_desk_refusal(text, &refusal)?;
+            say_line(text, b"")
+        }
+        _ => say_line(text, b"bad answer"),
+    }
+}
+
+/// A transaction that did nothing yet.
+fn fresh(alloc: Global, levels: Levels, limits: Limits, number: u64) -> Kept
+    ensures { result ≡ known.fresh levels limits number }
+{
+    Kept {
+        txn: Txn::Open(Open::new(alloc, levels, limits, number)),
+        told: None,
+    }
+}
+
+/// Puts that a cost was set behind the text, as a line, or why it was not.
+fn say_ok(text: &mut Vec<u8>, answer: &Result<ViewTold, AskFault>) -> Result<(), Memory>
+    ensures text { OnOk result (Prints text.old text.new
+        (said.result_text [] asked.ok_text (line_result answer.now))) }
+    ensures memory { OnOk result (said.is_refused_memory (line_result answer.now) ≡ false) }
+    ensures kept { OnErr result (Extends text.old.items text.new.items) }
+{
+    match answer {
+        Ok(_told) => say_line(text, b"ok")?,
+        Err(fault) => say_fault(text, &[], LineFault::from(*fault))?,
+    }
+    Ok(())
+}
+
+/// Puts what the view chose behind the text, as a line, or why it did not.
+fn say_chosen(text: &mut Vec<u8>, answer: &Result<ViewTold, AskFault>) -> Result<(), Memory>
+    ensures text { OnOk result (Prints text.old text.new
+        (said.result_text [] asked.chosen_text (line_result answer.now))) }
+    ensures memory { OnOk result (said.is_refused_memory (line_result answer.now) ≡ false) }
+    ensures kept { OnErr result (Extends text.old.items text.new.items) }
+{
+    match answer {
+        Ok(told) => say_choice(text, &told.reply)?,
+        Err(fault) => say_fault(text, &[], LineFault::from(*fault))?,
+    }
+    Ok(())
+}
+
+/// Puts a server's new mark behind the text, as a line, or why it has none.
+fn say_marked(
+    text: &mut Vec<u8>,
+    server: u64,
+    up: bool,
+    answer: &Result<ViewTold, AskFault>,
+) -> Result<(), Memory>
+    ensures text { OnOk result (Prints text.old text.new
+        (said.result_text [] (asked.marked_text server up) (line_result answer.now))) }
+    ensures memory { OnOk result (said.is_refused_memory (line_result answer.now) ≡ false) }
+    ensures kept { OnErr result (Extends text.old.items text.new.items) }
+{
+    match answer {
+        Ok(_told) => say_mark(text, server, up)?,
+        Err(fault) => say_fault(text, &[], LineFault::from(*fault))?,
+    }
+    Ok(())
+}
+
+/// Puts a server's new mark behind the text, as a line.
+fn say_mark(text: &mut Vec<u8>, server: u64, up: bool) -> Result<(), Memory>
+    ensures text { OnOk result (Prints text.old text.new (mark_word up ++ decimal server)) }
+    ensures kept { OnErr result (Extends text.old.items text.new.items) }
+{
+    if up {
+        say_number(text, b"up ", server)
+    } else {
+        say_number(text, b"down ", server)
+    }
+}

@@ -1,0 +1,92 @@
+-- Slots of an object: what changes in them where a member is taken.
+use Rattle.std.proofs.Common.{◌≡◌, ◌-◌, ◌<◌, ◌≤◌, ℕ, zero, suc, Bool, true, false, ◌||◌, ◌+◌, cond, List, [], ◌∷◌, length, get_or, drop, Option, Some, None, refl, sym, ap, ◌∙◌, arith}
+use Rattle.std.specs.Prelude.{IfOk, Result, Ok, Err}
+use Rattle.std.specs.Borrow.{Bor}
+use Rattle.std.specs.Str.{bytes_eq}
+use Rattle.std.proofs.lemmas.Bool.{and_parts, or_parts, not-true, false_from_ne_true, false≢true}
+use Rattle.std.proofs.lemmas.List.{drop_more}
+use Rattle.std.proofs.lemmas.Slice.Eq.{bytes_eq-Decides}
+use Rattle.json.specs.Token.{Token}
+use Rattle.serde_json.specs.Data.{Data}
+use Rattle.tq_value.specs.Next.{Found}
+use Rattle.tq_json_read.specs.Objects.{Names, with, Slots, slots_at, filled, texts, is_among, are_distinct}
+
+-- the same value by another word for it
+pub found_as : {X D F : Type 0} (r : Result X F) (P Q : D → X → Type 0) (first : Option (D × List Token)) (rest : List Token) → ((d : D) (x : X) → P d x → Q d x) → IfOk r (Found P first rest) → IfOk r (Found Q first rest)
+found_as (Ok x) P Q first rest h (d, e, p) = (d, e, h d x p)
+found_as (Err fault) P Q first rest h p = tt
+
+both : {A R : Type 0} (a b : A) (r s : R) → a ≡ b → r ≡ s → ◌≡◌ {A = A × R} (a, r) (b, s)
+both a b r s p q = λ i. (p i, q i)
+
+module _ {A R : Type 0} (at : Option Data → A) (of : Slots → R) (d : Data) (values : Slots) (a : A) (r : R) where
+  pub filled_first : (place : ℕ) → place ≤ 0 → a ≡ at (Some d) → r ≡ of (λ i. values (suc i))
+      → ◌≡◌ {A = A × R} (a, r) (at (filled place d values zero), of (λ i. filled place d values (suc i)))
+  filled_first zero h p q = both _ _ _ _ p q
+  filled_first (suc n) h p q = absurd (omega (arith, h))
+
+  pub filled_later : (place : ℕ) → 0 < place → a ≡ at (values zero) → r ≡ of (filled (place - 1) d (λ i. values (suc i)))
+      → ◌≡◌ {A = A × R} (a, r) (at (filled place d values zero), of (λ i. filled place d values (suc i)))
+  filled_later zero h p q = absurd (omega (arith, h))
+  filled_later (suc n) h p q = let e : suc n - 1 ≡ n = omega arith in both _ _ _ _ p (q ∙ ap (λ m. of (filled m d (λ i. values (suc i)))) e)
+
+same_name : (key : List ℕ) → bytes_eq key key ≡ true
+same_name key = (bytes_eq-Decides key key).1 refl
+
+flipped : (a b : List ℕ) → bytes_eq a b ≡ false → bytes_eq b a ≡ false
+flipped a b h = false_from_ne_true _ (λ e. false≢true (sym h ∙ (bytes_eq-Decides a b).1 (sym ((bytes_eq-Decides b a).0 e))))
+
+-- another name than that in a place
+unlike : (name key : List ℕ) (keys : List (List ℕ)) (place : ℕ) → is_among name keys ≡ false → place < length keys → get_or keys place [] ≡ key → bytes_eq key name ≡ false
+unlike name key [] place e h at = absurd (omega (arith, h))
+unlike name key (k ∷ ks) zero e h at = flipped name key (ap (bytes_eq name) (sym at) ∙ (or_parts _ _ e).0)
+unlike name key (k ∷ ks) (suc p) e h at = unlike name key ks p (or_parts _ _ e).1 (omega (arith, h)) at
+
+module _ (key : List ℕ) (d : Data) (names : Names) where
+  pub apart : (keys : List (List ℕ)) → is_among key keys ≡ false → (i : ℕ) → slots_at keys names i ≡ slots_at keys (with key d names) i
+  apart [] e i = refl
+  apart (k ∷ ks) e zero = sym (ap (λ b. cond b (Some d) (names k)) (or_parts _ _ e).0)
+  apart (k ∷ ks) e (suc i) = apart ks (or_parts _ _ e).1 i
+
+  pub filled_at : (keys : List (List ℕ)) → are_distinct keys ≡ true → (place : ℕ) → place < length keys → get_or keys place [] ≡ key → (i : ℕ) → filled place d (slots_at keys names) i ≡ slots_at keys (with key d names) i
+  filled_at [] each place h at i = absurd (omega (arith, h))
+  filled_at (k ∷ ks) each zero h at zero = sym (ap (λ b. cond b (Some d) (names k)) (ap (bytes_eq key) at ∙ same_name key))
+  filled_at (k ∷ ks) each zero h at (suc i) = apart ks (ap (λ n. is_among n ks) (sym at) ∙ not-true _ (and_parts _ _ each).0) i
+  filled_at (k ∷ ks) each (suc p) h at zero = sym (ap (λ b. cond b (Some d) (names k)) (unlike k key ks p (not-true _ (and_parts _ _ each).0) (omega (arith, h)) at))
+  filled_at (k ∷ ks) each (suc p) h at (suc i) = filled_at ks (and_parts _ _ each).1 p (omega (arith, h)) at i
+
+  pub all_filled : (keys : List (List ℕ)) (place : ℕ) → are_distinct keys ≡ true → place < length keys → get_or keys place [] ≡ key → filled place d (slots_at keys names) ≡ slots_at keys (with key d names)
+  all_filled keys place each h at = λ j i. filled_at keys each place h at i j
+
+  pub none_filled : (keys : List (List ℕ)) → is_among key keys ≡ false → slots_at keys names ≡ slots_at keys (with key d names)
+  none_filled keys e = λ j i. apart keys e i j
+
+none_at : (keys : List (List ℕ)) (i : ℕ) → None ≡ slots_at keys (λ name. None) i
+none_at [] i = refl
+none_at (k ∷ ks) zero = refl
+none_at (k ∷ ks) (suc i) = none_at ks i
+
+pub empty_slots : (keys : List (List ℕ)) → (λ place. None) ≡ slots_at keys (λ name. None)
+empty_slots keys = λ j i. none_at keys i j
+
+-- ---- the search of a name
+
+pub length-texts : (names : List (Bor (List ℕ))) → length (texts names) ≡ length names
+length-texts [] = refl
+length-texts (n ∷ ns) = ap suc (length-texts ns)
+
+text_in : (names : List (Bor (List ℕ))) (place : ℕ) (other : Bor (List ℕ)) → place < length names → get_or (texts names) place [] ≡ (get_or names place other).now
+text_in [] place other h = absurd (omega (arith, h))
+text_in (n ∷ ns) zero other h = refl
+text_in (n ∷ ns) (suc p) other h = text_in ns p other (omega (arith, h))
+
+pub found_at : (name : List ℕ) (names : List (Bor (List ℕ))) (place : ℕ) (other : Bor (List ℕ)) (b : Bool) → place < length names → b ≡ bytes_eq name (get_or names place other).now → b ≡ true → get_or (texts names) place [] ≡ name
+found_at name names place other b h is e = text_in names place other h ∙ sym ((bytes_eq-Decides name (get_or names place other).now).0 (sym is ∙ e))
+
+pub passed : (name : List ℕ) (names : List (Bor (List ℕ))) (place : ℕ) (other : Bor (List ℕ)) (b : Bool) → place < length names → b ≡ bytes_eq name (get_or names place other).now → b ≡ false
+    → is_among name (drop (place + 1) (texts names)) ≡ is_among name (drop place (texts names))
+passed name names place other b h is e =
+    let keys : List (List ℕ) = texts names in
+    let within : place < length keys = omega (arith, h, length-texts names) in
+    let unlike_it : bytes_eq name (get_or keys place []) ≡ false = ap (bytes_eq name) (text_in names place other h) ∙ sym is ∙ e in
+    sym (ap (is_among name) (drop_more keys place [] within) ∙ ap (λ c. c || is_among name (drop (place + 1) keys)) unlike_it)

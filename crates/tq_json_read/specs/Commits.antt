@@ -1,0 +1,64 @@
+-- What a commit cites: grants, operations and votes.
+use Rattle.std.specs.Prelude.{ℕ, List, Option, Some, None, cond, codes}
+use Rattle.std.specs.Str.{bytes_eq}
+use Rattle.serde_json.specs.Data.{Data}
+use Rattle.tq_evidence.specs.declared.grant.Grant.{Grant}
+use Rattle.tq_evidence.specs.declared.op.Op.{Op}
+use Rattle.tq_evidence.specs.declared.op.OpKind.{OpKind}
+use Rattle.tq_evidence.specs.declared.op.OpKind.TheVariants.{Read, Write}
+use Rattle.tq_evidence.specs.declared.vote.Vote.{Vote}
+use Rattle.tq_members.specs.declared.format.Format.{Format}
+use Rattle.tq_members.specs.Content.{file_at, content_at}
+use Rattle.tq_json_read.specs.Locking.{mode_at, held_at, writes_at}
+use Rattle.tq_members.specs.Member.{◌>>=◌, text_at, number_at, items_at, each}
+
+abbrev pub grant : Format → Data → Option Grant
+grant format value = do
+  mode ← mode_at value
+  number ← number_at (codes "number") value
+  server ← number_at (codes "server") value
+  version ← number_at (codes "version") value
+  content ← content_at format (codes "content") value
+  Some (record { server = server; number = number; mode = mode; version = version; content = content })
+
+abbrev pub grants_at : Format → Data → Option (List Grant)
+grants_at format value = do
+  values ← items_at (codes "grants") value
+  each (grant format) values
+
+abbrev pub kind_of : List ℕ → Option OpKind
+kind_of text =
+    cond (bytes_eq text (codes "read")) (Some Read)
+    (cond (bytes_eq text (codes "write")) (Some Write) None)
+
+abbrev pub kind_at : Data → Option OpKind
+kind_at value = do
+  text ← text_at (codes "kind") value
+  kind_of text
+
+abbrev pub op : Format → Data → Option Op
+op format value = do
+  file ← file_at (codes "file") value
+  kind ← kind_at value
+  version ← number_at (codes "version") value
+  content ← content_at format (codes "content") value
+  grants ← grants_at format value
+  Some (record { file = file; kind = kind; version = version; content = content; grants = grants })
+
+abbrev pub ops_at : Format → Data → Option (List Op)
+ops_at format value = do
+  values ← items_at (codes "ops") value
+  each (op format) values
+
+abbrev pub vote : Format → Data → Option Vote
+vote format value = do
+  number ← number_at (codes "number") value
+  server ← number_at (codes "server") value
+  held ← held_at value
+  writes ← writes_at format value
+  Some (record { server = server; number = number; held = held; writes = writes })
+
+abbrev pub votes_at : Format → Data → Option (List Vote)
+votes_at format value = do
+  values ← items_at (codes "votes") value
+  each (vote format) values

@@ -1,0 +1,76 @@
+ghost use Rattle.std.specs.Prelude.{◌≡◌, refl};
+ghost use Rattle.tq_json_read.specs.Objects.{made_by};
+ghost use Rattle.tq_json_read.specs.Slots as slots;
+ghost use Rattle.tq_json_read.specs.Desks as spec;
+
+use crate::object::take_object;
+use crate::parts::{FromReader, Taken};
+use crate::plan::Plan;
+use crate::scalars::Word;
+use std::alloc::Global;
+use tq_desk::DeskAsk;
+use tq_evidence::{Op, Vote};
+use tq_shape::SharedSeq;
+use tq_value::Reader;
+
+const DESK_ASK_NAMES: &[&str] = &["is", "ops", "txn", "votes"];
+
+impl<'a> FromReader<'a> for DeskAsk {
+    ghost at = { λ plan. made_by (spec.desk_ask plan.format) };
+
+    ghost none = { λ plan. refl };
+
+    fn read(alloc: Global, plan: &Plan, reader: &mut Reader<'a>, depth: usize) -> Taken<DeskAsk> {
+        let (kind, (ops, (txn, (votes, ())))) = take_object(
+            alloc,
+            plan,
+            DESK_ASK_NAMES,
+            reader,
+            depth,
+        )?;
+        let Some(kind) = kind else {
+            return Ok(None);
+        };
+        Ok(desk_ask_by(&kind, ops, txn, votes))
+    }
+}
+
+fn desk_ask_by(
+    kind: &Word<'_>,
+    ops: Option<SharedSeq<Op>>,
+    txn: Option<u64>,
+    votes: Option<SharedSeq<Vote>>,
+) -> Option<DeskAsk>
+    ensures { result ≡ slots.desk_ask_by kind.now ops txn votes }
+{
+    if kind.is("begin") {
+        return Some(DeskAsk::Begin);
+    }
+    if kind.is("commit") {
+        return commit_ask(txn, ops, votes);
+    }
+    if kind.is("resolve") {
+        return resolve(txn);
+    }
+    None
+}
+
+fn commit_ask(
+    txn: Option<u64>,
+    ops: Option<SharedSeq<Op>>,
+    votes: Option<SharedSeq<Vote>>,
+) -> Option<DeskAsk>
+    ensures { result ≡ slots.commit_ask txn ops votes }
+{
+    let txn = txn?;
+    let ops = ops?;
+    let votes = votes?;
+    Some(DeskAsk::Commit { txn, ops, votes })
+}
+
+fn resolve(txn: Option<u64>) -> Option<DeskAsk>
+    ensures { result ≡ slots.resolve txn }
+{
+    let txn = txn?;
+    Some(DeskAsk::Resolve { txn })
+}

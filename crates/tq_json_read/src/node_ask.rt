@@ -1,0 +1,271 @@
+ghost use Rattle.std.specs.Prelude.{◌≡◌, refl, IfOk};
+ghost use Rattle.tq_json_read.specs.Objects.{made_by};
+ghost use Rattle.tq_json_read.specs.Slots as slots;
+ghost use Rattle.tq_json_read.specs.NodeAsks as spec;
+
+use crate::object::take_object;
+use crate::parts::{FromReader, Taken};
+use crate::plan::Plan;
+use crate::scalars::Word;
+use std::alloc::Global;
+use tq_asks::{CitedVote, NodeAsk, Verdict, WorkAsk};
+use tq_locks::Mode;
+use tq_shape::{Memory, Shared, SharedSeq};
+use tq_store::{Content, FileName, Write};
+use tq_value::Reader;
+
+/// What stands in work, but for its kind.
+#[derive(Drop)]
+struct WorkMembers {
+    cite: Option<u64>,
+    content: Option<Content>,
+    file: Option<FileName>,
+    from: Option<CitedVote>,
+    mode: Option<Mode>,
+    txn: Option<u64>,
+    verdict: Option<Verdict>,
+    version: Option<u64>,
+    writes: Option<SharedSeq<Write>>,
+}
+
+const WORK_ASK_NAMES: &[&str] = &[
+    "cite", "content", "file", "from", "is", "mode", "txn", "verdict", "version", "writes",
+];
+
+impl<'a> FromReader<'a> for WorkAsk {
+    ghost at = { λ plan. made_by (spec.work_at plan.format) };
+
+    ghost none = { λ plan. refl };
+
+    fn read(alloc: Global, plan: &Plan, reader: &mut Reader<'a>, depth: usize) -> Taken<WorkAsk> {
+        let (cite, (content, (file, (from, (kind, rest))))) = take_object(
+            alloc,
+            plan,
+            WORK_ASK_NAMES,
+            reader,
+            depth,
+        )?;
+        let (mode, (txn, (verdict, (version, (writes, ()))))) = rest;
+        let members = WorkMembers {
+            cite,
+            content,
+            file,
+            from,
+            mode,
+            txn,
+            verdict,
+            version,
+            writes,
+        };
+        let Some(kind) = kind else {
+            return Ok(None);
+        };
+        Ok(work_by(&kind, members))
+    }
+}
+
+/// Those that most asks have first.
+const NODE_ASK_NAMES: &[&str] = &[
+    "cite", "file", "is", "mode", "txn", "verdict", "writes", "content", "from", "version",
+    "after", "ask",
+];
+
+impl<'a> FromReader<'a> for NodeAsk {
+    ghost at = { λ plan. made_by (spec.node_ask plan.format) };
+
+    ghost none = { λ plan. refl };
+
+    fn read(alloc: Global, plan: &Plan, reader: &mut Reader<'a>, depth: usize) -> Taken<NodeAsk> {
+        let (cite, (file, (kind, (mode, (txn, (verdict, (writes, rest))))))) = take_object(
+            alloc,
+            plan,
+            NODE_ASK_NAMES,
+            reader,
+            depth,
+        )?;
+        let (content, (from, (version, (after, (inside, ()))))) = rest;
+        let members = WorkMembers {
+            cite,
+            content,
+            file,
+            from,
+            mode,
+            txn,
+            verdict,
+            version,
+            writes,
+        };
+        let Some(kind) = kind else {
+            return Ok(None);
+        };
+        Ok(node_by(alloc, &kind, after, inside, members)?)
+    }
+}
+
+#[inline(always)]
+fn work_by(kind: &Word<'_>, members: WorkMembers) -> Option<WorkAsk>
+    ensures { result ≡ slots.work_by kind.now members }
+{
+    if kind.is("lock") {
+        return lock(members);
+    }
+    if kind.is("prepare") {
+        return prepare(members);
+    }
+    if kind.is("decide") {
+        return decide(members);
+    }
+    if kind.is("release") {
+        return release(members);
+    }
+    if kind.is("peek") {
+        return peek(members);
+    }
+    if kind.is("refresh") {
+        return refresh(members);
+    }
+    None
+}
+
+#[inline(always)]
+fn lock(members: WorkMembers) -> Option<WorkAsk>
+    ensures { result ≡ slots.lock members }
+{
+    let WorkMembers {
+        file,
+        mode,
+        txn,
+        ..
+    } = members;
+    let file = file?;
+    let mode = mode?;
+    let txn = txn?;
+    Some(WorkAsk::Lock { txn, file, mode })
+}
+
+#[inline(always)]
+fn prepare(members: WorkMembers) -> Option<WorkAsk>
+    ensures { result ≡ slots.prepare members }
+{
+    let WorkMembers { txn, writes, .. } = members;
+    let txn = txn?;
+    let writes = writes?;
+    Some(WorkAsk::Prepare { txn, writes })
+}
+
+#[inline(always)]
+fn decide(members: WorkMembers) -> Option<WorkAsk>
+    ensures { result ≡ slots.decide members }
+{
+    let WorkMembers {
+        cite,
+        txn,
+        verdict,
+        ..
+    } = members;
+    let cite = cite?;
+    let txn = txn?;
+    let verdict = verdict?;
+    Some(WorkAsk::Decide { txn, verdict, cite })
+}
+
+#[inline(always)]
+fn release(members: WorkMembers) -> Option<WorkAsk>
+    ensures { result ≡ slots.release members }
+{
+    let txn = members.txn?;
+    Some(WorkAsk::Release { txn })
+}
+
+#[inline(always)]
+fn peek(members: WorkMembers) -> Option<WorkAsk>
+    ensures { result ≡ slots.peek members }
+{
+    let file = members.file?;
+    Some(WorkAsk::Peek { file })
+}
+
+#[inline(always)]
+fn refresh(members: WorkMembers) -> Option<WorkAsk>
+    ensures { result ≡ slots.refresh members }
+{
+    let WorkMembers {
+        content,
+        file,
+        from,
+        version,
+        ..
+    } = members;
+    let file = file?;
+    let from = from?;
+    let version = version?;
+    let content = content?;
+    Some(WorkAsk::Refresh {
+        file,
+        version,
+        content,
+        from,
+    })
+}
+
+#[inline(always)]
+fn node_by(
+    alloc: Global,
+    kind: &Word<'_>,
+    after: Option<u64>,
+    inside: Option<WorkAsk>,
+    members: WorkMembers,
+) -> Result<Option<NodeAsk>, Memory>
+    ensures { IfOk result (λ ask. ask ≡ slots.node_by kind.now after inside members) }
+{
+    if kind.is("crash") {
+        return Ok(Some(NodeAsk::Crash));
+    }
+    if kind.is("return") {
+        return Ok(Some(NodeAsk::Return));
+    }
+    if kind.is("crashin") {
+        return stop(alloc, after, inside);
+    }
+    work(alloc, kind, members)
+}
+
+/// A stop: in which work, and behind how many of its records.
+fn stop(
+    alloc: Global,
+    after: Option<u64>,
+    inside: Option<WorkAsk>,
+) -> Result<Option<NodeAsk>, Memory>
+    ensures { IfOk result (λ ask. ask ≡ slots.stop after inside) }
+{
+    let Some(after) = count_of(after) else {
+        return Ok(None);
+    };
+    let Some(inside) = inside else {
+        return Ok(None);
+    };
+    let ask = Shared::new(alloc, inside)?;
+    Ok(Some(NodeAsk::CrashIn { ask, after }))
+}
+
+/// Behind how many records a server stops: a number of 32 bits.
+fn count_of(after: Option<u64>) -> Option<u32>
+    ensures { result ≡ slots.count_of after }
+{
+    let after = after?;
+    if after > u32::MAX as u64 {
+        return None;
+    }
+    Some(after as u32)
+}
+
+#[inline(always)]
+fn work(alloc: Global, kind: &Word<'_>, members: WorkMembers) -> Result<Option<NodeAsk>, Memory>
+    ensures { IfOk result (λ ask. ask ≡ slots.work kind.now members) }
+{
+    let Some(ask) = work_by(kind, members) else {
+        return Ok(None);
+    };
+    let ask = Shared::new(alloc, ask)?;
+    Ok(Some(NodeAsk::Work(ask)))
+}

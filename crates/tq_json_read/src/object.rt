@@ -1,0 +1,210 @@
+//! Objects: what stands at each of the names that are asked for, the last value of each name.
+//!
+//! The members of an object mostly come in the order of the names, so the name behind the last one is tried first.
+ghost use Rattle.std.specs.Prelude.{◌≡◌, ◌<◌, ◌≤◌, false, length, None, Err, IfOk, OnOk, IsTrue, MatchOption};
+ghost use Rattle.serde_json.specs.Find.{get_member};
+ghost use Rattle.tq_value.specs.Next.{next, next_members, Found};
+ghost use Rattle.tq_json_read.specs.Objects.{Names, names_of, with, slots_at, texts, IsNameAt, is_among, are_distinct};
+
+use crate::parts::{FromReader, Taken};
+use crate::plan::Plan;
+use std::alloc::Global;
+use tq_members::is_text;
+use tq_value::{NotRead, Reader, open_object, pass_over};
+
+/// Room for what stands at names, one slot for each name.
+pub(crate) trait Slots<'a>: Sized + Drop {
+    ghost use Rattle.std.specs.Prelude.{◌≡◌, ◌<◌, length, None, Err, IfOk, OnOk, IsTrue};
+    ghost use Rattle.tq_json_read.specs.declared.plan.Plan.{Plan};
+    ghost use Rattle.tq_json_read.specs.Objects.{Slots as Values, filled, texts, IsNameAt};
+    ghost use Rattle.tq_value.specs.Next.{next, Found};
+
+    /// What they are, by a plan, of the values in them.
+    ghost of: { Plan → Values → Self };
+
+    fn empty(plan: &Plan) -> Self
+        ensures { result ≡ of plan.now (λ place. None) };
+
+    /// Whether the name is the one at that place, where it is a place of theirs.
+    fn is_named(names: &[&str], place: usize, name: &str) -> bool
+        ensures { IsTrue result → IsNameAt name.now (texts names.now) place };
+
+    /// Takes the next value into the slot at that place, and passes it over where there is none.
+    fn put(
+        &mut self,
+        alloc: Global,
+        plan: &Plan,
+        place: usize,
+        reader: &mut Reader<'a>,
+        depth: usize,
+    ) -> Result<(), NotRead>
+        ensures ok { (values : Values) → self.old ≡ of plan.now values → IfOk result
+            (Found (λ d u. self.new ≡ of plan.now (filled place d values)) (next depth reader.old) reader.new) }
+        ensures err { result ≡ Err NotRead.NotJson → next depth reader.old ≡ None }
+        ensures shorter { OnOk result (length reader.new < length reader.old) };
+}
+
+impl<'a> Slots<'a> for () {
+    ghost of = { λ plan values. tt };
+
+    fn empty(_plan: &Plan) -> () {}
+
+    #[inline(always)]
+    fn is_named(_names: &[&str], _place: usize, _name: &str) -> bool {
+        false
+    }
+
+    fn put(
+        &mut self,
+        _alloc: Global,
+        _plan: &Plan,
+        _place: usize,
+        reader: &mut Reader<'a>,
+        depth: usize,
+    ) -> Result<(), NotRead> {
+        pass_over(reader, depth)
+    }
+}
+
+impl<'a, T: FromReader<'a>, R: Slots<'a>> Slots<'a> for (Option<T>, R) {
+    ghost use Rattle.std.specs.Prelude.{zero, suc};
+
+    ghost of = { λ plan values. (T.at plan (values zero), R.of plan (λ place. values (suc place))) };
+
+    fn empty(plan: &Plan) -> (Option<T>, R) {
+        (None, R::empty(plan))
+    }
+
+    #[inline(always)]
+    fn is_named(names: &[&str], place: usize, name: &str) -> bool {
+        if names.is_empty() {
+            return false;
+        }
+        if place > 0 {
+            return R::is_named(&names[1..], place - 1, name);
+        }
+        is_text(name, names[0])
+    }
+
+    fn put(
+        &mut self,
+        alloc: Global,
+        plan: &Plan,
+        place: usize,
+        reader: &mut Reader<'a>,
+        depth: usize,
+    ) -> Result<(), NotRead> {
+        if place > 0 {
+            return self.1.put(alloc, plan, place - 1, reader, depth);
+        }
+        self.0 = T::read(alloc, plan, reader, depth)?;
+        Ok(())
+    }
+}
+
+/// What stands at these names in the next value, which may be no object.
+#[inline(always)]
+pub(crate) fn take_object<'a, S: Slots<'a>>(
+    alloc: Global,
+    plan: &Plan,
+    names: &[&str],
+    reader: &mut Reader<'a>,
+    depth: usize,
+) -> Result<S, NotRead>
+    requires { IsTrue (are_distinct (texts names.now)) }
+    ensures ok { IfOk result
+        (Found (λ d slots. slots ≡ S.of plan.now (slots_at (texts names.now) (names_of d)))
+        (next depth reader.old) reader.new) }
+    ensures err { result ≡ Err NotRead.NotJson → next depth reader.old ≡ None }
+    ensures shorter { OnOk result (length reader.new < length reader.old) }
+{
+    if !open_object(reader, depth)? {
+        return Ok(S::empty(plan));
+    }
+    take_members(alloc, plan, names, reader, depth - 1)
+}
+
+/// What stands at these names in the members up to the brace of an object.
+#[inline(always)]
+fn take_members<'a, S: Slots<'a>>(
+    alloc: Global,
+    plan: &Plan,
+    names: &[&str],
+    reader: &mut Reader<'a>,
+    depth: usize,
+) -> Result<S, NotRead>
+    requires { IsTrue (are_distinct (texts names.now)) }
+    ensures ok { IfOk result
+        (Found (λ ms slots. slots ≡ S.of plan.now
+        (slots_at (texts names.now) (λ name. get_member name ms)))
+        (next_members depth reader.old) reader.new) }
+    ensures err { result ≡ Err NotRead.NotJson → next_members depth reader.old ≡ None }
+    ensures shorter { OnOk result (length reader.new ≤ length reader.old) }
+{
+    let mut slots = S::empty(plan);
+    let mut expected = 0;
+    'members: while let Some(name) = reader.next_key()? {
+        expected = take_member(
+            alloc, plan, names, name, expected, &mut slots, reader, depth,
+        )?;
+    }
+    Ok(slots)
+}
+
+/// Takes the value of a member of that name, and tells the place of the name that is expected next.
+#[inline(always)]
+fn take_member<'a, S: Slots<'a>>(
+    alloc: Global,
+    plan: &Plan,
+    names: &[&str],
+    name: &str,
+    expected: usize,
+    slots: &mut S,
+    reader: &mut Reader<'a>,
+    depth: usize,
+) -> Result<usize, NotRead>
+    requires { IsTrue (are_distinct (texts names.now)) }
+    ensures ok { (found : Names) → slots.old ≡ S.of plan.now (slots_at (texts names.now) found) → IfOk result
+        (Found (λ d u. slots.new ≡ S.of plan.now (slots_at (texts names.now) (with name.now d found)))
+        (next depth reader.old) reader.new) }
+    ensures err { result ≡ Err NotRead.NotJson → next depth reader.old ≡ None }
+    ensures shorter { OnOk result (length reader.new < length reader.old) }
+{
+    let Some(place) = place_of::<S>(names, name, expected) else {
+        pass_over(reader, depth)?;
+        return Ok(expected);
+    };
+    slots.put(alloc, plan, place, reader, depth)?;
+    Ok(place + 1)
+}
+
+/// The place of the name among these, the one that is expected first.
+#[inline(always)]
+fn place_of<'a, S: Slots<'a>>(names: &[&str], name: &str, expected: usize) -> Option<usize>
+    ensures { MatchOption result (is_among name.now (texts names.now) ≡ false)
+        (IsNameAt name.now (texts names.now)) }
+{
+    if S::is_named(names, expected, name) {
+        return Some(expected);
+    }
+    match place_from(names, name, expected) {
+        Some(place) => Some(place),
+        None => place_from(names, name, 0),
+    }
+}
+
+/// The first place of the name from that one on.
+#[inline(never)]
+fn place_from(names: &[&str], name: &str, first: usize) -> Option<usize>
+    ensures { MatchOption result (first ≡ 0 → is_among name.now (texts names.now) ≡ false)
+        (IsNameAt name.now (texts names.now)) }
+{
+    let mut place = first;
+    'names: while place < names.len() {
+        if is_text(name, names[place]) {
+            return Some(place);
+        }
+        place += 1;
+    }
+    None
+}

@@ -1,0 +1,206 @@
+//! Values that hold no others, and lists of any length.
+ghost use Rattle.std.specs.Prelude.{◌≡◌, Some, refl};
+ghost use Rattle.std.specs.Option.{option_and_then};
+ghost use Rattle.std.specs.Str.{bytes_eq};
+ghost use Rattle.serde_json.specs.Find.{as_str, as_bool, as_array};
+ghost use Rattle.tq_members.specs.Content as content;
+ghost use Rattle.tq_members.specs.Member.{number_of};
+ghost use Rattle.tq_live.specs.Purposes as purposes;
+ghost use Rattle.tq_json_read.specs.Objects.{in_text, all_of};
+ghost use Rattle.tq_json_read.specs.Commits as commits;
+ghost use Rattle.tq_json_read.specs.Locking as locking;
+
+use crate::parts::{FromReader, Taken, take_list};
+use crate::plan::Plan;
+use std::alloc::Global;
+use std::marker::Model;
+use tq_evidence::OpKind;
+use tq_live::Purpose;
+use tq_locks::Mode;
+use tq_members::{content_of, is_text, name_of};
+use tq_shape::SharedSeq;
+use tq_store::{Content, FileName};
+use tq_value::{Leaf, NotRead, Reader, take_leaf};
+
+/// A text, which is borrowed from the file. Contracts see its bytes.
+#[derive(Drop)]
+pub(crate) struct Word<'a> {
+    text: &'a str,
+}
+
+impl<'a> Model for Word<'a> {
+    ghost use Rattle.std.specs.Prelude.{List, ℕ};
+    ghost use Rattle.std.specs.Coded.{coded_list, coded_ℕ};
+
+    ghost Value = { List ℕ };
+
+    ghost coded = { coded_list coded_ℕ };
+
+    ghost view = { λ a. a.text.now };
+}
+
+impl<'a> Word<'a> {
+    /// Whether it is that text.
+    pub(crate) fn is(&self, text: &str) -> bool
+        ensures { result ≡ bytes_eq self.now text.now }
+    {
+        is_text(self.text, text)
+    }
+}
+
+impl<'a> FromReader<'a> for Word<'a> {
+    ghost at = { λ plan. option_and_then as_str };
+
+    ghost none = { λ plan. refl };
+
+    fn read(
+        _alloc: Global,
+        _plan: &Plan,
+        reader: &mut Reader<'a>,
+        depth: usize,
+    ) -> Taken<Word<'a>> {
+        match take_leaf(reader, depth)? {
+            Leaf::Text(text) => Ok(Some(Word { text })),
+            _ => Ok(None),
+        }
+    }
+}
+
+impl<'a> FromReader<'a> for u64 {
+    ghost at = { λ plan. option_and_then number_of };
+
+    ghost none = { λ plan. refl };
+
+    fn read(_alloc: Global, _plan: &Plan, reader: &mut Reader<'a>, depth: usize) -> Taken<u64> {
+        match take_leaf(reader, depth)? {
+            Leaf::Whole(number) => Ok(Some(number)),
+            _ => Ok(None),
+        }
+    }
+}
+
+impl<'a> FromReader<'a> for bool {
+    ghost at = { λ plan. option_and_then as_bool };
+
+    ghost none = { λ plan. refl };
+
+    fn read(_alloc: Global, _plan: &Plan, reader: &mut Reader<'a>, depth: usize) -> Taken<bool> {
+        match take_leaf(reader, depth)? {
+            Leaf::Flag(flag) => Ok(Some(flag)),
+            _ => Ok(None),
+        }
+    }
+}
+
+impl<'a> FromReader<'a> for FileName {
+    ghost at = { λ plan. in_text content.name_of };
+
+    ghost none = { λ plan. refl };
+
+    fn read(
+        _alloc: Global,
+        _plan: &Plan,
+        reader: &mut Reader<'a>,
+        depth: usize,
+    ) -> Taken<FileName> {
+        match take_leaf(reader, depth)? {
+            Leaf::Text(text) => Ok(name_of(text)),
+            _ => Ok(None),
+        }
+    }
+}
+
+impl<'a> FromReader<'a> for Content {
+    ghost at = { λ plan. in_text (content.content_of plan.format) };
+
+    ghost none = { λ plan. refl };
+
+    fn read(alloc: Global, plan: &Plan, reader: &mut Reader<'a>, depth: usize) -> Taken<Content> {
+        match take_leaf(reader, depth)? {
+            Leaf::Text(text) => Ok(content_of(alloc, plan.format, text)?),
+            _ => Ok(None),
+        }
+    }
+}
+
+impl<'a> FromReader<'a> for Mode {
+    ghost at = { λ plan. in_text locking.mode_of };
+
+    ghost none = { λ plan. refl };
+
+    fn read(_alloc: Global, _plan: &Plan, reader: &mut Reader<'a>, depth: usize) -> Taken<Mode> {
+        match take_leaf(reader, depth)? {
+            Leaf::Text(text) => Ok(mode_of(text)),
+            _ => Ok(None),
+        }
+    }
+}
+
+fn mode_of(text: &str) -> Option<Mode>
+    ensures { result ≡ locking.mode_of text.now }
+{
+    if is_text(text, "shared") {
+        return Some(Mode::Shared);
+    }
+    if is_text(text, "exclusive") {
+        return Some(Mode::Exclusive);
+    }
+    None
+}
+
+impl<'a> FromReader<'a> for OpKind {
+    ghost at = { λ plan. in_text commits.kind_of };
+
+    ghost none = { λ plan. refl };
+
+    fn read(_alloc: Global, _plan: &Plan, reader: &mut Reader<'a>, depth: usize) -> Taken<OpKind> {
+        match take_leaf(reader, depth)? {
+            Leaf::Text(text) => Ok(kind_of(text)),
+            _ => Ok(None),
+        }
+    }
+}
+
+fn kind_of(text: &str) -> Option<OpKind>
+    ensures { result ≡ commits.kind_of text.now }
+{
+    if is_text(text, "read") {
+        return Some(OpKind::Read);
+    }
+    if is_text(text, "write") {
+        return Some(OpKind::Write);
+    }
+    None
+}
+
+impl<'a> FromReader<'a> for Purpose {
+    ghost at = { λ plan. in_text purposes.purpose_of };
+
+    ghost none = { λ plan. refl };
+
+    fn read(_alloc: Global, _plan: &Plan, reader: &mut Reader<'a>, depth: usize) -> Taken<Purpose> {
+        match take_leaf(reader, depth)? {
+            Leaf::Text(text) => Ok(Purpose::of(text.as_bytes())),
+            _ => Ok(None),
+        }
+    }
+}
+
+/// A list of any length, to be shared.
+impl<'a, T: FromReader<'a>> FromReader<'a> for SharedSeq<T> {
+    ghost at = { λ plan. all_of (λ value. T.at plan (Some value)) };
+
+    ghost none = { λ plan. refl };
+
+    fn read(
+        alloc: Global,
+        plan: &Plan,
+        reader: &mut Reader<'a>,
+        depth: usize,
+    ) -> Taken<SharedSeq<T>> {
+        let Some(list) = take_list(alloc, plan, None, reader, depth)? else {
+            return Ok(None);
+        };
+        Ok(Some(SharedSeq::from_vec(list.into_vec())?))
+    }
+}

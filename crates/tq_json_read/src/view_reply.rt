@@ -1,0 +1,154 @@
+ghost use Rattle.std.specs.Prelude.{◌≡◌, Some, refl, IfOk};
+ghost use Rattle.std.specs.Option.{option_and_then, option_map};
+ghost use Rattle.serde_json.specs.Find.{as_array};
+ghost use Rattle.tq_members.specs.Member.{number_of};
+ghost use Rattle.tq_json_read.specs.Objects.{made_by, all_of};
+ghost use Rattle.tq_json_read.specs.Slots as slots;
+ghost use Rattle.tq_json_read.specs.Views as spec;
+
+use crate::object::take_object;
+use crate::parts::{FromReader, Taken, take_list};
+use crate::plan::Plan;
+use crate::scalars::Word;
+use std::alloc::Global;
+use tq_coterie::{Blocker, Quorum};
+use tq_live::{ViewRefusal, ViewReply};
+use tq_shape::{Levels, Memory, Seq};
+use tq_value::{NotRead, Reader};
+
+/// The numbers of servers.
+#[derive(Drop)]
+struct Servers {
+    numbers: Seq<u64>,
+}
+
+impl<'a> FromReader<'a> for Servers {
+    ghost at = { λ plan o. option_map (λ numbers. record { numbers = numbers }) (all_of number_of o) };
+
+    ghost none = { λ plan. refl };
+
+    fn read(alloc: Global, plan: &Plan, reader: &mut Reader<'a>, depth: usize) -> Taken<Servers> {
+        let Some(numbers) = take_list(alloc, plan, None, reader, depth)? else {
+            return Ok(None);
+        };
+        Ok(Some(Servers { numbers }))
+    }
+}
+
+const VIEW_REPLY_NAMES: &[&str] = &["code", "cost", "is", "servers"];
+
+impl<'a> FromReader<'a> for ViewReply {
+    ghost at = { λ plan. made_by (spec.view_reply plan.levels) };
+
+    ghost none = { λ plan. refl };
+
+    fn read(alloc: Global, plan: &Plan, reader: &mut Reader<'a>, depth: usize) -> Taken<ViewReply> {
+        let (code, (cost, (kind, (servers, ())))) = take_object(
+            alloc,
+            plan,
+            VIEW_REPLY_NAMES,
+            reader,
+            depth,
+        )?;
+        let Some(kind) = kind else {
+            return Ok(None);
+        };
+        Ok(view_reply_by(alloc, plan.levels, &kind, code, cost, servers)?)
+    }
+}
+
+fn view_reply_by(
+    alloc: Global,
+    levels: Levels,
+    kind: &Word<'_>,
+    code: Option<u64>,
+    cost: Option<u64>,
+    servers: Option<Servers>,
+) -> Result<Option<ViewReply>, Memory>
+    ensures { IfOk result (λ reply. reply ≡ slots.view_reply_by levels kind.now code cost servers) }
+{
+    if kind.is("costset") {
+        return Ok(Some(ViewReply::CostSet));
+    }
+    if kind.is("marked") {
+        return Ok(Some(ViewReply::Marked));
+    }
+    if kind.is("chosen") {
+        return chosen(alloc, levels, cost, servers);
+    }
+    if kind.is("refused") {
+        return refused(alloc, levels, code, servers);
+    }
+    Ok(None)
+}
+
+fn chosen(
+    alloc: Global,
+    levels: Levels,
+    cost: Option<u64>,
+    servers: Option<Servers>,
+) -> Result<Option<ViewReply>, Memory>
+    ensures { IfOk result (λ reply. reply ≡ slots.chosen levels cost servers) }
+{
+    let Some(cost) = cost else {
+        return Ok(None);
+    };
+    let Some(servers) = servers else {
+        return Ok(None);
+    };
+    let Some(quorum) = quorum_of(alloc, levels, servers.numbers.as_slice())? else {
+        return Ok(None);
+    };
+    Ok(Some(ViewReply::Chosen { quorum, cost }))
+}
+
+fn refused(
+    alloc: Global,
+    levels: Levels,
+    code: Option<u64>,
+    servers: Option<Servers>,
+) -> Result<Option<ViewReply>, Memory>
+    ensures { IfOk result (λ reply. reply ≡ slots.view_refused levels code servers) }
+{
+    let Some(code) = code else {
+        return Ok(None);
+    };
+    if code == 31 {
+        return Ok(Some(ViewReply::Refused(ViewRefusal::NoSuchServer)));
+    }
+    if code == 32 {
+        return Ok(Some(ViewReply::Refused(ViewRefusal::BadCost)));
+    }
+    if code == 33 {
+        return blocked(alloc, levels, servers);
+    }
+    Ok(None)
+}
+
+fn blocked(
+    alloc: Global,
+    levels: Levels,
+    servers: Option<Servers>,
+) -> Result<Option<ViewReply>, Memory>
+    ensures { IfOk result (λ reply. reply ≡ slots.blocked levels servers) }
+{
+    let Some(servers) = servers else {
+        return Ok(None);
+    };
+    let Some(blocker) = blocker_of(alloc, levels, servers.numbers.as_slice())? else {
+        return Ok(None);
+    };
+    Ok(Some(ViewReply::Refused(ViewRefusal::Blocked(blocker))))
+}
+
+fn quorum_of(alloc: Global, levels: Levels, numbers: &[u64]) -> Result<Option<Quorum>, Memory>
+    ensures { IfOk result (λ quorum. quorum ≡ spec.member_of levels numbers.now) }
+{
+    Ok(Quorum::of(alloc, levels, numbers)?)
+}
+
+fn blocker_of(alloc: Global, levels: Levels, numbers: &[u64]) -> Result<Option<Blocker>, Memory>
+    ensures { IfOk result (λ blocker. blocker ≡ spec.member_of levels numbers.now) }
+{
+    Ok(Blocker::of(alloc, levels, numbers)?)
+}

@@ -1,0 +1,65 @@
+-- The text of journals is read as the journals.
+use Rattle.std.specs.Prelude.{IsUtf8}
+use Rattle.std.proofs.Common.{◌≡◌, ◌≤◌, nat_le, ◌&&◌, ◌+◌, ◌^◌, Bool, true, cond, ℕ, List, [], ◌∷◌, ◌++◌, length, Some, None, refl, ap, ◌∙◌}
+use Rattle.std.specs.List.{AllByRecursion}
+use Rattle.std.proofs.lemmas.Bool.{le-leb, eq-eqb}
+use Rattle.std.proofs.lemmas.List.Elements.{recursion_from_All}
+use Rattle.serde_json.specs.Data.{Items}
+use Rattle.serde_json.specs.Written.{compact_text}
+use Rattle.tq_shape.specs.Limits.{LimitsView}
+use Rattle.tq_node.specs.NodeJournal.{NodeEntry}
+use Rattle.tq_tables.specs.Journals.{JournalsView, IsOfTree}
+use Rattle.tq_members.specs.declared.format.Format.TheVariants.{Two}
+use Rattle.tq_json_read.specs.Entries.{count, journal, node_entry, desk_entry, view_entry}
+use Rattle.tq_json_read.specs.Frame as frame
+use Rattle.tq_members.specs.Member.{◌>>=◌, each}
+use Rattle.tq_json_write.specs.Values.{listed, list_value}
+use Rattle.tq_json_write.specs.Nodes.{node_entry_value}
+use Rattle.tq_json_write.specs.Desks.{desk_entry_value}
+use Rattle.tq_json_write.specs.Views.{view_entry_value}
+use Rattle.tq_json_write.specs.Form.{limits_value, journals_value}
+use Rattle.tq_json_write.specs.Fitting.{IsFitting}
+use Rattle.tq_json_write.specs.Sound.{AreSound, HasLimits, IsNodeEntry, IsDeskEntry, IsViewEntry}
+use Rattle.tq_json_write.specs.Text.{IsTextOf}
+use Rattle.tq_json_write.proofs.Again.{both, count-listed, each-again, journal-again}
+use Rattle.tq_json_write.proofs.Parts.{node-entry-again, desk-entry-again, view-entry-again}
+use Rattle.tq_json_write.proofs.ReadBack.{read-line}
+use Rattle.tq_json_write.proofs.Shapes.{journals-shaped}
+
+two-tests : (a b : Bool) → a ≡ true → b ≡ true → (a && b) ≡ true
+two-tests a b p q = rw (p, q)
+
+within : (most n : ℕ) → 1 ≤ n → n ≤ most → cond (nat_le 1 n && nat_le n most) (Some n) None ≡ Some n
+within most n least top = ap (λ b. cond b (Some n) None) (two-tests (nat_le 1 n) (nat_le n most) (le-leb 1 n least) (le-leb n most top))
+
+limits-again : (limits : LimitsView) → HasLimits limits → frame.limits (limits_value limits) ≡ Some limits
+limits-again limits h =
+    rw (within 1000000 limits.entries h.2.0 h.2.1, within 1000 limits.files h.0.0 h.0.1, within 64 limits.ops h.1.0 h.1.1)
+
+one-each-again : (levels : ℕ) (values : Items) → count values + 1 ≡ 2 ^ levels → frame.one_each levels values ≡ Some values
+one-each-again levels values e = ap (λ b. cond b (Some values) None) (eq-eqb (count values + 1) (2 ^ levels) e)
+
+servers-again : (levels limit : ℕ) (servers : List (List NodeEntry)) → length servers + 1 ≡ 2 ^ levels → AllByRecursion (λ entries. length entries ≤ limit) servers → AllByRecursion (AllByRecursion IsNodeEntry) servers
+    → (frame.one_each levels (listed (list_value node_entry_value) servers) >>= each (journal (node_entry Two) limit)) ≡ Some servers
+servers-again levels limit servers e few sound =
+    ap (λ o. o >>= each (journal (node_entry Two) limit)) (one-each-again levels (listed (list_value node_entry_value) servers) (ap (λ n. n + 1) (count-listed (list_value node_entry_value) servers) ∙ e))
+    ∙ each-again (journal (node_entry Two) limit) (list_value node_entry_value) (λ entries. (length entries ≤ limit) × AllByRecursion IsNodeEntry entries)
+    (λ entries h. journal-again (node_entry Two) node_entry_value IsNodeEntry node-entry-again limit entries h.0 h.1)
+    servers (both (λ entries. length entries ≤ limit) (AllByRecursion IsNodeEntry) servers few sound)
+
+journals-again : (journals : JournalsView) → AreSound journals → frame.journals_in Two (journals_value journals) ≡ Some journals
+journals-again journals h =
+    let limit = journals.limits.entries in
+    let levels = within 10 journals.levels h.levels.0 h.levels.1 in
+    let limits = limits-again journals.limits h.limits in
+    let servers = servers-again journals.levels limit journals.servers h.fit.one_each (recursion_from_All (λ entries. length entries ≤ limit) journals.servers h.fit.servers_fit) h.servers in
+    let desk = journal-again (desk_entry Two) desk_entry_value IsDeskEntry desk-entry-again limit journals.desk h.fit.desk_fits h.desk in
+    let of_tree = both IsViewEntry (λ entry. IsOfTree journals.levels entry.reply) journals.view h.view (recursion_from_All (λ entry. IsOfTree journals.levels entry.reply) journals.view h.fit.of_tree) in
+    let view = journal-again (view_entry Two journals.levels) view_entry_value (λ entry. IsViewEntry entry × IsOfTree journals.levels entry.reply) (view-entry-again journals.levels) limit journals.view h.fit.view_fits of_tree in
+    rw (levels, limits, servers, desk, view)
+
+pub text-again : (journals : JournalsView) (text : List ℕ) → IsUtf8 text → text ≡ compact_text (journals_value journals) ++ 10 ∷ []
+    → IsFitting (journals_value journals) → AreSound journals → IsTextOf text journals
+text-again journals text utf8 same fits sound =
+    let value = journals_value journals in
+    (value, (utf8, rw same (read-line value (journals-shaped journals) fits)), (refl, journals-again journals sound))

@@ -1,0 +1,9 @@
+use Rattle.std.proofs.Common.{take}
+use Rattle.tq_tables.specs.Journals.{JournalsView}
+use Rattle.tq_mirror.specs.Kept.{AreKept}
+use Rattle.tq_mirror.proofs.Standing.{DeskLed}
+use Rattle.tq_mirror.proofs.following.follow_desk.Given as goal
+
+-- the tables were asked what the entries so far ask, and gave their replies
+abbrev pub invariant-loop-entry : goal.invariant-loop-entry
+invariant-loop-entry l = (prefixes : JournalsView) → AreKept l.fn.tables prefixes → DeskLed prefixes l.ahead (take l.entry-index l.entries)

@@ -1,0 +1,70 @@
+-- What was pulled of the journals of a system: of each part the first entries. They are seen as journals.
+use Rattle.std.specs.Prelude.{◌≡◌, ◌<◌, ◌⊎◌, ℕ, ◌+◌, ◌-◌, ◌^◌, List, [], ◌++◌, length, get_or, set, replicate, ⊤}
+use Rattle.tq_shape.specs.Tree.{IsServer}
+use Rattle.tq_shape.specs.Limits.{LimitsView}
+use Rattle.tq_shape.specs.Journal.{IsLegalFrom}
+use Rattle.tq_shape.specs.declared.part.Part.{Part}
+use Rattle.tq_shape.specs.declared.part.Part.TheVariants as parts
+use Rattle.tq_asks.specs.declared.ask.NodeAsk.{NodeAsk}
+use Rattle.tq_node.specs.Records.{node_reply}
+use Rattle.tq_node.specs.Node.{NodeView, answered}
+use Rattle.tq_node.specs.NodeJournal.{NodeEntry}
+use Rattle.tq_desk.specs.DeskJournal.{step_reply, step_after}
+use Rattle.tq_live.specs.View.{view_reply_at, view_after_at}
+use Rattle.tq_tables.specs.Journals.{JournalsView}
+use Rattle.tq_tables.specs.Parts.{node_after_all, desk_at, view_at}
+use Rattle.tq_mirror.specs.declared.entries.Entries.{Entries}
+use Rattle.tq_mirror.specs.declared.entries.Entries.TheVariants as entries
+use Rattle.tq_mirror.specs.declared.fault.PullFault.{PullFault}
+use Rattle.tq_mirror.specs.declared.fault.PullFault.TheVariants as faults
+
+-- nothing was pulled of any part of a system
+abbrev pub nothing_pulled : ℕ → LimitsView → JournalsView
+nothing_pulled levels limits = record { levels = levels; limits = limits; servers = replicate (2 ^ levels - 1) []; desk = []; view = [] }
+
+-- a system with a tree of so many levels has the part
+abbrev pub IsPartOf : ℕ → Part → Type 0
+IsPartOf levels (parts.Server number) = IsServer levels number
+IsPartOf levels parts.Desk = ⊤
+IsPartOf levels parts.View = ⊤
+
+-- what was pulled of the server of a number, and how many entries of a part
+abbrev pub server_prefix : JournalsView → ℕ → List NodeEntry
+server_prefix prefixes number = get_or prefixes.servers (number - 1) []
+
+abbrev pub prefix_length : JournalsView → Part → ℕ
+prefix_length prefixes (parts.Server number) = length (server_prefix prefixes number)
+prefix_length prefixes parts.Desk = length prefixes.desk
+prefix_length prefixes parts.View = length prefixes.view
+
+-- how many entries there are
+abbrev pub count_of : Entries → ℕ
+count_of (entries.Server given) = length given
+count_of (entries.Desk given) = length given
+count_of (entries.View given) = length given
+
+-- these entries stand behind those of the part; those of the other parts are as they were
+abbrev pub grown : JournalsView → Part → Entries → JournalsView
+grown prefixes (parts.Server number) (entries.Server more) = record prefixes { servers = set prefixes.servers (number - 1) (server_prefix prefixes number ++ more) }
+grown prefixes parts.Desk (entries.Desk more) = record prefixes { desk = prefixes.desk ++ more }
+grown prefixes parts.View (entries.View more) = record prefixes { view = prefixes.view ++ more }
+grown prefixes part more = prefixes
+
+-- the part, standing where its prefix leaves it, gives these entries next
+abbrev pub GivesNext : JournalsView → Part → Entries → Type 0
+GivesNext prefixes (parts.Server number) (entries.Server more) =
+    IsLegalFrom (λ (s : NodeView) (n : ℕ) (a : NodeAsk). node_reply s.server s.state a) (λ s n a. answered s n a)
+    (node_after_all prefixes.levels number (server_prefix prefixes number)) (length (server_prefix prefixes number) + 1) more
+GivesNext prefixes parts.Desk (entries.Desk more) = IsLegalFrom step_reply step_after (desk_at prefixes.levels prefixes.limits prefixes.desk) (length prefixes.desk + 1) more
+GivesNext prefixes parts.View (entries.View more) = IsLegalFrom view_reply_at view_after_at (view_at prefixes.levels prefixes.view) (length prefixes.view + 1) more
+GivesNext prefixes part more = ⊥
+
+-- the entries do not continue the part's prefix, or leave it with fewer entries than that
+abbrev pub IsForeign : JournalsView → Part → Entries → ℕ → Type 0
+IsForeign prefixes part more least = (GivesNext prefixes part more → ⊥) ⊎ (prefix_length prefixes part + count_of more < least)
+
+-- why these entries of the part were not taken, of which with its prefix there were to be that many at least: memory was
+-- refused, or they are handed back and are foreign
+abbrev pub IsPullFault : JournalsView → Part → Entries → ℕ → PullFault → Type 0
+IsPullFault prefixes part more least faults.Memory = ⊤
+IsPullFault prefixes part more least (faults.Foreign there given) = (there ≡ part) × ((given ≡ more) × IsForeign prefixes part more least)

@@ -1,9 +1,0 @@
-use Rattle.std.proofs.Common.{take}
-use Rattle.tq_tables.specs.Journals.{JournalsView}
-use Rattle.tq_prefixes.specs.Kept.{AreKept}
-use Rattle.tq_prefixes.proofs.Standing.{DeskLed}
-use Rattle.tq_prefixes.proofs.following.follow_desk.Given as goal
-
--- the tables were asked what the entries so far ask, and gave their replies
-abbrev pub invariant-loop-entry : goal.invariant-loop-entry
-invariant-loop-entry l = (prefixes : JournalsView) → AreKept l.fn.tables prefixes → DeskLed prefixes l.ahead (take l.entry-index l.entries)

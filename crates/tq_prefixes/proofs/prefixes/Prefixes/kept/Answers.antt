@@ -1,7 +1,0 @@
-use Rattle.std.proofs.Common.{subst}
-use Rattle.tq_tables.specs.Journals.{JournalsView}
-use Rattle.tq_prefixes.specs.Kept.{AreKept}
-use Rattle.tq_prefixes.proofs.prefixes.Prefixes.kept.Goals as goal
-
-pub returns : goal.returns
-returns c = subst (λ (w : JournalsView). AreKept c.self.inside.tables w) c.self.view_is c.self.invariant.0

@@ -1,8 +1,0 @@
-use Rattle.std.proofs.Common.{rules}
-use Rattle.tq_print.proofs.Extended.{extends_more}
-use Rattle.tq_print.proofs.print.push_servers.Goals as goal
-
-pub returns-in_err-push_spaced-clause-kept : goal.returns-in_err-push_spaced-clause-kept
-returns-in_err-push_spaced-clause-kept c =
-    let kept = extends_more _ _ _ c.loop-server.invariant.1 c.in_err-push_spaced.ensures.kept in
-    search rules

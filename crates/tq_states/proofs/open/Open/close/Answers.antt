@@ -1,5 +1,0 @@
-use Rattle.tq_states.proofs.CitedLaws.{close_cited}
-use Rattle.tq_states.proofs.open.Open.close.Goals as goal
-
-pub returns-clause-cited : goal.returns-clause-cited
-returns-clause-cited c = close_cited c.args.self c.new.result c.new.ensures

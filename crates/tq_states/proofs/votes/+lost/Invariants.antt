@@ -1,5 +1,0 @@
-use Rattle.std.proofs.Common.{length}
-use Rattle.tq_states.proofs.votes.+lost.Given as goal
-
-abbrev pub decreases-lost : goal.decreases-lost
-decreases-lost l = length l.ops.now

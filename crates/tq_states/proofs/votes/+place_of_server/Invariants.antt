@@ -1,5 +1,0 @@
-use Rattle.std.proofs.Common.{length}
-use Rattle.tq_states.proofs.votes.+place_of_server.Given as goal
-
-abbrev pub decreases-place_of_server : goal.decreases-place_of_server
-decreases-place_of_server l = length l.ops.now

@@ -1,0 +1,7 @@
+use Rattle.std.proofs.Common.{◌≡◌, ◌<◌, ◌^◌, Some, drop}
+use Rattle.tq_syntax.specs.Word.{digits_then}
+use Rattle.tq_syntax.proofs.word.few_digits.Given as goal
+
+-- the digits that are left, after the number so far, give the number, which has no more digits than were read
+abbrev pub invariant-loop-digit : goal.invariant-loop-digit
+invariant-loop-digit l = (digits_then (drop l.digit-index l.word) (Some l.value) ≡ digits_then l.word (Some 0)) × (l.value < 10 ^ l.digit-index)

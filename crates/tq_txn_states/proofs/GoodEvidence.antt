@@ -1,0 +1,150 @@
+-- A transaction with all its votes shows good evidence.
+use Rattle.std.proofs.Common.{◌≡◌, ◌==◌, ℕ, Bool, true, false, not, ◌||◌, ◌&&◌, cond, List, [], ◌∷◌, ◌++◌, Option, None, filter, fold, refl, sym, ap, ◌∙◌, subst, append_assoc, append-nil}
+use Rattle.std.specs.Cmp.Lexicographic.{nat_list_cmp_total}
+use Rattle.std.specs.FinMap.{slice_cmp-IsAntisymmetric, nat_cmp-IsAntisymmetric}
+use Rattle.std.specs.List.{list_all, list_any}
+use Rattle.std.specs.Ordering.{is_lt, is_eq, is_gt}
+use Rattle.std.specs.declared.cmp.Ordering.{Ordering}
+use Rattle.std.specs.declared.cmp.Ordering.TheVariants.{Less, Equal, Greater}
+use Rattle.std.proofs.lemmas.Bool.{and_parts, and_from, or_left, or_right, eq-eqb, false≢true}
+use Rattle.tq_store.specs.Copies.{name_cmp}
+use Rattle.tq_evidence.specs.declared.grant.Grant.{Grant}
+use Rattle.tq_evidence.specs.declared.op.Op.{Op}
+use Rattle.tq_evidence.specs.declared.rule.Rule.{Rule}
+use Rattle.tq_evidence.specs.declared.vote.Vote.{Vote}
+use Rattle.tq_evidence.specs.Evidence.{is_write, covers, is_grant_covered, is_covered, are_grants_covered, are_covered, has_server, is_server_of, put_op, writes_by_file, have_writes, stands_before, ops_rise, failed, IsGood}
+use Rattle.tq_txn_states.specs.Open.{IsOpen}
+use Rattle.tq_txn_states.specs.Voting.{VotingView, IsVoting, covers_grant, covers_op, has_vote, has_votes, writes_in}
+use Rattle.tq_txn_states.proofs.NumberSets.{has-all}
+use Rattle.tq_txn_states.proofs.Puts.{insert_before, put-last}
+
+-- ---- each grant is covered
+
+all_split : {X : Type 0} (p q : X → Bool) (xs : List X) → list_all (λ x. p x && q x) xs ≡ true → (list_all p xs ≡ true) × (list_all q xs ≡ true)
+all_split p q [] all = (refl, refl)
+all_split p q (x ∷ xs) all =
+    let parts = and_parts (p x && q x) (list_all (λ y. p y && q y) xs) all in
+    let here = and_parts (p x) (q x) parts.0 in
+    let rest = all_split p q xs parts.1 in
+    (and_from (p x) (list_all p xs) here.0 rest.0, and_from (q x) (list_all q xs) here.1 rest.1)
+
+covered_by_one : (votes : List Vote) (file : List ℕ) (grant : Grant) → has_vote votes grant.server ≡ true → list_all (λ vote. covers_grant vote file grant) votes ≡ true → is_grant_covered votes file grant ≡ true
+covered_by_one [] file grant there all = absurd (false≢true there)
+covered_by_one (vote ∷ votes) file grant there all =
+    let parts = and_parts (covers_grant vote file grant) (list_all (λ v. covers_grant v file grant) votes) all in
+    elim (vote.server == grant.server) as (λ b. (b || has_vote votes grant.server) ≡ true → (not b || covers file grant vote) ≡ true → (covers file grant vote || is_grant_covered votes file grant) ≡ true) [
+      | true ↦ λ _ here. or_left (covers file grant vote) (is_grant_covered votes file grant) here
+      | false ↦ λ more _. or_right (covers file grant vote) (is_grant_covered votes file grant) (covered_by_one votes file grant more parts.1)
+    ] there parts.0
+
+covered_grants : (votes : List Vote) (file : List ℕ) (grants : List Grant) → ((server : ℕ) → list_any (λ grant. grant.server == server) grants ≡ true → has_vote votes server ≡ true) → list_all (λ vote. list_all (covers_grant vote file) grants) votes ≡ true → list_all (is_grant_covered votes file) grants ≡ true
+covered_grants votes file [] there all = refl
+covered_grants votes file (grant ∷ grants) there all =
+    let parts = all_split (λ (vote : Vote). covers_grant vote file grant) (λ (vote : Vote). list_all (covers_grant vote file) grants) votes all in
+    and_from (is_grant_covered votes file grant) (list_all (is_grant_covered votes file) grants)
+    (covered_by_one votes file grant (there grant.server (or_left (grant.server == grant.server) _ (eq-eqb grant.server grant.server refl))) parts.0)
+    (covered_grants votes file grants (λ server more. there server (or_right (grant.server == server) _ more)) parts.1)
+
+covered_ops : (votes : List Vote) (ops : List Op) → ((server : ℕ) → is_server_of ops server ≡ true → has_vote votes server ≡ true) → list_all (λ vote. list_all (covers_op vote) ops) votes ≡ true → are_grants_covered ops votes ≡ true
+covered_ops votes [] there all = refl
+covered_ops votes (op ∷ ops) there all =
+    let parts = all_split (λ (vote : Vote). covers_op vote op) (λ (vote : Vote). list_all (covers_op vote) ops) votes all in
+    and_from (is_covered votes op) (are_grants_covered ops votes)
+    (covered_grants votes op.file op.grants (λ server more. there server (or_left (has_server op server) _ more)) parts.0)
+    (covered_ops votes ops (λ server more. there server (or_right (has_server op server) _ more)) parts.1)
+
+-- ---- the writes are in order already
+
+-- each operation is of a later file
+abbrev are_later : List ℕ → List Op → Bool
+are_later file ops = list_all (λ op. is_lt (name_cmp file op.file)) ops
+
+is_less : (o : Ordering) → is_lt o ≡ true → o ≡ Less
+is_less Less is = refl
+is_less Equal is = absurd (false≢true is)
+is_less Greater is = absurd (false≢true is)
+
+below_next : (name a b : List ℕ) (o : Ordering) (w v : Bool) → name_cmp a b ≡ o → is_lt (name_cmp name a) ≡ true → (is_lt o || (is_eq o && not w && v)) ≡ true → is_lt (name_cmp name b) ≡ true
+below_next name a b Less w v e less h = let less_name = is_less (name_cmp name a) less in rw (nat_list_cmp_total.trans name a b less_name e) refl
+below_next name a b Equal w v e less h = let P : List ℕ → Type 0 = λ c. is_lt (name_cmp name c) ≡ true in subst P (slice_cmp-IsAntisymmetric nat_cmp-IsAntisymmetric a b e) less
+below_next name a b Greater w v e less h = absurd (false≢true h)
+
+later : (name : List ℕ) (first : Op) (rest : List Op) → ops_rise (first ∷ rest) ≡ true → is_lt (name_cmp name first.file) ≡ true → are_later name (first ∷ rest) ≡ true
+later name first [] up less = and_from (is_lt (name_cmp name first.file)) true less refl
+later name first (second ∷ rest) up less =
+    let parts = and_parts (stands_before first second) (ops_rise (second ∷ rest)) up in
+    and_from (is_lt (name_cmp name first.file)) (are_later name (second ∷ rest)) less
+    (later name second rest parts.1 (below_next name first.file second.file (name_cmp first.file second.file) (is_write first) (is_write second) refl less parts.0))
+
+rest_rises : (first : Op) (rest : List Op) → ops_rise (first ∷ rest) ≡ true → ops_rise rest ≡ true
+rest_rises first [] up = refl
+rest_rises first (second ∷ rest) up = (and_parts (stands_before first second) (ops_rise (second ∷ rest)) up).1
+
+write_before : (o : Ordering) (w v : Bool) → w ≡ true → (is_lt o || (is_eq o && not w && v)) ≡ true → is_lt o ≡ true
+write_before Less w v is h = refl
+write_before Equal true v is h = absurd (false≢true h)
+write_before Equal false v is h = absurd (false≢true is)
+write_before Greater w v is h = absurd (false≢true h)
+
+-- after a write come later files
+after_write : (first : Op) (rest : List Op) → is_write first ≡ true → ops_rise (first ∷ rest) ≡ true → are_later first.file rest ≡ true
+after_write first [] is up = refl
+after_write first (second ∷ rest) is up =
+    let parts = and_parts (stands_before first second) (ops_rise (second ∷ rest)) up in
+    later first.file second rest parts.1 (write_before (name_cmp first.file second.file) (is_write first) (is_write second) is parts.0)
+
+not_greater : (o : Ordering) → is_lt o ≡ true → not (is_gt o) ≡ true
+not_greater Less is = refl
+not_greater Equal is = absurd (false≢true is)
+not_greater Greater is = absurd (false≢true is)
+
+none_later : (op : Op) (ops done : List Op) → list_all (λ d. are_later d.file (op ∷ ops)) done ≡ true → list_all (λ d. not (is_gt (name_cmp d.file op.file))) done ≡ true
+none_later op ops [] all = refl
+none_later op ops (d ∷ done) all =
+    let parts = and_parts (are_later d.file (op ∷ ops)) (list_all (λ e. are_later e.file (op ∷ ops)) done) all in
+    and_from (not (is_gt (name_cmp d.file op.file))) _ (not_greater (name_cmp d.file op.file) (and_parts (is_lt (name_cmp d.file op.file)) (are_later d.file ops) parts.0).0) (none_later op ops done parts.1)
+
+still_later : (op : Op) (ops done : List Op) → list_all (λ d. are_later d.file (op ∷ ops)) done ≡ true → list_all (λ d. are_later d.file ops) done ≡ true
+still_later op ops [] all = refl
+still_later op ops (d ∷ done) all =
+    let parts = and_parts (are_later d.file (op ∷ ops)) (list_all (λ e. are_later e.file (op ∷ ops)) done) all in
+    and_from (are_later d.file ops) _ (and_parts (is_lt (name_cmp d.file op.file)) (are_later d.file ops) parts.0).1 (still_later op ops done parts.1)
+
+later_append : (p : Op → Bool) (done : List Op) (op : Op) → list_all p done ≡ true → p op ≡ true → list_all p (done ++ op ∷ []) ≡ true
+later_append p [] op all here = and_from (p op) true here refl
+later_append p (d ∷ done) op all here =
+    let parts = and_parts (p d) (list_all p done) all in
+    and_from (p d) (list_all p (done ++ op ∷ [])) parts.0 (later_append p done op parts.1 here)
+
+sorted : (done ops : List Op) → ops_rise ops ≡ true → list_all (λ d. are_later d.file ops) done ≡ true → fold put_op done (filter is_write ops) ≡ done ++ filter is_write ops
+sorted done [] up all = sym (append-nil done)
+sorted done (op ∷ ops) up all =
+    let rest = rest_rises op ops up in
+    elim (is_write op) as (λ b. is_write op ≡ b → fold put_op done (cond b (op ∷ filter is_write ops) (filter is_write ops)) ≡ done ++ cond b (op ∷ filter is_write ops) (filter is_write ops)) [
+      | true ↦ λ is.
+          let last : put_op done op ≡ done ++ op ∷ [] = insert_before (λ (o : Op). is_gt (name_cmp o.file op.file)) op done ∙ put-last (λ (o : Op). is_gt (name_cmp o.file op.file)) op done (none_later op ops done all) in
+          ap (λ d. fold put_op d (filter is_write ops)) last
+          ∙ sorted (done ++ op ∷ []) ops rest (later_append (λ (d : Op). are_later d.file ops) done op (still_later op ops done all) (after_write op ops is up))
+          ∙ append_assoc done (op ∷ []) (filter is_write ops)
+      | false ↦ λ is. sorted done ops rest (still_later op ops done all)
+    ] refl
+
+-- the rules one after another
+passes : (holds : Bool) (rule : Rule) (next : Option Rule) → holds ≡ true → next ≡ None → failed holds rule next ≡ None
+passes true rule next is none = none
+passes false rule next is none = absurd (false≢true is)
+
+pub good_evidence : (old : VotingView) → IsOpen old.txn → IsVoting old → has_votes old ≡ true → IsGood old.txn.levels old.txn.ops old.votes
+good_evidence old ops votes all =
+    let there : (server : ℕ) → is_server_of old.txn.ops server ≡ true → has_vote old.votes server ≡ true =
+    λ server is. has-all (has_vote old.votes) old.txn.voters server all (ops.voters server ∙ is) in
+    let covered : are_covered old.txn.ops old.votes ≡ true =
+    and_from _ (are_grants_covered old.txn.ops old.votes) (and_from _ _ votes.rise votes.voters) (covered_ops old.votes old.txn.ops there votes.covered) in
+    let in_order : writes_by_file old.txn.ops ≡ writes_in old.txn.ops = sorted [] old.txn.ops ops.rise refl in
+    let writes : have_writes old.txn.ops old.votes ≡ true = rw in_order votes.writes in
+    passes _ _ _ ops.quorums
+    (passes _ _ _ ops.exclusive
+    (passes _ _ _ covered
+    (passes _ _ _ writes
+    (passes _ _ _ (and_from _ _ ops.rise ops.versions)
+    (passes _ _ _ votes.some refl)))))

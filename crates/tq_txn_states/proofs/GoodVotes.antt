@@ -1,0 +1,90 @@
+-- A vote put at its place, and what a list of votes keeps.
+use Rattle.std.proofs.Common.{◌≡◌, ℕ, Bool, true, false, not, ◌&&◌, ◌==◌, cond, List, [], ◌∷◌, ◌++◌, Some, None, map, set, length, slice_get, nat_lt, ◌≤◌, refl, sym, ap, ◌∙◌}
+use Rattle.std.specs.List.{list_all, insert, find}
+use Rattle.std.specs.List.Sorted.{IsPartitionPoint}
+use Rattle.std.specs.Option.{option_map, option_map_or}
+use Rattle.std.proofs.lemmas.Bool.{eqb-true}
+use Rattle.tq_evidence.specs.declared.op.Op.{Op}
+use Rattle.tq_evidence.specs.declared.vote.Vote.{Vote}
+use Rattle.tq_evidence.specs.Evidence.{rises, votes_rise, has_writes, is_server_of}
+use Rattle.tq_txn_states.specs.Sets.{put, changed}
+use Rattle.tq_txn_states.specs.Voting.{VotingView, with_vote, covers_op, writes_in, has_vote, is_of_server, lost, IsVoting, IsGoodVote}
+use Rattle.tq_txn_states.proofs.NumberSets.{has-map, map-put, rises-with_server, none_below, put_above}
+use Rattle.tq_txn_states.proofs.Puts.{list_all-put, list_all-changed}
+use Rattle.tq_txn_states.proofs.Searched.{found_at, put_at, changed_at}
+
+pub votes_rise-map : (votes : List Vote) → votes_rise votes ≡ rises (map (λ vote. vote.server) votes)
+votes_rise-map [] = refl
+votes_rise-map (first ∷ []) = refl
+votes_rise-map (first ∷ second ∷ rest) = ap (λ b. nat_lt first.server second.server && b) (votes_rise-map (second ∷ rest))
+
+-- where the votes of lesser servers end
+abbrev pub IsPlace : ℕ → List Vote → ℕ → Type 0
+IsPlace server votes place = IsPartitionPoint (λ vote. nat_lt vote.server server ≡ true) (λ vote. nat_lt vote.server server ≡ false) votes place
+
+-- the server's vote stands there, or nowhere
+pub found_vote : (server : ℕ) (votes : List Vote) (place : ℕ) → votes_rise votes ≡ true → IsPlace server votes place → has_vote votes server ≡ option_map_or (is_of_server server) (slice_get votes place) false
+found_vote server votes place up point = found_at (λ (vote : Vote). vote.server) server votes place (sym (votes_rise-map votes) ∙ up) point
+
+-- a vote in place of that of its server
+pub placed : (vote : Vote) (votes : List Vote) (place : ℕ) → votes_rise votes ≡ true → IsPlace vote.server votes place → option_map_or (is_of_server vote.server) (slice_get votes place) false ≡ true → set votes place vote ≡ with_vote vote votes
+placed vote votes place up point is =
+    rw (found_vote vote.server votes place up point ∙ is) (changed_at (λ (other : Vote). other.server) vote votes place point is)
+
+-- a vote of another server
+pub inserted : (vote : Vote) (votes : List Vote) (place : ℕ) → votes_rise votes ≡ true → place ≤ length votes → IsPlace vote.server votes place → option_map_or (is_of_server vote.server) (slice_get votes place) false ≡ false → insert votes place vote ≡ with_vote vote votes
+inserted vote votes place up within point none =
+    let absent = found_vote vote.server votes place up point ∙ none in
+    rw absent (put_at (λ (other : Vote). other.server) vote votes place within point absent)
+
+-- a vote of a server above the others
+pub appended : (vote : Vote) (votes : List Vote) → list_all (λ other. nat_lt other.server vote.server) votes ≡ true → votes ++ vote ∷ [] ≡ with_vote vote votes
+appended vote votes all =
+    rw (none_below (λ (v : Vote). v.server) vote.server votes all) (put_above (λ (v : Vote). v.server) vote votes all)
+
+servers_in : List Vote → List ℕ
+servers_in votes = map (λ vote. vote.server) votes
+
+same_servers : (vote : Vote) (votes : List Vote) → map (λ v. v.server) (changed (is_of_server vote.server) (λ other. vote) votes) ≡ map (λ v. v.server) votes
+same_servers vote [] = refl
+same_servers vote (first ∷ rest) =
+    elim (first.server == vote.server) as (λ b. (first.server == vote.server) ≡ b → map (λ v. v.server) (cond b (vote ∷ rest) (first ∷ changed (is_of_server vote.server) (λ other. vote) rest)) ≡ first.server ∷ map (λ v. v.server) rest) [
+      | true ↦ λ is. ap (λ s. s ∷ map (λ v. v.server) rest) (sym (eqb-true first.server vote.server is))
+      | false ↦ λ is. ap (λ ss. first.server ∷ ss) (same_servers vote rest)
+    ] refl
+
+pub votes_rise-with_vote : (vote : Vote) (votes : List Vote) → votes_rise votes ≡ true → votes_rise (with_vote vote votes) ≡ true
+votes_rise-with_vote vote votes up =
+    let up_numbers = sym (votes_rise-map votes) ∙ up in
+    elim (has_vote votes vote.server) as (λ b. has_vote votes vote.server ≡ b → votes_rise (cond b (changed (is_of_server vote.server) (λ other. vote) votes) (put (λ other. nat_lt vote.server other.server) vote votes)) ≡ true) [
+      | true ↦ λ is. votes_rise-map (changed (is_of_server vote.server) (λ other. vote) votes) ∙ ap rises (same_servers vote votes) ∙ up_numbers
+      | false ↦ λ is. votes_rise-map (put (λ other. nat_lt vote.server other.server) vote votes) ∙ ap rises (map-put (λ (v : Vote). v.server) vote votes)
+          ∙ rises-with_server vote.server (map (λ v. v.server) votes) (has-map (λ (v : Vote). v.server) votes vote.server ∙ is) up_numbers
+    ] refl
+
+pub list_all-with_vote : (p : Vote → Bool) (vote : Vote) (votes : List Vote) → p vote ≡ true → list_all p votes ≡ true → list_all p (with_vote vote votes) ≡ true
+list_all-with_vote p vote votes here all =
+    elim (has_vote votes vote.server) as (λ b. list_all p (cond b (changed (is_of_server vote.server) (λ other. vote) votes) (put (λ other. nat_lt vote.server other.server) vote votes)) ≡ true) [
+      | true ↦ list_all-changed (is_of_server vote.server) (λ other. vote) p votes (λ x is was. here) all
+      | false ↦ list_all-put (λ other. nat_lt vote.server other.server) p vote votes here all
+    ]
+
+-- a good vote more
+pub IsVoting-with_vote : (old : VotingView) (vote : Vote) → IsGoodVote old.txn.ops vote → IsVoting old → IsVoting (record old { votes = with_vote vote old.votes })
+IsVoting-with_vote old vote good all =
+    record {
+      some = all.some;
+      rise = votes_rise-with_vote vote old.votes all.rise;
+      voters = list_all-with_vote (λ v. is_server_of old.txn.ops v.server) vote old.votes good.voter all.voters;
+      covered = list_all-with_vote (λ v. list_all (covers_op v) old.txn.ops) vote old.votes good.covered all.covered;
+      writes = list_all-with_vote (has_writes (writes_in old.txn.ops)) vote old.votes good.writes all.writes;
+    }
+
+-- a vote that lost no lock covers each grant
+pub none_lost : (ops : List Op) (vote : Vote) → lost ops vote ≡ None → list_all (covers_op vote) ops ≡ true
+none_lost [] vote none = refl
+none_lost (op ∷ ops) vote none =
+    elim (covers_op vote op) as (λ b. option_map (λ o. o.file) (cond (not b) (Some op) (find (λ o. not (covers_op vote o)) ops)) ≡ None → (b && list_all (covers_op vote) ops) ≡ true) [
+      | true ↦ λ rest. none_lost ops vote rest
+      | false ↦ λ some. cc
+    ] none

@@ -1,0 +1,216 @@
+-- An open transaction: what it has read and written, and what an answer that it is told makes of it.
+use Rattle.std.specs.Prelude.{◌≡◌, ◌==◌, ◌+◌, ◌^◌, ℕ, Bool, true, false, not, ◌&&◌, ◌≤◌, nat_lt, nat_le, List, [], length, Option, Some, None, is_none, if◌then◌else◌}
+use Rattle.std.specs.List.{list_all, list_any, find, filter_map}
+use Rattle.std.specs.Option.{option_map}
+use Rattle.std.specs.Ordering.{is_lt}
+use Rattle.tq_shape.specs.Limits.{LimitsView}
+use Rattle.tq_store.specs.Copies.{name_cmp}
+use Rattle.tq_store.specs.declared.copies.FileCopy.{FileCopy}
+use Rattle.tq_locks.specs.Locks.{is_exclusive}
+use Rattle.tq_locks.specs.declared.mode.Mode.{Mode}
+use Rattle.tq_coterie.specs.Coterie.{has, is_quorum}
+use Rattle.tq_asks.specs.declared.ask.NodeAsk.{NodeAsk}
+use Rattle.tq_asks.specs.declared.ask.NodeAsk.TheVariants.{Work}
+use Rattle.tq_asks.specs.declared.ask.NodeReply.{NodeReply}
+use Rattle.tq_asks.specs.declared.ask.NodeReply.TheVariants.{Granted}
+use Rattle.tq_asks.specs.declared.ask.WorkAsk.TheVariants.{Lock}
+use Rattle.tq_evidence.specs.declared.grant.Grant.{Grant}
+use Rattle.tq_evidence.specs.declared.op.Op.{Op}
+use Rattle.tq_evidence.specs.declared.op.OpKind.{OpKind}
+use Rattle.tq_evidence.specs.declared.op.OpKind.TheVariants.{Read, Write}
+use Rattle.tq_evidence.specs.Evidence.{is_write, servers_of, rises, greatest, newest, is_server_of, ops_rise, are_quorums, are_exclusive, are_versions, has_quorum, has_exclusive_grants, has_version, writes_file, granters}
+use Rattle.tq_store.specs.Names.{same_name}
+use Rattle.tq_txn_states.specs.declared.told.NodeTold.{NodeTold}
+use Rattle.tq_txn_states.specs.declared.fault.TxnFault.{TxnFault}
+use Rattle.tq_txn_states.specs.declared.fault.TxnFault.TheVariants.{Memory, AlreadyThere, TooManyOps, NotAGrant, NotAMember, VersionFull, NoOps}
+use Rattle.tq_txn_states.specs.Sets.{IsWithin, RoomySet, put, changed, with_number, with_numbers}
+use Rattle.tq_shape.specs.Steps.{refuse, refuse_for, or_else}
+use Rattle.tq_shape.specs.Journal.{is_empty}
+
+-- a transaction: its tree's levels, its limits and number; its operations, by file and a read before a write;
+-- the servers of their quorums; and the servers that granted it a lock, as far as it was handed them
+pub record OpenView : Type 0 where
+  pub levels : ℕ
+  pub limits : LimitsView
+  pub txn : ℕ
+  pub ops : List Op
+  pub voters : List ℕ
+  pub touched : List ℕ
+
+-- the transaction that did nothing yet
+abbrev pub opening : ℕ → LimitsView → ℕ → OpenView
+opening levels limits txn = record { levels = levels; limits = limits; txn = txn; ops = []; voters = []; touched = [] }
+
+-- the servers of the operations are the voters, and no other
+abbrev pub HasVoters : OpenView → Type 0
+HasVoters old = (server : ℕ) → has old.voters server ≡ is_server_of old.ops server
+
+-- what an open transaction keeps: operations that are good evidence as far as they go
+pub record IsOpen (open_txn : OpenView) : Type 0 where
+  pub rise : ops_rise open_txn.ops ≡ true
+  pub quorums : are_quorums open_txn.levels open_txn.ops ≡ true
+  pub exclusive : are_exclusive open_txn.ops ≡ true
+  pub versions : are_versions open_txn.ops ≡ true
+  pub voters : HasVoters open_txn
+
+abbrev pub has_all_ops : OpenView → Bool
+has_all_ops old = nat_le old.limits.ops (length old.ops)
+
+-- ---- faults
+
+-- a fault is memory refused, or has this cause
+abbrev pub ComesOf : Option TxnFault → TxnFault → Type 0
+ComesOf cause Memory = Unit {0}
+ComesOf cause fault = cause ≡ Some fault
+
+-- ---- grants
+
+-- a read rests on locks of either mode, a write on exclusive ones
+abbrev pub fits : OpKind → Mode → Bool
+fits Read mode = true
+fits Write mode = is_exclusive mode
+
+-- the grant that an answer tells of: a lock of the transaction on the file, of a mode that fits
+abbrev pub granted_by : OpKind → ℕ → List ℕ → ℕ → ℕ → NodeAsk → NodeReply → Option Grant
+granted_by kind txn file server number (Work (Lock locker locked mode)) (Granted version content) =
+    if locker == txn && same_name locked file && fits kind mode then Some (record { server = server; number = number; mode = mode; version = version; content = content }) else None
+granted_by kind txn file server number ask reply = None
+
+abbrev pub grant_of : OpKind → ℕ → List ℕ → NodeTold → Option Grant
+grant_of kind txn file told = granted_by kind txn file told.server told.number told.ask told.reply
+
+abbrev pub grants_of : OpKind → ℕ → List ℕ → List NodeTold → List Grant
+grants_of kind txn file answers = filter_map (grant_of kind txn file) answers
+
+-- the server of the first answer that is no such grant
+abbrev pub not_a_grant : OpKind → ℕ → List ℕ → List NodeTold → Option ℕ
+not_a_grant kind txn file answers = option_map (λ told. told.server) (find (λ told. is_none (grant_of kind txn file told)) answers)
+
+-- the servers of the grants, in their order, ascend and are a member of the coterie
+abbrev pub is_member : ℕ → List Grant → Bool
+is_member levels grants = rises (granters grants) && is_quorum levels (granters grants)
+
+-- ---- reads and writes
+
+abbrev pub is_used : List Op → List ℕ → Bool
+is_used ops file = list_any (λ op. same_name op.file file) ops
+
+abbrev pub is_read_of : List ℕ → Op → Bool
+is_read_of file op = not (is_write op) && same_name op.file file
+
+abbrev pub is_written : List Op → List ℕ → Bool
+is_written ops file = list_any (writes_file file) ops
+
+-- the transaction's read of a file, and its write to it
+abbrev pub seen : OpenView → List ℕ → Option Op
+seen old file = find (is_read_of file) old.ops
+
+abbrev pub written : OpenView → List ℕ → Option Op
+written old file = find (writes_file file) old.ops
+
+-- the content that the transaction writes to the file
+abbrev pub pending : OpenView → List ℕ → Option (List ℕ)
+pending old file = option_map (λ op. op.content) (written old file)
+
+-- the copy that a grant answered, version 0 and no content where there is none
+abbrev pub copy_in : Option Grant → FileCopy
+copy_in None = record { version = 0; content = [] }
+copy_in (Some grant) = record { version = grant.version; content = grant.content }
+
+-- what is read: the first copy of the greatest version granted
+abbrev pub read_copy : List Grant → FileCopy
+read_copy grants = copy_in (newest grants)
+
+abbrev pub read_op : List ℕ → List Grant → Op
+read_op file grants = record { file = file; kind = Read; version = (read_copy grants).version; content = (read_copy grants).content; grants = grants }
+
+-- a write is one above the greatest version granted
+abbrev pub write_op : List ℕ → List ℕ → List Grant → Op
+write_op file content grants = record { file = file; kind = Write; version = greatest grants + 1; content = content; grants = grants }
+
+-- what any operation is refused for
+abbrev pub grants_fault : OpKind → OpenView → List ℕ → List NodeTold → Option TxnFault
+grants_fault kind old file answers =
+    refuse (has_all_ops old) TooManyOps
+    (refuse_for (not_a_grant kind old.txn file answers) NotAGrant
+    (refuse (not (is_member old.levels (grants_of kind old.txn file answers))) NotAMember None))
+
+abbrev pub read_fault : OpenView → List ℕ → List NodeTold → Option TxnFault
+read_fault old file answers = refuse (is_used old.ops file) AlreadyThere (grants_fault Read old file answers)
+
+-- the version after this one does not fit
+abbrev pub is_full : ℕ → Bool
+is_full version = not (nat_lt (version + 1) (2 ^ 64))
+
+-- what a write by these grants is refused for
+abbrev pub version_fault : List Grant → Option TxnFault
+version_fault grants = refuse (is_full (greatest grants)) VersionFull None
+
+abbrev pub write_fault : OpenView → List ℕ → List NodeTold → Option TxnFault
+write_fault old file answers =
+    refuse (is_written old.ops file) AlreadyThere
+    (or_else (grants_fault Write old file answers)
+    (version_fault (grants_of Write old.txn file answers)))
+
+-- a further operation is good evidence: of a quorum, exclusive where it writes, of the version that it should have,
+-- and the file has no such operation yet, nor a write before a read
+pub record IsGoodOp (old : OpenView) (op : Op) : Type 0 where
+  pub quorum : has_quorum old.levels op ≡ true
+  pub exclusive : has_exclusive_grants op ≡ true
+  pub version : has_version op ≡ true
+  pub fresh : (if is_write op then is_written old.ops op.file else is_used old.ops op.file) ≡ false
+
+-- the operations with one more, before those of later files
+abbrev pub with_op : List Op → Op → List Op
+with_op ops op = put (λ other. is_lt (name_cmp op.file other.file)) op ops
+
+-- the transaction after an operation: its servers vote, and have granted a lock
+abbrev pub taken : OpenView → Op → OpenView
+taken old op =
+    record old {
+      ops = with_op old.ops op;
+      voters = with_numbers old.voters (servers_of op);
+      touched = with_numbers old.touched (servers_of op);
+    }
+
+abbrev pub read_after : OpenView → List ℕ → List NodeTold → OpenView
+read_after old file answers = taken old (read_op file (grants_of Read old.txn file answers))
+
+abbrev pub write_after : OpenView → List ℕ → List ℕ → List NodeTold → OpenView
+write_after old file content answers = taken old (write_op file content (grants_of Write old.txn file answers))
+
+abbrev pub touched_by : OpenView → ℕ → OpenView
+touched_by old server = record old { touched = with_number old.touched server }
+
+-- the servers noted, where they may have been handed out to note more
+abbrev pub touched_in : List ℕ → Option RoomySet → List ℕ
+touched_in touched None = touched
+touched_in touched (Some ready) = ready.servers
+
+-- the transaction once it has taken them back
+abbrev pub noted : OpenView → Option RoomySet → OpenView
+noted old ready = record old { touched = touched_in old.touched ready }
+
+-- these servers can be noted with no memory: there is room, or all are noted already where none were handed out
+abbrev pub CanNote : OpenView → Option RoomySet → List ℕ → Type 0
+CanNote old None numbers = list_all (has old.touched) numbers ≡ true
+CanNote old (Some ready) numbers = (ready.levels ≡ old.levels) × (length numbers ≤ ready.room)
+
+-- the transaction afterwards: each server that granted it a lock is still noted, there may be more, and all else is as it was
+pub record IsTouched (old after : OpenView) : Type 0 where
+  pub levels : after.levels ≡ old.levels
+  pub limits : after.limits ≡ old.limits
+  pub txn : after.txn ≡ old.txn
+  pub ops : after.ops ≡ old.ops
+  pub voters : after.voters ≡ old.voters
+  pub touched : IsWithin old.touched after.touched
+
+-- the operations with other content to write to the file
+abbrev pub with_content : List ℕ → List ℕ → List Op → List Op
+with_content file content ops = changed (writes_file file) (λ op. record op { content = content }) ops
+
+abbrev pub rewritten : OpenView → List ℕ → List ℕ → OpenView
+rewritten old file content = record old { ops = with_content file content old.ops }
+
+abbrev pub close_fault : OpenView → Option TxnFault
+close_fault old = refuse (is_empty old.ops) NoOps None

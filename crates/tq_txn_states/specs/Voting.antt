@@ -1,0 +1,149 @@
+-- A transaction that gathers votes: each as a voter gave it, once for each voter in the end.
+use Rattle.std.specs.Prelude.{◌≡◌, ◌==◌, ℕ, Bool, true, not, ◌||◌, nat_lt, List, [], map, filter, Option, Some, None, if◌then◌else◌}
+use Rattle.std.specs.List.{All, Contains, list_any, list_all, find}
+use Rattle.std.specs.Option.{option_map}
+use Rattle.tq_store.specs.declared.write.Write.{Write}
+use Rattle.tq_asks.specs.declared.ask.NodeAsk.{NodeAsk}
+use Rattle.tq_asks.specs.declared.ask.NodeAsk.TheVariants.{Work}
+use Rattle.tq_asks.specs.declared.ask.NodeReply.{NodeReply}
+use Rattle.tq_asks.specs.declared.ask.NodeReply.TheVariants.{Yes}
+use Rattle.tq_asks.specs.declared.ask.WorkAsk.{WorkAsk}
+use Rattle.tq_asks.specs.declared.ask.WorkAsk.TheVariants.{Prepare}
+use Rattle.tq_desk.specs.declared.ask.DeskAsk.{DeskAsk}
+use Rattle.tq_desk.specs.declared.ask.DeskAsk.TheVariants.{Commit}
+use Rattle.tq_evidence.specs.declared.grant.Grant.{Grant}
+use Rattle.tq_evidence.specs.declared.op.Op.{Op}
+use Rattle.tq_evidence.specs.declared.vote.Vote.{Vote}
+use Rattle.tq_evidence.specs.Evidence.{is_write, has_server, is_server_of, covers, rises, servers_of, votes_rise, are_of_servers, has_writes, is_some_op}
+use Rattle.tq_txn_states.specs.declared.told.NodeTold.{NodeTold}
+use Rattle.tq_txn_states.specs.declared.fault.TxnFault.{TxnFault}
+use Rattle.tq_txn_states.specs.declared.fault.TxnFault.TheVariants.{NotAVoter, NotMyVote, LostLock, VotesMissing}
+use Rattle.tq_txn_states.specs.Open.{OpenView}
+use Rattle.tq_shape.specs.Steps.{refuse, refuse_for}
+use Rattle.tq_txn_states.specs.Sets.{put, changed}
+
+-- a transaction that takes no more operations, and the votes that it was told, ascending by server
+pub record VotingView : Type 0 where
+  pub txn : OpenView
+  pub votes : List Vote
+
+-- the transaction as it closes
+abbrev pub closed : OpenView → VotingView
+closed old = record { txn = old; votes = [] }
+
+-- the writes of the operations, by file
+abbrev pub writes_in : List Op → List Op
+writes_in ops = filter is_write ops
+
+abbrev pub write_in : Op → Write
+write_in op = record { file = op.file; version = op.version; content = op.content }
+
+-- what the transaction writes at a server
+abbrev pub writes_at : List Op → ℕ → List Write
+writes_at ops server = map write_in (filter (λ op. has_server op server) (writes_in ops))
+
+-- all that the operations write, they write at the server
+abbrev pub writes_all_at : List Op → ℕ → Bool
+writes_all_at ops server = list_all (λ op. not (is_write op) || has_server op server) ops
+
+-- the work that a voter is asked for its vote
+abbrev pub prepare_work : OpenView → ℕ → WorkAsk
+prepare_work old server = Prepare old.txn (writes_at old.ops server)
+
+-- the ask for a voter's vote
+abbrev pub prepare_ask : OpenView → ℕ → NodeAsk
+prepare_ask old server = Work (Prepare old.txn (writes_at old.ops server))
+
+-- an ask that is kept has all that the transaction writes
+abbrev pub HasWhole : OpenView → Option NodeAsk → Type 0
+HasWhole old None = Unit {0}
+HasWhole old (Some ask) = ask ≡ Work (Prepare old.txn (map write_in (writes_in old.ops)))
+
+abbrev pub ask_fault : OpenView → ℕ → Option TxnFault
+ask_fault old server = refuse (not (is_server_of old.ops server)) NotAVoter None
+
+-- the vote that an answer tells of: a vote for this transaction
+abbrev pub voted_by : ℕ → ℕ → ℕ → NodeAsk → NodeReply → Option Vote
+voted_by txn server number (Work (Prepare voter asked)) (Yes held writes) =
+    if voter == txn then Some (record { server = server; number = number; held = held; writes = writes }) else None
+voted_by txn server number ask reply = None
+
+abbrev pub vote_of : ℕ → NodeTold → Option Vote
+vote_of txn told = voted_by txn told.server told.number told.ask told.reply
+
+-- the vote covers each grant of its server that the operation rests on
+abbrev pub covers_grant : Vote → List ℕ → Grant → Bool
+covers_grant vote file grant = not (vote.server == grant.server) || covers file grant vote
+
+abbrev pub covers_op : Vote → Op → Bool
+covers_op vote op = list_all (covers_grant vote op.file) op.grants
+
+-- the least file of which the vote does not cover a grant: the operations ascend by file
+abbrev pub lost : List Op → Vote → Option (List ℕ)
+lost ops vote = option_map (λ op. op.file) (find (λ op. not (covers_op vote op)) ops)
+
+-- what a vote is refused for: other writes, or a lock that was lost
+abbrev pub vote_refusal : List Op → Option Vote → Option TxnFault
+vote_refusal ops None = Some NotMyVote
+vote_refusal ops (Some vote) = refuse (not (has_writes (writes_in ops) vote)) NotMyVote (refuse_for (lost ops vote) LostLock None)
+
+abbrev pub vote_fault : VotingView → NodeTold → Option TxnFault
+vote_fault old told = refuse (not (is_server_of old.txn.ops told.server)) NotAVoter (vote_refusal old.txn.ops (vote_of old.txn.txn told))
+
+-- a vote of the server is there
+abbrev pub has_vote : List Vote → ℕ → Bool
+has_vote votes server = list_any (λ vote. vote.server == server) votes
+
+-- each server whose vote was there has a vote there still
+abbrev pub KeepsVotes : List Vote → List Vote → Type 0
+KeepsVotes before after = (server : ℕ) → has_vote before server ≡ true → has_vote after server ≡ true
+
+abbrev pub is_of_server : ℕ → Vote → Bool
+is_of_server server vote = vote.server == server
+
+-- the votes with one more, in place of that of its server, or before those of greater servers
+abbrev pub with_vote : Vote → List Vote → List Vote
+with_vote vote votes =
+    if has_vote votes vote.server then changed (is_of_server vote.server) (λ other. vote) votes
+    else put (λ other. nat_lt vote.server other.server) vote votes
+
+abbrev pub voted : VotingView → Option Vote → VotingView
+voted old None = old
+voted old (Some vote) = record old { votes = with_vote vote old.votes }
+
+abbrev pub vote_after : VotingView → NodeTold → VotingView
+vote_after old told = voted old (vote_of old.txn.txn told)
+
+-- each voter has voted
+abbrev pub has_votes : VotingView → Bool
+has_votes old = list_all (has_vote old.votes) old.txn.voters
+
+abbrev pub ready_fault : VotingView → Option TxnFault
+ready_fault old = refuse (not (has_votes old)) VotesMissing None
+
+-- the commit that the transaction asks for, from what it was told alone
+abbrev pub evidence_of : VotingView → DeskAsk
+evidence_of old = Commit old.txn.txn old.txn.ops old.votes
+
+-- a vote is good evidence: of a voter, with the transaction's writes there, and it covers each grant of its server
+pub record IsGoodVote (ops : List Op) (vote : Vote) : Type 0 where
+  pub voter : is_server_of ops vote.server ≡ true
+  pub covered : list_all (covers_op vote) ops ≡ true
+  pub writes : has_writes (writes_in ops) vote ≡ true
+
+-- the servers of each operation ascend
+abbrev pub have_order : List Op → Bool
+have_order ops = list_all (λ op. rises (servers_of op)) ops
+
+-- what a transaction that gathers votes keeps beside: votes that are good evidence as far as they go
+pub record IsVoting (old : VotingView) : Type 0 where
+  pub some : is_some_op old.txn.ops ≡ true
+  pub rise : votes_rise old.votes ≡ true
+  pub voters : are_of_servers old.txn.ops old.votes ≡ true
+  pub covered : list_all (λ vote. list_all (covers_op vote) old.txn.ops) old.votes ≡ true
+  pub writes : list_all (has_writes (writes_in old.txn.ops)) old.votes ≡ true
+
+-- the transaction afterwards: each vote is there still, there may be more, and all else is as it was
+pub record IsVotedOn (old after : VotingView) : Type 0 where
+  pub txn : after.txn ≡ old.txn
+  pub votes : All (Contains after.votes) old.votes

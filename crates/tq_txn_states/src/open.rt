@@ -1,0 +1,511 @@
+ghost use Rattle.std.specs.Prelude.{◌≡◌, ◌+◌, ◌<◌, ◌≤◌, ◌++◌, ℕ, List, [], ◌∷◌, None, Some, true, length, position, IfOk, IfErr, IfSome, IsSome, OnOk, OnErr, MatchOption, false, vec_len, vec_capacity};
+ghost use Rattle.std.specs.List.{find};
+ghost use Rattle.std.specs.Option.{option_copied};
+ghost use Rattle.std.specs.Ordering.{is_lt};
+ghost use Rattle.tq_store.specs.Copies.{name_cmp};
+ghost use Rattle.tq_coterie.specs.Coterie.{numbers_of};
+ghost use Rattle.tq_evidence.specs.Evidence as evidence;
+ghost use Rattle.tq_txn_states.specs.Places.{place_before};
+ghost use Rattle.tq_txn_states.specs.Sets as sets;
+ghost use Rattle.tq_txn_states.specs.Cited.{KeepsOnly, VotesOnly, answers_of};
+ghost use Rattle.tq_txn_states.specs.Ended as ending;
+ghost use Rattle.tq_txn_states.specs.Open as spec;
+ghost use Rattle.tq_txn_states.specs.Voting as voting;
+
+use crate::ended::verdict_of;
+use crate::grants::{grants_of, read_copy};
+use crate::servers::Servers;
+use crate::{DeskTold, Ended, NodeTold, Noting, TxnFault, Voting};
+use std::alloc::Global;
+use std::marker::Model;
+use tq_asks::Verdict;
+use tq_coterie::is_quorum;
+use tq_desk::{Grant, Op, OpKind};
+use tq_evidence::{granters, greatest_version};
+use tq_shape::{ExactClone, Levels, Limits, Memory, Seq, ServerId, SharedSeq};
+use tq_store::{Content, FileCopy, FileName};
+
+/// A transaction that may read and write.
+pub struct Open {
+    levels: Levels,
+    limits: Limits,
+    txn: u64,
+    ops: Vec<Op>,
+    voters: Servers,
+    touched: Servers,
+}
+
+// Written out, so that a crate above lets go of one by a call.
+impl Drop for Open {
+    fn drop(self) {
+        let Self {
+            levels: _,
+            limits: _,
+            txn: _,
+            ops: _,
+            voters: _,
+            touched: _,
+        } = self;
+    }
+}
+
+impl Model for Open {
+    ghost use Rattle.std.specs.Prelude.{◌≡◌};
+    ghost use Rattle.tq_txn_states.specs.Open.{OpenView, IsOpen};
+
+    ghost Value = { OpenView };
+
+    ghost view = { λ a. record {
+      levels = a.levels;
+      limits = a.limits;
+      txn = a.txn;
+      ops = a.ops.items;
+      voters = a.voters.servers;
+      touched = a.touched.servers;
+    } };
+
+    ghost invariant = { λ a. IsOpen (record {
+      levels = a.levels;
+      limits = a.limits;
+      txn = a.txn;
+      ops = a.ops.items;
+      voters = a.voters.servers;
+      touched = a.touched.servers;
+    }) × ((a.voters.levels ≡ a.levels) × (a.touched.levels ≡ a.levels)) };
+}
+
+impl Open {
+    /// A transaction that did nothing yet. It takes no memory yet.
+    pub fn new(alloc: Global, levels: Levels, limits: Limits, txn: u64) -> Open
+        ensures value { result ≡ spec.opening levels limits txn }
+        ensures cited { KeepsOnly [] result }
+    {
+        Open {
+            levels,
+            limits,
+            txn,
+            ops: Vec::new(alloc),
+            voters: Servers::new(alloc, levels),
+            touched: Servers::new(alloc, levels),
+        }
+    }
+
+    /// The number of the transaction.
+    pub fn txn(&self) -> u64
+        ensures { result ≡ self.now.txn }
+    {
+        self.txn
+    }
+
+    /// The levels of the tree whose servers it asks.
+    pub fn levels(&self) -> Levels
+        ensures { result ≡ self.now.levels }
+    {
+        self.levels
+    }
+
+    /// Its operations, ascending by file, a read before a write. They are good evidence as far as they go.
+    pub fn ops(&self) -> &[Op]
+        ensures value { result.now ≡ self.now.ops }
+        ensures good { spec.IsOpen self.now }
+    {
+        self.ops.as_slice()
+    }
+
+    /// Whether it has as many operations as it may.
+    pub fn is_full(&self) -> bool
+        ensures { result ≡ spec.has_all_ops self.now }
+    {
+        self.ops.len() >= self.limits.ops() as usize
+    }
+
+    /// The transaction's read of a file.
+    pub fn seen(&self, file: &FileName) -> Option<&Op>
+        ensures { option_copied result ≡ spec.seen self.now file.now }
+    {
+        self.ops.iter().find(|op| is_read_of(file, op))
+    }
+
+    /// The transaction's write to a file.
+    pub fn written(&self, file: &FileName) -> Option<&Op>
+        ensures { option_copied result ≡ spec.written self.now file.now }
+    {
+        self.ops.iter().find(|op| op.writes(file))
+    }
+
+    /// The content that the transaction writes to a file.
+    pub fn pending(&self, file: &FileName) -> Option<&Content>
+        ensures { option_copied result ≡ spec.pending self.now file.now }
+    {
+        match self.written(file) {
+            Some(op) => Some(&op.content),
+            None => None,
+        }
+    }
+
+    /// The servers of the quorums of its operations, ascending.
+    pub fn voters(&self) -> &[ServerId]
+        ensures numbers { numbers_of result.now ≡ self.now.voters }
+        ensures set { sets.IsServerSet self.now.levels result.now }
+        ensures exact { spec.HasVoters self.now }
+    {
+        self.voters.as_slice()
+    }
+
+    /// The servers that granted it a lock, as far as it was handed them, ascending.
+    pub fn servers(&self) -> &[ServerId]
+        ensures numbers { numbers_of result.now ≡ self.now.touched }
+        ensures set { sets.IsServerSet self.now.levels result.now }
+    {
+        self.touched.as_slice()
+    }
+
+    /// Notes that a server granted it a lock. Out of memory leaves it as it was.
+    pub fn touch(&mut self, _alloc: Global, server: ServerId) -> Result<(), Memory>
+        requires { server.levels ≡ self.old.levels }
+        ensures ok { OnOk result (self.new ≡ spec.touched_by self.old server.number) }
+        ensures cited { (told : List NodeTold) → KeepsOnly told self.old → KeepsOnly told self.new }
+        ensures levels { self.new.levels ≡ self.old.levels }
+        ensures err { OnErr result (self.new ≡ self.old) }
+    {
+        self.touched.reserve(1)?;
+        self.touched.put(server);
+        Ok(())
+    }
+
+    /// Hands out the set of the servers noted, with room for those that are to be asked for a lock; none where all of
+    /// them are noted already. Out of memory leaves the transaction as it was.
+    pub fn room_for(&mut self, servers: &[ServerId]) -> Result<Option<Noting>, Memory>
+        ensures value { IfOk result (λ noting. spec.noted self.new noting ≡ self.old) }
+        ensures room { IfOk result (λ noting. spec.CanNote self.new noting (numbers_of servers.now)) }
+        ensures left { IfOk result (λ noting. sets.IsWithin self.new.touched (spec.touched_in self.new.touched noting)) }
+        ensures err { OnErr result (self.new ≡ self.old) }
+    {
+        if !self.touched.make_room(servers)? {
+            return Ok(None);
+        }
+        Ok(Some(Noting::new(self.touched.take())))
+    }
+
+    /// Notes in what was handed out, if it was, that one of the servers granted the lock. It takes no memory.
+    pub fn note(&self, noting: &mut Option<Noting>, server: ServerId)
+        requires tree { server.levels ≡ self.now.levels }
+        requires room { spec.CanNote self.now noting.old (server.number ∷ []) }
+        ensures value { spec.noted self.now noting.new ≡ spec.touched_by (spec.noted self.now noting.old) server.number }
+        ensures room { (more : List ℕ) → spec.CanNote self.now noting.old (server.number ∷ more) → spec.CanNote self.now noting.new more }
+        ensures still { spec.IsTouched (spec.noted self.now noting.old) (spec.noted self.now noting.new) }
+    {
+        if let Some(noting) = noting {
+            noting.put(server);
+        }
+    }
+
+    /// Takes back what was handed out, if it was: the servers there are now those noted. It takes no memory.
+    pub fn take_back(&mut self, noting: Option<Noting>)
+        requires ready { spec.CanNote self.old noting [] }
+        requires kept { sets.IsWithin self.old.touched (spec.touched_in self.old.touched noting) }
+        ensures after { self.new ≡ spec.noted self.old noting }
+        ensures cited { (told : List NodeTold) → KeepsOnly told self.old → KeepsOnly told self.new }
+        ensures still { spec.IsTouched self.old self.new }
+    {
+        if let Some(noting) = noting {
+            self.touched.replace(noting.into_servers());
+        }
+    }
+
+    /// Reads a file by the answers of a quorum: the first copy of the greatest version granted. A fault leaves the
+    /// transaction as it was.
+    pub fn read(
+        &mut self,
+        alloc: Global,
+        file: &FileName,
+        answers: &[NodeTold],
+    ) -> Result<FileCopy, TxnFault>
+        ensures succeeds { IfOk result (λ copy. spec.read_fault self.old file.now answers.now ≡ None) }
+        ensures value { IfOk result (λ copy. copy ≡ spec.read_copy (spec.grants_of OpKind.Read self.old.txn file.now answers.now)) }
+        ensures after { OnOk result (self.new ≡ spec.read_after self.old file.now answers.now) }
+        ensures cited { OnOk result ((told : List NodeTold) → KeepsOnly told self.old → KeepsOnly (told ++ answers.now) self.new) }
+        ensures fault { IfErr result (λ fault. spec.ComesOf (spec.read_fault self.old file.now answers.now) fault) }
+        ensures err { OnErr result (self.new ≡ self.old) }
+    {
+        if self.is_used(file) {
+            return Err(TxnFault::AlreadyThere);
+        }
+        let grants = self.admit(alloc, OpKind::Read, file, answers)?;
+        Ok(self.read_granted(file, grants)?)
+    }
+
+    /// Reads a file by the grants of a quorum, as `read` does by the answers that tell of them. Out of memory leaves the
+    /// transaction as it was.
+    pub fn read_granted(&mut self, file: &FileName, grants: Seq<Grant>) -> Result<FileCopy, Memory>
+        requires fresh { spec.is_used self.old.ops file.now ≡ false }
+        requires few { spec.has_all_ops self.old ≡ false }
+        requires member { spec.is_member self.old.levels grants ≡ true }
+        ensures value { IfOk result (λ copy. copy ≡ spec.read_copy grants) }
+        ensures after { OnOk result (self.new ≡ spec.taken self.old (spec.read_op file.now grants)) }
+        ensures cited { OnOk result ((told : List NodeTold) → KeepsOnly told self.old → KeepsOnly (told ++ answers_of self.old.txn file.now grants) self.new) }
+        ensures err { OnErr result (self.new ≡ self.old) }
+    {
+        let grants = SharedSeq::from_vec(grants.into_vec())?;
+        let given = read_copy(grants.as_slice())?;
+        let kept = given.content.clone()?;
+        let op = Op {
+            file: *file,
+            kind: OpKind::Read,
+            version: given.version,
+            content: kept,
+            grants,
+        };
+        self.take(op)?;
+        Ok(given)
+    }
+
+    /// Writes a file by the answers of a quorum: the version is one above the greatest granted. A fault leaves the
+    /// transaction as it was.
+    pub fn write(
+        &mut self,
+        alloc: Global,
+        file: &FileName,
+        content: Content,
+        answers: &[NodeTold],
+    ) -> Result<u64, TxnFault>
+        ensures succeeds { IfOk result (λ version. spec.write_fault self.old file.now answers.now ≡ None) }
+        ensures value { IfOk result (λ version. version ≡ evidence.greatest (spec.grants_of OpKind.Write self.old.txn file.now answers.now) + 1) }
+        ensures after { OnOk result (self.new ≡ spec.write_after self.old file.now content answers.now) }
+        ensures cited { OnOk result ((told : List NodeTold) → KeepsOnly told self.old → KeepsOnly (told ++ answers.now) self.new) }
+        ensures fault { IfErr result (λ fault. spec.ComesOf (spec.write_fault self.old file.now answers.now) fault) }
+        ensures err { OnErr result (self.new ≡ self.old) }
+    {
+        if self.is_written(file) {
+            return Err(TxnFault::AlreadyThere);
+        }
+        let grants = self.admit(alloc, OpKind::Write, file, answers)?;
+        self.write_granted(file, content, grants)
+    }
+
+    /// Writes a file by the exclusive grants of a quorum, as `write` does by the answers that tell of them. A fault
+    /// leaves the transaction as it was.
+    pub fn write_granted(
+        &mut self,
+        file: &FileName,
+        content: Content,
+        grants: Seq<Grant>,
+    ) -> Result<u64, TxnFault>
+        requires fresh { spec.is_written self.old.ops file.now ≡ false }
+        requires few { spec.has_all_ops self.old ≡ false }
+        requires member { spec.is_member self.old.levels grants ≡ true }
+        requires exclusive { evidence.is_exclusively_granted grants ≡ true }
+        ensures succeeds { IfOk result (λ version. spec.version_fault grants ≡ None) }
+        ensures value { IfOk result (λ version. version ≡ evidence.greatest grants + 1) }
+        ensures after { OnOk result (self.new ≡ spec.taken self.old (spec.write_op file.now content grants)) }
+        ensures cited { OnOk result ((told : List NodeTold) → KeepsOnly told self.old → KeepsOnly (told ++ answers_of self.old.txn file.now grants) self.new) }
+        ensures fault { IfErr result (λ fault. spec.ComesOf (spec.version_fault grants) fault) }
+        ensures err { OnErr result (self.new ≡ self.old) }
+    {
+        let Some(version) = greatest_version(grants.as_slice()).checked_add(1) else {
+            return Err(TxnFault::VersionFull);
+        };
+        let grants = SharedSeq::from_vec(grants.into_vec())?;
+        let op = Op {
+            file: *file,
+            kind: OpKind::Write,
+            version,
+            content,
+            grants,
+        };
+        self.take(op)?;
+        Ok(version)
+    }
+
+    /// Replaces the content that the transaction writes to a file. It takes no memory.
+    pub fn rewrite(&mut self, file: &FileName, content: Content)
+        requires { IsSome (spec.written self.old file.now) }
+        ensures after { self.new ≡ spec.rewritten self.old file.now content }
+        ensures cited { (told : List NodeTold) → KeepsOnly told self.old → KeepsOnly told self.new }
+    {
+        rewrite_in(&mut self.ops, file, content);
+    }
+
+    /// Ends the reading and writing, if there was any. It takes no memory.
+    pub fn close(self) -> Result<Voting, (Open, TxnFault)>
+        ensures succeeds { IfOk result (λ open_votes. (spec.close_fault self ≡ None) × (open_votes ≡ voting.closed self)) }
+        ensures cited { IfOk result (λ closed. (told : List NodeTold) → KeepsOnly told self → VotesOnly told closed) }
+        ensures fault { IfErr result (λ back. (back.0 ≡ self) × (spec.close_fault self ≡ Some back.1)) }
+    {
+        if self.ops.is_empty() {
+            return Err((self, TxnFault::NoOps));
+        }
+        Ok(Voting::new(self))
+    }
+
+    /// Ends the transaction by the desk's verdict on it, and hands it back after a fault.
+    pub fn end(self, alloc: Global, told: &DeskTold) -> Result<Ended, (Open, TxnFault)>
+        ensures value { IfOk result (λ ended. ending.IsEnd self told.now ended) }
+        ensures fault { IfErr result (λ back. (back.0 ≡ self) × spec.ComesOf (ending.end_fault self told.now) back.1) }
+    {
+        match verdict_of(alloc, self.txn(), told) {
+            Ok(verdict) => Ok(self.end_by(verdict, told.number)),
+            Err(fault) => Err((self, fault)),
+        }
+    }
+
+    /// Ends the transaction by a verdict on it, which the desk's entry of that number told. It takes no memory.
+    pub fn end_by(self, verdict: Verdict, cite: u64) -> Ended
+        ensures { result ≡ ending.ended_with self cite verdict }
+    {
+        Ended::of(self, verdict, cite)
+    }
+
+    pub(crate) fn allocator(&self) -> Global {
+        *self.ops.allocator()
+    }
+
+    /// The set of the servers that granted it a lock.
+    pub(crate) fn into_touched(self) -> Servers
+        ensures servers { result.servers ≡ self.touched }
+        ensures levels { result.levels ≡ self.levels }
+    {
+        let Self {
+            levels: _,
+            limits: _,
+            txn: _,
+            ops: _,
+            voters: _,
+            touched,
+        } = self;
+        touched
+    }
+
+    pub(crate) fn copy_ops(&self) -> Result<SharedSeq<Op>, Memory>
+        ensures { IfOk result (λ ops. ops ≡ self.now.ops) }
+    {
+        copy_of(&self.ops)
+    }
+
+    fn is_used(&self, file: &FileName) -> bool
+        ensures { result ≡ spec.is_used self.now.ops file.now }
+    {
+        self.ops.iter().any(|op| op.file == *file)
+    }
+
+    fn is_written(&self, file: &FileName) -> bool
+        ensures { result ≡ spec.is_written self.now.ops file.now }
+    {
+        self.ops.iter().any(|op| op.writes(file))
+    }
+
+    /// The grants that the answers tell of, where a further operation may rest on them.
+    fn admit(
+        &self,
+        alloc: Global,
+        kind: OpKind,
+        file: &FileName,
+        answers: &[NodeTold],
+    ) -> Result<Seq<Grant>, TxnFault>
+        ensures succeeds { IfOk result (λ grants. spec.grants_fault kind self.now file.now answers.now ≡ None) }
+        ensures grants { IfOk result (λ grants. grants ≡ spec.grants_of kind self.now.txn file.now answers.now) }
+        ensures member { IfOk result (λ grants. spec.is_member self.now.levels grants ≡ true) }
+        ensures few { IfOk result (λ grants. length self.now.ops < self.now.limits.ops) }
+        ensures fault { IfErr result (λ fault. spec.ComesOf (spec.grants_fault kind self.now file.now answers.now) fault) }
+    {
+        if self.is_full() {
+            return Err(TxnFault::TooManyOps);
+        }
+        let grants = grants_of(alloc, kind, self.txn, file, answers)?;
+        if !is_member(alloc, self.levels, grants.as_slice())? {
+            return Err(TxnFault::NotAMember);
+        }
+        Ok(Seq::from_vec(grants))
+    }
+
+    /// Takes an operation. Out of memory leaves the transaction as it was.
+    fn take(&mut self, op: Op) -> Result<(), Memory>
+        requires { spec.IsGoodOp self.old op }
+        ensures after { OnOk result (self.new ≡ spec.taken self.old op) }
+        ensures err { OnErr result (self.new ≡ self.old) }
+    {
+        let voters = self.voters.make_room_for(op.grants.as_slice())?;
+        let touched = self.touched.make_room_for(op.grants.as_slice())?;
+        self.ops.reserve(1)?;
+        self.voters.grow(voters, op.grants.as_slice());
+        self.touched.grow(touched, op.grants.as_slice());
+        put_in_order(&mut self.ops, op);
+        Ok(())
+    }
+}
+
+/// Whether the servers of the grants, in their order, ascend and are a quorum.
+fn is_member(alloc: Global, levels: Levels, grants: &[Grant]) -> Result<bool, Memory>
+    ensures { IfOk result (λ member. member ≡ spec.is_member levels grants.now) }
+{
+    let numbers = granters(alloc, grants)?;
+    Ok(is_quorum(levels, numbers.as_slice()))
+}
+
+fn is_read_of(file: &FileName, op: &Op) -> bool
+    ensures { result ≡ spec.is_read_of file.now op.now }
+{
+    !op.is_write() && op.file == *file
+}
+
+/// Replaces the content that is written to a file.
+fn rewrite_in(ops: &mut Vec<Op>, file: &FileName, content: Content)
+    requires { IsSome (find (evidence.writes_file file.now) ops.old.items) }
+    ensures { ops.new.items ≡ spec.with_content file.now content ops.old.items }
+{
+    let place = match write_place(ops.as_slice(), file) {
+        Some(place) => place,
+        None => unreachable!(),
+    };
+    let op = &mut ops[place];
+    op.content = content;
+}
+
+/// Where the write to a file stands.
+fn write_place(ops: &[Op], file: &FileName) -> Option<usize>
+    ensures value { result ≡ position (evidence.writes_file file.now) ops.now }
+    ensures within { IfSome result (λ place. place < length ops.now) }
+{
+    ops.iter().position(|op| op.writes(file))
+}
+
+/// Puts the operation before those of later files, in a list that has room.
+fn put_in_order(ops: &mut Vec<Op>, op: Op)
+    requires { vec_len ops.old < vec_capacity ops.old }
+    ensures { ops.new.items ≡ spec.with_op ops.old.items op }
+{
+    let place = place_of(ops.as_slice(), &op.file);
+    let _room_was_made = ops.insert(place, op);
+}
+
+/// The place of the first operation on a later file, or the end.
+fn place_of(ops: &[Op], file: &FileName) -> usize
+    ensures value { result ≡ place_before (λ op. is_lt (name_cmp file.now op.file)) ops.now }
+    ensures within { result ≤ length ops.now }
+{
+    match first_later(ops, file) {
+        Some(place) => place,
+        None => ops.len(),
+    }
+}
+
+/// Where the first operation on a later file stands.
+fn first_later(ops: &[Op], file: &FileName) -> Option<usize>
+    ensures value { result ≡ position (λ op. is_lt (name_cmp file.now op.file)) ops.now }
+    ensures within { IfSome result (λ place. place < length ops.now) }
+{
+    ops.iter().position(|op| is_later(file, op))
+}
+
+fn is_later(file: &FileName, op: &Op) -> bool
+    ensures { result ≡ is_lt (name_cmp file.now op.now.file) }
+{
+    file.cmp(&op.file).is_lt()
+}
+
+/// The list that a vector holds, once more.
+pub(crate) fn copy_of<T: ExactClone>(items: &Vec<T>) -> Result<SharedSeq<T>, Memory>
+    ensures { IfOk result (λ list. list ≡ items.now.items) }
+{
+    Ok(SharedSeq::from_vec(items.clone()?)?)
+}

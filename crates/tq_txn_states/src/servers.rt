@@ -1,0 +1,224 @@
+ghost use Rattle.std.specs.Prelude.{◌≡◌, ◌==◌, ◌+◌, ◌<◌, ◌≤◌, [], true, false, length, nat_lt, IfOk, IsTrue, OnOk};
+ghost use Rattle.std.specs.List.{insert, list_all, list_any};
+ghost use Rattle.tq_coterie.specs.Coterie.{has, is_quorum, numbers_of};
+ghost use Rattle.tq_evidence.specs.Evidence.{granters, rises};
+ghost use Rattle.tq_txn_states.specs.Sets.{IsReady, IsServerSet, put, with_number, with_numbers};
+
+use std::alloc::Global;
+use std::marker::Model;
+use std::mem;
+use tq_coterie::ServerIds;
+use tq_desk::Grant;
+use tq_shape::{Levels, Memory, ServerId};
+
+/// A set of servers of one tree, ascending.
+#[derive(Drop)]
+pub(crate) struct Servers {
+    levels: Levels,
+    ids: ServerIds,
+}
+
+impl Model for Servers {
+    ghost use Rattle.std.specs.Prelude.{◌-◌, length};
+    ghost use Rattle.tq_coterie.specs.Coterie.{numbers_of};
+    ghost use Rattle.tq_txn_states.specs.Sets.{IsServerSet, RoomySet};
+
+    ghost Value = { RoomySet };
+
+    ghost view = { λ a. record {
+      servers = numbers_of a.ids.items;
+      levels = a.levels;
+      room = a.ids.capacity - length a.ids.items;
+    } };
+
+    ghost invariant = { λ a. IsServerSet a.levels a.ids.items };
+}
+
+impl Servers {
+    pub(crate) fn new(alloc: Global, levels: Levels) -> Servers
+        ensures servers { result.servers ≡ [] }
+        ensures levels { result.levels ≡ levels }
+    {
+        Servers {
+            levels,
+            ids: ServerIds::new(alloc),
+        }
+    }
+
+    pub(crate) fn as_slice(&self) -> &[ServerId]
+        ensures numbers { numbers_of result.now ≡ self.now.servers }
+        ensures set { IsServerSet self.now.levels result.now }
+    {
+        self.ids.as_slice()
+    }
+
+    /// Makes room for as many servers more.
+    pub(crate) fn reserve(&mut self, more: usize) -> Result<(), Memory>
+        ensures room { OnOk result (more ≤ self.new.room) }
+        ensures servers { self.new.servers ≡ self.old.servers }
+        ensures levels { self.new.levels ≡ self.old.levels }
+    {
+        self.ids.reserve(more)?;
+        Ok(())
+    }
+
+    /// Makes room for the servers, and tells whether it is to grow by them: else it has them all.
+    pub(crate) fn make_room(&mut self, servers: &[ServerId]) -> Result<bool, Memory>
+        ensures ready { IfOk result (λ grows. IsReady self.new grows (numbers_of servers.now)) }
+        ensures servers { self.new.servers ≡ self.old.servers }
+        ensures levels { self.new.levels ≡ self.old.levels }
+    {
+        if has_all(self.ids.as_slice(), servers) {
+            return Ok(false);
+        }
+        self.reserve(servers.len())?;
+        Ok(true)
+    }
+
+    /// The same for the servers of the grants.
+    pub(crate) fn make_room_for(&mut self, grants: &[Grant]) -> Result<bool, Memory>
+        ensures ready { IfOk result (λ grows. IsReady self.new grows (granters grants.now)) }
+        ensures servers { self.new.servers ≡ self.old.servers }
+        ensures levels { self.new.levels ≡ self.old.levels }
+    {
+        if have_all(self.ids.as_slice(), grants) {
+            return Ok(false);
+        }
+        self.reserve(grants.len())?;
+        Ok(true)
+    }
+
+    /// Puts a server at its place, if it is not there. It takes no memory.
+    pub(crate) fn put(&mut self, server: ServerId)
+        requires tree { server.levels ≡ self.old.levels }
+        requires room { 1 ≤ self.old.room }
+        ensures servers { self.new.servers ≡ with_number self.old.servers server.number }
+        ensures levels { self.new.levels ≡ self.old.levels }
+        ensures room { self.old.room ≤ self.new.room + 1 }
+    {
+        if is_above(self.ids.as_slice(), server.number()) {
+            self.ids.push_reserved(server);
+            return;
+        }
+        if has_number(self.ids.as_slice(), server.number()) {
+            return;
+        }
+        put_in_order(&mut self.ids, server);
+    }
+
+    /// Grows by the servers of the grants, which are a quorum of its tree, if it is to. It takes no memory.
+    pub(crate) fn grow(&mut self, grows: bool, grants: &[Grant])
+        requires quorum { is_quorum self.old.levels (granters grants.now) ≡ true }
+        requires ready { IsReady self.old grows (granters grants.now) }
+        ensures servers { self.new.servers ≡ with_numbers self.old.servers (granters grants.now) }
+        ensures levels { self.new.levels ≡ self.old.levels }
+    {
+        if !grows {
+            return;
+        }
+        // A tree has a level, so the numbers of a quorum are its servers.
+        let _ = self.levels.count();
+        for grant in grants {
+            self.put(ServerId::new(self.levels, grant.server));
+        }
+    }
+
+    /// Hands the set out, and leaves none of its servers.
+    pub(crate) fn take(&mut self) -> Servers
+        ensures taken { result ≡ self.old }
+        ensures left { self.new.servers ≡ [] }
+        ensures levels { self.new.levels ≡ self.old.levels }
+    {
+        let none = Servers::new(*self.ids.allocator(), self.levels);
+        mem::replace(self, none)
+    }
+
+    /// Ends the set, and puts this one in its place.
+    pub(crate) fn replace(&mut self, servers: Servers)
+        ensures { self.new ≡ servers }
+    {
+        *self = servers;
+    }
+}
+
+/// Whether the number is above those of all the servers, which ascend.
+fn is_above(ids: &[ServerId], number: u64) -> bool
+    requires { rises (numbers_of ids.now) ≡ true }
+    ensures { IsTrue result → list_all (λ id. nat_lt id.number number) ids.now ≡ true }
+{
+    match ids.last() {
+        Some(last) => last.number() < number,
+        None => true,
+    }
+}
+
+/// Whether the number is that of one of the servers, which ascend.
+fn has_number(ids: &[ServerId], number: u64) -> bool
+    requires { rises (numbers_of ids.now) ≡ true }
+    ensures { result ≡ list_any (λ id. id.number == number) ids.now }
+{
+    let place = ids.partition_point(|id| id.number() < number);
+    match ids.get(place) {
+        Some(id) => id.number() == number,
+        None => false,
+    }
+}
+
+/// Whether all the others are among the servers, as one walk along both finds them where both ascend.
+fn has_all(ids: &[ServerId], others: &[ServerId]) -> bool
+    ensures { IsTrue result → list_all (has (numbers_of ids.now)) (numbers_of others.now) ≡ true }
+{
+    match others {
+        [] => true,
+        [other, ..] => match ids {
+            [] => false,
+            [id, ..] => {
+                if id.number() == other.number() {
+                    return has_all(ids, &others[1..]);
+                }
+                has_all(&ids[1..], others)
+            }
+        },
+    }
+}
+
+/// The same for the servers of the grants.
+fn have_all(ids: &[ServerId], grants: &[Grant]) -> bool
+    ensures { IsTrue result → list_all (has (numbers_of ids.now)) (granters grants.now) ≡ true }
+{
+    match grants {
+        [] => true,
+        [grant, ..] => match ids {
+            [] => false,
+            [id, ..] => {
+                if id.number() == grant.server {
+                    return have_all(ids, &grants[1..]);
+                }
+                have_all(&ids[1..], grants)
+            }
+        },
+    }
+}
+
+/// Puts a server that is not there before the first above it, in a list that has room.
+fn put_in_order(ids: &mut ServerIds, server: ServerId)
+    requires rise { rises (numbers_of ids.old.items) ≡ true }
+    requires absent { list_any (λ id. id.number == server.number) ids.old.items ≡ false }
+    requires room { length ids.old.items + 1 ≤ ids.old.capacity }
+    ensures items { ids.new.items ≡ put (λ id. nat_lt server.number id.number) server ids.old.items }
+    ensures len { length ids.new.items ≡ length ids.old.items + 1 }
+    ensures capacity { ids.new.capacity ≡ ids.old.capacity }
+{
+    let place = place_of(ids.as_slice(), server);
+    let _room_was_made = ids.insert(place, server);
+}
+
+/// Where a server that is not there goes: before the first above it, or to the end.
+fn place_of(ids: &[ServerId], server: ServerId) -> usize
+    requires rise { rises (numbers_of ids.now) ≡ true }
+    requires absent { list_any (λ id. id.number == server.number) ids.now ≡ false }
+    ensures place { insert ids.now result server ≡ put (λ id. nat_lt server.number id.number) server ids.now }
+    ensures within { result ≤ length ids.now }
+{
+    ids.partition_point(|id| id.number() < server.number())
+}

@@ -1,0 +1,337 @@
+ghost use Rattle.std.specs.Prelude.{◌≡◌, ◌==◌, ◌<◌, ◌≤◌, is_some, length, nat_lt, position, slice_get, true, false, vec_capacity, vec_len, IfOk, IfSome, IsTrue};
+ghost use Rattle.std.specs.List.{list_all, list_any};
+ghost use Rattle.std.specs.List.Sorted.{IsPartitionPoint};
+ghost use Rattle.std.specs.Option.{option_copied, option_map, option_map_or};
+ghost use Rattle.tq_evidence.specs.Evidence as evidence;
+ghost use Rattle.tq_txn_states.specs.Ballots as ballots_spec;
+ghost use Rattle.tq_txn_states.specs.Open as open_spec;
+ghost use Rattle.tq_txn_states.specs.Voting as spec;
+
+use crate::NodeTold;
+use std::alloc::Global;
+use tq_asks::{NodeAsk, NodeReply, WorkAsk};
+use tq_desk::{Grant, Op, Vote};
+use tq_shape::{Memory, ServerId, SharedSeq};
+use tq_store::{FileName, Write};
+
+/// A vote, with the ask that it answers.
+#[derive(Drop)]
+pub(crate) struct Cast {
+    pub(crate) vote: Vote,
+    pub(crate) ask: NodeAsk,
+}
+
+/// The vote for the transaction that an answer tells of.
+pub(crate) fn cast_in(txn: u64, told: NodeTold) -> Option<Cast>
+    ensures value { option_map (λ cast. cast.vote) result ≡ spec.vote_of txn told }
+    ensures server { IfSome result (λ cast. cast.vote.server ≡ told.server) }
+{
+    let NodeTold {
+        server,
+        number,
+        ask,
+        reply,
+    } = told;
+    if !is_prepare_of(txn, &ask) {
+        return None;
+    }
+    match reply {
+        NodeReply::Yes { held, writes } => Some(Cast {
+            vote: Vote {
+                server,
+                number,
+                held,
+                writes,
+            },
+            ask,
+        }),
+        _ => None,
+    }
+}
+
+/// Whether the ask is for a vote for the transaction.
+fn is_prepare_of(txn: u64, ask: &NodeAsk) -> bool
+    ensures { result ≡ ballots_spec.is_prepare_of txn ask.now }
+{
+    let NodeAsk::Work(work) = ask else {
+        return false;
+    };
+    let WorkAsk::Prepare { txn: voter, .. } = work.get() else {
+        return false;
+    };
+    *voter == txn
+}
+
+pub(crate) fn is_server_of(ops: &[Op], server: u64) -> bool
+    ensures { result ≡ evidence.is_server_of ops.now server }
+{
+    ops.iter().any(|op| op.has_server(server))
+}
+
+/// Where the server's grant stands in the first operation that has one.
+pub(crate) fn place_of_server(ops: &[Op], server: u64) -> Option<usize>
+    ensures { is_some result ≡ evidence.is_server_of ops.now server }
+{
+    match ops {
+        [] => None,
+        [op, ..] => match place_in(op, server) {
+            Some(place) => Some(place),
+            None => place_of_server(&ops[1..], server),
+        },
+    }
+}
+
+/// Where the server's grant stands in an operation.
+#[inline(always)]
+fn place_in(op: &Op, server: u64) -> Option<usize>
+    ensures { is_some result ≡ evidence.has_server op.now server }
+{
+    place_among(op.grants.as_slice(), server)
+}
+
+/// So many grants are looked at one by one.
+const FEW_GRANTS: usize = 16;
+
+/// Where the server's grant stands: of many a search finds it where they ascend by server, and else a look at each.
+fn place_among(grants: &[Grant], server: u64) -> Option<usize>
+    ensures { is_some result ≡ list_any (λ grant. grant.server == server) grants.now }
+{
+    if grants.len() > FEW_GRANTS {
+        let place = grants.partition_point(|grant| grant.server < server);
+        if let Some(grant) = grants.get(place) {
+            if grant.server == server {
+                return Some(place);
+            }
+        }
+    }
+    first_place_among(grants, server)
+}
+
+fn first_place_among(grants: &[Grant], server: u64) -> Option<usize>
+    ensures { result ≡ position (λ grant. grant.server == server) grants.now }
+{
+    grants.iter().position(|grant| grant.server == server)
+}
+
+/// Whether a server granted a lock to the operation: its grant likely stands at the place.
+#[inline(always)]
+fn has_server_at(op: &Op, server: u64, place: usize) -> bool
+    ensures { result ≡ evidence.has_server op.now server }
+{
+    let grants = op.grants.as_slice();
+    if let Some(grant) = grants.get(place) {
+        if grant.server == server {
+            return true;
+        }
+    }
+    op.has_server(server)
+}
+
+/// What the operations write at a server, by file.
+pub(crate) fn writes_at(alloc: Global, ops: &[Op], server: u64) -> Result<SharedSeq<Write>, Memory>
+    ensures { IfOk result (λ writes. writes ≡ spec.writes_at ops.now server) }
+{
+    let mut writes = Vec::with_capacity(alloc, ops.len())?;
+    for op in ops {
+        if op.is_write() && op.has_server(server) {
+            writes.push(write_in(op)?)?;
+        }
+    }
+    Ok(SharedSeq::from_vec(writes)?)
+}
+
+fn write_in(op: &Op) -> Result<Write, Memory>
+    ensures { IfOk result (λ write. write ≡ spec.write_in op.now) }
+{
+    Ok(Write {
+        file: op.file,
+        version: op.version,
+        content: op.content.clone()?,
+    })
+}
+
+/// Whether the ask is the one for the server's vote.
+pub(crate) fn is_ask_at(ask: &NodeAsk, txn: u64, ops: &[Op], server: u64) -> bool
+    ensures { IsTrue result → ask.now ≡ NodeAsk.Work (WorkAsk.Prepare txn (spec.writes_at ops.now server)) }
+{
+    let NodeAsk::Work(work) = ask else {
+        return false;
+    };
+    let WorkAsk::Prepare { txn: asker, writes } = work.get() else {
+        return false;
+    };
+    if *asker != txn {
+        return false;
+    }
+    are_writes_at(server, writes.as_slice(), ops, 0)
+}
+
+/// Whether all that the operations write, they write at the server: its grants likely stand at the place.
+pub(crate) fn writes_all_at(ops: &[Op], server: u64, place: usize) -> bool
+    ensures { result ≡ spec.writes_all_at ops.now server }
+{
+    ops.iter()
+        .all(|op| !op.is_write() || has_server_at(op, server, place))
+}
+
+/// Whether the writes voted are those of the operations at the server: its grants likely stand at the place.
+pub(crate) fn are_writes_at(server: u64, voted: &[Write], ops: &[Op], place: usize) -> bool
+    ensures { result ≡ evidence.are_writes_at server voted.now (spec.writes_in ops.now) }
+{
+    match ops {
+        [] => voted.is_empty(),
+        [op, ..] => {
+            if !op.is_write() || !has_server_at(op, server, place) {
+                return are_writes_at(server, voted, &ops[1..], place);
+            }
+            match voted {
+                [] => false,
+                [write, ..] => {
+                    op.makes(write) && are_writes_at(server, &voted[1..], &ops[1..], place)
+                }
+            }
+        }
+    }
+}
+
+/// The least file of which the vote does not cover a grant. The grants of its server likely stand at the place, and the
+/// vote's locks where the operations stand.
+pub(crate) fn lost<'a>(
+    ops: &'a [Op],
+    vote: &Vote,
+    place: usize,
+    lock: usize,
+) -> Option<&'a FileName>
+    requires { spec.have_order ops.now ≡ true }
+    ensures { option_copied result ≡ spec.lost ops.now vote.now }
+{
+    match ops {
+        [] => None,
+        [op, ..] => {
+            if !covers_op(vote, op, place, lock) {
+                return Some(&op.file);
+            }
+            lost(&ops[1..], vote, place, lock.wrapping_add(1))
+        }
+    }
+}
+
+/// Whether the vote covers the grants of its server, of which there is one at most.
+#[inline(always)]
+fn covers_op(vote: &Vote, op: &Op, place: usize, lock: usize) -> bool
+    requires { evidence.rises (evidence.servers_of op.now) ≡ true }
+    ensures { result ≡ spec.covers_op vote.now op.now }
+{
+    let grants = op.grants.as_slice();
+    if let Some(grant) = grants.get(place) {
+        if grant.server == vote.server {
+            return covers_at(vote, op.file, grant, lock);
+        }
+    }
+    grants
+        .iter()
+        .all(|grant| covers_grant(vote, op.file, grant))
+}
+
+/// Whether the vote covers the grant of its server: its lock likely stands at the place.
+#[inline(always)]
+fn covers_at(vote: &Vote, file: FileName, grant: &Grant, lock: usize) -> bool
+    ensures { result ≡ evidence.covers file grant.now vote.now }
+{
+    if vote.server != grant.server {
+        return false;
+    }
+    if grant.number >= vote.number {
+        return false;
+    }
+    if let Some(held) = vote.held.as_slice().get(lock) {
+        if held.file == file && held.since <= grant.number {
+            return true;
+        }
+    }
+    vote.holds_since(file, grant.number)
+}
+
+fn covers_grant(vote: &Vote, file: FileName, grant: &Grant) -> bool
+    ensures { result ≡ spec.covers_grant vote.now file grant.now }
+{
+    vote.server != grant.server || vote.covers(file, grant)
+}
+
+/// Whether the server is above those of all the votes, which ascend.
+fn is_above(votes: &[Vote], server: u64) -> bool
+    requires { evidence.votes_rise votes.now ≡ true }
+    ensures { IsTrue result → list_all (λ vote. nat_lt vote.server server) votes.now ≡ true }
+{
+    match votes.last() {
+        Some(vote) => vote.server < server,
+        None => true,
+    }
+}
+
+/// Whether the server's vote is there. The votes ascend: of a server above them the last tells, and another a search finds.
+pub(crate) fn has_vote(votes: &[Vote], server: u64) -> bool
+    requires { evidence.votes_rise votes.now ≡ true }
+    ensures { result ≡ spec.has_vote votes.now server }
+{
+    if is_above(votes, server) {
+        return false;
+    }
+    let place = place_of_vote(votes, server);
+    stands_at(votes, server, place)
+}
+
+/// Whether the vote of each server is there.
+pub(crate) fn has_votes(votes: &[Vote], voters: &[ServerId]) -> bool
+    requires { evidence.votes_rise votes.now ≡ true }
+    ensures { result ≡ list_all (λ voter. spec.has_vote votes.now voter.number) voters.now }
+{
+    match voters {
+        [] => true,
+        [voter, ..] => {
+            if !has_vote(votes, voter.number()) {
+                return false;
+            }
+            has_votes(votes, &voters[1..])
+        }
+    }
+}
+
+/// Puts a vote at its place, instead of one of its server that is there, in a list that has room. One of a server above the
+/// others goes to the end.
+pub(crate) fn put_vote(votes: &mut Vec<Vote>, vote: Vote)
+    requires rise { evidence.votes_rise votes.old.items ≡ true }
+    requires room { vec_len votes.old < vec_capacity votes.old }
+    ensures { votes.new.items ≡ spec.with_vote vote votes.old.items }
+{
+    if is_above(votes.as_slice(), vote.server) {
+        votes.push_reserved(vote);
+        return;
+    }
+    let place = place_of_vote(votes.as_slice(), vote.server);
+    if stands_at(votes.as_slice(), vote.server, place) {
+        votes[place] = vote;
+        return;
+    }
+    let _room_was_made = votes.insert(place, vote);
+}
+
+/// Where the votes of lesser servers end: the server's vote stands there, or goes there if it is not there.
+fn place_of_vote(votes: &[Vote], server: u64) -> usize
+    requires { evidence.votes_rise votes.now ≡ true }
+    ensures place { IsPartitionPoint (λ vote. nat_lt vote.server server ≡ true) (λ vote. nat_lt vote.server server ≡ false) votes.now result }
+    ensures within { result ≤ length votes.now }
+{
+    votes.partition_point(|vote| vote.server < server)
+}
+
+/// Whether the vote at the place is the server's.
+fn stands_at(votes: &[Vote], server: u64, place: usize) -> bool
+    ensures value { result ≡ option_map_or (spec.is_of_server server) (slice_get votes.now place) false }
+    ensures within { IsTrue result → place < length votes.now }
+{
+    match votes.get(place) {
+        Some(vote) => vote.server == server,
+        None => false,
+    }
+}

@@ -1,0 +1,323 @@
+ghost use Rattle.std.specs.Prelude.{◌≡◌, ◌<◌, ◌≤◌, ◌++◌, List, [], ◌∷◌, true, None, Some, IfOk, IfErr, IfSome, OnOk, OnErr};
+ghost use Rattle.tq_coterie.specs.Coterie.{numbers_of};
+ghost use Rattle.tq_evidence.specs.Evidence as evidence;
+ghost use Rattle.tq_txn_states.specs.Ballots.{with_ballots};
+ghost use Rattle.tq_txn_states.specs.Cited.{VotesOnly};
+ghost use Rattle.tq_txn_states.specs.Ended as ending;
+ghost use Rattle.tq_txn_states.specs.Open as open_spec;
+ghost use Rattle.tq_txn_states.specs.Sets as sets;
+ghost use Rattle.tq_txn_states.specs.Voting as spec;
+
+use crate::ended::verdict_of;
+use crate::open::copy_of;
+use crate::told::told_again;
+use crate::votes::{
+    Cast, are_writes_at, cast_in, has_vote, has_votes, is_ask_at, is_server_of, lost,
+    place_of_server, put_vote, writes_all_at, writes_at,
+};
+use crate::{Ballots, DeskTold, Ended, NodeTold, Open, Ready, TxnFault};
+use std::alloc::Global;
+use std::marker::Model;
+use std::mem;
+use tq_asks::{NodeAsk, Verdict, WorkAsk};
+use tq_desk::{Op, Vote};
+use tq_shape::{Memory, ServerId, Shared, SharedSeq};
+
+/// A transaction that gathers votes.
+pub struct Voting {
+    txn: Open,
+    votes: Vec<Vote>,
+    /// An ask with all that the transaction writes: that of each server where it writes all of it. Contracts do not see it.
+    asked: Option<NodeAsk>,
+}
+
+// Written out, so that a crate above lets go of one by a call.
+impl Drop for Voting {
+    fn drop(self) {
+        let Self {
+            txn: _,
+            votes: _,
+            asked: _,
+        } = self;
+    }
+}
+
+impl Model for Voting {
+    ghost use Rattle.tq_txn_states.specs.Voting.{VotingView, IsVoting, HasWhole};
+
+    ghost Value = { VotingView };
+
+    ghost view = { λ a. record { txn = a.txn; votes = a.votes.items } };
+
+    ghost invariant = { λ a. IsVoting (record { txn = a.txn; votes = a.votes.items }) × HasWhole a.txn a.asked };
+}
+
+impl Voting {
+    /// A transaction that has operations, and no vote yet.
+    pub(crate) fn new(txn: Open) -> Voting
+        requires { evidence.is_some_op txn.ops ≡ true }
+        ensures { result ≡ spec.closed txn }
+    {
+        let votes = Vec::new(txn.allocator());
+        Voting {
+            txn,
+            votes,
+            asked: None,
+        }
+    }
+
+    /// The transaction as it was closed.
+    pub fn txn(&self) -> &Open
+        ensures { result.now ≡ self.now.txn }
+    {
+        &self.txn
+    }
+
+    /// The votes that it took, ascending by server. They are good evidence as far as they go.
+    pub fn votes(&self) -> &[Vote]
+        ensures value { result.now ≡ self.now.votes }
+        ensures good { spec.IsVoting self.now }
+    {
+        self.votes.as_slice()
+    }
+
+    /// The servers of the quorums of its operations, ascending.
+    pub fn voters(&self) -> &[ServerId]
+        ensures numbers { numbers_of result.now ≡ self.now.txn.voters }
+        ensures set { sets.IsServerSet self.now.txn.levels result.now }
+        ensures exact { open_spec.HasVoters self.now.txn }
+    {
+        self.txn.voters()
+    }
+
+    /// Whether a server's vote is there.
+    pub fn has_vote(&self, server: ServerId) -> bool
+        ensures { result ≡ spec.has_vote self.now.votes server.number }
+    {
+        has_vote(self.votes.as_slice(), server.number())
+    }
+
+    /// The ask for a voter's vote. Memory is taken for a voter alone.
+    pub fn ask(&self, alloc: Global, server: ServerId) -> Result<NodeAsk, TxnFault>
+        ensures succeeds { IfOk result (λ ask. spec.ask_fault self.now.txn server.number ≡ None) }
+        ensures value { IfOk result (λ ask. ask ≡ spec.prepare_ask self.now.txn server.number) }
+        ensures fault { IfErr result (λ fault. open_spec.ComesOf (spec.ask_fault self.now.txn server.number) fault) }
+        ensures memory { IfErr result (λ fault. fault ≡ TxnFault.Memory → spec.ask_fault self.now.txn server.number ≡ None) }
+    {
+        if let Some(ask) = self.asked_before(server.number())? {
+            return Ok(ask);
+        }
+        match self.work(alloc, server) {
+            Ok(work) => Ok(NodeAsk::Work(Shared::new(alloc, work)?)),
+            Err(fault) => Err(fault),
+        }
+    }
+
+    /// The ask for the server's vote, where it is the one that is kept.
+    fn asked_before(&self, server: u64) -> Result<Option<NodeAsk>, Memory>
+        ensures voter { IfOk result (λ found. IfSome found (λ ask. spec.ask_fault self.now.txn server ≡ None)) }
+        ensures ask { IfOk result (λ found. IfSome found (λ ask. ask ≡ spec.prepare_ask self.now.txn server)) }
+        ensures memory { OnErr result (spec.ask_fault self.now.txn server ≡ None) }
+    {
+        let Some(ask) = &self.asked else {
+            return Ok(None);
+        };
+        let ops = self.txn.ops();
+        let Some(place) = place_of_server(ops, server) else {
+            return Ok(None);
+        };
+        if !writes_all_at(ops, server, place) {
+            return Ok(None);
+        }
+        Ok(Some(ask.clone()?))
+    }
+
+    /// The work that a voter is asked for its vote. Memory is taken for a voter alone.
+    pub fn work(&self, alloc: Global, server: ServerId) -> Result<WorkAsk, TxnFault>
+        ensures succeeds { IfOk result (λ work. spec.ask_fault self.now.txn server.number ≡ None) }
+        ensures value { IfOk result (λ work. work ≡ spec.prepare_work self.now.txn server.number) }
+        ensures fault { IfErr result (λ fault. open_spec.ComesOf (spec.ask_fault self.now.txn server.number) fault) }
+        ensures memory { IfErr result (λ fault. fault ≡ TxnFault.Memory → spec.ask_fault self.now.txn server.number ≡ None) }
+    {
+        let ops = self.txn.ops();
+        if !is_server_of(ops, server.number()) {
+            return Err(TxnFault::NotAVoter);
+        }
+        let writes = writes_at(alloc, ops, server.number())?;
+        Ok(WorkAsk::Prepare {
+            txn: self.txn.txn(),
+            writes,
+        })
+    }
+
+    /// Takes a vote, in place of one of its server that is there. A fault leaves the transaction as it was.
+    pub fn vote(&mut self, _alloc: Global, told: &NodeTold) -> Result<(), TxnFault>
+        ensures succeeds { IfOk result (λ done. spec.vote_fault self.old told.now ≡ None) }
+        ensures after { OnOk result (self.new ≡ spec.vote_after self.old told.now) }
+        ensures cited { OnOk result ((before : List NodeTold) → VotesOnly before self.old → VotesOnly (before ++ told.now ∷ []) self.new) }
+        ensures txn { self.new.txn ≡ self.old.txn }
+        ensures kept { OnOk result (spec.KeepsVotes self.old.votes self.new.votes) }
+        ensures fault { IfErr result (λ fault. open_spec.ComesOf (spec.vote_fault self.old told.now) fault) }
+        ensures err { OnErr result (self.new ≡ self.old) }
+    {
+        let answer = told_again(told)?;
+        let ballots = self.room_for_vote()?;
+        self.vote_in(ballots, answer)
+    }
+
+    /// Hands out the votes, with room for one more. Out of memory leaves the transaction as it was.
+    pub fn room_for_vote(&mut self) -> Result<Ballots, Memory>
+        ensures value { IfOk result (λ ballots. with_ballots self.new ballots ≡ self.old) }
+        ensures room { IfOk result (λ ballots. 1 ≤ ballots.room) }
+        ensures good { IfOk result (λ ballots. spec.IsVoting self.old) }
+        ensures txn { self.new.txn ≡ self.old.txn }
+        ensures err { OnErr result (self.new ≡ self.old) }
+    {
+        self.make_room()?;
+        self.votes.reserve(1)?;
+        let none = Vec::new(self.txn.allocator());
+        Ok(Ballots::new(mem::replace(&mut self.votes, none)))
+    }
+
+    /// Makes room for the votes of all voters, where there is none yet.
+    #[inline(always)]
+    fn make_room(&mut self) -> Result<(), Memory>
+        ensures { self.new ≡ self.old }
+    {
+        if !self.votes.is_empty() {
+            return Ok(());
+        }
+        self.votes.reserve_exact(self.txn.voters().len())?;
+        Ok(())
+    }
+
+    /// Takes the votes back as they were handed out. It takes no memory.
+    pub fn put_back(&mut self, ballots: Ballots)
+        requires { spec.IsVoting (with_ballots self.old ballots) }
+        ensures { self.new ≡ with_ballots self.old ballots }
+    {
+        self.votes = ballots.into_votes();
+    }
+
+    /// Takes the votes back, with the vote that an answer tells of, in place of one of its server that is there. It takes
+    /// no memory. A fault leaves the votes as they were handed out.
+    pub fn vote_in(&mut self, ballots: Ballots, told: NodeTold) -> Result<(), TxnFault>
+        requires good { spec.IsVoting (with_ballots self.old ballots) }
+        requires room { 1 ≤ ballots.room }
+        ensures succeeds { IfOk result (λ done. spec.vote_fault (with_ballots self.old ballots) told ≡ None) }
+        ensures after { OnOk result (self.new ≡ spec.vote_after (with_ballots self.old ballots) told) }
+        ensures cited { OnOk result ((before : List NodeTold) → VotesOnly before (with_ballots self.old ballots) → VotesOnly (before ++ told ∷ []) self.new) }
+        ensures txn { self.new.txn ≡ self.old.txn }
+        ensures kept { OnOk result (spec.KeepsVotes ballots.votes self.new.votes) }
+        ensures fault { IfErr result (λ fault. spec.vote_fault (with_ballots self.old ballots) told ≡ Some fault) }
+        ensures err { OnErr result (self.new ≡ with_ballots self.old ballots) }
+    {
+        match self.cast_by(told) {
+            Ok(cast) => {
+                self.put(ballots, cast);
+                Ok(())
+            }
+            Err(fault) => {
+                self.put_back(ballots);
+                Err(fault)
+            }
+        }
+    }
+
+    /// The vote that an answer tells of, if it is good evidence.
+    fn cast_by(&self, told: NodeTold) -> Result<Cast, TxnFault>
+        ensures good { IfOk result (λ cast. spec.IsGoodVote self.now.txn.ops cast.vote) }
+        ensures vote { IfOk result (λ cast. spec.vote_of self.now.txn.txn told ≡ Some cast.vote) }
+        ensures succeeds { IfOk result (λ cast. spec.vote_fault self.now told ≡ None) }
+        ensures fault { IfErr result (λ fault. spec.vote_fault self.now told ≡ Some fault) }
+    {
+        let ops = self.txn.ops();
+        let Some(place) = place_of_server(ops, told.server) else {
+            return Err(TxnFault::NotAVoter);
+        };
+        let Some(cast) = cast_in(self.txn.txn(), told) else {
+            return Err(TxnFault::NotMyVote);
+        };
+        let vote = &cast.vote;
+        if !are_writes_at(vote.server, vote.writes.as_slice(), ops, place) {
+            return Err(TxnFault::NotMyVote);
+        }
+        if let Some(file) = lost(ops, vote, place, 0) {
+            return Err(TxnFault::LostLock { file: *file });
+        }
+        Ok(cast)
+    }
+
+    pub(crate) fn copy_votes(&self) -> Result<SharedSeq<Vote>, Memory>
+        ensures { IfOk result (λ votes. votes ≡ self.now.votes) }
+    {
+        copy_of(&self.votes)
+    }
+
+    /// Takes the votes back with a good one more, at its place, and keeps the ask that it answers. It takes no memory.
+    fn put(&mut self, ballots: Ballots, cast: Cast)
+        requires all { spec.IsVoting (with_ballots self.old ballots) }
+        requires room { 1 ≤ ballots.room }
+        requires good { spec.IsGoodVote self.old.txn.ops cast.vote }
+        ensures after { self.new ≡ record self.old { votes = spec.with_vote cast.vote ballots.votes } }
+        ensures txn { self.new.txn ≡ self.old.txn }
+        ensures kept { spec.KeepsVotes ballots.votes self.new.votes }
+    {
+        let Cast { vote, ask } = cast;
+        self.keep(vote.server, ask);
+        let mut votes = ballots.into_votes();
+        put_vote(&mut votes, vote);
+        self.votes = votes;
+    }
+
+    /// Keeps the ask of a server, if it has all that the transaction writes and none is kept. It takes no memory.
+    #[inline(always)]
+    fn keep(&mut self, server: u64, asked: NodeAsk)
+        ensures { self.new ≡ self.old }
+    {
+        if self.asked.is_some() {
+            return;
+        }
+        let ops = self.txn.ops();
+        if !writes_all_at(ops, server, 0) {
+            return;
+        }
+        if is_ask_at(&asked, self.txn.txn(), ops, server) {
+            self.asked = Some(asked);
+        }
+    }
+
+    /// Ends the voting, if each voter's vote is there. It takes no memory.
+    pub fn ready(self) -> Result<Ready, (Voting, TxnFault)>
+        ensures succeeds { IfOk result (λ ready. (spec.ready_fault self ≡ None) × (ready ≡ self)) }
+        ensures fault { IfErr result (λ back. (back.0 ≡ self) × (spec.ready_fault self ≡ Some back.1)) }
+    {
+        if !has_votes(self.votes.as_slice(), self.txn.voters()) {
+            return Err((self, TxnFault::VotesMissing));
+        }
+        Ok(Ready::new(self))
+    }
+
+    /// Ends the transaction by the desk's verdict on it, and hands it back after a fault.
+    pub fn end(self, alloc: Global, told: &DeskTold) -> Result<Ended, (Voting, TxnFault)>
+        ensures value { IfOk result (λ ended. ending.IsEnd self.txn told.now ended) }
+        ensures fault { IfErr result (λ back. (back.0 ≡ self) × open_spec.ComesOf (ending.end_fault self.txn told.now) back.1) }
+    {
+        match verdict_of(alloc, self.txn.txn(), told) {
+            Ok(verdict) => Ok(self.end_by(verdict, told.number)),
+            Err(fault) => Err((self, fault)),
+        }
+    }
+
+    /// Ends the transaction by a verdict on it, which the desk's entry of that number told. It takes no memory.
+    pub fn end_by(self, verdict: Verdict, cite: u64) -> Ended
+        ensures { result ≡ ending.ended_with self.txn cite verdict }
+    {
+        let Self {
+            txn,
+            votes: _,
+            asked: _,
+        } = self;
+        Ended::of(txn, verdict, cite)
+    }
+}
