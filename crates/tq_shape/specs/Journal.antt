@@ -2,6 +2,7 @@
 use Rattle.std.specs.Prelude.{◌≡◌, ◌==◌, ℕ, ◌+◌, suc, Bool, true, false, cond, List, [], ◌∷◌, length, Option, Some, None, ◌⊎◌}
 use Rattle.tq_shape.specs.declared.entry.Entry.{Entry}
 
+-- the entry of an ask and its reply
 abbrev pub entry : {A R : Type 0} → A → R → Entry A R
 entry ask reply = record { ask = ask; reply = reply }
 

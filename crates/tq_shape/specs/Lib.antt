@@ -1,5 +1,6 @@
 pub mod Tree
 pub mod Depth
+pub mod Sides
 pub mod Limits
 pub mod Journal
 pub mod Steps

@@ -7,6 +7,10 @@ pub record LimitsView : Type 0 where
   pub ops : ℕ
   pub entries : ℕ
 
+-- the limits of those numbers
+abbrev pub limits_of : ℕ → ℕ → ℕ → LimitsView
+limits_of files ops entries = record { files = files; ops = ops; entries = entries }
+
 -- 1 to 1,000 files, 1 to 64 operations, 1 to 1,000,000 entries
 abbrev pub AreLimits : ℕ → ℕ → ℕ → Type 0
 AreLimits files ops entries =

@@ -28,6 +28,22 @@ with_number number (first ∷ rest) =
 abbrev pub without_number : ℕ → List ℕ → List ℕ
 without_number number numbers = filter (λ other. not (other == number)) numbers
 
+-- the set with one server more, in its place
+abbrev pub set_with : ℕ → Servers → Servers
+set_with number set = record { levels = set.levels; numbers = with_number number set.numbers }
+
+-- the set with one server more, behind the others
+abbrev pub set_with_last : ℕ → Servers → Servers
+set_with_last number set = record { levels = set.levels; numbers = set.numbers ++ number ∷ [] }
+
+-- the set without one server
+abbrev pub set_without : ℕ → Servers → Servers
+set_without number set = record { levels = set.levels; numbers = without_number number set.numbers }
+
+-- each of the numbers is below that one
+abbrev pub AreBelow : ℕ → List ℕ → Type 0
+AreBelow number numbers = All (λ other. other < number) numbers
+
 -- the servers of a tree of those levels with these numbers
 abbrev pub numbered : ℕ → List ℕ → List Server
 numbered levels numbers = map (λ number. record { number = number; levels = levels }) numbers

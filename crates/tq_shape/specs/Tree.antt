@@ -1,5 +1,6 @@
 -- The shape of the tree: the servers of a tree of L levels are the numbers from 1 to 2^L - 1.
-use Rattle.std.specs.Prelude.{◌≡◌, ℕ, ◌+◌, ◌*◌, ◌/◌, ◌^◌, ◌<◌, Bool, ◌||◌, ◌==◌, zero, suc}
+use Rattle.std.specs.Prelude.{◌≡◌, ℕ, ◌+◌, ◌*◌, ◌/◌, ◌^◌, ◌<◌, Bool, ◌||◌, ◌==◌, zero, suc, Option}
+use Rattle.std.specs.Option.{SomeIff}
 
 -- a server of a tree: its number, and the levels of its tree
 pub record Server : Type 0 where
@@ -10,10 +11,19 @@ pub record Server : Type 0 where
 abbrev pub IsServer : ℕ → ℕ → Type 0
 IsServer levels number = (0 < number) × (number < 2 ^ levels)
 
--- the side to the left, and the side to the right
+-- the server of that number in a tree of those levels
+abbrev pub server_numbered : ℕ → ℕ → Server
+server_numbered levels number = record { number = number; levels = levels }
+
+-- the answer is the server of that number: there is one exactly where the tree has it
+abbrev pub AnswersServer : Option Server → ℕ → ℕ → Type 0
+AnswersServer answer levels number = SomeIff answer (IsServer levels number) (server_numbered levels number)
+
+-- the number of the side to the left
 abbrev pub left_of : ℕ → ℕ
 left_of number = 2 * number
 
+-- the number of the side to the right
 abbrev pub right_of : ℕ → ℕ
 right_of number = 2 * number + 1
 
@@ -37,3 +47,7 @@ pub record IsSideTowards (top side : Server) (below : ℕ) : Type 0 where
   pub tree : side.levels ≡ top.levels
   pub parent : side.number / 2 ≡ top.number
   pub above : IsAtOrAbove side.number below
+
+-- neither side of a server is another server, nor stands above it
+abbrev pub HasNoSideTowards : Server → ℕ → Type 0
+HasNoSideTowards top below = (¬ IsAtOrAbove (left_of top.number) below) × (¬ IsAtOrAbove (right_of top.number) below)

@@ -3,7 +3,7 @@
 //!
 //! Files: `server.rt`, `level.rt` the tree; `server_set.rt` over `words.rt` a set of servers; `part.rt`, `entry.rt`,
 //! `limits.rt` words of journals; `list.rt`, `shared.rt`, `shared_list.rt`, `room.rt` lists, shared values, room.
-//! Definitions: `specs/Tree`, `Depth`, `Limits`, `ServerSet`, `Journal`, `Steps`, `Unrefused`; `proofs/Places` and `Joined`
+//! Definitions: `specs/Tree`, `Depth`, `Sides`, `Limits`, `ServerSet`, `Journal`, `Steps`, `Unrefused`; `proofs/Places` and `Joined`
 //! are cited by all crates above.
 #![tactic(auto)]
 

@@ -1,6 +1,6 @@
 ghost use Rattle.std.specs.Prelude.{◌≡◌, ℕ, ◌≤◌, ◌↔◌, IsTrue};
 ghost use Rattle.std.specs.Option.{SomeIff};
-ghost use Rattle.tq_shape.specs.Limits.{AreLimits};
+ghost use Rattle.tq_shape.specs.Limits.{AreLimits, limits_of};
 
 use std::marker::Model;
 
@@ -38,7 +38,7 @@ impl Model for Limits {
 impl Limits {
     /// The limits of those numbers: `None` where one is 0 or above its greatest value.
     pub fn new(files: u32, ops: u32, entries: u32) -> Option<Limits>
-        ensures { SomeIff result (AreLimits files ops entries) (record { files = files; ops = ops; entries = entries }) }
+        ensures { SomeIff result (AreLimits files ops entries) (limits_of files ops entries) }
     {
         if is_within(files, MOST_FILES)
             && is_within(ops, MOST_OPS)
@@ -56,7 +56,7 @@ impl Limits {
 
     /// The greatest limits.
     pub fn full() -> Limits
-        ensures { result ≡ record { files = 1000; ops = 64; entries = 1000000 } }
+        ensures { result ≡ limits_of 1000 64 1000000 }
     {
         Limits {
             files: MOST_FILES,

@@ -1,7 +1,9 @@
 ghost use Rattle.std.specs.Prelude.{◌≡◌, ℕ, ◌+◌, ◌-◌, ◌*◌, ◌/◌, ◌^◌, ◌<◌, ◌≤◌, ◌↔◌, suc, IfSome, IfNone, IsTrue};
 ghost use Rattle.std.specs.Option.{SomeIff};
-ghost use Rattle.tq_shape.specs.Tree.{IsAtOrAbove, IsServer, IsSideTowards, left_of, right_of};
-ghost use Rattle.tq_shape.specs.Depth.{depth_of, height_of};
+ghost use Rattle.tq_shape.specs.Tree.{AnswersServer, HasNoSideTowards, IsServer, IsSideTowards};
+ghost use Rattle.tq_shape.specs.Tree.{server_numbered, left_of, right_of};
+ghost use Rattle.tq_shape.specs.Sides.{sides_of};
+ghost use Rattle.tq_shape.specs.Depth.{depth_of, height_at};
 
 use crate::level::Levels;
 use std::marker::Model;
@@ -35,7 +37,7 @@ impl Model for ServerId {
 impl Levels {
     /// The server of that number, if the tree has it.
     pub fn server(self, number: u64) -> Option<ServerId>
-        ensures { SomeIff result (IsServer self number) (record { number = number; levels = self }) }
+        ensures { AnswersServer result self number }
     {
         if 1 <= number && number <= self.servers() {
             Some(ServerId {
@@ -49,7 +51,7 @@ impl Levels {
 
     /// Server 1, over which no other stands.
     pub fn root(self) -> ServerId
-        ensures value { result ≡ record { number = 1; levels = self } }
+        ensures value { result ≡ server_numbered self 1 }
         ensures levels { 1 ≤ self }
     {
         let _ = &self.count;
@@ -61,7 +63,7 @@ impl ServerId {
     /// The server of a number that the tree has.
     pub fn new(levels: Levels, number: u64) -> ServerId
         requires { IsServer levels number }
-        ensures { result ≡ record { number = number; levels = levels } }
+        ensures { result ≡ server_numbered levels number }
     {
         let _ = &levels.count;
         ServerId {
@@ -87,24 +89,24 @@ impl ServerId {
 
     /// The left side; a leaf has none.
     pub fn left(self) -> Option<ServerId>
-        ensures { SomeIff result (IsServer self.levels (left_of self.number)) (record { number = left_of self.number; levels = self.levels }) }
+        ensures { AnswersServer result self.levels (left_of self.number) }
     {
         self.levels.server(2 * self.number())
     }
 
     /// The right side; a leaf has none.
     pub fn right(self) -> Option<ServerId>
-        ensures { SomeIff result (IsServer self.levels (right_of self.number)) (record { number = right_of self.number; levels = self.levels }) }
+        ensures { AnswersServer result self.levels (right_of self.number) }
     {
         self.levels.server(2 * self.number() + 1)
     }
 
     /// Both sides; a leaf has none.
     pub fn sides(self) -> Option<Sides>
-        ensures leaf { IfNone result (height_of self.levels self.number ≡ 0) }
-        ensures left_height { IfSome result (λ sides. height_of self.levels self.number ≡ suc (height_of sides.left.levels sides.left.number)) }
-        ensures right_height { IfSome result (λ sides. height_of self.levels self.number ≡ suc (height_of sides.right.levels sides.right.number)) }
-        ensures value { SomeIff result (IsServer self.levels (left_of self.number)) (record { left = record { number = left_of self.number; levels = self.levels }; right = record { number = right_of self.number; levels = self.levels } }) }
+        ensures leaf { IfNone result (height_at self ≡ 0) }
+        ensures left_height { IfSome result (λ sides. height_at self ≡ suc (height_at sides.left)) }
+        ensures right_height { IfSome result (λ sides. height_at self ≡ suc (height_at sides.right)) }
+        ensures value { SomeIff result (IsServer self.levels (left_of self.number)) (sides_of self) }
     {
         let number = self.number();
         if self.is_leaf() {
@@ -125,7 +127,7 @@ impl ServerId {
 
     /// The server of which this one is a side; server 1 has none.
     pub fn parent(self) -> Option<ServerId>
-        ensures { SomeIff result (1 < self.number) (record { number = self.number / 2; levels = self.levels }) }
+        ensures { SomeIff result (1 < self.number) (server_numbered self.levels (self.number / 2)) }
     {
         self.levels.server(self.number() / 2)
     }
@@ -134,7 +136,7 @@ impl ServerId {
     pub fn side_towards(self, below: ServerId) -> Option<ServerId>
         requires { below.levels ≡ self.levels }
         ensures side { IfSome result (λ side. IsSideTowards self side below.number) }
-        ensures none { IfNone result ((¬ IsAtOrAbove (left_of self.number) below.number) × (¬ IsAtOrAbove (right_of self.number) below.number)) }
+        ensures none { IfNone result (HasNoSideTowards self below.number) }
     {
         match below.parent() {
             None => None,

@@ -1,6 +1,7 @@
 ghost use Rattle.std.specs.Prelude.{◌≡◌, ◌++◌, ◌<◌, ◌/◌, ◌%◌, ◌^◌, ◌↔◌, not, [], ◌∷◌, All, IfOk, IsTrue};
 ghost use Rattle.tq_shape.specs.Tree.{IsServer};
-ghost use Rattle.tq_shape.specs.ServerSet.{Ascends, has_number, with_number, without_number, numbered, first_of};
+ghost use Rattle.tq_shape.specs.ServerSet.{AreBelow, Ascends, has_number, numbered, first_of};
+ghost use Rattle.tq_shape.specs.ServerSet.{set_with, set_with_last, set_without};
 
 use crate::words::Words;
 use crate::{Levels, Memory, ServerId};
@@ -69,8 +70,8 @@ impl ServerSet {
     pub fn insert(&mut self, server: ServerId) -> bool
         requires { server.levels ≡ self.old.levels }
         ensures new { result ≡ not (has_number self.old.numbers server.number) }
-        ensures after { self.new ≡ record { levels = self.old.levels; numbers = with_number server.number self.old.numbers } }
-        ensures last { All (λ number. number < server.number) self.old.numbers → self.new ≡ record { levels = self.old.levels; numbers = self.old.numbers ++ server.number ∷ [] } }
+        ensures after { self.new ≡ set_with server.number self.old }
+        ensures last { AreBelow server.number self.old.numbers → self.new ≡ set_with_last server.number self.old }
     {
         let place = place_of(server);
         let bit = bit_of(server);
@@ -83,7 +84,7 @@ impl ServerSet {
     pub fn remove(&mut self, server: ServerId) -> bool
         requires { server.levels ≡ self.old.levels }
         ensures old { result ≡ has_number self.old.numbers server.number }
-        ensures after { self.new ≡ record { levels = self.old.levels; numbers = without_number server.number self.old.numbers } }
+        ensures after { self.new ≡ set_without server.number self.old }
     {
         let place = place_of(server);
         let bit = bit_of(server);
