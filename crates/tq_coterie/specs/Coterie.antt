@@ -1,8 +1,10 @@
 -- The coterie of a tree: which sets of servers are quorums, and in which order they are listed.
-use Rattle.std.specs.Prelude.{ℕ, ◌-◌, ◌≤◌, zero, suc, ◌≡◌, Bool, true, ◌==◌, ◌&&◌, ◌||◌, nat_eq, nat_lt, cond, List, [], ◌∷◌, ◌++◌, map}
+use Rattle.std.specs.Prelude.{ℕ, ◌-◌, ◌≤◌, zero, suc, ◌≡◌, Bool, true, not, Option, ◌==◌, ◌&&◌, ◌||◌, nat_eq, nat_lt, cond, List, [], ◌∷◌, ◌++◌, map}
 use Rattle.std.specs.Cmp.Lexicographic.{pointwise}
-use Rattle.std.specs.List.{flat_map, list_any, list_all, Contains}
+use Rattle.std.specs.List.{find, flat_map, list_any, list_all, Contains}
+use Rattle.std.specs.Option.{SomeIff}
 use Rattle.tq_shape.specs.Tree.{Server, left_of, right_of}
+use Rattle.tq_shape.specs.Depth.{height_at}
 
 -- A set of servers is the ascending list of their numbers.
 
@@ -30,6 +32,10 @@ members (suc height) top =
     let rights = members height (right_of top) in
     map (λ q. top ∷ q) lefts ++ map (λ p. top ∷ p) rights ++ joined_pairs lefts rights
 
+-- the members of the subtree over a server of a tree
+abbrev pub members_under : Server → List (List ℕ)
+members_under top = members (height_at top) top.number
+
 -- the members of the whole tree of that many levels: the quorums
 abbrev pub coterie : ℕ → List (List ℕ)
 coterie levels = members (levels - 1) 1
@@ -51,8 +57,18 @@ has servers server = list_any (λ first. first == server) servers
 abbrev pub servers_of : ℕ → List ℕ → List Server
 servers_of levels numbers = map (λ number. record { number = number; levels = levels }) numbers
 
+-- the numbers of the servers
 abbrev pub numbers_of : List Server → List ℕ
 numbers_of servers = map (λ server. server.number) servers
+
+-- what callers see of these servers, of a tree of those levels
+abbrev pub list_of : ℕ → List Server → ServerList
+list_of levels servers = record { servers = numbers_of servers; levels = levels }
+
+-- the answer is the list of these numbers: there is one exactly where they are the servers of a member
+abbrev pub AnswersMember : Option ServerList → ℕ → List ℕ → Type 0
+AnswersMember answer levels numbers =
+    SomeIff answer (Contains (coterie levels) numbers) (record { servers = numbers; levels = levels })
 
 -- the list holds the servers of a member, in order, as servers of the tree
 pub record IsMemberList (levels : ℕ) (servers : List Server) : Type 0 where
@@ -79,9 +95,17 @@ pub record IsLeastOfBoth (some others : List ℕ) (server : ℕ) : Type 0 where
   pub in_others : has others server ≡ true
   pub least : (other : ℕ) → has some other ≡ true → has others other ≡ true → server ≤ other
 
+-- the first of the servers whose number is among those of the others
+abbrev pub first_common : List Server → List Server → Option Server
+first_common servers others = find (λ server. list_any (λ other. other.number == server.number) others) servers
+
 -- ---- a set holds a member, or its complement does
 
 -- Here a set of servers is a test of their numbers: `λ server. not (set server)` is its complement.
+
+-- the servers that are not in the set
+abbrev pub complement_of : List ℕ → ℕ → Bool
+complement_of servers = λ server. not (has servers server)
 
 -- the set has all servers of one of the members
 abbrev pub holds_member : (ℕ → Bool) → List (List ℕ) → Bool

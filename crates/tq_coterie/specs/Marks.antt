@@ -1,5 +1,5 @@
 -- Servers as the bits of words, bit n % 64 of word n / 64 the mark of server n.
-use Rattle.std.specs.Prelude.{◌≡◌, ℕ, Bool, false, ◌/◌, ◌%◌, ◌==◌, List, slice_index}
+use Rattle.std.specs.Prelude.{◌≡◌, ℕ, Bool, false, ◌<◌, ◌||◌, ◌/◌, ◌%◌, ◌==◌, List, slice_index}
 use Rattle.std.specs.Int.{bit_at}
 use Rattle.tq_shape.specs.Tree.{left_of, right_of}
 use Rattle.tq_coterie.specs.Coterie.{has}
@@ -13,6 +13,14 @@ is_marked marks server = bit_at (slice_index marks (server / 64)) (server % 64) 
 -- the servers of the set are marked, and no others
 abbrev pub AreMarksOf : List ℕ → List ℕ → Type 0
 AreMarksOf marks servers = (server : ℕ) → is_marked marks server ≡ has servers server
+
+-- the server is marked as well; all other marks are as they were
+abbrev pub HasMarkMore : List ℕ → ℕ → List ℕ → Type 0
+HasMarkMore before server after = (other : ℕ) → is_marked after other ≡ (server == other || is_marked before other)
+
+-- no server between the two is marked
+abbrev pub HasNoMarkBetween : List ℕ → ℕ → ℕ → Type 0
+HasNoMarkBetween marks low high = (other : ℕ) → low < other → other < high → is_marked marks other ≡ false
 
 -- how a set stands to the subtree over a server: the server's mark says whether it is in the set, those of its sides
 -- whether the set has a member of them or nothing

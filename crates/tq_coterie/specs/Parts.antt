@@ -17,6 +17,7 @@ part_from_sides top left right = Neither
 abbrev pub member_or_empty : Bool → Part
 member_or_empty has_member = cond has_member Member Empty
 
+-- the part of a subtree by its height and its top
 unfoldable pub part_of : ℕ → ℕ → List ℕ → Part
 part_of zero top servers = member_or_empty (has servers top)
 part_of (suc height) top servers =

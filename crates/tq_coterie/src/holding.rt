@@ -1,6 +1,5 @@
 ghost use Rattle.std.specs.Prelude.{◌≡◌, not};
-ghost use Rattle.tq_shape.specs.Depth.{height_of};
-ghost use Rattle.tq_coterie.specs.Coterie.{has, members, holds_member, two_of, holds_quorum};
+ghost use Rattle.tq_coterie.specs.Coterie.{complement_of, has, holds_member, members_under};
 ghost use Rattle.tq_coterie.specs.Coterie as spec;
 
 use tq_shape::{Levels, ServerId};
@@ -9,14 +8,14 @@ use tq_shape::{Levels, ServerId};
 /// has all its servers among the others. It takes no memory.
 pub fn holds_quorum(levels: Levels, numbers: &[u64]) -> bool
     ensures held { result ≡ spec.holds_quorum levels (has numbers.now) }
-    ensures complement { result ≡ not (spec.holds_quorum levels (λ server. not (has numbers.now server))) }
+    ensures complement { result ≡ not (spec.holds_quorum levels (complement_of numbers.now)) }
 {
     holds_member_under(levels.root(), numbers)
 }
 
 /// Whether a member of the subtree over `top` has all its servers among the numbers.
 fn holds_member_under(top: ServerId, numbers: &[u64]) -> bool
-    ensures { result ≡ holds_member (has numbers.now) (members (height_of top.levels top.number) top.number) }
+    ensures { result ≡ holds_member (has numbers.now) (members_under top) }
 {
     let chosen = numbers.contains(&top.number());
     match top.sides() {

@@ -6,23 +6,19 @@
 //!
 //! Nothing here lists the members: a tree of six levels has over four billion.
 //!
-//! Files: `quorum.rt`, `blocker.rt` the two public types over `member.rt`; `membership.rt`, `marks.rt` the test;
+//! Files: `member.rt` quorums and blockers, one type by its role; `membership.rt`, `marks.rt` the test;
 //! `holding.rt`, `part.rt` whether a set holds a quorum; `meeting.rt` where two meet.
 //! Definitions: `specs/Coterie`; `Parts` and `Marks` are the code's own words.
 #![tactic(auto)]
 
-mod blocker;
 mod holding;
 mod marks;
 mod meeting;
 mod member;
 mod membership;
 mod part;
-mod quorum;
 
-pub use blocker::Blocker;
 pub use holding::holds_quorum;
 pub use meeting::meet;
-pub use member::ServerIds;
+pub use member::{Blocker, ForBlocker, ForQuorum, Member, Quorum, ServerIds};
 pub use membership::is_quorum;
-pub use quorum::Quorum;

@@ -2,7 +2,7 @@ ghost use Rattle.std.specs.Prelude.{◌≡◌, ◌+◌, ◌*◌, ◌^◌, ◌<�
 ghost use Rattle.std.specs.Bool.{OnTrue, OnFalse};
 ghost use Rattle.tq_shape.specs.Depth.{height_of};
 ghost use Rattle.tq_coterie.specs.Parts.{part_of};
-ghost use Rattle.tq_coterie.specs.Marks.{is_marked, part_at, AreMarksOf, IsBare, IsRaised};
+ghost use Rattle.tq_coterie.specs.Marks.{is_marked, part_at, AreMarksOf, HasMarkMore, HasNoMarkBetween, IsBare, IsRaised};
 
 use crate::part::{Part, part_of_fork};
 use tq_shape::ServerId;
@@ -88,7 +88,7 @@ impl Marks {
         requires positive { 0 < server }
         requires within { server < 1024 }
         ensures below { result < server }
-        ensures last { (other : ℕ) → result < other → other < server → is_marked self.now.words other ≡ false }
+        ensures last { HasNoMarkBetween self.now.words result server }
     {
         let mut place = (server / 64) as usize;
         let mut word = self.word(place) & ((1u64 << (server % 64)) - 1);
@@ -121,7 +121,7 @@ impl Marks {
     /// Marks one more server.
     fn put(&mut self, server: u64)
         requires { server < 1024 }
-        ensures { (other : ℕ) → is_marked self.new.words other ≡ (server == other || is_marked self.old.words other) }
+        ensures { HasMarkMore self.old.words server self.new.words }
     {
         self.words[(server / 64) as usize] |= 1u64 << (server % 64);
     }

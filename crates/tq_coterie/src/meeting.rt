@@ -1,6 +1,6 @@
 ghost use Rattle.std.specs.Prelude.{◌≡◌, ◌==◌};
-ghost use Rattle.std.specs.List.{find, list_any};
-ghost use Rattle.tq_coterie.specs.Coterie.{AnyTwoMeet, IsLeastOfBoth};
+ghost use Rattle.std.specs.List.{list_any};
+ghost use Rattle.tq_coterie.specs.Coterie.{AnyTwoMeet, IsLeastOfBoth, first_common};
 
 use crate::Quorum;
 use tq_shape::ServerId;
@@ -21,7 +21,7 @@ pub fn meet(some: &Quorum, others: &Quorum) -> ServerId
 
 /// The first server that is among the others.
 fn first_in(servers: &[ServerId], others: &[ServerId]) -> Option<ServerId>
-    ensures { result ≡ find (λ server. list_any (λ other. other.number == server.number) others.now) servers.now }
+    ensures { result ≡ first_common servers.now others.now }
 {
     servers
         .iter()

@@ -1,13 +1,13 @@
-ghost use Rattle.std.specs.Prelude.{◌≡◌, IfOk, OnSome, Contains, All};
-ghost use Rattle.std.specs.Option.{SomeIff};
+ghost use Rattle.std.specs.Prelude.{◌≡◌, IfOk, OnSome, All};
 ghost use Rattle.tq_shape.specs.Tree.{IsServer};
-ghost use Rattle.tq_coterie.specs.Coterie.{coterie, is_same, servers_of, numbers_of, IsMemberList};
+ghost use Rattle.tq_coterie.specs.Coterie.{AnswersMember, IsMemberList};
+ghost use Rattle.tq_coterie.specs.Coterie.{is_same, list_of, numbers_of, servers_of};
 ghost use Rattle.tq_shape.specs.ServerSet.{Ascends};
 
 use crate::membership::is_member;
 use smallvec::SmallVec;
 use std::alloc::{AllocError, Global};
-use std::marker::Model;
+use std::marker::{Model, PhantomData};
 use std::sync::Arc;
 use tq_shape::{ExactClone, Levels, Memory, ServerId};
 
@@ -16,56 +16,78 @@ pub type ServerIds = SmallVec<ServerId, 16>;
 
 /// The servers of a member, and the levels of their tree.
 #[derive(Debug, Drop)]
-pub(crate) struct Listed {
+struct Listed {
     levels: Levels,
     servers: ServerIds,
 }
 
-/// A member of the coterie of a tree. Its clones share the one list, so that it takes a word where it is kept.
-#[derive(Debug, Drop)]
-pub(crate) struct Member {
+/// A quorum of a tree: a set of servers that has one in common with every other quorum of the tree.
+pub type Quorum = Member<ForQuorum>;
+
+/// A member of the coterie whose servers are all down, so that no quorum is up: each has a server in common with it.
+pub type Blocker = Member<ForBlocker>;
+
+/// The role of a quorum.
+#[derive(Debug)]
+pub struct ForQuorum;
+
+/// The role of a blocker.
+#[derive(Debug)]
+pub struct ForBlocker;
+
+/// A member of the coterie of a tree, in its role. Its clones share the one list, so that it takes a word where it is kept.
+#[derive(Debug)]
+pub struct Member<Role> {
     list: Arc<Listed>,
+    role: PhantomData<Role>,
 }
 
-impl Model for Member {
+// Written out, so that a crate above lets go of one by a call.
+impl<Role> Drop for Member<Role> {
+    fn drop(self) {
+        let Self { list: _, role: _ } = self;
+    }
+}
+
+impl<Role> Model for Member<Role> {
     ghost use Rattle.std.specs.Arc.{arc_value};
-    ghost use Rattle.tq_coterie.specs.Coterie.{ServerList, IsMemberList, numbers_of};
+    ghost use Rattle.tq_coterie.specs.Coterie.{ServerList, IsMemberList, list_of};
 
     ghost Value = { ServerList };
 
-    ghost view = { λ member. record { servers = numbers_of (arc_value member.list).servers.items; levels = (arc_value member.list).levels } };
+    ghost view = { λ member. list_of (arc_value member.list).levels (arc_value member.list).servers.items };
 
     ghost invariant = { λ member. IsMemberList (arc_value member.list).levels (arc_value member.list).servers.items };
 }
 
-impl Member {
-    /// The member of servers that are known to be one.
-    pub(crate) fn new(alloc: Global, levels: Levels, servers: ServerIds) -> Result<Member, Memory>
+impl<Role> Member<Role> {
+    /// The member of servers that are known to be one. Answers an error only where memory is refused.
+    pub fn new(alloc: Global, levels: Levels, servers: ServerIds) -> Result<Self, Memory>
         requires { IsMemberList levels servers.items }
-        ensures { IfOk result (λ member. member ≡ record { servers = numbers_of servers.items; levels = levels }) }
+        ensures { IfOk result (λ member. member ≡ list_of levels servers.items) }
     {
         let list = Arc::new(alloc, Listed { levels, servers })?;
-        Ok(Member { list })
+        Ok(Member {
+            list,
+            role: PhantomData,
+        })
     }
 
-    /// The member with these servers, if they are one in ascending order.
-    pub(crate) fn of(
-        alloc: Global,
-        levels: Levels,
-        numbers: &[u64],
-    ) -> Result<Option<Member>, Memory>
-        ensures exact { IfOk result (λ answer. SomeIff answer (Contains (coterie levels) numbers.now) (record { servers = numbers.now; levels = levels })) }
+    /// The member of these servers. It is there exactly where they are ascending and a member of the coterie.
+    pub fn of(alloc: Global, levels: Levels, numbers: &[u64]) -> Result<Option<Self>, Memory>
+        ensures exact { IfOk result (λ answer. AnswersMember answer levels numbers.now) }
         ensures ascending { IfOk result (λ answer. OnSome answer (Ascends 0 numbers.now)) }
     {
         if !is_member(levels, numbers) {
             return Ok(None);
         }
         let servers = server_ids(alloc, levels, numbers)?;
-        Ok(Some(Member::new(alloc, levels, servers)?))
+        let member = Self::new(alloc, levels, servers)?;
+        Ok(Some(member))
     }
 
     /// The servers, ascending.
-    pub(crate) fn servers(&self) -> &[ServerId]
+    pub fn servers(&self) -> &[ServerId]
         ensures numbers { numbers_of result.now ≡ self.now.servers }
         ensures member { IsMemberList self.now.levels result.now }
         ensures ascending { Ascends 0 self.now.servers }
@@ -74,25 +96,28 @@ impl Member {
     }
 
     /// The levels of the tree.
-    pub(crate) fn levels(&self) -> Levels
+    pub fn levels(&self) -> Levels
         ensures { result ≡ self.now.levels }
     {
         self.list.levels
     }
 }
 
-impl Clone for Member {
+impl<Role> Clone for Member<Role> {
     ghost use Rattle.std.specs.Prelude.{◌≡◌};
 
     ghost is_clone = { λ member copy. copy ≡ member };
 
     fn clone(&self) -> Result<Self, AllocError> {
         let list = Arc::try_clone(&self.list)?;
-        Ok(Member { list })
+        Ok(Member {
+            list,
+            role: PhantomData,
+        })
     }
 }
 
-impl PartialEq for Member {
+impl<Role> PartialEq for Member<Role> {
     ghost use Rattle.tq_coterie.specs.Coterie.{is_same};
     ghost use Rattle.std.proofs.Common.{rules};
 
@@ -105,7 +130,7 @@ impl PartialEq for Member {
     }
 }
 
-impl ExactClone for Member {
+impl<Role> ExactClone for Member<Role> {
     ghost use Rattle.std.proofs.Common.{rules};
 
     ghost clones = { Prim.search rules };
@@ -115,7 +140,9 @@ impl ExactClone for Member {
 fn are_same(one: &Listed, other: &Listed) -> bool
     requires one { IsMemberList one.now.levels one.now.servers.items }
     requires other { IsMemberList other.now.levels other.now.servers.items }
-    ensures { result ≡ is_same (record { servers = numbers_of one.now.servers.items; levels = one.now.levels }) (record { servers = numbers_of other.now.servers.items; levels = other.now.levels }) }
+    ensures { result ≡ is_same
+        (list_of one.now.levels one.now.servers.items)
+        (list_of other.now.levels other.now.servers.items) }
 {
     if one.levels != other.levels {
         return false;
