@@ -12,8 +12,13 @@ use Rattle.tq_store.specs.declared.write.Write.{Write}
 abbrev pub name_cmp : List ℕ → List ℕ → Ordering
 name_cmp = slice_cmp nat_cmp
 
+-- what contracts see of the copies: each file's by its name
 abbrev pub Files : Type 0
 Files = map.FinMap name_cmp FileCopy
+
+-- the copy of that version and content
+abbrev pub copy_with : ℕ → List ℕ → FileCopy
+copy_with version content = record { version = version; content = content }
 
 -- the copy of a file: version 0 and no content where it was never written
 abbrev pub copy_at : Option FileCopy → FileCopy
@@ -56,11 +61,14 @@ pub record CopiesView : Type 0 where
   pub files : Files
   pub room : ℕ
 
+-- a copy as one value of a code
 abbrev pub copy_code : Coded FileCopy
 copy_code = code_by (ℕ × List ℕ) (coded× coded_ℕ (coded_list coded_ℕ)) (λ c. (c.version, c.content)) (λ p. record { version = p.0; content = p.1 }) (λ _. refl)
 
+-- the copies by name as one value of a code
 abbrev pub files_code : Coded Files
 files_code = map.code (coded_list coded_ℕ) copy_code
 
+-- the copies with their room as one value of a code
 abbrev pub copies_code : Coded CopiesView
 copies_code = code_by (Files × ℕ) (coded× files_code coded_ℕ) (λ c. (c.files, c.room)) (λ p. record { files = p.0; room = p.1 }) (λ _. refl)

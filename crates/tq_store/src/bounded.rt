@@ -1,9 +1,10 @@
 //! A map whose look-ups are bounded, whoever chose the keys.
-ghost use Rattle.std.specs.Prelude.{◌≡◌, ◌+◌, ◌-◌, ◌<◌, ◌≤◌, ◌^◌, [], IfErr, IfNone, IfOk, IfSome, IsOk, IsTrue, ◌↔◌, None, OnErr, OnOk, Some, if◌then◌else◌, is_some, slice_get};
+ghost use Rattle.std.specs.Prelude.{◌≡◌, ◌+◌, ◌-◌, ◌<◌, ◌≤◌, ◌^◌, [], IfErr, IfNone, IfOk, IfSome, IsOk, IsTrue, ◌↔◌, None, OnErr, OnOk, Some, is_some, slice_get};
 ghost use Rattle.std.specs.Borrow.{sem};
 ghost use Rattle.std.specs.Map.Iter.{deref_pair};
 ghost use Rattle.std.specs.Option.{option_copied, option_copied_mut, option_map};
-ghost use Rattle.indexmap.specs.IndexMap.{get, index_map_len, index_of, insert_entry, spare, swap_remove_entry, values, IsClone, IsEmpty, IsUnchanged, IsUnique, Updates};
+ghost use Rattle.indexmap.specs.IndexMap.{get, index_map_len, index_of, spare, swap_remove_entry, values, IsClone, IsEmpty, IsUnchanged, IsUnique, Updates};
+ghost use Rattle.tq_store.specs.Bounded.{HasEntryAt, HasOneLessIfThere, HasOneMoreIfNew, HasPut};
 ghost use Rattle.tq_store.specs.Lends.{lends_at, lends_get};
 
 use crate::ordered::Ordered;
@@ -136,7 +137,7 @@ impl<K: Ord + Hash, V> BoundedIndexMap<K, V> {
     pub fn get_full(&self, key: &K) -> Option<(usize, &K, &V)>
         ensures index { option_map (λ p. p.0) result ≡ index_of K.eq self.now key.now }
         ensures value { option_map (λ p. p.2.now) result ≡ get K.eq self.now key.now }
-        ensures entry { IfSome result (λ p. slice_get self.now.entries p.0 ≡ Some (p.1.now, p.2.now)) }
+        ensures entry { IfSome result (λ p. HasEntryAt self.now p.0 p.1.now p.2.now) }
     {
         if self.is_many {
             return self.many.get_full(key);
@@ -170,7 +171,8 @@ impl<K: Ord + Hash, V> BoundedIndexMap<K, V> {
     /// The value of the key, to write.
     #[inline(always)]
     pub fn get_mut(&mut self, key: &K) -> Option<&mut V>
-        ensures* writes_back { sem 𝓛 (lends_get K.row V.row K.Ord K.Hash self.entry (K.eq key.now) result) }
+        ensures* writes_back { sem 𝓛
+            (lends_get K.row V.row K.Ord K.Hash self.entry (K.eq key.now) result) }
         ensures value { option_copied_mut result ≡ get K.eq self.old key.now }
         ensures unique { IsUnique K.eq self.old }
     {
@@ -244,8 +246,8 @@ impl<K: Ord + Hash + Copy + Drop, V: Drop> BoundedIndexMap<K, V> {
         // On success `key` has `value`, its old value is returned, and other keys keep theirs.
         ensures old { IfOk result (λ old. old ≡ get K.eq self.old key) }
         ensures updates { OnOk result (Updates K.eq self.old self.new key (Some value)) }
-        ensures entries { OnOk result (self.new.entries ≡ insert_entry K.eq self.old.entries key value) }
-        ensures len { IfOk result (λ old. index_map_len self.new ≡ index_map_len self.old + (if is_some old then 0 else 1)) }
+        ensures entries { OnOk result (HasPut K.eq self.old self.new key value) }
+        ensures len { IfOk result (λ old. HasOneMoreIfNew self.old self.new old) }
 
         // On failure the pair comes back and the entries stay. Only a new key can fail.
         ensures value_returned { IfErr result (λ y. y.value ≡ (key, value)) }
@@ -270,8 +272,8 @@ impl<K: Ord + Hash + Copy + Drop, V: Drop> BoundedIndexMap<K, V> {
     fn insert_slowly(&mut self, key: K, value: V) -> Result<Option<V>, AllocFailed<(K, V)>>
         ensures old { IfOk result (λ old. old ≡ get K.eq self.old key) }
         ensures updates { OnOk result (Updates K.eq self.old self.new key (Some value)) }
-        ensures entries { OnOk result (self.new.entries ≡ insert_entry K.eq self.old.entries key value) }
-        ensures len { IfOk result (λ old. index_map_len self.new ≡ index_map_len self.old + (if is_some old then 0 else 1)) }
+        ensures entries { OnOk result (HasPut K.eq self.old self.new key value) }
+        ensures len { IfOk result (λ old. HasOneMoreIfNew self.old self.new old) }
         ensures value_returned { IfErr result (λ y. y.value ≡ (key, value)) }
         ensures err { OnErr result (IsUnchanged self.old self.new) }
         ensures absent { OnErr result (get K.eq self.old key ≡ None) }
@@ -300,8 +302,8 @@ impl<K: Ord + Hash + Copy + Drop, V: Drop> BoundedIndexMap<K, V> {
         requires { get K.eq self.old key ≡ None → 0 < spare self.old }
         ensures old { IfOk result (λ old. old ≡ get K.eq self.old key) }
         ensures updates { OnOk result (Updates K.eq self.old self.new key (Some value)) }
-        ensures entries { OnOk result (self.new.entries ≡ insert_entry K.eq self.old.entries key value) }
-        ensures len { IfOk result (λ old. index_map_len self.new ≡ index_map_len self.old + (if is_some old then 0 else 1)) }
+        ensures entries { OnOk result (HasPut K.eq self.old self.new key value) }
+        ensures len { IfOk result (λ old. HasOneMoreIfNew self.old self.new old) }
         ensures value_returned { IfErr result (λ y. y.value ≡ (key, value)) }
         ensures err { OnErr result (IsUnchanged self.old self.new) }
         ensures absent { OnErr result (get K.eq self.old key ≡ None) }
@@ -322,7 +324,7 @@ impl<K: Ord + Hash + Copy + Drop, V: Drop> BoundedIndexMap<K, V> {
         ensures updates { Updates K.eq self.old self.new key.now None }
         ensures entries { self.new.entries ≡ swap_remove_entry (K.eq key.now) self.old.entries }
         ensures unchanged { IfNone result (IsUnchanged self.old self.new) }
-        ensures len { index_map_len self.new + (if is_some result then 1 else 0) ≡ index_map_len self.old }
+        ensures len { HasOneLessIfThere self.old self.new result }
         ensures room { spare self.old ≤ spare self.new }
         ensures unique { IsUnique K.eq self.new }
     {

@@ -1,11 +1,12 @@
 //! Entries in a list, with an ordered map from each key to its place.
-ghost use Rattle.std.specs.Prelude.{◌≡◌, ◌+◌, ◌-◌, ◌<◌, ◌≤◌, ◌++◌, ◌^◌, [], ◌∷◌, None, Some, IfNone, IfOk, IfSome, IsOk, OnOk, if◌then◌else◌, is_some, length, position, slice_get, take};
+ghost use Rattle.std.specs.Prelude.{◌≡◌, ◌+◌, ◌-◌, ◌<◌, ◌≤◌, ◌^◌, [], None, Some, IfNone, IfOk, IfSome, IsOk, OnOk, is_some, length, position, slice_get, take};
 ghost use Rattle.std.specs.Borrow.{sem};
 ghost use Rattle.std.specs.List.{swap_remove};
-ghost use Rattle.indexmap.specs.IndexMap.{get, index_map_len, insert_entry, keys, set_value_at, spare, swap_remove_entry, values, with_entries, IsClone, IsUnchanged, IsUnique, Updates};
+ghost use Rattle.indexmap.specs.IndexMap.{get, index_map_len, keys, spare, swap_remove_entry, values, with_value_at, IsClone, IsUnchanged, IsUnique, Updates};
 ghost use Rattle.std.specs.Map.Iter.{deref_pair};
 ghost use Rattle.std.specs.Option.{option_copied, option_copied_mut, option_map};
-ghost use Rattle.tq_store.specs.Bounded.{with_spare};
+ghost use Rattle.tq_store.specs.Bounded.{HasEntryAt, HasOneLessIfThere, HasOneMoreIfNew, HasPut};
+ghost use Rattle.tq_store.specs.Bounded.{with_last, with_spare};
 ghost use Rattle.tq_store.specs.Lends.{lends_value, ordered_lends_at, ordered_lends_get};
 
 use std::alloc::{AllocError, Global};
@@ -127,7 +128,7 @@ impl<K: Ord, V> Ordered<K, V> {
     pub(crate) fn get_full(&self, key: &K) -> Option<(usize, &K, &V)>
         ensures index { option_map (λ p. p.0) result ≡ position (K.eq key.now) (keys self.now) }
         ensures value { option_map (λ p. p.2.now) result ≡ get K.eq self.now key.now }
-        ensures entry { IfSome result (λ p. slice_get self.now.entries p.0 ≡ Some (p.1.now, p.2.now)) }
+        ensures entry { IfSome result (λ p. HasEntryAt self.now p.0 p.1.now p.2.now) }
     {
         match self.find(key) {
             Some(place) => Some((place, &self.keys[place], &self.values[place])),
@@ -169,7 +170,8 @@ impl<K: Ord, V> Ordered<K, V> {
 
     /// The value of the key, to write.
     pub(crate) fn get_mut(&mut self, key: &K) -> Option<&mut V>
-        ensures* writes_back { sem 𝓛 (ordered_lends_get K.row V.row K.Ord self.entry (K.eq key.now) result) }
+        ensures* writes_back { sem 𝓛
+            (ordered_lends_get K.row V.row K.Ord self.entry (K.eq key.now) result) }
         ensures value { option_copied_mut result ≡ get K.eq self.old key.now }
         ensures unique { IsUnique K.eq self.old }
     {
@@ -199,7 +201,7 @@ impl<K: Ord, V> Ordered<K, V> {
     fn replace(&mut self, place: usize, value: V) -> V
         requires { place < index_map_len self.old }
         ensures took { slice_get (values self.old) place ≡ Some result }
-        ensures after { self.new ≡ with_entries self.old (set_value_at self.old.entries place value) }
+        ensures after { self.new ≡ with_value_at self.old place value }
     {
         replace(&mut self.values[place], value)
     }
@@ -210,7 +212,7 @@ impl<K: Ord + Copy + Drop, V> Ordered<K, V> {
     pub(crate) fn push(&mut self, key: K, value: V)
         requires absent { position (K.eq key) (keys self.old) ≡ None }
         requires room { 0 < spare self.old }
-        ensures { self.new ≡ with_spare (self.old.entries ++ (key, value) ∷ []) (spare self.old - 1) }
+        ensures { self.new ≡ with_last self.old key value }
     {
         let place = self.keys.len();
         self.keys.push_reserved(key);
@@ -230,8 +232,8 @@ impl<K: Ord + Copy + Drop, V> Ordered<K, V> {
         requires { get K.eq self.old key ≡ None → 0 < spare self.old }
         ensures old { result ≡ get K.eq self.old key }
         ensures updates { Updates K.eq self.old self.new key (Some value) }
-        ensures entries { self.new.entries ≡ insert_entry K.eq self.old.entries key value }
-        ensures len { index_map_len self.new ≡ index_map_len self.old + (if is_some result then 0 else 1) }
+        ensures entries { HasPut K.eq self.old self.new key value }
+        ensures len { HasOneMoreIfNew self.old self.new result }
         ensures spare { spare self.old ≤ spare self.new + 1 }
         ensures unique { IsUnique K.eq self.new }
     {
@@ -301,7 +303,7 @@ impl<K: Ord + Copy + Drop, V> Ordered<K, V> {
         ensures updates { Updates K.eq self.old self.new key.now None }
         ensures entries { self.new.entries ≡ swap_remove_entry (K.eq key.now) self.old.entries }
         ensures unchanged { IfNone result (IsUnchanged self.old self.new) }
-        ensures len { index_map_len self.new + (if is_some result then 1 else 0) ≡ index_map_len self.old }
+        ensures len { HasOneLessIfThere self.old self.new result }
         ensures room { spare self.old ≤ spare self.new }
         ensures unique { IsUnique K.eq self.new }
     {
