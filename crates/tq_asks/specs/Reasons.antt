@@ -4,6 +4,7 @@ use Rattle.tq_asks.specs.declared.ask.NodeRefusal.TheVariants as refusals
 use Rattle.tq_asks.specs.declared.reason.Kept.{Kept}
 use Rattle.tq_asks.specs.declared.reason.Kept.TheVariants.{Down, AlreadyUp, AlreadyDown, Held, Prepared, NotLocked, BadWrites, NotNewer, NothingHere}
 
+-- the reason that is kept, as the reply tells it
 abbrev pub reason_of : Kept → NodeRefusal
 reason_of Down = refusals.Down
 reason_of AlreadyUp = refusals.AlreadyUp

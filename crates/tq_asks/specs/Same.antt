@@ -5,6 +5,7 @@ use Rattle.tq_asks.specs.declared.ask.CitedVote.{CitedVote}
 use Rattle.tq_asks.specs.declared.ask.Verdict.{Verdict}
 use Rattle.tq_asks.specs.declared.ask.Verdict.TheVariants.{Abort, Commit}
 
+-- whether two cited votes are the same
 abbrev pub same_cited : CitedVote → CitedVote → Bool
 same_cited a b = a.server == b.server && a.number == b.number
 
