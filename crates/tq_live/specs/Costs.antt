@@ -22,9 +22,15 @@ no_costs = even_costs 0
 abbrev pub AreLow : Costs → Type 0
 AreLow costs = (costs.read ≤ 1000000) × (costs.write ≤ 1000000)
 
+-- a server may have the costs, to read and to write: each is from 1 to a million
+abbrev pub AreCosts : ℕ → ℕ → Type 0
+AreCosts read write = (1 ≤ read) × (read ≤ 1000000) × (1 ≤ write) × (write ≤ 1000000)
+
+-- where each is at most a million, that for a purpose is
 pub low : (costs : Costs) → AreLow costs → (purpose : Purpose) → cost_to purpose costs ≤ 1000000
 low costs are Read = are.0
 low costs are Write = are.1
 
+-- costs as one value of a code
 abbrev pub costs_code : Coded Costs
 costs_code = code_by (ℕ × ℕ) (coded× coded_ℕ coded_ℕ) (λ c. (c.read, c.write)) (λ p. record { read = p.0; write = p.1 }) (λ _. refl)

@@ -1,11 +1,11 @@
 -- What each server keeps of its subtree, and how a subtree is walked and changed.
-use Rattle.std.specs.Prelude.{ℕ, zero, suc, ◌+◌, ◌-◌, ◌/◌, ◌%◌, ◌^◌, ◌≡◌, ◌<◌, ◌==◌, Bool, true, not, cond, List, [], ◌∷◌, Option, Some, None}
+use Rattle.std.specs.Prelude.{ℕ, zero, suc, ◌+◌, ◌-◌, ◌*◌, ◌/◌, ◌%◌, ◌^◌, ◌≡◌, ◌<◌, ◌≤◌, ◌==◌, Bool, true, not, cond, List, [], ◌∷◌, Option, Some, None, IfSome}
 use Rattle.tq_live.specs.Weights.{plus, lesser}
 use Rattle.tq_live.specs.Costs.{cost_to, even_costs}
 use Rattle.tq_shape.specs.Tree.{IsServer, left_of, right_of}
 use Rattle.tq_live.specs.Least.{changed, pair}
 use Rattle.tq_live.specs.Form.{form_of, by_form}
-use Rattle.tq_live.specs.Subtree.{Subtree, Alone, Over}
+use Rattle.tq_live.specs.Subtree.{Subtree, Alone, Over, leaves}
 use Rattle.tq_live.specs.declared.sought.Sought.{Sought}
 use Rattle.tq_live.specs.declared.sought.Sought.TheVariants.{Quorum, Blocker}
 use Rattle.tq_live.specs.declared.weight.Form.{Form}
@@ -32,11 +32,20 @@ abbrev pub weight_of : Sought → Subtree → Option ℕ
 weight_of sought (Alone costs up) = weight_here sought costs up
 weight_of sought (Over costs up left right) = weight_over (weight_here sought costs up) (weight_of sought left) (weight_of sought right)
 
+-- for each purpose the weight, where there is one, is at most a million for each leaf
+abbrev pub IsLight : Subtree → Type 0
+IsLight tree = (purpose : Purpose) → IfSome (weight_of (Quorum purpose) tree) (λ w. w ≤ 1000000 * leaves tree)
+
+-- the weight of a blocker, from whether a quorum is up
+abbrev pub blocker_weight : Bool → Option ℕ
+blocker_weight is_up = cond is_up None (Some 0)
+
 -- which form it has
 abbrev pub form_in : Sought → Subtree → Form
 form_in sought (Alone costs up) = WithLeft
 form_in sought (Over costs up left right) = form_of (weight_here sought costs up) (weight_of sought left) (weight_of sought right)
 
+-- what a server keeps of its subtree
 abbrev pub cache_of : Subtree → Cache
 cache_of tree = record {
   read = weight_of (Quorum Read) tree;
@@ -46,11 +55,12 @@ cache_of tree = record {
   blocker = form_in Blocker tree;
 }
 
--- the weight in it for a purpose, and the form in it of what is sought
+-- the weight in it for a purpose
 abbrev pub least_kept : Purpose → Cache → Option ℕ
 least_kept Read cache = cache.read
 least_kept Write cache = cache.write
 
+-- the form in it of what is sought
 abbrev pub form_kept : Sought → Cache → Form
 form_kept (Quorum Read) cache = cache.read_form
 form_kept (Quorum Write) cache = cache.write_form
@@ -77,10 +87,12 @@ under (Alone costs up) steps number = Alone costs up
 under (Over costs up left right) steps number =
     cond (steps == 0) (Over costs up left right) (cond (turns_left number (steps - 1)) (under left (steps - 1) number) (under right (steps - 1) number))
 
+-- the costs of a server after a change of it
 abbrev pub costs_after : Setting → Costs → Costs
 costs_after (Cost costs) before = costs
 costs_after (Mark up) before = before
 
+-- the mark of a server after a change of it
 abbrev pub mark_after : Setting → Bool → Bool
 mark_after (Cost costs) before = before
 mark_after (Mark up) before = up
@@ -100,6 +112,7 @@ caches_on_way (Over costs up left right) steps number =
 
 -- ---- what is found
 
+-- a server of that mark may be taken
 abbrev pub allowed_here : Sought → Bool → Bool
 allowed_here (Quorum purpose) up = up
 allowed_here Blocker up = not up

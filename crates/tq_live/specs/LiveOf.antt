@@ -14,9 +14,11 @@ use Rattle.tq_live.specs.Kept.{under, top_of, IsComplete}
 abbrev pub seen_at : Subtree → ℕ → Costs × Bool
 seen_at tree number = top_of (under tree (depth_of number) number)
 
+-- the costs of a server
 abbrev pub costs_at : Subtree → ℕ → Costs
 costs_at tree number = let seen = seen_at tree number in seen.0
 
+-- the mark of a server
 abbrev pub mark_at : Subtree → ℕ → Bool
 mark_at tree number = let seen = seen_at tree number in seen.1
 

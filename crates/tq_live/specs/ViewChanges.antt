@@ -14,6 +14,7 @@ abbrev pub choice_change : Live → Purpose → Option (List ℕ) → ViewChange
 choice_change live purpose (Some servers) = changes.Keep purpose (record { servers = servers; levels = live.levels })
 choice_change live purpose None = changes.Nothing
 
+-- what an ask is to change
 abbrev pub view_change : Live → ViewAsk → ViewChange
 view_change live (SetCost server read write) =
     cond (is_server live.levels server) (cond (are_costs read write) (changes.Cost (record { number = server; levels = live.levels }) (record { read = read; write = write })) changes.Nothing) changes.Nothing
@@ -28,6 +29,7 @@ ViewFits live (changes.Cost server costs) = (server.levels ≡ live.levels) × A
 ViewFits live (changes.Mark server up) = server.levels ≡ live.levels
 ViewFits live (changes.Keep purpose quorum) = Unit {0}
 
+-- the view with a change made
 abbrev pub view_changed : Live → ViewChange → Live
 view_changed live changes.Nothing = live
 view_changed live (changes.Cost server costs) = record live { costs = slice_set live.costs (server.number - 1) costs }

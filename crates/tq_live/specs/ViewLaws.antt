@@ -27,6 +27,7 @@ choice_fits : (live : Live) (purpose : Purpose) (found : Option (List ℕ)) → 
 choice_fits live purpose (Some servers) = tt
 choice_fits live purpose None = tt
 
+-- the change that is planned of an ask may be made
 pub change_fits : (live : Live) (ask : ViewAsk) → ViewFits live (view_change live ask)
 change_fits live (SetCost server read write) =
     cost_fits live server (record { read = read; write = write }) (is_server live.levels server) (are_costs read write) (are_costs-low read write)
@@ -50,6 +51,7 @@ choice_leads : (live : Live) (purpose : Purpose) (found : Option (List ℕ)) →
 choice_leads live purpose (Some servers) = refl
 choice_leads live purpose None = refl
 
+-- it leads where the ask does
 pub change_leads : (live : Live) (ask : ViewAsk) → view_changed live (view_change live ask) ≡ view_after live ask
 change_leads live (SetCost server read write) =
     cost_leads live server (record { read = read; write = write }) (is_server live.levels server) (are_costs read write)
@@ -61,6 +63,7 @@ cost_keeps live other true true same = same
 cost_keeps live other true false same = refl
 cost_keeps live other false good same = refl
 
+-- an ask leaves the levels as they are
 pub keeps_levels : (live : Live) (ask : ViewAsk) → (view_after live ask).levels ≡ live.levels
 keeps_levels live (SetCost server read write) =
     let costs : Costs = record { read = read; write = write } in

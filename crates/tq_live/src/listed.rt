@@ -6,7 +6,7 @@ use tq_coterie::ServerIds;
 use tq_shape::{Memory, ServerSet};
 
 /// The servers of a set, ascending.
-pub(crate) fn listed(alloc: Global, servers: &ServerSet) -> Result<ServerIds, Memory>
+pub(crate) fn list_servers(alloc: Global, servers: &ServerSet) -> Result<ServerIds, Memory>
     ensures { IfOk result (λ ids. ids.items ≡ servers_of servers.now.levels servers.now.numbers) }
 {
     let mut ids = ServerIds::new(alloc);

@@ -1,11 +1,11 @@
 ghost use Rattle.std.specs.Prelude.{◌≡◌, ℕ, ◌+◌, ◌*◌, ◌^◌, ◌<◌, ◌≤◌, IfOk, IfSome, Some, None, List, cond};
 ghost use Rattle.tq_shape.specs.Tree.{IsServer};
-ghost use Rattle.tq_shape.specs.ServerSet.{with_number};
+ghost use Rattle.tq_shape.specs.ServerSet.{set_with};
 ghost use Rattle.tq_live.specs.Subtree.{Subtree, Alone, Over, leaves};
 ghost use Rattle.tq_live.specs.Kept.{weight_of, form_in, cache_of, column_over, turns_left, under, costs_after, changed_under, caches_on_way, found_in, StandsAt, even, top_of};
 ghost use Rattle.tq_live.specs.Form.{form_of};
 ghost use Rattle.tq_live.specs.Below.{subtree_of};
-ghost use Rattle.tq_live.specs.Collected.{with_all};
+ghost use Rattle.tq_live.specs.Collected.{HasGathered};
 ghost use Rattle.tq_live.specs.Costs.{AreLow, no_costs};
 ghost use Rattle.tq_live.specs.declared.purpose.Purpose.{Purpose};
 ghost use Rattle.tq_live.specs.declared.sought.Sought.TheVariants as soughts;
@@ -138,7 +138,7 @@ impl Node {
     /// number, one of the set's tree.
     pub(crate) fn gather(&self, sought: Sought, number: u64, set: &mut ServerSet)
         requires { StandsAt set.old.levels number self.now }
-        ensures found { (servers : List ℕ) → found_in sought number self.now ≡ Some servers → set.new ≡ record { levels = set.old.levels; numbers = with_all servers set.old.numbers } }
+        ensures found { HasGathered (found_in sought number self.now) set.old set.new }
         ensures levels { set.new.levels ≡ set.old.levels }
     {
         let _servers = set.levels().servers();
@@ -218,7 +218,7 @@ impl Node {
 /// Puts the server of that number into the set, one of the set's tree.
 fn put(set: &mut ServerSet, number: u64)
     requires { IsServer set.old.levels number }
-    ensures { set.new ≡ record { levels = set.old.levels; numbers = with_number number set.old.numbers } }
+    ensures { set.new ≡ set_with number set.old }
 {
     let server = ServerId::new(set.levels(), number);
     set.insert(server);

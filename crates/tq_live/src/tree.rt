@@ -2,13 +2,14 @@ ghost use Rattle.std.specs.Prelude.{◌≡◌, ℕ, ◌+◌, ◌-◌, ◌*◌, �
 ghost use Rattle.std.specs.Bool.{OnTrue, OnFalse};
 ghost use Rattle.tq_shape.specs.Depth.{depth_of};
 ghost use Rattle.tq_coterie.specs.Coterie.{coterie, is_same};
+ghost use Rattle.tq_live.specs.Collected.{list_of_set};
 
 pub(crate) mod cache;
 
 use crate::choice::Choice;
 use crate::costs::{BadCost, Costs, is_cost};
 use crate::least::Least;
-use crate::listed::listed;
+use crate::listed::list_servers;
 use crate::node::Node;
 use crate::purpose::Purpose;
 use crate::setting::Setting;
@@ -48,18 +49,20 @@ impl LiveTree {
     ghost use Rattle.std.specs.Prelude.{◌≡◌, ℕ, ◌+◌, ◌-◌, ◌*◌, ◌^◌, ◌<◌, ◌≤◌, ◌↔◌, IsOk, IfOk, IfSome, IsSome, OnOk, OnErr, slice_set, true, is_some, replicate, Some, [], List, All};
     ghost use Rattle.std.specs.Bool.{OnTrue, OnFalse};
     ghost use Rattle.tq_shape.specs.Depth.{depth_of};
-    ghost use Rattle.tq_coterie.specs.Coterie.{IsMemberList, is_same, servers_of, numbers_of};
+    ghost use Rattle.tq_coterie.specs.Coterie.{IsMemberList};
     ghost use Rattle.tq_live.specs.Live.{best, best_cost, blocker, costs_of, is_up, members_up, HasQuorumOrBlocker, HasQuorumOrBlockerUnder};
+    ghost use Rattle.tq_live.specs.Live.{new_live, with_both_costs, with_costs, with_mark};
+    ghost use Rattle.tq_live.specs.Collected.{IsFound, AreServersOf};
     ghost use Rattle.tq_live.specs.LiveOf.{IsAt, changed_live};
     ghost use Rattle.tq_live.specs.Kept.{costs_after};
-    ghost use Rattle.tq_live.specs.Costs.{AreLow, even_costs, no_costs};
+    ghost use Rattle.tq_live.specs.Costs.{AreCosts, AreLow, no_costs};
     ghost use Rattle.tq_live.specs.Sought.{found};
     ghost use Rattle.tq_live.specs.Choice.{IsChoice, IsFirstChoice};
     ghost use Rattle.tq_live.specs.BestOf.{IsBestOf, IsFirstOf};
 
     /// Every server at cost 1 for each purpose and up.
     pub fn new(alloc: Global, levels: Levels) -> Result<LiveTree, Memory>
-        ensures { IfOk result (λ tree. tree ≡ record { levels = levels; costs = replicate (2 ^ levels - 1) (even_costs 1); up = replicate (2 ^ levels - 1) true }) }
+        ensures { IfOk result (λ tree. tree ≡ new_live levels) }
     {
         let root = Node::new(alloc, levels.count() - 1)?;
         Ok(LiveTree { levels, root })
@@ -108,8 +111,8 @@ impl LiveTree {
     ) -> Result<(), BadCost>
         requires tree { server.levels ≡ self.old.levels }
         requires room { turns.old + self.old.levels < 2 ^ 64 }
-        ensures ok { IsOk result ↔ ((1 ≤ read) × (read ≤ 1000000) × (1 ≤ write) × (write ≤ 1000000)) }
-        ensures set { OnOk result (self.new ≡ record self.old { costs = slice_set self.old.costs (server.number - 1) (record { read = read; write = write }) }) }
+        ensures ok { IsOk result ↔ AreCosts read write }
+        ensures set { OnOk result (self.new ≡ with_both_costs self.old server.number read write) }
         ensures unchanged { OnErr result (self.new ≡ self.old) }
         ensures turns { OnOk result (turns.new ≡ turns.old + (depth_of server.number + 1)) }
         ensures no_turns { OnErr result (turns.new ≡ turns.old) }
@@ -129,7 +132,7 @@ impl LiveTree {
         requires server { server.levels ≡ self.old.levels }
         requires cost { AreLow costs }
         requires room { turns.old + self.old.levels < 2 ^ 64 }
-        ensures set { self.new ≡ record self.old { costs = slice_set self.old.costs (server.number - 1) costs } }
+        ensures set { self.new ≡ with_costs self.old server.number costs }
         ensures turns { turns.new ≡ turns.old + (depth_of server.number + 1) }
     {
         self.change(server, Setting::Cost(costs), turns);
@@ -140,7 +143,7 @@ impl LiveTree {
     pub fn set_mark(&mut self, server: ServerId, up: bool, turns: &mut Turns)
         requires tree { server.levels ≡ self.old.levels }
         requires room { turns.old + self.old.levels < 2 ^ 64 }
-        ensures set { self.new ≡ record self.old { up = slice_set self.old.up (server.number - 1) up } }
+        ensures set { self.new ≡ with_mark self.old server.number up }
         ensures turns { turns.new ≡ turns.old + (depth_of server.number + 1) }
     {
         self.change(server, Setting::Mark(up), turns);
@@ -202,12 +205,12 @@ impl LiveTree {
     ) -> Result<ServerIds, Memory>
         requires tree { server.levels ≡ self.now.levels }
         requires there { IsSome (found self.now sought server.number) }
-        ensures set { IfOk result (λ ids. found self.now sought server.number ≡ Some (numbers_of ids.items)) }
-        ensures tree { IfOk result (λ ids. ids.items ≡ servers_of self.now.levels (numbers_of ids.items)) }
+        ensures set { IfOk result (λ ids. IsFound (found self.now sought server.number) ids.items) }
+        ensures tree { IfOk result (λ ids. AreServersOf self.now.levels ids.items) }
     {
         let mut servers = ServerSet::new(alloc, self.levels)?;
         self.gather_into(sought, server, &mut servers);
-        listed(alloc, &servers)
+        list_servers(alloc, &servers)
     }
 
     /// For the purpose, the first quorum of least cost of the server's subtree with its cost, among those that are up, if
@@ -300,20 +303,20 @@ impl LiveTree {
 /// the same servers.
 fn quorum_of(alloc: Global, servers: &ServerSet, kept: Option<&Quorum>) -> Result<Quorum, Memory>
     requires { Contains (coterie servers.now.levels) servers.now.numbers }
-    ensures { IfOk result (λ quorum. quorum ≡ record { servers = servers.now.numbers; levels = servers.now.levels }) }
+    ensures { IfOk result (λ quorum. quorum ≡ list_of_set servers.now) }
 {
     if let Some(quorum) = kept {
         if is_of(quorum, servers) {
             return Ok(quorum.clone()?);
         }
     }
-    let ids = listed(alloc, servers)?;
+    let ids = list_servers(alloc, servers)?;
     Quorum::new(alloc, servers.levels(), ids)
 }
 
 /// Whether the quorum is the one of these servers.
 fn is_of(quorum: &Quorum, servers: &ServerSet) -> bool
-    ensures { result ≡ is_same quorum.now (record { servers = servers.now.numbers; levels = servers.now.levels }) }
+    ensures { result ≡ is_same quorum.now (list_of_set servers.now) }
 {
     if quorum.levels() != servers.levels() {
         return false;

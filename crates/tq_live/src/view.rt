@@ -102,9 +102,10 @@ impl View {
     ghost use Rattle.std.specs.Prelude.{◌≡◌, ◌++◌, ◌∷◌, [], List, ℕ, IfOk, OnOk, OnErr};
     ghost use Rattle.tq_shape.specs.declared.entry.Entry.{Entry};
     ghost use Rattle.tq_live.specs.Live.{HasQuorumOrBlocker};
-    ghost use Rattle.tq_live.specs.View.{view_reply, view_after, view_state, IsFirstReply, ReplaysJournals};
+    ghost use Rattle.tq_live.specs.View.{view_reply, view_after, view_state, GoesWithJournal, IsFirstReply, ReplaysJournals};
     ghost use Rattle.tq_live.specs.ViewChanges.{view_change, view_changed, ViewFits};
     ghost use Rattle.tq_live.specs.declared.purpose.Purpose.{Purpose};
+    ghost use Rattle.tq_live.specs.declared.view.ViewAsk.TheVariants.{Choose};
 
     /// Every server at cost 1 for each purpose and up. From there, asks and replies lead where their journal says.
     pub fn new(alloc: Global, levels: Levels) -> Result<View, Memory>
@@ -136,8 +137,7 @@ impl View {
         ensures either { (purpose : Purpose) → HasQuorumOrBlocker self.old purpose }
         ensures after { OnOk result (self.new ≡ view_after self.old ask.now) }
         ensures unchanged { OnErr result (self.new ≡ self.old) }
-        ensures journal { IfOk result (λ reply. (levels : ℕ) → (journal : List (Entry ViewAsk ViewReply)) → self.old ≡ view_state levels journal
-            → self.new ≡ view_state levels (journal ++ record { ask = ask.now; reply = reply } ∷ [])) }
+        ensures journal { IfOk result (λ reply. GoesWithJournal self.old self.new ask.now reply) }
     {
         let plan = self.plan(alloc, ask)?;
         let Plan { reply, change } = plan;
@@ -212,7 +212,7 @@ impl View {
         ensures change { result.change ≡ view_change self.now (ViewAsk.SetCost server read write) }
     {
         match self.levels.server(server) {
-            None => refused(ViewRefusal::NoSuchServer),
+            None => plan_refusal(ViewRefusal::NoSuchServer),
             Some(server) if are_costs(read, write) => Plan {
                 reply: ViewReply::CostSet,
                 change: ViewChange::Cost {
@@ -220,7 +220,7 @@ impl View {
                     costs: Costs { read, write },
                 },
             },
-            Some(_) => refused(ViewRefusal::BadCost),
+            Some(_) => plan_refusal(ViewRefusal::BadCost),
         }
     }
 
@@ -231,7 +231,7 @@ impl View {
         ensures change { result.change ≡ view_change self.now (ViewAsk.Mark server up) }
     {
         match self.levels.server(server) {
-            None => refused(ViewRefusal::NoSuchServer),
+            None => plan_refusal(ViewRefusal::NoSuchServer),
             Some(server) => Plan {
                 reply: ViewReply::Marked,
                 change: ViewChange::Mark { server, up },
@@ -245,8 +245,8 @@ impl View {
         alloc: Global,
         purpose: Purpose,
     ) -> Result<Plan<ViewReply, ViewChange>, Memory>
-        ensures reply { IfOk result (λ plan. plan.reply ≡ view_reply self.now (ViewAsk.Choose purpose)) }
-        ensures change { IfOk result (λ plan. plan.change ≡ view_change self.now (ViewAsk.Choose purpose)) }
+        ensures reply { IfOk result (λ plan. plan.reply ≡ view_reply self.now (Choose purpose)) }
+        ensures change { IfOk result (λ plan. plan.change ≡ view_change self.now (Choose purpose)) }
     {
         let kept = match purpose {
             Purpose::Read => self.kept_read.as_ref(),
@@ -263,13 +263,13 @@ impl View {
                     },
                 })
             }
-            Choice::Blocked(blocker) => Ok(refused(ViewRefusal::Blocked(blocker))),
+            Choice::Blocked(blocker) => Ok(plan_refusal(ViewRefusal::Blocked(blocker))),
         }
     }
 }
 
 /// The plan that refuses, and changes nothing.
-fn refused(reason: ViewRefusal) -> Plan<ViewReply, ViewChange>
+fn plan_refusal(reason: ViewRefusal) -> Plan<ViewReply, ViewChange>
     ensures reply { result.reply ≡ ViewReply.Refused reason }
     ensures change { result.change ≡ ViewChange.Nothing }
 {

@@ -1,11 +1,11 @@
 ghost use Rattle.std.specs.Prelude.{◌≡◌, ◌+◌, ◌*◌, ◌^◌, ◌<◌, ◌≤◌, ◌↔◌, IfSome, Some, None, cond, is_some, IsTrue};
 ghost use Rattle.tq_live.specs.Subtree.{Over, leaves};
-ghost use Rattle.tq_live.specs.Kept.{weight_of, form_in, cache_of, column_over, even, least_kept, form_kept};
+ghost use Rattle.tq_live.specs.Kept.{cache_of, column_over, even, least_kept, form_kept};
+ghost use Rattle.tq_live.specs.Kept.{blocker_weight, IsLight};
 ghost use Rattle.tq_live.specs.Form.{form_of};
+ghost use Rattle.tq_live.specs.Form as spec;
 ghost use Rattle.tq_live.specs.Below.{subtree_of};
 ghost use Rattle.tq_live.specs.Costs.{AreLow};
-ghost use Rattle.tq_live.specs.declared.purpose.Purpose.{Purpose};
-ghost use Rattle.tq_live.specs.declared.sought.Sought.TheVariants as soughts;
 
 use crate::costs::Costs;
 use crate::node::{Below, Sides};
@@ -156,7 +156,7 @@ pub(crate) fn repair(cache: &mut Cache, costs: Costs, up: bool, below: &Below, c
     requires small { leaves (subtree_of costs up below.now) ≤ 512 }
     requires room { count.old + 1 < 2 ^ 64 }
     ensures cache { cache.new ≡ cache_of (subtree_of costs up below.now) }
-    ensures bounded { (purpose : Purpose) → IfSome (weight_of (soughts.Quorum purpose) (subtree_of costs up below.now)) (λ weight. weight ≤ 1000000 * leaves (subtree_of costs up below.now)) }
+    ensures bounded { IsLight (subtree_of costs up below.now) }
     ensures counted { count.new ≡ count.old + 1 }
 {
     *cache = match below {
@@ -176,7 +176,7 @@ pub(crate) fn repair(cache: &mut Cache, costs: Costs, up: bool, below: &Below, c
 fn over(costs: Costs, up: bool, sides: &Sides) -> Cache
     requires cost { AreLow costs }
     ensures cache { result ≡ cache_of (Over costs up sides.now.left sides.now.right) }
-    ensures bounded { (purpose : Purpose) → IfSome (weight_of (soughts.Quorum purpose) (Over costs up sides.now.left sides.now.right)) (λ weight. weight ≤ 1000000 * leaves (Over costs up sides.now.left sides.now.right)) }
+    ensures bounded { IsLight (Over costs up sides.now.left sides.now.right) }
 {
     let left = sides.left.least(Purpose::Read);
     let right = sides.right.least(Purpose::Read);
@@ -214,7 +214,7 @@ fn column_of(here: Weight, left: Weight, right: Weight) -> Column
 
 /// The form that is taken where the side that is better is the right one or not, and both sides are better than that or not.
 fn form_taken(goes_right: bool, takes_both: bool) -> Form
-    ensures { result ≡ cond takes_both Form.BothSides (cond goes_right Form.WithRight Form.WithLeft) }
+    ensures { result ≡ spec.form_taken goes_right takes_both }
 {
     let one_side = if goes_right {
         Form::WithRight
@@ -230,7 +230,7 @@ fn form_taken(goes_right: bool, takes_both: bool) -> Form
 
 /// The form of the first member that is all down, from whether a quorum is up at the top and in its sides.
 fn blocker_form(here: bool, left: bool, right: bool) -> Form
-    ensures { result ≡ form_of (cond here None (Some 0)) (cond left None (Some 0)) (cond right None (Some 0)) }
+    ensures { result ≡ form_of (blocker_weight here) (blocker_weight left) (blocker_weight right) }
 {
     if right {
         return Form::WithLeft;

@@ -1,5 +1,5 @@
 use Rattle.std.proofs.Common.{◌≡◌, ◌++◌}
-use Rattle.tq_live.proofs.listed.listed.Given as goal
+use Rattle.tq_live.proofs.listed.list_servers.Given as goal
 
 -- those so far and those that are left are all
 abbrev pub invariant-loop-server : goal.invariant-loop-server

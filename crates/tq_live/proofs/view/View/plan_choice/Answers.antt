@@ -6,9 +6,9 @@ use Rattle.tq_live.proofs.view.View.plan_choice.Goals as goal
 pub returns-in-Blocked-clause-reply : goal.returns-in-Blocked-clause-reply
 returns-in-Blocked-clause-reply c =
     let choice = rw c.in-Blocked.is at c.in_ok-quorum.ensures in
-    c.refused.ensures.reply ∙ rw (← c.self.view_is) (blocked_reply c.self.inside.tree c.args.purpose c.in-Blocked.blocker choice.choice.0 choice.choice.1 choice.choice.2)
+    c.plan_refusal.ensures.reply ∙ rw (← c.self.view_is) (blocked_reply c.self.inside.tree c.args.purpose c.in-Blocked.blocker choice.choice.0 choice.choice.1 choice.choice.2)
 
 pub returns-in-Blocked-clause-change : goal.returns-in-Blocked-clause-change
 returns-in-Blocked-clause-change c =
     let choice = rw c.in-Blocked.is at c.in_ok-quorum.ensures in
-    c.refused.ensures.change ∙ rw (← c.self.view_is) (sym (ap (choice_change c.self.inside.tree c.args.purpose) choice.choice.0))
+    c.plan_refusal.ensures.change ∙ rw (← c.self.view_is) (sym (ap (choice_change c.self.inside.tree c.args.purpose) choice.choice.0))
