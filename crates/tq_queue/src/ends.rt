@@ -1,8 +1,9 @@
-ghost use Rattle.std.specs.Prelude.{◌≡◌, ◌<◌, ◌+◌, ℕ, true, false, [], ◌∷◌, ◌++◌, List, IfOk, IfSome, IfNone, OnErr};
+ghost use Rattle.std.specs.Prelude.{◌≡◌, ◌<◌, ◌+◌, true, false, [], ◌++◌, IfOk, IfSome, IfNone, OnErr};
 ghost use Rattle.std.specs.Bool.{OnTrue, OnFalse};
 ghost use Rattle.crossbeam_channel.specs.Claims.{view, IsSeatAt};
 ghost use Rattle.crossbeam_channel.specs.Ends.{sends_on, receives_on};
-ghost use Rattle.tq_queue.specs.Rule.{hand, IsPrefixTaken};
+ghost use Rattle.tq_queue.specs.Rule.{hand, HasPrefixTaken, IsCutOff, KeepsMessages, KeepsPartsAndTaken};
+ghost use Rattle.tq_queue.specs.Rule.{PutsMore, TakesMore};
 
 use crate::hand::{Hand, InOrder};
 use crate::queue::{Receiver, Sender, Token, open, put, rejoin, settle, take, taker};
@@ -36,7 +37,7 @@ impl<M: Drop> Taker<M> {
     /// queue is empty and no one is left who puts.
     pub fn take<R: Wait>(&mut self, rt: &R) -> Option<M>
         ensures channel { receives_on self.new.receiver ≡ receives_on self.old.receiver }
-        ensures taken { IfSome result (λ m. (place : ℕ) × ((view self.new.pass).taken ≡ (view self.old.pass).taken ++ (place, m) ∷ [])) }
+        ensures taken { IfSome result (λ m. TakesMore (view self.old.pass) m (view self.new.pass)) }
         ensures none { IfNone result (view self.new.pass ≡ view self.old.pass) }
     {
         take(rt, &self.receiver, &mut self.pass)
@@ -62,9 +63,9 @@ impl<M: Drop> Putter<M> {
     /// nothing was put.
     pub fn put<R: Wait>(&mut self, rt: &R, message: M) -> bool
         ensures channel { sends_on self.new.sender ≡ sends_on self.old.sender }
-        ensures put { OnTrue result ((view self.new.pass).put ≡ (view self.old.pass).put ++ message ∷ []) }
+        ensures put { OnTrue result (PutsMore (view self.old.pass) message (view self.new.pass)) }
         ensures not_put { OnFalse result ((view self.new.pass).put ≡ (view self.old.pass).put) }
-        ensures rest { ((view self.new.pass).parts ≡ (view self.old.pass).parts) × ((view self.new.pass).taken ≡ (view self.old.pass).taken) }
+        ensures rest { KeepsPartsAndTaken (view self.old.pass) (view self.new.pass) }
     {
         put(rt, &self.sender, &mut self.pass, message)
     }
@@ -73,8 +74,10 @@ impl<M: Drop> Putter<M> {
     pub fn taker(&mut self) -> Result<Taker<M>, AllocError>
         requires { 1 < (view self.old.pass).parts }
         ensures channel { sends_on self.new.sender ≡ sends_on self.old.sender }
-        ensures same { ((view self.new.pass).put ≡ (view self.old.pass).put) × ((view self.new.pass).taken ≡ (view self.old.pass).taken) }
-        ensures ok { IfOk result (λ t. (receives_on t.receiver ≡ sends_on self.new.sender) × ((view t.pass).taken ≡ []) × ((view self.new.pass).parts + 1 ≡ (view self.old.pass).parts)) }
+        ensures same { KeepsMessages (view self.old.pass) (view self.new.pass) }
+        ensures ok { IfOk result (λ t.
+            (receives_on t.receiver ≡ sends_on self.new.sender)
+            × IsCutOff (view self.old.pass) (view self.new.pass) (view t.pass)) }
         ensures err { OnErr result (view self.new.pass ≡ view self.old.pass) }
     {
         let receiver = self.receiver.try_clone()?;
@@ -88,7 +91,8 @@ impl<M: Drop> Putter<M> {
         requires parts { 0 < (view self.old.pass).parts }
         ensures channel { sends_on self.new.sender ≡ sends_on self.old.sender }
         ensures put { (view self.new.pass).put ≡ (view self.old.pass).put }
-        ensures taken { (view self.new.pass).taken ≡ (view self.old.pass).taken ++ (view taker.pass).taken }
+        ensures taken { (view self.new.pass).taken
+            ≡ (view self.old.pass).taken ++ (view taker.pass).taken }
         ensures parts { (view self.new.pass).parts ≡ (view self.old.pass).parts + 1 }
     {
         let Taker { receiver: _, pass } = taker;
@@ -101,7 +105,7 @@ impl<M: Drop> Putter<M> {
         requires { (view self.old.pass).parts ≡ 1024 }
         ensures channel { sends_on self.new.sender ≡ sends_on self.old.sender }
         ensures same { view self.new.pass ≡ view self.old.pass }
-        ensures prefix { (items : List M) × IsPrefixTaken (view self.old.pass).put (view self.old.pass).taken items }
+        ensures prefix { HasPrefixTaken (view self.old.pass) }
     {
         settle(&self.sender, &mut self.pass);
     }

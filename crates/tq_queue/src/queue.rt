@@ -1,8 +1,8 @@
-ghost use Rattle.std.specs.Prelude.{◌≡◌, ◌<◌, ◌+◌, ◌-◌, ℕ, true, false, [], ◌∷◌, ◌++◌, List, IfOk, IfSome, IfNone};
+ghost use Rattle.std.specs.Prelude.{◌≡◌, ◌<◌, true, false, [], IfOk, IfSome, IfNone};
 ghost use Rattle.std.specs.Bool.{OnTrue, OnFalse};
 ghost use Rattle.crossbeam_channel.specs.Claims.{view, IsSeatAt};
 ghost use Rattle.crossbeam_channel.specs.Ends.{sends_on, receives_on};
-ghost use Rattle.tq_queue.specs.Rule.{hand, IsPrefixTaken};
+ghost use Rattle.tq_queue.specs.Rule.{cut_off, hand, rejoined, with_put, HasPrefixTaken, HasTaken};
 
 use crate::hand::{Cut, Hand, InOrder, Puts, Takes, Whole};
 use crossbeam_channel::{Pass, RuledReceiver, RuledSender, bounded_with};
@@ -21,7 +21,9 @@ pub(crate) fn open<M: Drop>(
     room: usize,
 ) -> Result<(Sender<M>, Receiver<M>, Token<M>), AllocError>
     requires { 0 < room }
-    ensures { IfOk result (λ r. (receives_on r.1 ≡ sends_on r.0) × IsSeatAt (sends_on r.0) r.2 × (view r.2 ≡ hand 1024 true [] [])) }
+    ensures one { IfOk result (λ r. receives_on r.1 ≡ sends_on r.0) }
+    ensures at { IfOk result (λ r. IsSeatAt (sends_on r.0) r.2) }
+    ensures whole { IfOk result (λ r. view r.2 ≡ hand 1024 true [] []) }
 {
     bounded_with::<M, Hand<M>, InOrder, Global>(alloc, room)
 }
@@ -36,7 +38,7 @@ pub(crate) fn put<M: Drop, R: Wait>(
     requires channel { IsSeatAt (sends_on sender.now) pass.old }
     requires puts { (view pass.old).puts ≡ true }
     ensures channel { IsSeatAt (sends_on sender.now) pass.new × (pass.new.id ≡ pass.old.id) }
-    ensures put { OnTrue result (view pass.new ≡ hand (view pass.old).parts true ((view pass.old).put ++ message ∷ []) (view pass.old).taken) }
+    ensures put { OnTrue result (view pass.new ≡ with_put (view pass.old) message) }
     ensures not_put { OnFalse result (view pass.new ≡ view pass.old) }
 {
     sender.send_as::<Puts, R>(rt, pass, message).is_ok()
@@ -51,7 +53,7 @@ pub(crate) fn take<M: Drop, R: Wait>(
     requires channel { IsSeatAt (receives_on receiver.now) pass.old }
     requires parts { 0 < (view pass.old).parts }
     ensures channel { IsSeatAt (receives_on receiver.now) pass.new × (pass.new.id ≡ pass.old.id) }
-    ensures taken { IfSome result (λ m. (place : ℕ) × (view pass.new ≡ hand (view pass.old).parts (view pass.old).puts (view pass.old).put ((view pass.old).taken ++ (place, m) ∷ []))) }
+    ensures taken { IfSome result (λ m. HasTaken (view pass.old) m (view pass.new)) }
     ensures none { IfNone result (view pass.new ≡ view pass.old) }
 {
     receiver.recv_as::<Takes, R>(rt, pass).ok()
@@ -61,19 +63,22 @@ pub(crate) fn take<M: Drop, R: Wait>(
 pub(crate) fn taker<M: Drop>(sender: &Sender<M>, pass: &mut Token<M>) -> Token<M>
     requires channel { IsSeatAt (sends_on sender.now) pass.old }
     requires parts { 1 < (view pass.old).parts }
-    ensures channel { IsSeatAt (sends_on sender.now) pass.new × (pass.new.id ≡ pass.old.id) × IsSeatAt (sends_on sender.now) result }
-    ensures views { (view pass.new ≡ hand ((view pass.old).parts - 1) (view pass.old).puts (view pass.old).put (view pass.old).taken) × (view result ≡ hand 1 false [] []) }
+    ensures channel { IsSeatAt (sends_on sender.now) pass.new × (pass.new.id ≡ pass.old.id) }
+    ensures taker { IsSeatAt (sends_on sender.now) result }
+    ensures view { view pass.new ≡ cut_off (view pass.old) }
+    ensures taker_view { view result ≡ hand 1 false [] [] }
 {
     sender.another::<Cut>(pass)
 }
 
 /// Takes in what another pass took.
 pub(crate) fn rejoin<M: Drop>(sender: &Sender<M>, pass: &mut Token<M>, other: Token<M>)
-    requires channel { IsSeatAt (sends_on sender.now) pass.old × IsSeatAt (sends_on sender.now) other }
+    requires channel { IsSeatAt (sends_on sender.now) pass.old }
+    requires other { IsSeatAt (sends_on sender.now) other }
     requires parts { 0 < (view pass.old).parts }
     requires takes { (view other).puts ≡ false }
     ensures channel { IsSeatAt (sends_on sender.now) pass.new × (pass.new.id ≡ pass.old.id) }
-    ensures view { view pass.new ≡ hand ((view pass.old).parts + (view other).parts) (view pass.old).puts (view pass.old).put ((view pass.old).taken ++ (view other).taken) }
+    ensures view { view pass.new ≡ rejoined (view pass.old) (view other) }
 {
     sender.absorb::<Cut>(pass, other)
 }
@@ -82,8 +87,9 @@ pub(crate) fn rejoin<M: Drop>(sender: &Sender<M>, pass: &mut Token<M>, other: To
 pub(crate) fn settle<M: Drop>(sender: &Sender<M>, pass: &mut Token<M>)
     requires channel { IsSeatAt (sends_on sender.now) pass.old }
     requires whole { ((view pass.old).parts ≡ 1024) × ((view pass.old).puts ≡ true) }
-    ensures channel { IsSeatAt (sends_on sender.now) pass.new × (pass.new.id ≡ pass.old.id) × (view pass.new ≡ view pass.old) }
-    ensures prefix { (items : List M) × IsPrefixTaken (view pass.old).put (view pass.old).taken items }
+    ensures channel { IsSeatAt (sends_on sender.now) pass.new × (pass.new.id ≡ pass.old.id) }
+    ensures same { view pass.new ≡ view pass.old }
+    ensures prefix { HasPrefixTaken (view pass.old) }
 {
     sender.learn_as::<Whole>(pass);
 }
