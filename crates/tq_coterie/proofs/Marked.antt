@@ -15,8 +15,8 @@ use Rattle.tq_shape.proofs.Depth.{height_of-side, height_of-leaf, right_within}
 use Rattle.tq_coterie.specs.Coterie.{has}
 use Rattle.tq_coterie.specs.Parts.{part_of, part_from_sides, member_or_empty}
 use Rattle.tq_coterie.specs.Marks.{is_marked, part_at, AreMarksOf, IsBare, IsRaised}
-use Rattle.tq_coterie.specs.declared.part.Part.{Part}
-use Rattle.tq_coterie.specs.declared.part.Part.TheVariants.{Empty, Member, Neither}
+use Rattle.tq_coterie.specs.declared.overlap.Overlap.{Overlap}
+use Rattle.tq_coterie.specs.declared.overlap.Overlap.TheVariants.{Empty, Member, Neither}
 use Rattle.tq_coterie.proofs.Parts.{part_of-leaf, part_of-fork}
 
 -- ---- one mark
@@ -208,11 +208,11 @@ looked-last marks limit place word looked some small =
 
 -- ---- what is neither at one server is neither at the root
 
-neither-left : (here : Bool) (right : Part) → part_from_sides here Neither right ≡ Neither
+neither-left : (here : Bool) (right : Overlap) → part_from_sides here Neither right ≡ Neither
 neither-left true right = refl
 neither-left false right = refl
 
-neither-right : (here : Bool) (left : Part) → part_from_sides here left Neither ≡ Neither
+neither-right : (here : Bool) (left : Overlap) → part_from_sides here left Neither ≡ Neither
 neither-right true Empty = refl
 neither-right true Member = refl
 neither-right true Neither = refl

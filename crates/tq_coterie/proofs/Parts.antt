@@ -9,8 +9,8 @@ use Rattle.tq_shape.proofs.Depth.{height_of-one}
 use Rattle.tq_shape.proofs.Tree.{stands_in-server, server-stands_in, sides_apart, top_apart, stands_in-top, stands_in-left, stands_in-right}
 use Rattle.tq_coterie.specs.Coterie.{joined, members, coterie, has, numbers_of, servers_of, IsMemberList}
 use Rattle.tq_coterie.specs.Parts.{part_from_sides, part_of}
-use Rattle.tq_coterie.specs.declared.part.Part.{Part}
-use Rattle.tq_coterie.specs.declared.part.Part.TheVariants.{Empty, Member, Neither}
+use Rattle.tq_coterie.specs.declared.overlap.Overlap.{Overlap}
+use Rattle.tq_coterie.specs.declared.overlap.Overlap.TheVariants.{Empty, Member, Neither}
 use Rattle.tq_shape.specs.ServerSet.{Ascends}
 use Rattle.tq_coterie.proofs.Sets.{has-below, has-head, Ascends-joined, joined-nil, same_set, has-joined}
 use Rattle.tq_coterie.proofs.Members.{IsSetOf, IsSetOf-leaf, IsSetOf-left, IsSetOf-right, IsSetOf-both, sides_members_apart, top_or, members-all, member-set, Contains-leaf, Contains-with_left, Contains-with_right, Contains-both}
@@ -41,7 +41,7 @@ IsFound-leaf top = record {
   found = λ positive servers agree. leaf_found top servers (agree top (stands_in-top zero top));
 }
 
-fork_found : (height top : ℕ) (servers : List ℕ) (here : Bool) (left right : Part) → has servers top ≡ here → part_of height (left_of top) servers ≡ left → part_of height (right_of top) servers ≡ right → part_of (suc height) top servers ≡ part_from_sides here left right
+fork_found : (height top : ℕ) (servers : List ℕ) (here : Bool) (left right : Overlap) → has servers top ≡ here → part_of height (left_of top) servers ≡ left → part_of height (right_of top) servers ≡ right → part_of (suc height) top servers ≡ part_from_sides here left right
 unfolding part_of
 fork_found height top servers here left right e f g = rw (e, f, g) refl
 
@@ -134,7 +134,7 @@ listing (suc height) top servers =
     cond (has servers top) (top ∷ below) below
 
 -- what each part says of the listing
-abbrev IsPart : ℕ → ℕ → List ℕ → Part → Type 0
+abbrev IsPart : ℕ → ℕ → List ℕ → Overlap → Type 0
 IsPart height top servers Empty = listing height top servers ≡ []
 IsPart height top servers Member = Contains (members height top) (listing height top servers)
 IsPart height top servers Neither = Unit {0}
@@ -146,7 +146,7 @@ listing-leaf top servers false e = rw e refl
 pub Ascends-member : (height top : ℕ) (q : List ℕ) → 0 < top → Contains (members height top) q → Ascends 0 q
 Ascends-member height top q positive at = (member-set height top q at).ascends positive 0 positive
 
-listing-fork : (height top : ℕ) (servers : List ℕ) (here : Bool) (left right : Part) → 0 < top → has servers top ≡ here → IsPart height (left_of top) servers left → IsPart height (right_of top) servers right → IsPart (suc height) top servers (part_from_sides here left right)
+listing-fork : (height top : ℕ) (servers : List ℕ) (here : Bool) (left right : Overlap) → 0 < top → has servers top ≡ here → IsPart height (left_of top) servers left → IsPart height (right_of top) servers right → IsPart (suc height) top servers (part_from_sides here left right)
 listing-fork height top servers true Member Empty positive e f g =
     let q = listing height (left_of top) servers in
     let alone = joined-nil 0 q (Ascends-member height (left_of top) q (omega arith) f) in
@@ -275,7 +275,7 @@ pub part_of-leaf : (height top : ℕ) (servers : List ℕ) (here : Bool) → hei
 unfolding part_of
 part_of-leaf height top servers here low e = rw (low, e) refl
 
-pub part_of-fork : (height below other top left_top right_top : ℕ) (servers : List ℕ) (here : Bool) (left right : Part) → height ≡ suc below → height ≡ suc other → left_top ≡ left_of top → right_top ≡ right_of top → has servers top ≡ here → left ≡ part_of below left_top servers → right ≡ part_of other right_top servers → part_of height top servers ≡ part_from_sides here left right
+pub part_of-fork : (height below other top left_top right_top : ℕ) (servers : List ℕ) (here : Bool) (left right : Overlap) → height ≡ suc below → height ≡ suc other → left_top ≡ left_of top → right_top ≡ right_of top → has servers top ≡ here → left ≡ part_of below left_top servers → right ≡ part_of other right_top servers → part_of height top servers ≡ part_from_sides here left right
 unfolding part_of
 part_of-fork height below other top left_top right_top servers here left right one two is_left is_right e f g =
     let same : other ≡ below = omega arith in

@@ -4,7 +4,7 @@ use Rattle.std.specs.Int.{bit_at}
 use Rattle.tq_shape.specs.Tree.{left_of, right_of}
 use Rattle.tq_coterie.specs.Coterie.{has}
 use Rattle.tq_coterie.specs.Parts.{part_from_sides, member_or_empty}
-use Rattle.tq_coterie.specs.declared.part.Part.{Part}
+use Rattle.tq_coterie.specs.declared.overlap.Overlap.{Overlap}
 
 -- whether the server is marked
 abbrev pub is_marked : List ℕ → ℕ → Bool
@@ -24,7 +24,7 @@ HasNoMarkBetween marks low high = (other : ℕ) → low < other → other < high
 
 -- how a set stands to the subtree over a server: the server's mark says whether it is in the set, those of its sides
 -- whether the set has a member of them or nothing
-abbrev pub part_at : List ℕ → ℕ → Part
+abbrev pub part_at : List ℕ → ℕ → Overlap
 part_at marks server =
     part_from_sides (is_marked marks server) (member_or_empty (is_marked marks (left_of server))) (member_or_empty (is_marked marks (right_of server)))
 

@@ -7,7 +7,7 @@
 //! Nothing here lists the members: a tree of six levels has over four billion.
 //!
 //! Files: `member.rt` quorums and blockers, one type by its role; `membership.rt`, `marks.rt` the test;
-//! `holding.rt`, `part.rt` whether a set holds a quorum; `meeting.rt` where two meet.
+//! `holding.rt`, `overlap.rt` whether a set holds a quorum; `meeting.rt` where two meet.
 //! Definitions: `specs/Coterie`; `Parts` and `Marks` are the code's own words.
 #![tactic(auto)]
 
@@ -16,7 +16,7 @@ mod marks;
 mod meeting;
 mod member;
 mod membership;
-mod part;
+mod overlap;
 
 pub use holding::holds_quorum;
 pub use meeting::meet;

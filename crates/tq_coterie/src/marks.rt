@@ -4,7 +4,7 @@ ghost use Rattle.tq_shape.specs.Depth.{height_of};
 ghost use Rattle.tq_coterie.specs.Parts.{part_of};
 ghost use Rattle.tq_coterie.specs.Marks.{is_marked, part_at, AreMarksOf, HasMarkMore, HasNoMarkBetween, IsBare, IsRaised};
 
-use crate::part::{Part, part_of_fork};
+use crate::overlap::{Overlap, part_of_fork};
 use tq_shape::ServerId;
 
 /// How many words hold the marks of the servers of every tree, 64 to a word.
@@ -17,7 +17,7 @@ pub(crate) struct Marks {
 }
 
 /// How the set of servers stands to the whole tree.
-pub(crate) fn part_under_root(root: ServerId, servers: &[u64]) -> Part
+pub(crate) fn part_under_root(root: ServerId, servers: &[u64]) -> Overlap
     requires root { root.number ≡ 1 }
     requires within { All (λ server. server < 2 ^ root.levels) servers.now }
     ensures { result ≡ part_of (height_of root.levels root.number) root.number servers.now }
@@ -27,14 +27,14 @@ pub(crate) fn part_under_root(root: ServerId, servers: &[u64]) -> Part
     let mut server = greatest / 2;
     while server > 0 {
         if !members.raise(server) {
-            return Part::Neither;
+            return Overlap::Neither;
         }
         server = members.next_below(server);
     }
     if members.has(root.number()) {
-        Part::Member
+        Overlap::Member
     } else {
-        Part::Empty
+        Overlap::Empty
     }
 }
 
@@ -56,18 +56,18 @@ impl Marks {
     fn raise(&mut self, server: u64) -> bool
         requires { 2 * server + 1 < 1024 }
         ensures raised { OnTrue result (IsRaised self.old.words server self.new.words) }
-        ensures neither { OnFalse result (part_at self.old.words server ≡ Part.Neither) }
+        ensures neither { OnFalse result (part_at self.old.words server ≡ Overlap.Neither) }
     {
         let chosen = self.has(server);
         let left = self.has(2 * server);
         let right = self.has(2 * server + 1);
         match part_of_fork(chosen, left, right) {
-            Part::Empty => true,
-            Part::Member => {
+            Overlap::Empty => true,
+            Overlap::Member => {
                 self.put(server);
                 true
             }
-            Part::Neither => false,
+            Overlap::Neither => false,
         }
     }
 

@@ -5,7 +5,7 @@ ghost use Rattle.tq_shape.specs.ServerSet.{Ascends};
 ghost use Rattle.tq_coterie.specs.Coterie as spec;
 
 use crate::marks::part_under_root;
-use crate::part::Part;
+use crate::overlap::Overlap;
 use tq_shape::Levels;
 
 /// Whether the numbers are, in this order, the servers of a quorum. It takes no memory.
@@ -32,7 +32,7 @@ pub(crate) fn is_member(levels: Levels, numbers: &[u64]) -> bool
     if !is_within(levels, numbers) {
         return false;
     }
-    matches!(part_under_root(root, numbers), Part::Member)
+    matches!(part_under_root(root, numbers), Overlap::Member)
 }
 
 /// Whether the numbers are a path from the root down to a leaf, each but the first a side of the one before.

@@ -11,8 +11,8 @@ use Rattle.tq_live.specs.declared.costs.Costs.{Costs}
 use Rattle.tq_live.specs.declared.node.Below.{Below}
 use Rattle.tq_live.specs.declared.weight.Form.TheVariants.{WithLeft}
 use Rattle.tq_live.specs.declared.tree.cache.Cache.{Cache}
-use Rattle.tq_live.specs.declared.sought.Sought.{Sought}
-use Rattle.tq_live.specs.declared.sought.Sought.TheVariants.{Quorum, Blocker}
+use Rattle.tq_live.specs.declared.search_for.SearchFor.{SearchFor}
+use Rattle.tq_live.specs.declared.search_for.SearchFor.TheVariants.{Quorum, Blocker}
 use Rattle.tq_live.proofs.Weights.{IsAtMost}
 use Rattle.tq_live.proofs.Repair.{weight_of-blocker, over-at_most}
 use Rattle.tq_live.proofs.Gather.{leaves-even}
@@ -23,7 +23,7 @@ pub least_kept-is : (purpose : Purpose) (tree : Subtree) → least_kept purpose 
 least_kept-is Read tree = refl
 least_kept-is Write tree = refl
 
-pub form_kept-is : (sought : Sought) (tree : Subtree) → form_kept sought (cache_of tree) ≡ form_in sought tree
+pub form_kept-is : (sought : SearchFor) (tree : Subtree) → form_kept sought (cache_of tree) ≡ form_in sought tree
 form_kept-is (Quorum Read) tree = refl
 form_kept-is (Quorum Write) tree = refl
 form_kept-is Blocker tree = refl

@@ -4,7 +4,7 @@ use Rattle.std.proofs.Math.Nat.{pow-suc, div-div-eq-div-mul}
 use Rattle.std.proofs.lemmas.Bool.{eqb-true, eqb-false}
 use Rattle.tq_shape.specs.Tree.{left_of, right_of}
 use Rattle.tq_live.specs.Subtree.{Subtree, Alone, Over}
-use Rattle.tq_live.specs.Kept.{turns_left, under, changed_under, caches_on_way, costs_after, mark_after, top_of, IsComplete}
+use Rattle.tq_live.specs.Kept.{goes_left_at, under, changed_under, caches_on_way, costs_after, mark_after, top_of, IsComplete}
 use Rattle.tq_live.specs.declared.setting.Setting.{Setting}
 use Rattle.tq_live.specs.declared.costs.Costs.{Costs}
 
@@ -37,20 +37,20 @@ is_zero steps = grind arith
 back : (steps : ℕ) → suc steps - 1 ≡ steps
 back steps = omega arith
 
-pub under-step : (costs : Costs) (up : Bool) (left right : Subtree) (steps number : ℕ) → under (Over costs up left right) (suc steps) number ≡ cond (turns_left number steps) (under left steps number) (under right steps number)
+pub under-step : (costs : Costs) (up : Bool) (left right : Subtree) (steps number : ℕ) → under (Over costs up left right) (suc steps) number ≡ cond (goes_left_at number steps) (under left steps number) (under right steps number)
 under-step costs up left right steps number =
-    ap (λ b. cond b (Over costs up left right) (cond (turns_left number (suc steps - 1)) (under left (suc steps - 1) number) (under right (suc steps - 1) number))) (is_zero steps)
-    ∙ ap (λ s. cond (turns_left number s) (under left s number) (under right s number)) (back steps)
+    ap (λ b. cond b (Over costs up left right) (cond (goes_left_at number (suc steps - 1)) (under left (suc steps - 1) number) (under right (suc steps - 1) number))) (is_zero steps)
+    ∙ ap (λ s. cond (goes_left_at number s) (under left s number) (under right s number)) (back steps)
 
-changed-step : (costs : Costs) (up : Bool) (left right : Subtree) (steps number : ℕ) (change : Setting) → changed_under (Over costs up left right) (suc steps) number change ≡ cond (turns_left number steps) (Over costs up (changed_under left steps number change) right) (Over costs up left (changed_under right steps number change))
+changed-step : (costs : Costs) (up : Bool) (left right : Subtree) (steps number : ℕ) (change : Setting) → changed_under (Over costs up left right) (suc steps) number change ≡ cond (goes_left_at number steps) (Over costs up (changed_under left steps number change) right) (Over costs up left (changed_under right steps number change))
 changed-step costs up left right steps number change =
-    ap (λ b. cond b (Over (costs_after change costs) (mark_after change up) left right) (cond (turns_left number (suc steps - 1)) (Over costs up (changed_under left (suc steps - 1) number change) right) (Over costs up left (changed_under right (suc steps - 1) number change)))) (is_zero steps)
-    ∙ ap (λ s. cond (turns_left number s) (Over costs up (changed_under left s number change) right) (Over costs up left (changed_under right s number change))) (back steps)
+    ap (λ b. cond b (Over (costs_after change costs) (mark_after change up) left right) (cond (goes_left_at number (suc steps - 1)) (Over costs up (changed_under left (suc steps - 1) number change) right) (Over costs up left (changed_under right (suc steps - 1) number change)))) (is_zero steps)
+    ∙ ap (λ s. cond (goes_left_at number s) (Over costs up (changed_under left s number change) right) (Over costs up left (changed_under right s number change))) (back steps)
 
-caches-step : (costs : Costs) (up : Bool) (left right : Subtree) (steps number : ℕ) → caches_on_way (Over costs up left right) (suc steps) number ≡ 1 + cond (turns_left number steps) (caches_on_way left steps number) (caches_on_way right steps number)
+caches-step : (costs : Costs) (up : Bool) (left right : Subtree) (steps number : ℕ) → caches_on_way (Over costs up left right) (suc steps) number ≡ 1 + cond (goes_left_at number steps) (caches_on_way left steps number) (caches_on_way right steps number)
 caches-step costs up left right steps number =
-    ap (λ b. cond b 1 (1 + cond (turns_left number (suc steps - 1)) (caches_on_way left (suc steps - 1) number) (caches_on_way right (suc steps - 1) number))) (is_zero steps)
-    ∙ ap (λ s. 1 + cond (turns_left number s) (caches_on_way left s number) (caches_on_way right s number)) (back steps)
+    ap (λ b. cond b 1 (1 + cond (goes_left_at number (suc steps - 1)) (caches_on_way left (suc steps - 1) number) (caches_on_way right (suc steps - 1) number))) (is_zero steps)
+    ∙ ap (λ s. 1 + cond (goes_left_at number s) (caches_on_way left s number) (caches_on_way right s number)) (back steps)
 
 pub under-zero : (tree : Subtree) (number : ℕ) → under tree 0 number ≡ tree
 under-zero (Alone costs up) number = refl
@@ -65,29 +65,29 @@ chosen side false left right left' right' e f = f
 pub under-left : (tree : Subtree) (height steps top : ℕ) → IsComplete height tree → steps < height → under tree (suc steps) (left_of top) ≡ left_side (under tree steps top)
 under-left (Alone costs up) height steps top complete low = absurd (omega (arith, complete))
 under-left (Over costs up left right) height zero top complete low =
-    let here : turns_left (left_of top) 0 ≡ true = grind arith in
+    let here : goes_left_at (left_of top) 0 ≡ true = grind arith in
     under-step costs up left right 0 (left_of top)
     ∙ (ap (λ turn. cond turn (under left 0 (left_of top)) (under right 0 (left_of top))) here ∙ under-zero left (left_of top))
 under-left (Over costs up left right) height (suc steps) top complete low =
     let way = side_way top (left_of top) steps (omega arith) in
-    let turn : turns_left (left_of top) (suc steps) ≡ turns_left top steps = ap (λ n. n % 2 == 0) way in
+    let turn : goes_left_at (left_of top) (suc steps) ≡ goes_left_at top steps = ap (λ n. n % 2 == 0) way in
     under-step costs up left right (suc steps) (left_of top)
     ∙ (ap (λ b. cond b (under left (suc steps) (left_of top)) (under right (suc steps) (left_of top))) turn
-    ∙ (chosen left_side (turns_left top steps) (under left steps top) (under right steps top) _ _ (under-left left (height - 1) steps top complete.1.0 (omega arith)) (under-left right (height - 1) steps top complete.1.1 (omega arith))
+    ∙ (chosen left_side (goes_left_at top steps) (under left steps top) (under right steps top) _ _ (under-left left (height - 1) steps top complete.1.0 (omega arith)) (under-left right (height - 1) steps top complete.1.1 (omega arith))
     ∙ ap left_side (sym (under-step costs up left right steps top))))
 
 pub under-right : (tree : Subtree) (height steps top : ℕ) → IsComplete height tree → steps < height → under tree (suc steps) (right_of top) ≡ right_side (under tree steps top)
 under-right (Alone costs up) height steps top complete low = absurd (omega (arith, complete))
 under-right (Over costs up left right) height zero top complete low =
-    let here : turns_left (right_of top) 0 ≡ false = grind arith in
+    let here : goes_left_at (right_of top) 0 ≡ false = grind arith in
     under-step costs up left right 0 (right_of top)
     ∙ (ap (λ turn. cond turn (under left 0 (right_of top)) (under right 0 (right_of top))) here ∙ under-zero right (right_of top))
 under-right (Over costs up left right) height (suc steps) top complete low =
     let way = side_way top (right_of top) steps (omega arith) in
-    let turn : turns_left (right_of top) (suc steps) ≡ turns_left top steps = ap (λ n. n % 2 == 0) way in
+    let turn : goes_left_at (right_of top) (suc steps) ≡ goes_left_at top steps = ap (λ n. n % 2 == 0) way in
     under-step costs up left right (suc steps) (right_of top)
     ∙ (ap (λ b. cond b (under left (suc steps) (right_of top)) (under right (suc steps) (right_of top))) turn
-    ∙ (chosen right_side (turns_left top steps) (under left steps top) (under right steps top) _ _ (under-right left (height - 1) steps top complete.1.0 (omega arith)) (under-right right (height - 1) steps top complete.1.1 (omega arith))
+    ∙ (chosen right_side (goes_left_at top steps) (under left steps top) (under right steps top) _ _ (under-right left (height - 1) steps top complete.1.0 (omega arith)) (under-right right (height - 1) steps top complete.1.1 (omega arith))
     ∙ ap right_side (sym (under-step costs up left right steps top))))
 
 pub complete-under : (tree : Subtree) (height steps number : ℕ) → IsComplete height tree → steps ≤ height → IsComplete (height - steps) (under tree steps number)
@@ -96,7 +96,7 @@ complete-under (Over costs up left right) height zero number complete low = subs
 complete-under (Over costs up left right) height (suc steps) number complete low =
     let lefts = complete-under left (height - 1) steps number complete.1.0 (omega arith) in
     let rights = complete-under right (height - 1) steps number complete.1.1 (omega arith) in
-    subst (λ t. IsComplete (height - suc steps) t) (sym (under-step costs up left right steps number)) (either (turns_left number steps) lefts rights)
+    subst (λ t. IsComplete (height - suc steps) t) (sym (under-step costs up left right steps number)) (either (goes_left_at number steps) lefts rights)
   where
     either : (turn : Bool) → IsComplete (height - 1 - steps) (under left steps number) → IsComplete (height - 1 - steps) (under right steps number) → IsComplete (height - suc steps) (cond turn (under left steps number) (under right steps number))
     either true lefts rights = subst (λ h. IsComplete h (under left steps number)) (omega arith) lefts
@@ -108,7 +108,7 @@ pub complete-changed : (tree : Subtree) (height steps number : ℕ) (change : Se
 complete-changed (Alone costs up) height steps number change complete = complete
 complete-changed (Over costs up left right) height zero number change complete = complete
 complete-changed (Over costs up left right) height (suc steps) number change complete =
-    subst (λ t. IsComplete height t) (sym (changed-step costs up left right steps number change)) (either (turns_left number steps) (complete-changed left (height - 1) steps number change complete.1.0) (complete-changed right (height - 1) steps number change complete.1.1))
+    subst (λ t. IsComplete height t) (sym (changed-step costs up left right steps number change)) (either (goes_left_at number steps) (complete-changed left (height - 1) steps number change complete.1.0) (complete-changed right (height - 1) steps number change complete.1.1))
   where
     either : (turn : Bool) → IsComplete (height - 1) (changed_under left steps number change) → IsComplete (height - 1) (changed_under right steps number change) → IsComplete height (cond turn (Over costs up (changed_under left steps number change) right) (Over costs up left (changed_under right steps number change)))
     either true lefts rights = (complete.0, (lefts, complete.1.1))
@@ -120,7 +120,7 @@ caches-complete (Over costs up left right) height zero number complete low = ref
 caches-complete (Over costs up left right) height (suc steps) number complete low =
     let lefts = caches-complete left (height - 1) steps number complete.1.0 (omega arith) in
     let rights = caches-complete right (height - 1) steps number complete.1.1 (omega arith) in
-    caches-step costs up left right steps number ∙ either (turns_left number steps) lefts rights
+    caches-step costs up left right steps number ∙ either (goes_left_at number steps) lefts rights
   where
     either : (turn : Bool) → caches_on_way left steps number ≡ steps + 1 → caches_on_way right steps number ≡ steps + 1 → 1 + cond turn (caches_on_way left steps number) (caches_on_way right steps number) ≡ suc steps + 1
     either true lefts rights = omega arith
@@ -138,17 +138,17 @@ changed-here (Alone costs up) height steps number change complete low = refl
 changed-here (Over costs up left right) height zero number change complete low = refl
 changed-here (Over costs up left right) height (suc steps) number change complete low =
     ap (λ t. top_of (under t (suc steps) number)) (changed-step costs up left right steps number change)
-    ∙ (either (turns_left number steps) refl (changed-here left (height - 1) steps number change complete.1.0 (omega arith)) (changed-here right (height - 1) steps number change complete.1.1 (omega arith))
+    ∙ (either (goes_left_at number steps) refl (changed-here left (height - 1) steps number change complete.1.0 (omega arith)) (changed-here right (height - 1) steps number change complete.1.1 (omega arith))
     ∙ ap (λ t. seen_after change (top_of t)) (sym (under-step costs up left right steps number)))
   where
-    either : (turn : Bool) → turns_left number steps ≡ turn → top_of (under (changed_under left steps number change) steps number) ≡ seen_after change (top_of (under left steps number)) → top_of (under (changed_under right steps number change) steps number) ≡ seen_after change (top_of (under right steps number)) → top_of (under (cond turn (Over costs up (changed_under left steps number change) right) (Over costs up left (changed_under right steps number change))) (suc steps) number) ≡ seen_after change (top_of (cond turn (under left steps number) (under right steps number)))
+    either : (turn : Bool) → goes_left_at number steps ≡ turn → top_of (under (changed_under left steps number change) steps number) ≡ seen_after change (top_of (under left steps number)) → top_of (under (changed_under right steps number change) steps number) ≡ seen_after change (top_of (under right steps number)) → top_of (under (cond turn (Over costs up (changed_under left steps number change) right) (Over costs up left (changed_under right steps number change))) (suc steps) number) ≡ seen_after change (top_of (cond turn (under left steps number) (under right steps number)))
     either true e lefts rights =
         ap top_of (under-step costs up (changed_under left steps number change) right steps number ∙ ap (λ b. cond b (under (changed_under left steps number change) steps number) (under right steps number)) e) ∙ lefts
     either false e lefts rights =
         ap top_of (under-step costs up left (changed_under right steps number change) steps number ∙ ap (λ b. cond b (under left steps number) (under (changed_under right steps number change) steps number)) e) ∙ rights
 
 -- the same turn at the same height above leads to the same server
-same_way : (n m a b : ℕ) (turn : Bool) → n / 2 ^ suc a ≡ m / 2 ^ suc b → turns_left n a ≡ turn → turns_left m b ≡ turn → n / 2 ^ a ≡ m / 2 ^ b
+same_way : (n m a b : ℕ) (turn : Bool) → n / 2 ^ suc a ≡ m / 2 ^ suc b → goes_left_at n a ≡ turn → goes_left_at m b ≡ turn → n / 2 ^ a ≡ m / 2 ^ b
 same_way n m a b true above e f =
     let n_half = halved n a in
     let m_half = halved m b in
@@ -174,14 +174,14 @@ changed-elsewhere (Over costs up left right) height zero n zero m change complet
 changed-elsewhere (Over costs up left right) height zero n (suc b) m change complete low low' above other =
     ap top_of (under-step (costs_after change costs) (mark_after change up) left right b m ∙ sym (under-step costs up left right b m))
 changed-elsewhere (Over costs up left right) height (suc a) n zero m change complete low low' above other =
-    ap (λ t. top_of (under t 0 m)) (changed-step costs up left right a n change) ∙ either (turns_left n a)
+    ap (λ t. top_of (under t 0 m)) (changed-step costs up left right a n change) ∙ either (goes_left_at n a)
   where
     either : (turn : Bool) → top_of (under (cond turn (Over costs up (changed_under left a n change) right) (Over costs up left (changed_under right a n change))) 0 m) ≡ (costs, up)
     either true = refl
     either false = refl
 changed-elsewhere (Over costs up left right) height (suc a) n (suc b) m change complete low low' above other =
     ap (λ t. top_of (under t (suc b) m)) (changed-step costs up left right a n change)
-    ∙ (either (turns_left n a) (turns_left m b) refl refl
+    ∙ (either (goes_left_at n a) (goes_left_at m b) refl refl
     (λ below. changed-elsewhere left (height - 1) a n b m change complete.1.0 (omega arith) (omega arith) below other)
     (λ below. changed-elsewhere right (height - 1) a n b m change complete.1.1 (omega arith) (omega arith) below other)
     ∙ ap top_of (sym (under-step costs up left right b m)))
@@ -192,7 +192,7 @@ changed-elsewhere (Over costs up left right) height (suc a) n (suc b) m change c
     new_right : Subtree
     new_right = changed_under right a n change
 
-    either : (p q : Bool) → turns_left n a ≡ p → turns_left m b ≡ q → (n / 2 ^ a ≡ m / 2 ^ b → top_of (under new_left b m) ≡ top_of (under left b m)) → (n / 2 ^ a ≡ m / 2 ^ b → top_of (under new_right b m) ≡ top_of (under right b m)) → top_of (under (cond p (Over costs up new_left right) (Over costs up left new_right)) (suc b) m) ≡ top_of (cond (turns_left m b) (under left b m) (under right b m))
+    either : (p q : Bool) → goes_left_at n a ≡ p → goes_left_at m b ≡ q → (n / 2 ^ a ≡ m / 2 ^ b → top_of (under new_left b m) ≡ top_of (under left b m)) → (n / 2 ^ a ≡ m / 2 ^ b → top_of (under new_right b m) ≡ top_of (under right b m)) → top_of (under (cond p (Over costs up new_left right) (Over costs up left new_right)) (suc b) m) ≡ top_of (cond (goes_left_at m b) (under left b m) (under right b m))
     either true true e f lefts rights =
         ap top_of (under-step costs up new_left right b m ∙ ap (λ t. cond t (under new_left b m) (under right b m)) f)
         ∙ (lefts (same_way n m a b true above e f) ∙ ap (λ t. top_of (cond t (under left b m) (under right b m))) (sym f))

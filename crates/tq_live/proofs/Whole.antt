@@ -10,15 +10,15 @@ use Rattle.tq_shape.specs.Depth.{depth_of, height_of}
 use Rattle.tq_shape.proofs.Depth.{depth_of-bounds, depth_of-side}
 use Rattle.tq_live.specs.Least.{least_member, changed, pair}
 use Rattle.tq_live.specs.Live.{Live, costs_of, is_up}
-use Rattle.tq_live.specs.Sought.{cost_for, allowed_for, found, found_weight}
+use Rattle.tq_live.specs.SearchFor.{cost_for, allowed_for, found, found_weight}
 use Rattle.tq_live.specs.Subtree.{Subtree, Alone, Over}
 use Rattle.tq_live.specs.Form.{form_of, by_form}
 use Rattle.tq_live.specs.Costs.{even_costs, no_costs}
 use Rattle.tq_live.specs.declared.costs.Costs.{Costs}
-use Rattle.tq_live.specs.Kept.{allowed_here, with_here, turns_left, weight_here, weight_of, form_in, found_in, under, changed_under, caches_on_way, top_of, IsComplete, StandsAt, even}
+use Rattle.tq_live.specs.Kept.{allowed_here, with_here, goes_left_at, weight_here, weight_of, form_in, found_in, under, changed_under, caches_on_way, top_of, IsComplete, StandsAt, even}
 use Rattle.tq_live.specs.LiveOf.{seen_at, costs_at, mark_at, live_of, changed_live, IsAt}
-use Rattle.tq_live.specs.declared.sought.Sought.{Sought}
-use Rattle.tq_live.specs.declared.sought.Sought.TheVariants.{Quorum, Blocker}
+use Rattle.tq_live.specs.declared.search_for.SearchFor.{SearchFor}
+use Rattle.tq_live.specs.declared.search_for.SearchFor.TheVariants.{Quorum, Blocker}
 use Rattle.tq_live.specs.declared.setting.Setting.{Setting}
 use Rattle.tq_live.specs.declared.setting.Setting.TheVariants.{Cost, Mark}
 use Rattle.tq_live.proofs.Weights.{top_weight, least_weight, least_weight-leaf, least_weight-from}
@@ -100,7 +100,7 @@ pub StandsAt-IsAt : (live : Live) (top : ℕ) (tree : Subtree) → IsAt live top
 StandsAt-IsAt live top (Alone costs up) at = at.0
 StandsAt-IsAt live top (Over costs up left right) at = (at.0, (StandsAt-IsAt live (left_of top) left at.5, StandsAt-IsAt live (right_of top) right at.6))
 
-same_here : (live : Live) (sought : Sought) (top : ℕ) (costs : Costs) (up : Bool) → costs_of live top ≡ costs → is_up live top ≡ up → weight_here sought costs up ≡ top_weight (cost_for live sought) (allowed_for live sought) top
+same_here : (live : Live) (sought : SearchFor) (top : ℕ) (costs : Costs) (up : Bool) → costs_of live top ≡ costs → is_up live top ≡ up → weight_here sought costs up ≡ top_weight (cost_for live sought) (allowed_for live sought) top
 same_here live (Quorum purpose) top costs up e f = rw (← e, ← f) refl
 same_here live Blocker top costs up e f = either up ∙ ap none_at (sym f)
   where
@@ -111,7 +111,7 @@ same_here live Blocker top costs up e f = either up ∙ ap none_at (sym f)
     either true = refl
     either false = refl
 
-pub weight_of-IsAt : (live : Live) (sought : Sought) (top : ℕ) (tree : Subtree) → IsAt live top tree → weight_of sought tree ≡ found_weight live sought top
+pub weight_of-IsAt : (live : Live) (sought : SearchFor) (top : ℕ) (tree : Subtree) → IsAt live top tree → weight_of sought tree ≡ found_weight live sought top
 weight_of-IsAt live sought top (Alone costs up) at =
     let height = height_of live.levels top in
     same_here live sought top costs up at.2 at.3
@@ -129,11 +129,11 @@ weight_of-IsAt live sought top (Over costs up left right) at =
     (weight_of-IsAt live sought (right_of top) right at.6)
     refl
 
-top_found : (live : Live) (sought : Sought) (top : ℕ) (up : Bool) (set : Option (List ℕ)) → is_up live top ≡ up → cond (allowed_here sought up) set None ≡ cond (allowed_for live sought top) set None
+top_found : (live : Live) (sought : SearchFor) (top : ℕ) (up : Bool) (set : Option (List ℕ)) → is_up live top ≡ up → cond (allowed_here sought up) set None ≡ cond (allowed_for live sought top) set None
 top_found live (Quorum purpose) top up set f = ap (λ b. cond b set None) (sym f)
 top_found live Blocker top up set f = ap (λ b. cond (not b) set None) (sym f)
 
-pub found_in-IsAt : (live : Live) (sought : Sought) (top : ℕ) (tree : Subtree) → IsAt live top tree → found_in sought top tree ≡ found live sought top
+pub found_in-IsAt : (live : Live) (sought : SearchFor) (top : ℕ) (tree : Subtree) → IsAt live top tree → found_in sought top tree ≡ found live sought top
 found_in-IsAt live sought top (Alone costs up) at =
     top_found live sought top up (Some (top ∷ [])) at.3
     ∙ (sym (least_member-leaf (cost_for live sought) (allowed_for live sought) top)
@@ -257,7 +257,7 @@ seen-even : (height steps number : ℕ) → top_of (under (even height) steps nu
 seen-even zero steps number = refl
 seen-even (suc height) zero number = refl
 seen-even (suc height) (suc steps) number =
-    ap top_of (under-step (even_costs 1) true (even height) (even height) steps number) ∙ either (turns_left number steps) (seen-even height steps number)
+    ap top_of (under-step (even_costs 1) true (even height) (even height) steps number) ∙ either (goes_left_at number steps) (seen-even height steps number)
   where
     either : (turn : Bool) → top_of (under (even height) steps number) ≡ (even_costs 1, true) → top_of (cond turn (under (even height) steps number) (under (even height) steps number)) ≡ (even_costs 1, true)
     either true below = below

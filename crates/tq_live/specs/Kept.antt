@@ -6,8 +6,8 @@ use Rattle.tq_shape.specs.Tree.{IsServer, left_of, right_of}
 use Rattle.tq_live.specs.Least.{changed, pair}
 use Rattle.tq_live.specs.Form.{form_of, by_form}
 use Rattle.tq_live.specs.Subtree.{Subtree, Alone, Over, leaves}
-use Rattle.tq_live.specs.declared.sought.Sought.{Sought}
-use Rattle.tq_live.specs.declared.sought.Sought.TheVariants.{Quorum, Blocker}
+use Rattle.tq_live.specs.declared.search_for.SearchFor.{SearchFor}
+use Rattle.tq_live.specs.declared.search_for.SearchFor.TheVariants.{Quorum, Blocker}
 use Rattle.tq_live.specs.declared.weight.Form.{Form}
 use Rattle.tq_live.specs.declared.weight.Form.TheVariants.{WithLeft}
 use Rattle.tq_live.specs.declared.purpose.Purpose.{Purpose}
@@ -19,7 +19,7 @@ use Rattle.tq_live.specs.declared.setting.Setting.{Setting}
 use Rattle.tq_live.specs.declared.setting.Setting.TheVariants.{Cost, Mark}
 
 -- the weight of a server, if it may be taken
-abbrev pub weight_here : Sought → Costs → Bool → Option ℕ
+abbrev pub weight_here : SearchFor → Costs → Bool → Option ℕ
 weight_here (Quorum purpose) costs up = cond up (Some (cost_to purpose costs)) None
 weight_here Blocker costs up = cond up None (Some 0)
 
@@ -28,7 +28,7 @@ abbrev pub weight_over : Option ℕ → Option ℕ → Option ℕ → Option ℕ
 weight_over here left right = lesser (lesser (plus here left) (plus here right)) (plus left right)
 
 -- the weight of the first least member of a subtree
-abbrev pub weight_of : Sought → Subtree → Option ℕ
+abbrev pub weight_of : SearchFor → Subtree → Option ℕ
 weight_of sought (Alone costs up) = weight_here sought costs up
 weight_of sought (Over costs up left right) = weight_over (weight_here sought costs up) (weight_of sought left) (weight_of sought right)
 
@@ -41,7 +41,7 @@ abbrev pub blocker_weight : Bool → Option ℕ
 blocker_weight is_up = cond is_up None (Some 0)
 
 -- which form it has
-abbrev pub form_in : Sought → Subtree → Form
+abbrev pub form_in : SearchFor → Subtree → Form
 form_in sought (Alone costs up) = WithLeft
 form_in sought (Over costs up left right) = form_of (weight_here sought costs up) (weight_of sought left) (weight_of sought right)
 
@@ -61,7 +61,7 @@ least_kept Read cache = cache.read
 least_kept Write cache = cache.write
 
 -- the form in it of what is sought
-abbrev pub form_kept : Sought → Cache → Form
+abbrev pub form_kept : SearchFor → Cache → Form
 form_kept (Quorum Read) cache = cache.read_form
 form_kept (Quorum Write) cache = cache.write_form
 form_kept Blocker cache = cache.blocker
@@ -78,14 +78,14 @@ column_over here left right = record { least = weight_over here left right; form
 -- ---- the way from the top to a server
 
 -- whether the way to the server turns left where so many steps are left after the turn
-abbrev pub turns_left : ℕ → ℕ → Bool
-turns_left number steps = number / 2 ^ steps % 2 == 0
+abbrev pub goes_left_at : ℕ → ℕ → Bool
+goes_left_at number steps = number / 2 ^ steps % 2 == 0
 
 -- the subtree of a server that stands so many steps below the top
 abbrev pub under : Subtree → ℕ → ℕ → Subtree
 under (Alone costs up) steps number = Alone costs up
 under (Over costs up left right) steps number =
-    cond (steps == 0) (Over costs up left right) (cond (turns_left number (steps - 1)) (under left (steps - 1) number) (under right (steps - 1) number))
+    cond (steps == 0) (Over costs up left right) (cond (goes_left_at number (steps - 1)) (under left (steps - 1) number) (under right (steps - 1) number))
 
 -- the costs of a server after a change of it
 abbrev pub costs_after : Setting → Costs → Costs
@@ -102,27 +102,27 @@ abbrev pub changed_under : Subtree → ℕ → ℕ → Setting → Subtree
 changed_under (Alone costs up) steps number change = Alone (costs_after change costs) (mark_after change up)
 changed_under (Over costs up left right) steps number change =
     cond (steps == 0) (Over (costs_after change costs) (mark_after change up) left right)
-    (cond (turns_left number (steps - 1)) (Over costs up (changed_under left (steps - 1) number change) right) (Over costs up left (changed_under right (steps - 1) number change)))
+    (cond (goes_left_at number (steps - 1)) (Over costs up (changed_under left (steps - 1) number change) right) (Over costs up left (changed_under right (steps - 1) number change)))
 
 -- how many caches lie on the way, the top's and the server's among them
 abbrev pub caches_on_way : Subtree → ℕ → ℕ → ℕ
 caches_on_way (Alone costs up) steps number = 1
 caches_on_way (Over costs up left right) steps number =
-    cond (steps == 0) 1 (1 + cond (turns_left number (steps - 1)) (caches_on_way left (steps - 1) number) (caches_on_way right (steps - 1) number))
+    cond (steps == 0) 1 (1 + cond (goes_left_at number (steps - 1)) (caches_on_way left (steps - 1) number) (caches_on_way right (steps - 1) number))
 
 -- ---- what is found
 
 -- a server of that mark may be taken
-abbrev pub allowed_here : Sought → Bool → Bool
+abbrev pub allowed_here : SearchFor → Bool → Bool
 allowed_here (Quorum purpose) up = up
 allowed_here Blocker up = not up
 
 -- a set found below with the top, if that may be taken
-abbrev pub with_here : Sought → Bool → ℕ → Option (List ℕ) → Option (List ℕ)
+abbrev pub with_here : SearchFor → Bool → ℕ → Option (List ℕ) → Option (List ℕ)
 with_here sought up top found = cond (allowed_here sought up) (changed (λ set. top ∷ set) found) None
 
 -- the first least member of the subtree of the server of that number
-abbrev pub found_in : Sought → ℕ → Subtree → Option (List ℕ)
+abbrev pub found_in : SearchFor → ℕ → Subtree → Option (List ℕ)
 found_in sought top (Alone costs up) = cond (allowed_here sought up) (Some (top ∷ [])) None
 found_in sought top (Over costs up left right) =
     let in_left = found_in sought (left_of top) left in

@@ -6,7 +6,7 @@ pub mod Costs
 pub mod Least
 pub mod Weights
 pub mod Live
-pub mod Sought
+pub mod SearchFor
 pub mod Choice
 pub mod Form
 pub mod View

@@ -2,18 +2,18 @@ ghost use Rattle.std.specs.Prelude.{◌≡◌, ℕ, ◌+◌, ◌*◌, ◌^◌, �
 ghost use Rattle.tq_shape.specs.Tree.{IsServer};
 ghost use Rattle.tq_shape.specs.ServerSet.{set_with};
 ghost use Rattle.tq_live.specs.Subtree.{Subtree, Alone, Over, leaves};
-ghost use Rattle.tq_live.specs.Kept.{weight_of, form_in, cache_of, column_over, turns_left, under, costs_after, changed_under, caches_on_way, found_in, StandsAt, even, top_of};
+ghost use Rattle.tq_live.specs.Kept.{weight_of, form_in, cache_of, column_over, goes_left_at, under, costs_after, changed_under, caches_on_way, found_in, StandsAt, even, top_of};
 ghost use Rattle.tq_live.specs.Form.{form_of};
 ghost use Rattle.tq_live.specs.Below.{subtree_of};
 ghost use Rattle.tq_live.specs.Collected.{HasGathered};
 ghost use Rattle.tq_live.specs.Costs.{AreLow, no_costs};
 ghost use Rattle.tq_live.specs.declared.purpose.Purpose.{Purpose};
-ghost use Rattle.tq_live.specs.declared.sought.Sought.TheVariants as soughts;
+ghost use Rattle.tq_live.specs.declared.search_for.SearchFor.TheVariants as soughts;
 
 use crate::costs::Costs;
 use crate::purpose::Purpose;
+use crate::search_for::SearchFor;
 use crate::setting::Setting;
-use crate::sought::Sought;
 use crate::tree::cache::{Cache, Count, repair};
 use crate::weight::{Form, Weight};
 use std::alloc::Global;
@@ -128,7 +128,7 @@ impl Node {
     }
 
     /// The form of the first least member.
-    fn form(&self, sought: Sought) -> Form
+    fn form(&self, sought: SearchFor) -> Form
         ensures { result ≡ form_in sought self.now }
     {
         self.cache.form(sought)
@@ -136,7 +136,7 @@ impl Node {
 
     /// Puts the servers of the first least member into the set, where there is one. The node is that of the server of the
     /// number, one of the set's tree.
-    pub(crate) fn gather(&self, sought: Sought, number: u64, set: &mut ServerSet)
+    pub(crate) fn gather(&self, sought: SearchFor, number: u64, set: &mut ServerSet)
         requires { StandsAt set.old.levels number self.now }
         ensures found { HasGathered (found_in sought number self.now) set.old set.new }
         ensures levels { set.new.levels ≡ set.old.levels }
@@ -227,7 +227,7 @@ fn put(set: &mut ServerSet, number: u64)
 /// Whether the way to the server turns left where so many steps are left after the turn.
 fn is_left(number: u64, steps: u32) -> bool
     requires { steps < 64 }
-    ensures { result ≡ turns_left number steps }
+    ensures { result ≡ goes_left_at number steps }
 {
     (number >> steps) % 2 == 0
 }

@@ -12,8 +12,8 @@ use crate::least::Least;
 use crate::listed::list_servers;
 use crate::node::Node;
 use crate::purpose::Purpose;
+use crate::search_for::SearchFor;
 use crate::setting::Setting;
-use crate::sought::Sought;
 pub use cache::Turns;
 use std::alloc::Global;
 use std::marker::Model;
@@ -56,7 +56,7 @@ impl LiveTree {
     ghost use Rattle.tq_live.specs.LiveOf.{IsAt, changed_live};
     ghost use Rattle.tq_live.specs.Kept.{costs_after};
     ghost use Rattle.tq_live.specs.Costs.{AreCosts, AreLow, no_costs};
-    ghost use Rattle.tq_live.specs.Sought.{found};
+    ghost use Rattle.tq_live.specs.SearchFor.{found};
     ghost use Rattle.tq_live.specs.Choice.{IsChoice, IsFirstChoice};
     ghost use Rattle.tq_live.specs.BestOf.{IsBestOf, IsFirstOf};
 
@@ -185,7 +185,7 @@ impl LiveTree {
 
     /// Puts the servers of what is looked for in the server's subtree, where it is there, into a set of none. It takes no
     /// memory.
-    fn gather_into(&self, sought: Sought, server: ServerId, set: &mut ServerSet)
+    fn gather_into(&self, sought: SearchFor, server: ServerId, set: &mut ServerSet)
         requires tree { server.levels ≡ self.now.levels }
         requires empty { set.old ≡ record { levels = self.now.levels; numbers = [] } }
         requires there { IsSome (found self.now sought server.number) }
@@ -200,7 +200,7 @@ impl LiveTree {
     fn gathered_list(
         &self,
         alloc: Global,
-        sought: Sought,
+        sought: SearchFor,
         server: ServerId,
     ) -> Result<ServerIds, Memory>
         requires tree { server.levels ≡ self.now.levels }
@@ -230,7 +230,7 @@ impl LiveTree {
             Some(cost) => {
                 let mut least = Least::new(alloc, self.levels)?;
                 least.cost = cost;
-                self.gather_into(Sought::Quorum(purpose), server, &mut least.servers);
+                self.gather_into(SearchFor::Quorum(purpose), server, &mut least.servers);
                 Ok(Some(least))
             }
             None => Ok(None),
@@ -254,7 +254,7 @@ impl LiveTree {
             Some(cost) => {
                 row.cost = cost;
                 row.servers.clear();
-                self.gather_into(Sought::Quorum(purpose), server, &mut row.servers);
+                self.gather_into(SearchFor::Quorum(purpose), server, &mut row.servers);
                 true
             }
             None => false,
@@ -286,12 +286,12 @@ impl LiveTree {
         match self.best_cost(purpose, root) {
             Some(cost) => {
                 let mut servers = ServerSet::new(alloc, levels)?;
-                self.gather_into(Sought::Quorum(purpose), root, &mut servers);
+                self.gather_into(SearchFor::Quorum(purpose), root, &mut servers);
                 let quorum = quorum_of(alloc, &servers, kept)?;
                 Ok(Choice::Quorum { quorum, cost })
             }
             None => {
-                let servers = self.gathered_list(alloc, Sought::Blocker, root)?;
+                let servers = self.gathered_list(alloc, SearchFor::Blocker, root)?;
                 let blocker = Blocker::new(alloc, levels, servers)?;
                 Ok(Choice::Blocked(blocker))
             }

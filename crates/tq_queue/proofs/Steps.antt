@@ -4,25 +4,25 @@ use mathlib.Core.Option.{some, some-ne-none, some_inj}
 use lib.ListN.{get_elem?}
 use Rattle.crossbeam_channel.specs.Fifo.{Pushes, Pops, Forks, Merges, Learns}
 use Rattle.atomic_table.proofs.Lists.{at_set, at_snoc}
-use Rattle.tq_queue.specs.declared.hand.Hand.{Hand}
+use Rattle.tq_queue.specs.declared.pass_knowledge.PassKnowledge.{PassKnowledge}
 use Rattle.tq_queue.specs.Rule.{hand, weigh, weigh_from, total, IsInOrder, IsPrefixTaken}
 use Rattle.tq_queue.proofs.Totals.{weigh-append, weigh_from-snoc, total_set, total_snoc, total_alone}
 
 module _ {M : Type 0} where
-  abbrev All : (ℕ → Hand M → Type 0) → List (Hand M) → Type 0
-  All F views = (pass : ℕ) (v : Hand M) → get_elem? views pass ≡ some v → F pass v
+  abbrev All : (ℕ → PassKnowledge M → Type 0) → List (PassKnowledge M) → Type 0
+  All F views = (pass : ℕ) (v : PassKnowledge M) → get_elem? views pass ≡ some v → F pass v
 
   -- a fact of each pass, after a change of one
-  all_set : (F : ℕ → Hand M → Type 0) (views : List (Hand M)) (pass : ℕ) (w : Hand M) → F pass w → ((j : ℕ) (u : Hand M) → j ≢ pass → get_elem? views j ≡ some u → F j u) → All F (set views pass w)
+  all_set : (F : ℕ → PassKnowledge M → Type 0) (views : List (PassKnowledge M)) (pass : ℕ) (w : PassKnowledge M) → F pass w → ((j : ℕ) (u : PassKnowledge M) → j ≢ pass → get_elem? views j ≡ some u → F j u) → All F (set views pass w)
   all_set F views pass w mine others j u e =
-      ⊎_elim (λ (x : (j ≡ pass) × (w ≡ u)). subst (λ (y : ℕ × Hand M). F y.0 y.1) (λ i. (sym x.0 i, x.1 i)) mine)
+      ⊎_elim (λ (x : (j ≡ pass) × (w ≡ u)). subst (λ (y : ℕ × PassKnowledge M). F y.0 y.1) (λ i. (sym x.0 i, x.1 i)) mine)
       (λ (x : (j ≢ pass) × (get_elem? views j ≡ some u)). others j u x.0 x.1) (at_set views pass j w u e)
 
-  all_one : (F : ℕ → Hand M → Type 0) (v : Hand M) → F 0 v → All F (v ∷ [])
+  all_one : (F : ℕ → PassKnowledge M → Type 0) (v : PassKnowledge M) → F 0 v → All F (v ∷ [])
   all_one F v f zero u at = subst (F 0) (some_inj.0 at) f
   all_one F v f (suc j) u at = absurd (some-ne-none u (sym at))
 
-  all_snoc : (F : ℕ → Hand M → Type 0) (vs : List (Hand M)) (r : Hand M) → All F vs → ((j : ℕ) → F j r) → All F (vs ++ r ∷ [])
+  all_snoc : (F : ℕ → PassKnowledge M → Type 0) (vs : List (PassKnowledge M)) (r : PassKnowledge M) → All F vs → ((j : ℕ) → F j r) → All F (vs ++ r ∷ [])
   all_snoc F vs r old new j u e = ⊎_elim (λ x. old j u x) (λ (is : r ≡ u). subst (F j) is (new j)) (at_snoc vs r u j e)
 
   -- nothing was put
@@ -37,9 +37,9 @@ module _ {M : Type 0} where
   }
 
   -- the pass that puts puts a message
-  pub puts : (n pass : ℕ) (v : Hand M) (x : M) → v.puts ≡ true → Pushes IsInOrder n pass v x (λ w. w ≡ hand v.parts v.puts (v.put ++ x ∷ []) v.taken)
+  pub puts : (n pass : ℕ) (v : PassKnowledge M) (x : M) → v.puts ≡ true → Pushes IsInOrder n pass v x (λ w. w ≡ hand v.parts v.puts (v.put ++ x ∷ []) v.taken)
   puts n pass v x may items views room rule at =
-      let w : Hand M = hand v.parts v.puts (v.put ++ x ∷ []) v.taken in
+      let w : PassKnowledge M = hand v.parts v.puts (v.put ++ x ∷ []) v.taken in
       let mine = rule.one_puts pass v at may in (
         w,
         record {
@@ -48,19 +48,19 @@ module _ {M : Type 0} where
           one_puts = all_set (λ j u. u.puts ≡ true → (j ≡ rule.seat) × (u.put ≡ rule.taken ++ (items ++ x ∷ []))) views pass w
               (λ _. (mine.0, ap (λ l. l ++ x ∷ []) mine.1 ∙ append_assoc rule.taken items (x ∷ [])))
               (λ j u other e is. absurd (other ((rule.one_puts j u e is).0 ∙ sym mine.0)));
-          each_once = λ h. let s = total_set (λ (u : Hand M). weigh h u.taken) views pass v w at in let t = rule.each_once h in omega arith;
-          parts = let s = total_set (λ (u : Hand M). u.parts) views pass v w at in let t = rule.parts in omega arith;
+          each_once = λ h. let s = total_set (λ (u : PassKnowledge M). weigh h u.taken) views pass v w at in let t = rule.each_once h in omega arith;
+          parts = let s = total_set (λ (u : PassKnowledge M). u.parts) views pass v w at in let t = rule.parts in omega arith;
           idle = all_set (λ j u. u.parts ≡ 0 → u.taken ≡ []) views pass w (rule.idle pass v at) (λ j u _ e. rule.idle j u e);
         },
         refl,
       )
 
   -- a pass takes the first message of the queue
-  pub takes : (pass : ℕ) (v : Hand M) → 0 < v.parts → Pops IsInOrder pass v (λ x w. (place : ℕ) × (w ≡ hand v.parts v.puts v.put (v.taken ++ (place, x) ∷ [])))
+  pub takes : (pass : ℕ) (v : PassKnowledge M) → 0 < v.parts → Pops IsInOrder pass v (λ x w. (place : ℕ) × (w ≡ hand v.parts v.puts v.put (v.taken ++ (place, x) ∷ [])))
   takes pass v some_part x items views rule at =
       let place = length rule.taken in
       let taken = rule.taken ++ x ∷ [] in
-      let w : Hand M = hand v.parts v.puts v.put (v.taken ++ (place, x) ∷ []) in
+      let w : PassKnowledge M = hand v.parts v.puts v.put (v.taken ++ (place, x) ∷ []) in
       let same : rule.taken ++ (x ∷ items) ≡ taken ++ items = sym (append_assoc rule.taken (x ∷ []) items) in
       let old : All (λ j u. u.puts ≡ true → (j ≡ rule.seat) × (u.put ≡ taken ++ items)) views = λ j u e is. ((rule.one_puts j u e is).0, (rule.one_puts j u e is).1 ∙ same) in (
         w,
@@ -69,22 +69,22 @@ module _ {M : Type 0} where
           taken = taken;
           one_puts = all_set (λ j u. u.puts ≡ true → (j ≡ rule.seat) × (u.put ≡ taken ++ items)) views pass w (old pass v at) (λ j u _ e. old j u e);
           each_once = λ h.
-              let s = total_set (λ (u : Hand M). weigh h u.taken) views pass v w at in
+              let s = total_set (λ (u : PassKnowledge M). weigh h u.taken) views pass v w at in
               let t = rule.each_once h in
               let here : place + 0 ≡ place = omega arith in
               omega (arith, weigh-append h v.taken ((place, x) ∷ []), weigh_from-snoc h 0 rule.taken x, ap (λ k. h k x) here);
-          parts = let s = total_set (λ (u : Hand M). u.parts) views pass v w at in let t = rule.parts in omega arith;
+          parts = let s = total_set (λ (u : PassKnowledge M). u.parts) views pass v w at in let t = rule.parts in omega arith;
           idle = all_set (λ j u. u.parts ≡ 0 → u.taken ≡ []) views pass w (λ none. absurd (omega arith)) (λ j u _ e. rule.idle j u e);
         },
         (place, refl),
       )
 
   -- a pass that takes is cut off
-  pub forks : (pass : ℕ) (v : Hand M) → 1 < v.parts → Forks IsInOrder pass v (hand (v.parts - 1) v.puts v.put v.taken) (hand 1 false [] [])
+  pub forks : (pass : ℕ) (v : PassKnowledge M) → 1 < v.parts → Forks IsInOrder pass v (hand (v.parts - 1) v.puts v.put v.taken) (hand 1 false [] [])
   forks pass v two_parts items views rule at =
-      let l : Hand M = hand (v.parts - 1) v.puts v.put v.taken in
-      let r : Hand M = hand 1 false [] [] in
-      let vs : List (Hand M) = set views pass l in
+      let l : PassKnowledge M = hand (v.parts - 1) v.puts v.put v.taken in
+      let r : PassKnowledge M = hand 1 false [] [] in
+      let vs : List (PassKnowledge M) = set views pass l in
       record {
         seat = rule.seat;
         taken = rule.taken;
@@ -92,39 +92,39 @@ module _ {M : Type 0} where
             (all_set (λ j u. u.puts ≡ true → (j ≡ rule.seat) × (u.put ≡ rule.taken ++ items)) views pass l (rule.one_puts pass v at) (λ j u _ e. rule.one_puts j u e))
             (λ j is. absurd (true≢false (sym is)));
         each_once = λ h.
-            let s = total_set (λ (u : Hand M). weigh h u.taken) views pass v l at in
+            let s = total_set (λ (u : PassKnowledge M). weigh h u.taken) views pass v l at in
             let t = rule.each_once h in
-            omega (arith, total_snoc (λ (u : Hand M). weigh h u.taken) vs r);
+            omega (arith, total_snoc (λ (u : PassKnowledge M). weigh h u.taken) vs r);
         parts =
-            let s = total_set (λ (u : Hand M). u.parts) views pass v l at in
+            let s = total_set (λ (u : PassKnowledge M). u.parts) views pass v l at in
             let t = rule.parts in
-            omega (arith, total_snoc (λ (u : Hand M). u.parts) vs r);
+            omega (arith, total_snoc (λ (u : PassKnowledge M). u.parts) vs r);
         idle = all_snoc (λ j u. u.parts ≡ 0 → u.taken ≡ []) vs r
             (all_set (λ j u. u.parts ≡ 0 → u.taken ≡ []) views pass l (λ none. absurd (omega arith)) (λ j u _ e. rule.idle j u e))
             (λ j none. refl);
       }
 
   -- a pass takes in what another took
-  pub merges : (pass : ℕ) (v : Hand M) (other : ℕ) (u : Hand M) → 0 < v.parts → u.puts ≡ false → Merges IsInOrder pass v other u (hand (v.parts + u.parts) v.puts v.put (v.taken ++ u.taken)) (hand 0 false [] [])
+  pub merges : (pass : ℕ) (v : PassKnowledge M) (other : ℕ) (u : PassKnowledge M) → 0 < v.parts → u.puts ≡ false → Merges IsInOrder pass v other u (hand (v.parts + u.parts) v.puts v.put (v.taken ++ u.taken)) (hand 0 false [] [])
   merges pass v other u some_part takes_only items views rule at two at' =
-      let both : Hand M = hand (v.parts + u.parts) v.puts v.put (v.taken ++ u.taken) in
-      let none : Hand M = hand 0 false [] [] in
-      let vs : List (Hand M) = set views pass both in
-      let P : ℕ → Hand M → Type 0 = λ j y. y.puts ≡ true → (j ≡ rule.seat) × (y.put ≡ rule.taken ++ items) in
-      let Q : ℕ → Hand M → Type 0 = λ j y. y.parts ≡ 0 → y.taken ≡ [] in
+      let both : PassKnowledge M = hand (v.parts + u.parts) v.puts v.put (v.taken ++ u.taken) in
+      let none : PassKnowledge M = hand 0 false [] [] in
+      let vs : List (PassKnowledge M) = set views pass both in
+      let P : ℕ → PassKnowledge M → Type 0 = λ j y. y.puts ≡ true → (j ≡ rule.seat) × (y.put ≡ rule.taken ++ items) in
+      let Q : ℕ → PassKnowledge M → Type 0 = λ j y. y.parts ≡ 0 → y.taken ≡ [] in
       record {
         seat = rule.seat;
         taken = rule.taken;
         one_puts = all_set P vs other none (λ is. absurd (true≢false (sym is)))
             (λ j y _ e. all_set P views pass both (rule.one_puts pass v at) (λ j' y' _ e'. rule.one_puts j' y' e') j y e);
         each_once = λ h.
-            let s = total_set (λ (y : Hand M). weigh h y.taken) views pass v both at in
-            let s' = total_set (λ (y : Hand M). weigh h y.taken) vs other u none at' in
+            let s = total_set (λ (y : PassKnowledge M). weigh h y.taken) views pass v both at in
+            let s' = total_set (λ (y : PassKnowledge M). weigh h y.taken) vs other u none at' in
             let t = rule.each_once h in
             omega (arith, weigh-append h v.taken u.taken);
         parts =
-            let s = total_set (λ (y : Hand M). y.parts) views pass v both at in
-            let s' = total_set (λ (y : Hand M). y.parts) vs other u none at' in
+            let s = total_set (λ (y : PassKnowledge M). y.parts) views pass v both at in
+            let s' = total_set (λ (y : PassKnowledge M). y.parts) vs other u none at' in
             let t = rule.parts in
             omega arith;
         idle = all_set Q vs other none (λ _. refl)
@@ -132,11 +132,11 @@ module _ {M : Type 0} where
       }
 
   -- the pass with all parts that puts learns the whole
-  pub learns : (pass : ℕ) (v : Hand M) → v.parts ≡ 1024 → v.puts ≡ true → Learns IsInOrder pass v (λ items. IsPrefixTaken v.put v.taken items)
+  pub learns : (pass : ℕ) (v : PassKnowledge M) → v.parts ≡ 1024 → v.puts ≡ true → Learns IsInOrder pass v (λ items. IsPrefixTaken v.put v.taken items)
   learns pass v all may items views rule at = (
     rule.taken,
     (rule.one_puts pass v at may).1,
     λ h.
-        let alone = total_alone (λ (u : Hand M). weigh h u.taken) views pass v at (rule.parts ∙ sym all) (λ j u e none. ap (weigh h) (rule.idle j u e none)) (omega arith) in
+        let alone = total_alone (λ (u : PassKnowledge M). weigh h u.taken) views pass v at (rule.parts ∙ sym all) (λ j u e none. ap (weigh h) (rule.idle j u e none)) (omega arith) in
         sym alone ∙ rule.each_once h,
   )

@@ -5,7 +5,7 @@ ghost use Rattle.crossbeam_channel.specs.Ends.{sends_on, receives_on};
 ghost use Rattle.tq_queue.specs.Rule.{hand, HasPrefixTaken, IsCutOff, KeepsMessages, KeepsPartsAndTaken};
 ghost use Rattle.tq_queue.specs.Rule.{PutsMore, TakesMore};
 
-use crate::hand::{Hand, InOrder};
+use crate::pass_knowledge::{InOrder, PassKnowledge};
 use crate::queue::{Receiver, Sender, Token, open, put, rejoin, settle, take, taker};
 use std::alloc::{AllocError, Global};
 use std::sync::Wait;

@@ -4,16 +4,16 @@ ghost use Rattle.crossbeam_channel.specs.Claims.{view, IsSeatAt};
 ghost use Rattle.crossbeam_channel.specs.Ends.{sends_on, receives_on};
 ghost use Rattle.tq_queue.specs.Rule.{cut_off, hand, rejoined, with_put, HasPrefixTaken, HasTaken};
 
-use crate::hand::{Cut, Hand, InOrder, Puts, Takes, Whole};
+use crate::pass_knowledge::{Cut, InOrder, PassKnowledge, Puts, Takes, Whole};
 use crossbeam_channel::{Pass, RuledReceiver, RuledSender, bounded_with};
 use std::alloc::{AllocError, Global};
 use std::sync::Wait;
 
-pub type Sender<M> = RuledSender<M, Hand<M>, InOrder>;
+pub type Sender<M> = RuledSender<M, PassKnowledge<M>, InOrder>;
 
-pub type Receiver<M> = RuledReceiver<M, Hand<M>, InOrder>;
+pub type Receiver<M> = RuledReceiver<M, PassKnowledge<M>, InOrder>;
 
-pub type Token<M> = Pass<M, Hand<M>>;
+pub type Token<M> = Pass<M, PassKnowledge<M>>;
 
 /// A queue with room for that many messages, and the pass that puts. Answers an error only where memory is refused.
 pub(crate) fn open<M: Drop>(
@@ -25,7 +25,7 @@ pub(crate) fn open<M: Drop>(
     ensures at { IfOk result (λ r. IsSeatAt (sends_on r.0) r.2) }
     ensures whole { IfOk result (λ r. view r.2 ≡ hand 1024 true [] []) }
 {
-    bounded_with::<M, Hand<M>, InOrder, Global>(alloc, room)
+    bounded_with::<M, PassKnowledge<M>, InOrder, Global>(alloc, room)
 }
 
 /// Puts a message, and waits for room. False where no one is left who takes: then nothing was put.

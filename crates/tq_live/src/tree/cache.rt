@@ -10,7 +10,7 @@ ghost use Rattle.tq_live.specs.Costs.{AreLow};
 use crate::costs::Costs;
 use crate::node::{Below, Sides};
 use crate::purpose::Purpose;
-use crate::sought::Sought;
+use crate::search_for::SearchFor;
 use crate::weight::{Form, Weight};
 use std::alloc::Global;
 use std::marker::Model;
@@ -136,15 +136,15 @@ impl Cache {
     }
 
     /// The form of the first least member.
-    pub(crate) fn form(&self, sought: Sought) -> Form
+    pub(crate) fn form(&self, sought: SearchFor) -> Form
         ensures { result ≡ form_kept sought self.now }
     {
         match sought {
-            Sought::Quorum(purpose) => match purpose {
+            SearchFor::Quorum(purpose) => match purpose {
                 Purpose::Read => self.read_form,
                 Purpose::Write => self.write_form,
             },
-            Sought::Blocker => self.blocker,
+            SearchFor::Blocker => self.blocker,
         }
     }
 }

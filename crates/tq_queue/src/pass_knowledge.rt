@@ -3,7 +3,7 @@ use std::collections::LinkedList;
 
 /// What a pass knows: its parts of the right to know the whole, what it put, if it is the one that puts, and what it
 /// took, each with its place among all that was put. No value of it is made.
-pub struct Hand<M> {
+pub struct PassKnowledge<M> {
     pub parts: u64,
     pub puts: bool,
     pub put: LinkedList<M>,
@@ -13,7 +13,7 @@ pub struct Hand<M> {
 /// What was put is what was taken, in order and each once, and then what the queue holds.
 pub struct InOrder;
 
-impl<M> Protocol<M, Hand<M>> for InOrder {
+impl<M> Protocol<M, PassKnowledge<M>> for InOrder {
     ghost use Rattle.std.specs.Prelude.{true, []};
     ghost use Rattle.tq_queue.specs.Rule.{hand, IsInOrder};
 
@@ -25,7 +25,7 @@ impl<M> Protocol<M, Hand<M>> for InOrder {
 /// A pass that takes is cut off.
 pub struct Cut;
 
-impl<M> Split<Hand<M>> for Cut {
+impl<M> Split<PassKnowledge<M>> for Cut {
     ghost use Rattle.std.specs.Prelude.{false, [], ◌-◌};
     ghost use Rattle.tq_queue.specs.Rule.{hand};
 
@@ -34,7 +34,7 @@ impl<M> Split<Hand<M>> for Cut {
     ghost right = { λ v. hand 1 false [] [] };
 }
 
-impl<M> Join<Hand<M>> for Cut {
+impl<M> Join<PassKnowledge<M>> for Cut {
     ghost use Rattle.std.specs.Prelude.{false, [], ◌+◌, ◌++◌};
     ghost use Rattle.tq_queue.specs.Rule.{hand};
 
@@ -46,35 +46,35 @@ impl<M> Join<Hand<M>> for Cut {
 /// A message was put.
 pub struct Puts;
 
-impl<M> Outcome<M, Hand<M>> for Puts {
+impl<M> Outcome<M, PassKnowledge<M>> for Puts {
     ghost use Rattle.std.specs.Prelude.{◌≡◌, [], ◌∷◌, ◌++◌};
     ghost use Rattle.tq_queue.specs.Rule.{hand};
 
     ghost then = { λ v x w. w ≡ hand v.parts v.puts (v.put ++ x ∷ []) v.taken };
 }
 
-impl<M> Lesson<M, Hand<M>> for Puts {
+impl<M> Lesson<M, PassKnowledge<M>> for Puts {
     ghost fact = { λ v items. Unit {0} };
 }
 
 /// A message was taken.
 pub struct Takes;
 
-impl<M> Outcome<M, Hand<M>> for Takes {
+impl<M> Outcome<M, PassKnowledge<M>> for Takes {
     ghost use Rattle.std.specs.Prelude.{◌≡◌, ℕ, [], ◌∷◌, ◌++◌};
     ghost use Rattle.tq_queue.specs.Rule.{hand};
 
     ghost then = { λ v x w. (place : ℕ) × (w ≡ hand v.parts v.puts v.put (v.taken ++ (place, x) ∷ [])) };
 }
 
-impl<M> Lesson<M, Hand<M>> for Takes {
+impl<M> Lesson<M, PassKnowledge<M>> for Takes {
     ghost fact = { λ v items. Unit {0} };
 }
 
 /// What one pass that has all parts learns.
 pub struct Whole;
 
-impl<M> Lesson<M, Hand<M>> for Whole {
+impl<M> Lesson<M, PassKnowledge<M>> for Whole {
     ghost use Rattle.tq_queue.specs.Rule.{IsPrefixTaken};
 
     ghost fact = { λ v items. IsPrefixTaken v.put v.taken items };
