@@ -2,10 +2,10 @@
 use Rattle.std.proofs.Common.{◌≡◌, ◌==◌, ◌∙◌, ◌⊎◌, inl, inr, ℕ, Bool, true, false, cond, codes, Option, Some, None, refl, sym, ap, arith}
 use Rattle.std.proofs.lemmas.Bool.{eqb-true}
 use Rattle.serde_json.specs.Data.{Data}
-use Rattle.tq_members.specs.declared.format.Format.{Format}
-use Rattle.tq_members.specs.declared.format.Format.TheVariants.{One, Two}
-use Rattle.tq_members.specs.Format.{format_of, format_number}
-use Rattle.tq_members.specs.Member.{◌>>=◌, number_at}
+use Rattle.tq_json.specs.declared.format.Format.{Format}
+use Rattle.tq_json.specs.declared.format.Format.TheVariants.{One, Two}
+use Rattle.tq_json.specs.Format.{format_of, format_number}
+use Rattle.tq_json.specs.Member.{◌>>=◌, number_at}
 use Rattle.tq_tables.specs.Journals.{JournalsView}
 use Rattle.tq_json_read.specs.Frame.{IsInFormat, journals_in, journals_by, journals_of}
 use Rattle.tq_json_read.specs.Formats.{AreBothRead}

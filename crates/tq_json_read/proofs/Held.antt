@@ -15,8 +15,8 @@ use Rattle.tq_live.specs.declared.view.ViewRefusal.TheVariants.{Blocked}
 use Rattle.tq_node.specs.NodeJournal.{NodeEntry}
 use Rattle.tq_desk.specs.DeskJournal.{DeskEntry}
 use Rattle.tq_tables.specs.Journals.{ViewEntry, IsOfTree, AreJournals}
-use Rattle.tq_members.specs.declared.format.Format.{Format}
-use Rattle.tq_members.specs.Member.{◌>>=◌, text_at, number_at, items_at, each}
+use Rattle.tq_json.specs.declared.format.Format.{Format}
+use Rattle.tq_json.specs.Member.{◌>>=◌, text_at, number_at, items_at, each}
 use Rattle.tq_json_read.specs.Views as views
 use Rattle.tq_json_read.specs.Entries.{count, few, within, journal, node_entry, desk_entry, view_entry}
 use Rattle.tq_json_read.specs.Frame as frame

@@ -3,7 +3,7 @@ use Rattle.std.proofs.Common.{◌≡◌, ◌+◌, ◌^◌, ◌==◌, ℕ, nat_lt
 use Rattle.std.proofs.lemmas.Bool.{lt-leb, le-leb, ltb-false, ltb-true, eqb-true, eq-eqb, false≢true}
 use Rattle.serde_json.specs.Data.{Data, Items}
 use Rattle.serde_json.specs.Find.{as_array}
-use Rattle.tq_members.specs.Member.{◌>>=◌, each}
+use Rattle.tq_json.specs.Member.{◌>>=◌, each}
 use Rattle.tq_json_read.specs.Objects.{capped, listed}
 use Rattle.tq_json_read.specs.Entries.{count, few, journal}
 use Rattle.tq_json_read.specs.Frame.{one_each}

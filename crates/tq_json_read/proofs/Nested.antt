@@ -3,9 +3,9 @@ use Rattle.std.proofs.Common.{◌≡◌, ℕ, List, codes, Option, Some, None, r
 use Rattle.serde_json.specs.Data.{Data}
 use Rattle.tq_asks.specs.declared.ask.WorkAsk.{WorkAsk}
 use Rattle.tq_asks.specs.declared.ask.NodeAsk.TheVariants.{CrashIn}
-use Rattle.tq_members.specs.declared.format.Format.{Format}
-use Rattle.tq_members.specs.declared.format.Format.TheVariants.{One, Two}
-use Rattle.tq_members.specs.Member.{◌>>=◌, text_at, number_at, flag_at}
+use Rattle.tq_json.specs.declared.format.Format.{Format}
+use Rattle.tq_json.specs.declared.format.Format.TheVariants.{One, Two}
+use Rattle.tq_json.specs.Member.{◌>>=◌, text_at, number_at, flag_at}
 use Rattle.tq_json_read.specs.Slots as slots
 use Rattle.tq_json_read.specs.Views as views
 

@@ -1,15 +1,15 @@
 -- Slots of an object: what changes in them where a member is taken.
 use Rattle.std.proofs.Common.{◌≡◌, ◌-◌, ◌<◌, ◌≤◌, ℕ, zero, suc, Bool, true, false, ◌||◌, ◌+◌, cond, List, [], ◌∷◌, length, get_or, drop, Option, Some, None, refl, sym, ap, ◌∙◌, arith}
-use Rattle.std.specs.Prelude.{IfOk, Result, Ok, Err}
+use Rattle.std.specs.Prelude.{◌&&◌, nat_le, IfOk, MatchOption, Result, Ok, Err}
 use Rattle.std.specs.Borrow.{Bor}
 use Rattle.std.specs.Str.{bytes_eq}
-use Rattle.std.proofs.lemmas.Bool.{and_parts, or_parts, not-true, false_from_ne_true, false≢true}
-use Rattle.std.proofs.lemmas.List.{drop_more}
+use Rattle.std.proofs.lemmas.Bool.{and_parts, or_parts, not-true, false_from_ne_true, false≢true, le-leb}
+use Rattle.std.proofs.lemmas.List.{drop_more, drop_all}
 use Rattle.std.proofs.lemmas.Slice.Eq.{bytes_eq-Decides}
 use Rattle.json.specs.Token.{Token}
 use Rattle.serde_json.specs.Data.{Data}
-use Rattle.tq_value.specs.Next.{Found}
-use Rattle.tq_json_read.specs.Objects.{Names, with, Slots, slots_at, filled, texts, is_among, are_distinct}
+use Rattle.tq_json.specs.Next.{Found}
+use Rattle.tq_json_read.specs.Objects.{Names, with, Slots, slots_at, filled, texts, IsNameAt, is_among, are_distinct}
 
 -- the same value by another word for it
 pub found_as : {X D F : Type 0} (r : Result X F) (P Q : D → X → Type 0) (first : Option (D × List Token)) (rest : List Token) → ((d : D) (x : X) → P d x → Q d x) → IfOk r (Found P first rest) → IfOk r (Found Q first rest)
@@ -90,3 +90,26 @@ passed name names place other b h is e =
     let within : place < length keys = omega (arith, h, length-texts names) in
     let unlike_it : bytes_eq name (get_or keys place []) ≡ false = ap (bytes_eq name) (text_in names place other h) ∙ sym is ∙ e in
     sym (ap (is_among name) (drop_more keys place [] within) ∙ ap (λ c. c || is_among name (drop (place + 1) keys)) unlike_it)
+
+pub none_behind : (name : List ℕ) (names : List (Bor (List ℕ))) (slot : ℕ) → length names ≤ slot → is_among name (drop slot (texts names)) ≡ false
+none_behind name names slot h = ap (is_among name) (drop_all slot (texts names) (omega (arith, h, length-texts names)))
+
+-- what is asked of a slot, where the answer is yes
+pub wanted_at : (first slot : ℕ) (same b : Bool) → b ≡ (nat_le first slot && same) → b ≡ true → same ≡ true
+wanted_at first slot same b is e = (and_parts _ _ (sym is ∙ e)).1
+
+not_wanted : (first slot : ℕ) (same b : Bool) → b ≡ (nat_le first slot && same) → b ≡ false → first ≤ slot → same ≡ false
+not_wanted first slot same b is e h = sym (is ∙ ap (λ x. x && same) (le-leb first slot h)) ∙ e
+
+from_none : {P Q : Type 0} {R : ℕ → Type 0} (r : Option ℕ) → (P → Q) → MatchOption r P R → MatchOption r Q R
+from_none None f h = f h
+from_none (Some place) f h = h
+
+-- where the name is not in that slot, what the slots behind it have decides
+pub still_none : (name : List ℕ) (names : List (Bor (List ℕ))) (slot first : ℕ) (other : Bor (List ℕ)) (b : Bool) (r : Option ℕ) → slot < length names
+    → b ≡ (nat_le first slot && bytes_eq name (get_or names slot other).now) → b ≡ false
+    → MatchOption r (first ≤ slot + 1 → is_among name (drop (slot + 1) (texts names)) ≡ false) (IsNameAt name (texts names))
+    → MatchOption r (first ≤ slot → is_among name (drop slot (texts names)) ≡ false) (IsNameAt name (texts names))
+still_none name names slot first other b r within is e behind =
+    from_none r (λ none start.
+    sym (passed name names slot other _ within refl (not_wanted first slot _ b is e start)) ∙ none (omega (arith, start))) behind

@@ -10,9 +10,9 @@ use Rattle.serde_json.specs.Find.{get_member, as_array}
 use Rattle.serde_json.proofs.Views.{get_member-put, get_member-put_other}
 use Rattle.std.specs.Str.{bytes_eq}
 use Rattle.std.proofs.lemmas.Slice.Eq.{bytes_eq-Decides}
-use Rattle.tq_value.specs.Next.{HasNoNames}
-use Rattle.tq_members.specs.Member.{◌>>=◌, each}
-use Rattle.tq_members.proofs.Listed.{with_front, no_front}
+use Rattle.tq_json.specs.Next.{HasNoNames}
+use Rattle.tq_json.specs.Member.{◌>>=◌, each}
+use Rattle.tq_json.proofs.Listed.{with_front, no_front}
 use Rattle.tq_json_read.specs.Objects.{names_of, with, capped, listed}
 
 -- ---- items

@@ -7,10 +7,10 @@ use Rattle.tq_evidence.specs.declared.op.Op.{Op}
 use Rattle.tq_evidence.specs.declared.op.OpKind.{OpKind}
 use Rattle.tq_evidence.specs.declared.op.OpKind.TheVariants.{Read, Write}
 use Rattle.tq_evidence.specs.declared.vote.Vote.{Vote}
-use Rattle.tq_members.specs.declared.format.Format.{Format}
-use Rattle.tq_members.specs.Content.{file_at, content_at}
+use Rattle.tq_json.specs.declared.format.Format.{Format}
+use Rattle.tq_json.specs.Content.{file_at, content_at}
 use Rattle.tq_json_read.specs.Locking.{mode_at, held_at, writes_at}
-use Rattle.tq_members.specs.Member.{◌>>=◌, text_at, number_at, items_at, each}
+use Rattle.tq_json.specs.Member.{◌>>=◌, text_at, number_at, items_at, each}
 
 abbrev pub grant : Format → Data → Option Grant
 grant format value = do

@@ -9,10 +9,10 @@ use Rattle.tq_desk.specs.declared.ask.DeskRefusal.{DeskRefusal}
 use Rattle.tq_desk.specs.declared.ask.DeskRefusal.TheVariants.{NoSuchTxn, Decided, TooManyOps, BadEvidence, TooManyFiles}
 use Rattle.tq_desk.specs.declared.ask.DeskReply.{DeskReply}
 use Rattle.tq_desk.specs.declared.ask.DeskReply.TheVariants.{Txn, Verdict, Committed, Refused}
-use Rattle.tq_members.specs.declared.format.Format.{Format}
+use Rattle.tq_json.specs.declared.format.Format.{Format}
 use Rattle.tq_json_read.specs.Locking.{verdict_at}
 use Rattle.tq_json_read.specs.Commits.{ops_at, votes_at}
-use Rattle.tq_members.specs.Member.{◌>>=◌, text_at, number_at}
+use Rattle.tq_json.specs.Member.{◌>>=◌, text_at, number_at}
 
 -- ---- asks
 

@@ -6,12 +6,12 @@ use Rattle.tq_shape.specs.declared.entry.Entry.{Entry}
 use Rattle.tq_node.specs.NodeJournal.{NodeEntry}
 use Rattle.tq_desk.specs.DeskJournal.{DeskEntry}
 use Rattle.tq_tables.specs.Journals.{ViewEntry}
-use Rattle.tq_members.specs.declared.format.Format.{Format}
+use Rattle.tq_json.specs.declared.format.Format.{Format}
 use Rattle.tq_json_read.specs.NodeAsks.{node_ask}
 use Rattle.tq_json_read.specs.NodeReplies.{node_reply}
 use Rattle.tq_json_read.specs.Desks.{desk_ask, desk_reply}
 use Rattle.tq_json_read.specs.Views.{view_ask, view_reply}
-use Rattle.tq_members.specs.Member.{◌>>=◌, each}
+use Rattle.tq_json.specs.Member.{◌>>=◌, each}
 
 -- an ask of one form with a reply of another
 abbrev pub entry : {A R : Type 0} → (Data → Option A) → (Data → Option R) → Data → Option (Entry A R)

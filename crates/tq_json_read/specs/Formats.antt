@@ -1,8 +1,8 @@
 -- The form of journal files is that of either format, and no value is of both.
 use Rattle.std.specs.Prelude.{◌≡◌, ◌↔◌, ◌⊎◌, Some}
 use Rattle.serde_json.specs.Data.{Data}
-use Rattle.tq_members.specs.declared.format.Format.{Format}
-use Rattle.tq_members.specs.declared.format.Format.TheVariants.{One, Two}
+use Rattle.tq_json.specs.declared.format.Format.{Format}
+use Rattle.tq_json.specs.declared.format.Format.TheVariants.{One, Two}
 use Rattle.tq_tables.specs.Journals.{JournalsView}
 use Rattle.tq_json_read.specs.Frame.{IsInFormat, journals_of}
 

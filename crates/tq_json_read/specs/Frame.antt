@@ -6,9 +6,9 @@ use Rattle.tq_shape.specs.Limits.{LimitsView}
 use Rattle.tq_node.specs.NodeJournal.{NodeEntry}
 use Rattle.tq_desk.specs.DeskJournal.{DeskEntry}
 use Rattle.tq_tables.specs.Journals.{JournalsView, ViewEntry}
-use Rattle.tq_members.specs.declared.format.Format.{Format}
-use Rattle.tq_members.specs.Format.{format_of, format_number, most_levels}
-use Rattle.tq_members.specs.Member.{◌>>=◌, number_at, items_at, each}
+use Rattle.tq_json.specs.declared.format.Format.{Format}
+use Rattle.tq_json.specs.Format.{format_of, format_number, most_levels}
+use Rattle.tq_json.specs.Member.{◌>>=◌, number_at, items_at, each}
 use Rattle.tq_json_read.specs.Entries.{journal, count, node_entry, desk_entry, view_entry}
 
 -- a number from 1 up to the most

@@ -8,10 +8,10 @@ use Rattle.tq_asks.specs.declared.ask.NodeAsk.{NodeAsk}
 use Rattle.tq_asks.specs.declared.ask.NodeAsk.TheVariants.{Work, Crash, Return, CrashIn}
 use Rattle.tq_asks.specs.declared.ask.WorkAsk.{WorkAsk}
 use Rattle.tq_asks.specs.declared.ask.WorkAsk.TheVariants.{Lock, Prepare, Decide, Release, Peek, Refresh}
-use Rattle.tq_members.specs.declared.format.Format.{Format}
-use Rattle.tq_members.specs.Content.{file_at, content_at}
+use Rattle.tq_json.specs.declared.format.Format.{Format}
+use Rattle.tq_json.specs.Content.{file_at, content_at}
 use Rattle.tq_json_read.specs.Locking.{mode_at, writes_at, verdict_at, citation}
-use Rattle.tq_members.specs.Member.{◌>>=◌, text_at, number_at}
+use Rattle.tq_json.specs.Member.{◌>>=◌, text_at, number_at}
 
 abbrev pub lock : Data → Option WorkAsk
 lock value = do

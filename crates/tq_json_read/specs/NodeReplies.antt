@@ -6,10 +6,10 @@ use Rattle.tq_asks.specs.declared.ask.NodeRefusal.{NodeRefusal}
 use Rattle.tq_asks.specs.declared.ask.NodeRefusal.TheVariants.{Down, AlreadyUp, AlreadyDown, Held, Prepared, NotLocked, BadWrites, NotNewer, NothingHere}
 use Rattle.tq_asks.specs.declared.ask.NodeReply.{NodeReply}
 use Rattle.tq_asks.specs.declared.ask.NodeReply.TheVariants.{Granted, Yes, Installed, Discarded, Released, Copy, Refreshed, Crashed, Returned, Refused}
-use Rattle.tq_members.specs.declared.format.Format.{Format}
-use Rattle.tq_members.specs.Content.{file_at, content_at}
+use Rattle.tq_json.specs.declared.format.Format.{Format}
+use Rattle.tq_json.specs.Content.{file_at, content_at}
 use Rattle.tq_json_read.specs.Locking.{held_at, writes_at}
-use Rattle.tq_members.specs.Member.{◌>>=◌, text_at, number_at}
+use Rattle.tq_json.specs.Member.{◌>>=◌, text_at, number_at}
 
 abbrev pub granted : Format → Data → Option NodeReply
 granted format value = do

@@ -5,7 +5,7 @@ use Rattle.std.specs.Option.{option_and_then}
 use Rattle.std.specs.Str.{bytes_eq}
 use Rattle.serde_json.specs.Data.{Data}
 use Rattle.serde_json.specs.Find.{get, as_str, as_array}
-use Rattle.tq_members.specs.Member.{◌>>=◌, each}
+use Rattle.tq_json.specs.Member.{◌>>=◌, each}
 
 -- what an object has at each name
 abbrev pub Names : Type 0

@@ -1,8 +1,8 @@
 -- What the entries of a file are read by.
 use Rattle.std.specs.Prelude.{codes, Option, Some}
 use Rattle.serde_json.specs.Data.{Data}
-use Rattle.tq_members.specs.Format.{format_of}
-use Rattle.tq_members.specs.Member.{◌>>=◌, number_at}
+use Rattle.tq_json.specs.Format.{format_of}
+use Rattle.tq_json.specs.Member.{◌>>=◌, number_at}
 use Rattle.tq_json_read.specs.declared.plan.Plan.{Plan}
 use Rattle.tq_json_read.specs.Frame.{levels_at, limits_at}
 

@@ -31,11 +31,11 @@ use Rattle.tq_live.specs.declared.view.ViewAsk.{ViewAsk}
 use Rattle.tq_live.specs.declared.view.ViewReply.{ViewReply}
 use Rattle.tq_live.specs.declared.view.ViewRefusal.TheVariants.{NoSuchServer, BadCost, Blocked}
 use Rattle.tq_tables.specs.Journals.{JournalsView}
-use Rattle.tq_value.specs.declared.fault.NotRead.{NotRead}
-use Rattle.tq_members.specs.declared.format.Format.{Format}
-use Rattle.tq_members.specs.declared.format.Format.TheVariants.{One, Two}
-use Rattle.tq_members.specs.Format.{format_of, most_levels}
-use Rattle.tq_members.specs.Member.{◌>>=◌, number_of, each}
+use Rattle.tq_json.specs.declared.fault.NotRead.{NotRead}
+use Rattle.tq_json.specs.declared.format.Format.{Format}
+use Rattle.tq_json.specs.declared.format.Format.TheVariants.{One, Two}
+use Rattle.tq_json.specs.Format.{format_of, most_levels}
+use Rattle.tq_json.specs.Member.{◌>>=◌, number_of, each}
 use Rattle.tq_json_read.specs.Entries.{journal, node_entry, desk_entry, view_entry}
 use Rattle.tq_json_read.specs.Frame.{limits, one_each, journals_of}
 use Rattle.tq_json_read.specs.NodeReplies.{code_refusal, bare_reply}

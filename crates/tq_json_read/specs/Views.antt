@@ -11,9 +11,9 @@ use Rattle.tq_live.specs.declared.view.ViewAsk.TheVariants.{SetCost, Mark, Choos
 use Rattle.tq_live.specs.declared.view.ViewReply.{ViewReply}
 use Rattle.tq_live.specs.declared.view.ViewReply.TheVariants.{CostSet, Marked, Chosen, Refused}
 use Rattle.tq_live.specs.declared.view.ViewRefusal.TheVariants.{NoSuchServer, BadCost, Blocked}
-use Rattle.tq_members.specs.declared.format.Format.{Format}
-use Rattle.tq_members.specs.declared.format.Format.TheVariants.{One, Two}
-use Rattle.tq_members.specs.Member.{◌>>=◌, text_at, number_at, number_of, flag_at, items_at, each}
+use Rattle.tq_json.specs.declared.format.Format.{Format}
+use Rattle.tq_json.specs.declared.format.Format.TheVariants.{One, Two}
+use Rattle.tq_json.specs.Member.{◌>>=◌, text_at, number_at, number_of, flag_at, items_at, each}
 
 -- ---- asks
 

@@ -9,10 +9,10 @@ use crate::plan::Plan;
 use std::alloc::Global;
 use tq_asks::HeldLock;
 use tq_evidence::{Grant, Op, OpKind, Vote};
+use tq_json::Reader;
 use tq_locks::Mode;
 use tq_shape::SharedSeq;
 use tq_store::{Content, FileName, Write};
-use tq_value::Reader;
 
 const GRANT_NAMES: &[&str] = &["content", "mode", "number", "server", "version"];
 

@@ -10,8 +10,8 @@ use crate::scalars::Word;
 use std::alloc::Global;
 use tq_desk::DeskAsk;
 use tq_evidence::{Op, Vote};
+use tq_json::Reader;
 use tq_shape::SharedSeq;
-use tq_value::Reader;
 
 const DESK_ASK_NAMES: &[&str] = &["is", "ops", "txn", "votes"];
 

@@ -11,7 +11,7 @@ use std::alloc::Global;
 use tq_asks::Verdict;
 use tq_desk::{DeskRefusal, DeskReply};
 use tq_evidence::Rule;
-use tq_value::Reader;
+use tq_json::Reader;
 
 const DESK_REPLY_NAMES: &[&str] = &["code", "is", "rule", "serial", "txn", "verdict"];
 

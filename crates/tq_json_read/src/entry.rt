@@ -8,8 +8,8 @@ use crate::object::take_object;
 use crate::parts::{FromReader, Taken};
 use crate::plan::Plan;
 use std::alloc::Global;
+use tq_json::Reader;
 use tq_shape::Entry;
-use tq_value::Reader;
 
 const ENTRY_NAMES: &[&str] = &["ask", "reply"];
 

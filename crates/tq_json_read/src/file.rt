@@ -2,8 +2,8 @@
 ghost use Rattle.std.specs.Prelude.{◌≡◌, ◌<◌, ◌≤◌, length, map, Some, None, Err, IfOk, OnOk, IfSome, refl};
 ghost use Rattle.std.specs.Option.{option_map, option_and_then};
 ghost use Rattle.serde_json.specs.Find.{as_array};
-ghost use Rattle.tq_value.specs.Next.{next, Found};
-ghost use Rattle.tq_members.specs.Format.{most_levels};
+ghost use Rattle.tq_json.specs.Next.{next, Found};
+ghost use Rattle.tq_json.specs.Format.{most_levels};
 ghost use Rattle.tq_json_read.specs.Entries.{journal, node_entry};
 ghost use Rattle.tq_json_read.specs.Frame as frame;
 ghost use Rattle.tq_json_read.specs.Objects.{made_by, names_of};
@@ -13,10 +13,9 @@ use crate::object::take_object;
 use crate::parts::{FromReader, Taken, take_list};
 use crate::plan::Plan;
 use std::alloc::Global;
-use tq_members::Format;
+use tq_json::{Format, NotRead, Reader};
 use tq_shape::{Levels, Limits, MOST_ENTRIES, MOST_FILES, MOST_OPS, Memory, Seq};
 use tq_tables::{DeskEntry, Journals, NodeEntry, ViewEntry};
-use tq_value::{NotRead, Reader};
 
 const LIMITS_NAMES: &[&str] = &["entries", "files", "ops"];
 

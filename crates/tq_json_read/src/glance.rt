@@ -4,9 +4,8 @@ use crate::object::take_object;
 use crate::plan::{MAX_DEPTH, Plan};
 use memchr::memmem;
 use std::alloc::Global;
-use tq_members::Format;
+use tq_json::{Format, NotRead, Reader, Scratch};
 use tq_shape::{Levels, MOST_ENTRIES};
-use tq_value::{NotRead, Reader, Scratch};
 
 /// How the member begins that says the format.
 const FORMAT: &[u8] = b"\"format\":";

@@ -9,10 +9,10 @@ use crate::plan::Plan;
 use crate::scalars::Word;
 use std::alloc::Global;
 use tq_asks::{CitedVote, HeldLock, Verdict};
+use tq_json::Reader;
 use tq_locks::Mode;
 use tq_shape::SharedSeq;
 use tq_store::{Content, FileName, Write};
-use tq_value::Reader;
 
 const HELD_LOCK_NAMES: &[&str] = &["file", "mode", "since"];
 

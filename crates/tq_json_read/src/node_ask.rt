@@ -9,10 +9,10 @@ use crate::plan::Plan;
 use crate::scalars::Word;
 use std::alloc::Global;
 use tq_asks::{CitedVote, NodeAsk, Verdict, WorkAsk};
+use tq_json::Reader;
 use tq_locks::Mode;
 use tq_shape::{Memory, Shared, SharedSeq};
 use tq_store::{Content, FileName, Write};
-use tq_value::Reader;
 
 /// What stands in work, but for its kind.
 #[derive(Drop)]
@@ -61,6 +61,25 @@ impl<'a> FromReader<'a> for WorkAsk {
             return Ok(None);
         };
         Ok(work_by(&kind, members))
+    }
+}
+
+/// Work on the heap: so there is no room for a whole one beside the members of an ask, which seldom has one.
+impl<'a> FromReader<'a> for Shared<WorkAsk> {
+    ghost at = { λ plan. made_by (spec.work_at plan.format) };
+
+    ghost none = { λ plan. refl };
+
+    fn read(
+        alloc: Global,
+        plan: &Plan,
+        reader: &mut Reader<'a>,
+        depth: usize,
+    ) -> Taken<Shared<WorkAsk>> {
+        match WorkAsk::read(alloc, plan, reader, depth)? {
+            Some(ask) => Ok(Some(Shared::new(alloc, ask)?)),
+            None => Ok(None),
+        }
     }
 }
 
@@ -213,7 +232,7 @@ fn node_by(
     alloc: Global,
     kind: &Word<'_>,
     after: Option<u64>,
-    inside: Option<WorkAsk>,
+    inside: Option<Shared<WorkAsk>>,
     members: WorkMembers,
 ) -> Result<Option<NodeAsk>, Memory>
     ensures { IfOk result (λ ask. ask ≡ slots.node_by kind.now after inside members) }
@@ -225,27 +244,18 @@ fn node_by(
         return Ok(Some(NodeAsk::Return));
     }
     if kind.is("crashin") {
-        return stop(alloc, after, inside);
+        return Ok(stop(after, inside));
     }
     work(alloc, kind, members)
 }
 
 /// A stop: in which work, and behind how many of its records.
-fn stop(
-    alloc: Global,
-    after: Option<u64>,
-    inside: Option<WorkAsk>,
-) -> Result<Option<NodeAsk>, Memory>
-    ensures { IfOk result (λ ask. ask ≡ slots.stop after inside) }
+fn stop(after: Option<u64>, inside: Option<Shared<WorkAsk>>) -> Option<NodeAsk>
+    ensures { result ≡ slots.stop after inside }
 {
-    let Some(after) = count_of(after) else {
-        return Ok(None);
-    };
-    let Some(inside) = inside else {
-        return Ok(None);
-    };
-    let ask = Shared::new(alloc, inside)?;
-    Ok(Some(NodeAsk::CrashIn { ask, after }))
+    let after = count_of(after)?;
+    let ask = inside?;
+    Some(NodeAsk::CrashIn { ask, after })
 }
 
 /// Behind how many records a server stops: a number of 32 bits.

@@ -9,9 +9,9 @@ use crate::plan::Plan;
 use crate::scalars::Word;
 use std::alloc::Global;
 use tq_asks::{HeldLock, NodeRefusal, NodeReply};
+use tq_json::Reader;
 use tq_shape::{Memory, SharedSeq};
 use tq_store::{Content, FileName, Write};
-use tq_value::Reader;
 
 /// What stands in a reply of a server, but for its kind.
 #[derive(Drop)]

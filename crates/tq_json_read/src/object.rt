@@ -1,23 +1,23 @@
 //! Objects: what stands at each of the names that are asked for, the last value of each name.
 //!
 //! The members of an object mostly come in the order of the names, so the name behind the last one is tried first.
-ghost use Rattle.std.specs.Prelude.{◌≡◌, ◌<◌, ◌≤◌, false, length, None, Err, IfOk, OnOk, IsTrue, MatchOption};
+ghost use Rattle.std.specs.Prelude.{◌≡◌, ◌&&◌, ◌<◌, ◌≤◌, false, drop, length, nat_le, None, Err, IfOk, OnOk, IsTrue, MatchOption};
 ghost use Rattle.serde_json.specs.Find.{get_member};
-ghost use Rattle.tq_value.specs.Next.{next, next_members, Found};
+ghost use Rattle.tq_json.specs.Next.{next, next_members, Found};
 ghost use Rattle.tq_json_read.specs.Objects.{Names, names_of, with, slots_at, texts, IsNameAt, is_among, are_distinct};
+ghost use Rattle.std.specs.Str.{bytes_eq};
 
 use crate::parts::{FromReader, Taken};
 use crate::plan::Plan;
 use std::alloc::Global;
-use tq_members::is_text;
-use tq_value::{NotRead, Reader, open_object, pass_over};
+use tq_json::{NotRead, Reader, is_text, open_object, pass_over};
 
 /// Room for what stands at names, one slot for each name.
 pub(crate) trait Slots<'a>: Sized + Drop {
-    ghost use Rattle.std.specs.Prelude.{◌≡◌, ◌<◌, length, None, Err, IfOk, OnOk, IsTrue};
+    ghost use Rattle.std.specs.Prelude.{◌≡◌, ◌<◌, ◌≤◌, false, drop, length, None, Err, IfOk, OnOk, MatchOption};
     ghost use Rattle.tq_json_read.specs.declared.plan.Plan.{Plan};
-    ghost use Rattle.tq_json_read.specs.Objects.{Slots as Values, filled, texts, IsNameAt};
-    ghost use Rattle.tq_value.specs.Next.{next, Found};
+    ghost use Rattle.tq_json_read.specs.Objects.{Slots as Values, filled, texts, is_among, IsNameAt};
+    ghost use Rattle.tq_json.specs.Next.{next, Found};
 
     /// What they are, by a plan, of the values in them.
     ghost of: { Plan → Values → Self };
@@ -25,9 +25,11 @@ pub(crate) trait Slots<'a>: Sized + Drop {
     fn empty(plan: &Plan) -> Self
         ensures { result ≡ of plan.now (λ place. None) };
 
-    /// Whether the name is the one at that place, where it is a place of theirs.
-    fn is_named(names: &[&str], place: usize, name: &str) -> bool
-        ensures { IsTrue result → IsNameAt name.now (texts names.now) place };
+    /// A place of the name from the first on, by a look at each slot from that one on: one comparison each in a program.
+    fn first_place(names: &[&str], slot: usize, first: usize, name: &str) -> Option<usize>
+        ensures { MatchOption result
+            (first ≤ slot → is_among name.now (drop slot (texts names.now)) ≡ false)
+            (IsNameAt name.now (texts names.now)) };
 
     /// Takes the next value into the slot at that place, and passes it over where there is none.
     fn put(
@@ -50,8 +52,11 @@ impl<'a> Slots<'a> for () {
     fn empty(_plan: &Plan) -> () {}
 
     #[inline(always)]
-    fn is_named(_names: &[&str], _place: usize, _name: &str) -> bool {
-        false
+    fn first_place(names: &[&str], slot: usize, _first: usize, name: &str) -> Option<usize> {
+        if slot >= names.len() {
+            return None;
+        }
+        place_from(names, name, slot)
     }
 
     fn put(
@@ -76,14 +81,14 @@ impl<'a, T: FromReader<'a>, R: Slots<'a>> Slots<'a> for (Option<T>, R) {
     }
 
     #[inline(always)]
-    fn is_named(names: &[&str], place: usize, name: &str) -> bool {
-        if names.is_empty() {
-            return false;
+    fn first_place(names: &[&str], slot: usize, first: usize, name: &str) -> Option<usize> {
+        if slot >= names.len() {
+            return None;
         }
-        if place > 0 {
-            return R::is_named(&names[1..], place - 1, name);
+        if is_wanted(first, slot, names[slot], name) {
+            return Some(slot);
         }
-        is_text(name, names[0])
+        R::first_place(names, slot + 1, first, name)
     }
 
     fn put(
@@ -184,19 +189,27 @@ fn place_of<'a, S: Slots<'a>>(names: &[&str], name: &str, expected: usize) -> Op
     ensures { MatchOption result (is_among name.now (texts names.now) ≡ false)
         (IsNameAt name.now (texts names.now)) }
 {
-    if S::is_named(names, expected, name) {
-        return Some(expected);
-    }
-    match place_from(names, name, expected) {
+    match S::first_place(names, 0, expected, name) {
         Some(place) => Some(place),
         None => place_from(names, name, 0),
     }
 }
 
+/// Whether the name in a slot is this one, and the slot is none before the first.
+#[inline(always)]
+fn is_wanted(first: usize, slot: usize, key: &str, name: &str) -> bool
+    ensures { result ≡ (nat_le first slot && bytes_eq name.now key.now) }
+{
+    if first > slot {
+        return false;
+    }
+    is_text(name, key)
+}
+
 /// The first place of the name from that one on.
 #[inline(never)]
 fn place_from(names: &[&str], name: &str, first: usize) -> Option<usize>
-    ensures { MatchOption result (first ≡ 0 → is_among name.now (texts names.now) ≡ false)
+    ensures { MatchOption result (is_among name.now (drop first (texts names.now)) ≡ false)
         (IsNameAt name.now (texts names.now)) }
 {
     let mut place = first;

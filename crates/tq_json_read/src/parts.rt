@@ -1,13 +1,13 @@
 //! What the form makes of the next value of a reader, and lists of such values.
 ghost use Rattle.std.specs.Prelude.{◌≡◌, ◌<◌, ◌≤◌, ◌↔◌, false, length, Some, None, Err, IfOk, OnOk, IsTrue, MatchOption};
-ghost use Rattle.tq_value.specs.Next.{next, next_items, Found};
-ghost use Rattle.tq_members.specs.Member.{each};
+ghost use Rattle.tq_json.specs.Next.{next, next_items, Found};
+ghost use Rattle.tq_json.specs.Member.{each};
 ghost use Rattle.tq_json_read.specs.Objects.{capped, listed};
 
 use crate::plan::Plan;
 use std::alloc::Global;
+use tq_json::{NotRead, Reader, open_array, pass_items};
 use tq_shape::Seq;
-use tq_value::{NotRead, Reader, open_array, pass_items};
 
 /// What the next value was found to be: `None` where it is not of the form.
 pub(crate) type Taken<T> = Result<Option<T>, NotRead>;
@@ -17,7 +17,7 @@ pub(crate) trait FromReader<'a>: Sized + Drop {
     ghost use Rattle.std.specs.Prelude.{◌≡◌, ◌<◌, length, Option, Some, None, Err, IfOk, OnOk};
     ghost use Rattle.serde_json.specs.Data.{Data};
     ghost use Rattle.tq_json_read.specs.declared.plan.Plan.{Plan};
-    ghost use Rattle.tq_value.specs.Next.{next, Found};
+    ghost use Rattle.tq_json.specs.Next.{next, Found};
 
     /// What the form makes, by a plan, of what stands in one place: `None` where it is not of the form.
     ghost at: { Plan → Option Data → Option Self };

@@ -1,4 +1,4 @@
-use tq_members::Format;
+use tq_json::Format;
 use tq_shape::Levels;
 
 /// How deep arrays and objects may nest.

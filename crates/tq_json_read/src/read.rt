@@ -11,8 +11,8 @@ use crate::file::{FileFields, journals_from, take_file};
 use crate::glance::first_plan;
 use crate::plan::{MAX_DEPTH, Plan};
 use std::alloc::Global;
+use tq_json::{NotRead, Reader, Scratch, text_of_bytes};
 use tq_tables::Journals;
-use tq_value::{NotRead, Reader, Scratch, text_of_bytes};
 
 /// What a file is, read by a plan.
 #[derive(Drop)]

@@ -3,8 +3,8 @@ ghost use Rattle.std.specs.Prelude.{◌≡◌, Some, refl};
 ghost use Rattle.std.specs.Option.{option_and_then};
 ghost use Rattle.std.specs.Str.{bytes_eq};
 ghost use Rattle.serde_json.specs.Find.{as_str, as_bool, as_array};
-ghost use Rattle.tq_members.specs.Content as content;
-ghost use Rattle.tq_members.specs.Member.{number_of};
+ghost use Rattle.tq_json.specs.Content as content;
+ghost use Rattle.tq_json.specs.Member.{number_of};
 ghost use Rattle.tq_live.specs.Purposes as purposes;
 ghost use Rattle.tq_json_read.specs.Objects.{in_text, all_of};
 ghost use Rattle.tq_json_read.specs.Commits as commits;
@@ -15,12 +15,11 @@ use crate::plan::Plan;
 use std::alloc::Global;
 use std::marker::Model;
 use tq_evidence::OpKind;
+use tq_json::{NotRead, Reader, content_of, is_text, name_of, take_flag, take_text, take_whole};
 use tq_live::Purpose;
 use tq_locks::Mode;
-use tq_members::{content_of, is_text, name_of};
 use tq_shape::SharedSeq;
 use tq_store::{Content, FileName};
-use tq_value::{Leaf, NotRead, Reader, take_leaf};
 
 /// A text, which is borrowed from the file. Contracts see its bytes.
 #[derive(Drop)]
@@ -59,9 +58,9 @@ impl<'a> FromReader<'a> for Word<'a> {
         reader: &mut Reader<'a>,
         depth: usize,
     ) -> Taken<Word<'a>> {
-        match take_leaf(reader, depth)? {
-            Leaf::Text(text) => Ok(Some(Word { text })),
-            _ => Ok(None),
+        match take_text(reader, depth)? {
+            Some(text) => Ok(Some(Word { text })),
+            None => Ok(None),
         }
     }
 }
@@ -72,10 +71,7 @@ impl<'a> FromReader<'a> for u64 {
     ghost none = { λ plan. refl };
 
     fn read(_alloc: Global, _plan: &Plan, reader: &mut Reader<'a>, depth: usize) -> Taken<u64> {
-        match take_leaf(reader, depth)? {
-            Leaf::Whole(number) => Ok(Some(number)),
-            _ => Ok(None),
-        }
+        take_whole(reader, depth)
     }
 }
 
@@ -85,10 +81,7 @@ impl<'a> FromReader<'a> for bool {
     ghost none = { λ plan. refl };
 
     fn read(_alloc: Global, _plan: &Plan, reader: &mut Reader<'a>, depth: usize) -> Taken<bool> {
-        match take_leaf(reader, depth)? {
-            Leaf::Flag(flag) => Ok(Some(flag)),
-            _ => Ok(None),
-        }
+        take_flag(reader, depth)
     }
 }
 
@@ -103,9 +96,9 @@ impl<'a> FromReader<'a> for FileName {
         reader: &mut Reader<'a>,
         depth: usize,
     ) -> Taken<FileName> {
-        match take_leaf(reader, depth)? {
-            Leaf::Text(text) => Ok(name_of(text)),
-            _ => Ok(None),
+        match take_text(reader, depth)? {
+            Some(text) => Ok(name_of(text)),
+            None => Ok(None),
         }
     }
 }
@@ -116,9 +109,9 @@ impl<'a> FromReader<'a> for Content {
     ghost none = { λ plan. refl };
 
     fn read(alloc: Global, plan: &Plan, reader: &mut Reader<'a>, depth: usize) -> Taken<Content> {
-        match take_leaf(reader, depth)? {
-            Leaf::Text(text) => Ok(content_of(alloc, plan.format, text)?),
-            _ => Ok(None),
+        match take_text(reader, depth)? {
+            Some(text) => Ok(content_of(alloc, plan.format, text)?),
+            None => Ok(None),
         }
     }
 }
@@ -129,9 +122,9 @@ impl<'a> FromReader<'a> for Mode {
     ghost none = { λ plan. refl };
 
     fn read(_alloc: Global, _plan: &Plan, reader: &mut Reader<'a>, depth: usize) -> Taken<Mode> {
-        match take_leaf(reader, depth)? {
-            Leaf::Text(text) => Ok(mode_of(text)),
-            _ => Ok(None),
+        match take_text(reader, depth)? {
+            Some(text) => Ok(mode_of(text)),
+            None => Ok(None),
         }
     }
 }
@@ -154,9 +147,9 @@ impl<'a> FromReader<'a> for OpKind {
     ghost none = { λ plan. refl };
 
     fn read(_alloc: Global, _plan: &Plan, reader: &mut Reader<'a>, depth: usize) -> Taken<OpKind> {
-        match take_leaf(reader, depth)? {
-            Leaf::Text(text) => Ok(kind_of(text)),
-            _ => Ok(None),
+        match take_text(reader, depth)? {
+            Some(text) => Ok(kind_of(text)),
+            None => Ok(None),
         }
     }
 }
@@ -179,9 +172,9 @@ impl<'a> FromReader<'a> for Purpose {
     ghost none = { λ plan. refl };
 
     fn read(_alloc: Global, _plan: &Plan, reader: &mut Reader<'a>, depth: usize) -> Taken<Purpose> {
-        match take_leaf(reader, depth)? {
-            Leaf::Text(text) => Ok(Purpose::of(text.as_bytes())),
-            _ => Ok(None),
+        match take_text(reader, depth)? {
+            Some(text) => Ok(Purpose::of(text.as_bytes())),
+            None => Ok(None),
         }
     }
 }

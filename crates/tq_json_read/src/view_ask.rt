@@ -8,9 +8,8 @@ use crate::parts::{FromReader, Taken};
 use crate::plan::Plan;
 use crate::scalars::Word;
 use std::alloc::Global;
+use tq_json::{Format, Reader};
 use tq_live::{Purpose, ViewAsk};
-use tq_members::Format;
-use tq_value::Reader;
 
 /// What stands in an ask of the view, but for its kind.
 #[derive(Drop)]

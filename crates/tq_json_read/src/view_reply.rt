@@ -1,7 +1,7 @@
 ghost use Rattle.std.specs.Prelude.{◌≡◌, Some, refl, IfOk};
 ghost use Rattle.std.specs.Option.{option_and_then, option_map};
 ghost use Rattle.serde_json.specs.Find.{as_array};
-ghost use Rattle.tq_members.specs.Member.{number_of};
+ghost use Rattle.tq_json.specs.Member.{number_of};
 ghost use Rattle.tq_json_read.specs.Objects.{made_by, all_of};
 ghost use Rattle.tq_json_read.specs.Slots as slots;
 ghost use Rattle.tq_json_read.specs.Views as spec;
@@ -12,9 +12,9 @@ use crate::plan::Plan;
 use crate::scalars::Word;
 use std::alloc::Global;
 use tq_coterie::{Blocker, Quorum};
+use tq_json::{NotRead, Reader};
 use tq_live::{ViewRefusal, ViewReply};
 use tq_shape::{Levels, Memory, Seq};
-use tq_value::{NotRead, Reader};
 
 /// The numbers of servers.
 #[derive(Drop)]

@@ -6,9 +6,9 @@ use Rattle.hex.specs.Hex.{encode_lower}
 use Rattle.hex.proofs.HexLemmas.{decode_of-encode_lower}
 use Rattle.serde_json.specs.Data.{Data}
 use Rattle.tq_shape.specs.declared.entry.Entry.{Entry}
-use Rattle.tq_members.specs.declared.format.Format.TheVariants.{Two}
-use Rattle.tq_members.specs.Content.{name_of, content_of, decoded, short_enough}
-use Rattle.tq_members.specs.Member.{◌>>=◌, each, number_of}
+use Rattle.tq_json.specs.declared.format.Format.TheVariants.{Two}
+use Rattle.tq_json.specs.Content.{name_of, content_of, decoded, short_enough}
+use Rattle.tq_json.specs.Member.{◌>>=◌, each, number_of}
 use Rattle.tq_json_read.specs.Entries.{entry, count, journal}
 use Rattle.tq_json_write.specs.Values.{whole, listed, list_value, entry_value}
 use Rattle.tq_json_write.specs.Sound.{IsFile, IsContent}

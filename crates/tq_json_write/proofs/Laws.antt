@@ -9,10 +9,10 @@ use Rattle.serde_json.specs.Written.{compact_text}
 use Rattle.tq_shape.specs.Limits.{LimitsView}
 use Rattle.tq_node.specs.NodeJournal.{NodeEntry}
 use Rattle.tq_tables.specs.Journals.{JournalsView, IsOfTree}
-use Rattle.tq_members.specs.declared.format.Format.TheVariants.{Two}
+use Rattle.tq_json.specs.declared.format.Format.TheVariants.{Two}
 use Rattle.tq_json_read.specs.Entries.{count, journal, node_entry, desk_entry, view_entry}
 use Rattle.tq_json_read.specs.Frame as frame
-use Rattle.tq_members.specs.Member.{◌>>=◌, each}
+use Rattle.tq_json.specs.Member.{◌>>=◌, each}
 use Rattle.tq_json_write.specs.Values.{listed, list_value}
 use Rattle.tq_json_write.specs.Nodes.{node_entry_value}
 use Rattle.tq_json_write.specs.Desks.{desk_entry_value}

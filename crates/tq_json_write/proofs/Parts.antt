@@ -41,7 +41,7 @@ use Rattle.tq_live.specs.declared.view.ViewReply.{ViewReply}
 use Rattle.tq_live.specs.declared.view.ViewReply.TheVariants as view_reply
 use Rattle.tq_live.specs.declared.view.ViewRefusal.TheVariants as view_refusal
 use Rattle.tq_tables.specs.Journals.{ViewEntry, IsOfTree}
-use Rattle.tq_members.specs.declared.format.Format.TheVariants.{Two}
+use Rattle.tq_json.specs.declared.format.Format.TheVariants.{Two}
 use Rattle.tq_json_read.specs.Locking as locking
 use Rattle.tq_json_read.specs.NodeAsks as asks
 use Rattle.tq_json_read.specs.NodeReplies as replies
@@ -49,7 +49,7 @@ use Rattle.tq_json_read.specs.Commits as commits
 use Rattle.tq_json_read.specs.Desks as desk_form
 use Rattle.tq_json_read.specs.Views as view_form
 use Rattle.tq_json_read.specs.Entries.{node_entry, desk_entry, view_entry}
-use Rattle.tq_members.specs.Member.{each}
+use Rattle.tq_json.specs.Member.{each}
 use Rattle.tq_json_write.specs.Values.{listed}
 use Rattle.tq_json_write.specs.Nodes as nodes
 use Rattle.tq_json_write.specs.Desks as desks

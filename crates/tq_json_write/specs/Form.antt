@@ -4,8 +4,8 @@ use Rattle.serde_json.specs.Data.{Data, object, member, no_members}
 use Rattle.serde_json.specs.Written.{compact_text}
 use Rattle.tq_shape.specs.Limits.{LimitsView}
 use Rattle.tq_tables.specs.Journals.{JournalsView}
-use Rattle.tq_members.specs.declared.format.Format.TheVariants.{Two}
-use Rattle.tq_members.specs.Format.{format_number}
+use Rattle.tq_json.specs.declared.format.Format.TheVariants.{Two}
+use Rattle.tq_json.specs.Format.{format_number}
 use Rattle.tq_json_write.specs.Values.{whole, list_value}
 use Rattle.tq_json_write.specs.Nodes.{node_entry_value}
 use Rattle.tq_json_write.specs.Desks.{desk_entry_value}

@@ -1,7 +1,7 @@
 -- Texts that are read as journals.
 use Rattle.std.specs.Prelude.{ℕ, List}
 use Rattle.serde_json.specs.Data.{Data}
-use Rattle.tq_members.specs.declared.format.Format.TheVariants.{Two}
+use Rattle.tq_json.specs.declared.format.Format.TheVariants.{Two}
 use Rattle.tq_json_read.specs.Faults.{IsJson}
 use Rattle.tq_json_read.specs.Frame.{IsInFormat}
 use Rattle.tq_tables.specs.Journals.{JournalsView}

@@ -15,7 +15,7 @@ use crate::spilling::{ROOM, Spilling};
 use crate::text::Text;
 use std::alloc::Global;
 use tq_devices::{RunFault, Sink};
-use tq_members::Format;
+use tq_json::Format;
 use tq_shape::{Limits, Memory};
 use tq_tables::Journals;
 

@@ -2,7 +2,7 @@ use Rattle.std.proofs.Common.{cond, codes, Some, ap, ◌∙◌}
 use Rattle.std.specs.Str.{bytes_eq}
 use Rattle.serde_json.specs.Find.{get}
 use Rattle.tq_asks.specs.declared.ask.NodeAsk.TheVariants.{Crash, Return}
-use Rattle.tq_members.specs.Member.{◌>>=◌, text_at}
+use Rattle.tq_json.specs.Member.{◌>>=◌, text_at}
 use Rattle.tq_json_read.specs.NodeAsks as asks
 use Rattle.tq_json_read.specs.Slots as slots
 use Rattle.tq_json_read.proofs.Nested.{by_kind, stops}

@@ -1,0 +1,7 @@
+mod Digits
+mod Whole
+pub mod Loops
+pub mod Nexts
+pub mod Turns
+pub mod Listed
+pub mod Contents

@@ -1,0 +1,4 @@
+pub mod Next
+pub mod Format
+pub mod Member
+pub mod Content

@@ -1,0 +1,28 @@
+//! JSON as the data that `serde_json` reads, value by value from a reader, and what stands in the objects of journal files.
+//!
+//! Files: `leaf.rt` texts, numbers and flags; `opening.rt` arrays and objects; `passing.rt` values that nobody asks for;
+//! `number.rt` numbers; `fault.rt` why nothing is read; `format.rt` the formats of files; `content.rt` names of files and
+//! contents; `word.rt` words.
+//! Definitions: `specs/Next` (the next value of a reader), `Member` (what stands at a name), `Format` (what differs between
+//! formats), `Content`.
+#![tactic(auto)]
+
+mod content;
+mod fault;
+mod format;
+mod leaf;
+mod number;
+mod opening;
+mod passing;
+mod utf8;
+mod word;
+
+pub use content::{content_of, name_of};
+pub use fault::NotRead;
+pub use format::Format;
+pub use json::{Reader, Scratch};
+pub use leaf::{take_flag, take_text, take_whole};
+pub use opening::{open_array, open_object};
+pub use passing::{pass_items, pass_over};
+pub use utf8::text_of_bytes;
+pub use word::is_text;

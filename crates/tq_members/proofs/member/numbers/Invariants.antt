@@ -1,9 +1,0 @@
-use Rattle.std.proofs.Common.{◌≡◌, drop}
-use Rattle.tq_value.specs.View.{items_view}
-use Rattle.tq_members.specs.Member.{each, number_of}
-use Rattle.tq_members.proofs.Listed.{with_front}
-use Rattle.tq_members.proofs.member.numbers.Given as goal
-
--- what was read so far, before what is read of the values that are left, is what is read of all values
-abbrev pub invariant-loop-value : goal.invariant-loop-value
-invariant-loop-value l = with_front l.numbers.items (each number_of (items_view (drop l.value-index l.values))) ≡ each number_of (items_view l.values)

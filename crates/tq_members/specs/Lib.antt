@@ -1,3 +1,0 @@
-pub mod Format
-pub mod Member
-pub mod Content
