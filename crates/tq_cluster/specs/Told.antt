@@ -1,5 +1,5 @@
 -- What a caller of a cluster was told.
-use Rattle.std.specs.Prelude.{◌≤◌, ℕ, ◌-◌, ◌^◌, List, [], ◌∷◌, Result, Ok, Err, get_or, set, replicate}
+use Rattle.std.specs.Prelude.{◌≡◌, ◌≤◌, ◌⊎◌, ℕ, ◌-◌, ◌^◌, List, [], ◌∷◌, Result, Ok, Err, IfOk, IfErr, OnErr, get_or, max, set, replicate}
 use Rattle.tq_shape.specs.declared.part.Part.{Part}
 use Rattle.tq_shape.specs.declared.part.Part.TheVariants as parts
 use Rattle.tq_cells.specs.Passes.{IsToldBy}
@@ -19,6 +19,7 @@ use Rattle.tq_live.specs.declared.view.ViewReply.{ViewReply}
 use Rattle.tq_txn.specs.declared.asker.Exchange.{Exchange}
 use Rattle.tq_txn.specs.Dialogue.{Told, unless_memory}
 use Rattle.tq_part.specs.declared.fault.AskFault.{AskFault}
+use Rattle.tq_part.specs.declared.fault.AskFault.TheVariants as faults
 use Rattle.tq_cluster.specs.declared.asked.Numbered.{Numbered}
 
 -- of each part the greatest number of an entry that one was told of, 0 where of none: of the servers upwards from server 1,
@@ -53,6 +54,15 @@ having_seen caller parts.View seen = record caller { seen = record caller.seen {
 -- of each part the caller has seen then what it had seen of it before, or more
 abbrev pub SeesOn : CallerView → CallerView → Type 0
 SeesOn old new = (part : Part) → seen_of old part ≤ seen_of new part
+
+-- the part was asked: its caller has seen of it the greatest number that it was told, and at a fault what it had seen;
+-- the fault is want of memory or the full journal of the part; what it has seen of other parts stays, and its tree
+pub record IsHeard {A : Type 0} (part : Part) (result : Result A AskFault) (number : A → ℕ) (old new : CallerView) : Type 0 where
+  pub seen : IfOk result (λ told. seen_of new part ≡ max (seen_of old part) (number told))
+  pub not_told : OnErr result (new.seen ≡ old.seen)
+  pub fault : IfErr result (λ fault. (fault ≡ faults.Memory) ⊎ (fault ≡ faults.JournalFull part))
+  pub others : new.seen ≡ (having_seen old part (seen_of new part)).seen
+  pub tree : new.levels ≡ old.levels
 
 -- the number of a server by its name, 0 for another part
 abbrev pub server_of : Part → ℕ
