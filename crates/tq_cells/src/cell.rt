@@ -45,13 +45,6 @@ impl<P: Answers> Cell<P> {
         }
     }
 
-    /// The name of the part.
-    pub fn part(&self) -> Part
-        ensures { result ≡ self.now }
-    {
-        self.part
-    }
-
     /// A pass for a caller that was told nothing. It takes no memory.
     pub fn pass(&self, alloc: Global) -> Pass<P>
         ensures { result ≡ seen_by [] 0 }

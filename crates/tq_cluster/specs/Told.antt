@@ -71,7 +71,7 @@ server_of other = 0
 
 -- what an ask adds to what its caller was told: the exchange of it; nothing where memory was refused
 abbrev pub exchanges_of : {A R : Type 0} → (A → Told R → Exchange) → A → Result (Numbered A R) AskFault → List Exchange
-exchanges_of exchange ask (Ok told) = exchange ask (Ok (record { number = told.number; reply = told.entry.reply })) ∷ []
+exchanges_of exchange ask (Ok told) = exchange ask (Ok (record { number = told.number; reply = told.reply })) ∷ []
 exchanges_of exchange ask (Err fault) = unless_memory fault (exchange ask (Err fault))
 
 -- a legal journal of some server has this entry at this number; of some desk; of some view

@@ -3,7 +3,7 @@ ghost use Rattle.tq_txn.specs.Dialogue.{node_exchange, desk_exchange, view_excha
 ghost use Rattle.tq_tables.specs.Parts.{AreLegal};
 ghost use Rattle.tq_cluster.specs.Told.{IsHeard, IsToldByServer, IsToldByDesk, IsToldByView, nothing_seen};
 
-use crate::asked::ask_part;
+use crate::asked::{Numbered, ask_part};
 use crate::caller::Caller;
 use crate::journals::{desk_journal, server_journals, view_journal};
 use std::alloc::Global;
@@ -160,14 +160,29 @@ impl<G: Gate + Drop> Cluster<G> {
             ≡ caller.old.told ++ node_exchange server.number ask result }
         ensures same { IfOk result (λ t. (t.server ≡ server.number) × (t.ask ≡ ask)) }
         ensures reply { IfOk result (λ t. IsToldByServer t.number t.ask t.reply) }
-        ensures heard { IsHeard (Part.Server server.number) result (λ t. t.number) caller.old caller.new }
+        ensures heard { IsHeard (Part.Server server.number) result (λ t. t.number)
+            caller.old caller.new }
     {
         let number = server.number();
         let place = (number - 1) as usize;
         let cell = &self.servers[place];
         let pass = &mut caller.servers[place];
-        let told = ask_part(rt, alloc, cell, &self.gate, pass, &mut caller.told, ask)?;
-        Ok(told.of_server(number))
+        let told = ask_part(
+            rt,
+            alloc,
+            cell,
+            &self.gate,
+            Part::Server(number),
+            pass,
+            &mut caller.told,
+            ask,
+        )?;
+        Ok(NodeTold {
+            server: number,
+            number: told.number,
+            ask: told.ask,
+            reply: told.reply,
+        })
     }
 
     /// Asks the desk, once it has its lock: the reply is that of the desk after the entries of its journal, and the ask
@@ -186,9 +201,20 @@ impl<G: Gate + Drop> Cluster<G> {
         ensures reply { IfOk result (λ t. IsToldByDesk t.number t.ask t.reply) }
         ensures heard { IsHeard Part.Desk result (λ t. t.number) caller.old caller.new }
     {
+        let cell = &self.desk;
         let pass = &mut caller.desk;
-        let told = ask_part(rt, alloc, &self.desk, &self.gate, pass, &mut caller.told, ask)?;
-        Ok(told.of_desk())
+        let told = ask_part(
+            rt,
+            alloc,
+            cell,
+            &self.gate,
+            Part::Desk,
+            pass,
+            &mut caller.told,
+            ask,
+        )?;
+        let Numbered { number, ask, reply } = told;
+        Ok(DeskTold { number, ask, reply })
     }
 
     /// Asks the view, as `ask_desk` asks the desk.
@@ -205,9 +231,20 @@ impl<G: Gate + Drop> Cluster<G> {
         ensures reply { IfOk result (λ t. IsToldByView t.number t.ask t.reply) }
         ensures heard { IsHeard Part.View result (λ t. t.number) caller.old caller.new }
     {
+        let cell = &self.view;
         let pass = &mut caller.view;
-        let told = ask_part(rt, alloc, &self.view, &self.gate, pass, &mut caller.told, ask)?;
-        Ok(told.of_view())
+        let told = ask_part(
+            rt,
+            alloc,
+            cell,
+            &self.gate,
+            Part::View,
+            pass,
+            &mut caller.told,
+            ask,
+        )?;
+        let Numbered { number, ask, reply } = told;
+        Ok(ViewTold { number, ask, reply })
     }
 }
 
