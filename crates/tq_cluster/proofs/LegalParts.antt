@@ -17,7 +17,7 @@ use Rattle.tq_desk.specs.DeskStep as desk
 use Rattle.tq_desk.specs.DeskJournal.{DeskBounds, DeskEntry, IsLegalDesk, step_reply, step_after, opened}
 use Rattle.tq_shape.specs.Limits.{LimitsView}
 use Rattle.tq_tables.specs.Journals.{IsOfTree, ViewEntry, AreJournals}
-use Rattle.tq_tables.specs.Parts.{AreLegalServers}
+use Rattle.tq_tables.specs.Parts.{AreLegalServers, bounds_of}
 
 -- ---- servers
 
@@ -40,11 +40,13 @@ one_server_more first number (s ∷ servers) entries legal at one = (legal.0, on
 
 -- ---- the desk
 
-pub desk_legal : (s : DeskView) (entries : List DeskEntry) → IsLegalFrom (λ (d : DeskView) (k : ℕ) (a : DeskAsk). desk_reply d a) (λ d k a. desk_after d a) (desk.opening s.levels s.limits) 1 entries
-    → (bounds : DeskBounds) × IsLegalDesk bounds (reverse entries)
-desk_legal s entries legal =
-    let bounds : DeskBounds = record { levels = s.levels; limits = s.limits } in
-    (bounds, legal-reverse step_reply step_after (opened bounds) entries legal)
+-- the journal of a desk of these levels and limits
+pub desk_legal : (s : DeskView) (levels : ℕ) (limits : LimitsView) (entries : List DeskEntry) → s.levels ≡ levels → s.limits ≡ limits
+    → IsLegalFrom (λ (d : DeskView) (k : ℕ) (a : DeskAsk). desk_reply d a) (λ d k a. desk_after d a) (desk.opening s.levels s.limits) 1 entries
+    → IsLegalDesk (bounds_of levels limits) (reverse entries)
+desk_legal s levels limits entries same_levels same_limits legal =
+    subst (λ (b : DeskBounds). IsLegalDesk b (reverse entries)) (λ i. bounds_of (same_levels i) (same_limits i))
+    (legal-reverse step_reply step_after (opened (bounds_of s.levels s.limits)) entries legal)
 
 -- ---- journals put together
 

@@ -1,5 +1,5 @@
 -- What a caller of a cluster was told.
-use Rattle.std.specs.Prelude.{◌≤◌, ℕ, ◌-◌, ◌^◌, List, [], ◌∷◌, Result, Ok, Err, get_or, set, replicate}
+use Rattle.std.specs.Prelude.{◌≡◌, ◌≤◌, ◌⊎◌, ℕ, ◌-◌, ◌^◌, List, [], ◌∷◌, Result, Ok, Err, IfOk, IfErr, OnErr, get_or, max, set, replicate}
 use Rattle.tq_shape.specs.declared.part.Part.{Part}
 use Rattle.tq_shape.specs.declared.part.Part.TheVariants as parts
 use Rattle.tq_cells.specs.Passes.{IsToldBy}
@@ -19,6 +19,7 @@ use Rattle.tq_live.specs.declared.view.ViewReply.{ViewReply}
 use Rattle.tq_txn.specs.declared.asker.Exchange.{Exchange}
 use Rattle.tq_txn.specs.Dialogue.{Told, unless_memory}
 use Rattle.tq_part.specs.declared.fault.AskFault.{AskFault}
+use Rattle.tq_part.specs.declared.fault.AskFault.TheVariants as faults
 use Rattle.tq_cluster.specs.declared.asked.Numbered.{Numbered}
 
 -- of each part the greatest number of an entry that one was told of, 0 where of none: of the servers upwards from server 1,
@@ -54,6 +55,15 @@ having_seen caller parts.View seen = record caller { seen = record caller.seen {
 abbrev pub SeesOn : CallerView → CallerView → Type 0
 SeesOn old new = (part : Part) → seen_of old part ≤ seen_of new part
 
+-- the part was asked: its caller has seen of it the greatest number that it was told, and at a fault what it had seen;
+-- the fault is want of memory or the full journal of the part; what it has seen of other parts stays, and its tree
+pub record IsHeard {A : Type 0} (part : Part) (result : Result A AskFault) (number : A → ℕ) (old new : CallerView) : Type 0 where
+  pub seen : IfOk result (λ told. seen_of new part ≡ max (seen_of old part) (number told))
+  pub not_told : OnErr result (new.seen ≡ old.seen)
+  pub fault : IfErr result (λ fault. (fault ≡ faults.Memory) ⊎ (fault ≡ faults.JournalFull part))
+  pub others : new.seen ≡ (having_seen old part (seen_of new part)).seen
+  pub tree : new.levels ≡ old.levels
+
 -- the number of a server by its name, 0 for another part
 abbrev pub server_of : Part → ℕ
 server_of (parts.Server number) = number
@@ -61,7 +71,7 @@ server_of other = 0
 
 -- what an ask adds to what its caller was told: the exchange of it; nothing where memory was refused
 abbrev pub exchanges_of : {A R : Type 0} → (A → Told R → Exchange) → A → Result (Numbered A R) AskFault → List Exchange
-exchanges_of exchange ask (Ok told) = exchange ask (Ok (record { number = told.number; reply = told.entry.reply })) ∷ []
+exchanges_of exchange ask (Ok told) = exchange ask (Ok (record { number = told.number; reply = told.reply })) ∷ []
 exchanges_of exchange ask (Err fault) = unless_memory fault (exchange ask (Err fault))
 
 -- a legal journal of some server has this entry at this number; of some desk; of some view

@@ -10,11 +10,12 @@ use tq_part::{Answered, AskFault};
 use tq_shape::{Entry, Part};
 use tq_txn::Exchange;
 
-/// An entry with its number.
+/// An ask with its reply, and the number of their entry.
 #[derive(Drop)]
 pub(crate) struct Numbered<A, R> {
     pub(crate) number: u64,
-    pub(crate) entry: Entry<A, R>,
+    pub(crate) ask: A,
+    pub(crate) reply: R,
 }
 
 /// Asks the part of that name in its cell, and puts the exchange behind those that the caller was told. Want of memory is
@@ -32,9 +33,9 @@ pub(crate) fn ask_part<P: Recorded, R: Wait, G: Gate>(
     requires { part ≡ cell.now }
     ensures exchanges { told.new.items
         ≡ told.old.items ++ exchanges_of (P.exchange part) ask result }
-    ensures same { IfOk result (λ t. t.entry.ask ≡ ask) }
+    ensures same { IfOk result (λ t. t.ask ≡ ask) }
     ensures reply { IfOk result (λ t.
-        IsToldBy P.reply P.after P.opening t.number t.entry.ask t.entry.reply) }
+        IsToldBy P.reply P.after P.opening t.number t.ask t.reply) }
     ensures seen { IfOk result (λ t. pass.new.seen ≡ max pass.old.seen t.number) }
     ensures not_told { OnErr result (pass.new.seen ≡ pass.old.seen) }
     ensures fault { IfErr result (λ f. (f ≡ AskFault.Memory) ⊎ (f ≡ AskFault.JournalFull part)) }
@@ -49,7 +50,8 @@ pub(crate) fn ask_part<P: Recorded, R: Wait, G: Gate>(
             } = twice;
             let Entry { ask, reply } = kept;
             told.push_reserved(P::record(part, ask, Ok(Answered { number, reply })));
-            Ok(Numbered { number, entry })
+            let Entry { ask, reply } = entry;
+            Ok(Numbered { number, ask, reply })
         }
         Err(Untaken::Memory) => Err(AskFault::Memory),
         Err(Untaken::JournalFull { ask }) => {

@@ -1,9 +1,9 @@
-ghost use Rattle.std.specs.Prelude.{◌≡◌, ◌≤◌, ◌<◌, ◌+◌, ◌^◌, ◌++◌, ◌⊎◌, ℕ, [], length, map, max, replicate, IfOk, IfErr, OnErr, vec_len, vec_capacity};
+ghost use Rattle.std.specs.Prelude.{◌≡◌, ◌≤◌, ◌<◌, ◌+◌, ◌^◌, ◌++◌, ℕ, [], length, map, replicate, IfOk, vec_len, vec_capacity};
 ghost use Rattle.tq_txn.specs.Dialogue.{node_exchange, desk_exchange, view_exchange};
 ghost use Rattle.tq_tables.specs.Parts.{AreLegal};
-ghost use Rattle.tq_cluster.specs.Told.{IsToldByServer, IsToldByDesk, IsToldByView, having_seen, nothing_seen, seen_of};
+ghost use Rattle.tq_cluster.specs.Told.{IsHeard, IsToldByServer, IsToldByDesk, IsToldByView, nothing_seen};
 
-use crate::asked::ask_part;
+use crate::asked::{Numbered, ask_part};
 use crate::caller::Caller;
 use crate::journals::{desk_journal, server_journals, view_journal};
 use std::alloc::Global;
@@ -15,7 +15,7 @@ use tq_desk::{Desk, DeskAsk};
 use tq_live::{View, ViewAsk};
 use tq_node::Node;
 use tq_part::AskFault;
-use tq_shape::{Entry, Levels, Limits, Memory, Part, ServerId};
+use tq_shape::{Levels, Limits, Memory, Part, ServerId};
 use tq_tables::{Journals, NodeEntry};
 use tq_txn::{DeskTold, NodeTold, ViewTold};
 
@@ -119,16 +119,16 @@ impl<G: Gate + Drop> Cluster<G> {
     {
         drop(callers);
         let room = Vec::with_capacity(alloc, self.servers.len())?;
-        self.journals_into(alloc, room)
+        Ok(self.journals_into(alloc, room))
     }
 
     /// The journals of all parts, those of the servers put into the room for them.
-    fn journals_into(self, alloc: Global, room: Vec<Vec<NodeEntry>>) -> Result<Journals, Memory>
+    fn journals_into(self, alloc: Global, room: Vec<Vec<NodeEntry>>) -> Journals
         requires empty { room.items ≡ [] }
         requires room { 2 ^ self.levels ≤ vec_capacity room + 1 }
-        ensures levels { IfOk result (λ journals. journals.levels ≡ self.levels) }
-        ensures limits { IfOk result (λ journals. journals.limits ≡ self.limits) }
-        ensures legal { IfOk result AreLegal }
+        ensures levels { result.levels ≡ self.levels }
+        ensures limits { result.limits ≡ self.limits }
+        ensures legal { AreLegal result }
     {
         let Cluster {
             levels,
@@ -140,9 +140,9 @@ impl<G: Gate + Drop> Cluster<G> {
         } = self;
         let entries = limits.entries();
         let servers = server_journals(alloc, entries, servers, room);
-        let desk = desk_journal(alloc, levels, limits, desk.into_journaled())?;
+        let desk = desk_journal(alloc, levels, limits, desk.into_journaled());
         let view = view_journal(alloc, levels, entries, view.into_journaled());
-        Ok(Journals::new(levels, limits, servers, desk, view))
+        Journals::new(levels, limits, servers, desk, view)
     }
 
     /// Asks a server, as `ask_desk` asks the desk.
@@ -160,33 +160,28 @@ impl<G: Gate + Drop> Cluster<G> {
             ≡ caller.old.told ++ node_exchange server.number ask result }
         ensures same { IfOk result (λ t. (t.server ≡ server.number) × (t.ask ≡ ask)) }
         ensures reply { IfOk result (λ t. IsToldByServer t.number t.ask t.reply) }
-        ensures seen { IfOk result (λ t. seen_of caller.new (Part.Server server.number)
-            ≡ max (seen_of caller.old (Part.Server server.number)) t.number) }
-        ensures not_told { OnErr result (caller.new.seen ≡ caller.old.seen) }
-        ensures fault { IfErr result (λ f. (f ≡ AskFault.Memory)
-            ⊎ (f ≡ AskFault.JournalFull (Part.Server server.number))) }
-        ensures others { caller.new.seen ≡ (having_seen caller.old (Part.Server server.number)
-            (seen_of caller.new (Part.Server server.number))).seen }
-        ensures tree { caller.new.levels ≡ caller.old.levels }
+        ensures heard { IsHeard (Part.Server server.number) result (λ t. t.number)
+            caller.old caller.new }
     {
         let number = server.number();
         let place = (number - 1) as usize;
+        let cell = &self.servers[place];
+        let pass = &mut caller.servers[place];
         let told = ask_part(
             rt,
             alloc,
-            &self.servers[place],
+            cell,
             &self.gate,
             Part::Server(number),
-            &mut caller.servers[place],
+            pass,
             &mut caller.told,
             ask,
         )?;
-        let Entry { ask, reply } = told.entry;
         Ok(NodeTold {
             server: number,
             number: told.number,
-            ask,
-            reply,
+            ask: told.ask,
+            reply: told.reply,
         })
     }
 
@@ -204,31 +199,22 @@ impl<G: Gate + Drop> Cluster<G> {
         ensures exchanges { caller.new.told ≡ caller.old.told ++ desk_exchange ask result }
         ensures same { IfOk result (λ t. t.ask ≡ ask) }
         ensures reply { IfOk result (λ t. IsToldByDesk t.number t.ask t.reply) }
-        ensures seen { IfOk result (λ t. seen_of caller.new Part.Desk
-            ≡ max (seen_of caller.old Part.Desk) t.number) }
-        ensures not_told { OnErr result (caller.new.seen ≡ caller.old.seen) }
-        ensures fault { IfErr result (λ f. (f ≡ AskFault.Memory)
-            ⊎ (f ≡ AskFault.JournalFull Part.Desk)) }
-        ensures others { caller.new.seen
-            ≡ (having_seen caller.old Part.Desk (seen_of caller.new Part.Desk)).seen }
-        ensures tree { caller.new.levels ≡ caller.old.levels }
+        ensures heard { IsHeard Part.Desk result (λ t. t.number) caller.old caller.new }
     {
+        let cell = &self.desk;
+        let pass = &mut caller.desk;
         let told = ask_part(
             rt,
             alloc,
-            &self.desk,
+            cell,
             &self.gate,
             Part::Desk,
-            &mut caller.desk,
+            pass,
             &mut caller.told,
             ask,
         )?;
-        let Entry { ask, reply } = told.entry;
-        Ok(DeskTold {
-            number: told.number,
-            ask,
-            reply,
-        })
+        let Numbered { number, ask, reply } = told;
+        Ok(DeskTold { number, ask, reply })
     }
 
     /// Asks the view, as `ask_desk` asks the desk.
@@ -243,31 +229,22 @@ impl<G: Gate + Drop> Cluster<G> {
         ensures exchanges { caller.new.told ≡ caller.old.told ++ view_exchange ask result }
         ensures same { IfOk result (λ t. t.ask ≡ ask) }
         ensures reply { IfOk result (λ t. IsToldByView t.number t.ask t.reply) }
-        ensures seen { IfOk result (λ t. seen_of caller.new Part.View
-            ≡ max (seen_of caller.old Part.View) t.number) }
-        ensures not_told { OnErr result (caller.new.seen ≡ caller.old.seen) }
-        ensures fault { IfErr result (λ f. (f ≡ AskFault.Memory)
-            ⊎ (f ≡ AskFault.JournalFull Part.View)) }
-        ensures others { caller.new.seen
-            ≡ (having_seen caller.old Part.View (seen_of caller.new Part.View)).seen }
-        ensures tree { caller.new.levels ≡ caller.old.levels }
+        ensures heard { IsHeard Part.View result (λ t. t.number) caller.old caller.new }
     {
+        let cell = &self.view;
+        let pass = &mut caller.view;
         let told = ask_part(
             rt,
             alloc,
-            &self.view,
+            cell,
             &self.gate,
             Part::View,
-            &mut caller.view,
+            pass,
             &mut caller.told,
             ask,
         )?;
-        let Entry { ask, reply } = told.entry;
-        Ok(ViewTold {
-            number: told.number,
-            ask,
-            reply,
-        })
+        let Numbered { number, ask, reply } = told;
+        Ok(ViewTold { number, ask, reply })
     }
 }
 

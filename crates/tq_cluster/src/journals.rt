@@ -1,4 +1,4 @@
-ghost use Rattle.std.specs.Prelude.{◌≡◌, ◌≤◌, [], map, reverse, length, vec_len, vec_capacity, IfOk};
+ghost use Rattle.std.specs.Prelude.{◌≡◌, ◌≤◌, [], map, reverse, length, vec_len, vec_capacity};
 ghost use Rattle.std.specs.List.{All};
 ghost use Rattle.tq_node.specs.NodeJournal.{IsLegalNode};
 ghost use Rattle.tq_desk.specs.DeskJournal.{IsLegalDesk};
@@ -10,10 +10,9 @@ use std::alloc::Global;
 use tq_cells::Cell;
 use tq_desk::Desk;
 use tq_live::View;
-use tq_merge::is_legal_desk;
 use tq_node::Node;
 use tq_part::Journaled;
-use tq_shape::{Levels, Limits, Memory};
+use tq_shape::{Levels, Limits};
 use tq_tables::{DeskEntry, NodeEntry, ViewEntry};
 
 /// The journals of the servers in these cells, upwards from server 1, of at most that many entries each, put into the
@@ -64,30 +63,31 @@ fn server_journal(
     journal
 }
 
-/// The journal of the desk, of the desk of those levels and limits, all of it. That its cell held a desk of other levels or
-/// limits cannot be; but no fact of what was under a lock says so, and the desk tells neither: so it is asked again. There
-/// would be no entries then. Answers an error only where memory is refused.
+/// The journal of the desk of those levels and limits, as that of a server.
 pub(crate) fn desk_journal(
     alloc: Global,
     levels: Levels,
     limits: Limits,
     journaled: Journaled<Desk>,
-) -> Result<Vec<DeskEntry>, Memory>
-    ensures legal { IfOk result (λ entries.
-        IsLegalDesk (bounds_of levels limits) (reverse entries.items)) }
-    ensures fits { IfOk result (λ entries. vec_len entries ≤ limits.entries) }
-    ensures whole { IsLegalDesk (bounds_of levels limits) (reverse journaled.journal)
-        → length journaled.journal ≤ limits.entries
-        → IfOk result (λ entries. entries.items ≡ journaled.journal) }
+) -> Vec<DeskEntry>
+    ensures legal { IsLegalDesk (bounds_of levels limits) (reverse result.items) }
+    ensures fits { vec_len result ≤ limits.entries }
+    ensures whole { journaled.part.levels ≡ levels → journaled.part.limits ≡ limits
+        → length journaled.journal ≤ limits.entries → result.items ≡ journaled.journal }
 {
+    let levels_there = journaled.part().levels();
+    let limits_there = journaled.part().limits();
     let journal = journaled.into_entries();
+    if levels_there != levels {
+        return Vec::new(alloc);
+    }
+    if limits_there != limits {
+        return Vec::new(alloc);
+    }
     if journal.len() > limits.entries() as usize {
-        return Ok(Vec::new(alloc));
+        return Vec::new(alloc);
     }
-    if !is_legal_desk(alloc, levels, limits, journal.as_slice())? {
-        return Ok(Vec::new(alloc));
-    }
-    Ok(journal)
+    journal
 }
 
 /// The journal of the view, of a tree of those levels, as that of a server.

@@ -1,4 +1,4 @@
-use Rattle.std.proofs.Common.{◌<◌, ◌-◌, ◌∙◌, ◌++◌, ◌∷◌, [], Ok, ℕ, length, set, ap, sym, subst, arith}
+use Rattle.std.proofs.Common.{◌<◌, ◌-◌, ◌∙◌, ◌++◌, ◌∷◌, [], Ok, ℕ, length, rules, set, ap, sym, subst, arith}
 use Rattle.tq_shape.specs.Tree.{IsServer}
 use Rattle.tq_shape.specs.declared.part.Part.TheVariants as parts
 use Rattle.tq_cluster.specs.Told.{CallerView}
@@ -8,8 +8,8 @@ use Rattle.tq_cluster.proofs.Names.{named_by}
 use Rattle.tq_cluster.proofs.Seen.{asked_none, asked_others, asked_seen, on_err, seeing, server_saw}
 use Rattle.tq_cluster.proofs.cluster.Cluster.ask_node.Goals as goal
 
-pub returns-clause-seen : goal.returns-clause-seen
-returns-clause-seen g c =
+pub returns-clause-heard : goal.returns-clause-heard
+returns-clause-heard g c =
     let own = c.caller.inside in
     let passes = own.servers.items in
     let number = c.number-number.result in
@@ -19,13 +19,18 @@ returns-clause-seen g c =
     let count = c.caller.invariant in
     let less : number - 1 < length passes = omega arith in
     let new = seeing own.levels own.told.items (set passes (number - 1) c.ask_part.new.pass) own.desk.seen own.view.seen in
-    asked_seen c.args.caller.now new (parts.Server c.args.server.number) c.index_mut.result.now.seen c.ask_part.new.pass.seen c.in_ok-told.told.number
-    (server_saw own.levels own.told.items passes own.desk.seen own.view.seen number (parts.Server c.args.server.number) c.index_mut.result.now c.ask_part.new.pass c.args.caller.now c.caller.view_is less
-    (ap parts.Server (sym c.number-number.ensures.value)) c.index_mut.ensures.value)
-    c.in_ok-told.ensures.seen
+    let saw = server_saw own.levels own.told.items passes own.desk.seen own.view.seen number (parts.Server c.args.server.number) c.index_mut-pass.result.now c.ask_part.new.pass c.args.caller.now c.caller.view_is less
+    (ap parts.Server (sym c.number-number.ensures.value)) c.index_mut-pass.ensures.value in
+    record {
+      seen = asked_seen c.args.caller.now new (parts.Server c.args.server.number) c.index_mut-pass.result.now.seen c.ask_part.new.pass.seen c.in_ok-told.told.number saw c.in_ok-told.ensures.seen;
+      not_told = tt;
+      fault = tt;
+      others = asked_others c.args.caller.now new (parts.Server c.args.server.number) c.index_mut-pass.result.now.seen c.ask_part.new.pass.seen saw;
+      tree = ap (λ (v : CallerView). v.levels) c.caller.view_is;
+    }
 
-pub returns-clause-others : goal.returns-clause-others
-returns-clause-others g c =
+pub returns-in_err-told-clause-heard : goal.returns-in_err-told-clause-heard
+returns-in_err-told-clause-heard g c =
     let own = c.caller.inside in
     let passes = own.servers.items in
     let number = c.number-number.result in
@@ -35,40 +40,15 @@ returns-clause-others g c =
     let count = c.caller.invariant in
     let less : number - 1 < length passes = omega arith in
     let new = seeing own.levels own.told.items (set passes (number - 1) c.ask_part.new.pass) own.desk.seen own.view.seen in
-    asked_others c.args.caller.now new (parts.Server c.args.server.number) c.index_mut.result.now.seen c.ask_part.new.pass.seen
-    (server_saw own.levels own.told.items passes own.desk.seen own.view.seen number (parts.Server c.args.server.number) c.index_mut.result.now c.ask_part.new.pass c.args.caller.now c.caller.view_is less
-    (ap parts.Server (sym c.number-number.ensures.value)) c.index_mut.ensures.value)
-
-pub returns-in_err-told-clause-not_told : goal.returns-in_err-told-clause-not_told
-returns-in_err-told-clause-not_told g c =
-    let own = c.caller.inside in
-    let passes = own.servers.items in
-    let number = c.number-number.result in
-    let of_tree = subst (λ (l : ℕ). IsServer l number) (c.requires.server ∙ sym c.requires.levels ∙ ap (λ (v : CallerView). v.levels) (sym c.caller.view_is)) c.number-number.ensures.within in
-    let least = of_tree.0 in
-    let most = of_tree.1 in
-    let count = c.caller.invariant in
-    let less : number - 1 < length passes = omega arith in
-    let new = seeing own.levels own.told.items (set passes (number - 1) c.ask_part.new.pass) own.desk.seen own.view.seen in
-    on_err _ _ (asked_none c.args.caller.now new (parts.Server c.args.server.number) c.index_mut.result.now.seen c.ask_part.new.pass.seen
-    (server_saw own.levels own.told.items passes own.desk.seen own.view.seen number (parts.Server c.args.server.number) c.index_mut.result.now c.ask_part.new.pass c.args.caller.now c.caller.view_is less
-    (ap parts.Server (sym c.number-number.ensures.value)) c.index_mut.ensures.value)
-    c.in_err-told.ensures.not_told)
-
-pub returns-in_err-told-clause-others : goal.returns-in_err-told-clause-others
-returns-in_err-told-clause-others g c =
-    let own = c.caller.inside in
-    let passes = own.servers.items in
-    let number = c.number-number.result in
-    let of_tree = subst (λ (l : ℕ). IsServer l number) (c.requires.server ∙ sym c.requires.levels ∙ ap (λ (v : CallerView). v.levels) (sym c.caller.view_is)) c.number-number.ensures.within in
-    let least = of_tree.0 in
-    let most = of_tree.1 in
-    let count = c.caller.invariant in
-    let less : number - 1 < length passes = omega arith in
-    let new = seeing own.levels own.told.items (set passes (number - 1) c.ask_part.new.pass) own.desk.seen own.view.seen in
-    asked_others c.args.caller.now new (parts.Server c.args.server.number) c.index_mut.result.now.seen c.ask_part.new.pass.seen
-    (server_saw own.levels own.told.items passes own.desk.seen own.view.seen number (parts.Server c.args.server.number) c.index_mut.result.now c.ask_part.new.pass c.args.caller.now c.caller.view_is less
-    (ap parts.Server (sym c.number-number.ensures.value)) c.index_mut.ensures.value)
+    let saw = server_saw own.levels own.told.items passes own.desk.seen own.view.seen number (parts.Server c.args.server.number) c.index_mut-pass.result.now c.ask_part.new.pass c.args.caller.now c.caller.view_is less
+    (ap parts.Server (sym c.number-number.ensures.value)) c.index_mut-pass.ensures.value in
+    record {
+      seen = search rules;
+      not_told = on_err _ _ (asked_none c.args.caller.now new (parts.Server c.args.server.number) c.index_mut-pass.result.now.seen c.ask_part.new.pass.seen saw c.in_err-told.ensures.not_told);
+      fault = search rules;
+      others = asked_others c.args.caller.now new (parts.Server c.args.server.number) c.index_mut-pass.result.now.seen c.ask_part.new.pass.seen saw;
+      tree = ap (λ (v : CallerView). v.levels) c.caller.view_is;
+    }
 
 pub ask_part-requires : goal.ask_part-requires
 ask_part-requires g c =
@@ -77,10 +57,10 @@ ask_part-requires g c =
     let least = of_tree.0 in
     let most = of_tree.1 in
     let count = c.self.invariant.one_each in
-    sym (named_by c.self.inside.servers.items number c.index.result.now c.self.invariant.are_servers least (omega arith) c.index.ensures)
+    sym (named_by c.self.inside.servers.items number c.index-cell.result.now c.self.invariant.are_servers least (omega arith) c.index-cell.ensures)
 
 pub returns-clause-exchanges : goal.returns-clause-exchanges
 returns-clause-exchanges g c =
     let told = c.in_ok-told.told in
     c.in_ok-told.ensures.exchanges
-    ∙ (λ i. (c.caller.view_is i).told ++ exchanges.Node (c.number-number.ensures.value i) c.args.ask (Ok (record { number = told.number; reply = told.entry.reply })) ∷ [])
+    ∙ (λ i. (c.caller.view_is i).told ++ exchanges.Node (c.number-number.ensures.value i) c.args.ask (Ok (record { number = told.number; reply = told.reply })) ∷ [])

@@ -7,4 +7,4 @@ pub returns-clause-exchanges : goal.returns-clause-exchanges
 returns-clause-exchanges g c =
     let told = c.in_ok-told.told in
     c.in_ok-told.ensures.exchanges
-    ∙ ap (λ (v : CallerView). v.told ++ exchanges.View c.args.ask (Ok (record { number = told.number; reply = told.entry.reply })) ∷ []) c.caller.view_is
+    ∙ ap (λ (v : CallerView). v.told ++ exchanges.View c.args.ask (Ok (record { number = told.number; reply = told.reply })) ∷ []) c.caller.view_is
