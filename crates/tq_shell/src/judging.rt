@@ -3,12 +3,14 @@ ghost use Rattle.tq_shell.specs.Verdicts.{IsVerdict};
 
 use crate::verdict::Verdict;
 use std::alloc::{AllocError, Global};
+use std::mem;
 use tq_json_read::{ReadFault, journals_from_json};
 use tq_merge::{Fault, explain};
 use tq_shape::Memory;
 
-/// What the bytes of a journal file tell: whether one sequential run explains its journals, and else why there is none.
-pub fn judge(alloc: Global, bytes: &[u8]) -> Result<Verdict, Memory>
+/// What the bytes of a journal file tell: whether one sequential run explains its journals, and else why there is none. The
+/// journals are left to the end of the process, which is to come.
+pub(crate) fn judge(alloc: Global, bytes: &[u8]) -> Result<Verdict, Memory>
     ensures { IfOk result (IsVerdict bytes.now) }
 {
     let journals = match journals_from_json(alloc, bytes) {
@@ -17,7 +19,9 @@ pub fn judge(alloc: Global, bytes: &[u8]) -> Result<Verdict, Memory>
         Err(ReadFault::NotJson) => return Ok(Verdict::Unreadable),
         Err(ReadFault::NotJournals) => return Ok(Verdict::Unreadable),
     };
-    match explain(alloc, &journals) {
+    let found = explain(alloc, &journals);
+    mem::forget(journals);
+    match found {
         Ok(order) => Ok(Verdict::Explained {
             entries: order.len() as u64,
         }),

@@ -18,7 +18,6 @@ mod upgrading;
 mod verdict;
 
 pub use auditing::audit;
-pub use judging::judge;
 pub use outcome::Outcome;
 pub use running::run_text;
 pub use threading::threads;
