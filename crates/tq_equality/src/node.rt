@@ -1,8 +1,10 @@
 ghost use Rattle.std.specs.Prelude.{◌≡◌};
+ghost use Rattle.tq_asks.specs.declared.ask.WorkAsk.TheVariants as asks;
 ghost use Rattle.tq_equality.specs.Same as spec;
 
 use crate::kinds::Alike;
-use tq_asks::{NodeAsk, NodeRefusal, NodeReply, WorkAsk};
+use tq_asks::{CitedVote, NodeAsk, NodeRefusal, NodeReply, WorkAsk};
+use tq_store::{Content, FileName};
 
 /// A server's asks and replies.
 #[derive(Clone, Copy, Debug)]
@@ -63,15 +65,29 @@ fn test_of_work(one: &WorkAsk, other: &WorkAsk) -> bool
             version,
             content,
             from,
-        } => match other {
-            WorkAsk::Refresh {
-                file: name,
-                version: number,
-                content: bytes,
-                from: source,
-            } => *file == *name && *version == *number && *content == *bytes && *from == *source,
-            _ => false,
-        },
+        } => is_refresh(other, file, *version, content, from),
+    }
+}
+
+/// Whether the ask is the refresh of that file, to that version with that content, which cites that vote.
+fn is_refresh(
+    ask: &WorkAsk,
+    file: &FileName,
+    version: u64,
+    content: &Content,
+    from: &CitedVote,
+) -> bool
+    ensures { result ≡ spec.same_work
+        (asks.Refresh file.now version content.now from.now) ask.now }
+{
+    match ask {
+        WorkAsk::Refresh {
+            file: name,
+            version: number,
+            content: bytes,
+            from: source,
+        } => *file == *name && version == *number && *content == *bytes && *from == *source,
+        _ => false,
     }
 }
 

@@ -34,6 +34,10 @@ pub record AreHolders (levels : ℕ) (nodes : List NodeView) (rows : List FileRo
   pub all : holders.all ≡ servers_where levels (λ node. true) nodes
   pub others : (file : List ℕ) → has_row rows file ≡ false → OthersLack file holders.early.numbers nodes
 
+-- that whatever rows there are
+abbrev pub HoldForAnyRows : ℕ → List NodeView → Holders → Type 0
+HoldForAnyRows levels nodes holders = (rows : List FileRow) → AreHolders levels nodes rows holders
+
 -- those after copies of files rose at a server; whether each of the files has a row
 abbrev pub held_by : Bool → ℕ → Holders → Holders
 held_by true server holders = holders

@@ -1,16 +1,22 @@
 -- The rows of files as they are kept, and how one of them changes.
-use Rattle.std.specs.Prelude.{◌≡◌, ℕ, Bool, true, false, cond, List, [], ◌∷◌, map, fold, slice_get, Option, Some, refl}
+use Rattle.std.specs.Prelude.{◌≡◌, ◌+◌, ◌≤◌, ℕ, Bool, true, false, cond, List, [], ◌∷◌, map, fold, slice_get, Option, Some, refl}
 use Rattle.std.specs.Coded.{Coded, code_by, coded×, coded_list, coded_ℕ}
-use Rattle.std.specs.List.{All}
+use Rattle.std.specs.List.{All, AllByRecursion}
 use Rattle.std.specs.Map.{lookup}
+use Rattle.indexmap.specs.IndexMap.{set_value_at}
 use Rattle.tq_shape.specs.ServerSet.{Servers, with_number, without_number}
+use Rattle.tq_store.specs.Copies.{copy_of}
 use Rattle.tq_store.specs.Names.{same_name}
+use Rattle.tq_store.specs.declared.write.Write.{Write}
+use Rattle.tq_asks.specs.declared.ask.NodeAsk.{NodeAsk}
 use Rattle.tq_evidence.specs.declared.op.Op.{Op}
 use Rattle.tq_desk.specs.declared.ask.DeskAsk.{DeskAsk}
 use Rattle.tq_desk.specs.declared.ask.DeskAsk.TheVariants as asks
 use Rattle.tq_desk.specs.declared.ask.DeskReply.{DeskReply}
 use Rattle.tq_desk.specs.declared.ask.DeskReply.TheVariants as replies
 use Rattle.tq_node.specs.Node.{NodeView}
+use Rattle.tq_node.specs.Untouched.{offered_files, raised_files}
+use Rattle.tq_node.specs.declared.telling.Raised.{Raised}
 use Rattle.tq_tables.specs.NamesApart.{Apart}
 use Rattle.tq_tables.specs.Counted.{count_in, version_of}
 use Rattle.tq_tables.specs.Rows.{has_version, row_at}
@@ -27,11 +33,21 @@ pub record FilesView : Type 0 where
 abbrev pub names_in : List FileRow → List (List ℕ)
 names_in rows = map (λ row. row.file) rows
 
--- the sets of servers of each row are of the tree
-abbrev pub AreOfLevels : ℕ → List FileRow → Type 0
-AreOfLevels levels rows = All (λ row. (row.current.levels ≡ levels) × (row.stale.levels ≡ levels)) rows
+-- the table has these rows, for a tree of so many levels
+abbrev pub HasRows : FilesView → ℕ → List FileRow → Type 0
+HasRows table levels rows = (table.levels ≡ levels) × (table.rows ≡ rows)
 
--- each row is as the servers' copies of its file say, at the version that it says
+-- the sets of servers of the row, and of each row, are of the tree
+abbrev pub IsOfLevels : ℕ → FileRow → Type 0
+IsOfLevels levels row = (row.current.levels ≡ levels) × (row.stale.levels ≡ levels)
+
+abbrev pub AreOfLevels : ℕ → List FileRow → Type 0
+AreOfLevels levels rows = All (λ row. IsOfLevels levels row) rows
+
+-- the row, and each row, is as the servers' copies of its file say, at the version that it says
+abbrev pub IsExact : List NodeView → FileRow → Type 0
+IsExact nodes row = row ≡ row_at row.current.levels nodes row.file row.version
+
 abbrev pub AreExact : ℕ → List NodeView → List FileRow → Type 0
 AreExact levels nodes rows = All (λ row. row ≡ row_at levels nodes row.file row.version) rows
 
@@ -53,6 +69,13 @@ row_in rows file = lookup (same_name file) (map (λ row. (row.file, row)) rows)
 abbrev pub version_in : List FileRow → List ℕ → ℕ
 version_in rows file = count_in (map version_of rows) file
 
+-- the row of a file after one commit more that writes it, by the row that it has, and by all rows
+abbrev pub next_row : List NodeView → FileRow → FileRow
+next_row nodes row = row_at row.current.levels nodes row.file (row.version + 1)
+
+abbrev pub written_row : ℕ → List NodeView → List FileRow → List ℕ → FileRow
+written_row levels nodes rows file = row_at levels nodes file (version_in rows file + 1)
+
 -- the rows with this one, in the place of the one of its file, or at the end where there is none
 abbrev pub with_row : List FileRow → FileRow → List FileRow
 with_row [] row = row ∷ []
@@ -60,6 +83,10 @@ with_row (first ∷ rows) row = cond (same_name row.file first.file) (row ∷ ro
 
 abbrev pub with_rows : List FileRow → List FileRow → List FileRow
 with_rows rows more = fold with_row rows more
+
+-- the files of writes
+abbrev pub written_files : List Write → List (List ℕ)
+written_files writes = map (λ write. write.file) writes
 
 -- ---- a server's copy
 
@@ -85,6 +112,34 @@ stood_at node file row = cond (same_name file row.file) (stood node row) row
 -- the rows with a server where its copies of these files say
 abbrev pub all_stood : NodeView → List FileRow → List (List ℕ) → List FileRow
 all_stood node rows files = fold (λ all file. map (stood_at node file) all) rows files
+
+-- that for the files of writes, for the one that a refresh offers, and for those that an ask raised
+abbrev pub stood_written : NodeView → List FileRow → List Write → List FileRow
+stood_written node rows writes = all_stood node rows (written_files writes)
+
+abbrev pub stood_offered : NodeView → List FileRow → NodeAsk → List FileRow
+stood_offered node rows ask = all_stood node rows (offered_files ask)
+
+abbrev pub stood_raised : NodeView → List FileRow → NodeAsk → Raised → List FileRow
+stood_raised node rows ask raised = all_stood node rows (raised_files ask raised)
+
+-- the server's copy of each file written is of the version written, or of a later one
+abbrev pub HoldsWritten : NodeView → List Write → Type 0
+HoldsWritten node writes = AllByRecursion (λ write. write.version ≤ (copy_of node.state.records.copies write.file).version) writes
+
+-- ---- the row at a place, if there is one
+
+-- the server's copy of the row's file is at least of that version
+abbrev pub ReachesRowAt : List (List ℕ × FileRow) → ℕ → NodeView → ℕ → Type 0
+ReachesRowAt entries place node least = (file : List ℕ) (row : FileRow) → slice_get entries place ≡ Some (file, row) → least ≤ (copy_of node.state.records.copies row.file).version
+
+-- the row's sets of servers are of the server's tree
+abbrev pub FitsRowAt : List (List ℕ × FileRow) → ℕ → NodeView → Type 0
+FitsRowAt entries place node = (file : List ℕ) (row : FileRow) → slice_get entries place ≡ Some (file, row) → (node.levels ≡ row.current.levels) × (node.levels ≡ row.stale.levels)
+
+-- the server stands there where its copy says, and nothing else changes
+abbrev pub StandsAt : List (List ℕ × FileRow) → List (List ℕ × FileRow) → ℕ → NodeView → Type 0
+StandsAt old new place node = (file : List ℕ) (row : FileRow) → slice_get old place ≡ Some (file, row) → new ≡ set_value_at old place (stood node row)
 
 -- ---- what changes
 

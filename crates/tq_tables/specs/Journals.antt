@@ -1,5 +1,6 @@
 -- The journals of a system, one for each part.
-use Rattle.std.specs.Prelude.{◌≡◌, ◌≤◌, ◌+◌, ◌^◌, ℕ, List, [], ◌∷◌, ◌++◌, length}
+use Rattle.std.specs.Prelude.{◌≡◌, ◌≤◌, ◌+◌, ◌-◌, ◌^◌, ℕ, List, [], ◌∷◌, ◌++◌, length, map, replicate}
+use Rattle.std.specs.Global.{Vec}
 use Rattle.std.specs.List.{All}
 use Rattle.tq_shape.specs.Limits.{LimitsView}
 use Rattle.tq_shape.specs.declared.entry.Entry.{Entry}
@@ -21,6 +22,14 @@ pub record JournalsView : Type 0 where
   pub servers : List (List NodeEntry)
   pub desk : List DeskEntry
   pub view : List ViewEntry
+
+-- the entries of each server's journal
+abbrev pub entries_in : List (Vec NodeEntry) → List (List NodeEntry)
+entries_in journals = map (λ entries. entries.items) journals
+
+-- no part was asked anything
+abbrev pub no_entries : ℕ → LimitsView → JournalsView
+no_entries levels limits = record { levels = levels; limits = limits; servers = replicate (2 ^ levels - 1) []; desk = []; view = [] }
 
 -- there is one journal for each server, none has more entries than the limit, and each quorum and blocker is of the tree
 pub record AreJournals (journals : JournalsView) : Type 0 where

@@ -4,11 +4,13 @@ pub mod Parts
 pub mod Rows
 pub mod Walk
 pub mod Tables
+pub mod Tabled
 pub mod Counted
 pub mod DeskStates
 pub mod NamesApart
 pub mod Files
 pub mod Early
+pub mod Told
 pub mod NextOfServer
 pub mod Asked
 pub mod NextEntry

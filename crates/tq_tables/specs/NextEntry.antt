@@ -1,12 +1,13 @@
 -- The journals with one entry more of some part.
-use Rattle.std.specs.Prelude.{ℕ, ⊤}
+use Rattle.std.specs.Prelude.{◌≡◌, ℕ, ⊤}
 use Rattle.tq_shape.specs.declared.part.Part.{Part}
 use Rattle.tq_shape.specs.declared.part.Part.TheVariants as parts
 use Rattle.tq_tables.specs.declared.part_entry.PartEntry.{PartEntry}
 use Rattle.tq_tables.specs.declared.part_entry.PartEntry.TheVariants as lent
 use Rattle.tq_tables.specs.Journals.{JournalsView, with_desk, with_view}
 use Rattle.tq_tables.specs.NextOfServer.{IsNextOfServer, with_node}
-use Rattle.tq_tables.specs.Tables.{IsNextOfDesk, TablesView}
+use Rattle.tq_tables.specs.Parts.{AreLegal}
+use Rattle.tq_tables.specs.Tables.{IsNextOfDesk, TablesView, tables_of}
 
 -- the journals with the entry at the end of the part's; the same journals where it is no entry of such a part
 abbrev pub with_entry : JournalsView → Part → PartEntry → JournalsView
@@ -22,3 +23,8 @@ IsNextEntry tables (parts.Server server) number (lent.Server entry) = IsNextOfSe
 IsNextEntry tables parts.Desk _ (lent.Desk entry) = IsNextOfDesk tables entry.now
 IsNextEntry _ parts.View _ (lent.View _) = ⊤
 IsNextEntry _ _ _ _ = ⊥
+
+-- the new tables follow the entry of the part too: where the old ones are those of journals, the new ones are those of the
+-- journals with it
+abbrev pub FollowsEntry : TablesView → TablesView → Part → PartEntry → Type 0
+FollowsEntry old new part entry = (journals : JournalsView) → AreLegal (with_entry journals part entry) → old ≡ tables_of journals → new ≡ tables_of (with_entry journals part entry)

@@ -13,11 +13,14 @@ use Rattle.tq_node.specs.NodeJournal.{IsLegalNode, NodeEntry}
 use Rattle.tq_desk.specs.DeskStep.{DeskView, desk_after}
 use Rattle.tq_desk.specs.DeskStep as desk
 use Rattle.tq_desk.specs.Views.{desk_code}
-use Rattle.tq_desk.specs.DeskJournal.{DeskBounds, IsLegalDesk, DeskEntry}
+use Rattle.tq_desk.specs.DeskChanges.{desk_changed}
+use Rattle.tq_desk.specs.DeskJournal.{DeskBounds, IsLegalDesk, DeskEntry, desk_state}
+use Rattle.tq_desk.specs.declared.change.DeskChange.{DeskChange}
 use Rattle.tq_live.specs.Live.{Live}
 use Rattle.tq_live.specs.Costs.{costs_code}
 use Rattle.tq_live.specs.declared.costs.Costs.{Costs}
-use Rattle.tq_live.specs.View.{view_state, IsLegalView}
+use Rattle.tq_live.specs.View.{view_after, view_state, IsLegalView}
+use Rattle.tq_live.specs.declared.view.ViewAsk.{ViewAsk}
 use Rattle.tq_tables.specs.Journals.{JournalsView, ViewEntry}
 
 -- the raw records of a server after the entries of its journal
@@ -75,6 +78,24 @@ pub record AreLegal (journals : JournalsView) : Type 0 where
   pub servers : AreLegalServers 1 journals.servers
   pub desk : IsLegalDesk (bounds_of journals.levels journals.limits) (reverse journals.desk)
   pub view : IsLegalView journals.levels journals.view
+
+-- ---- one part further
+
+-- the server after the entries, one that has stored nothing before
+abbrev pub replayed : NodeView → List NodeEntry → NodeView
+replayed node entries = node_after_all node.levels node.server entries
+
+-- the desk stands as a legal journal with these entries, the oldest first, leaves it
+pub record StandsAfter (desk : DeskView) (entries : List DeskEntry) : Type 0 where
+  pub legal : IsLegalDesk (bounds_of desk.levels desk.limits) (reverse entries)
+  pub stands : desk ≡ desk_state (bounds_of desk.levels desk.limits) (reverse entries)
+
+-- the parts after a change of the desk, and after an ask of the view
+abbrev pub with_change : PartsView → DeskChange → PartsView
+with_change parts change = record parts { desk = desk_changed parts.desk change }
+
+abbrev pub with_view_asked : PartsView → ViewAsk → PartsView
+with_view_asked parts ask = record parts { view = view_after parts.view ask }
 
 -- codes, by which a proof tells values apart
 abbrev pub live_code : Coded Live

@@ -1,5 +1,5 @@
 -- The rows of the tables, over the raw records of the servers, the costs and marks, and the log of the desk.
-use Rattle.std.specs.Prelude.{ℕ, ◌-◌, ◌^◌, Bool, not, cond, nat_le, List, [], ◌∷◌, ◌++◌, map, filter, Option, Some, None, slice_index_or, sum_by}
+use Rattle.std.specs.Prelude.{ℕ, ◌-◌, ◌^◌, Bool, not, cond, nat_le, List, [], ◌∷◌, ◌++◌, map, filter, Option, Some, None, reverse, slice_index_or, sum_by}
 use Rattle.std.specs.FinMap as fin
 use Rattle.std.specs.List.{flat_map}
 use Rattle.std.specs.Option.{option_map}
@@ -15,7 +15,7 @@ use Rattle.tq_asks.specs.Citing.{cites_vote}
 use Rattle.tq_asks.specs.declared.ask.Verdict.{Verdict}
 use Rattle.tq_asks.specs.declared.ask.Verdict.TheVariants as verdicts
 use Rattle.tq_desk.specs.DeskStep.{with_files}
-use Rattle.tq_desk.specs.DeskJournal.{Commit, DeskEntry, count, final}
+use Rattle.tq_desk.specs.DeskJournal.{Commit, DeskEntry, commits, count, final}
 use Rattle.tq_desk.specs.DecisionLog.{is_txn, is_written}
 use Rattle.tq_live.specs.Live.{Live, best, cost_of}
 use Rattle.tq_live.specs.View.{upwards}
@@ -52,6 +52,10 @@ quorum_row live server = record { read = least_row live purposes.Read server; wr
 -- for each server upwards
 abbrev pub quorum_rows : Live → List QuorumRow
 quorum_rows live = map (quorum_row live) (upwards 1 (2 ^ live.levels - 1))
+
+-- a row that was written, none where nothing was found
+abbrev pub row_if : Bool → Least → Option Least
+row_if found row = cond found (Some row) None
 
 -- ---- the files that commits write (a list of commits has the newest first)
 
@@ -101,6 +105,10 @@ file_row levels nodes commits file = row_at levels nodes file (count file commit
 
 abbrev pub file_rows : ℕ → List NodeView → List Commit → List FileRow
 file_rows levels nodes commits = map (file_row levels nodes commits) (files_in commits)
+
+-- those of the commits among entries of the desk, the oldest first
+abbrev pub file_rows_after : ℕ → List NodeView → List DeskEntry → List FileRow
+file_rows_after levels nodes entries = file_rows levels nodes (commits (reverse entries))
 
 -- ---- the locks
 

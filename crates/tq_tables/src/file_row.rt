@@ -1,8 +1,7 @@
 ghost use Rattle.std.specs.Prelude.{◌≡◌, ◌+◌, ◌<◌, ◌≤◌, ◌^◌, IfOk};
 ghost use Rattle.tq_store.specs.Copies.{copy_of};
-ghost use Rattle.tq_tables.specs.Files.{stood};
+ghost use Rattle.tq_tables.specs.Files.{IsExact, next_row, stood};
 ghost use Rattle.tq_tables.specs.Parts.{AreOfTree};
-ghost use Rattle.tq_tables.specs.Rows.{row_at};
 
 use tq_node::Node;
 use tq_shape::{Memory, ServerSet};
@@ -50,9 +49,9 @@ impl FileRow {
     /// too, so only those that were current are looked at.
     pub(crate) fn of_next_commit(&self, nodes: &[Node]) -> Result<FileRow, Memory>
         requires of_tree { AreOfTree self.now.current.levels 1 nodes.now }
-        requires exact { self.now ≡ row_at self.now.current.levels nodes.now self.now.file self.now.version }
+        requires exact { IsExact nodes.now self.now }
         requires room { self.now.version + 1 < 2 ^ 64 }
-        ensures { IfOk result (λ row. row ≡ row_at self.now.current.levels nodes.now self.now.file (self.now.version + 1)) }
+        ensures { IfOk result (λ row. row ≡ next_row nodes.now self.now) }
     {
         let mut row = self.copy()?;
         row.version += 1;

@@ -1,9 +1,8 @@
-ghost use Rattle.std.specs.Prelude.{◌≡◌, ◌+◌, ◌<◌, ◌≤◌, ◌^◌, ◌++◌, ℕ, List, true, length, map, IfOk, OnOk, reverse};
+ghost use Rattle.std.specs.Prelude.{◌≡◌, ◌+◌, ◌<◌, ◌≤◌, ◌^◌, ◌++◌, ℕ, List, true, length, map, IfOk, OnOk};
 ghost use Rattle.std.specs.List.{All};
-ghost use Rattle.tq_desk.specs.DeskJournal as log;
 ghost use Rattle.tq_tables.specs.Counted.{names_of};
 ghost use Rattle.tq_tables.specs.Early.{AreHolders, OthersLack};
-ghost use Rattle.tq_tables.specs.Files.{AreExact, version_in};
+ghost use Rattle.tq_tables.specs.Files.{AreExact, version_in, written_row};
 ghost use Rattle.tq_tables.specs.Parts.{AreOfTree};
 ghost use Rattle.tq_tables.specs.Rows as spec;
 
@@ -26,7 +25,8 @@ pub fn file_rows(
     entries: &[DeskEntry],
 ) -> Result<Vec<FileRow>, Memory>
     requires { AreOfTree levels 1 nodes.now }
-    ensures { IfOk result (λ rows. rows.items ≡ spec.file_rows levels nodes.now (log.commits (reverse entries.now))) }
+    ensures { IfOk result (λ rows. rows.items
+        ≡ spec.file_rows_after levels nodes.now entries.now) }
 {
     let counts = WriteCounts::of(alloc, entries)?;
     let mut rows = Vec::new(alloc);
@@ -49,7 +49,7 @@ pub(crate) fn rows_written(
     requires holders { AreHolders table.now.levels nodes.now table.now.rows holders.now }
     requires room { (file : List ℕ) → version_in table.now.rows file + 1 < 2 ^ 64 }
     ensures { IfOk result (λ rows. rows.items
-        ≡ map (λ file. spec.row_at table.now.levels nodes.now file (version_in table.now.rows file + 1)) (names_of ops.now)) }
+        ≡ map (written_row table.now.levels nodes.now table.now.rows) (names_of ops.now)) }
 {
     match ops {
         [] => Ok(Vec::new(alloc)),
@@ -70,7 +70,7 @@ fn rows_of_ops(
     requires holders { AreHolders table.now.levels nodes.now table.now.rows holders.now }
     requires room { (file : List ℕ) → version_in table.now.rows file + 1 < 2 ^ 64 }
     ensures { IfOk result (λ rows. rows.items
-        ≡ map (λ file. spec.row_at table.now.levels nodes.now file (version_in table.now.rows file + 1)) (names_of ops.now)) }
+        ≡ map (written_row table.now.levels nodes.now table.now.rows) (names_of ops.now)) }
 {
     let names = FileNames::written(alloc, ops)?;
     let mut rows = Vec::new(alloc);
@@ -92,7 +92,8 @@ fn next_row(
     requires exact { AreExact table.now.levels nodes.now table.now.rows }
     requires holders { AreHolders table.now.levels nodes.now table.now.rows holders.now }
     requires room { version_in table.now.rows file.now + 1 < 2 ^ 64 }
-    ensures { IfOk result (λ row. row ≡ spec.row_at table.now.levels nodes.now file.now (version_in table.now.rows file.now + 1)) }
+    ensures { IfOk result (λ row. row
+        ≡ written_row table.now.levels nodes.now table.now.rows file.now) }
 {
     match table.row(file) {
         Some(row) => row.of_next_commit(nodes),

@@ -1,16 +1,13 @@
 //! The rows of files, found by the names of the files.
-ghost use Rattle.std.specs.Prelude.{[], ◌≡◌, ◌≤◌, ◌<◌, ◌+◌, ℕ, List, Some, length, map, slice_get, IfOk, OnOk};
+ghost use Rattle.std.specs.Prelude.{[], ◌≡◌, ◌≤◌, ◌<◌, ◌+◌, length, map, IfOk, OnOk};
 ghost use Rattle.std.specs.Bool.{OnTrue};
 ghost use Rattle.std.specs.Option.{option_copied};
-ghost use Rattle.std.specs.List.{AllByRecursion};
 ghost use Rattle.tq_node.specs.Untouched.{AreReached, HasOffered, offered_files, raised_files};
 ghost use Rattle.tq_store.specs.Copies.{copy_of};
 ghost use Rattle.tq_tables.specs.NamesApart.{Apart};
 ghost use Rattle.tq_tables.specs.Files as spec;
 ghost use Rattle.tq_tables.specs.Files.{AreOfLevels, HasRowAt};
 ghost use Rattle.tq_tables.specs.Early.{HaveRows, has_row};
-ghost use Rattle.indexmap.specs.IndexMap.{set_value_at};
-ghost use Rattle.tq_tables.specs.declared.file_row.FileRow.{FileRow};
 
 use crate::FileRow;
 use crate::file_rows::copy_files;
@@ -56,7 +53,7 @@ impl FileTable {
     pub(crate) fn of(alloc: Global, levels: Levels, rows: Vec<FileRow>) -> Result<FileTable, Memory>
         requires apart { Apart (spec.names_in rows.items) }
         requires of_tree { AreOfLevels levels rows.items }
-        ensures { IfOk result (λ table. (table.levels ≡ levels) × (table.rows ≡ rows.items)) }
+        ensures { IfOk result (λ table. spec.HasRows table levels rows.items) }
     {
         let mut table = FileTable::new(alloc, levels);
         table.reserve(rows.len())?;
@@ -78,7 +75,7 @@ impl FileTable {
 
     /// A table with equal rows, with memory of its own.
     pub(crate) fn copy(&self, alloc: Global) -> Result<FileTable, Memory>
-        ensures { IfOk result (λ copy. (copy.levels ≡ self.now.levels) × (copy.rows ≡ self.now.rows)) }
+        ensures { IfOk result (λ copy. spec.HasRows copy self.now.levels self.now.rows) }
     {
         let rows = copy_files(alloc, self.rows())?;
         FileTable::of(alloc, self.levels, rows)
@@ -121,7 +118,7 @@ impl FileTable {
     /// Puts the row in the place of the one of its file, or at the end where there is none. It takes no memory.
     fn put(&mut self, row: FileRow)
         requires room { 0 < self.old.room }
-        requires of_tree { (row.current.levels ≡ self.old.levels) × (row.stale.levels ≡ self.old.levels) }
+        requires of_tree { spec.IsOfLevels self.old.levels row }
         ensures levels { self.new.levels ≡ self.old.levels }
         ensures rows { self.new.rows ≡ spec.with_row self.old.rows row }
         ensures room { self.old.room ≤ self.new.room + 1 }
@@ -201,7 +198,8 @@ impl FileTable {
         requires levels { node.now.levels ≡ self.old.levels }
         requires reached { AreReached ask.now raised.now node.now.state.records.copies }
         ensures levels { self.new.levels ≡ self.old.levels }
-        ensures rows { self.new.rows ≡ spec.all_stood node.now self.old.rows (raised_files ask.now raised.now) }
+        ensures rows { self.new.rows
+            ≡ spec.stood_raised node.now self.old.rows ask.now raised.now }
         ensures found { OnTrue result (HaveRows self.old.rows (raised_files ask.now raised.now)) }
     {
         match raised {
@@ -216,7 +214,7 @@ impl FileTable {
         requires levels { node.now.levels ≡ self.old.levels }
         requires reached { HasOffered ask.now node.now.state.records.copies }
         ensures levels { self.new.levels ≡ self.old.levels }
-        ensures rows { self.new.rows ≡ spec.all_stood node.now self.old.rows (offered_files ask.now) }
+        ensures rows { self.new.rows ≡ spec.stood_offered node.now self.old.rows ask.now }
         ensures found { OnTrue result (HaveRows self.old.rows (offered_files ask.now)) }
     {
         let _levels = self.levels;
@@ -238,10 +236,10 @@ impl FileTable {
     /// The same for the files of the writes.
     fn stand_written(&mut self, node: &Node, writes: &[Write]) -> bool
         requires levels { node.now.levels ≡ self.old.levels }
-        requires reached { AllByRecursion (λ write. write.version ≤ (copy_of node.now.state.records.copies write.file).version) writes.now }
+        requires reached { spec.HoldsWritten node.now writes.now }
         ensures levels { self.new.levels ≡ self.old.levels }
-        ensures rows { self.new.rows ≡ spec.all_stood node.now self.old.rows (map (λ write. write.file) writes.now) }
-        ensures found { OnTrue result (HaveRows self.old.rows (map (λ write. write.file) writes.now)) }
+        ensures rows { self.new.rows ≡ spec.stood_written node.now self.old.rows writes.now }
+        ensures found { OnTrue result (HaveRows self.old.rows (spec.written_files writes.now)) }
     {
         let mut found = true;
         for write in writes {
@@ -267,11 +265,9 @@ fn has_row_at(rows: &IndexMap<FileName, FileRow>, place: usize, file: &FileName)
 /// In the row at the place, if there is one, the server stands where its copy says. It takes no memory.
 #[inline(always)]
 fn stand_at(rows: &mut IndexMap<FileName, FileRow>, place: usize, node: &Node, least: u64)
-    requires least { (file : List ℕ) (row : FileRow) → slice_get rows.old.entries place ≡ Some (file, row) → least ≤ (copy_of node.now.state.records.copies row.file).version }
-    requires levels { (file : List ℕ) (row : FileRow) → slice_get rows.old.entries place ≡ Some (file, row)
-        → (node.now.levels ≡ row.current.levels) × (node.now.levels ≡ row.stale.levels) }
-    ensures { (file : List ℕ) (row : FileRow) → slice_get rows.old.entries place ≡ Some (file, row)
-        → rows.new.entries ≡ set_value_at rows.old.entries place (spec.stood node.now row) }
+    requires least { spec.ReachesRowAt rows.old.entries place node.now least }
+    requires levels { spec.FitsRowAt rows.old.entries place node.now }
+    ensures { spec.StandsAt rows.old.entries rows.new.entries place node.now }
 {
     if let Some(row) = rows.get_index_mut(place) {
         row.stand(node, least);

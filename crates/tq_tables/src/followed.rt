@@ -1,13 +1,9 @@
-ghost use Rattle.std.specs.Prelude.{◌≡◌, ◌+◌, ◌^◌, true, cond, Some, None, length, reverse, IfOk, OnOk, OnErr};
+ghost use Rattle.std.specs.Prelude.{◌≡◌, ◌+◌, ◌^◌, true, None, length, IfOk, OnOk, OnErr};
 ghost use Rattle.std.specs.List.{All};
-ghost use Rattle.tq_desk.specs.DeskJournal.{IsLegalDesk, desk_state};
-ghost use Rattle.tq_desk.specs.DeskStep.{desk_reply};
 ghost use Rattle.tq_live.specs.Live.{Live};
-ghost use Rattle.tq_live.specs.View.{view_after, view_reply};
-ghost use Rattle.tq_node.specs.Records.{node_reply};
-ghost use Rattle.tq_shape.specs.Journal.{entry};
-ghost use Rattle.tq_shape.specs.Journal as journal;
-ghost use Rattle.tq_tables.specs.Asked.{MayAskDesk, MayAskNode, both, node_in};
+ghost use Rattle.tq_live.specs.View.{view_after};
+ghost use Rattle.tq_tables.specs.Asked.{FollowsDesk, FollowsNode, FollowsView, MayAskDesk, MayAskNode};
+ghost use Rattle.tq_tables.specs.Asked.{desk_replies, node_replies, view_replies};
 ghost use Rattle.tq_tables.specs.Files as spec;
 
 use crate::file_rows::{file_rows, rows_written};
@@ -76,12 +72,11 @@ impl Model for Followed {
 }
 
 impl Followed {
-    ghost use Rattle.tq_tables.specs.Journals.{JournalsView, with_desk, with_view};
     ghost use Rattle.tq_tables.specs.NextEntry.{IsNextEntry};
-    ghost use Rattle.tq_tables.specs.NextOfServer.{IsNextOfServer, with_node};
-    ghost use Rattle.tq_tables.specs.Parts.{AreLegal, bounds_of};
+    ghost use Rattle.tq_tables.specs.NextOfServer.{IsNextOfServer};
+    ghost use Rattle.tq_tables.specs.Parts.{AreLegal, StandsAfter};
     ghost use Rattle.tq_tables.specs.Reserved.{LeadsTo, ask_of};
-    ghost use Rattle.tq_tables.specs.Rows.{least_in};
+    ghost use Rattle.tq_tables.specs.Rows.{row_if, least_in};
     ghost use Rattle.tq_tables.specs.Tables.{IsNextOfDesk, tables_of, tables_over};
 
     /// The tables of these journals, which are legal: each reply is the one that its part gives there.
@@ -102,8 +97,7 @@ impl Followed {
         parts: Parts,
         entries: &[DeskEntry],
     ) -> Result<Followed, Memory>
-        requires legal { IsLegalDesk (bounds_of parts.desk.levels parts.desk.limits) (reverse entries.now) }
-        requires stands { parts.desk ≡ desk_state (bounds_of parts.desk.levels parts.desk.limits) (reverse entries.now) }
+        requires { StandsAfter parts.desk entries.now }
         ensures value { IfOk result (λ tables. tables ≡ tables_over parts entries.now) }
         ensures none { IfOk result (λ tables. tables.ready ≡ None) }
     {
@@ -151,9 +145,8 @@ impl Followed {
     ) -> Result<Replies<NodeReply>, Memory>
         requires { MayAskNode self.old server number }
         ensures replies { IfOk result (λ replies. replies
-            ≡ both (node_reply (node_in self.old.nodes server).server (node_in self.old.nodes server).state ask.now)) }
-        ensures asked { OnOk result ((journals : JournalsView) (reply : NodeReply) → AreLegal (with_node journals server (entry ask.now reply))
-            → self.old ≡ tables_of journals → self.new ≡ tables_of (with_node journals server (entry ask.now reply))) }
+            ≡ node_replies self.old.nodes server ask.now) }
+        ensures asked { OnOk result (FollowsNode self.old self.new server ask.now) }
         ensures unchanged { OnErr result (self.new ≡ self.old) }
         ensures none { self.new.ready ≡ None }
     {
@@ -178,9 +171,8 @@ impl Followed {
         alloc: Global,
         ask: &ViewAsk,
     ) -> Result<Replies<ViewReply>, Memory>
-        ensures replies { IfOk result (λ replies. replies ≡ both (view_reply self.old.view ask.now)) }
-        ensures asked { OnOk result ((journals : JournalsView) (reply : ViewReply) → AreLegal (with_view journals (entry ask.now reply))
-            → self.old ≡ tables_of journals → self.new ≡ tables_of (with_view journals (entry ask.now reply))) }
+        ensures replies { IfOk result (λ replies. replies ≡ view_replies self.old.view ask.now) }
+        ensures asked { OnOk result (FollowsView self.old self.new ask.now) }
         ensures unchanged { OnErr result (self.new ≡ self.old) }
         ensures none { self.new.ready ≡ None }
     {
@@ -198,9 +190,8 @@ impl Followed {
         ask: &DeskAsk,
     ) -> Result<Replies<DeskReply>, Memory>
         requires { MayAskDesk self.old }
-        ensures replies { IfOk result (λ replies. replies ≡ both (desk_reply self.old.desk ask.now)) }
-        ensures asked { OnOk result ((journals : JournalsView) (reply : DeskReply) → AreLegal (with_desk journals (entry ask.now reply))
-            → self.old ≡ tables_of journals → self.new ≡ tables_of (with_desk journals (entry ask.now reply))) }
+        ensures replies { IfOk result (λ replies. replies ≡ desk_replies self.old.desk ask.now) }
+        ensures asked { OnOk result (FollowsDesk self.old self.new ask.now) }
         ensures unchanged { OnErr result (self.new ≡ self.old) }
         ensures none { self.new.ready ≡ None }
     {
@@ -256,8 +247,7 @@ impl Followed {
         entry: &NodeEntry,
     ) -> Result<(), Memory>
         requires { IsNextOfServer self.old server number entry.now }
-        ensures noted { OnOk result ((journals : JournalsView) (reply : NodeReply) → AreLegal (with_node journals server (journal.entry entry.now.ask reply))
-            → self.old ≡ tables_of journals → self.new ≡ tables_of (with_node journals server (journal.entry entry.now.ask reply))) }
+        ensures noted { OnOk result (FollowsNode self.old self.new server entry.now.ask) }
         ensures unchanged { OnErr result (self.new ≡ self.old) }
         ensures none { self.new.ready ≡ None }
     {
@@ -267,8 +257,7 @@ impl Followed {
 
     /// Follows the entry that the view's journal got next, as `ask_view`.
     fn note_view(&mut self, alloc: Global, entry: &ViewEntry) -> Result<(), Memory>
-        ensures noted { OnOk result ((journals : JournalsView) (reply : ViewReply) → AreLegal (with_view journals (journal.entry entry.now.ask reply))
-            → self.old ≡ tables_of journals → self.new ≡ tables_of (with_view journals (journal.entry entry.now.ask reply))) }
+        ensures noted { OnOk result (FollowsView self.old self.new entry.now.ask) }
         ensures unchanged { OnErr result (self.new ≡ self.old) }
         ensures none { self.new.ready ≡ None }
     {
@@ -283,8 +272,7 @@ impl Followed {
     /// Follows the entry that the desk's journal got next, as `ask_desk`.
     fn note_desk(&mut self, alloc: Global, entry: &DeskEntry) -> Result<(), Memory>
         requires { IsNextOfDesk self.old entry.now }
-        ensures noted { OnOk result ((journals : JournalsView) (reply : DeskReply) → AreLegal (with_desk journals (journal.entry entry.now.ask reply))
-            → self.old ≡ tables_of journals → self.new ≡ tables_of (with_desk journals (journal.entry entry.now.ask reply))) }
+        ensures noted { OnOk result (FollowsDesk self.old self.new entry.now.ask) }
         ensures unchanged { OnErr result (self.new ≡ self.old) }
         ensures none { self.new.ready ≡ None }
     {
@@ -338,7 +326,7 @@ impl Followed {
     pub(crate) fn least_into(&self, purpose: Purpose, server: ServerId, row: &mut Least) -> bool
         requires server { server.levels ≡ self.now.levels }
         requires row { row.old.servers.levels ≡ self.now.levels }
-        ensures least { cond result (Some row.new) None ≡ least_in self.now.quorums purpose server.number }
+        ensures least { row_if result row.new ≡ least_in self.now.quorums purpose server.number }
         ensures tree { row.new.servers.levels ≡ self.now.levels }
     {
         let _within = server.number();

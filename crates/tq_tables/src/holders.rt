@@ -1,9 +1,8 @@
 //! The servers that may have a copy of a file before a commit of it is followed.
-ghost use Rattle.std.specs.Prelude.{◌≡◌, List, true, length, IfOk};
-ghost use Rattle.tq_tables.specs.Early.{AreHolders, HoldEarly, held_by};
+ghost use Rattle.std.specs.Prelude.{◌≡◌, true, length, IfOk};
+ghost use Rattle.tq_tables.specs.Early.{HoldEarly, HoldForAnyRows, held_by};
 ghost use Rattle.tq_tables.specs.Parts.{AreOfTree};
 ghost use Rattle.tq_tables.specs.Rows.{servers_where};
-ghost use Rattle.tq_tables.specs.declared.file_row.FileRow.{FileRow};
 
 use std::alloc::Global;
 use tq_node::Node;
@@ -28,7 +27,7 @@ impl Holders {
     /// Of these servers, whatever rows there are: each that has stored something may have such a copy.
     pub(crate) fn of(alloc: Global, levels: Levels, nodes: &[Node]) -> Result<Holders, Memory>
         requires { AreOfTree levels 1 nodes.now }
-        ensures { IfOk result (λ holders. (rows : List FileRow) → AreHolders levels nodes.now rows holders) }
+        ensures { IfOk result (λ holders. HoldForAnyRows levels nodes.now holders) }
     {
         let early = early_servers(alloc, levels, nodes)?;
         let all = all_servers(alloc, levels, nodes)?;

@@ -1,6 +1,6 @@
 ghost use Rattle.std.specs.Prelude.{◌≡◌, map, IfOk, Some};
 ghost use Rattle.std.specs.Iterator.{YieldsFirstBy};
-ghost use Rattle.tq_tables.specs.DeskStates.{intent_state_at};
+ghost use Rattle.tq_tables.specs.DeskStates.{intent_rows_at, intent_state_at};
 ghost use Rattle.tq_tables.specs.Rows as spec;
 ghost use Rattle.tq_tables.specs.Walk.{left_at, lent_row};
 
@@ -131,7 +131,7 @@ fn next_at<'a>(desk: &Desk, here: &mut Option<VotesAt<'a>>) -> Option<OpenIntent
 
 /// The rows of the votes that are open at the servers.
 pub fn intent_rows(alloc: Global, nodes: &[Node], desk: &Desk) -> Result<Vec<IntentRow>, Memory>
-    ensures { IfOk result (λ rows. rows.items ≡ spec.intent_rows (intent_state_at desk.now) nodes.now) }
+    ensures { IfOk result (λ rows. rows.items ≡ intent_rows_at desk.now nodes.now) }
 {
     let mut rows = Vec::new(alloc);
     for intent in OpenIntents::over(nodes, desk) {

@@ -1,5 +1,5 @@
-ghost use Rattle.std.specs.Prelude.{◌≡◌, ◌≤◌, ◌+◌, ◌^◌, map, length, All};
-ghost use Rattle.tq_tables.specs.Journals.{AreJournals, IsOfTree};
+ghost use Rattle.std.specs.Prelude.{◌≡◌, ◌≤◌, ◌+◌, ◌^◌, length, All};
+ghost use Rattle.tq_tables.specs.Journals.{AreJournals, IsOfTree, entries_in};
 
 use std::marker::Model;
 use tq_asks::{NodeAsk, NodeReply};
@@ -40,15 +40,14 @@ impl Drop for Journals {
 }
 
 impl Model for Journals {
-    ghost use Rattle.std.specs.Prelude.{map};
-    ghost use Rattle.tq_tables.specs.Journals.{JournalsView, AreJournals};
+    ghost use Rattle.tq_tables.specs.Journals.{AreJournals, JournalsView, entries_in};
 
     ghost Value = { JournalsView };
 
     ghost view = { λ a. record {
       levels = a.levels;
       limits = a.limits;
-      servers = map (λ entries. entries.items) a.servers.items;
+      servers = entries_in a.servers.items;
       desk = a.desk.items;
       view = a.view.items;
     } };
@@ -56,7 +55,7 @@ impl Model for Journals {
     ghost invariant = { λ a. AreJournals (record {
       levels = a.levels;
       limits = a.limits;
-      servers = map (λ entries. entries.items) a.servers.items;
+      servers = entries_in a.servers.items;
       desk = a.desk.items;
       view = a.view.items;
     }) };
@@ -74,14 +73,14 @@ impl Journals {
         requires { AreJournals (record {
           levels = levels;
           limits = limits;
-          servers = map (λ entries. entries.items) servers.items;
+          servers = entries_in servers.items;
           desk = desk.items;
           view = view.items;
         }) }
         ensures { result ≡ record {
           levels = levels;
           limits = limits;
-          servers = map (λ entries. entries.items) servers.items;
+          servers = entries_in servers.items;
           desk = desk.items;
           view = view.items;
         } }
@@ -111,7 +110,7 @@ impl Journals {
 
     /// The entries of each server, upwards from server 1.
     pub fn servers(&self) -> &[Vec<NodeEntry>]
-        ensures value { map (λ entries. entries.items) result.now ≡ self.now.servers }
+        ensures value { entries_in result.now ≡ self.now.servers }
         ensures one_each { length self.now.servers + 1 ≡ 2 ^ self.now.levels }
         ensures fit { All (λ entries. length entries ≤ self.now.limits.entries) self.now.servers }
     {

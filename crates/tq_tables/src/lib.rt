@@ -2,10 +2,10 @@
 //! that say how the system stands after them.
 //!
 //! Files: `journals.rt` the journals of all parts; `parts.rt`, `replay.rt` the parts after them; `tables.rt` over
-//! `followed.rt` the tables; `file_table.rt` the rows of files; `holders.rt` the servers that may have a copy of a file
-//! with no row; one file for each other list of rows.
-//! Definitions: `specs/Journals`, `Parts`, `Rows`, `Tables`; `Counted`, `Files`, `NamesApart`, `DeskStates` are the code's
-//! own words.
+//! `followed.rt` the tables; `tabled_journals.rt` tables beside bare journals; `file_table.rt` the rows of files;
+//! `holders.rt` the servers that may have a copy of a file with no row; one file for each other list of rows.
+//! Definitions: `specs/Journals`, `Parts`, `Rows`, `Tables`; `Tabled`, `Told`, `Counted`, `Files`, `NamesApart`,
+//! `DeskStates` are the code's own words.
 #![tactic(auto)]
 
 mod file_names;
@@ -28,6 +28,7 @@ mod ready_entry;
 mod replay;
 mod replies;
 pub mod rows;
+mod tabled_journals;
 mod tables;
 mod write_counts;
 
@@ -41,5 +42,6 @@ pub use parts::Parts;
 pub use quorum_row::QuorumRow;
 pub use replay::{replay_desk, replay_nodes};
 pub use replies::Replies;
+pub use tabled_journals::TabledJournals;
 pub use tables::Tables;
 pub use tq_shape::Entry;

@@ -1,10 +1,7 @@
-ghost use Rattle.std.specs.Prelude.{◌≡◌, ◌+◌, ◌-◌, ◌<◌, ◌≤◌, ◌^◌, ℕ, List, false, IfOk, OnOk, OnErr, length, slice_set, slice_index_or};
-ghost use Rattle.tq_desk.specs.DeskChanges.{DeskFits, desk_changed};
-ghost use Rattle.tq_live.specs.View.{view_after, view_reply};
-ghost use Rattle.tq_node.specs.Node.{NodeView, answered};
-ghost use Rattle.tq_node.specs.Records.{node_reply};
-ghost use Rattle.tq_node.specs.Untouched.{AreReached, KeepsOthers, raised_files};
-ghost use Rattle.tq_tables.specs.Asked.{both};
+ghost use Rattle.std.specs.Prelude.{◌≡◌, ◌+◌, ◌-◌, ◌<◌, ◌≤◌, ◌^◌, IfOk, OnOk, OnErr, length, slice_index_or};
+ghost use Rattle.tq_desk.specs.DeskChanges.{DeskFits};
+ghost use Rattle.tq_tables.specs.Asked.{view_replies};
+ghost use Rattle.tq_tables.specs.Told.{HasAnswered, IsAboveLast, KeepsUntold, ReachesTold, TellsReply};
 
 use crate::Journals;
 use crate::replay::{replay_desk, replay_nodes, replay_view};
@@ -51,7 +48,7 @@ impl Model for Parts {
 }
 
 impl Parts {
-    ghost use Rattle.tq_tables.specs.Parts.{AreLegal, AreOfTree, parts_of};
+    ghost use Rattle.tq_tables.specs.Parts.{AreLegal, AreOfTree, parts_of, with_change, with_view_asked};
 
     /// These parts: servers of the view's tree, upwards from server 1, the desk and the view.
     pub fn new(nodes: Vec<Node>, desk: Desk, view: View) -> Parts
@@ -87,7 +84,7 @@ impl Parts {
     #[inline(always)]
     pub(crate) fn change_desk(&mut self, change: DeskChange) -> Result<(), Memory>
         requires { DeskFits self.old.desk change }
-        ensures after { OnOk result (self.new ≡ record self.old { desk = desk_changed self.old.desk change }) }
+        ensures after { OnOk result (self.new ≡ with_change self.old change) }
         ensures unchanged { OnErr result (self.new ≡ self.old) }
     {
         let _view = &self.view;
@@ -102,8 +99,8 @@ impl Parts {
         alloc: Global,
         ask: &ViewAsk,
     ) -> Result<Replies<ViewReply>, Memory>
-        ensures replies { IfOk result (λ replies. replies ≡ both (view_reply self.old.view ask.now)) }
-        ensures after { OnOk result (self.new ≡ record self.old { view = view_after self.old.view ask.now }) }
+        ensures replies { IfOk result (λ replies. replies ≡ view_replies self.old.view ask.now) }
+        ensures after { OnOk result (self.new ≡ with_view_asked self.old ask.now) }
         ensures unchanged { OnErr result (self.new ≡ self.old) }
     {
         let _desk = &self.desk;
@@ -125,15 +122,14 @@ impl Parts {
         ask: &NodeAsk,
     ) -> Result<Telling, Memory>
         requires there { (0 < server) × (server ≤ length self.old.nodes) }
-        requires next { (node : NodeView) → node ≡ slice_index_or self.old.nodes (server - 1) node → node.last < number }
-        ensures replies { IfOk result (λ telling. (node : NodeView) → node ≡ slice_index_or self.old.nodes (server - 1) node
-            → (telling.entered ≡ node_reply node.server node.state ask.now) × (telling.told ≡ node_reply node.server node.state ask.now)) }
-        ensures after { OnOk result ((node : NodeView) → node ≡ slice_index_or self.old.nodes (server - 1) node
-            → self.new ≡ record self.old { nodes = slice_set self.old.nodes (server - 1) (answered node number ask.now) }) }
-        ensures raised { IfOk result (λ telling. (node : NodeView) → node ≡ slice_index_or self.old.nodes (server - 1) node
-            → KeepsOthers (raised_files ask.now telling.raised) node.state.records.copies (answered node number ask.now).state.records.copies) }
-        ensures reached { IfOk result (λ telling. (node : NodeView) → node ≡ slice_index_or self.old.nodes (server - 1) node
-            → AreReached ask.now telling.raised (answered node number ask.now).state.records.copies) }
+        requires next { IsAboveLast self.old.nodes server number }
+        ensures replies { IfOk result (λ telling.
+            TellsReply self.old.nodes server ask.now telling) }
+        ensures after { OnOk result (HasAnswered self.old self.new server number ask.now) }
+        ensures raised { IfOk result (λ telling.
+            KeepsUntold self.old.nodes server number ask.now telling.raised) }
+        ensures reached { IfOk result (λ telling.
+            ReachesTold self.old.nodes server number ask.now telling.raised) }
         ensures unchanged { OnErr result (self.new ≡ self.old) }
     {
         let _view = &self.view;

@@ -1,4 +1,4 @@
-ghost use Rattle.std.specs.Prelude.{◌≡◌, cond, Some, None, IfOk};
+ghost use Rattle.std.specs.Prelude.{◌≡◌, IfOk};
 ghost use Rattle.tq_tables.specs.Rows as spec;
 
 use crate::QuorumRow;
@@ -58,7 +58,8 @@ pub(crate) fn least_into(
 ) -> bool
     requires server { server.levels ≡ tree.now.levels }
     requires row { row.old.servers.levels ≡ tree.now.levels }
-    ensures least { cond result (Some row.new) None ≡ spec.least_row tree.now purpose server.number }
+    ensures least { spec.row_if result row.new
+        ≡ spec.least_row tree.now purpose server.number }
     ensures tree { row.new.servers.levels ≡ tree.now.levels }
 {
     tree.best_into(purpose, server, row)

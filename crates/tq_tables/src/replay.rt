@@ -1,6 +1,7 @@
 //! Parts that are asked once more what their journals have.
-ghost use Rattle.std.specs.Prelude.{◌≡◌, ◌+◌, ◌^◌, [], length, map, IfOk, OnOk};
+ghost use Rattle.std.specs.Prelude.{◌≡◌, ◌+◌, ◌^◌, [], length, IfOk, OnOk};
 ghost use Rattle.tq_live.specs.View.{IsLegalView};
+ghost use Rattle.tq_tables.specs.Journals.{entries_in};
 ghost use Rattle.tq_tables.specs.Parts as spec;
 
 use crate::{DeskEntry, NodeEntry, ViewEntry};
@@ -17,7 +18,8 @@ pub fn replay_nodes(
     servers: &[Vec<NodeEntry>],
 ) -> Result<Vec<Node>, Memory>
     requires { length servers.now + 1 ≡ 2 ^ levels }
-    ensures { IfOk result (λ nodes. nodes.items ≡ spec.nodes_at levels 1 (map (λ entries. entries.items) servers.now)) }
+    ensures { IfOk result (λ nodes. nodes.items
+        ≡ spec.nodes_at levels 1 (entries_in servers.now)) }
 {
     let mut nodes = Vec::new(alloc);
     let mut number = 0;
@@ -46,8 +48,8 @@ fn replay_node(
 
 /// Asks a server what its journal has.
 fn ask_node(alloc: Global, node: &mut Node, entries: &[NodeEntry]) -> Result<(), Memory>
-    requires { node.old ≡ spec.node_after_all node.old.levels node.old.server [] }
-    ensures { OnOk result (node.new ≡ spec.node_after_all node.old.levels node.old.server entries.now) }
+    requires { node.old ≡ spec.replayed node.old [] }
+    ensures { OnOk result (node.new ≡ spec.replayed node.old entries.now) }
 {
     let mut number = 0;
     for entry in entries {

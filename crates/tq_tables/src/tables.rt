@@ -1,13 +1,8 @@
-ghost use Rattle.std.specs.Prelude.{◌≡◌, ◌+◌, ◌^◌, ◌↔◌, cond, Some, None, length, reverse, IsTrue, IfOk, IsOk, OnOk, OnErr};
+ghost use Rattle.std.specs.Prelude.{◌≡◌, ◌+◌, ◌^◌, ◌↔◌, Some, length, IsTrue, IfOk, IsOk, OnOk, OnErr};
 ghost use Rattle.std.specs.List.{All};
-ghost use Rattle.std.specs.Option.{option_map};
-ghost use Rattle.tq_desk.specs.DeskJournal.{IsLegalDesk, desk_state};
-ghost use Rattle.tq_desk.specs.DeskStep.{desk_reply};
-ghost use Rattle.tq_live.specs.View.{view_reply};
-ghost use Rattle.tq_node.specs.Records.{node_reply};
-ghost use Rattle.tq_shape.specs.Journal.{entry};
-ghost use Rattle.tq_tables.specs.Asked.{MayAskDesk, MayAskNode, both, node_in};
-ghost use Rattle.tq_tables.specs.Reserved.{ready_entry};
+ghost use Rattle.tq_tables.specs.Asked.{FollowsDesk, FollowsNode, FollowsView, MayAskDesk, MayAskNode};
+ghost use Rattle.tq_tables.specs.Asked.{desk_replies, node_replies, view_replies};
+ghost use Rattle.tq_tables.specs.Reserved.{ready_entry, reserved_entry, unboxed};
 
 use crate::followed::Followed;
 use crate::ready::Ready;
@@ -45,7 +40,6 @@ impl Drop for Tables {
 
 impl Model for Tables {
     ghost use Rattle.std.specs.Prelude.{◌≡◌, None, IfSome};
-    ghost use Rattle.std.specs.Option.{option_map};
     ghost use Rattle.tq_intents.specs.contracts.record.Record as record_type;
     ghost use Rattle.tq_intents.specs.contracts.record.OpenVote as vote_type;
     ghost use Rattle.tq_asks.specs.contracts.ask.Verdict as verdict_type;
@@ -54,25 +48,23 @@ impl Model for Tables {
     ghost use Rattle.tq_tables.specs.contracts.lock_row.LockRow as lock_type;
     ghost use Rattle.tq_tables.specs.contracts.intent_row.IntentRow as intent_type;
     ghost use Rattle.tq_tables.specs.contracts.ready_entry.ReadyEntry as ready_type;
-    ghost use Rattle.tq_tables.specs.Reserved.{AreReady, with_ready};
+    ghost use Rattle.tq_tables.specs.Reserved.{AreReady, reserved_entry, with_ready};
     ghost use Rattle.tq_tables.specs.Tables.{TablesView, tables_code};
 
     ghost Value = { TablesView };
 
     ghost coded = { tables_code record_type.the_row.coded vote_type.the_row.coded verdict_type.the_row.coded quorum_type.the_row.coded file_type.the_row.coded lock_type.the_row.coded intent_type.the_row.coded ready_type.the_row.coded };
 
-    ghost view = { λ a. with_ready a.followed (option_map (λ ready. ready.value.entry) a.ready) };
+    ghost view = { λ a. with_ready a.followed (reserved_entry a.ready) };
 
     ghost invariant = { λ a. (a.followed.ready ≡ None) × IfSome a.ready (λ ready. AreReady a.followed ready.value.after ready.value.entry) };
 }
 
 impl Tables {
-    ghost use Rattle.tq_tables.specs.Journals.{JournalsView, with_desk, with_view};
-    ghost use Rattle.tq_tables.specs.NextEntry.{IsNextEntry, with_entry};
-    ghost use Rattle.tq_tables.specs.NextOfServer.{with_node};
-    ghost use Rattle.tq_tables.specs.Parts.{AreLegal, bounds_of};
+    ghost use Rattle.tq_tables.specs.NextEntry.{FollowsEntry, IsNextEntry};
+    ghost use Rattle.tq_tables.specs.Parts.{AreLegal, StandsAfter};
     ghost use Rattle.tq_tables.specs.Reserved.{IsReadyFor, unready};
-    ghost use Rattle.tq_tables.specs.Rows.{least_in};
+    ghost use Rattle.tq_tables.specs.Rows.{row_if, least_in};
     ghost use Rattle.tq_tables.specs.Tables.{tables_of, tables_over};
 
     /// The tables of these journals, which are legal: each reply is the one that its part gives there.
@@ -90,8 +82,7 @@ impl Tables {
     /// The tables over these parts, of which the desk stands as a legal journal with these entries leaves it. The rows of
     /// files, locks and intentions are of the servers alone.
     pub fn over(alloc: Global, parts: Parts, entries: &[DeskEntry]) -> Result<Tables, Memory>
-        requires legal { IsLegalDesk (bounds_of parts.desk.levels parts.desk.limits) (reverse entries.now) }
-        requires stands { parts.desk ≡ desk_state (bounds_of parts.desk.levels parts.desk.limits) (reverse entries.now) }
+        requires { StandsAfter parts.desk entries.now }
         ensures { IfOk result (λ tables. tables ≡ tables_over parts entries.now) }
     {
         let followed = Followed::over(alloc, parts, entries)?;
@@ -122,9 +113,8 @@ impl Tables {
     ) -> Result<Replies<NodeReply>, Memory>
         requires { MayAskNode self.old server number }
         ensures replies { IfOk result (λ replies. replies
-            ≡ both (node_reply (node_in self.old.nodes server).server (node_in self.old.nodes server).state ask.now)) }
-        ensures asked { OnOk result ((journals : JournalsView) (reply : NodeReply) → AreLegal (with_node journals server (entry ask.now reply))
-            → self.old ≡ tables_of journals → self.new ≡ tables_of (with_node journals server (entry ask.now reply))) }
+            ≡ node_replies self.old.nodes server ask.now) }
+        ensures asked { OnOk result (FollowsNode self.old self.new server ask.now) }
         ensures unchanged { OnErr result (self.new ≡ self.old) }
     {
         self.followed.ask_node(alloc, server, number, ask)
@@ -134,9 +124,8 @@ impl Tables {
     /// were, and what is reserved too.
     #[inline(always)]
     pub fn ask_view(&mut self, alloc: Global, ask: &ViewAsk) -> Result<Replies<ViewReply>, Memory>
-        ensures replies { IfOk result (λ replies. replies ≡ both (view_reply self.old.view ask.now)) }
-        ensures asked { OnOk result ((journals : JournalsView) (reply : ViewReply) → AreLegal (with_view journals (entry ask.now reply))
-            → unready self.old ≡ tables_of journals → self.new ≡ tables_of (with_view journals (entry ask.now reply))) }
+        ensures replies { IfOk result (λ replies. replies ≡ view_replies self.old.view ask.now) }
+        ensures asked { OnOk result (FollowsView (unready self.old) self.new ask.now) }
         ensures unchanged { OnErr result (self.new ≡ self.old) }
     {
         let replies = self.followed.ask_view(alloc, ask)?;
@@ -149,9 +138,8 @@ impl Tables {
     #[inline(always)]
     pub fn ask_desk(&mut self, alloc: Global, ask: &DeskAsk) -> Result<Replies<DeskReply>, Memory>
         requires { MayAskDesk self.old }
-        ensures replies { IfOk result (λ replies. replies ≡ both (desk_reply self.old.desk ask.now)) }
-        ensures asked { OnOk result ((journals : JournalsView) (reply : DeskReply) → AreLegal (with_desk journals (entry ask.now reply))
-            → self.old ≡ tables_of journals → self.new ≡ tables_of (with_desk journals (entry ask.now reply))) }
+        ensures replies { IfOk result (λ replies. replies ≡ desk_replies self.old.desk ask.now) }
+        ensures asked { OnOk result (FollowsDesk self.old self.new ask.now) }
         ensures unchanged { OnErr result (self.new ≡ self.old) }
     {
         self.followed.ask_desk(alloc, ask)
@@ -189,8 +177,7 @@ impl Tables {
         entry: &PartEntry<'_>,
     ) -> Result<(), Memory>
         requires { IsNextEntry (unready self.old) part number entry.now }
-        ensures noted { OnOk result ((journals : JournalsView) → AreLegal (with_entry journals part entry.now)
-            → unready self.old ≡ tables_of journals → self.new ≡ tables_of (with_entry journals part entry.now)) }
+        ensures noted { OnOk result (FollowsEntry (unready self.old) self.new part entry.now) }
         ensures unchanged { OnErr result (self.new ≡ self.old) }
         ensures reserved { IsReadyFor self.old part number entry.now → IsOk result }
     {
@@ -251,7 +238,7 @@ impl Tables {
     pub fn least_into(&self, purpose: Purpose, server: ServerId, row: &mut Least) -> bool
         requires server { server.levels ≡ self.now.levels }
         requires row { row.old.servers.levels ≡ self.now.levels }
-        ensures least { cond result (Some row.new) None ≡ least_in self.now.quorums purpose server.number }
+        ensures least { row_if result row.new ≡ least_in self.now.quorums purpose server.number }
         ensures tree { row.new.servers.levels ≡ self.now.levels }
     {
         self.followed.least_into(purpose, server, row)
@@ -290,7 +277,7 @@ impl Tables {
 
 /// What is reserved, with tables of its own memory.
 fn copy_ready(alloc: Global, ready: &Option<Box<Ready>>) -> Result<Option<Box<Ready>>, Memory>
-    ensures { IfOk result (λ copy. option_map (λ ready. ready.value) copy ≡ option_map (λ ready. ready.value) ready.now) }
+    ensures { IfOk result (λ copy. unboxed copy ≡ unboxed ready.now) }
 {
     match ready {
         Some(ready) => Ok(Some(Box::new(alloc, ready.copy(alloc)?)?)),
@@ -300,7 +287,8 @@ fn copy_ready(alloc: Global, ready: &Option<Box<Ready>>) -> Result<Option<Box<Re
 
 /// Whether this entry of the part, of that number, is reserved.
 fn is_ready(ready: &Option<Box<Ready>>, part: Part, number: u64, entry: &PartEntry<'_>) -> bool
-    ensures { IsTrue result ↔ (option_map (λ ready. ready.value.entry) ready.now ≡ Some (ready_entry part number entry.now)) }
+    ensures { IsTrue result
+        ↔ (reserved_entry ready.now ≡ Some (ready_entry part number entry.now)) }
 {
     match ready {
         Some(ready) => ready.entry.is_for(part, number, entry),

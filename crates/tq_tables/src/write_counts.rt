@@ -1,5 +1,5 @@
 //! How many commits write each file.
-ghost use Rattle.std.specs.Prelude.{◌≡◌, ◌+◌, ◌<◌, ◌^◌, ℕ, List, IfOk, OnOk, reverse};
+ghost use Rattle.std.specs.Prelude.{◌≡◌, ◌+◌, ◌<◌, ◌^◌, ℕ, List, IfOk, OnOk};
 ghost use Rattle.tq_desk.specs.DeskJournal as log;
 ghost use Rattle.tq_desk.specs.DeskJournal.{Commit};
 ghost use Rattle.tq_tables.specs.Counted as spec;
@@ -34,7 +34,7 @@ impl Model for WriteCounts {
 impl WriteCounts {
     /// Those of the commits among the desk's entries.
     pub(crate) fn of(alloc: Global, entries: &[DeskEntry]) -> Result<WriteCounts, Memory>
-        ensures { IfOk result (λ counts. counts ≡ spec.counted (log.commits (reverse entries.now))) }
+        ensures { IfOk result (λ counts. counts ≡ spec.counted_after entries.now) }
     {
         let mut counts = WriteCounts {
             counts: IndexMap::new(alloc),
