@@ -1,17 +1,16 @@
-ghost use Rattle.std.specs.Prelude.{◌≡◌, ◌+◌, ◌<◌, ◌≤◌, ◌++◌, [], ◌∷◌, OnOk, OnErr, IfOk, IsTrue, ◌↔◌};
-ghost use Rattle.std.specs.Option.{option_copied};
+ghost use Rattle.std.specs.Prelude.{◌≡◌, ◌+◌, ◌<◌, ◌≤◌, ◌++◌, [], ◌∷◌, OnOk, OnErr, IfOk};
+ghost use Rattle.std.specs.Prelude.{map, length, take, IsSome};
 ghost use Rattle.std.specs.FinMap as fin;
-ghost use Rattle.std.specs.Option.{IfSome, is_some};
-ghost use Rattle.std.specs.Prelude.{map, length, take, vec_capacity, vec_len, ◌-◌, IsSome, Some, if◌then◌else◌};
-ghost use Rattle.std.specs.Prelude.{ℕ};
-ghost use Rattle.std.specs.BTreeMap.{is_at};
-ghost use Rattle.std.specs.Ordering.{nat_cmp};
+ghost use Rattle.std.specs.Option.{option_copied};
 ghost use Rattle.std.specs.List.{list_any, filter_map};
-ghost use Rattle.std.specs.Map.{lookup};
-ghost use Rattle.tq_store.specs.Copies.{copy_in, installed, installed_all};
+ghost use Rattle.tq_store.specs.Copies.{installed_all};
+ghost use Rattle.tq_intents.specs.Changes.{with_end, AddsOpenVote, AddsVote, Indexes};
+ghost use Rattle.tq_intents.specs.Changes.{KeepsCopies, KeepsCopy, OpensVote, WritesVote};
+ghost use Rattle.tq_intents.specs.Index.{HasEachVote};
 ghost use Rattle.tq_intents.specs.Kept as spec;
 ghost use Rattle.tq_intents.specs.Sharing.{kept};
-ghost use Rattle.tq_intents.specs.Kept.{HasOneVoteEach, HoldsVotesLocks, IsAbove, IsUnfinished, KeepsNewest, kept_copies, kept_votes, vote_at, vote_records};
+ghost use Rattle.tq_intents.specs.Kept.{kept_copies, kept_votes, vote_records, HasOneVoteEach};
+ghost use Rattle.tq_intents.specs.Kept.{HoldsVotesLocks, IsAbove, IsUnfinished, KeepsNewest};
 
 use crate::{KeptLock, LockVersions, NewerWrite, OpenVote, Record, SharedWrite, VoteLocks};
 use std::alloc::{AllocError, Global};
@@ -47,7 +46,10 @@ impl Model for Intents {
 
     ghost coded = { log_code record_type.the_row.coded };
 
-    ghost view = { λ a. record { records = a.records.items; room = vec_capacity a.records - vec_len a.records } };
+    ghost view = { λ a. record {
+      records = a.records.items;
+      room = vec_capacity a.records - vec_len a.records;
+    } };
 
     ghost invariant = { λ a. IsIndex a.records.items a.open_votes.entries };
 }
@@ -133,7 +135,7 @@ impl Intents {
         requires { 0 < self.old.room }
         ensures records { self.new.records ≡ self.old.records ++ Record.Copy write ∷ [] }
         ensures votes { kept_votes self.new.records ≡ kept_votes self.old.records }
-        ensures copies { kept_copies self.new.records ≡ installed (kept_copies self.old.records) write.file (copy_in write) }
+        ensures copies { KeepsCopy self.old self.new write }
         ensures room { self.old.room ≤ self.new.room + 1 }
     {
         self.records.push_reserved(Record::Copy(write));
@@ -145,7 +147,7 @@ impl Intents {
         requires copies { length writes ≤ copies.old.room }
         ensures records { self.new.records ≡ self.old.records ++ map Record.Copy writes }
         ensures votes { kept_votes self.new.records ≡ kept_votes self.old.records }
-        ensures copies { kept_copies self.new.records ≡ installed_all (kept_copies self.old.records) writes }
+        ensures copies { KeepsCopies self.old self.new writes }
         ensures files { copies.new.files ≡ installed_all copies.old.files writes }
         ensures room { self.old.room ≤ self.new.room + length writes }
     {
@@ -167,8 +169,8 @@ impl Intents {
     ) -> Result<(), AllocError>
         requires closed { fin.get (kept_votes self.old.records) txn ≡ None }
         requires newest { IsAbove number self.old.records }
-        ensures records { OnOk result (self.new.records ≡ self.old.records ++ vote_records txn number writes locks) }
-        ensures votes { OnOk result (kept_votes self.new.records ≡ fin.insert (kept_votes self.old.records) txn (record { number = number; writes = writes; locks = locks })) }
+        ensures records { OnOk result (WritesVote self.old self.new txn number writes locks) }
+        ensures votes { OnOk result (OpensVote self.old self.new txn number writes locks) }
         ensures copies { OnOk result (kept_copies self.new.records ≡ kept_copies self.old.records) }
         ensures err { OnErr result (self.new.records ≡ self.old.records) }
     {
@@ -206,7 +208,7 @@ impl Intents {
     pub fn finish(&mut self, txn: u64)
         requires open { IsSome (fin.get (kept_votes self.old.records) txn) }
         requires room { 0 < self.old.room }
-        ensures records { self.new.records ≡ self.old.records ++ Record.Gone txn (vote_at (kept_votes self.old.records) txn).number ∷ [] }
+        ensures records { self.new.records ≡ with_end self.old.records txn }
         ensures votes { kept_votes self.new.records ≡ fin.remove (kept_votes self.old.records) txn }
         ensures copies { kept_copies self.new.records ≡ kept_copies self.old.records }
     {
@@ -261,7 +263,7 @@ pub fn vote_records(
     writes: &SharedSeq<Write>,
     locks: &VoteLocks,
 ) -> Result<Vec<Record>, AllocError>
-    ensures { IfOk result (λ records. records.items ≡ vote_records txn number writes.now locks.now) }
+    ensures { IfOk result (λ list. list.items ≡ vote_records txn number writes.now locks.now) }
 {
     let mut records = Vec::new(alloc);
     push_vote(&mut records, txn, number, writes, locks)?;
@@ -276,7 +278,7 @@ fn push_vote(
     writes: &SharedSeq<Write>,
     locks: &VoteLocks,
 ) -> Result<(), AllocError>
-    ensures ok { OnOk result (records.new.items ≡ records.old.items ++ vote_records txn number writes.now locks.now) }
+    ensures ok { OnOk result (AddsVote records.old records.new txn number writes.now locks.now) }
     ensures first { take (length records.old.items) records.new.items ≡ records.old.items }
 {
     let count = writes.len().saturating_add(locks.len()).saturating_add(1);
@@ -301,8 +303,8 @@ fn give(
     txn: u64,
     vote: OpenVote,
 ) -> Result<(), AllocError>
-    ensures records { OnOk result (records.new.items ≡ records.old.items ++ vote_records txn vote.number vote.writes vote.locks) }
-    ensures votes { OnOk result ((other : ℕ) → lookup (is_at (nat_cmp other)) open_votes.new.entries ≡ (if is_at (nat_cmp txn) other then Some vote else lookup (is_at (nat_cmp other)) open_votes.old.entries)) }
+    ensures records { OnOk result (AddsOpenVote records.old records.new txn vote) }
+    ensures votes { OnOk result (Indexes open_votes.old.entries open_votes.new.entries txn vote) }
     ensures first { take (length records.old.items) records.new.items ≡ records.old.items }
     ensures err { OnErr result (open_votes.new.entries ≡ open_votes.old.entries) }
 {
@@ -313,7 +315,7 @@ fn give(
 
 /// The open votes of a list of records, by transaction.
 fn index(alloc: Global, records: &[Record]) -> Result<BTreeMap<u64, OpenVote>, AllocError>
-    ensures { IfOk result (λ index. (txn : ℕ) → lookup (is_at (nat_cmp txn)) index.entries ≡ fin.get (kept_votes records.now) txn) }
+    ensures { IfOk result (λ index. HasEachVote records.now index.entries) }
 {
     let mut index = BTreeMap::new(alloc);
     let mut left = records.len();

@@ -1,10 +1,11 @@
 -- The locks of a table as it keeps them: entries under keys, and the keys of each file and of each transaction.
-use Rattle.std.specs.Prelude.{◌≡◌, ◌≤◌, ◌==◌, ℕ, T, Bool, List, [], ◌∷◌, Option, length, map, filter, Some, None, false, nat_eq, if◌then◌else◌}
+use Rattle.std.specs.Prelude.{◌≡◌, ◌≤◌, ◌==◌, ◌+◌, ◌-◌, ℕ, T, Bool, IfSome, IfNone, IsSome, slice_get, List, [], ◌∷◌, Option, length, map, filter, Some, None, false, nat_eq, if◌then◌else◌}
 use Rattle.std.specs.List.{IsDistinct, remove}
 use Rattle.std.specs.Option.{option_map, option_map_or, option_and_then}
 use Rattle.std.specs.FinMap as fin
 use Rattle.std.specs.Ordering.{is_lt}
-use Rattle.slab.specs.Slab.{Slab, get, values}
+use Rattle.tq_shape.specs.Steps.{state_at}
+use Rattle.slab.specs.Slab.{Slab, get, slab_len, values}
 use Rattle.tq_store.specs.Names.{same_name}
 use Rattle.tq_locks.specs.declared.keyed.KeyedLocks.{KeyedLocks}
 use Rattle.indexmap.specs.IndexMap.{index_of}
@@ -12,7 +13,7 @@ use Rattle.tq_locks.specs.declared.mode.Mode.{Mode}
 use Rattle.tq_locks.specs.declared.mode.Lock.{Lock}
 use Rattle.tq_locks.specs.declared.index.Spot.{Spot}
 use Rattle.tq_locks.specs.Locks.{LockKey, Locks, lock_cmp, conflicts, held_of}
-use Rattle.tq_locks.specs.Keys.{keys_under, place}
+use Rattle.tq_locks.specs.Keys.{keys_under, place, told}
 
 -- the entries that are kept, as a set of locks
 abbrev pub locks_in : KeyedLocks → Locks
@@ -31,6 +32,22 @@ decided txn mode (e ∷ es) = if e.0.1 == txn then decided txn mode es else (if 
 abbrev pub lock_found : Slab (LockKey × Lock) → Option ℕ → Option Lock
 lock_found slab found = option_map (λ entry. entry.1) (option_and_then (get slab) found)
 
+-- the keys of a file's locks
+abbrev pub file_keys : KeyedLocks → List ℕ → List ℕ
+file_keys kept file = keys_under same_name kept.by_file file
+
+-- the index of the list of a file's keys, if there is one
+abbrev pub file_index : KeyedLocks → List ℕ → Option ℕ
+file_index kept file = index_of same_name kept.by_file file
+
+-- the locks on a file, by its keys
+abbrev pub told_on : KeyedLocks → List ℕ → List (LockKey × Lock)
+told_on kept file = told kept.entries (file_keys kept file)
+
+-- the transaction that blocks a request for the lock on this file, by the first lock there of another one
+abbrev pub decided_on : KeyedLocks → LockKey → Mode → Option ℕ
+decided_on kept name mode = decided name.1 mode (on_file (locks_in kept) name.0)
+
 -- the keys are those of these entries, in this order
 abbrev pub AreKeysOf : Slab (LockKey × Lock) → List ℕ → List (LockKey × Lock) → Type 0
 AreKeysOf slab keys entries = map (get slab) keys ≡ map Some entries
@@ -47,6 +64,10 @@ pub record Agrees (kept : KeyedLocks) (locks : Locks) : Type 0 where
 -- the entry under a key comes before a place in the set
 abbrev pub is_under : Slab (LockKey × Lock) → LockKey → ℕ → Bool
 is_under slab name key = option_map_or (λ entry. is_lt (lock_cmp entry.0 name)) (get slab key) false
+
+-- the entry under the last of the keys comes before a place in the set
+abbrev pub is_last_under : Slab (LockKey × Lock) → LockKey → List ℕ → Bool
+is_last_under slab name keys = option_map_or (is_under slab name) (slice_get keys (length keys - 1)) false
 
 -- where the entries of the keys rise, so many of them are below a key of the set
 abbrev pub RisesTo : Slab (LockKey × Lock) → List ℕ → LockKey → ℕ → Type 0
@@ -66,11 +87,51 @@ IsSpotOf kept name spot = (spot.index ≡ index_of nat_eq kept.by_txn name.1) ×
 abbrev pub IsOf : Slab (LockKey × Lock) → ℕ → LockKey → Type 0
 IsOf slab key name = (lock : Lock) × (get slab key ≡ Some (name, lock))
 
+-- where slab and indexes agree, a key that was found is that of this file and transaction
+abbrev pub FindsOwn : KeyedLocks → LockKey → Option ℕ → Type 0
+FindsOwn kept name found = Agrees kept (locks_in kept) → IfSome found (λ key. IsOf kept.entries key name)
+
+-- where they agree and no key was found, this transaction has no lock on this file
+abbrev pub FindsNone : KeyedLocks → LockKey → Option ℕ → Type 0
+FindsNone kept name found = Agrees kept (locks_in kept) → IfNone found (fin.get (locks_in kept) name ≡ None)
+
+-- where these are the keys of a transaction, a key that was found at the place is that of its lock on the file
+abbrev pub FindsOwnAt : KeyedLocks → List ℕ → List ℕ → ℕ → Option ℕ → Type 0
+FindsOwnAt kept file keys place found = (txn : ℕ) → IsPlaceUnder kept (file, txn) keys place → FindsOwn kept (file, txn) found
+
+-- where these are the keys of a transaction and none was found at the place, it has no lock on the file
+abbrev pub FindsNoneAt : KeyedLocks → List ℕ → List ℕ → ℕ → Option ℕ → Type 0
+FindsNoneAt kept file keys place found = (txn : ℕ) → IsPlaceUnder kept (file, txn) keys place → FindsNone kept (file, txn) found
+
+-- the place of this file and transaction among the keys of the file
+abbrev pub IsPlaceInFile : KeyedLocks → LockKey → ℕ → Type 0
+IsPlaceInFile kept name place = RisesTo kept.entries (file_keys kept name.0) name place
+
+-- with one more lock, where no transaction blocks it
+abbrev pub IsInserted : KeyedLocks → KeyedLocks → LockKey → Lock → Option ℕ → Type 0
+IsInserted old new name lock by = Agrees new (state_at by (locks_in old) (fin.insert (locks_in old) name lock))
+
+-- the lock of the entry under a key is this one from now on
+abbrev pub SetsLock : KeyedLocks → KeyedLocks → ℕ → Lock → Type 0
+SetsLock old new key lock = (name : LockKey) → IsOf old.entries key name → Agrees new (fin.insert (locks_in old) name lock)
+
+-- the lock of the entry under a key is there no more
+abbrev pub EndsLock : KeyedLocks → KeyedLocks → ℕ → Type 0
+EndsLock old new key = (name : LockKey) → IsOf old.entries key name → Agrees new (fin.remove (locks_in old) name)
+
+-- where there is an entry under the key, there is one entry fewer from now on
+abbrev pub HasOneFewer : Slab (LockKey × Lock) → Slab (LockKey × Lock) → ℕ → Type 0
+HasOneFewer old new key = IsSome (get old key) → slab_len new + 1 ≡ slab_len old
+
 -- the key of this file and transaction has left the keys of the file, where it stood in its place
 pub record LeftFile (old new : KeyedLocks) (name : LockKey) : Type 0 where
   pub place : ℕ
   pub stood : RisesTo old.entries (keys_under same_name old.by_file name.0) name place
   pub files : (file : List ℕ) → keys_under same_name new.by_file file ≡ (if same_name name.0 file then remove (keys_under same_name old.by_file name.0) place else keys_under same_name old.by_file file)
+
+-- the entry under a key has left the keys of its file
+abbrev pub LeavesFile : KeyedLocks → KeyedLocks → ℕ → Type 0
+LeavesFile old new key = (name : LockKey) → IsOf old.entries key name → LeftFile old new name
 
 -- no key stands twice, and there are as many as entries
 abbrev pub HasOneKeyEach : List ℕ → List (LockKey × Lock) → Type 0

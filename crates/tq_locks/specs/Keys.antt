@@ -1,6 +1,7 @@
 -- Lists of keys, each under a name.
-use Rattle.std.specs.Prelude.{◌≡◌, ◌<◌, ℕ, suc, Bool, true, List, [], ◌∷◌, Option, Some, None, if◌then◌else◌, filter_map, slice_get}
+use Rattle.std.specs.Prelude.{◌≡◌, ◌<◌, ℕ, suc, Bool, true, List, [], ◌∷◌, Option, Some, None, if◌then◌else◌, filter_map, slice_get, drop, ◌-◌, ◌++◌}
 use Rattle.slab.specs.Slab.{Slab, get as in_slab}
+use Rattle.std.specs.List.{insert, remove}
 use Rattle.std.specs.Option.{option_map_or}
 use Rattle.smallvec.specs.SmallVec.{SmallVec, HasRoomFor}
 use Rattle.indexmap.specs.IndexMap.{IndexMap, get, spare}
@@ -21,6 +22,22 @@ module _ {K : Type 0} (eq : K → K → Bool) {S : Type 0} where
   abbrev pub HasListAt : IndexMap K (SmallVec ℕ) S → K → ℕ → Type 0
   HasListAt lists name index = (stored : K) × (keys : SmallVec ℕ) × (slice_get lists.entries index ≡ Some (stored, keys)) × (eq name stored ≡ true) × (get eq lists name ≡ Some keys)
 
+  -- under each name are the keys that were there before
+  abbrev pub HasSameKeys : IndexMap K (SmallVec ℕ) S → IndexMap K (SmallVec ℕ) S → Type 0
+  HasSameKeys old new = (other : K) → keys_under new other ≡ keys_under old other
+
+  -- under a name are these keys, and under each other name those that were there before
+  abbrev pub Sets : IndexMap K (SmallVec ℕ) S → IndexMap K (SmallVec ℕ) S → K → List ℕ → Type 0
+  Sets old new name keys = (other : K) → keys_under new other ≡ (if eq name other then keys else keys_under old other)
+
+  -- a key has come into this place of those under a name
+  abbrev pub Enters : IndexMap K (SmallVec ℕ) S → IndexMap K (SmallVec ℕ) S → K → ℕ → ℕ → Type 0
+  Enters old new name place key = Sets old new name (insert (keys_under old name) place key)
+
+  -- the key at this place of those under a name has left them
+  abbrev pub Leaves : IndexMap K (SmallVec ℕ) S → IndexMap K (SmallVec ℕ) S → K → ℕ → Type 0
+  Leaves old new name place = Sets old new name (remove (keys_under old name) place)
+
 -- how many of the first entries are below a key: where it goes in their order
 abbrev pub place : {K X : Type 0} → (K → K → Ordering) → K → List (K × X) → ℕ
 place cmp key [] = 0
@@ -29,3 +46,11 @@ place cmp key (entry ∷ rest) = if is_lt (cmp entry.0 key) then suc (place cmp 
 -- the entries under these keys
 abbrev pub told : {X : Type 0} → Slab X → List ℕ → List X
 told slab keys = filter_map (in_slab slab) keys
+
+-- the keys behind so many places that hold none, with the room of those places and of the ones behind them
+abbrev pub behind : ℕ → SmallVec ℕ → SmallVec ℕ
+behind first places = record { items = drop first places.items; capacity = places.capacity - first }
+
+-- the last of the keys has come into this place
+abbrev pub Sinks : List ℕ → List ℕ → ℕ → Type 0
+Sinks old new place = (front : List ℕ) (key : ℕ) → old ≡ front ++ key ∷ [] → new ≡ insert front place key

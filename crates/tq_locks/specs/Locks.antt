@@ -142,3 +142,15 @@ pub record LocksView : Type 0 where
 
 abbrev pub view_code : Coded LocksView
 view_code = code_by (Locks × Slab (LockKey × Lock)) (coded× locks_code (slab_code lock_entry_code)) (λ v. (v.locks, v.slab)) (λ p. record { locks = p.0; slab = p.1 }) (λ _. refl)
+
+-- the entry is a lock of the set
+abbrev pub IsAmong : Locks → LockKey × Lock → Type 0
+IsAmong locks entry = fin.get locks entry.0 ≡ Some entry.1
+
+-- the lock is granted, and no other has changed
+abbrev pub IsGranted : LocksView → LocksView → List ℕ → ℕ → Mode → ℕ → ℕ → Type 0
+IsGranted old new file txn mode number version = new.locks ≡ granted old.locks file txn mode number version
+
+-- the lock is granted unless a transaction blocks it, and no other has changed
+abbrev pub IsAsked : LocksView → LocksView → List ℕ → ℕ → Mode → ℕ → ℕ → Type 0
+IsAsked old new file txn mode number version = new.locks ≡ asked old.locks file txn mode number version

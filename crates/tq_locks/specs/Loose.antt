@@ -2,7 +2,7 @@
 use Rattle.std.specs.Prelude.{◌≡◌, ◌==◌, ℕ, List, [], ◌∷◌, Some, true, false, Option, nat_eq, if◌then◌else◌}
 use Rattle.std.specs.List.{list_any}
 use Rattle.std.specs.Option.{option_map}
-use Rattle.slab.specs.Slab.{Slab, get, slab_len}
+use Rattle.slab.specs.Slab.{Slab, get, slab_len, Updates}
 use Rattle.tq_shape.specs.Journal.{Has}
 use Rattle.tq_locks.specs.declared.mode.Lock.{Lock}
 use Rattle.tq_locks.specs.Locks.{LockKey}
@@ -26,6 +26,18 @@ ListsLoose slab keys = (key : ℕ) → IsLooseAt slab key → Has keys key
 -- how many locks fit with no allocation, where these keys are listed: none but those that are there, unless the next key is
 abbrev pub room_with : Slab (LockKey × Lock) → List ℕ → ℕ
 room_with slab keys = if list_any (nat_eq slab.vacant_key) keys then slab.capacity else slab_len slab
+
+-- the same locks, with that room
+abbrev pub with_room : Slab (LockKey × Lock) → List ℕ → Slab (LockKey × Lock)
+with_room slab keys = record { slots = slab.slots; vacant_key = slab.vacant_key; capacity = room_with slab keys }
+
+-- the lock is as stable as the one under a key
+abbrev pub IsAsStable : Slab (LockKey × Lock) → ℕ → Lock → Type 0
+IsAsStable slab key lock = (entry : LockKey × Lock) → get slab key ≡ Some entry → lock.stable ≡ entry.1.stable
+
+-- the entry under a key, if there is one, has this lock from now on, and each other is as it was
+abbrev pub PutsLock : Slab (LockKey × Lock) → Slab (LockKey × Lock) → ℕ → Lock → Type 0
+PutsLock old new key lock = (entry : LockKey × Lock) → get old key ≡ Some entry → Updates old new key (Some (entry.0, lock))
 
 -- the same lock, stable
 abbrev pub steady : Lock → Lock

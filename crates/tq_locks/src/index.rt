@@ -1,10 +1,9 @@
 //! An index of a slab: lists of keys, each under a name. The names have no order.
-ghost use Rattle.std.specs.Prelude.{◌≡◌, ◌≤◌, OnOk, OnErr, Some, None, [], ◌∷◌, ◌<◌, if◌then◌else◌, length};
+ghost use Rattle.std.specs.Prelude.{◌≡◌, ◌≤◌, ◌<◌, ◌∷◌, [], OnOk, OnErr, Some, None, length};
 ghost use Rattle.indexmap.specs.IndexMap.{get, index_of, spare};
-ghost use Rattle.std.specs.List.{insert, remove};
 ghost use Rattle.slab.specs.Slab.{get as in_slab};
 ghost use Rattle.std.specs.Bool.{OnTrue};
-ghost use Rattle.tq_locks.specs.Keys.{keys_under, HasListAt, HasRoomUnder};
+ghost use Rattle.tq_locks.specs.Keys.{keys_under, Enters, HasListAt, HasRoomUnder, HasSameKeys, Leaves, Sets};
 ghost use Rattle.tq_locks.specs.Kept.{RisesTo};
 
 use crate::LockEntry;
@@ -60,7 +59,7 @@ pub(crate) fn make_room_under<K: Ord + Hash + Copy + Drop>(
     index: Option<usize>,
 ) -> Result<(), AllocError>
     requires { index ≡ index_of K.eq lists.old name.now }
-    ensures same { (other : K) → keys_under K.eq lists.new other ≡ keys_under K.eq lists.old other }
+    ensures same { HasSameKeys K.eq lists.old lists.new }
     ensures room { OnOk result (HasRoomUnder K.eq lists.new name.now index) }
 {
     match index {
@@ -83,8 +82,8 @@ pub(crate) fn enter_under<K: Ord + Hash + Copy + Drop>(
 ) -> Result<(), AllocError>
     requires index { spot.index ≡ index_of K.eq lists.old name.now }
     requires within { spot.place ≤ length (keys_under K.eq lists.old name.now) }
-    ensures ok { OnOk result ((other : K) → keys_under K.eq lists.new other ≡ (if K.eq name.now other then insert (keys_under K.eq lists.old name.now) spot.place key else keys_under K.eq lists.old other)) }
-    ensures err { OnErr result ((other : K) → keys_under K.eq lists.new other ≡ keys_under K.eq lists.old other) }
+    ensures ok { OnOk result (Enters K.eq lists.old lists.new name.now spot.place key) }
+    ensures err { OnErr result (HasSameKeys K.eq lists.old lists.new) }
 {
     match spot.index {
         Some(index) => match lists.get_index_mut(index) {
@@ -108,8 +107,8 @@ fn begin_under<K: Ord + Hash + Copy + Drop>(
     key: usize,
 ) -> Result<(), AllocError>
     requires { get K.eq lists.old name.now ≡ None }
-    ensures ok { OnOk result ((other : K) → keys_under K.eq lists.new other ≡ (if K.eq name.now other then key ∷ [] else keys_under K.eq lists.old other)) }
-    ensures err { OnErr result ((other : K) → keys_under K.eq lists.new other ≡ keys_under K.eq lists.old other) }
+    ensures ok { OnOk result (Sets K.eq lists.old lists.new name.now (key ∷ [])) }
+    ensures err { OnErr result (HasSameKeys K.eq lists.old lists.new) }
 {
     lists.reserve(1)?;
     let _room_was_made = lists.insert(*name, Keys::only(alloc, key));
@@ -126,7 +125,7 @@ fn begin_reserved<K: Ord + Hash + Copy + Drop>(
 )
     requires room { 0 < spare lists.old }
     requires absent { get K.eq lists.old name.now ≡ None }
-    ensures { (other : K) → keys_under K.eq lists.new other ≡ (if K.eq name.now other then key ∷ [] else keys_under K.eq lists.old other) }
+    ensures { Sets K.eq lists.old lists.new name.now (key ∷ []) }
 {
     let _room_was_made = lists.insert(*name, Keys::only(alloc, key));
 }
@@ -142,7 +141,7 @@ pub(crate) fn put_under<K: Ord + Hash + Copy + Drop>(
 )
     requires room { HasRoomUnder K.eq lists.old name.now spot.index }
     requires within { spot.place ≤ length (keys_under K.eq lists.old name.now) }
-    ensures { (other : K) → keys_under K.eq lists.new other ≡ (if K.eq name.now other then insert (keys_under K.eq lists.old name.now) spot.place key else keys_under K.eq lists.old other) }
+    ensures { Enters K.eq lists.old lists.new name.now spot.place key }
 {
     match spot.index {
         Some(index) => {
@@ -165,7 +164,7 @@ pub(crate) fn take_under<K: Ord + Hash>(
 ) -> usize
     requires { in_slab entries.now key ≡ Some entry.now }
     ensures place { RisesTo entries.now (keys_under K.eq lists.old name.now) entry.now.0 result }
-    ensures after { (other : K) → keys_under K.eq lists.new other ≡ (if K.eq name.now other then remove (keys_under K.eq lists.old name.now) result else keys_under K.eq lists.old other) }
+    ensures after { Leaves K.eq lists.old lists.new name.now result }
 {
     match lists.get_mut(name) {
         Some(keys) => leave(keys, entries, entry, key),
@@ -185,7 +184,7 @@ pub(crate) fn take_near<K: Ord + Hash>(
 ) -> usize
     requires { in_slab entries.now key ≡ Some entry.now }
     ensures place { RisesTo entries.now (keys_under K.eq lists.old name.now) entry.now.0 result }
-    ensures after { (other : K) → keys_under K.eq lists.new other ≡ (if K.eq name.now other then remove (keys_under K.eq lists.old name.now) result else keys_under K.eq lists.old other) }
+    ensures after { Leaves K.eq lists.old lists.new name.now result }
 {
     if is_at(lists, name, index) {
         return take_at(lists, entries, name, entry, key, index);
@@ -217,7 +216,7 @@ fn take_at<K: Ord + Hash>(
     requires listed { HasListAt K.eq lists.old name.now index }
     requires entry { in_slab entries.now key ≡ Some entry.now }
     ensures place { RisesTo entries.now (keys_under K.eq lists.old name.now) entry.now.0 result }
-    ensures after { (other : K) → keys_under K.eq lists.new other ≡ (if K.eq name.now other then remove (keys_under K.eq lists.old name.now) result else keys_under K.eq lists.old other) }
+    ensures after { Leaves K.eq lists.old lists.new name.now result }
 {
     match lists.get_index_mut(index) {
         Some(keys) => leave(keys, entries, entry, key),
@@ -232,7 +231,7 @@ pub(crate) fn take_all_under<K: Ord + Hash + Copy + Drop>(
     name: &K,
 ) -> SmallVec<usize, 6>
     ensures keys { result.items ≡ keys_under K.eq lists.old name.now }
-    ensures after { (other : K) → keys_under K.eq lists.new other ≡ (if K.eq name.now other then [] else keys_under K.eq lists.old other) }
+    ensures after { Sets K.eq lists.old lists.new name.now [] }
 {
     match lists.swap_remove(name) {
         Some(keys) => keys.into_places(),
@@ -245,7 +244,7 @@ pub(crate) fn end_empty_under<K: Ord + Hash + Copy + Drop>(
     lists: &mut BoundedIndexMap<K, Keys>,
     name: &K,
 )
-    ensures { (other : K) → keys_under K.eq lists.new other ≡ keys_under K.eq lists.old other }
+    ensures { HasSameKeys K.eq lists.old lists.new }
 {
     if listed_under(lists, name).is_empty() {
         lists.swap_remove(name);

@@ -10,7 +10,7 @@ ghost use Rattle.tq_shape.specs.Steps.{state_at};
 ghost use Rattle.tq_locks.specs.Locks.{LockKey, Locks, kept, released, only_stable};
 ghost use Rattle.tq_locks.specs.Keys.{keys_under, place, told};
 ghost use Rattle.tq_locks.specs.Kept.{decided};
-ghost use Rattle.tq_locks.specs.Loose.{IsLooseAt, steadied};
+ghost use Rattle.tq_locks.specs.Loose.{IsAsStable, IsLooseAt, steadied};
 
 use crate::index::{
     Spot, end_empty_under, enter_under, list_under, listed_under, make_room_under, put_under,
@@ -44,7 +44,9 @@ pub(crate) struct Found {
 }
 
 impl KeyedLocks {
-    ghost use Rattle.tq_locks.specs.Kept.{locks_in, lock_found, on_file, Agrees, IsOf, IsPlaceUnder, IsSpotOf, LeftFile, RisesTo};
+    ghost use Rattle.tq_locks.specs.Kept.{decided_on, file_index, file_keys, lock_found, locks_in, told_on, Agrees};
+    ghost use Rattle.tq_locks.specs.Kept.{EndsLock, FindsNone, FindsNoneAt, FindsOwn, FindsOwnAt, HasOneFewer};
+    ghost use Rattle.tq_locks.specs.Kept.{IsInserted, IsPlaceInFile, IsSpotOf, LeavesFile, SetsLock};
     ghost use Rattle.tq_locks.specs.declared.mode.Lock.{Lock};
 
     pub(crate) fn new(alloc: Global) -> KeyedLocks
@@ -68,7 +70,7 @@ impl KeyedLocks {
 
     /// The keys of a file's entries, ascending by transaction.
     pub(crate) fn keys_of_file(&self, file: &FileName) -> &[usize]
-        ensures { result.now ≡ keys_under same_name self.now.by_file file.now }
+        ensures { result.now ≡ file_keys self.now file.now }
     {
         listed_under(&self.by_file, file)
     }
@@ -104,8 +106,8 @@ impl KeyedLocks {
     /// Where the key of a file and a transaction is, or would go.
     #[inline(always)]
     pub(crate) fn find(&self, file: &FileName, txn: u64) -> Found
-        ensures some { Agrees self.now (locks_in self.now) → IfSome result.key (λ key. IsOf self.now.entries key (file.now, txn)) }
-        ensures none { Agrees self.now (locks_in self.now) → IfNone result.key (fin.get (locks_in self.now) (file.now, txn) ≡ None) }
+        ensures some { FindsOwn self.now (file.now, txn) result.key }
+        ensures none { FindsNone self.now (file.now, txn) result.key }
         ensures spot { IsSpotOf self.now (file.now, txn) result.spot }
     {
         let list = list_under(&self.by_txn, &txn);
@@ -122,8 +124,8 @@ impl KeyedLocks {
     // The key at the place of a file in the keys of a transaction, if it's that of an entry of the file.
     #[inline(always)]
     fn key_at(&self, keys: &[usize], place: usize, file: &FileName) -> Option<usize>
-        ensures some { (txn : ℕ) → IsPlaceUnder self.now (file.now, txn) keys.now place → Agrees self.now (locks_in self.now) → IfSome result (λ key. IsOf self.now.entries key (file.now, txn)) }
-        ensures none { (txn : ℕ) → IsPlaceUnder self.now (file.now, txn) keys.now place → Agrees self.now (locks_in self.now) → IfNone result (fin.get (locks_in self.now) (file.now, txn) ≡ None) }
+        ensures some { FindsOwnAt self.now file.now keys.now place result }
+        ensures none { FindsNoneAt self.now file.now keys.now place result }
     {
         let key = *keys.get(place)?;
         let entry = self.entry(key)?;
@@ -152,8 +154,8 @@ impl KeyedLocks {
         requires agreed { Agrees self.old (locks_in self.old) }
         requires absent { fin.get (locks_in self.old) (file.now, txn) ≡ None }
         requires spot { IsSpotOf self.old (file.now, txn) spot }
-        ensures told { IfOk result (λ by. by ≡ decided txn lock.mode (on_file (locks_in self.old) file.now)) }
-        ensures ok { IfOk result (λ by. Agrees self.new (state_at by (locks_in self.old) (fin.insert (locks_in self.old) (file.now, txn) lock))) }
+        ensures told { IfOk result (λ by. by ≡ decided_on self.old (file.now, txn) lock.mode) }
+        ensures ok { IfOk result (IsInserted self.old self.new (file.now, txn) lock) }
         ensures err { OnErr result (Agrees self.new (locks_in self.old)) }
     {
         let in_file = match self.spot_in_file(file, txn, lock.mode) {
@@ -175,10 +177,10 @@ impl KeyedLocks {
     // Where the key of a new entry goes among the keys of its file, or the transaction whose lock there blocks it.
     #[inline(always)]
     fn spot_in_file(&self, file: &FileName, txn: u64, mode: Mode) -> Result<Spot, u64>
-        ensures told { result_err result ≡ decided txn mode (told self.now.entries (keys_under same_name self.now.by_file file.now)) }
-        ensures index { IfOk result (λ spot. spot.index ≡ index_of same_name self.now.by_file file.now) }
-        ensures within { IfOk result (λ spot. spot.place ≤ length (keys_under same_name self.now.by_file file.now)) }
-        ensures place { IfOk result (λ spot. RisesTo self.now.entries (keys_under same_name self.now.by_file file.now) (file.now, txn) spot.place) }
+        ensures told { result_err result ≡ decided txn mode (told_on self.now file.now) }
+        ensures index { IfOk result (λ spot. spot.index ≡ file_index self.now file.now) }
+        ensures within { IfOk result (λ spot. spot.place ≤ length (file_keys self.now file.now)) }
+        ensures place { IfOk result (λ spot. IsPlaceInFile self.now (file.now, txn) spot.place) }
     {
         let list = list_under(&self.by_file, file);
         match held_by(&self.entries, list.1, txn, mode) {
@@ -193,8 +195,8 @@ impl KeyedLocks {
     /// Puts a new lock into the entry under a key.
     pub(crate) fn set_lock(&mut self, key: usize, lock: Lock)
         requires agreed { Agrees self.old (locks_in self.old) }
-        requires as_stable { (entry : LockKey × Lock) → get self.old.entries key ≡ Some entry → lock.stable ≡ entry.1.stable }
-        ensures { (name : LockKey) → IsOf self.old.entries key name → Agrees self.new (fin.insert (locks_in self.old) name lock) }
+        requires as_stable { IsAsStable self.old.entries key lock }
+        ensures { SetsLock self.old self.new key lock }
     {
         self.entries.set_lock(key, lock);
     }
@@ -202,10 +204,10 @@ impl KeyedLocks {
     /// Takes the entry under a key out of the slab and of both indexes.
     pub(crate) fn remove(&mut self, key: usize)
         requires { Agrees self.old (locks_in self.old) }
-        ensures agreed { (name : LockKey) → IsOf self.old.entries key name → Agrees self.new (fin.remove (locks_in self.old) name) }
+        ensures agreed { EndsLock self.old self.new key }
         ensures absent { get self.old.entries key ≡ None → Agrees self.new (locks_in self.old) }
         ensures entries { Updates self.old.entries self.new.entries key None }
-        ensures fewer { IsSome (get self.old.entries key) → slab_len self.new.entries + 1 ≡ slab_len self.old.entries }
+        ensures fewer { HasOneFewer self.old.entries self.new.entries key }
     {
         let Some(entry) = self.entries.get(key) else {
             return;
@@ -217,10 +219,10 @@ impl KeyedLocks {
     // Takes the entry under a key out of the slab and of the keys of its file.
     #[inline(always)]
     fn leave_file(&mut self, key: usize)
-        ensures left { (name : LockKey) → IsOf self.old.entries key name → LeftFile self.old self.new name }
+        ensures left { LeavesFile self.old self.new key }
         ensures by_txn { self.new.by_txn ≡ self.old.by_txn }
         ensures entries { Updates self.old.entries self.new.entries key None }
-        ensures fewer { IsSome (get self.old.entries key) → slab_len self.new.entries + 1 ≡ slab_len self.old.entries }
+        ensures fewer { HasOneFewer self.old.entries self.new.entries key }
     {
         let Some(entry) = self.entries.get(key) else {
             return;
@@ -242,7 +244,7 @@ impl KeyedLocks {
 
     /// An equal one, with memory of its own.
     pub(crate) fn copy(&self) -> Result<KeyedLocks, AllocError>
-        ensures { (locks : Locks) → Agrees self.now locks → IfOk result (λ copy. Agrees copy locks) }
+        ensures { (set : Locks) → Agrees self.now set → IfOk result (λ copy. Agrees copy set) }
     {
         Ok(KeyedLocks {
             entries: self.entries.copy()?,

@@ -1,8 +1,9 @@
 //! A list of keys that gives up its first as cheaply as its last.
-ghost use Rattle.std.specs.Prelude.{◌≡◌, ◌+◌, ◌-◌, ◌<◌, ◌≤◌, ◌++◌, ℕ, List, OnOk, IfOk, IfSome, IfNone, length, take, drop, Some, [], ◌∷◌};
+ghost use Rattle.std.specs.Prelude.{◌≡◌, ◌+◌, ◌-◌, ◌<◌, ◌≤◌, OnOk, IfSome, IfNone, length, drop, Some, [], ◌∷◌};
 ghost use Rattle.std.specs.Bool.{OnTrue};
 ghost use Rattle.std.specs.List.{insert, remove, slice_get};
 ghost use Rattle.smallvec.specs.SmallVec.{HasRoomFor, small_vec_len};
+ghost use Rattle.tq_locks.specs.Keys.{Sinks};
 
 use smallvec::SmallVec;
 use std::alloc::{AllocError, Global};
@@ -20,15 +21,16 @@ pub(crate) struct Keys {
 }
 
 impl Model for Keys {
-    ghost use Rattle.std.specs.Prelude.{◌≤◌, ◌-◌, ℕ, drop};
+    ghost use Rattle.std.specs.Prelude.{◌≤◌, ℕ};
     ghost use Rattle.std.specs.Coded.{coded_ℕ};
     ghost use Rattle.smallvec.specs.SmallVec.{SmallVec as Items, small_vec_code, small_vec_len};
+    ghost use Rattle.tq_locks.specs.Keys.{behind};
 
     ghost Value = { Items ℕ };
 
     ghost coded = { small_vec_code coded_ℕ };
 
-    ghost view = { λ k. record { items = drop k.first k.places.items; capacity = k.places.capacity - k.first } };
+    ghost view = { λ k. behind k.first k.places };
 
     ghost invariant = { λ k. k.first ≤ small_vec_len k.places };
 }
@@ -228,7 +230,7 @@ fn put_near_end(keys: &mut SmallVec<usize, 6>, place: usize, key: usize)
 #[inline(always)]
 fn sink(keys: &mut [usize], place: usize)
     requires { place < length keys.old }
-    ensures { (front : List ℕ) (key : ℕ) → keys.old ≡ front ++ key ∷ [] → keys.new ≡ insert front place key }
+    ensures { Sinks keys.old keys.new place }
 {
     let mut at = keys.len() - 1;
     while at > place {

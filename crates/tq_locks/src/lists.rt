@@ -1,10 +1,8 @@
 //! Lists of the keys of a slab, whose entries rise.
-ghost use Rattle.std.specs.Prelude.{◌≡◌, ◌-◌, ◌<◌, ◌≤◌, ◌++◌, ℕ, List, OnOk, false, length, Some, [], ◌∷◌};
-ghost use Rattle.std.specs.Bool.{OnTrue};
-ghost use Rattle.std.specs.List.{insert, remove, slice_get};
-ghost use Rattle.std.specs.Option.{option_map_or};
+ghost use Rattle.std.specs.Prelude.{◌≡◌, ◌≤◌, length, Some};
+ghost use Rattle.std.specs.List.{remove};
 ghost use Rattle.slab.specs.Slab.{get};
-ghost use Rattle.tq_locks.specs.Kept.{is_under, RisesTo};
+ghost use Rattle.tq_locks.specs.Kept.{is_last_under, is_under, RisesTo};
 
 use crate::LockEntry;
 use crate::keys::Keys;
@@ -29,7 +27,7 @@ fn is_below(entries: &LockSlab, key: usize, file: &FileName, txn: u64) -> bool
 
 /// Whether the entry under the last of the keys comes before the place of this file and transaction.
 fn ends_below(entries: &LockSlab, keys: &[usize], file: &FileName, txn: u64) -> bool
-    ensures { result ≡ option_map_or (is_under entries.now (file.now, txn)) (slice_get keys.now (length keys.now - 1)) false }
+    ensures { result ≡ is_last_under entries.now (file.now, txn) keys.now }
 {
     match keys.last() {
         Some(key) => is_below(entries, *key, file, txn),

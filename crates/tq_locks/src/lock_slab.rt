@@ -6,7 +6,7 @@ ghost use Rattle.slab.specs.Slab.{get, entries, slab_len, HasRoomFor, ContainsKe
 ghost use Rattle.tq_shape.specs.Journal.{Has};
 ghost use Rattle.tq_locks.specs.declared.mode.Lock.{Lock};
 ghost use Rattle.tq_locks.specs.Locks.{LockKey};
-ghost use Rattle.tq_locks.specs.Loose.{IsLooseAt, IsStableAt, AreStable, ListsLoose, steadied, with_lock};
+ghost use Rattle.tq_locks.specs.Loose.{steadied, with_lock, AreStable, IsAsStable, IsLooseAt, IsStableAt, ListsLoose, PutsLock};
 
 use crate::{Lock, LockEntry};
 use slab::{Iter, Slab};
@@ -28,13 +28,13 @@ impl Model for LockSlab {
     ghost use Rattle.slab.specs.Slab.{Slab as Slots, slab_code};
     ghost use Rattle.tq_locks.specs.declared.mode.Lock.{Lock};
     ghost use Rattle.tq_locks.specs.Locks.{LockKey, lock_entry_code};
-    ghost use Rattle.tq_locks.specs.Loose.{ListsLoose, room_with};
+    ghost use Rattle.tq_locks.specs.Loose.{with_room, ListsLoose};
 
     ghost Value = { Slots (LockKey × Lock) };
 
     ghost coded = { slab_code lock_entry_code };
 
-    ghost view = { λ a. record { slots = a.slab.slots; vacant_key = a.slab.vacant_key; capacity = room_with a.slab a.loose.items } };
+    ghost view = { λ a. with_room a.slab a.loose.items };
 
     ghost invariant = { λ a. ListsLoose a.slab a.loose.items };
 }
@@ -134,8 +134,8 @@ impl LockSlab {
     /// Puts another lock into the entry under a key, as stable as the one before.
     #[inline(always)]
     pub(crate) fn set_lock(&mut self, key: usize, lock: Lock)
-        requires { (entry : LockKey × Lock) → get self.old key ≡ Some entry → lock.stable ≡ entry.1.stable }
-        ensures { (entry : LockKey × Lock) → get self.old key ≡ Some entry → Updates self.old self.new key (Some (entry.0, lock)) }
+        requires { IsAsStable self.old key lock }
+        ensures { PutsLock self.old self.new key lock }
     {
         put_lock(&mut self.slab, key, lock);
     }

@@ -76,7 +76,8 @@ impl Model for LockTable {
 }
 
 impl LockTable {
-    ghost use Rattle.tq_locks.specs.Locks.{HasNoConflict, IsFree, IsLeastBlocker, IsTold, asked, blocker, granted, held_of, holds_nothing, kept, only_stable, outcome, released};
+    ghost use Rattle.tq_locks.specs.Locks.{blocker, held_of, holds_nothing, kept, only_stable, outcome, released};
+    ghost use Rattle.tq_locks.specs.Locks.{HasNoConflict, IsAmong, IsAsked, IsFree, IsGranted, IsLeastBlocker, IsTold};
     ghost use Rattle.slab.specs.Slab.{get};
     ghost use Rattle.std.specs.Option.{option_copied};
     ghost use Rattle.tq_locks.specs.Kept.{on_file, AreKeysOf, HasOneKeyEach};
@@ -126,7 +127,7 @@ impl LockTable {
     /// The lock that is kept under a key, None where there is none.
     pub fn entry(&self, key: usize) -> Option<&LockEntry>
         ensures entry { option_copied result ≡ get self.now.slab key }
-        ensures lock { IfSome result (λ entry. fin.get self.now.locks entry.now.0 ≡ Some entry.now.1) }
+        ensures lock { IfSome result (λ entry. IsAmong self.now.locks entry.now) }
     {
         self.kept.entry(key)
     }
@@ -160,7 +161,7 @@ impl LockTable {
         version: u64,
     ) -> Result<(), AllocError>
         requires { blocker self.old.locks file txn mode ≡ None }
-        ensures ok { OnOk result (self.new.locks ≡ granted self.old.locks file txn mode number version) }
+        ensures ok { OnOk result (IsGranted self.old self.new file txn mode number version) }
         ensures no_conflict { HasNoConflict self.new.locks }
         ensures err { OnErr result (self.new.locks ≡ self.old.locks) }
     {
@@ -185,9 +186,9 @@ impl LockTable {
         number: u64,
         version: u64,
     ) -> Result<LockOutcome, AllocError>
-        ensures outcome { IfOk result (λ told. told ≡ outcome (blocker self.old.locks file.now txn mode)) }
+        ensures outcome { IfOk result (λ it. it ≡ outcome (blocker self.old.locks file.now txn mode)) }
         ensures told { IfOk result (IsTold self.old.locks file.now txn mode) }
-        ensures after { OnOk result (self.new.locks ≡ asked self.old.locks file.now txn mode number version) }
+        ensures after { OnOk result (IsAsked self.old self.new file.now txn mode number version) }
         ensures no_conflict { HasNoConflict self.new.locks }
         ensures err { OnErr result (self.new.locks ≡ self.old.locks) }
     {

@@ -2,7 +2,7 @@ use crate::check::{Wrong, check};
 use std::alloc::Global;
 use tq_asks::Verdict;
 use tq_desk::{Desk, DeskAsk, DeskReply};
-use tq_desk_laws::{decision_log, desk_laws};
+use tq_desk::{decision_log, desk_laws};
 use tq_shape::{Levels, Limits};
 
 /// What the desk answers, where it has not begun many transactions.
