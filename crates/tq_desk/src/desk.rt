@@ -3,7 +3,8 @@ ghost use Rattle.std.specs.FinMap as fin;
 ghost use Rattle.std.specs.Option.{option_copied};
 ghost use Rattle.tq_desk.specs.DeskJournal.{desk_state};
 ghost use Rattle.tq_desk.specs.DecisionLog.{AnswersByLogs, BeginsByLog, EndsByLog};
-ghost use Rattle.tq_desk.specs.DeskChanges.{desk_change, desk_changed, with_commit, DeskFits, IsDeskPlan};
+ghost use Rattle.tq_desk.specs.DeskChanges.{desk_change, desk_changed, with_commit};
+ghost use Rattle.tq_desk.specs.DeskChanges.{DeskFits, IsDeskPlan};
 ghost use Rattle.tq_evidence.specs.Evidence.{ops_rise};
 ghost use Rattle.tq_desk.specs.DeskStep as spec;
 
@@ -28,20 +29,6 @@ pub struct Desk {
     files: WrittenFiles,
 }
 
-// Written out, so that a crate above lets go of one by a call.
-impl Drop for Desk {
-    fn drop(self) {
-        let Self {
-            levels: _,
-            limits: _,
-            begun: _,
-            finals: _,
-            commits: _,
-            files: _,
-        } = self;
-    }
-}
-
 impl Model for Desk {
     ghost use Rattle.std.specs.Prelude.{◌≤◌};
     ghost use Rattle.std.specs.FinMap as map;
@@ -63,6 +50,20 @@ impl Model for Desk {
     } };
 
     ghost invariant = { λ a. a.commits ≤ map.len a.finals.finals };
+}
+
+// Written out, so that a crate above lets go of one by a call.
+impl Drop for Desk {
+    fn drop(self) {
+        let Self {
+            levels: _,
+            limits: _,
+            begun: _,
+            finals: _,
+            commits: _,
+            files: _,
+        } = self;
+    }
 }
 
 impl Desk {
@@ -150,13 +151,14 @@ impl Desk {
                     change: DeskChange::Begin { txn },
                 })
             }
-            DeskAsk::Commit { txn, ops, votes } => self.plan_commit(
-                alloc,
-                *txn,
-                ops.as_slice(),
-                votes.as_slice(),
-            ),
-            DeskAsk::Resolve { txn } => self.plan_resolve(*txn),
+            DeskAsk::Commit { txn, ops, votes } => {
+                let plan = self.plan_commit(alloc, *txn, ops.as_slice(), votes.as_slice())?;
+                Ok(plan)
+            }
+            DeskAsk::Resolve { txn } => {
+                let plan = self.plan_resolve(*txn)?;
+                Ok(plan)
+            }
         }
     }
 

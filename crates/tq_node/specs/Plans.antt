@@ -5,7 +5,8 @@ use Rattle.tq_asks.specs.declared.ask.NodeReply.{NodeReply}
 use Rattle.tq_asks.specs.declared.ask.NodeReply.TheVariants as replies
 use Rattle.tq_asks.specs.declared.ask.Verdict.{Verdict}
 use Rattle.tq_asks.specs.declared.ask.WorkAsk.{WorkAsk}
-use Rattle.tq_asks.specs.declared.ask.WorkAsk.TheVariants as work
+use Rattle.tq_locks.specs.declared.mode.Mode.{Mode}
+use Rattle.tq_store.specs.Copies.{copy_of}
 use Rattle.tq_store.specs.declared.write.Write.{Write}
 use Rattle.tq_node.specs.Node.{NodeView}
 use Rattle.tq_node.specs.NodeChanges.{end_step, stop_step, work_step}
@@ -25,6 +26,11 @@ planned_stop old number ask after = stop_step old.server old.state.records numbe
 pub record IsWorkPlan (old : NodeView) (number : ℕ) (ask : WorkAsk) (plan : Plan NodeReply NodeStep) : Type 0 where
   pub reply : plan.reply ≡ work_replied old ask
   pub change : plan.change ≡ work_step old.server old.state.records number ask
+
+-- the plan of a lock that is granted
+pub record IsLockPlan (old : NodeView) (txn : ℕ) (file : List ℕ) (mode : Mode) (plan : Plan NodeReply NodeStep) : Type 0 where
+  pub reply : plan.reply ≡ replies.Granted (copy_of old.state.records.copies file).version (copy_of old.state.records.copies file).content
+  pub change : plan.change ≡ steps.Lock txn file mode (copy_of old.state.records.copies file).version
 
 -- the plan of the end of an open vote by this verdict
 pub record IsEndPlan (old : NodeView) (txn : ℕ) (verdict : Verdict) (plan : Plan NodeReply NodeStep) : Type 0 where

@@ -8,7 +8,7 @@ ghost use Rattle.tq_node.specs.Node.{HasOnlyKept, IsKept};
 ghost use Rattle.tq_node.specs.NodeChanges.{left, node_change, node_changed, unfinished, voted};
 ghost use Rattle.tq_node.specs.NodeChanges.{Installs, Locks, NodeFits, StepsCopies, Takes, TakesOrNotes};
 ghost use Rattle.tq_node.specs.Plans.{planned_stop, work_replied, write_of};
-ghost use Rattle.tq_node.specs.Plans.{IsEndPlan, IsRefreshPlan, IsWorkPlan};
+ghost use Rattle.tq_node.specs.Plans.{IsEndPlan, IsLockPlan, IsRefreshPlan, IsWorkPlan};
 ghost use Rattle.tq_node.specs.Cases.{IsOnlyStepOf, IsStepOf};
 
 mod telling;
@@ -239,18 +239,8 @@ impl Node {
     {
         match ask {
             WorkAsk::Lock { txn, file, mode } => {
-                let copy = self.copies.get(file);
-                let version = copy.version;
-                let content = copy.content.clone()?;
-                Ok(Plan {
-                    reply: NodeReply::Granted { version, content },
-                    change: NodeStep::Lock {
-                        txn: *txn,
-                        file: *file,
-                        mode: *mode,
-                        version,
-                    },
-                })
+                let plan = self.plan_lock(*txn, *file, *mode)?;
+                Ok(plan)
             }
             WorkAsk::Prepare { txn, writes } => self.plan_vote(alloc, number, *txn, writes),
             WorkAsk::Decide { txn, verdict, .. } => {
@@ -278,6 +268,29 @@ impl Node {
                 Ok(plan)
             }
         }
+    }
+
+    /// The plan of a lock that is granted.
+    fn plan_lock(
+        &self,
+        txn: u64,
+        file: FileName,
+        mode: Mode,
+    ) -> Result<Plan<NodeReply, NodeStep>, Memory>
+        ensures { IfOk result (IsLockPlan self.now txn file mode) }
+    {
+        let copy = self.copies.get(&file);
+        let version = copy.version;
+        let content = copy.content.clone()?;
+        Ok(Plan {
+            reply: NodeReply::Granted { version, content },
+            change: NodeStep::Lock {
+                txn,
+                file,
+                mode,
+                version,
+            },
+        })
     }
 
     /// The plan of a vote that is given.
