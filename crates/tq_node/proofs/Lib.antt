@@ -15,3 +15,4 @@ pub mod Recorded
 pub mod StopFrames
 pub mod Entries
 pub mod Lawful
+pub mod Frames
