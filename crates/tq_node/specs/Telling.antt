@@ -1,6 +1,5 @@
 -- What a server tells of an ask that it answers at once.
 use Rattle.std.specs.Prelude.{◌≡◌, ℕ, List}
-use Rattle.tq_asks.specs.declared.ask.CitedVote.{CitedVote}
 use Rattle.tq_asks.specs.declared.ask.NodeAsk.{NodeAsk}
 use Rattle.tq_asks.specs.declared.ask.NodeAsk.TheVariants.{Work}
 use Rattle.tq_asks.specs.declared.ask.Verdict.{Verdict}
@@ -46,7 +45,3 @@ IsVoteTold old new number txn writes telling = IsWorkTold old new number (work.P
 -- this is told of the end of a vote
 abbrev pub IsEndTold : NodeView → NodeView → ℕ → ℕ → Verdict → ℕ → Telling → Type 0
 IsEndTold old new number txn verdict cite telling = IsWorkTold old new number (work.Decide txn verdict cite) telling
-
--- this is told of the offer of a copy
-abbrev pub IsRefreshTold : NodeView → NodeView → ℕ → List ℕ → ℕ → List ℕ → CitedVote → Telling → Type 0
-IsRefreshTold old new number file version content from telling = IsWorkTold old new number (work.Refresh file version content from) telling

@@ -1,7 +1,7 @@
 //! Asks that are answered at once, with no plan of their change, and their replies told twice.
 ghost use Rattle.std.specs.Prelude.{◌≡◌, ◌<◌, [], false, OnOk, OnErr, IfOk};
 ghost use Rattle.tq_node.specs.Node as node;
-ghost use Rattle.tq_node.specs.Telling.{IsEndTold, IsLockTold, IsRefreshTold, IsTold};
+ghost use Rattle.tq_node.specs.Telling.{IsEndTold, IsLockTold, IsTold};
 ghost use Rattle.tq_node.specs.Telling.{IsVoteTold, IsWorkTold};
 ghost use Rattle.tq_node.specs.Telling.{KeepsUntold, ReachesTold};
 
@@ -308,7 +308,7 @@ impl Node {
         requires rises { self.old.last < number }
         requires ask { ask.now ≡ WorkAsk.Refresh file version content.now _from }
         requires up { self.old.state.records.down ≡ false }
-        ensures told { IfOk result (IsRefreshTold self.old self.new number file version content.now _from) }
+        ensures told { IfOk result (IsWorkTold self.old self.new number ask.now) }
         ensures err { OnErr result (self.new ≡ self.old) }
     {
         let kept = content.clone()?;
