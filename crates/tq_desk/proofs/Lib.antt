@@ -3,3 +3,5 @@ pub mod DecisionLog
 pub mod FinMaps
 pub mod NewFiles
 pub mod WrittenNames
+pub mod Shown
+pub mod DeskFinal

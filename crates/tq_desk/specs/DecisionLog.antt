@@ -79,3 +79,28 @@ abbrev pub EndsAreTold : DeskBounds → Type 0
 EndsAreTold bounds =
     (later journal : List DeskEntry) (txn : ℕ) (verdict : Final) (reply : DeskReply) → final journal txn ≡ Some verdict
     → IsLegalDesk bounds (entry (Resolve txn) reply ∷ (later ++ journal)) → reply ≡ Verdict verdict
+
+-- where the desk stands where a legal journal leaves it, so many transactions were begun in that journal
+abbrev pub BeginsByLog : DeskView → ℕ → Type 0
+BeginsByLog desk count = (bounds : DeskBounds) (journal : List DeskEntry) → IsLegalDesk bounds journal → desk ≡ desk_state bounds journal → count ≡ begun journal
+
+-- where the desk stands where a legal journal leaves it, the transaction ended so in that journal
+abbrev pub EndsByLog : DeskView → ℕ → Option Final → Type 0
+EndsByLog desk txn ended = (bounds : DeskBounds) (journal : List DeskEntry) → IsLegalDesk bounds journal → desk ≡ desk_state bounds journal → ended ≡ final journal txn
+
+-- where the desk stands where a legal journal leaves it, it answers by that journal
+abbrev pub AnswersByLogs : DeskView → DeskView → DeskAsk → DeskReply → Type 0
+AnswersByLogs old new ask reply =
+    (bounds : DeskBounds) (journal : List DeskEntry) → IsLegalDesk bounds journal → old ≡ desk_state bounds journal → AnswersByLog old new ask reply bounds journal
+
+-- each legal journal of a desk is a decision log
+abbrev pub LegalIsLog : Type 0
+LegalIsLog = (bounds : DeskBounds) (journal : List DeskEntry) → IsLegalDesk bounds journal → IsDecisionLog bounds journal
+
+-- each decision log is a legal journal of a desk
+abbrev pub LogIsLegal : Type 0
+LogIsLegal = (bounds : DeskBounds) (journal : List DeskEntry) → IsDecisionLog bounds journal → IsLegalDesk bounds journal
+
+-- behind each legal journal a desk has kept what the journal says
+abbrev pub KeepsJournals : Type 0
+KeepsJournals = (bounds : DeskBounds) (journal : List DeskEntry) → IsLegalDesk bounds journal → Keeps bounds journal (desk_state bounds journal)

@@ -60,13 +60,17 @@ is_new files op = is_write op && not (is_some (fin.get files op.file))
 abbrev pub count_new : FileSet → List Op → ℕ
 count_new files ops = length (filter (is_new files) ops)
 
+-- with those that the ops write, more files are written than the limit
+abbrev pub writes_too_many_files : DeskView → List Op → Bool
+writes_too_many_files old ops = nat_lt old.limits.files (fin.len (with_files old.files ops))
+
 abbrev pub commit_refusal : DeskView → ℕ → List Op → List Vote → Option DeskRefusal
 commit_refusal old txn ops votes =
     refuse (not (is_begun old txn)) NoSuchTxn
     (refuse_for (fin.get old.finals txn) Decided
     (refuse (nat_lt old.limits.ops (length ops)) TooManyOps
     (refuse_for (failed_rule old.levels ops votes) BadEvidence
-    (refuse (nat_lt old.limits.files (fin.len (with_files old.files ops))) TooManyFiles None))))
+    (refuse (writes_too_many_files old ops) TooManyFiles None))))
 
 abbrev pub desk_refusal : DeskView → DeskAsk → Option DeskRefusal
 desk_refusal old Begin = None

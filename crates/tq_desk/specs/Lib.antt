@@ -5,3 +5,4 @@ pub mod DeskJournal
 pub mod DecisionLog
 pub mod DeskChanges
 pub mod DeskPlans
+pub mod Laws

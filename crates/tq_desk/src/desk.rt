@@ -1,10 +1,10 @@
-ghost use Rattle.std.specs.Prelude.{◌≡◌, ◌+◌, ◌<◌, ◌≤◌, ◌^◌, IfOk, List, OnOk, OnErr, None, [], true, map, nat_lt};
+ghost use Rattle.std.specs.Prelude.{◌≡◌, ◌+◌, ◌<◌, ◌^◌, IfOk, OnOk, OnErr, None, [], true};
 ghost use Rattle.std.specs.FinMap as fin;
 ghost use Rattle.std.specs.Option.{option_copied};
-ghost use Rattle.tq_desk.specs.DeskJournal as log;
-ghost use Rattle.tq_desk.specs.DeskJournal.{DeskBounds, DeskEntry, IsLegalDesk, desk_state};
-ghost use Rattle.tq_desk.specs.DecisionLog.{AnswersByLog};
-ghost use Rattle.tq_desk.specs.DeskChanges.{desk_change, desk_changed, DeskFits};
+ghost use Rattle.tq_desk.specs.DeskJournal.{desk_state};
+ghost use Rattle.tq_desk.specs.DecisionLog.{AnswersByLogs, BeginsByLog, EndsByLog};
+ghost use Rattle.tq_desk.specs.DeskChanges.{desk_change, desk_changed, with_commit};
+ghost use Rattle.tq_desk.specs.DeskChanges.{DeskFits, IsDeskPlan};
 ghost use Rattle.tq_evidence.specs.Evidence.{ops_rise};
 ghost use Rattle.tq_desk.specs.DeskStep as spec;
 
@@ -27,20 +27,6 @@ pub struct Desk {
     finals: Finals,
     commits: u64,
     files: WrittenFiles,
-}
-
-// Written out, so that a crate above lets go of one by a call.
-impl Drop for Desk {
-    fn drop(self) {
-        let Self {
-            levels: _,
-            limits: _,
-            begun: _,
-            finals: _,
-            commits: _,
-            files: _,
-        } = self;
-    }
 }
 
 impl Model for Desk {
@@ -66,6 +52,20 @@ impl Model for Desk {
     ghost invariant = { λ a. a.commits ≤ map.len a.finals.finals };
 }
 
+// Written out, so that a crate above lets go of one by a call.
+impl Drop for Desk {
+    fn drop(self) {
+        let Self {
+            levels: _,
+            limits: _,
+            begun: _,
+            finals: _,
+            commits: _,
+            files: _,
+        } = self;
+    }
+}
+
 impl Desk {
     /// A desk that was asked nothing. It takes no memory yet.
     pub fn new(alloc: Global, levels: Levels, limits: Limits) -> Desk
@@ -82,10 +82,24 @@ impl Desk {
         }
     }
 
+    /// The levels of the tree.
+    pub fn levels(&self) -> Levels
+        ensures { result ≡ self.now.levels }
+    {
+        self.levels // as at first
+    }
+
+    /// What bounds it.
+    pub fn limits(&self) -> Limits
+        ensures { result ≡ self.now.limits }
+    {
+        self.limits // as at first
+    }
+
     /// How many transactions were begun, which is the number of the last.
     pub fn begun(&self) -> u64
         ensures value { result ≡ self.now.begun }
-        ensures journal { (bounds : DeskBounds) (journal : List DeskEntry) → IsLegalDesk bounds journal → self.now ≡ desk_state bounds journal → result ≡ log.begun journal }
+        ensures journal { BeginsByLog self.now result }
     {
         self.begun // numbers go up from 1
     }
@@ -93,7 +107,7 @@ impl Desk {
     /// How a transaction ended: `None` where it has not, or was not begun.
     pub fn verdict(&self, txn: u64) -> Option<&Verdict>
         ensures value { option_copied result ≡ fin.get self.now.finals txn }
-        ensures journal { (bounds : DeskBounds) (journal : List DeskEntry) → IsLegalDesk bounds journal → self.now ≡ desk_state bounds journal → option_copied result ≡ log.final journal txn }
+        ensures journal { EndsByLog self.now txn (option_copied result) }
     {
         let _ended = &self.commits;
         self.finals.get(txn)
@@ -106,8 +120,7 @@ impl Desk {
         ensures reply { IfOk result (λ reply. reply ≡ spec.desk_reply self.old ask.now) }
         ensures after { OnOk result (self.new ≡ spec.desk_after self.old ask.now) }
         ensures err { OnErr result (self.new ≡ self.old) }
-        ensures journal { IfOk result (λ reply. (bounds : DeskBounds) (journal : List DeskEntry) → IsLegalDesk bounds journal → self.old ≡ desk_state bounds journal
-            → AnswersByLog self.old self.new ask.now reply bounds journal) }
+        ensures journal { IfOk result (AnswersByLogs self.old self.new ask.now) }
     {
         let plan = self.plan(alloc, ask)?;
         let Plan { reply, change } = plan;
@@ -138,13 +151,14 @@ impl Desk {
                     change: DeskChange::Begin { txn },
                 })
             }
-            DeskAsk::Commit { txn, ops, votes } => self.plan_commit(
-                alloc,
-                *txn,
-                ops.as_slice(),
-                votes.as_slice(),
-            ),
-            DeskAsk::Resolve { txn } => self.plan_resolve(*txn),
+            DeskAsk::Commit { txn, ops, votes } => {
+                let plan = self.plan_commit(alloc, *txn, ops.as_slice(), votes.as_slice())?;
+                Ok(plan)
+            }
+            DeskAsk::Resolve { txn } => {
+                let plan = self.plan_resolve(*txn)?;
+                Ok(plan)
+            }
         }
     }
 
@@ -184,8 +198,7 @@ impl Desk {
 
     /// The plan of a Resolve.
     fn plan_resolve(&self, txn: u64) -> Result<Plan<DeskReply, DeskChange>, Memory>
-        ensures reply { IfOk result (λ plan. plan.reply ≡ spec.desk_reply self.now (DeskAsk.Resolve txn)) }
-        ensures change { IfOk result (λ plan. plan.change ≡ desk_change self.now (DeskAsk.Resolve txn)) }
+        ensures { IfOk result (IsDeskPlan self.now (DeskAsk.Resolve txn)) }
     {
         if !self.is_begun(txn) {
             return Ok(refused(DeskRefusal::NoSuchTxn));
@@ -210,8 +223,7 @@ impl Desk {
         ops: &[Op],
         votes: &[Vote],
     ) -> Result<Plan<DeskReply, DeskChange>, Memory>
-        ensures reply { IfOk result (λ plan. plan.reply ≡ spec.desk_reply self.now (DeskAsk.Commit txn ops.now votes.now)) }
-        ensures change { IfOk result (λ plan. plan.change ≡ desk_change self.now (DeskAsk.Commit txn ops.now votes.now)) }
+        ensures { IfOk result (IsDeskPlan self.now (DeskAsk.Commit txn ops.now votes.now)) }
     {
         match self.commit_refusal(alloc, txn, ops, votes)? {
             Some(reason) => Ok(refused(reason)),
@@ -265,7 +277,7 @@ impl Desk {
         ops: &[Op],
         votes: &[Vote],
     ) -> Result<Option<DeskRefusal>, Memory>
-        ensures { IfOk result (λ reason. reason ≡ spec.commit_refusal self.now txn ops.now votes.now) }
+        ensures { IfOk result (λ it. it ≡ spec.commit_refusal self.now txn ops.now votes.now) }
     {
         if !self.is_begun(txn) {
             return Ok(Some(DeskRefusal::NoSuchTxn));
@@ -288,7 +300,7 @@ impl Desk {
     /// Whether the commits would have written more files than the limit.
     fn writes_too_many_files(&self, ops: &[Op]) -> bool
         requires { ops_rise ops.now ≡ true }
-        ensures { result ≡ nat_lt self.now.limits.files (fin.len (spec.with_files self.now.files ops.now)) }
+        ensures { result ≡ spec.writes_too_many_files self.now ops.now }
     {
         self.files.len() + self.files.count_new(ops) > self.limits.files() as usize
     }
@@ -301,7 +313,7 @@ impl Desk {
         files: Seq<FileName>,
     ) -> Result<(), Memory>
         requires { fin.get self.old.finals txn ≡ None }
-        ensures after { OnOk result (self.new ≡ desk_changed self.old (DeskChange.Commit txn votes files)) }
+        ensures after { OnOk result (self.new ≡ with_commit self.old txn votes files) }
         ensures err { OnErr result (self.new ≡ self.old) }
     {
         self.finals.reserve(1)?;

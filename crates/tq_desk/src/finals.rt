@@ -24,7 +24,10 @@ impl Model for Finals {
 
     ghost coded = { finals_view_code verdict_type.the_row.coded };
 
-    ghost view = { λ a. record { finals = map.from_entries a.verdicts.entries; room = spare a.verdicts } };
+    ghost view = { λ a. record {
+      finals = map.from_entries a.verdicts.entries;
+      room = spare a.verdicts;
+    } };
 }
 
 impl Finals {

@@ -1,8 +1,9 @@
-//! The desk: it begins transactions and keeps how each ended.
+//! The desk: it begins transactions and keeps how each ended. And what its journals say.
 //!
 //! Files: `ask.rt` asks and replies; `desk.rt` the desk by plan and `change.rt`; `finals.rt`, `files.rt` the tables of ends
-//! and of files written.
-//! Definitions: `specs/DeskStep` (the step), `DeskJournal` and `DecisionLog` (the decision log).
+//! and of files written; `laws.rt` functions without a body, whose contracts are the laws of a journal.
+//! Definitions: `specs/DeskStep` (the step), `DeskJournal` and `DecisionLog` (the decision log), `Laws`; `proofs/DeskFinal`
+//! that an end stays, `Shown` what good evidence shows.
 #![tactic(auto)]
 
 mod answers;
@@ -11,8 +12,10 @@ mod change;
 mod desk;
 mod files;
 mod finals;
+mod laws;
 
 pub use ask::{DeskAsk, DeskRefusal, DeskReply};
 pub use change::DeskChange;
 pub use desk::Desk;
+pub use laws::{decision_log, desk_laws};
 pub use tq_evidence::{Grant, Op, OpKind, Rule, Vote};

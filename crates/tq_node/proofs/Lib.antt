@@ -7,3 +7,12 @@ pub mod OnlyStep
 pub mod Untouched
 pub mod Versions
 pub mod LocksWalked
+pub mod Installed
+pub mod ServerLaws
+pub mod StepFrames
+pub mod Holds
+pub mod Recorded
+pub mod StopFrames
+pub mod Entries
+pub mod Lawful
+pub mod Frames

@@ -20,6 +20,7 @@ use Rattle.tq_asks.specs.declared.ask.NodeReply.TheVariants.{Granted, Yes, Insta
 use Rattle.tq_asks.specs.declared.ask.Verdict.{Verdict}
 use Rattle.tq_asks.specs.declared.ask.Verdict.TheVariants.{Abort, Commit}
 use Rattle.tq_asks.specs.declared.ask.WorkAsk.TheVariants.{Lock as LockAsk, Prepare, Decide, Release, Peek, Refresh}
+use Rattle.tq_node.specs.Node.{NodeView}
 use Rattle.tq_node.specs.Records.{Records, held_lock, kept_lock, are_good_writes, kept_records, stop_writes}
 
 -- no vote of the set is the transaction's
@@ -94,6 +95,14 @@ IsStep server list old number Return Returned new = (old.down ≡ true) × (new 
 IsStep server list old number (CrashIn after ask) Crashed new = IsUp old × (new ≡ kept_records (list ++ stop_writes server old number ask after))
 IsStep server list old number ask reply new = ⊥
 
+-- the step of a server by this ask, with this reply
+abbrev pub IsStepOf : NodeView → NodeView → ℕ → NodeAsk → NodeReply → Type 0
+IsStepOf old new number ask reply = IsStep old.server old.state.stable old.state.records number ask reply new.state.records
+
 -- the cases leave nothing open: a step from these records by this ask gives this reply and these records
 abbrev pub IsOnlyStep : ℕ → List Record → Records → ℕ → NodeAsk → NodeReply → Records → Type 0
 IsOnlyStep server list old number ask reply new = (other : NodeReply) (after : Records) → IsStep server list old number ask other after → (other ≡ reply) × (after ≡ new)
+
+-- no other reply of a server to this ask, and no other records behind it, are a step
+abbrev pub IsOnlyStepOf : NodeView → NodeView → ℕ → NodeAsk → NodeReply → Type 0
+IsOnlyStepOf old new number ask reply = IsOnlyStep old.server old.state.stable old.state.records number ask reply new.state.records

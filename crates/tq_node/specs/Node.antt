@@ -11,8 +11,9 @@ use Rattle.tq_intents.specs.declared.record.KeptLock.{KeptLock}
 use Rattle.tq_intents.specs.declared.record.OpenVote.{OpenVote}
 use Rattle.tq_intents.specs.declared.record.Record.{Record}
 use Rattle.tq_intents.specs.declared.record.Record.TheVariants as stable
-use Rattle.tq_node.specs.Records.{Records, NodeState, open_vote, node_after, kept_records}
+use Rattle.tq_node.specs.Records.{Records, NodeState, open_vote, node_after, node_reply, kept_records}
 use Rattle.tq_asks.specs.declared.ask.NodeAsk.{NodeAsk}
+use Rattle.tq_asks.specs.declared.ask.NodeReply.{NodeReply}
 
 pub record NodeView : Type 0 where
   -- the levels of its tree, and its number there
@@ -53,6 +54,10 @@ ended old txn =
       last = old.last;
     }
 
+-- the reply to an ask
+abbrev pub replied : NodeView → NodeAsk → NodeReply
+replied old ask = node_reply old.server old.state ask
+
 -- the server after an ask
 abbrev pub answered : NodeView → ℕ → NodeAsk → NodeView
 answered old number ask = record { levels = old.levels; server = old.server; state = node_after old.server old.state number ask; last = number }
@@ -60,6 +65,10 @@ answered old number ask = record { levels = old.levels; server = old.server; sta
 -- the stable list stands for the copies, the open votes and their locks
 abbrev pub IsKept : NodeState → Type 0
 IsKept state = kept_records state.stable ≡ record { copies = state.records.copies; locks = only_stable state.records.locks; votes = state.records.votes; down = true }
+
+-- nothing is there but what the stable list keeps, as after a crash
+abbrev pub HasOnlyKept : NodeState → Type 0
+HasOnlyKept state = state.records ≡ kept_records state.stable
 
 -- the stable locks of a table are the locks of the open votes
 pub record LocksIn (locks : Locks) (votes : Votes) : Type 0 where

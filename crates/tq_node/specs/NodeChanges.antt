@@ -1,9 +1,12 @@
 -- What an ask of a server is to change, the stable records that this writes, and the server with a change made.
 use Rattle.std.specs.Prelude.{◌≡◌, ◌<◌, ℕ, Bool, true, false, List, [], ◌∷◌, ◌++◌, ◌==◌, map, filter, length, take, nat_le, nat_lt, None, IsSome, if◌then◌else◌}
 use Rattle.std.specs.FinMap as fin
+use Rattle.tq_store.specs.declared.write.Write.{Write}
+use Rattle.tq_locks.specs.declared.mode.Mode.{Mode}
 use Rattle.tq_store.specs.Copies.{copy_of, installed, installed_all, is_newer}
 use Rattle.tq_locks.specs.Locks.{blocker, granted, held_of, released, kept as stabilised_locks}
 use Rattle.tq_intents.specs.Kept.{AreDead, vote_records}
+use Rattle.tq_intents.specs.declared.record.KeptLock.{KeptLock}
 use Rattle.tq_intents.specs.declared.record.Record.{Record}
 use Rattle.tq_intents.specs.declared.record.Record.TheVariants as stable
 use Rattle.tq_asks.specs.declared.ask.NodeAsk.{NodeAsk}
@@ -19,10 +22,14 @@ use Rattle.tq_node.specs.Node.{NodeView, numbered}
 
 -- ---- the stable records that a step writes, in order
 
+-- of the end of a vote: the copies that came, and that the vote has gone
+abbrev pub end_records : List Write → ℕ → ℕ → List Record
+end_records newer txn number = map stable.Copy newer ++ stable.Gone txn number ∷ []
+
 abbrev pub records_of : NodeStep → List Record
 records_of (Vote txn vote) = vote_records txn vote.number vote.writes vote.locks
 records_of (Discard txn number) = stable.Gone txn number ∷ []
-records_of (Install txn number writes newer) = map stable.Copy newer ++ stable.Gone txn number ∷ []
+records_of (Install txn number writes newer) = end_records newer txn number
 records_of (Refresh write) = stable.Copy write ∷ []
 records_of (Unfinished records) = records
 records_of (Copies newer) = map stable.Copy newer
@@ -97,6 +104,30 @@ unnoted old number step =
       last = old.last;
     }
 
+-- the server is what a step leaves, its number not noted yet
+abbrev pub Takes : NodeView → NodeView → ℕ → NodeStep → Type 0
+Takes old new number step = new ≡ unnoted old number step
+
+-- the step is that of a lock
+abbrev pub Locks : NodeView → NodeView → ℕ → ℕ → List ℕ → Mode → ℕ → Type 0
+Locks old new number txn file mode version = Takes old new number (Lock txn file mode version)
+
+-- the step is that of the end of a vote whose writes come
+abbrev pub Installs : NodeView → NodeView → ℕ → ℕ → ℕ → List Write → List Write → Type 0
+Installs old new number txn vote writes newer = Takes old new number (Install txn vote writes newer)
+
+-- the server is what a step leaves, whether its number is noted or not
+abbrev pub TakesOrNotes : NodeView → NodeView → ℕ → NodeStep → Type 0
+TakesOrNotes old new number step = numbered number new ≡ numbered number (unnoted old number step)
+
+-- the server after a vote of this number was given
+abbrev pub voted : NodeView → ℕ → ℕ → List Write → List KeptLock → NodeView
+voted old number txn writes locks = numbered number (unnoted old number (Vote txn (record { number = number; writes = writes; locks = locks })))
+
+-- the server after the first records of a vote of this number were written
+abbrev pub unfinished : NodeView → ℕ → List Record → NodeView
+unfinished old number records = numbered number (unnoted old number (Unfinished records))
+
 -- behind a step where the server stops: what the stable list keeps
 abbrev pub state_left : Bool → NodeState → NodeState
 state_left true old = record { records = kept_records old.stable; stable = old.stable }
@@ -107,6 +138,10 @@ left stops old = record { levels = old.levels; server = old.server; state = stat
 
 abbrev pub node_changed : NodeView → NodeChange → NodeView
 node_changed old change = numbered change.number (left change.stops (unnoted old change.number change.step))
+
+-- the server's copies are those that the step of a change leaves
+abbrev pub StepsCopies : NodeView → NodeView → NodeChange → Type 0
+StepsCopies old new change = new.state.records.copies ≡ (stepped old.state.records change.number change.step).copies
 
 -- ---- when a step may be taken
 

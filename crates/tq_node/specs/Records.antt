@@ -102,6 +102,18 @@ held_lock entry = record { file = entry.0.0; mode = entry.1.mode; since = entry.
 abbrev pub kept_lock : LockKey × Lock → KeptLock
 kept_lock entry = record { file = entry.0.0; mode = entry.1.mode; since = entry.1.since; version = entry.1.version }
 
+-- the locks of a transaction, as a vote lists them
+abbrev pub held_locks_of : Locks → ℕ → List HeldLock
+held_locks_of locks txn = map held_lock (held_of locks txn)
+
+-- the same, as a vote keeps them
+abbrev pub kept_locks_of : Locks → ℕ → List KeptLock
+kept_locks_of locks txn = map kept_lock (held_of locks txn)
+
+-- those of the writes that are above the copies
+abbrev pub newer_writes : Records → List Write → List Write
+newer_writes old writes = filter (is_newer old.copies) writes
+
 abbrev pub work_reply : ℕ → Records → WorkAsk → NodeReply
 work_reply server old (LockAsk txn file mode) = Granted (copy_of old.copies file).version (copy_of old.copies file).content
 work_reply server old (Prepare txn writes) = Yes (map held_lock (held_of old.locks txn)) writes

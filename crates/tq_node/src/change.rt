@@ -1,6 +1,6 @@
-ghost use Rattle.std.specs.Prelude.{◌≡◌, ◌++◌, ◌∷◌, [], map, IfOk};
+ghost use Rattle.std.specs.Prelude.{◌≡◌, map, IfOk};
 ghost use Rattle.tq_node.specs.declared.change.NodeStep.{NodeStep};
-ghost use Rattle.tq_node.specs.NodeChanges.{cut, records_of};
+ghost use Rattle.tq_node.specs.NodeChanges.{cut, end_records, records_of};
 
 use std::alloc::Global;
 use tq_intents::{NewerWrite, OpenVote, Record, SharedWrite, vote_records};
@@ -183,7 +183,7 @@ fn cut_install(
 
 /// The records of the end of a vote, of which these writes came.
 fn ending(alloc: Global, txn: u64, number: u64, newer: &[NewerWrite]) -> Result<Vec<Record>, Memory>
-    ensures { IfOk result (λ records. records.items ≡ map Record.Copy newer.now ++ Record.Gone txn number ∷ []) }
+    ensures { IfOk result (λ records. records.items ≡ end_records newer.now txn number) }
 {
     let mut records = copies(alloc, newer)?;
     records.push(Record::Gone { txn, number })?;

@@ -1,18 +1,22 @@
-//! A server: its copies, locks and votes, and what it answers to each ask.
+//! A server: its copies, locks and votes, what it answers to each ask, and what its journals say.
 //!
 //! Files: `node.rt` the server, by plan and change; `change.rt` what an ask changes and what a stop leaves;
-//! `node/telling.rt` the same asks answered at once; `votes.rt` what a vote lists.
-//! Definitions: `specs/Records` (the step as a function), `Cases` (by cases), `Node`, `NodeJournal`; `Walks` is the code's
-//! own word.
+//! `node/telling.rt` the same asks answered at once; `votes.rt` what a vote lists; `laws.rt` functions without a body,
+//! whose contracts are the laws of a journal.
+//! Definitions: `specs/Records` (the step as a function), `Cases` (by cases), `Node`, `Telling`, `NodeJournal`,
+//! `NodeLaws`; `Walks` is the code's own word. `proofs/Frames`, `StepFrames`, `StopFrames` are laws of one entry, `Lawful`
+//! of a journal.
 #![tactic(auto)]
 
 mod answers;
 mod change;
+mod laws;
 mod node;
 mod telling;
 mod votes;
 
 pub use change::{NodeChange, NodeStep};
+pub use laws::{journals_are_lawful, locks_are_lawful, stable_records_are_kept, votes_are_lawful};
 pub use node::Node;
 pub use telling::{Raised, Telling};
 pub use tq_asks::{

@@ -1,14 +1,15 @@
-ghost use Rattle.std.specs.Prelude.{◌≡◌, if◌then◌else◌, ◌<◌, ◌≤◌, false, OnOk, OnErr, IfOk, None, Ok, Some};
-ghost use Rattle.std.specs.Prelude.{IsSome, [], map, filter};
+ghost use Rattle.std.specs.Prelude.{◌≡◌, ◌<◌, ◌≤◌, false, OnOk, OnErr, IfOk, IsSome, None, Ok};
 ghost use Rattle.std.specs.FinMap as fin;
 ghost use Rattle.tq_intents.specs.Kept.{AreDead};
-ghost use Rattle.tq_locks.specs.Locks.{LockKey, blocker, held_of};
-ghost use Rattle.tq_store.specs.Copies.{copy_of, is_newer};
+ghost use Rattle.tq_locks.specs.Locks.{blocker};
 ghost use Rattle.tq_node.specs.Records as spec;
 ghost use Rattle.tq_node.specs.Node as node;
-ghost use Rattle.tq_node.specs.Node.{IsKept};
-ghost use Rattle.tq_node.specs.NodeChanges.{node_change, node_changed, left, stepped, stop_step, unnoted, work_step, end_step, NodeFits};
-ghost use Rattle.tq_node.specs.Cases.{IsOnlyStep, IsStep};
+ghost use Rattle.tq_node.specs.Node.{HasOnlyKept, IsKept};
+ghost use Rattle.tq_node.specs.NodeChanges.{left, node_change, node_changed, unfinished, voted};
+ghost use Rattle.tq_node.specs.NodeChanges.{Installs, Locks, NodeFits, StepsCopies, Takes, TakesOrNotes};
+ghost use Rattle.tq_node.specs.Plans.{planned_stop, work_replied, write_of};
+ghost use Rattle.tq_node.specs.Plans.{IsEndPlan, IsLockPlan, IsRefreshPlan, IsWorkPlan};
+ghost use Rattle.tq_node.specs.Cases.{IsOnlyStepOf, IsStepOf};
 
 mod telling;
 
@@ -61,7 +62,12 @@ impl Model for Node {
       levels = a.server.levels;
       server = a.server.number;
       state = record {
-        records = record { copies = a.copies.files; locks = a.locks.locks; votes = kept_votes a.intents.records; down = a.down };
+        records = record {
+          copies = a.copies.files;
+          locks = a.locks.locks;
+          votes = kept_votes a.intents.records;
+          down = a.down;
+        };
         stable = a.intents.records;
       };
       last = a.last;
@@ -157,7 +163,7 @@ impl Node {
     /// What `answer` would reply to the ask. It changes nothing.
     pub fn foresee(&self, alloc: Global, number: u64, ask: &NodeAsk) -> Result<NodeReply, Memory>
         requires { self.now.last < number }
-        ensures { IfOk result (λ reply. reply ≡ spec.node_reply self.now.server self.now.state ask.now) }
+        ensures { IfOk result (λ reply. reply ≡ node.replied self.now ask.now) }
     {
         let plan = self.plan(alloc, number, ask)?;
         Ok(plan.reply)
@@ -173,7 +179,7 @@ impl Node {
         ask: &NodeAsk,
     ) -> Result<Plan<NodeReply, NodeChange>, Memory>
         requires { self.now.last < number }
-        ensures reply { IfOk result (λ plan. plan.reply ≡ spec.node_reply self.now.server self.now.state ask.now) }
+        ensures reply { IfOk result (λ plan. plan.reply ≡ node.replied self.now ask.now) }
         ensures change { IfOk result (λ plan. plan.change ≡ node_change self.now number ask.now) }
     {
         if let Some(reason) = self.refusal(ask) {
@@ -210,7 +216,7 @@ impl Node {
         ask: &WorkAsk,
         after: u32,
     ) -> Result<NodeStep, Memory>
-        ensures { IfOk result (λ step. step ≡ stop_step self.now.server self.now.state.records number ask.now after) }
+        ensures { IfOk result (λ step. step ≡ planned_stop self.now number ask.now after) }
     {
         if self.work_refusal(ask).is_some() {
             return Ok(NodeStep::Nothing);
@@ -229,26 +235,18 @@ impl Node {
         ask: &WorkAsk,
     ) -> Result<Plan<NodeReply, NodeStep>, Memory>
         requires { spec.work_refusal self.now.state.records ask.now ≡ None }
-        ensures reply { IfOk result (λ plan. plan.reply ≡ spec.work_reply self.now.server self.now.state.records ask.now) }
-        ensures change { IfOk result (λ plan. plan.change ≡ work_step self.now.server self.now.state.records number ask.now) }
+        ensures { IfOk result (IsWorkPlan self.now number ask.now) }
     {
         match ask {
             WorkAsk::Lock { txn, file, mode } => {
-                let copy = self.copies.get(file);
-                let version = copy.version;
-                let content = copy.content.clone()?;
-                Ok(Plan {
-                    reply: NodeReply::Granted { version, content },
-                    change: NodeStep::Lock {
-                        txn: *txn,
-                        file: *file,
-                        mode: *mode,
-                        version,
-                    },
-                })
+                let plan = self.plan_lock(*txn, *file, *mode)?;
+                Ok(plan)
             }
             WorkAsk::Prepare { txn, writes } => self.plan_vote(alloc, number, *txn, writes),
-            WorkAsk::Decide { txn, verdict, .. } => self.plan_end(alloc, *txn, verdict),
+            WorkAsk::Decide { txn, verdict, .. } => {
+                let plan = self.plan_end(alloc, *txn, verdict)?;
+                Ok(plan)
+            }
             WorkAsk::Release { txn } => Ok(Plan {
                 reply: NodeReply::Released,
                 change: NodeStep::Release { txn: *txn },
@@ -265,8 +263,34 @@ impl Node {
                 version,
                 content,
                 ..
-            } => plan_refresh(*file, *version, content),
+            } => {
+                let plan = plan_refresh(*file, *version, content)?;
+                Ok(plan)
+            }
         }
+    }
+
+    /// The plan of a lock that is granted.
+    fn plan_lock(
+        &self,
+        txn: u64,
+        file: FileName,
+        mode: Mode,
+    ) -> Result<Plan<NodeReply, NodeStep>, Memory>
+        ensures { IfOk result (IsLockPlan self.now txn file mode) }
+    {
+        let copy = self.copies.get(&file);
+        let version = copy.version;
+        let content = copy.content.clone()?;
+        Ok(Plan {
+            reply: NodeReply::Granted { version, content },
+            change: NodeStep::Lock {
+                txn,
+                file,
+                mode,
+                version,
+            },
+        })
     }
 
     /// The plan of a vote that is given.
@@ -277,8 +301,7 @@ impl Node {
         txn: u64,
         writes: &SharedSeq<Write>,
     ) -> Result<Plan<NodeReply, NodeStep>, Memory>
-        ensures reply { IfOk result (λ plan. plan.reply ≡ spec.work_reply self.now.server self.now.state.records (WorkAsk.Prepare txn writes.now)) }
-        ensures change { IfOk result (λ plan. plan.change ≡ work_step self.now.server self.now.state.records number (WorkAsk.Prepare txn writes.now)) }
+        ensures { IfOk result (IsWorkPlan self.now number (WorkAsk.Prepare txn writes.now)) }
     {
         let (held, locks) = locks_of(alloc, &self.locks, txn)?;
         let answered = writes.clone()?;
@@ -307,8 +330,7 @@ impl Node {
         verdict: &Verdict,
     ) -> Result<Plan<NodeReply, NodeStep>, Memory>
         requires { IsSome (fin.get self.now.state.records.votes txn) }
-        ensures reply { IfOk result (λ plan. plan.reply ≡ (if spec.installs self.now.server self.now.state.records txn verdict.now then NodeReply.Installed else NodeReply.Discarded)) }
-        ensures change { IfOk result (λ plan. plan.change ≡ end_step self.now.state.records txn (spec.installs self.now.server self.now.state.records txn verdict.now)) }
+        ensures { IfOk result (IsEndPlan self.now txn verdict.now) }
     {
         let number = self.vote_number(txn);
         if self.installs(txn, verdict) {
@@ -446,7 +468,7 @@ impl Node {
     ) -> Result<(), Memory>
         requires closed { fin.get self.old.state.records.votes txn ≡ None }
         requires free { blocker self.old.state.records.locks file txn mode ≡ None }
-        ensures after { OnOk result (self.new ≡ unnoted self.old number (NodeStep.Lock txn file mode version)) }
+        ensures after { OnOk result (Locks self.old self.new number txn file mode version) }
         ensures err { OnErr result (self.new ≡ self.old) }
     {
         self.locks.grant(txn, file, mode, number, version)?;
@@ -454,7 +476,7 @@ impl Node {
     }
 
     fn peek(&self, file: FileName) -> Result<NodeReply, Memory>
-        ensures reply { IfOk result (λ reply. reply ≡ spec.work_reply self.now.server self.now.state.records (WorkAsk.Peek file)) }
+        ensures reply { IfOk result (λ reply. reply ≡ work_replied self.now (WorkAsk.Peek file)) }
     {
         let copy = self.copies.get(&file);
         Ok(NodeReply::Copy {
@@ -465,14 +487,14 @@ impl Node {
 
     fn release(&mut self, number: u64, txn: u64)
         requires { fin.get self.old.state.records.votes txn ≡ None }
-        ensures { self.new ≡ unnoted self.old number (NodeStep.Release txn) }
+        ensures { Takes self.old self.new number (NodeStep.Release txn) }
     {
         self.locks.release(txn);
     }
 
     /// Installs a newer copy. All memory is asked for before the first change.
     fn refresh(&mut self, alloc: Global, number: u64, write: Write) -> Result<(), Memory>
-        ensures after { OnOk result (self.new ≡ unnoted self.old number (NodeStep.Refresh write)) }
+        ensures after { OnOk result (Takes self.old self.new number (NodeStep.Refresh write)) }
         ensures err { OnErr result (self.new ≡ self.old) }
     {
         let file = write.file;
@@ -497,8 +519,8 @@ impl Node {
     ) -> Result<(), Memory>
         requires rises { self.old.last < number }
         requires closed { fin.get self.old.state.records.votes txn ≡ None }
-        requires locks { locks ≡ map spec.kept_lock (held_of self.old.state.records.locks txn) }
-        ensures after { OnOk result (self.new ≡ node.numbered number (unnoted self.old number (NodeStep.Vote txn (record { number = number; writes = writes; locks = locks })))) }
+        requires locks { locks ≡ spec.kept_locks_of self.old.state.records.locks txn }
+        ensures after { OnOk result (self.new ≡ voted self.old number txn writes locks) }
         ensures err { OnErr result (self.new ≡ self.old) }
     {
         self.intents.prepare(alloc, txn, number, writes, locks)?;
@@ -511,7 +533,7 @@ impl Node {
     fn leave_unfinished(&mut self, number: u64, records: Seq<Record>) -> Result<(), Memory>
         requires rises { self.old.last < number }
         requires dead { AreDead number records }
-        ensures after { OnOk result (self.new ≡ node.numbered number (unnoted self.old number (NodeStep.Unfinished records))) }
+        ensures after { OnOk result (self.new ≡ unfinished self.old number records) }
         ensures err { OnErr result (self.new ≡ self.old) }
     {
         self.intents.push_unfinished(records)?;
@@ -526,7 +548,7 @@ impl Node {
         number: u64,
         newer: Seq<NewerWrite>,
     ) -> Result<(), Memory>
-        ensures after { OnOk result (self.new ≡ unnoted self.old number (NodeStep.Copies newer)) }
+        ensures after { OnOk result (Takes self.old self.new number (NodeStep.Copies newer)) }
         ensures err { OnErr result (self.new ≡ self.old) }
     {
         self.copies.reserve(alloc, newer.len())?;
@@ -554,7 +576,7 @@ impl Node {
 
     /// The writes that are above the copies here.
     fn newer(&self, alloc: Global, writes: &SharedSeq<Write>) -> Result<Seq<NewerWrite>, Memory>
-        ensures { IfOk result (λ newer. newer ≡ filter (is_newer self.now.state.records.copies) writes.now) }
+        ensures { IfOk result (λ it. it ≡ spec.newer_writes self.now.state.records writes.now) }
     {
         let list = writes.as_slice();
         let mut newer = Vec::new(alloc);
@@ -572,7 +594,7 @@ impl Node {
     fn discard(&mut self, number: u64, txn: u64, vote: u64) -> Result<(), Memory>
         requires open { IsSome (fin.get self.old.state.records.votes txn) }
         requires vote { vote ≡ (spec.open_vote self.old.state.records txn).number }
-        ensures after { OnOk result (self.new ≡ unnoted self.old number (NodeStep.Discard txn vote)) }
+        ensures after { OnOk result (Takes self.old self.new number (NodeStep.Discard txn vote)) }
         ensures err { OnErr result (self.new ≡ self.old) }
     {
         self.intents.reserve(1)?;
@@ -594,8 +616,8 @@ impl Node {
     ) -> Result<(), Memory>
         requires open { IsSome (fin.get self.old.state.records.votes txn) }
         requires vote { vote ≡ (spec.open_vote self.old.state.records txn).number }
-        requires newer { newer ≡ filter (is_newer self.old.state.records.copies) writes.now }
-        ensures after { OnOk result (self.new ≡ unnoted self.old number (NodeStep.Install txn vote writes.now newer)) }
+        requires newer { newer ≡ spec.newer_writes self.old.state.records writes.now }
+        ensures after { OnOk result (Installs self.old self.new number txn vote writes.now newer) }
         ensures err { OnErr result (self.new ≡ self.old) }
     {
         self.copies.reserve(alloc, newer.len())?;
@@ -613,7 +635,7 @@ impl Node {
     pub fn apply(&mut self, alloc: Global, change: NodeChange) -> Result<(), Memory>
         requires { NodeFits self.old change }
         ensures ok { OnOk result (self.new ≡ node_changed self.old change) }
-        ensures copies { OnOk result (self.new.state.records.copies ≡ (stepped self.old.state.records change.number change.step).copies) }
+        ensures copies { OnOk result (StepsCopies self.old self.new change) }
         ensures err { OnErr result (self.new ≡ self.old) }
     {
         let NodeChange {
@@ -630,7 +652,7 @@ impl Node {
     /// Makes the step of a change. Its number need not be noted yet.
     fn take(&mut self, alloc: Global, number: u64, step: NodeStep) -> Result<(), Memory>
         requires { NodeFits self.old (record { number = number; step = step; stops = false }) }
-        ensures after { OnOk result (node.numbered number self.new ≡ node.numbered number (unnoted self.old number step)) }
+        ensures after { OnOk result (TakesOrNotes self.old self.new number step) }
         ensures last { self.new.last ≤ number }
         ensures err { OnErr result (self.new ≡ self.old) }
     {
@@ -677,7 +699,7 @@ impl Node {
 
     /// Goes down, and keeps the locks of the open votes alone.
     fn crash(&mut self, number: u64)
-        ensures { self.new ≡ unnoted self.old number NodeStep.Crash }
+        ensures { Takes self.old self.new number NodeStep.Crash }
     {
         self.locks.drop_unstable();
         self.down = true;
@@ -696,7 +718,7 @@ impl Node {
 
     /// Comes up again.
     fn come_back(&mut self, number: u64)
-        ensures { self.new ≡ unnoted self.old number NodeStep.Return }
+        ensures { Takes self.old self.new number NodeStep.Return }
     {
         self.down = false;
     }
@@ -712,7 +734,7 @@ impl Node {
     /// The step: the refusal where there is one, and else the answer.
     fn respond(&mut self, alloc: Global, number: u64, ask: &NodeAsk) -> Result<NodeReply, Memory>
         requires { self.old.last < number }
-        ensures reply { IfOk result (λ reply. reply ≡ spec.node_reply self.old.server self.old.state ask.now) }
+        ensures reply { IfOk result (λ reply. reply ≡ node.replied self.old ask.now) }
         ensures after { OnOk result (self.new ≡ node.answered self.old number ask.now) }
         ensures err { OnErr result (self.new ≡ self.old) }
     {
@@ -726,17 +748,17 @@ impl Node {
     /// Where memory is wanting the server is as it was, and the ask may be put again.
     pub fn answer(&mut self, alloc: Global, number: u64, ask: &NodeAsk) -> Result<NodeReply, Memory>
         requires { self.old.last < number }
-        ensures reply { IfOk result (λ reply. reply ≡ spec.node_reply self.old.server self.old.state ask.now) }
+        ensures reply { IfOk result (λ reply. reply ≡ node.replied self.old ask.now) }
         ensures after { OnOk result (self.new ≡ node.answered self.old number ask.now) }
         ensures err { OnErr result (self.new ≡ self.old) }
 
         // The same as a relation, one case for each refusal and each answer; no other reply and no other records are in it.
-        ensures by_cases { IfOk result (λ reply. IsStep self.old.server self.old.state.stable self.old.state.records number ask.now reply self.new.state.records) }
-        ensures only { IfOk result (λ reply. IsOnlyStep self.old.server self.old.state.stable self.old.state.records number ask.now reply self.new.state.records) }
+        ensures by_cases { IfOk result (IsStepOf self.old self.new number ask.now) }
+        ensures only { IfOk result (IsOnlyStepOf self.old self.new number ask.now) }
 
         // The stable records keep the copies, the open votes and their locks; after a crash they are all there is.
         ensures kept { IsKept self.new.state }
-        ensures crashed { result ≡ Ok NodeReply.Crashed → self.new.state.records ≡ spec.kept_records self.new.state.stable }
+        ensures crashed { result ≡ Ok NodeReply.Crashed → HasOnlyKept self.new.state }
     {
         let told = self.respond(alloc, number, ask);
         let _ = &self.last;
@@ -765,8 +787,7 @@ fn plan_refresh(
     version: u64,
     content: &Content,
 ) -> Result<Plan<NodeReply, NodeStep>, Memory>
-    ensures reply { IfOk result (λ plan. plan.reply ≡ NodeReply.Refreshed) }
-    ensures change { IfOk result (λ plan. plan.change ≡ NodeStep.Refresh (record { file = file; version = version; content = content.now })) }
+    ensures { IfOk result (IsRefreshPlan (write_of file version content.now)) }
 {
     let content = content.clone()?;
     Ok(Plan {

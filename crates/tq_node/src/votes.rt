@@ -1,6 +1,5 @@
 //! What a vote lists, and what it may write.
-ghost use Rattle.std.specs.Prelude.{◌≡◌, IfOk, map};
-ghost use Rattle.tq_locks.specs.Locks.{held_of};
+ghost use Rattle.std.specs.Prelude.{◌≡◌, IfOk};
 ghost use Rattle.tq_node.specs.Records as spec;
 ghost use Rattle.tq_node.specs.Walks.{all_held};
 
@@ -17,8 +16,8 @@ pub(crate) fn locks_of(
     table: &LockTable,
     txn: u64,
 ) -> Result<(SharedSeq<HeldLock>, VoteLocks), Memory>
-    ensures held { IfOk result (λ locks. locks.0 ≡ map spec.held_lock (held_of table.now.locks txn)) }
-    ensures kept { IfOk result (λ locks. locks.1 ≡ map spec.kept_lock (held_of table.now.locks txn)) }
+    ensures held { IfOk result (λ locks. locks.0 ≡ spec.held_locks_of table.now.locks txn) }
+    ensures kept { IfOk result (λ locks. locks.1 ≡ spec.kept_locks_of table.now.locks txn) }
 {
     let count = table.keys_of_txn(txn).len();
     let mut held = Vec::with_capacity(alloc, count)?;

@@ -1,8 +1,7 @@
 use crate::check::{Wrong, check};
 use std::alloc::Global;
 use tq_asks::Verdict;
-use tq_desk::{Desk, DeskAsk, DeskReply};
-use tq_desk_laws::{decision_log, desk_laws};
+use tq_desk::{Desk, DeskAsk, DeskReply, decision_log, desk_laws};
 use tq_shape::{Levels, Limits};
 
 /// What the desk answers, where it has not begun many transactions.
@@ -45,10 +44,21 @@ fn begins_and_copies_itself(alloc: Global) -> bool {
     begins(alloc, &mut desk) && leaves_its_copy(alloc, &desk)
 }
 
+/// Whether a desk lends the levels and the limits that it was made with.
+fn lends_its_bounds(alloc: Global) -> bool {
+    let desk = Desk::new(alloc, Levels::default(), Limits::full());
+    desk.levels() == Levels::default() && desk.limits() == Limits::full()
+}
+
 /// What is foreseen changes nothing, and a copy goes on alone.
 #[test]
 fn a_copy_goes_on_alone(rt: HostRuntime) -> Result<(), Wrong> {
     check(begins_and_copies_itself(rt.alloc()), "another answer")
+}
+
+#[test]
+fn lends_bounds(rt: HostRuntime) -> Result<(), Wrong> {
+    check(lends_its_bounds(rt.alloc()), "other bounds")
 }
 
 #[test]

@@ -19,8 +19,8 @@ use Rattle.tq_node.specs.NodeJournal.{NodeEntry, IsCited, HasHeld}
 use Rattle.tq_desk.specs.DeskJournal.{DeskBounds, DeskEntry, IsLegalDesk, final, Commit, with_commit, commits, count, last_write, IsNumbered, AreNumbered, IsWritten}
 use Rattle.tq_world.proofs.Events.{Event, AtNode, AtDesk, node_journal, desk_journal, IsFoundedCommit, IsFoundedAsk, IsRun, MeetsAll}
 use Rattle.tq_coterie.specs.Coterie.{is_quorum}
-use Rattle.tq_node_laws.specs.NodeLaws.{NodeLaws}
-use Rattle.tq_desk_laws.specs.Laws.{DeskLaws, IsShown, HasTop}
+use Rattle.tq_node.specs.NodeLaws.{NodeLaws}
+use Rattle.tq_desk.specs.Laws.{DeskLaws, IsShown, HasTop}
 use Rattle.tq_shape.proofs.Places.{Has-map, map-Has, Has-any, Some-same}
 use Rattle.tq_world.proofs.Numbering.{AreOnce, IsWritten-bound, last-IsWritten, IsWritten-last, none-last_write}
 use Rattle.tq_world.proofs.Worlds.{legal_nodes, legal_desk, founded_commits}

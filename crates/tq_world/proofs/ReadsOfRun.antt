@@ -1,7 +1,7 @@
 -- Committed reads, of the journals of a run.
 use Rattle.std.proofs.Common.{◌≡◌, List, ◌++◌, reverse, ap, subst, sym, ◌∙◌}
-use Rattle.tq_node_laws.proofs.Lawful.{node_laws}
-use Rattle.tq_desk_laws.proofs.DeskFinal.{desk_laws}
+use Rattle.tq_node.proofs.Lawful.{node_laws}
+use Rattle.tq_desk.proofs.DeskFinal.{desk_laws}
 use Rattle.tq_desk.specs.DeskJournal.{DeskEntry, commits, AreNumbered}
 use Rattle.tq_tables.specs.Journals.{JournalsView}
 use Rattle.tq_world.specs.declared.answer.Step.{Step}

@@ -22,9 +22,9 @@ use Rattle.tq_node.specs.NodeJournal.{NodeEntry, IsLegalNode, IsCited, inner, Te
 use Rattle.tq_desk.specs.DeskJournal.{DeskBounds, DeskEntry, IsLegalDesk, final, Commit, with_commit, commits, IsWritten}
 use Rattle.tq_world.proofs.Events.{Event, AtNode, AtDesk, node_journal, desk_journal, IsRun}
 use Rattle.tq_coterie.specs.Coterie.{is_quorum}
-use Rattle.tq_node_laws.specs.NodeLaws.{NodeLaws, HasOrigin}
-use Rattle.tq_desk_laws.specs.Laws.{DeskLaws, IsShown}
-use Rattle.tq_desk_laws.proofs.DeskFinal.{commit-cases, commit-old}
+use Rattle.tq_node.specs.NodeLaws.{NodeLaws, HasOrigin}
+use Rattle.tq_desk.specs.Laws.{DeskLaws, IsShown}
+use Rattle.tq_desk.proofs.DeskFinal.{commit-cases, commit-old}
 use Rattle.tq_shape.proofs.Places.{at-before, at-bound, at-old, at-same, any-Has, Has-map}
 use Rattle.tq_world.proofs.Worlds.{legal_nodes, legal_desk, founded_inner, founded_decision, founded_commits}
 

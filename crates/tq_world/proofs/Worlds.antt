@@ -14,7 +14,7 @@ use Rattle.tq_shape.specs.Journal.{entry_at, Has}
 use Rattle.tq_node.specs.NodeJournal.{NodeEntry, node_state, IsLegalNode, inner, InnerAt, DecisionAt}
 use Rattle.tq_desk.specs.DeskJournal.{DeskBounds, DeskEntry, IsLegalDesk, Commit, commits, VerdictAt}
 use Rattle.tq_world.proofs.Events.{Event, AtNode, AtDesk, node_journal, desk_journal, IsFoundedWork, IsFoundedCommit, IsFoundedAsk, IsRun}
-use Rattle.tq_desk_laws.proofs.DeskFinal.{commit-cases}
+use Rattle.tq_desk.proofs.DeskFinal.{commit-cases}
 use Rattle.tq_shape.proofs.Places.{at-cases, at-old}
 
 -- ---- legal parts

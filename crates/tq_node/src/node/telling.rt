@@ -1,8 +1,9 @@
 //! Asks that are answered at once, with no plan of their change, and their replies told twice.
 ghost use Rattle.std.specs.Prelude.{◌≡◌, ◌<◌, [], false, OnOk, OnErr, IfOk};
 ghost use Rattle.tq_node.specs.Node as node;
-ghost use Rattle.tq_node.specs.Untouched.{AreReached, KeepsOthers, raised_files};
-ghost use Rattle.tq_node.specs.Records as spec;
+ghost use Rattle.tq_node.specs.Telling.{IsEndTold, IsLockTold, IsTold};
+ghost use Rattle.tq_node.specs.Telling.{IsVoteTold, IsWorkTold};
+ghost use Rattle.tq_node.specs.Telling.{KeepsUntold, ReachesTold};
 
 use super::Node;
 use crate::votes::locks_of;
@@ -18,15 +19,16 @@ impl Node {
     /// Answers an ask, of a number above that of the last one answered, as `answer` does, and tells the reply twice, with
     /// the files whose copies this may have raised: no other copy changes, and each of theirs is of the version told or of
     /// a later one. Where memory is wanting the server is as it was.
-    // Compiled into its callers: what it tells is long, and is read there in other pieces than it is written in, which waits for each store before it.
+    // Compiled into its callers: what it tells is long, and is read there in other pieces than it is
+    // written in, which waits for each store before it.
     #[inline(always)]
     pub fn tell(&mut self, alloc: Global, number: u64, ask: &NodeAsk) -> Result<Telling, Memory>
         requires { self.old.last < number }
-        ensures entered { IfOk result (λ telling. telling.entered ≡ spec.node_reply self.old.server self.old.state ask.now) }
-        ensures told { IfOk result (λ telling. telling.told ≡ spec.node_reply self.old.server self.old.state ask.now) }
+        ensures entered { IfOk result (λ telling. telling.entered ≡ node.replied self.old ask.now) }
+        ensures told { IfOk result (λ telling. telling.told ≡ node.replied self.old ask.now) }
         ensures after { OnOk result (self.new ≡ node.answered self.old number ask.now) }
-        ensures raised { IfOk result (λ telling. KeepsOthers (raised_files ask.now telling.raised) self.old.state.records.copies self.new.state.records.copies) }
-        ensures reached { IfOk result (λ telling. AreReached ask.now telling.raised self.new.state.records.copies) }
+        ensures raised { IfOk result (KeepsUntold self.old self.new ask.now) }
+        ensures reached { IfOk result (ReachesTold self.new ask.now) }
         ensures err { OnErr result (self.new ≡ self.old) }
     {
         match ask {
@@ -40,11 +42,7 @@ impl Node {
     /// Plans the ask and makes the change: a stop in the midst of an ask, which comes seldom.
     fn tell_planned(&mut self, alloc: Global, number: u64, ask: &NodeAsk) -> Result<Telling, Memory>
         requires { self.old.last < number }
-        ensures entered { IfOk result (λ telling. telling.entered ≡ spec.node_reply self.old.server self.old.state ask.now) }
-        ensures told { IfOk result (λ telling. telling.told ≡ spec.node_reply self.old.server self.old.state ask.now) }
-        ensures after { OnOk result (self.new ≡ node.answered self.old number ask.now) }
-        ensures raised { IfOk result (λ telling. KeepsOthers (raised_files ask.now telling.raised) self.old.state.records.copies self.new.state.records.copies) }
-        ensures reached { IfOk result (λ telling. AreReached ask.now telling.raised self.new.state.records.copies) }
+        ensures told { IfOk result (IsTold self.old self.new number ask.now) }
         ensures err { OnErr result (self.new ≡ self.old) }
     {
         let plan = self.plan(alloc, number, ask)?;
@@ -64,11 +62,7 @@ impl Node {
     #[inline(never)]
     fn tell_crash(&mut self, alloc: Global, number: u64) -> Result<Telling, Memory>
         requires { self.old.last < number }
-        ensures entered { IfOk result (λ telling. telling.entered ≡ spec.node_reply self.old.server self.old.state NodeAsk.Crash) }
-        ensures told { IfOk result (λ telling. telling.told ≡ spec.node_reply self.old.server self.old.state NodeAsk.Crash) }
-        ensures after { OnOk result (self.new ≡ node.answered self.old number NodeAsk.Crash) }
-        ensures raised { IfOk result (λ telling. KeepsOthers (raised_files NodeAsk.Crash telling.raised) self.old.state.records.copies self.new.state.records.copies) }
-        ensures reached { IfOk result (λ telling. AreReached NodeAsk.Crash telling.raised self.new.state.records.copies) }
+        ensures told { IfOk result (IsTold self.old self.new number NodeAsk.Crash) }
         ensures err { OnErr result (self.new ≡ self.old) }
     {
         if self.down {
@@ -87,11 +81,7 @@ impl Node {
     #[inline(never)]
     fn tell_return(&mut self, alloc: Global, number: u64) -> Result<Telling, Memory>
         requires { self.old.last < number }
-        ensures entered { IfOk result (λ telling. telling.entered ≡ spec.node_reply self.old.server self.old.state NodeAsk.Return) }
-        ensures told { IfOk result (λ telling. telling.told ≡ spec.node_reply self.old.server self.old.state NodeAsk.Return) }
-        ensures after { OnOk result (self.new ≡ node.answered self.old number NodeAsk.Return) }
-        ensures raised { IfOk result (λ telling. KeepsOthers (raised_files NodeAsk.Return telling.raised) self.old.state.records.copies self.new.state.records.copies) }
-        ensures reached { IfOk result (λ telling. AreReached NodeAsk.Return telling.raised self.new.state.records.copies) }
+        ensures told { IfOk result (IsTold self.old self.new number NodeAsk.Return) }
         ensures err { OnErr result (self.new ≡ self.old) }
     {
         if !self.down {
@@ -113,11 +103,7 @@ impl Node {
         ask: &Shared<WorkAsk>,
     ) -> Result<Telling, Memory>
         requires { self.old.last < number }
-        ensures entered { IfOk result (λ telling. telling.entered ≡ spec.node_reply self.old.server self.old.state (NodeAsk.Work ask.now)) }
-        ensures told { IfOk result (λ telling. telling.told ≡ spec.node_reply self.old.server self.old.state (NodeAsk.Work ask.now)) }
-        ensures after { OnOk result (self.new ≡ node.answered self.old number (NodeAsk.Work ask.now)) }
-        ensures raised { IfOk result (λ telling. KeepsOthers (raised_files (NodeAsk.Work ask.now) telling.raised) self.old.state.records.copies self.new.state.records.copies) }
-        ensures reached { IfOk result (λ telling. AreReached (NodeAsk.Work ask.now) telling.raised self.new.state.records.copies) }
+        ensures told { IfOk result (IsWorkTold self.old self.new number ask.now) }
         ensures err { OnErr result (self.new ≡ self.old) }
     {
         if self.down {
@@ -170,11 +156,7 @@ impl Node {
     ) -> Result<Telling, Memory>
         requires rises { self.old.last < number }
         requires up { self.old.state.records.down ≡ false }
-        ensures entered { IfOk result (λ telling. telling.entered ≡ spec.node_reply self.old.server self.old.state (NodeAsk.Work (WorkAsk.Lock txn file mode))) }
-        ensures told { IfOk result (λ telling. telling.told ≡ spec.node_reply self.old.server self.old.state (NodeAsk.Work (WorkAsk.Lock txn file mode))) }
-        ensures after { OnOk result (self.new ≡ node.answered self.old number (NodeAsk.Work (WorkAsk.Lock txn file mode))) }
-        ensures raised { IfOk result (λ telling. KeepsOthers (raised_files (NodeAsk.Work (WorkAsk.Lock txn file mode)) telling.raised) self.old.state.records.copies self.new.state.records.copies) }
-        ensures reached { IfOk result (λ telling. AreReached (NodeAsk.Work (WorkAsk.Lock txn file mode)) telling.raised self.new.state.records.copies) }
+        ensures told { IfOk result (IsLockTold self.old self.new number txn file mode) }
         ensures err { OnErr result (self.new ≡ self.old) }
     {
         if self.intents.of(txn).is_some() {
@@ -209,11 +191,7 @@ impl Node {
     ) -> Result<Telling, Memory>
         requires rises { self.old.last < number }
         requires up { self.old.state.records.down ≡ false }
-        ensures entered { IfOk result (λ telling. telling.entered ≡ spec.node_reply self.old.server self.old.state (NodeAsk.Work (WorkAsk.Prepare txn writes.now))) }
-        ensures told { IfOk result (λ telling. telling.told ≡ spec.node_reply self.old.server self.old.state (NodeAsk.Work (WorkAsk.Prepare txn writes.now))) }
-        ensures after { OnOk result (self.new ≡ node.answered self.old number (NodeAsk.Work (WorkAsk.Prepare txn writes.now))) }
-        ensures raised { IfOk result (λ telling. KeepsOthers (raised_files (NodeAsk.Work (WorkAsk.Prepare txn writes.now)) telling.raised) self.old.state.records.copies self.new.state.records.copies) }
-        ensures reached { IfOk result (λ telling. AreReached (NodeAsk.Work (WorkAsk.Prepare txn writes.now)) telling.raised self.new.state.records.copies) }
+        ensures told { IfOk result (IsVoteTold self.old self.new number txn writes.now) }
         ensures err { OnErr result (self.new ≡ self.old) }
     {
         if let Some(reason) = self.prepare_refusal(txn, writes.as_slice()) {
@@ -247,11 +225,7 @@ impl Node {
     ) -> Result<Telling, Memory>
         requires rises { self.old.last < number }
         requires up { self.old.state.records.down ≡ false }
-        ensures entered { IfOk result (λ telling. telling.entered ≡ spec.node_reply self.old.server self.old.state (NodeAsk.Work (WorkAsk.Decide txn verdict.now _cite))) }
-        ensures told { IfOk result (λ telling. telling.told ≡ spec.node_reply self.old.server self.old.state (NodeAsk.Work (WorkAsk.Decide txn verdict.now _cite))) }
-        ensures after { OnOk result (self.new ≡ node.answered self.old number (NodeAsk.Work (WorkAsk.Decide txn verdict.now _cite))) }
-        ensures raised { IfOk result (λ telling. KeepsOthers (raised_files (NodeAsk.Work (WorkAsk.Decide txn verdict.now _cite)) telling.raised) self.old.state.records.copies self.new.state.records.copies) }
-        ensures reached { IfOk result (λ telling. AreReached (NodeAsk.Work (WorkAsk.Decide txn verdict.now _cite)) telling.raised self.new.state.records.copies) }
+        ensures told { IfOk result (IsEndTold self.old self.new number txn verdict.now _cite) }
         ensures err { OnErr result (self.new ≡ self.old) }
     {
         let Some(vote) = self.intents.of(txn) else {
@@ -282,11 +256,7 @@ impl Node {
     fn tell_release(&mut self, alloc: Global, number: u64, txn: u64) -> Result<Telling, Memory>
         requires rises { self.old.last < number }
         requires up { self.old.state.records.down ≡ false }
-        ensures entered { IfOk result (λ telling. telling.entered ≡ spec.node_reply self.old.server self.old.state (NodeAsk.Work (WorkAsk.Release txn))) }
-        ensures told { IfOk result (λ telling. telling.told ≡ spec.node_reply self.old.server self.old.state (NodeAsk.Work (WorkAsk.Release txn))) }
-        ensures after { OnOk result (self.new ≡ node.answered self.old number (NodeAsk.Work (WorkAsk.Release txn))) }
-        ensures raised { IfOk result (λ telling. KeepsOthers (raised_files (NodeAsk.Work (WorkAsk.Release txn)) telling.raised) self.old.state.records.copies self.new.state.records.copies) }
-        ensures reached { IfOk result (λ telling. AreReached (NodeAsk.Work (WorkAsk.Release txn)) telling.raised self.new.state.records.copies) }
+        ensures told { IfOk result (IsWorkTold self.old self.new number (WorkAsk.Release txn)) }
         ensures err { OnErr result (self.new ≡ self.old) }
     {
         if let Some(reason) = self.release_refusal(txn) {
@@ -305,11 +275,7 @@ impl Node {
     fn tell_copy(&mut self, number: u64, file: &FileName) -> Result<Telling, Memory>
         requires rises { self.old.last < number }
         requires up { self.old.state.records.down ≡ false }
-        ensures entered { IfOk result (λ telling. telling.entered ≡ spec.node_reply self.old.server self.old.state (NodeAsk.Work (WorkAsk.Peek file.now))) }
-        ensures told { IfOk result (λ telling. telling.told ≡ spec.node_reply self.old.server self.old.state (NodeAsk.Work (WorkAsk.Peek file.now))) }
-        ensures after { OnOk result (self.new ≡ node.answered self.old number (NodeAsk.Work (WorkAsk.Peek file.now))) }
-        ensures raised { IfOk result (λ telling. KeepsOthers (raised_files (NodeAsk.Work (WorkAsk.Peek file.now)) telling.raised) self.old.state.records.copies self.new.state.records.copies) }
-        ensures reached { IfOk result (λ telling. AreReached (NodeAsk.Work (WorkAsk.Peek file.now)) telling.raised self.new.state.records.copies) }
+        ensures told { IfOk result (IsWorkTold self.old self.new number (WorkAsk.Peek file.now)) }
         ensures err { OnErr result (self.new ≡ self.old) }
     {
         self.copies.note(file);
@@ -342,11 +308,7 @@ impl Node {
         requires rises { self.old.last < number }
         requires ask { ask.now ≡ WorkAsk.Refresh file version content.now _from }
         requires up { self.old.state.records.down ≡ false }
-        ensures entered { IfOk result (λ telling. telling.entered ≡ spec.node_reply self.old.server self.old.state (NodeAsk.Work (WorkAsk.Refresh file version content.now _from))) }
-        ensures told { IfOk result (λ telling. telling.told ≡ spec.node_reply self.old.server self.old.state (NodeAsk.Work (WorkAsk.Refresh file version content.now _from))) }
-        ensures after { OnOk result (self.new ≡ node.answered self.old number (NodeAsk.Work (WorkAsk.Refresh file version content.now _from))) }
-        ensures raised { IfOk result (λ telling. KeepsOthers (raised_files (NodeAsk.Work (WorkAsk.Refresh file version content.now _from)) telling.raised) self.old.state.records.copies self.new.state.records.copies) }
-        ensures reached { IfOk result (λ telling. AreReached (NodeAsk.Work (WorkAsk.Refresh file version content.now _from)) telling.raised self.new.state.records.copies) }
+        ensures told { IfOk result (IsWorkTold self.old self.new number ask.now) }
         ensures err { OnErr result (self.new ≡ self.old) }
     {
         let kept = content.clone()?;

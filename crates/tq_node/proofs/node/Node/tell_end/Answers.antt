@@ -1,4 +1,4 @@
-use Rattle.std.proofs.Common.{List, [], map, ap, sym, subst, ◌∙◌}
+use Rattle.std.proofs.Common.{List, [], map, ap, sym, subst, ◌∙◌, rules}
 use Rattle.std.specs.List.{list_any}
 use Rattle.tq_asks.specs.declared.ask.NodeAsk.TheVariants.{Work}
 use Rattle.tq_asks.specs.declared.ask.WorkAsk.TheVariants.{Decide}
@@ -12,17 +12,21 @@ use Rattle.tq_node.specs.Untouched.{AreReached}
 use Rattle.tq_node.specs.declared.telling.Raised.TheVariants.{Written}
 use Rattle.tq_node.proofs.node.Node.tell_end.Goals as goal
 
-pub returns-clause-raised : goal.returns-clause-raised
-returns-clause-raised c = λ file none.
-    ap (λ (v : NodeView). copy_of v.state.records.copies file) (c.note-2.ensures ∙ ap (numbered c.args.number) c.in_ok-install.ensures.after)
-    ∙ step-keeps (Work (Decide c.args.txn c.args.verdict.now c.args._cite)) c.args.self.now.state.records c.args.number (Install c.args.txn 0 c.as_slice.result.now []) file
-    (ap (λ (writes : List Write). list_any (same_name file) (map (λ write. write.file) writes)) c.as_slice.ensures ∙ none)
-
-pub returns-clause-reached : goal.returns-clause-reached
-returns-clause-reached c =
+pub returns-clause-told : goal.returns-clause-told
+returns-clause-told c =
     let ask = Work (Decide c.args.txn c.args.verdict.now c.args._cite) in
     let old = c.args.self.now.state.records in
     let after = c.note-2.ensures ∙ ap (numbered c.args.number) c.in_ok-install.ensures.after in
-    subst (λ (v : NodeView). AreReached ask (Written c.in_ok-writes.writes) v.state.records.copies) (sym after)
-    (subst (λ (writes : List Write). AreReached ask (Written c.in_ok-writes.writes) (installed_all old.copies writes)) (sym c.as_slice.ensures)
-    (step-reaches ask old c.args.number (Install c.args.txn 0 c.in_ok-writes.writes [])))
+    record {
+      entered = search rules;
+      told = search rules;
+      after = search rules;
+      raised = λ file none.
+          ap (λ (v : NodeView). copy_of v.state.records.copies file) after
+          ∙ step-keeps ask old c.args.number (Install c.args.txn 0 c.as_slice.result.now []) file
+          (ap (λ (writes : List Write). list_any (same_name file) (map (λ write. write.file) writes)) c.as_slice.ensures ∙ none);
+      reached =
+          subst (λ (v : NodeView). AreReached ask (Written c.in_ok-writes.writes) v.state.records.copies) (sym after)
+          (subst (λ (writes : List Write). AreReached ask (Written c.in_ok-writes.writes) (installed_all old.copies writes)) (sym c.as_slice.ensures)
+          (step-reaches ask old c.args.number (Install c.args.txn 0 c.in_ok-writes.writes [])));
+    }

@@ -1,8 +1,12 @@
-use Rattle.std.proofs.Common.{◌≡◌, [], ◌∷◌, ◌++◌, refl, ap, ◌∙◌, rules}
+use Rattle.std.proofs.Common.{◌≡◌, ℕ, [], ◌∷◌, ◌++◌, refl, sym, ap, subst, ◌∙◌, rules}
+use Rattle.tq_asks.specs.declared.ask.WorkAsk.{WorkAsk}
 use Rattle.tq_intents.specs.Sharing.{told_write}
 use Rattle.tq_intents.specs.declared.record.Record.TheVariants.{Copy}
 use Rattle.tq_store.specs.Copies.{installed}
 use Rattle.tq_store.specs.declared.write.Write.{Write}
+use Rattle.tq_node.specs.Node.{NodeView}
+use Rattle.tq_node.specs.Telling.{IsWorkTold}
+use Rattle.tq_node.specs.declared.telling.Telling.{Telling}
 use Rattle.tq_node.proofs.Sound.{sound-as, sound-copies}
 use Rattle.tq_node.proofs.node.Node.tell_refresh.Goals as goal
 
@@ -17,3 +21,9 @@ invariant_of-self-2 c =
     (c.push_copy.ensures.records ∙ (λ i. c.in_ok-reserve-2.ensures.records i ++ Copy (told i) ∷ []))
     (c.install_newer.ensures.files ∙ (λ i. installed (c.in_ok-reserve.ensures.files i) write.file (record { version = write.version; content = stored i })))
     refl
+
+told_as : (old new : NodeView) (number : ℕ) (ask same : WorkAsk) (telling : Telling) → ask ≡ same → IsWorkTold old new number same telling → IsWorkTold old new number ask telling
+told_as old new number ask same telling is h = subst (λ (a : WorkAsk). IsWorkTold old new number a telling) (sym is) h
+
+pub returns-clause-told : goal.returns-clause-told
+returns-clause-told c = told_as _ _ _ _ _ _ c.requires.ask (search rules)

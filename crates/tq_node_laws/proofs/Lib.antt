@@ -1,9 +1,0 @@
-pub mod Frames
-pub mod Installed
-pub mod ServerLaws
-pub mod StepFrames
-pub mod Holds
-pub mod Recorded
-pub mod StopFrames
-pub mod Entries
-pub mod Lawful

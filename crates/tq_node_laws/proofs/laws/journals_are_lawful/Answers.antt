@@ -1,5 +1,0 @@
-use Rattle.tq_node_laws.proofs.Lawful.{node_laws}
-use Rattle.tq_node_laws.proofs.laws.journals_are_lawful.Goals as goal
-
-pub returns : goal.returns
-returns c = node_laws

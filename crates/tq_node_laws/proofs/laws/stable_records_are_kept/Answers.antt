@@ -1,5 +1,0 @@
-use Rattle.tq_node_laws.proofs.Lawful.{stable_law}
-use Rattle.tq_node_laws.proofs.laws.stable_records_are_kept.Goals as goal
-
-pub returns : goal.returns
-returns c = stable_law

@@ -1,5 +1,0 @@
-use Rattle.tq_node_laws.proofs.Lawful.{vote_laws}
-use Rattle.tq_node_laws.proofs.laws.votes_are_lawful.Goals as goal
-
-pub returns : goal.returns
-returns c = vote_laws
