@@ -1,6 +1,7 @@
 -- The text of the board: what an operator sees of the tables, beside the costs and marks of a view.
-use Rattle.std.specs.Prelude.{ℕ, ◌-◌, ◌^◌, Bool, true, false, List, [], ◌∷◌, ◌++◌, map, Option, Some, None, codes, slice_index_or}
+use Rattle.std.specs.Prelude.{◌≡◌, ℕ, ◌-◌, ◌^◌, Bool, true, false, List, [], ◌∷◌, ◌++◌, map, String, Option, Some, None, codes, slice_index_or}
 use Rattle.std.specs.List.{flat_map}
+use Rattle.std.specs.String.{string_bytes}
 use Rattle.std.specs.Fmt.{decimal}
 use Rattle.tq_live.specs.Live.{Live, costs_of, is_up}
 use Rattle.tq_live.specs.View.{upwards}
@@ -16,6 +17,10 @@ use Rattle.tq_tables.specs.declared.intent_row.IntentRow.{IntentRow}
 use Rattle.tq_tables.specs.declared.intent_row.IntentState.{IntentState}
 use Rattle.tq_tables.specs.declared.intent_row.IntentState.TheVariants.{Unknown, Undecided, Abort, Install, Discard}
 use Rattle.tq_locks.specs.Locks.{mode_text}
+
+-- these bytes were put behind the text
+abbrev pub Appends : {Z : Type 0} → String Z → String Z → List ℕ → Type 0
+Appends old new bytes = string_bytes new ≡ string_bytes old ++ bytes
 
 -- a line ends with a line feed
 abbrev pub as_line : List ℕ → List ℕ
@@ -74,6 +79,11 @@ server_text view row server =
     costs_text server (costs_of view server)
     ++ codes " " ++ mark_text (is_up view server)
     ++ leasts_text row
+
+-- the line of a file as far as its servers
+abbrev pub version_text : FileRow → List ℕ
+version_text row =
+    codes "file " ++ row.file ++ codes " version " ++ decimal row.version ++ codes " current"
 
 abbrev pub file_text : FileRow → List ℕ
 file_text row =

@@ -1,5 +1,5 @@
-ghost use Rattle.std.specs.Prelude.{◌≡◌, ◌++◌, ◌≤◌, IfOk, OnOk, string_bytes};
-ghost use Rattle.tq_board_text.specs.Board.{board_text, row_lines, server_lines};
+ghost use Rattle.std.specs.Prelude.{◌≡◌, ◌≤◌, IfOk, OnOk, string_bytes};
+ghost use Rattle.tq_board_text.specs.Board.{Appends, board_text, row_lines, server_lines};
 
 use crate::line::{push_intent, push_lock, push_next_file, push_server};
 use crate::sets::SetsText;
@@ -64,7 +64,7 @@ fn push_server_lines(
     view: &View,
 ) -> Result<(), Memory>
     requires { view.now.levels ≡ tables.now.levels }
-    ensures { OnOk result (string_bytes text.new ≡ string_bytes text.old ++ server_lines tables.now view.now) }
+    ensures { OnOk result (Appends text.old text.new (server_lines tables.now view.now)) }
 {
     let levels = tables.levels();
     let mut room = Least::new(alloc, levels)?;
@@ -84,7 +84,8 @@ pub fn push_rows(
     locks: &[LockRow],
     intentions: OpenIntents<'_>,
 ) -> Result<(), Memory>
-    ensures { OnOk result (string_bytes text.new ≡ string_bytes text.old ++ row_lines files.now locks.now intentions.entry) }
+    ensures { OnOk result
+        (Appends text.old text.new (row_lines files.now locks.now intentions.entry)) }
 {
     let mut sets = SetsText::new(alloc);
     for row in files {

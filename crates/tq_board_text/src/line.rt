@@ -1,8 +1,7 @@
-ghost use Rattle.std.specs.Prelude.{◌≡◌, ◌++◌, OnOk, codes, string_bytes};
-ghost use Rattle.std.specs.Fmt.{decimal};
+ghost use Rattle.std.specs.Prelude.{◌≡◌, OnOk};
 ghost use Rattle.tq_tables.specs.Rows.{least_in};
 ghost use Rattle.tq_tables.specs.Walk.{lent_row};
-ghost use Rattle.tq_board_text.specs.Board.{as_line, costs_text, file_text, intent_text, least_text, leasts_text, lock_text, row_of, server_line};
+ghost use Rattle.tq_board_text.specs.Board.{Appends, as_line, costs_text, file_text, intent_text, least_text, leasts_text, lock_text, row_of, server_line, version_text};
 
 use crate::sets::{SetsText, push_sets};
 use crate::word::{mark_word, push_set, push_writes, state_word};
@@ -22,7 +21,8 @@ pub fn push_server(
     requires server { server.levels ≡ tree.now.levels }
     requires tables { tables.now.levels ≡ tree.now.levels }
     requires room { room.old.servers.levels ≡ tree.now.levels }
-    ensures text { OnOk result (string_bytes text.new ≡ string_bytes text.old ++ server_line tables.now tree.now server.number) }
+    ensures text { OnOk result
+        (Appends text.old text.new (server_line tables.now tree.now server.number)) }
     ensures room { room.new.servers.levels ≡ room.old.servers.levels }
 {
     let mark = mark_word(tree.is_up(server));
@@ -34,7 +34,7 @@ pub fn push_server(
 
 /// Puts the number of a server and its costs behind the text.
 fn push_costs(text: &mut String, server: u64, costs: Costs) -> Result<(), Memory>
-    ensures { OnOk result (string_bytes text.new ≡ string_bytes text.old ++ costs_text server costs) }
+    ensures { OnOk result (Appends text.old text.new (costs_text server costs)) }
 {
     write!(text, "server {server} cost {} {}", costs.read, costs.write)
 }
@@ -48,7 +48,8 @@ fn push_leasts(
 ) -> Result<(), Memory>
     requires server { server.levels ≡ tables.now.levels }
     requires room { room.old.servers.levels ≡ tables.now.levels }
-    ensures text { OnOk result (string_bytes text.new ≡ string_bytes text.old ++ leasts_text (row_of tables.now server.number)) }
+    ensures text { OnOk result
+        (Appends text.old text.new (leasts_text (row_of tables.now server.number))) }
     ensures room { room.new.servers.levels ≡ room.old.servers.levels }
 {
     text.push_str(" read ")?;
@@ -68,7 +69,8 @@ fn push_least(
 ) -> Result<(), Memory>
     requires server { server.levels ≡ tables.now.levels }
     requires room { room.old.servers.levels ≡ tables.now.levels }
-    ensures text { OnOk result (string_bytes text.new ≡ string_bytes text.old ++ least_text (least_in tables.now.quorums purpose server.number)) }
+    ensures text { OnOk result
+        (Appends text.old text.new (least_text (least_in tables.now.quorums purpose server.number))) }
     ensures room { room.new.servers.levels ≡ room.old.servers.levels }
 {
     if !tables.least_into(purpose, server, room) {
@@ -80,7 +82,7 @@ fn push_least(
 
 /// Puts the line of a file behind the text.
 pub fn push_file(text: &mut String, row: &FileRow) -> Result<(), Memory>
-    ensures { OnOk result (string_bytes text.new ≡ string_bytes text.old ++ as_line (file_text row.now)) }
+    ensures { OnOk result (Appends text.old text.new (as_line (file_text row.now))) }
 {
     push_version(text, row)?;
     push_sets(text, row)?;
@@ -93,7 +95,7 @@ pub(crate) fn push_next_file<'a>(
     row: &'a FileRow,
     sets: &mut SetsText<'a>,
 ) -> Result<(), Memory>
-    ensures { OnOk result (string_bytes text.new ≡ string_bytes text.old ++ as_line (file_text row.now)) }
+    ensures { OnOk result (Appends text.old text.new (as_line (file_text row.now))) }
 {
     push_version(text, row)?;
     sets.put(text, row)?;
@@ -102,14 +104,14 @@ pub(crate) fn push_next_file<'a>(
 
 /// Puts the line of a file as far as its servers behind the text.
 fn push_version(text: &mut String, row: &FileRow) -> Result<(), Memory>
-    ensures { OnOk result (string_bytes text.new ≡ string_bytes text.old ++ codes "file " ++ row.now.file ++ codes " version " ++ decimal row.now.version ++ codes " current") }
+    ensures { OnOk result (Appends text.old text.new (version_text row.now)) }
 {
     write!(text, "file {} version {} current", row.file, row.version)
 }
 
 /// Puts the line of a lock behind the text.
 pub fn push_lock(text: &mut String, row: &LockRow) -> Result<(), Memory>
-    ensures { OnOk result (string_bytes text.new ≡ string_bytes text.old ++ as_line (lock_text row.now)) }
+    ensures { OnOk result (Appends text.old text.new (as_line (lock_text row.now))) }
 {
     let mode = row.mode.word();
     write!(
@@ -124,7 +126,8 @@ pub fn push_lock(text: &mut String, row: &LockRow) -> Result<(), Memory>
 
 /// Puts the line of an open intention behind the text.
 pub fn push_intent(text: &mut String, intent: &OpenIntent<'_>) -> Result<(), Memory>
-    ensures { OnOk result (string_bytes text.new ≡ string_bytes text.old ++ as_line (intent_text (lent_row intent.now))) }
+    ensures { OnOk result
+        (Appends text.old text.new (as_line (intent_text (lent_row intent.now)))) }
 {
     let state = state_word(intent.state);
     write!(

@@ -1,7 +1,8 @@
 //! The servers of a file's row as text, kept for the rows behind it: neighbours in the list often have the same.
-ghost use Rattle.std.specs.Prelude.{◌≡◌, ◌++◌, ◌&&◌, OnOk, string_bytes, nat_eq};
+ghost use Rattle.std.specs.Prelude.{◌≡◌, OnOk, nat_eq};
 ghost use Rattle.std.specs.Cmp.Lexicographic.{pointwise};
-ghost use Rattle.tq_board_text.specs.Sets.{sets_text};
+ghost use Rattle.tq_board_text.specs.Board.{Appends};
+ghost use Rattle.tq_board_text.specs.Sets.{have_same_sets, sets_text};
 
 use crate::word::push_set;
 use std::alloc::Global;
@@ -28,7 +29,8 @@ impl<'a> Model for SetsText<'a> {
 }
 
 impl<'a> SetsText<'a> {
-    ghost use Rattle.std.specs.Prelude.{◌≡◌, ◌++◌, OnOk, string_bytes};
+    ghost use Rattle.std.specs.Prelude.{OnOk};
+    ghost use Rattle.tq_board_text.specs.Board.{Appends};
     ghost use Rattle.tq_board_text.specs.Sets.{sets_text};
 
     /// That of no row.
@@ -41,7 +43,7 @@ impl<'a> SetsText<'a> {
 
     /// Puts the servers of the row behind the text.
     pub(crate) fn put(&mut self, text: &mut String, row: &'a FileRow) -> Result<(), Memory>
-        ensures { OnOk result (string_bytes text.new ≡ string_bytes text.old ++ sets_text row.now) }
+        ensures { OnOk result (Appends text.old text.new (sets_text row.now)) }
     {
         let is_kept = match self.row {
             Some(last) => has_same_sets(last, row),
@@ -59,7 +61,7 @@ impl<'a> SetsText<'a> {
 
 /// Puts the servers of the row behind the text.
 pub(crate) fn push_sets(text: &mut String, row: &FileRow) -> Result<(), Memory>
-    ensures { OnOk result (string_bytes text.new ≡ string_bytes text.old ++ sets_text row.now) }
+    ensures { OnOk result (Appends text.old text.new (sets_text row.now)) }
 {
     push_set(text, &row.current)?;
     text.push_str(" stale")?;
@@ -68,7 +70,7 @@ pub(crate) fn push_sets(text: &mut String, row: &FileRow) -> Result<(), Memory>
 
 /// Whether both rows have the same current servers, and the same stale ones.
 fn has_same_sets(one: &FileRow, other: &FileRow) -> bool
-    ensures { result ≡ (pointwise nat_eq one.now.current.numbers other.now.current.numbers && pointwise nat_eq one.now.stale.numbers other.now.stale.numbers) }
+    ensures { result ≡ have_same_sets one.now other.now }
 {
     if !are_same(&one.current, &other.current) {
         return false;

@@ -1,7 +1,7 @@
-ghost use Rattle.std.specs.Prelude.{◌≡◌, ◌+◌, ◌<◌, ◌++◌, ◌∷◌, OnOk, map, string_bytes};
+ghost use Rattle.std.specs.Prelude.{◌≡◌, ◌+◌, ◌<◌, ◌∷◌, OnOk, map};
 ghost use Rattle.std.specs.Fmt.{decimal};
 ghost use Rattle.tq_tables.specs.Rows.{file_version};
-ghost use Rattle.tq_board_text.specs.Board.{listed, mark_text, servers_text, state_text, write_text};
+ghost use Rattle.tq_board_text.specs.Board.{Appends, listed, mark_text, servers_text, state_text, write_text};
 
 use tq_shape::{Memory, ServerSet};
 use tq_store::Write;
@@ -29,7 +29,7 @@ pub(crate) fn state_word(state: IntentState) -> &'static str
 
 /// Puts the numbers of a set's servers behind the text, each after a space, or `-` where there is none.
 pub(crate) fn push_set(text: &mut String, servers: &ServerSet) -> Result<(), Memory>
-    ensures { OnOk result (string_bytes text.new ≡ string_bytes text.old ++ servers_text servers.now.numbers) }
+    ensures { OnOk result (Appends text.old text.new (servers_text servers.now.numbers)) }
 {
     if servers.is_empty() {
         return text.push_str(" -");
@@ -42,7 +42,8 @@ pub(crate) fn push_set(text: &mut String, servers: &ServerSet) -> Result<(), Mem
 
 /// Puts the files of writes with their versions behind the text, each after a space, or `-` where there is none.
 pub(crate) fn push_writes(text: &mut String, writes: &[Write]) -> Result<(), Memory>
-    ensures { OnOk result (string_bytes text.new ≡ string_bytes text.old ++ listed (map write_text (map file_version writes.now))) }
+    ensures { OnOk result
+        (Appends text.old text.new (listed (map write_text (map file_version writes.now)))) }
 {
     if writes.is_empty() {
         return text.push_str(" -");
@@ -55,7 +56,7 @@ pub(crate) fn push_writes(text: &mut String, writes: &[Write]) -> Result<(), Mem
 
 /// Puts a space and a number behind the text, at once where it has at most two digits, as that of a server mostly has.
 fn push_spaced(text: &mut String, number: u64) -> Result<(), Memory>
-    ensures { OnOk result (string_bytes text.new ≡ string_bytes text.old ++ 32 ∷ decimal number) }
+    ensures { OnOk result (Appends text.old text.new (32 ∷ decimal number)) }
 {
     text.push(' ')?;
     if number < 10 {
@@ -70,7 +71,7 @@ fn push_spaced(text: &mut String, number: u64) -> Result<(), Memory>
 
 /// Puts the digits of a number behind the text.
 fn push_digits(text: &mut String, number: u64) -> Result<(), Memory>
-    ensures { OnOk result (string_bytes text.new ≡ string_bytes text.old ++ decimal number) }
+    ensures { OnOk result (Appends text.old text.new (decimal number)) }
 {
     if number < 10 {
         return text.push(digit(number));

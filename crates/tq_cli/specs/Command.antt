@@ -37,9 +37,17 @@ rounds_rule = number_rule (codes "rounds") 0 1000 false
 abbrev pub shell_app : App
 shell_app = with_rule (new_app (codes "shell")) levels_rule
 
+-- `threads --levels N`
+abbrev pub threads_app_with_levels : App
+threads_app_with_levels = with_rule (new_app (codes "threads")) levels_rule
+
+-- `threads --levels N [--workers W]`
+abbrev pub threads_app_with_workers : App
+threads_app_with_workers = with_rule threads_app_with_levels workers_rule
+
 -- `threads --levels N [--workers W] [--rounds R]`
 abbrev pub threads_app : App
-threads_app = with_rule (with_rule (with_rule (new_app (codes "threads")) levels_rule) workers_rule) rounds_rule
+threads_app = with_rule threads_app_with_workers rounds_rule
 
 -- `audit`, which has no options
 abbrev pub audit_app : App
@@ -53,9 +61,21 @@ upgrade_app = new_app (codes "upgrade")
 abbrev pub top_app : App
 top_app = on_top (λ top. record top { has_version = true; disable_help_subcommand = true; subcommand_required = true }) (new_app (codes "tq"))
 
+-- the program with its first subcommand alone
+abbrev pub app_with_shell : App
+app_with_shell = with_subcommand top_app shell_app.top
+
+-- the program with its first two subcommands
+abbrev pub app_with_threads : App
+app_with_threads = with_subcommand app_with_shell threads_app.top
+
+-- the program with its first three subcommands
+abbrev pub app_with_audit : App
+app_with_audit = with_subcommand app_with_threads audit_app.top
+
 -- the program's words: a subcommand with its options
 abbrev pub tq_app : App
-tq_app = with_subcommand (with_subcommand (with_subcommand (with_subcommand top_app shell_app.top) threads_app.top) audit_app.top) upgrade_app.top
+tq_app = with_subcommand app_with_audit upgrade_app.top
 
 -- the number that was given under this name
 abbrev pub IsGiven : Text → List Row → ℕ → Type 0

@@ -1,7 +1,7 @@
 ghost use Rattle.std.specs.Prelude.{◌≡◌, IfOk, false, codes};
-ghost use Rattle.clap.specs.Words.{app_of, found_of, new_app, rows_of, rule_of, with_rule, with_subcommand};
+ghost use Rattle.clap.specs.Words.{app_of, found_of, rows_of, rule_of};
 ghost use Rattle.clap.specs.declared.builder.command.Command.TheViews.{out-Command};
-ghost use Rattle.tq_cli.specs.Command.{HasNumber, IsGiven, IsGivenOrZero, MayHaveNumber, audit_app, levels_rule, rounds_rule, shell_app, threads_app, top_app, tq_app, upgrade_app, workers_rule};
+ghost use Rattle.tq_cli.specs.Command.{HasNumber, IsGiven, IsGivenOrZero, MayHaveNumber, app_with_audit, app_with_shell, app_with_threads, audit_app, levels_rule, rounds_rule, shell_app, threads_app, threads_app_with_levels, threads_app_with_workers, top_app, tq_app, upgrade_app, workers_rule};
 
 use clap::error::ErrorKind;
 use clap::{Arg, ArgAction, ArgMatches, Command, Error};
@@ -159,7 +159,7 @@ fn tq_command<'a>(alloc: Global) -> Result<Command<'a>, AllocError>
 
 /// The program with the subcommands `shell`, `threads` and `audit`.
 fn command_with_audit<'a>(alloc: Global) -> Result<Command<'a>, AllocError>
-    ensures { IfOk result (λ command. app_of command ≡ with_subcommand (with_subcommand (with_subcommand top_app shell_app.top) threads_app.top) audit_app.top) }
+    ensures { IfOk result (λ command. app_of command ≡ app_with_audit) }
 {
     let command = command_with_threads(alloc)?;
     command.subcommand(audit_command(alloc))
@@ -167,7 +167,7 @@ fn command_with_audit<'a>(alloc: Global) -> Result<Command<'a>, AllocError>
 
 /// The program with the subcommands `shell` and `threads`.
 fn command_with_threads<'a>(alloc: Global) -> Result<Command<'a>, AllocError>
-    ensures { IfOk result (λ command. app_of command ≡ with_subcommand (with_subcommand top_app shell_app.top) threads_app.top) }
+    ensures { IfOk result (λ command. app_of command ≡ app_with_threads) }
 {
     let command = command_with_shell(alloc)?;
     let threads = threads_command(alloc)?;
@@ -176,7 +176,7 @@ fn command_with_threads<'a>(alloc: Global) -> Result<Command<'a>, AllocError>
 
 /// The program with the subcommand `shell` alone.
 fn command_with_shell<'a>(alloc: Global) -> Result<Command<'a>, AllocError>
-    ensures { IfOk result (λ command. app_of command ≡ with_subcommand top_app shell_app.top) }
+    ensures { IfOk result (λ command. app_of command ≡ app_with_shell) }
 {
     let shell = shell_command(alloc)?;
     top_command(alloc).subcommand(shell)
@@ -218,7 +218,7 @@ fn threads_command<'a>(alloc: Global) -> Result<Command<'a>, AllocError>
 
 /// `threads --levels N [--workers W]`.
 fn threads_with_workers<'a>(alloc: Global) -> Result<Command<'a>, AllocError>
-    ensures app { IfOk result (λ command. app_of command ≡ with_rule (with_rule (new_app (codes "threads")) levels_rule) workers_rule) }
+    ensures app { IfOk result (λ command. app_of command ≡ threads_app_with_workers) }
     ensures local { IfOk result (λ command. (out-Command command).has_globals ≡ false) }
 {
     let command = threads_with_levels(alloc)?;
@@ -227,7 +227,7 @@ fn threads_with_workers<'a>(alloc: Global) -> Result<Command<'a>, AllocError>
 
 /// `threads --levels N`.
 fn threads_with_levels<'a>(alloc: Global) -> Result<Command<'a>, AllocError>
-    ensures app { IfOk result (λ command. app_of command ≡ with_rule (new_app (codes "threads")) levels_rule) }
+    ensures app { IfOk result (λ command. app_of command ≡ threads_app_with_levels) }
     ensures local { IfOk result (λ command. (out-Command command).has_globals ≡ false) }
 {
     Command::new(alloc, "threads")

@@ -1,6 +1,6 @@
-ghost use Rattle.std.specs.Prelude.{◌≡◌, ◌+◌, ◌-◌, ◌^◌, ◌<◌, ◌≤◌, ◌↔◌, ℕ, Bool, List, Option, IsTrue, IfOk, OnErr, length, take};
-ghost use Rattle.std.specs.Io.KnownBytes.{Appends, Keeps};
-ghost use Rattle.tq_devices.specs.Devices.{Counts};
+ghost use Rattle.std.specs.Prelude.{◌≡◌, ◌+◌, ◌-◌, ◌^◌, ◌<◌, ◌≤◌, ◌↔◌, ℕ, Bool, List, Option, IsTrue, IfOk, OnErr, length};
+ghost use Rattle.std.specs.Io.KnownBytes.{Keeps};
+ghost use Rattle.tq_devices.specs.Devices.{AppendsFront, Counts};
 
 use thiserror::Error;
 
@@ -27,7 +27,7 @@ pub trait Source {
         requires room { 0 < length buffer.old }
         requires few { failed self.old < 2 ^ 64 - 1 }
         ensures within { IfOk result (λ count. count ≤ length buffer.new) }
-        ensures bytes { IfOk result (λ count. Appends (given self.old) (given self.new) (take count buffer.new)) }
+        ensures bytes { IfOk result (AppendsFront (given self.old) (given self.new) buffer.new) }
         ensures end { IfOk result (λ count. IsTrue (is_ended self.new) ↔ (count ≡ 0)) }
         ensures nothing { OnErr result (Keeps (given self.old) (given self.new)) }
         ensures counts { Counts result (failed self.old) (failed self.new) };
@@ -50,7 +50,7 @@ pub trait Sink {
         requires few { failed self.old < 2 ^ 64 - 1 }
         ensures some { IfOk result (λ count. 0 < count) }
         ensures within { IfOk result (λ count. count ≤ length bytes.now) }
-        ensures bytes { IfOk result (λ count. Appends (taken self.old) (taken self.new) (take count bytes.now)) }
+        ensures bytes { IfOk result (AppendsFront (taken self.old) (taken self.new) bytes.now) }
         ensures nothing { OnErr result (Keeps (taken self.old) (taken self.new)) }
         ensures counts { Counts result (failed self.old) (failed self.new) };
 }

@@ -36,12 +36,13 @@ impl<'a> Model for MemorySource<'a> {
 }
 
 impl<'a> MemorySource<'a> {
-    ghost use Rattle.std.specs.Prelude.{◌≡◌, ◌<◌, [], false};
+    ghost use Rattle.std.specs.Prelude.{◌≡◌, ◌<◌};
+    ghost use Rattle.tq_devices.specs.Devices.{new_source};
 
     /// Pieces have at most so many bytes. The call that `fails_at` counts, the first being 0, fails.
     pub fn new(bytes: &'a [u8], piece: usize, fails_at: Option<u64>) -> MemorySource<'a>
         requires { 0 < piece }
-        ensures { result ≡ record { given = []; left = bytes.entry.now; is_ended = false; calls = 0; fails_at = fails_at; failed = 0 } }
+        ensures { result ≡ new_source bytes.entry.now fails_at }
     {
         MemorySource {
             bytes,
@@ -56,9 +57,9 @@ impl<'a> MemorySource<'a> {
 }
 
 impl<'a> Source for MemorySource<'a> {
-    ghost use Rattle.std.specs.Prelude.{Some, ◌≡◌, ◌++◌, ◌+◌, ◌-◌, ◌^◌, ◌<◌, ◌≤◌, ◌↔◌, [], IsErr, IfOk, OnErr, IsTrue, length, take};
+    ghost use Rattle.std.specs.Prelude.{Some, ◌≡◌, ◌+◌, ◌-◌, ◌^◌, ◌<◌, ◌≤◌, ◌↔◌, [], IsErr, IfOk, OnErr, IsTrue, length};
     ghost use Rattle.std.specs.Io.KnownBytes.{Appends};
-    ghost use Rattle.tq_devices.specs.Devices.{Counts};
+    ghost use Rattle.tq_devices.specs.Devices.{Counts, GivesFront, LeavesRest};
 
     ghost given = { λ source. Some source.given };
 
@@ -74,8 +75,8 @@ impl<'a> Source for MemorySource<'a> {
         requires room { 0 < length buffer.old }
         requires few { self.old.failed < 2 ^ 64 - 1 }
         ensures within { IfOk result (λ count. count ≤ length buffer.new) }
-        ensures bytes { IfOk result (λ count. self.new.given ≡ self.old.given ++ take count buffer.new) }
-        ensures left { IfOk result (λ count. self.old.left ≡ take count buffer.new ++ self.new.left) }
+        ensures bytes { IfOk result (GivesFront self.old self.new buffer.new) }
+        ensures left { IfOk result (LeavesRest self.old self.new buffer.new) }
         ensures end { IfOk result (λ count. IsTrue self.new.is_ended ↔ (count ≡ 0)) }
         ensures all { IfOk result (λ count. count ≡ 0 → self.new.left ≡ []) }
         ensures nothing { OnErr result (self.new.given ≡ self.old.given) }
@@ -120,12 +121,13 @@ impl Model for MemorySink {
 }
 
 impl MemorySink {
-    ghost use Rattle.std.specs.Prelude.{◌≡◌, ◌<◌, []};
+    ghost use Rattle.std.specs.Prelude.{◌≡◌, ◌<◌};
+    ghost use Rattle.tq_devices.specs.Devices.{new_sink};
 
     /// Pieces have at most so many bytes. The call that `fails_at` counts, the first being 0, fails.
     pub fn new(alloc: Global, piece: usize, fails_at: Option<u64>) -> MemorySink
         requires { 0 < piece }
-        ensures { result ≡ record { taken = []; calls = 0; fails_at = fails_at; failed = 0 } }
+        ensures { result ≡ new_sink fails_at }
     {
         MemorySink {
             bytes: Vec::new(alloc),
@@ -145,8 +147,8 @@ impl MemorySink {
 }
 
 impl Sink for MemorySink {
-    ghost use Rattle.std.specs.Prelude.{Some, ◌≡◌, ◌++◌, ◌+◌, ◌-◌, ◌^◌, ◌<◌, ◌≤◌, IsErr, IfOk, OnErr, length, take};
-    ghost use Rattle.tq_devices.specs.Devices.{Counts};
+    ghost use Rattle.std.specs.Prelude.{Some, ◌≡◌, ◌+◌, ◌-◌, ◌^◌, ◌<◌, ◌≤◌, IsErr, IfOk, OnErr, length};
+    ghost use Rattle.tq_devices.specs.Devices.{Counts, TakesFront};
 
     ghost taken = { λ sink. Some sink.taken };
 
@@ -162,7 +164,7 @@ impl Sink for MemorySink {
         requires few { self.old.failed < 2 ^ 64 - 1 }
         ensures some { IfOk result (λ count. 0 < count) }
         ensures within { IfOk result (λ count. count ≤ length bytes.now) }
-        ensures bytes { IfOk result (λ count. self.new.taken ≡ self.old.taken ++ take count bytes.now) }
+        ensures bytes { IfOk result (TakesFront self.old self.new bytes.now) }
         ensures nothing { OnErr result (self.new.taken ≡ self.old.taken) }
         ensures fails { self.old.fails_at ≡ Some self.old.calls → IsErr result }
         ensures counts { Counts result self.old.failed self.new.failed }

@@ -1,5 +1,6 @@
-ghost use Rattle.std.specs.Prelude.{◌≡◌, ◌<◌, ◌≤◌, IfSome, IsNone, length, take};
-ghost use Rattle.std.specs.Io.KnownBytes.{Appends, Consumes, IsAtEnd, Keeps};
+ghost use Rattle.std.specs.Prelude.{◌≡◌, ◌<◌, ◌≤◌, IfSome, IsNone, length};
+ghost use Rattle.std.specs.Io.KnownBytes.{IsAtEnd, Keeps};
+ghost use Rattle.tq_devices.specs.Devices.{AppendsFront, ConsumesFront};
 
 use crate::device::{Failed, Sink, Source};
 use std::io::{ErrorKind, Read, Write};
@@ -37,9 +38,9 @@ impl<R: Read> Reading<R> {
 }
 
 impl<R: Read> Source for Reading<R> {
-    ghost use Rattle.std.specs.Prelude.{None, ◌≡◌, ◌+◌, ◌-◌, ◌^◌, ◌<◌, ◌≤◌, ◌↔◌, IfOk, OnErr, IsTrue, length, take};
-    ghost use Rattle.std.specs.Io.KnownBytes.{Consumes, IsAtEnd, Keeps};
-    ghost use Rattle.tq_devices.specs.Devices.{Counts};
+    ghost use Rattle.std.specs.Prelude.{None, ◌≡◌, ◌+◌, ◌-◌, ◌^◌, ◌<◌, ◌≤◌, ◌↔◌, IfOk, OnErr, IsTrue, length};
+    ghost use Rattle.std.specs.Io.KnownBytes.{IsAtEnd, Keeps};
+    ghost use Rattle.tq_devices.specs.Devices.{ConsumesFront, Counts};
 
     ghost given = { λ _. None };
 
@@ -55,7 +56,7 @@ impl<R: Read> Source for Reading<R> {
         requires room { 0 < length buffer.old }
         requires few { self.old.failed < 2 ^ 64 - 1 }
         ensures within { IfOk result (λ count. count ≤ length buffer.new) }
-        ensures bytes { IfOk result (λ count. Consumes self.old.left self.new.left (take count buffer.new)) }
+        ensures bytes { IfOk result (ConsumesFront self.old.left self.new.left buffer.new) }
         ensures end { IfOk result (λ count. IsTrue self.new.is_ended ↔ (count ≡ 0)) }
         ensures all { IfOk result (λ count. count ≡ 0 → IsAtEnd self.new.left) }
         ensures nothing { OnErr result (Keeps self.old.left self.new.left) }
@@ -78,7 +79,8 @@ impl<R: Read> Source for Reading<R> {
 fn read_on<R: Read>(reader: &mut R, buffer: &mut [u8]) -> Option<usize>
     requires { 0 < length buffer.old }
     ensures within { IfSome result (λ count. count ≤ length buffer.new) }
-    ensures bytes { IfSome result (λ count. Consumes (R.remaining reader.old) (R.remaining reader.new) (take count buffer.new)) }
+    ensures bytes { IfSome result
+        (ConsumesFront (R.remaining reader.old) (R.remaining reader.new) buffer.new) }
     ensures end { IfSome result (λ count. count ≡ 0 → IsAtEnd (R.remaining reader.new)) }
     ensures nothing { IsNone result → Keeps (R.remaining reader.old) (R.remaining reader.new) }
 {
@@ -148,7 +150,8 @@ impl<W: Write> Sink for Writing<W> {
 fn write_on<W: Write>(writer: &mut W, bytes: &[u8]) -> Option<usize>
     ensures some { IfSome result (λ count. 0 < count) }
     ensures within { IfSome result (λ count. count ≤ length bytes.now) }
-    ensures bytes { IfSome result (λ count. Appends (W.contents writer.old) (W.contents writer.new) (take count bytes.now)) }
+    ensures bytes { IfSome result
+        (AppendsFront (W.contents writer.old) (W.contents writer.new) bytes.now) }
     ensures nothing { IsNone result → Keeps (W.contents writer.old) (W.contents writer.new) }
 {
     for _turn in 0..u64::MAX {

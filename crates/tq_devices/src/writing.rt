@@ -7,7 +7,8 @@ use crate::fault::RunFault;
 /// Writes all the bytes, or a front of them where the sink fails.
 pub fn write_out<W: Sink>(writer: &mut W, bytes: &[u8]) -> Result<(), RunFault>
     requires { W.failed writer.old < 2 ^ 64 - 1 }
-    ensures { IsWritten result bytes.now (W.taken writer.old) (W.taken writer.new) (W.failed writer.old) (W.failed writer.new) }
+    ensures { IsWritten result bytes.now
+        (W.taken writer.old) (W.taken writer.new) (W.failed writer.old) (W.failed writer.new) }
 {
     let mut rest = bytes;
     while !rest.is_empty() {

@@ -2,6 +2,7 @@
 use Rattle.std.specs.Prelude.{◌≡◌, ℕ, Bool, cond, List, [], ◌∷◌, ◌++◌, codes, Option, Some, None}
 use Rattle.std.specs.List.{flat_map}
 use Rattle.std.specs.Fmt.{decimal}
+use Rattle.std.specs.Global.{Vec}
 use Rattle.tq_asks.specs.declared.ask.Verdict.{Verdict}
 use Rattle.tq_asks.specs.declared.ask.Verdict.TheVariants as verdicts
 use Rattle.tq_evidence.specs.declared.op.Op.{Op}
@@ -9,6 +10,7 @@ use Rattle.tq_evidence.specs.Evidence.{servers_of}
 use Rattle.tq_live.specs.declared.view.ViewReply.{ViewReply}
 use Rattle.tq_live.specs.declared.view.ViewReply.TheVariants as replies
 use Rattle.tq_live.specs.declared.view.ViewRefusal.TheVariants as refusals
+use Rattle.tq_store.specs.declared.copies.FileCopy.{FileCopy}
 use Rattle.tq_txn.specs.declared.applying.Applied.{Applied}
 use Rattle.tq_txn.specs.declared.applying.Applied.TheVariants.{Installed, Discarded}
 use Rattle.tq_txn.specs.declared.reading.Reading.{Reading}
@@ -21,6 +23,14 @@ Extends old new = (more : List ℕ) × (new ≡ old ++ more)
 -- a printed line
 abbrev pub printed : List ℕ → List ℕ
 printed text = text ++ 10 ∷ []
+
+-- these bytes were put behind the text
+abbrev pub Appends : Vec ℕ → Vec ℕ → List ℕ → Type 0
+Appends old new bytes = new.items ≡ old.items ++ bytes
+
+-- these bytes were, as a line
+abbrev pub Prints : Vec ℕ → Vec ℕ → List ℕ → Type 0
+Prints old new line = Appends old new (printed line)
 
 -- numbers, each with a space before it
 abbrev pub numbers_text : List ℕ → List ℕ
@@ -50,6 +60,10 @@ version_text file version = file ++ codes " version " ++ decimal version
 abbrev pub reading_text : List ℕ → Option Op → Reading → List ℕ
 reading_text file op (Pending content) = file ++ codes " pending [" ++ content ++ codes "]"
 reading_text file op (Copy copy) = version_text file copy.version ++ codes " from" ++ numbers_text (op_servers op) ++ bracketed copy.content
+
+-- the same of a copy that a server has
+abbrev pub copy_text : List ℕ → Option Op → FileCopy → List ℕ
+copy_text file op copy = reading_text file op (Copy copy)
 
 -- the version that the transaction makes of a file; the operation is its write to the file
 abbrev pub writing_text : List ℕ → Option Op → ℕ → List ℕ

@@ -8,6 +8,7 @@ mod print;
 mod refusals;
 
 pub use print::{
-    say_applied, say_choice, say_line, say_number, say_reading, say_verdict, say_writing,
+    push_numbers, say_applied, say_choice, say_line, say_number, say_reading, say_verdict,
+    say_writing,
 };
 pub use refusals::{push_at, push_decided, push_desk_refusal, push_txn_fault, say_fault};

@@ -3,7 +3,7 @@ ghost use Rattle.std.specs.Fmt.{decimal};
 ghost use Rattle.std.specs.Option.{option_copied};
 ghost use Rattle.tq_coterie.specs.Coterie.{numbers_of};
 ghost use Rattle.tq_text.specs.Print as spec;
-ghost use Rattle.tq_text.specs.Print.{Extends, printed, numbers_text, choice_text};
+ghost use Rattle.tq_text.specs.Print.{Appends, Extends, Prints, numbers_text, choice_text};
 
 use tq_asks::Verdict;
 use tq_desk::{Grant, Op};
@@ -14,7 +14,7 @@ use tq_txn::{Applied, Reading};
 
 /// Puts what a view chose behind the text, as a line.
 pub fn say_choice(text: &mut Vec<u8>, reply: &ViewReply) -> Result<(), Memory>
-    ensures text { OnOk result (text.new.items ≡ text.old.items ++ printed (choice_text reply.now)) }
+    ensures text { OnOk result (Prints text.old text.new (choice_text reply.now)) }
     ensures kept { OnErr result (Extends text.old.items text.new.items) }
 {
     match reply {
@@ -34,7 +34,7 @@ pub fn say_choice(text: &mut Vec<u8>, reply: &ViewReply) -> Result<(), Memory>
 
 /// Puts the numbers of the servers behind the text, each after a space.
 pub(crate) fn push_servers(text: &mut Vec<u8>, servers: &[ServerId]) -> Result<(), Memory>
-    ensures text { OnOk result (text.new.items ≡ text.old.items ++ numbers_text (numbers_of servers.now)) }
+    ensures text { OnOk result (Appends text.old text.new (numbers_text (numbers_of servers.now))) }
     ensures kept { OnErr result (Extends text.old.items text.new.items) }
 {
     for server in servers {
@@ -44,8 +44,8 @@ pub(crate) fn push_servers(text: &mut Vec<u8>, servers: &[ServerId]) -> Result<(
 }
 
 /// Puts the numbers behind the text, each after a space.
-pub(crate) fn push_numbers(text: &mut Vec<u8>, numbers: &[u64]) -> Result<(), Memory>
-    ensures text { OnOk result (text.new.items ≡ text.old.items ++ numbers_text numbers.now) }
+pub fn push_numbers(text: &mut Vec<u8>, numbers: &[u64]) -> Result<(), Memory>
+    ensures text { OnOk result (Appends text.old text.new (numbers_text numbers.now)) }
     ensures kept { OnErr result (Extends text.old.items text.new.items) }
 {
     for number in numbers {
@@ -56,7 +56,8 @@ pub(crate) fn push_numbers(text: &mut Vec<u8>, numbers: &[u64]) -> Result<(), Me
 
 /// Puts the servers of the grants behind the text, each after a space.
 fn push_grants(text: &mut Vec<u8>, grants: &[Grant]) -> Result<(), Memory>
-    ensures text { OnOk result (text.new.items ≡ text.old.items ++ numbers_text (map (λ grant. grant.server) grants.now)) }
+    ensures text { OnOk result
+        (Appends text.old text.new (numbers_text (map (λ grant. grant.server) grants.now))) }
     ensures kept { OnErr result (Extends text.old.items text.new.items) }
 {
     for grant in grants {
@@ -67,7 +68,8 @@ fn push_grants(text: &mut Vec<u8>, grants: &[Grant]) -> Result<(), Memory>
 
 /// Puts the servers that an operation rests on behind the text, each after a space.
 fn push_op(text: &mut Vec<u8>, op: Option<&Op>) -> Result<(), Memory>
-    ensures text { OnOk result (text.new.items ≡ text.old.items ++ numbers_text (spec.op_servers (option_copied op.entry))) }
+    ensures text { OnOk result
+        (Appends text.old text.new (numbers_text (spec.op_servers (option_copied op.entry)))) }
     ensures kept { OnErr result (Extends text.old.items text.new.items) }
 {
     match op {
@@ -83,7 +85,8 @@ pub fn say_reading(
     op: Option<&Op>,
     reading: &Reading,
 ) -> Result<(), Memory>
-    ensures text { OnOk result (text.new.items ≡ text.old.items ++ printed (spec.reading_text file.now (option_copied op.entry) reading.now)) }
+    ensures text { OnOk result
+        (Prints text.old text.new (spec.reading_text file.now (option_copied op.entry) reading.now)) }
     ensures kept { OnErr result (Extends text.old.items text.new.items) }
 {
     match reading {
@@ -103,7 +106,8 @@ fn say_copy(
     op: Option<&Op>,
     copy: &FileCopy,
 ) -> Result<(), Memory>
-    ensures text { OnOk result (text.new.items ≡ text.old.items ++ printed (spec.reading_text file.now (option_copied op.entry) (Reading.Copy copy.now))) }
+    ensures text { OnOk result
+        (Prints text.old text.new (spec.copy_text file.now (option_copied op.entry) copy.now)) }
     ensures kept { OnErr result (Extends text.old.items text.new.items) }
 {
     push_version(text, file, copy.version)?;
@@ -115,7 +119,7 @@ fn say_copy(
 
 /// Puts a content in brackets behind the text.
 fn push_bracketed(text: &mut Vec<u8>, content: &Content) -> Result<(), Memory>
-    ensures text { OnOk result (text.new.items ≡ text.old.items ++ spec.bracketed content.now) }
+    ensures text { OnOk result (Appends text.old text.new (spec.bracketed content.now)) }
     ensures kept { OnErr result (Extends text.old.items text.new.items) }
 {
     text.extend_from_slice(b" [")?;
@@ -126,7 +130,7 @@ fn push_bracketed(text: &mut Vec<u8>, content: &Content) -> Result<(), Memory>
 
 /// Puts a file and a version of it behind the text.
 fn push_version(text: &mut Vec<u8>, file: &FileName, version: u64) -> Result<(), Memory>
-    ensures text { OnOk result (text.new.items ≡ text.old.items ++ spec.version_text file.now version) }
+    ensures text { OnOk result (Appends text.old text.new (spec.version_text file.now version)) }
     ensures kept { OnErr result (Extends text.old.items text.new.items) }
 {
     text.extend_from_slice(file.as_bytes())?;
@@ -142,7 +146,8 @@ pub fn say_writing(
     op: Option<&Op>,
     version: u64,
 ) -> Result<(), Memory>
-    ensures text { OnOk result (text.new.items ≡ text.old.items ++ printed (spec.writing_text file.now (option_copied op.entry) version)) }
+    ensures text { OnOk result
+        (Prints text.old text.new (spec.writing_text file.now (option_copied op.entry) version)) }
     ensures kept { OnErr result (Extends text.old.items text.new.items) }
 {
     text.extend_from_slice(b"write ")?;
@@ -154,7 +159,7 @@ pub fn say_writing(
 
 /// Puts what a server did with a verdict behind the text, as a line.
 pub fn say_applied(text: &mut Vec<u8>, server: u64, applied: Applied) -> Result<(), Memory>
-    ensures text { OnOk result (text.new.items ≡ text.old.items ++ printed (spec.applied_text server applied)) }
+    ensures text { OnOk result (Prints text.old text.new (spec.applied_text server applied)) }
     ensures kept { OnErr result (Extends text.old.items text.new.items) }
 {
     match applied {
@@ -165,7 +170,7 @@ pub fn say_applied(text: &mut Vec<u8>, server: u64, applied: Applied) -> Result<
 
 /// Puts a verdict behind the text, as a line.
 pub fn say_verdict(text: &mut Vec<u8>, verdict: &Verdict) -> Result<(), Memory>
-    ensures text { OnOk result (text.new.items ≡ text.old.items ++ printed (spec.verdict_text verdict.now)) }
+    ensures text { OnOk result (Prints text.old text.new (spec.verdict_text verdict.now)) }
     ensures kept { OnErr result (Extends text.old.items text.new.items) }
 {
     match verdict {
@@ -176,7 +181,7 @@ pub fn say_verdict(text: &mut Vec<u8>, verdict: &Verdict) -> Result<(), Memory>
 
 /// Puts a line behind the text.
 pub fn say_line(text: &mut Vec<u8>, words: &[u8]) -> Result<(), Memory>
-    ensures text { OnOk result (text.new.items ≡ text.old.items ++ printed words.now) }
+    ensures text { OnOk result (Prints text.old text.new words.now) }
     ensures kept { OnErr result (Extends text.old.items text.new.items) }
 {
     text.extend_from_slice(words)?;
@@ -186,7 +191,7 @@ pub fn say_line(text: &mut Vec<u8>, words: &[u8]) -> Result<(), Memory>
 
 /// Puts a line of words and a number behind the text.
 pub fn say_number(text: &mut Vec<u8>, words: &[u8], number: u64) -> Result<(), Memory>
-    ensures text { OnOk result (text.new.items ≡ text.old.items ++ printed (words.now ++ decimal number)) }
+    ensures text { OnOk result (Prints text.old text.new (words.now ++ decimal number)) }
     ensures kept { OnErr result (Extends text.old.items text.new.items) }
 {
     text.extend_from_slice(words)?;
@@ -197,7 +202,7 @@ pub fn say_number(text: &mut Vec<u8>, words: &[u8], number: u64) -> Result<(), M
 
 /// Puts the number in decimal behind the text.
 pub(crate) fn push_number(text: &mut Vec<u8>, number: u64) -> Result<(), Memory>
-    ensures text { OnOk result (text.new.items ≡ text.old.items ++ decimal number) }
+    ensures text { OnOk result (Appends text.old text.new (decimal number)) }
     ensures kept { OnErr result (Extends text.old.items text.new.items) }
 {
     tq_digits::push_number(text, number)?;
@@ -206,7 +211,7 @@ pub(crate) fn push_number(text: &mut Vec<u8>, number: u64) -> Result<(), Memory>
 
 /// Puts a space and the number in decimal behind the text.
 fn push_spaced(text: &mut Vec<u8>, number: u64) -> Result<(), Memory>
-    ensures text { OnOk result (text.new.items ≡ text.old.items ++ 32 ∷ decimal number) }
+    ensures text { OnOk result (Appends text.old text.new (32 ∷ decimal number)) }
     ensures kept { OnErr result (Extends text.old.items text.new.items) }
 {
     text.push(b' ')?;

@@ -1,6 +1,6 @@
 ghost use Rattle.std.specs.Prelude.{◌≡◌, ◌++◌, false, take, OnOk, OnErr};
 ghost use Rattle.std.specs.Fmt.{decimal};
-ghost use Rattle.tq_text.specs.Print.{Extends, printed};
+ghost use Rattle.tq_text.specs.Print.{Appends, Extends, Prints};
 ghost use Rattle.tq_text.specs.Refusals as spec;
 
 use crate::print::{push_number, push_numbers, push_servers};
@@ -14,7 +14,7 @@ use tq_txn::{LineFault, TxnFault};
 
 /// Puts the name of a part behind the text.
 fn push_part(text: &mut Vec<u8>, part: Part) -> Result<(), Memory>
-    ensures text { OnOk result (text.new.items ≡ text.old.items ++ spec.part_text part) }
+    ensures text { OnOk result (Appends text.old text.new (spec.part_text part)) }
     ensures kept { OnErr result (Extends text.old.items text.new.items) }
 {
     match part {
@@ -36,7 +36,7 @@ fn push_part(text: &mut Vec<u8>, part: Part) -> Result<(), Memory>
 
 /// Puts how a transaction ended behind the text.
 pub fn push_decided(text: &mut Vec<u8>, verdict: &Verdict) -> Result<(), Memory>
-    ensures text { OnOk result (text.new.items ≡ text.old.items ++ spec.decided_text verdict.now) }
+    ensures text { OnOk result (Appends text.old text.new (spec.decided_text verdict.now)) }
     ensures kept { OnErr result (Extends text.old.items text.new.items) }
 {
     match verdict {
@@ -48,7 +48,7 @@ pub fn push_decided(text: &mut Vec<u8>, verdict: &Verdict) -> Result<(), Memory>
 
 /// Puts words and a number behind the text.
 pub fn push_at(text: &mut Vec<u8>, words: &[u8], number: u64) -> Result<(), Memory>
-    ensures text { OnOk result (text.new.items ≡ text.old.items ++ (words.now ++ decimal number)) }
+    ensures text { OnOk result (Appends text.old text.new (words.now ++ decimal number)) }
     ensures kept { OnErr result (Extends text.old.items text.new.items) }
 {
     text.extend_from_slice(words)?;
@@ -57,7 +57,8 @@ pub fn push_at(text: &mut Vec<u8>, words: &[u8], number: u64) -> Result<(), Memo
 }
 
 fn push_held(text: &mut Vec<u8>, server: u64, by: u64) -> Result<(), Memory>
-    ensures text { OnOk result (text.new.items ≡ text.old.items ++ spec.server_refusal_text server (NodeRefusal.Held by)) }
+    ensures text { OnOk result
+        (Appends text.old text.new (spec.server_refusal_text server (NodeRefusal.Held by))) }
     ensures kept { OnErr result (Extends text.old.items text.new.items) }
 {
     push_at(text, b"held by ", by)?;
@@ -66,7 +67,8 @@ fn push_held(text: &mut Vec<u8>, server: u64, by: u64) -> Result<(), Memory>
 }
 
 fn push_not_locked(text: &mut Vec<u8>, server: u64, file: FileName) -> Result<(), Memory>
-    ensures text { OnOk result (text.new.items ≡ text.old.items ++ spec.server_refusal_text server (NodeRefusal.NotLocked file)) }
+    ensures text { OnOk result
+        (Appends text.old text.new (spec.server_refusal_text server (NodeRefusal.NotLocked file))) }
     ensures kept { OnErr result (Extends text.old.items text.new.items) }
 {
     text.extend_from_slice(b"not locked ")?;
@@ -77,7 +79,8 @@ fn push_not_locked(text: &mut Vec<u8>, server: u64, file: FileName) -> Result<()
 
 /// Puts a server's refusal behind the text.
 fn push_server_refusal(text: &mut Vec<u8>, server: u64, refusal: NodeRefusal) -> Result<(), Memory>
-    ensures text { OnOk result (text.new.items ≡ text.old.items ++ spec.server_refusal_text server refusal) }
+    ensures text { OnOk result
+        (Appends text.old text.new (spec.server_refusal_text server refusal)) }
     ensures kept { OnErr result (Extends text.old.items text.new.items) }
 {
     match refusal {
@@ -96,7 +99,7 @@ fn push_server_refusal(text: &mut Vec<u8>, server: u64, refusal: NodeRefusal) ->
 
 /// Puts behind the text how a transaction ended that was to go on.
 fn push_ended(text: &mut Vec<u8>, committed: bool) -> Result<(), Memory>
-    ensures text { OnOk result (text.new.items ≡ text.old.items ++ spec.ended_text committed) }
+    ensures text { OnOk result (Appends text.old text.new (spec.ended_text committed)) }
     ensures kept { OnErr result (Extends text.old.items text.new.items) }
 {
     match committed {
@@ -108,7 +111,7 @@ fn push_ended(text: &mut Vec<u8>, committed: bool) -> Result<(), Memory>
 
 /// Puts a desk's refusal behind the text.
 pub fn push_desk_refusal(text: &mut Vec<u8>, refusal: &DeskRefusal) -> Result<(), Memory>
-    ensures text { OnOk result (text.new.items ≡ text.old.items ++ spec.desk_refusal_text refusal.now) }
+    ensures text { OnOk result (Appends text.old text.new (spec.desk_refusal_text refusal.now)) }
     ensures kept { OnErr result (Extends text.old.items text.new.items) }
 {
     match refusal {
@@ -123,7 +126,7 @@ pub fn push_desk_refusal(text: &mut Vec<u8>, refusal: &DeskRefusal) -> Result<()
 
 /// Puts a view's refusal behind the text.
 fn push_view_refusal(text: &mut Vec<u8>, refusal: &ViewRefusal) -> Result<(), Memory>
-    ensures text { OnOk result (text.new.items ≡ text.old.items ++ spec.view_refusal_text refusal.now) }
+    ensures text { OnOk result (Appends text.old text.new (spec.view_refusal_text refusal.now)) }
     ensures kept { OnErr result (Extends text.old.items text.new.items) }
 {
     match refusal {
@@ -149,7 +152,7 @@ fn first_of(numbers: &[u64]) -> &[u64]
 
 /// Puts why a transaction does not go on behind the text, with the servers of which it speaks.
 pub fn push_txn_fault(text: &mut Vec<u8>, servers: &[u64], fault: TxnFault) -> Result<(), Memory>
-    ensures text { OnOk result (text.new.items ≡ text.old.items ++ spec.txn_fault_text servers.now fault) }
+    ensures text { OnOk result (Appends text.old text.new (spec.txn_fault_text servers.now fault)) }
     ensures kept { OnErr result (Extends text.old.items text.new.items) }
 {
     match fault {
@@ -168,7 +171,8 @@ pub fn push_txn_fault(text: &mut Vec<u8>, servers: &[u64], fault: TxnFault) -> R
 }
 
 fn push_not_a_voter(text: &mut Vec<u8>, servers: &[u64]) -> Result<(), Memory>
-    ensures text { OnOk result (text.new.items ≡ text.old.items ++ spec.txn_fault_text servers.now TxnFault.NotAVoter) }
+    ensures text { OnOk result
+        (Appends text.old text.new (spec.txn_fault_text servers.now TxnFault.NotAVoter)) }
     ensures kept { OnErr result (Extends text.old.items text.new.items) }
 {
     text.extend_from_slice(b"not a voter")?;
@@ -177,7 +181,8 @@ fn push_not_a_voter(text: &mut Vec<u8>, servers: &[u64]) -> Result<(), Memory>
 }
 
 fn push_lost_lock(text: &mut Vec<u8>, servers: &[u64], file: FileName) -> Result<(), Memory>
-    ensures text { OnOk result (text.new.items ≡ text.old.items ++ spec.txn_fault_text servers.now (TxnFault.LostLock file)) }
+    ensures text { OnOk result
+        (Appends text.old text.new (spec.txn_fault_text servers.now (TxnFault.LostLock file))) }
     ensures kept { OnErr result (Extends text.old.items text.new.items) }
 {
     text.extend_from_slice(b"lost lock ")?;
@@ -189,7 +194,7 @@ fn push_lost_lock(text: &mut Vec<u8>, servers: &[u64], file: FileName) -> Result
 
 /// Puts the refusal that ended a line behind the text, as a line. Memory refused in the line is refused here.
 pub fn say_fault(text: &mut Vec<u8>, servers: &[u64], fault: LineFault) -> Result<(), Memory>
-    ensures text { OnOk result (text.new.items ≡ text.old.items ++ printed (spec.fault_text servers.now fault)) }
+    ensures text { OnOk result (Prints text.old text.new (spec.fault_text servers.now fault)) }
     ensures memory { OnOk result (spec.is_memory fault ≡ false) }
     ensures kept { OnErr result (Extends text.old.items text.new.items) }
 {
