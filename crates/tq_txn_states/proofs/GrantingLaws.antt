@@ -1,6 +1,6 @@
 -- Room for the locks of a quorum: what is left of it behind each grant, and what is noted then.
 use Rattle.std.proofs.Common.{◌≡◌, ◌∙◌, ◌+◌, ℕ, Bool, ◌≤◌, ◌<◌, ◌-◌, vec_len, vec_capacity, ◌||◌, ◌++◌, true, false, if◌then◌else◌, List, [], ◌∷◌, length, Option, None, Some, refl, sym, ap, subst, arith}
-use Rattle.std.proofs.lemmas.Option.{some_inj}
+use Rattle.std.specs.Option.{unwrap_or}
 use Rattle.std.specs.List.{list_all}
 use Rattle.std.proofs.lemmas.Bool.{and_parts, and_from, eq-eqb}
 use Rattle.tq_coterie.specs.Coterie.{has}
@@ -112,7 +112,7 @@ can_take_grown old new numbers found grown same can =
 
 by_version : (full : Bool) (next version : ℕ) → (if full then None else Some next) ≡ Some version → (refuse full VersionFull None ≡ None) × (version ≡ next)
 by_version true next version is = cc
-by_version false next version is = (refl, sym (some_inj.0 is))
+by_version false next version is = (refl, sym (ap (λ (o : Option ℕ). unwrap_or o 0) is))
 
 pub version_made : (grants : List Grant) (version : ℕ) → version_after grants ≡ Some version → (version_fault grants ≡ None) × (version ≡ greatest grants + 1)
 version_made grants version is = by_version (is_full (greatest grants)) (greatest grants + 1) version is

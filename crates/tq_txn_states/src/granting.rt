@@ -1,4 +1,4 @@
-ghost use Rattle.std.specs.Prelude.{◌≡◌, ◌-◌, ◌++◌, ℕ, List, [], ◌∷◌, vec_len, vec_capacity};
+ghost use Rattle.std.specs.Prelude.{◌≡◌, ◌-◌, ◌++◌, ℕ, List, [], ◌∷◌, true, vec_len, vec_capacity};
 ghost use Rattle.tq_txn_states.specs.Granting as spec;
 ghost use Rattle.tq_txn_states.specs.Sets.{IsReady, with_number};
 
