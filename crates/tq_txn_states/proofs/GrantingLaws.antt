@@ -79,6 +79,18 @@ open_touched old new kept good =
     let is : record old { touched = new.touched } ≡ new = λ i. record { levels = sym kept.levels i; limits = sym kept.limits i; txn = sym kept.txn i; ops = sym kept.ops i; voters = sym kept.voters i; touched = new.touched } in
     subst IsOpen is record { rise = good.rise; quorums = good.quorums; exclusive = good.exclusive; versions = good.versions; voters = good.voters }
 
+-- a server that is noted, and then grants with room, leave all else as it was
+pub grown_push : {seen noted : GrantingView} (old : GrantingView) (number : ℕ) (grants : List Grant) (left : ℕ) → seen ≡ noted → noted ≡ record old { touched = noted.touched } → noted.touched.servers ≡ with_number old.touched.servers number → noted.touched.levels ≡ old.touched.levels
+    → IsGrown old (record seen { grants = grants; left = left })
+grown_push old number grants left is same servers levels = record {
+    ops = ap (λ (v : GrantingView). v.ops) is ∙ ap (λ (v : GrantingView). v.ops) same;
+    place = ap (λ (v : GrantingView). v.place) is ∙ ap (λ (v : GrantingView). v.place) same;
+    voters = ap (λ (v : GrantingView). v.voters) is ∙ ap (λ (v : GrantingView). v.voters) same;
+    grows = ap (λ (v : GrantingView). v.grows) is ∙ ap (λ (v : GrantingView). v.grows) same;
+    tree = ap (λ (v : GrantingView). v.touched.levels) is ∙ levels;
+    touched = λ server here. subst (λ (numbers : List ℕ). has numbers server ≡ true) (sym (ap (λ (v : GrantingView). v.touched.servers) is ∙ servers)) (within-with_number old.touched.servers number server here);
+  }
+
 pub grown_same : (granting : GrantingView) → IsGrown granting granting
 grown_same granting = record { ops = refl; place = refl; voters = refl; grows = refl; tree = refl; touched = λ server here. here }
 
