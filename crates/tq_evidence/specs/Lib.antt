@@ -1,4 +1,5 @@
 pub mod Evidence
+pub mod Shareable
 pub mod Held
 pub mod InOrder
 pub mod Rules

@@ -1,7 +1,7 @@
 //! The evidence that a commit rests on: operations with their grants, and votes; and the rules that it has to keep.
 //!
 //! Files: `grant.rt`, `op.rt`, `vote.rt` what a commit cites; `evidence.rt` the rules in order, one rule a file below it;
-//! `grants.rt` a list of grants.
+//! `grants.rt` a list of grants; `shareable.rt` a list that is owned until it is shared.
 //! Definitions: `specs/Evidence`, `Rules`; `Held` and `InOrder` are the code's own words.
 #![tactic(auto)]
 
@@ -10,6 +10,7 @@ mod grant;
 mod grants;
 mod op;
 mod rule;
+mod shareable;
 mod vote;
 
 pub use evidence::failed_rule;
@@ -17,4 +18,5 @@ pub use grant::Grant;
 pub use grants::{Numbers, granters, greatest_version, newest, rises};
 pub use op::{Op, OpKind};
 pub use rule::Rule;
+pub use shareable::Shareable;
 pub use vote::Vote;

@@ -1,8 +1,8 @@
 ghost use Rattle.std.specs.Prelude.{◌≡◌};
 ghost use Rattle.tq_evidence.specs.Evidence as spec;
 
-use crate::Grant;
-use tq_shape::{ExactClone, SharedSeq};
+use crate::{Grant, Shareable};
+use tq_shape::ExactClone;
 use tq_store::{Content, FileName, Write};
 
 /// What an operation does with its file.
@@ -21,7 +21,7 @@ pub struct Op {
     pub version: u64,
     /// The content read, or that which is written.
     pub content: Content,
-    pub grants: SharedSeq<Grant>,
+    pub grants: Shareable<Grant>,
 }
 
 // Written out, so that a crate above lets go of one by a call.

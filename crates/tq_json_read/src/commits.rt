@@ -8,7 +8,7 @@ use crate::parts::{FromReader, Taken};
 use crate::plan::Plan;
 use std::alloc::Global;
 use tq_asks::HeldLock;
-use tq_evidence::{Grant, Op, OpKind, Vote};
+use tq_evidence::{Grant, Op, OpKind, Shareable, Vote};
 use tq_json::Reader;
 use tq_locks::Mode;
 use tq_shape::SharedSeq;
@@ -74,7 +74,7 @@ impl<'a> FromReader<'a> for Op {
 fn op_from(
     content: Option<Content>,
     file: Option<FileName>,
-    grants: Option<SharedSeq<Grant>>,
+    grants: Option<Shareable<Grant>>,
     kind: Option<OpKind>,
     version: Option<u64>,
 ) -> Option<Op>

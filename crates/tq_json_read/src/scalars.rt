@@ -14,7 +14,7 @@ use crate::parts::{FromReader, Taken, take_list};
 use crate::plan::Plan;
 use std::alloc::Global;
 use std::marker::Model;
-use tq_evidence::OpKind;
+use tq_evidence::{OpKind, Shareable};
 use tq_json::{NotRead, Reader, content_of, is_text, name_of, take_flag, take_text, take_whole};
 use tq_live::Purpose;
 use tq_locks::Mode;
@@ -195,5 +195,24 @@ impl<'a, T: FromReader<'a>> FromReader<'a> for SharedSeq<T> {
             return Ok(None);
         };
         Ok(Some(SharedSeq::from_vec(list.into_vec())?))
+    }
+}
+
+/// A list of any length, which may be shared later.
+impl<'a, T: FromReader<'a>> FromReader<'a> for Shareable<T> {
+    ghost at = { λ plan. all_of (λ value. T.at plan (Some value)) };
+
+    ghost none = { λ plan. refl };
+
+    fn read(
+        alloc: Global,
+        plan: &Plan,
+        reader: &mut Reader<'a>,
+        depth: usize,
+    ) -> Taken<Shareable<T>> {
+        let Some(list) = take_list(alloc, plan, None, reader, depth)? else {
+            return Ok(None);
+        };
+        Ok(Some(Shareable::from_vec(list.into_vec())))
     }
 }

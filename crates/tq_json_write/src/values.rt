@@ -1,6 +1,7 @@
 //! Numbers, flags, texts, lists and entries.
 use crate::formed::{Formed, put_after, put_list};
 use crate::out::{Out, put_content, put_name};
+use tq_evidence::Shareable;
 use tq_live::Purpose;
 use tq_locks::Mode;
 use tq_shape::{Entry, Seq, ServerId, SharedSeq};
@@ -133,6 +134,19 @@ impl<T: Formed> Formed for Seq<T> {
 }
 
 impl<T: Formed> Formed for SharedSeq<T> {
+    ghost use Rattle.tq_json_write.specs.Values.{list_value};
+    ghost use Rattle.std.specs.List.{AllByRecursion};
+
+    ghost value = { list_value T.value };
+
+    ghost sound = { AllByRecursion T.sound };
+
+    fn put<O: Out>(&self, out: &mut O) -> Result<(), O::Fault> {
+        put_list(out, self.as_slice())
+    }
+}
+
+impl<T: Formed> Formed for Shareable<T> {
     ghost use Rattle.tq_json_write.specs.Values.{list_value};
     ghost use Rattle.std.specs.List.{AllByRecursion};
 

@@ -20,6 +20,8 @@ use Rattle.tq_evidence.specs.declared.op.Op.{Op}
 use Rattle.tq_evidence.specs.Evidence.{granters, is_exclusively_granted, is_write, writes_file}
 use Rattle.tq_txn_states.specs.declared.told.NodeTold.{NodeTold}
 use Rattle.tq_txn_states.specs.Cited.{answers_of, grant_told}
+use Rattle.tq_txn_states.specs.Granting.{GrantingView, IsGrown, noted}
+use Rattle.tq_txn_states.specs.Sets.{with_number}
 use Rattle.tq_txn_states.specs.Open.{OpenView, IsTouched, has_all_ops, is_member, is_read_of, is_used, is_written, pending, seen, touched_by, written}
 use Rattle.tq_txn_states.proofs.Tested.{a_member, rise_too}
 use Rattle.tq_txn.specs.declared.asker.Exchange.{Exchange}
@@ -67,6 +69,11 @@ granters_push before after grant server is same = ap granters is ∙ map-append 
 
 pub modes_push : (mode : Mode) (before after : List Grant) (grant : Grant) → after ≡ before ++ grant ∷ [] → grant.mode ≡ mode → AreOf mode before → AreOf mode after
 modes_push mode before after grant is same all = subst (AreOf mode) (sym is) (All-push (λ (g : Grant). g.mode ≡ mode) before grant all same)
+
+-- its server is noted with it
+pub noted_push : (open_txn : OpenView) (before after : GrantingView) (server : ℕ) → IsGrown before after → after.touched.servers ≡ with_number before.touched.servers server → noted open_txn after ≡ touched_by (noted open_txn before) server
+noted_push open_txn before after server grown is =
+    λ i. record open_txn { ops = grown.ops i; voters = (grown.voters i).servers; touched = is i }
 
 pub next_locked : (file : List ℕ) (mode : Mode) (server txn : ℕ) (old new : LocksView) (answer : NodeTold) (told mid : List Exchange) → txn ≡ old.txn.txn → new.answers ≡ old.answers ++ answer ∷ [] → new.txn ≡ touched_by old.txn server → Follows (lock_line txn file mode server) told mid (Some (record { answer = Ok answer; after = tt })) → Follows (next_lock file mode server old) told mid (Some (record { answer = Ok tt; after = new }))
 next_locked file mode server txn old new answer told mid same more noted first =

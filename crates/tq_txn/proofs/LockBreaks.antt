@@ -1,5 +1,5 @@
 -- Where memory ran out in the locks of a quorum a further ask was to come, and what was granted is noted.
-use Rattle.std.proofs.Common.{◌≡◌, ◌==◌, ◌∙◌, Bool, true, if◌then◌else◌, ◌++◌, ℕ, false, List, [], ◌∷◌, Some, Result, Ok, Err, refl, sym, subst, inl, inr, append-nil}
+use Rattle.std.proofs.Common.{◌≡◌, ◌==◌, ◌∙◌, Bool, true, if◌then◌else◌, ◌++◌, ℕ, false, List, [], ◌∷◌, Some, None, Option, Result, Ok, Err, refl, sym, subst, inl, inr, append-nil}
 use Rattle.std.proofs.lemmas.Bool.{false≢true}
 use Rattle.tq_part.specs.declared.fault.AskFault.{AskFault}
 use Rattle.tq_part.specs.declared.fault.AskFault.TheVariants as ask_faults
@@ -11,16 +11,17 @@ use Rattle.tq_live.specs.declared.view.ViewAsk.TheVariants.{Choose}
 use Rattle.tq_live.specs.declared.view.ViewReply.{ViewReply}
 use Rattle.tq_live.specs.declared.view.ViewReply.TheVariants as view_replies
 use Rattle.tq_locks.specs.declared.mode.Mode.{Mode}
-use Rattle.tq_txn_states.specs.Open.{OpenView, touched_by}
-use Rattle.tq_txn_states.specs.declared.fault.TxnFault.TheVariants.{NotAMember}
+use Rattle.tq_evidence.specs.declared.op.Op.{Op}
+use Rattle.tq_txn_states.specs.Open.{OpenView, has_all_ops, rewritten, touched_by, written}
+use Rattle.tq_txn_states.specs.declared.fault.TxnFault.TheVariants.{NotAMember, TooManyOps}
 use Rattle.tq_txn_states.specs.declared.told.NodeTold.{NodeTold}
 use Rattle.tq_txn_states.proofs.Tested.{a_member, empty_set}
 use Rattle.tq_txn.specs.declared.asker.Exchange.{Exchange}
 use Rattle.tq_txn.specs.declared.asker.Exchange.TheVariants as exchanges
 use Rattle.tq_txn.specs.declared.fault.LineFault.{LineFault}
 use Rattle.tq_txn.specs.declared.fault.LineFault.TheVariants as faults
-use Rattle.tq_txn.specs.Dialogue.{Dialogue, LineEnd, Follows, IsUnasked, IsUnfailed, and_then, done, fault_of_ask, view_exchange, view_line}
-use Rattle.tq_txn.specs.Lines.{IsNoted, LocksView, answers, granted, chosen, choose_line, lock_ask, lock_line, locks_line, next_lock, purpose_of, quorum_line, servers_of}
+use Rattle.tq_txn.specs.Dialogue.{Dialogue, LineEnd, Follows, IsUnasked, IsUnfailed, and_then, done, failed, fault_of_ask, view_exchange, view_line}
+use Rattle.tq_txn.specs.Lines.{IsNoted, LocksView, answers, granted, chosen, choose_line, lock_ask, lock_line, locks_line, next_lock, purpose_of, quorum_line, quorum_write, first_write, write_line, written_again, servers_of}
 use Rattle.tq_txn.proofs.BreakLaws.{fails, full, node_fails, unfailed_first, unfailed_off, unfailed_on, unfailed_same}
 use Rattle.tq_txn.proofs.LineLaws.{refused_view}
 
@@ -133,3 +134,13 @@ module _ (quorum : Dialogue (LineEnd (List NodeTold) OpenView)) (after : OpenVie
 pub noted_same : {A : Type 0} (result : Result A LineFault) (file : List ℕ) (mode : Mode) (old : OpenView) (told : List Exchange) → IsNoted result old (quorum_line file mode old) told told
 noted_same (Err faults.Memory) file mode old told = inl (quorum_asks file mode old told)
 noted_same result file mode old told = tt
+
+-- ---- a write
+
+-- where the file was not written before, want of memory in the quorum's locks is one in the line
+pub unfailed_writes : (old : OpenView) (file content : List ℕ) (result : Result ℕ LineFault) (after : OpenView) (told new : List Exchange) → written old file ≡ None → has_all_ops old ≡ false
+    → IsUnfailed result after (quorum_write old file content) told new → IsUnfailed result after (write_line old file content) told new
+unfailed_writes old file content result after told new unwritten few is =
+    let P : Option Op → Type 0 = λ found. IsUnfailed result after (written_again found (rewritten old file content) (first_write old file content)) told new in
+    let Q : Bool → Type 0 = λ full. IsUnfailed result after (if full then failed (faults.Txn TooManyOps) old else quorum_write old file content) told new in
+    subst P (sym unwritten) (subst Q (sym few) is)

@@ -36,6 +36,7 @@ use Rattle.tq_txn_states.specs.Cited.{answers_of, grant_told}
 use Rattle.tq_txn_states.specs.Ended.{EndedView, decide_ask}
 use Rattle.tq_txn.specs.declared.asker.Exchange.{Exchange}
 use Rattle.tq_txn.specs.Dialogue.{Told, Dialogue, LineEnd, Ends, AsksNode, Follows, IsUnfailed, done, failed, and_then, unless, node_line, view_line}
+use Rattle.tq_txn_states.specs.Granting.{GrantingView, noted}
 use Rattle.tq_txn_states.specs.Open.{OpenView, pending, seen, written, has_all_ops, read_fault, read_copy, read_after, write_fault, write_after, grants_of, touched_by, rewritten}
 use Rattle.tq_txn_states.specs.Voting.{VotingView, has_vote, ask_fault, prepare_work, prepare_ask, vote_fault, vote_after}
 
@@ -79,10 +80,15 @@ abbrev pub grant_answer : ℕ → List ℕ → Result (Grant × NodeAsk) LineFau
 grant_answer txn file (Ok locked) = Ok (grant_told txn file locked.0)
 grant_answer txn file (Err fault) = Err fault
 
--- the same of locks at several servers
-abbrev pub grants_answer : ℕ → List ℕ → Result (List Grant) LineFault → Result (List NodeTold) LineFault
-grants_answer txn file (Ok grants) = Ok (answers_of txn file grants)
-grants_answer txn file (Err fault) = Err fault
+-- the same of what was handed out for the locks
+abbrev pub granting_answer : ℕ → List ℕ → Result GrantingView LineFault → Result (List NodeTold) LineFault
+granting_answer txn file (Ok granting) = Ok (answers_of txn file granting.grants)
+granting_answer txn file (Err fault) = Err fault
+
+-- the transaction after the locks, which were handed out what it keeps, unless there was a fault
+abbrev pub locked : OpenView → Result GrantingView LineFault → OpenView
+locked after (Ok granting) = noted after granting
+locked after (Err fault) = after
 
 -- how a call ended that hands its ask back
 abbrev pub without_ask : Result NodeAsk LineFault → Result (Unit {0}) LineFault
@@ -104,6 +110,10 @@ lock_line txn file mode server = and_then (node_line server (lock_ask txn file m
 pub record LocksView : Type 0 where
   pub answers : List NodeTold
   pub txn : OpenView
+
+-- the same of grants that come in for what a transaction handed out
+abbrev pub locks_of : List ℕ → OpenView → GrantingView → LocksView
+locks_of file open_txn granting = record { answers = answers_of open_txn.txn file granting.grants; txn = noted open_txn granting }
 
 -- a lock at one more server
 abbrev pub next_lock : List ℕ → Mode → ℕ → LocksView → Dialogue (LineEnd (Unit {0}) LocksView)

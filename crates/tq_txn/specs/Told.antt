@@ -3,9 +3,10 @@ use Rattle.std.specs.Prelude.{◌≡◌, ℕ, Bool, true, false, is_some, List, 
 use Rattle.std.specs.List.{All, Contains, filter_map, list_any}
 use Rattle.tq_desk.specs.declared.ask.DeskAsk.{DeskAsk}
 use Rattle.tq_desk.specs.declared.ask.DeskReply.{DeskReply}
+use Rattle.tq_evidence.specs.declared.grant.Grant.{Grant}
 use Rattle.tq_txn_states.specs.declared.told.DeskTold.{DeskTold}
 use Rattle.tq_txn_states.specs.declared.told.NodeTold.{NodeTold}
-use Rattle.tq_txn_states.specs.Cited.{CitesOnly, KeepsOnly, VotesOnly}
+use Rattle.tq_txn_states.specs.Cited.{CitesOnly, KeepsOnly, VotesOnly, answers_of}
 use Rattle.tq_txn_states.specs.Ended.{EndedView, verdict_by, verdict_in}
 use Rattle.tq_txn.specs.declared.asker.Exchange.{Exchange}
 use Rattle.tq_txn.specs.declared.asker.Exchange.TheVariants as exchanges
@@ -58,6 +59,10 @@ answers_in told = filter_map answer_in told
 -- each of the answers was told
 abbrev pub AreTold : List Exchange → List NodeTold → Type 0
 AreTold told answers = All (Contains (answers_in told)) answers
+
+-- the answers of the servers that granted the transaction these locks on the file were told
+abbrev pub AreHeard : ℕ → List ℕ → List Exchange → List Grant → Type 0
+AreHeard txn file told grants = AreTold told (answers_of txn file grants)
 
 -- each grant and each vote that the transaction keeps was told
 abbrev pub Knows : List Exchange → Txn → Type 0

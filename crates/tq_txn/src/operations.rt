@@ -1,12 +1,13 @@
 ghost use Rattle.std.specs.List.{list_all, Contains};
-ghost use Rattle.std.specs.Prelude.{◌≡◌, ◌==◌, ◌+◌, ◌<◌, ◌≤◌, ℕ, List, [], ◌∷◌, Ok, Err, true, length, vec_len, vec_capacity, IfOk, OnErr, OnOk, ◌++◌, false};
+ghost use Rattle.std.specs.Prelude.{◌≡◌, ◌==◌, ◌+◌, ◌<◌, ◌≤◌, ℕ, List, [], ◌∷◌, Ok, Err, true, length, IfOk, OnErr, OnOk, ◌++◌, false};
 ghost use Rattle.tq_coterie.specs.Coterie.{numbers_of};
 ghost use Rattle.tq_evidence.specs.Evidence.{granters};
 ghost use Rattle.tq_txn.specs.Dialogue as line;
 ghost use Rattle.tq_txn.specs.Lines as spec;
-ghost use Rattle.tq_txn.specs.Told.{AreTold, Knows, answers_in};
+ghost use Rattle.tq_txn.specs.Told.{AreHeard, Knows, answers_in};
 ghost use Rattle.tq_txn.specs.declared.txn.Txn.TheVariants as states;
-ghost use Rattle.tq_txn_states.specs.Cited.{answers_of, grant_told};
+ghost use Rattle.tq_txn_states.specs.Cited.{grant_told};
+ghost use Rattle.tq_txn_states.specs.Granting as handed;
 ghost use Rattle.tq_txn_states.specs.Open as open_spec;
 
 use crate::{Asker, LineFault, NodeTold, Open, Reading, TxnFault};
@@ -16,9 +17,9 @@ use tq_coterie::Quorum;
 use tq_evidence::Grant;
 use tq_live::{Purpose, ViewAsk, ViewReply};
 use tq_locks::Mode;
-use tq_shape::{Levels, Memory, Part, Seq, ServerId, Shared};
+use tq_shape::{Levels, Memory, Part, ServerId, Shared};
 use tq_store::{Content, FileCopy, FileName};
-use tq_txn_states::Noting;
+use tq_txn_states::Granting;
 
 /// Whether the servers are of a tree of these levels.
 fn are_of(levels: Levels, servers: &[ServerId]) -> bool
@@ -149,27 +150,28 @@ fn lock_next<A: Asker>(
     lock: &WantedLock,
     server: ServerId,
     ask: NodeAsk,
-    noting: &mut Option<Noting>,
-    grants: &mut Vec<Grant>,
+    granting: &mut Granting,
 ) -> Result<NodeAsk, LineFault>
     requires same { open.now.levels ≡ A.levels asker.old }
     requires of_tree { server.levels ≡ A.levels asker.old }
     requires ask { ask ≡ spec.lock_ask open.now.txn lock.now.file lock.now.mode }
-    requires noting { open_spec.CanNote open.now noting.old (server.number ∷ []) }
-    requires room { vec_len grants.old < vec_capacity grants.old }
-    ensures asks { line.Follows (spec.next_lock lock.now.file lock.now.mode server.number (record { answers = answers_of open.now.txn lock.now.file grants.old.items; txn = open_spec.noted open.now noting.old })) (A.told asker.old) (A.told asker.new)
-        (line.ended_by (spec.without_ask result) (record { answers = answers_of open.now.txn lock.now.file grants.new.items; txn = open_spec.noted open.now noting.new })) }
+    requires room { handed.CanGrant open.now.levels granting.old (server.number ∷ []) }
+    ensures asks { line.Follows
+        (spec.next_lock lock.now.file lock.now.mode server.number (spec.locks_of lock.now.file open.now granting.old))
+        (A.told asker.old) (A.told asker.new)
+        (line.ended_by (spec.without_ask result) (spec.locks_of lock.now.file open.now granting.new)) }
     ensures unasked { line.IsUnasked result (A.told asker.old) (A.told asker.new) }
-    ensures memory { line.IsUnfailed (spec.without_ask result) (record { answers = answers_of open.now.txn lock.now.file grants.new.items; txn = open_spec.noted open.now noting.new })
-        (spec.next_lock lock.now.file lock.now.mode server.number (record { answers = answers_of open.now.txn lock.now.file grants.old.items; txn = open_spec.noted open.now noting.old })) (A.told asker.old) (A.told asker.new) }
-    ensures noting { (more : List ℕ) → open_spec.CanNote open.now noting.old (server.number ∷ more) → open_spec.CanNote open.now noting.new more }
-    ensures kept { open_spec.IsTouched (open_spec.noted open.now noting.old) (open_spec.noted open.now noting.new) }
-    ensures room { vec_len grants.new ≤ vec_len grants.old + 1 }
-    ensures capacity { vec_capacity grants.new ≡ vec_capacity grants.old }
-    ensures heard { AreTold (A.told asker.old) (answers_of open.now.txn lock.now.file grants.old.items) → AreTold (A.told asker.new) (answers_of open.now.txn lock.now.file grants.new.items) }
+    ensures memory { line.IsUnfailed (spec.without_ask result) (spec.locks_of lock.now.file open.now granting.new)
+        (spec.next_lock lock.now.file lock.now.mode server.number (spec.locks_of lock.now.file open.now granting.old))
+        (A.told asker.old) (A.told asker.new) }
+    ensures room { OnOk result ((more : List ℕ) → handed.CanGrant open.now.levels granting.old (server.number ∷ more)
+        → handed.CanGrant open.now.levels granting.new more) }
+    ensures grown { handed.IsGrown granting.old granting.new }
+    ensures heard { AreHeard open.now.txn lock.now.file (A.told asker.old) granting.old.grants
+        → AreHeard open.now.txn lock.now.file (A.told asker.new) granting.new.grants }
     ensures ask { IfOk result (λ again. again ≡ spec.lock_ask open.now.txn lock.now.file lock.now.mode) }
-    ensures servers { OnOk result (granters grants.new.items ≡ granters grants.old.items ++ server.number ∷ []) }
-    ensures modes { spec.AreOf lock.now.mode grants.old.items → spec.AreOf lock.now.mode grants.new.items }
+    ensures servers { OnOk result (granters granting.new.grants ≡ granters granting.old.grants ++ server.number ∷ []) }
+    ensures modes { spec.AreOf lock.now.mode granting.old.grants → spec.AreOf lock.now.mode granting.new.grants }
     ensures tree { A.levels asker.new ≡ A.levels asker.old }
 {
     let locked = match lock_at(asker, alloc, open.txn(), lock, server, ask) {
@@ -177,8 +179,7 @@ fn lock_next<A: Asker>(
         Err(fault) => return Err(fault),
     };
     let (grant, ask) = locked;
-    open.note(noting, server);
-    grants.push_reserved(grant);
+    granting.push(server, grant);
     Ok(ask)
 }
 
@@ -191,28 +192,29 @@ fn lock_each<A: Asker>(
     lock: &WantedLock,
     servers: &[ServerId],
     ask: NodeAsk,
-    noting: &mut Option<Noting>,
-    grants: &mut Vec<Grant>,
+    granting: &mut Granting,
 ) -> Result<(), LineFault>
     requires same { open.now.levels ≡ A.levels asker.old }
     requires of_tree { list_all (λ id. id.levels == A.levels asker.old) servers.now ≡ true }
     requires ask { ask ≡ spec.lock_ask open.now.txn lock.now.file lock.now.mode }
-    requires noting { open_spec.CanNote open.now noting.old (numbers_of servers.now) }
-    requires room { vec_len grants.old + length servers.now ≤ vec_capacity grants.old }
-    ensures asks { line.Follows (spec.locks_line lock.now.file lock.now.mode (numbers_of servers.now) (record { answers = answers_of open.now.txn lock.now.file grants.old.items; txn = open_spec.noted open.now noting.old })) (A.told asker.old) (A.told asker.new)
-        (line.ended_by result (record { answers = answers_of open.now.txn lock.now.file grants.new.items; txn = open_spec.noted open.now noting.new })) }
-    ensures memory { line.IsUnfailed result (record { answers = answers_of open.now.txn lock.now.file grants.new.items; txn = open_spec.noted open.now noting.new })
-        (spec.locks_line lock.now.file lock.now.mode (numbers_of servers.now) (record { answers = answers_of open.now.txn lock.now.file grants.old.items; txn = open_spec.noted open.now noting.old })) (A.told asker.old) (A.told asker.new) }
-    ensures noting { open_spec.CanNote open.now noting.new [] }
-    ensures kept { open_spec.IsTouched (open_spec.noted open.now noting.old) (open_spec.noted open.now noting.new) }
-    ensures heard { AreTold (A.told asker.old) (answers_of open.now.txn lock.now.file grants.old.items) → AreTold (A.told asker.new) (answers_of open.now.txn lock.now.file grants.new.items) }
-    ensures servers { OnOk result (granters grants.new.items ≡ granters grants.old.items ++ numbers_of servers.now) }
-    ensures modes { spec.AreOf lock.now.mode grants.old.items → spec.AreOf lock.now.mode grants.new.items }
+    requires room { handed.CanGrant open.now.levels granting.old (numbers_of servers.now) }
+    ensures asks { line.Follows
+        (spec.locks_line lock.now.file lock.now.mode (numbers_of servers.now) (spec.locks_of lock.now.file open.now granting.old))
+        (A.told asker.old) (A.told asker.new)
+        (line.ended_by result (spec.locks_of lock.now.file open.now granting.new)) }
+    ensures memory { line.IsUnfailed result (spec.locks_of lock.now.file open.now granting.new)
+        (spec.locks_line lock.now.file lock.now.mode (numbers_of servers.now) (spec.locks_of lock.now.file open.now granting.old))
+        (A.told asker.old) (A.told asker.new) }
+    ensures grown { handed.IsGrown granting.old granting.new }
+    ensures heard { AreHeard open.now.txn lock.now.file (A.told asker.old) granting.old.grants
+        → AreHeard open.now.txn lock.now.file (A.told asker.new) granting.new.grants }
+    ensures servers { OnOk result (granters granting.new.grants ≡ granters granting.old.grants ++ numbers_of servers.now) }
+    ensures modes { spec.AreOf lock.now.mode granting.old.grants → spec.AreOf lock.now.mode granting.new.grants }
     ensures tree { A.levels asker.new ≡ A.levels asker.old }
 {
     let mut ask = ask;
     for server in servers {
-        ask = match lock_next(asker, alloc, open, lock, *server, ask, noting, grants) {
+        ask = match lock_next(asker, alloc, open, lock, *server, ask, granting) {
             Ok(ask) => ask,
             Err(fault) => return Err(fault),
         };
@@ -232,22 +234,29 @@ fn lock_ask(alloc: Global, open: &Open, file: &FileName, mode: Mode) -> Result<N
     Ok(NodeAsk::Work(Shared::new(alloc, lock)?))
 }
 
-/// A quorum from the view for what the mode is for, and a lock at each of its servers: their grants.
+/// A quorum from the view for what the mode is for, and a lock at each of its servers: their grants, for which the
+/// transaction hands out what it keeps. A fault gives that back.
 fn lock_quorum<A: Asker>(
     asker: &mut A,
     alloc: Global,
     open: &mut Open,
     file: &FileName,
     mode: Mode,
-) -> Result<Seq<Grant>, LineFault>
+) -> Result<Granting, LineFault>
     requires { open.old.levels ≡ A.levels asker.old }
-    ensures asks { line.Follows (spec.quorum_line file.now mode open.old) (A.told asker.old) (A.told asker.new) (line.ended_by (spec.grants_answer open.old.txn file.now result) open.new) }
-    ensures memory { line.IsUnfailed (spec.grants_answer open.old.txn file.now result) open.new (spec.quorum_line file.now mode open.old) (A.told asker.old) (A.told asker.new) }
+    ensures asks { line.Follows (spec.quorum_line file.now mode open.old) (A.told asker.old) (A.told asker.new)
+        (line.ended_by (spec.granting_answer open.old.txn file.now result) (spec.locked open.new result)) }
+    ensures memory { line.IsUnfailed (spec.granting_answer open.old.txn file.now result) (spec.locked open.new result)
+        (spec.quorum_line file.now mode open.old) (A.told asker.old) (A.told asker.new) }
     ensures levels { open.new.levels ≡ open.old.levels }
-    ensures kept { open_spec.IsTouched open.old open.new }
-    ensures heard { IfOk result (λ grants. AreTold (A.told asker.new) (answers_of open.old.txn file.now grants)) }
-    ensures member { IfOk result (λ grants. open_spec.is_member open.old.levels grants ≡ true) }
-    ensures modes { IfOk result (λ grants. spec.AreOf mode grants) }
+    ensures kept { open_spec.IsTouched open.old (spec.locked open.new result) }
+    ensures heard { IfOk result (λ granting.
+        AreHeard open.old.txn file.now (A.told asker.new) granting.grants) }
+    ensures member { IfOk result (λ granting. open_spec.is_member open.old.levels granting.grants ≡ true) }
+    ensures modes { IfOk result (λ granting. spec.AreOf mode granting.grants) }
+    ensures take { IfOk result (λ granting. handed.CanTake granting (granters granting.grants)) }
+    ensures of_tree { IfOk result (λ granting. handed.IsOfTree open.new.levels granting) }
+    ensures good { OnOk result (open_spec.IsOpen (spec.locked open.new result)) }
     ensures tree { A.levels asker.new ≡ A.levels asker.old }
 {
     let ask = lock_ask(alloc, open, file, mode)?;
@@ -257,28 +266,24 @@ fn lock_quorum<A: Asker>(
     };
     let lock = WantedLock { file: *file, mode };
     let servers = quorum.servers();
-    let mut grants = match Vec::with_capacity(alloc, servers.len()) {
-        Ok(grants) => grants,
+    let mut granting = match open.room_for(servers) {
+        Ok(granting) => granting,
         Err(_) => return Err(LineFault::Memory),
     };
-    let mut noting = match open.room_for(servers) {
-        Ok(noting) => noting,
-        Err(_) => return Err(LineFault::Memory),
-    };
-    let locked = lock_each(
+    match lock_each(
         asker,
         alloc,
         open,
         &lock,
         servers,
         ask,
-        &mut noting,
-        &mut grants,
-    );
-    open.take_back(noting);
-    match locked {
-        Ok(()) => Ok(Seq::from_vec(grants)),
-        Err(fault) => Err(fault),
+        &mut granting,
+    ) {
+        Ok(()) => Ok(granting),
+        Err(fault) => {
+            open.take_back(granting);
+            Err(fault)
+        }
     }
 }
 
@@ -330,11 +335,11 @@ fn read_at_quorum<A: Asker>(
     ensures knows { Knows (A.told asker.old) (states.Open open.old) → Knows (A.told asker.new) (states.Open open.new) }
     ensures tree { A.levels asker.new ≡ A.levels asker.old }
 {
-    let grants = match lock_quorum(asker, alloc, open, file, Mode::Shared) {
-        Ok(grants) => grants,
+    let granting = match lock_quorum(asker, alloc, open, file, Mode::Shared) {
+        Ok(granting) => granting,
         Err(fault) => return Err(fault),
     };
-    match open.read_granted(file, grants) {
+    match open.read_locked(file, granting) {
         Ok(copy) => Ok(Reading::Copy(copy)),
         Err(_) => Err(LineFault::Memory),
     }
@@ -351,7 +356,7 @@ pub fn write_file<A: Asker>(
 ) -> Result<u64, LineFault>
     requires { open.old.levels ≡ A.levels asker.old }
     ensures asks { line.Follows (spec.write_line open.old file.now content) (A.told asker.old) (A.told asker.new) (line.ended_by result open.new) }
-    ensures memory { spec.IsNoted result open.new (spec.quorum_line file.now Mode.Exclusive open.old) (A.told asker.old) (A.told asker.new) }
+    ensures memory { line.IsUnfailed result open.new (spec.write_line open.old file.now content) (A.told asker.old) (A.told asker.new) }
     ensures levels { open.new.levels ≡ open.old.levels }
     ensures err { OnErr result (open_spec.IsTouched open.old open.new) }
     ensures knows { Knows (A.told asker.old) (states.Open open.old) → Knows (A.told asker.new) (states.Open open.new) }
@@ -380,18 +385,18 @@ fn write_at_quorum<A: Asker>(
     requires fresh { open_spec.is_written open.old.ops file.now ≡ false }
     requires few { open_spec.has_all_ops open.old ≡ false }
     ensures asks { line.Follows (spec.quorum_write open.old file.now content) (A.told asker.old) (A.told asker.new) (line.ended_by result open.new) }
-    ensures memory { spec.IsNoted result open.new (spec.quorum_line file.now Mode.Exclusive open.old) (A.told asker.old) (A.told asker.new) }
+    ensures memory { line.IsUnfailed result open.new (spec.quorum_write open.old file.now content) (A.told asker.old) (A.told asker.new) }
     ensures levels { open.new.levels ≡ open.old.levels }
     ensures err { OnErr result (open_spec.IsTouched open.old open.new) }
     ensures knows { Knows (A.told asker.old) (states.Open open.old) → Knows (A.told asker.new) (states.Open open.new) }
     ensures tree { A.levels asker.new ≡ A.levels asker.old }
 {
-    let grants = match lock_quorum(asker, alloc, open, file, Mode::Exclusive) {
-        Ok(grants) => grants,
+    let granting = match lock_quorum(asker, alloc, open, file, Mode::Exclusive) {
+        Ok(granting) => granting,
         Err(fault) => return Err(fault),
     };
-    match open.write_granted(file, content, grants) {
-        Ok(version) => Ok(version),
-        Err(fault) => Err(LineFault::from(fault)),
+    match open.write_locked(file, content, granting) {
+        Some(version) => Ok(version),
+        None => Err(LineFault::Txn(TxnFault::VersionFull)),
     }
 }

@@ -1,8 +1,8 @@
 pub mod Puts
-pub mod NotedLaws
 pub mod NumberSets
 pub mod Searched
 pub mod Tested
+pub mod GrantingLaws
 pub mod GoodGrants
 pub mod Granted
 pub mod GoodOps

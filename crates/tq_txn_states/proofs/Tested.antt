@@ -1,7 +1,7 @@
 -- What a test of the coterie says of a list of servers.
 use Rattle.std.proofs.Common.{◌≡◌, ◌==◌, ℕ, ◌-◌, ◌<◌, ◌≤◌, length, get_or, arith, true, false, ◌&&◌, List, [], ◌∷◌, refl, sym, ap, ◌∙◌, subst}
 use Rattle.std.specs.List.{Contains, list_all}
-use Rattle.std.proofs.lemmas.Bool.{false≢true, and_from, and_right, eq-eqb}
+use Rattle.std.proofs.lemmas.Bool.{false≢true, and_from, and_parts, and_right, eq-eqb}
 use Rattle.tq_coterie.specs.Coterie.{coterie, is_quorum, servers_of, numbers_of, IsMemberList}
 use Rattle.tq_shape.specs.Tree.{Server}
 use Rattle.tq_shape.specs.Tree.{IsServer}
@@ -77,3 +77,9 @@ not_empty tree servers is none =
 pub same_tree : (levels tree : ℕ) (servers : List Server) → IsMemberList tree servers → list_all (λ id. id.levels == levels) servers ≡ (tree == levels)
 same_tree levels tree servers is =
     ap (list_all (λ (id : Server). id.levels == levels)) is.tree ∙ tree_tested levels tree (numbers_of servers) (not_empty tree servers is)
+
+-- the operation's grants are of a quorum, of whichever tree is this one
+pub quorum_found : (levels tree : ℕ) (granted found : List Grant) → (rises (granters granted) && is_quorum levels (granters granted)) ≡ true → found ≡ granted → levels ≡ tree → is_quorum tree (granters found) ≡ true
+quorum_found levels tree granted found good is same =
+    let quorum = and_parts (rises (granters granted)) (is_quorum levels (granters granted)) good in
+    rw (is, ← same) quorum.1

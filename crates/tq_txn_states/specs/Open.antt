@@ -23,7 +23,7 @@ use Rattle.tq_store.specs.Names.{same_name}
 use Rattle.tq_txn_states.specs.declared.told.NodeTold.{NodeTold}
 use Rattle.tq_txn_states.specs.declared.fault.TxnFault.{TxnFault}
 use Rattle.tq_txn_states.specs.declared.fault.TxnFault.TheVariants.{Memory, AlreadyThere, TooManyOps, NotAGrant, NotAMember, VersionFull, NoOps}
-use Rattle.tq_txn_states.specs.Sets.{IsWithin, RoomySet, put, changed, with_number, with_numbers}
+use Rattle.tq_txn_states.specs.Sets.{IsWithin, put, changed, with_number, with_numbers}
 use Rattle.tq_shape.specs.Steps.{refuse, refuse_for, or_else}
 use Rattle.tq_shape.specs.Journal.{is_empty}
 
@@ -142,6 +142,10 @@ read_fault old file answers = refuse (is_used old.ops file) AlreadyThere (grants
 abbrev pub is_full : ℕ → Bool
 is_full version = not (nat_lt (version + 1) (2 ^ 64))
 
+-- the version that a write by these grants makes, none where it does not fit
+abbrev pub version_after : List Grant → Option ℕ
+version_after grants = if is_full (greatest grants) then None else Some (greatest grants + 1)
+
 -- what a write by these grants is refused for
 abbrev pub version_fault : List Grant → Option TxnFault
 version_fault grants = refuse (is_full (greatest grants)) VersionFull None
@@ -164,6 +168,10 @@ pub record IsGoodOp (old : OpenView) (op : Op) : Type 0 where
 abbrev pub with_op : List Op → Op → List Op
 with_op ops op = put (λ other. is_lt (name_cmp op.file other.file)) op ops
 
+-- the transaction with other operations and sets of servers
+abbrev pub keeping : OpenView → List Op → List ℕ → List ℕ → OpenView
+keeping old ops voters touched = record old { ops = ops; voters = voters; touched = touched }
+
 -- the transaction after an operation: its servers vote, and have granted a lock
 abbrev pub taken : OpenView → Op → OpenView
 taken old op =
@@ -181,20 +189,6 @@ write_after old file content answers = taken old (write_op file content (grants_
 
 abbrev pub touched_by : OpenView → ℕ → OpenView
 touched_by old server = record old { touched = with_number old.touched server }
-
--- the servers noted, where they may have been handed out to note more
-abbrev pub touched_in : List ℕ → Option RoomySet → List ℕ
-touched_in touched None = touched
-touched_in touched (Some ready) = ready.servers
-
--- the transaction once it has taken them back
-abbrev pub noted : OpenView → Option RoomySet → OpenView
-noted old ready = record old { touched = touched_in old.touched ready }
-
--- these servers can be noted with no memory: there is room, or all are noted already where none were handed out
-abbrev pub CanNote : OpenView → Option RoomySet → List ℕ → Type 0
-CanNote old None numbers = list_all (has old.touched) numbers ≡ true
-CanNote old (Some ready) numbers = (ready.levels ≡ old.levels) × (length numbers ≤ ready.room)
 
 -- the transaction afterwards: each server that granted it a lock is still noted, there may be more, and all else is as it was
 pub record IsTouched (old after : OpenView) : Type 0 where

@@ -5,23 +5,27 @@ ghost use Rattle.std.specs.Ordering.{is_lt};
 ghost use Rattle.tq_store.specs.Copies.{name_cmp};
 ghost use Rattle.tq_coterie.specs.Coterie.{numbers_of};
 ghost use Rattle.tq_evidence.specs.Evidence as evidence;
+ghost use Rattle.tq_evidence.specs.Evidence.{granters as granters_of};
 ghost use Rattle.tq_txn_states.specs.Places.{place_before};
 ghost use Rattle.tq_txn_states.specs.Sets as sets;
 ghost use Rattle.tq_txn_states.specs.Cited.{KeepsOnly, VotesOnly, answers_of};
 ghost use Rattle.tq_txn_states.specs.Ended as ending;
+ghost use Rattle.tq_txn_states.specs.Granting as handed;
 ghost use Rattle.tq_txn_states.specs.Open as spec;
 ghost use Rattle.tq_txn_states.specs.Voting as voting;
 
 use crate::ended::verdict_of;
-use crate::grants::{grants_of, read_copy};
+use crate::granting::{Granting, Kept};
+use crate::grants::{ReadTwice, grants_of, read_copy, read_twice};
 use crate::servers::Servers;
-use crate::{DeskTold, Ended, NodeTold, Noting, TxnFault, Voting};
+use crate::{DeskTold, Ended, NodeTold, TxnFault, Voting};
 use std::alloc::Global;
 use std::marker::Model;
+use std::mem;
 use tq_asks::Verdict;
 use tq_coterie::is_quorum;
 use tq_desk::{Grant, Op, OpKind};
-use tq_evidence::{granters, greatest_version};
+use tq_evidence::{Shareable, granters, greatest_version};
 use tq_shape::{ExactClone, Levels, Limits, Memory, Seq, ServerId, SharedSeq};
 use tq_store::{Content, FileCopy, FileName};
 
@@ -173,44 +177,135 @@ impl Open {
         Ok(())
     }
 
-    /// Hands out the set of the servers noted, with room for those that are to be asked for a lock; none where all of
-    /// them are noted already. Out of memory leaves the transaction as it was.
-    pub fn room_for(&mut self, servers: &[ServerId]) -> Result<Option<Noting>, Memory>
-        ensures value { IfOk result (λ noting. spec.noted self.new noting ≡ self.old) }
-        ensures room { IfOk result (λ noting. spec.CanNote self.new noting (numbers_of servers.now)) }
-        ensures left { IfOk result (λ noting. sets.IsWithin self.new.touched (spec.touched_in self.new.touched noting)) }
+    /// Hands out what it keeps of its operations, with room for locks of these servers and for the operation that is to
+    /// rest on them. Out of memory leaves the transaction as it was.
+    pub fn room_for(&mut self, servers: &[ServerId]) -> Result<Granting, Memory>
+        ensures value { IfOk result (λ granting. handed.noted self.new granting ≡ self.old) }
+        ensures grants { IfOk result (λ granting. granting.grants ≡ []) }
+        ensures room { IfOk result (λ granting. handed.CanGrant self.new.levels granting (numbers_of servers.now)) }
+        ensures take { IfOk result (λ granting. handed.CanTake granting (numbers_of servers.now)) }
+        ensures tree { IfOk result (λ granting. handed.IsOfTree self.new.levels granting) }
+        ensures good { IfOk result (λ granting. spec.IsOpen self.old) }
         ensures err { OnErr result (self.new ≡ self.old) }
     {
-        if !self.touched.make_room(servers)? {
-            return Ok(None);
-        }
-        Ok(Some(Noting::new(self.touched.take())))
+        self.ops.reserve(1)?;
+        let grows = self.voters.make_room(servers)?;
+        let notes = self.touched.make_room(servers)?;
+        let alloc = self.allocator();
+        let grants = Vec::with_capacity(alloc, servers.len())?;
+        let kept = Kept {
+            ops: mem::replace(&mut self.ops, Vec::new(alloc)),
+            voters: self.voters.take(),
+            grows,
+            touched: self.touched.take(),
+        };
+        Ok(Granting::new(kept, notes, grants))
     }
 
-    /// Notes in what was handed out, if it was, that one of the servers granted the lock. It takes no memory.
-    pub fn note(&self, noting: &mut Option<Noting>, server: ServerId)
-        requires tree { server.levels ≡ self.now.levels }
-        requires room { spec.CanNote self.now noting.old (server.number ∷ []) }
-        ensures value { spec.noted self.now noting.new ≡ spec.touched_by (spec.noted self.now noting.old) server.number }
-        ensures room { (more : List ℕ) → spec.CanNote self.now noting.old (server.number ∷ more) → spec.CanNote self.now noting.new more }
-        ensures still { spec.IsTouched (spec.noted self.now noting.old) (spec.noted self.now noting.new) }
+    /// Takes back what was handed out: the servers that granted a lock are now noted. It takes no memory.
+    pub fn take_back(&mut self, granting: Granting)
+        requires tree { handed.IsOfTree self.old.levels granting }
+        requires good { spec.IsOpen (handed.noted self.old granting) }
+        ensures { self.new ≡ handed.noted self.old granting }
     {
-        if let Some(noting) = noting {
-            noting.put(server);
-        }
+        let (kept, _grants) = granting.into_parts();
+        self.keep(kept);
     }
 
-    /// Takes back what was handed out, if it was: the servers there are now those noted. It takes no memory.
-    pub fn take_back(&mut self, noting: Option<Noting>)
-        requires ready { spec.CanNote self.old noting [] }
-        requires kept { sets.IsWithin self.old.touched (spec.touched_in self.old.touched noting) }
-        ensures after { self.new ≡ spec.noted self.old noting }
-        ensures cited { (told : List NodeTold) → KeepsOnly told self.old → KeepsOnly told self.new }
-        ensures still { spec.IsTouched self.old self.new }
+    /// Keeps these operations and servers.
+    fn keep(&mut self, kept: Kept)
+        requires voters { kept.voters.levels ≡ self.old.levels }
+        requires touched { kept.touched.levels ≡ self.old.levels }
+        requires good { spec.IsOpen (spec.keeping self.old kept.ops.items kept.voters.servers kept.touched.servers) }
+        ensures { self.new ≡ spec.keeping self.old kept.ops.items kept.voters.servers kept.touched.servers }
     {
-        if let Some(noting) = noting {
-            self.touched.replace(noting.into_servers());
-        }
+        let Kept {
+            ops,
+            voters,
+            grows: _,
+            touched,
+        } = kept;
+        self.ops = ops;
+        self.voters = voters;
+        self.touched = touched;
+    }
+
+    /// Takes an operation for which there is room, and each of whose servers is noted. It takes no memory.
+    fn put(&mut self, kept: Kept, op: Op)
+        requires voters { kept.voters.levels ≡ self.old.levels }
+        requires touched { kept.touched.levels ≡ self.old.levels }
+        requires open { spec.IsOpen (spec.keeping self.old kept.ops.items kept.voters.servers kept.touched.servers) }
+        requires good { spec.IsGoodOp (spec.keeping self.old kept.ops.items kept.voters.servers kept.touched.servers) op }
+        requires noted { handed.are_noted kept.touched.servers op.grants ≡ true }
+        requires room { sets.IsReady kept.voters kept.grows (granters_of op.grants) }
+        requires place { vec_len kept.ops < vec_capacity kept.ops }
+        ensures { self.new ≡ spec.taken (spec.keeping self.old kept.ops.items kept.voters.servers kept.touched.servers) op }
+    {
+        let mut kept = kept;
+        kept.voters.grow(kept.grows, op.grants.as_slice());
+        put_in_order(&mut kept.ops, op);
+        self.keep(kept);
+    }
+
+    /// Reads a file by the grants that came in for what was handed out. Out of memory takes that back: the servers that
+    /// granted a lock are noted. It takes no memory but what a clone of a content may want.
+    pub fn read_locked(&mut self, file: &FileName, granting: Granting) -> Result<FileCopy, Memory>
+        requires tree { handed.IsOfTree self.old.levels granting }
+        requires open { spec.IsOpen (handed.noted self.old granting) }
+        requires take { handed.CanTake granting (granters_of granting.grants) }
+        requires fresh { spec.is_used granting.ops file.now ≡ false }
+        requires member { spec.is_member self.old.levels granting.grants ≡ true }
+        ensures value { IfOk result (λ copy. copy ≡ spec.read_copy granting.grants) }
+        ensures after { OnOk result (self.new ≡ spec.taken (handed.noted self.old granting) (spec.read_op file.now granting.grants)) }
+        ensures err { OnErr result (self.new ≡ handed.noted self.old granting) }
+    {
+        let given = match read_twice(granting.grants()) {
+            Ok(given) => given,
+            Err(refused) => {
+                self.take_back(granting);
+                return Err(refused);
+            }
+        };
+        let ReadTwice { copy, kept: content } = given;
+        let (kept, grants) = granting.into_parts();
+        let op = Op {
+            file: *file,
+            kind: OpKind::Read,
+            version: copy.version,
+            content,
+            grants: Shareable::from_vec(grants),
+        };
+        self.put(kept, op);
+        Ok(copy)
+    }
+
+    /// Writes a file by the exclusive grants that came in for what was handed out, and answers the version; none where the
+    /// greatest granted is the last, and then takes that back. It takes no memory.
+    pub fn write_locked(&mut self, file: &FileName, content: Content, granting: Granting) -> Option<u64>
+        requires tree { handed.IsOfTree self.old.levels granting }
+        requires open { spec.IsOpen (handed.noted self.old granting) }
+        requires take { handed.CanTake granting (granters_of granting.grants) }
+        requires fresh { spec.is_written granting.ops file.now ≡ false }
+        requires member { spec.is_member self.old.levels granting.grants ≡ true }
+        requires exclusive { evidence.is_exclusively_granted granting.grants ≡ true }
+        ensures value { spec.version_after granting.grants ≡ result }
+        ensures after { IfSome result (λ version. self.new ≡ spec.taken (handed.noted self.old granting) (spec.write_op file.now content granting.grants)) }
+        ensures full { result ≡ None → self.new ≡ handed.noted self.old granting }
+    {
+        let Some(version) = greatest_version(granting.grants()).checked_add(1) else {
+            self.take_back(granting);
+            return None;
+        };
+        let (kept, grants) = granting.into_parts();
+        let op = Op {
+            file: *file,
+            kind: OpKind::Write,
+            version,
+            content,
+            grants: Shareable::from_vec(grants),
+        };
+        self.put(kept, op);
+        Some(version)
     }
 
     /// Reads a file by the answers of a quorum: the first copy of the greatest version granted. A fault leaves the
@@ -237,7 +332,7 @@ impl Open {
 
     /// Reads a file by the grants of a quorum, as `read` does by the answers that tell of them. Out of memory leaves the
     /// transaction as it was.
-    pub fn read_granted(&mut self, file: &FileName, grants: Seq<Grant>) -> Result<FileCopy, Memory>
+    fn read_granted(&mut self, file: &FileName, grants: Seq<Grant>) -> Result<FileCopy, Memory>
         requires fresh { spec.is_used self.old.ops file.now ≡ false }
         requires few { spec.has_all_ops self.old ≡ false }
         requires member { spec.is_member self.old.levels grants ≡ true }
@@ -246,7 +341,6 @@ impl Open {
         ensures cited { OnOk result ((told : List NodeTold) → KeepsOnly told self.old → KeepsOnly (told ++ answers_of self.old.txn file.now grants) self.new) }
         ensures err { OnErr result (self.new ≡ self.old) }
     {
-        let grants = SharedSeq::from_vec(grants.into_vec())?;
         let given = read_copy(grants.as_slice())?;
         let kept = given.content.clone()?;
         let op = Op {
@@ -254,7 +348,7 @@ impl Open {
             kind: OpKind::Read,
             version: given.version,
             content: kept,
-            grants,
+            grants: Shareable::from_vec(grants.into_vec()),
         };
         self.take(op)?;
         Ok(given)
@@ -285,7 +379,7 @@ impl Open {
 
     /// Writes a file by the exclusive grants of a quorum, as `write` does by the answers that tell of them. A fault
     /// leaves the transaction as it was.
-    pub fn write_granted(
+    fn write_granted(
         &mut self,
         file: &FileName,
         content: Content,
@@ -305,13 +399,12 @@ impl Open {
         let Some(version) = greatest_version(grants.as_slice()).checked_add(1) else {
             return Err(TxnFault::VersionFull);
         };
-        let grants = SharedSeq::from_vec(grants.into_vec())?;
         let op = Op {
             file: *file,
             kind: OpKind::Write,
             version,
             content,
-            grants,
+            grants: Shareable::from_vec(grants.into_vec()),
         };
         self.take(op)?;
         Ok(version)

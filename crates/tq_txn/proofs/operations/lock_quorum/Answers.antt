@@ -1,4 +1,3 @@
-use Rattle.tq_txn.specs.Told.{AreTold, answers_in}
 use Rattle.std.proofs.lemmas.List.Elements.{All-nil}
 use Rattle.std.specs.List.{Contains}
 use Rattle.std.proofs.Common.{◌≡◌, ◌==◌, ◌∙◌, ◌++◌, ℕ, List, [], true, refl, sym, ap, subst, Option, Some, Ok, Err}
@@ -8,18 +7,19 @@ use Rattle.tq_txn.specs.declared.fault.LineFault.TheVariants.{Memory}
 use Rattle.tq_coterie.specs.Coterie.{numbers_of}
 use Rattle.tq_locks.specs.declared.mode.Mode.{Mode}
 use Rattle.tq_txn.specs.declared.asker.Exchange.{Exchange}
-use Rattle.tq_txn.specs.Dialogue.{Follows, LineEnd, ended_by}
-use Rattle.tq_txn.specs.Lines.{AreOf, LocksView, lock_ask, locks_line, quorum_line}
+use Rattle.tq_txn.specs.Dialogue.{Follows, IsUnfailed, LineEnd, ended_by}
+use Rattle.tq_txn.specs.Told.{AreTold, answers_in}
+use Rattle.tq_txn.specs.Lines.{AreOf, LocksView, granting_answer, lock_ask, locks_line, locks_of, quorum_line}
 use Rattle.tq_evidence.specs.declared.grant.Grant.{Grant}
 use Rattle.tq_evidence.specs.Evidence.{granters}
 use Rattle.tq_txn_states.specs.Cited.{answers_of}
-use Rattle.tq_txn_states.specs.Open.{OpenView, IsTouched, noted}
+use Rattle.tq_txn_states.specs.Granting.{GrantingView, IsGrown, noted}
+use Rattle.tq_txn_states.specs.Open.{OpenView, IsTouched}
+use Rattle.tq_txn_states.proofs.GrantingLaws.{can_take_grown, of_tree_grown, open_touched, touched_by_grown}
+use Rattle.tq_txn_states.proofs.Tested.{of_tree}
 use Rattle.tq_txn.proofs.GrantLaws.{member_of}
-use Rattle.tq_txn.specs.Dialogue.{IsUnfailed}
-use Rattle.tq_txn.specs.Lines.{grants_answer}
 use Rattle.tq_txn.proofs.LockBreaks.{quorum_same, quorum_unchosen, quorum_unfailed, quorum_unlocked}
 use Rattle.tq_txn.proofs.LineLaws.{follows_memory, quorum_off, quorum_stopped, quorum_locked}
-use Rattle.tq_txn_states.proofs.Tested.{of_tree}
 use Rattle.tq_txn.proofs.operations.lock_quorum.Goals as goal
 
 -- the locks begin with the transaction that gave out its set, as it was before
@@ -28,21 +28,35 @@ started file mode servers none start old same mid after end first =
     let P : OpenView → Type 0 = λ txn. Follows (locks_line file mode servers (record { answers = none; txn = txn })) mid after end in
     subst P same first
 
+-- a transaction that handed out what it keeps, and takes it back as it grew, is touched at most
+kept : (old handed : OpenView) (start new : GrantingView) → noted handed start ≡ old → IsGrown start new → IsTouched old (noted handed new)
+kept old handed start new before grown =
+    let P : OpenView → Type 0 = λ txn. IsTouched txn (noted handed new) in
+    subst P before (touched_by_grown handed start new grown)
+
 pub returns-in-Err-clause-asks : goal.returns-in-Err-clause-asks
 returns-in-Err-clause-asks g c =
     quorum_off c.args.file.now c.args.mode c.levels.result c.args.open.now c.levels.ensures c.purpose_of.result c.purpose_of.ensures c.in-Err.fault (g.A.Asker.told c.args.asker.now) (g.A.Asker.told c.choose.new.asker) c.in-Err.ensures.asks
 
-pub lock_each-locked-requires-clause-of_tree : goal.lock_each-locked-requires-clause-of_tree
-lock_each-locked-requires-clause-of_tree g c =
+pub lock_each-requires-clause-of_tree : goal.lock_each-requires-clause-of_tree
+lock_each-requires-clause-of_tree g c =
     let levels : c.in-Ok.quorum.levels ≡ g.A.Asker.levels c.choose.new.asker = c.in-Ok.ensures.quorum ∙ c.levels.ensures ∙ c.requires ∙ sym c.in-Ok.ensures.tree in
     let P : ℕ → Type 0 = λ l. list_all (λ id. id.levels == l) c.servers-servers.result.now ≡ true in
     subst P levels (of_tree c.in-Ok.quorum.levels c.servers-servers.result.now c.servers-servers.ensures.member)
 
-pub returns-in-Err-with_capacity-clause-asks : goal.returns-in-Err-with_capacity-clause-asks
-returns-in-Err-with_capacity-clause-asks g c =
-    let told = g.A.Asker.told c.choose.new.asker in
-    quorum_stopped c.args.file.now c.args.mode c.levels.result c.args.open.now c.levels.ensures c.purpose_of.result c.purpose_of.ensures c.in-Ok.quorum.servers c.servers-servers.result.now [] c.servers-servers.ensures.numbers refl
-    (g.A.Asker.told c.args.asker.now) told c.in-Ok.ensures.asks Memory record { answers = []; txn = c.args.open.now } told (follows_memory _ told)
+pub lock_each-requires-clause-same : goal.lock_each-requires-clause-same
+lock_each-requires-clause-same g c = ap (λ (v : OpenView). v.levels) c.in-Ok-room_for.ensures.value ∙ c.requires ∙ sym c.in-Ok.ensures.tree
+
+pub lock_each-requires-clause-ask : goal.lock_each-requires-clause-ask
+lock_each-requires-clause-ask g c = c.in_ok-ask.ensures ∙ ap (λ (v : OpenView). lock_ask v.txn c.args.file.now c.args.mode) (sym c.in-Ok-room_for.ensures.value)
+
+pub take_back-requires-clause-tree : goal.take_back-requires-clause-tree
+take_back-requires-clause-tree g c = of_tree_grown c.room_for.new.self.levels c.in-Ok-room_for.granting c.lock_each.new.granting c.lock_each.ensures.grown c.in-Ok-room_for.ensures.tree
+
+pub take_back-requires-clause-good : goal.take_back-requires-clause-good
+take_back-requires-clause-good g c =
+    let touched = kept c.args.open.now c.room_for.new.self c.in-Ok-room_for.granting c.lock_each.new.granting c.in-Ok-room_for.ensures.value c.lock_each.ensures.grown in
+    open_touched c.args.open.now (noted c.room_for.new.self c.lock_each.new.granting) touched c.in-Ok-room_for.ensures.good
 
 pub returns-in-Err-room_for-clause-asks : goal.returns-in-Err-room_for-clause-asks
 returns-in-Err-room_for-clause-asks g c =
@@ -50,115 +64,115 @@ returns-in-Err-room_for-clause-asks g c =
     quorum_stopped c.args.file.now c.args.mode c.levels.result c.args.open.now c.levels.ensures c.purpose_of.result c.purpose_of.ensures c.in-Ok.quorum.servers c.servers-servers.result.now [] c.servers-servers.ensures.numbers refl
     (g.A.Asker.told c.args.asker.now) told c.in-Ok.ensures.asks Memory record { answers = []; txn = c.args.open.now } told (follows_memory _ told)
 
-pub lock_each-locked-requires-clause-same : goal.lock_each-locked-requires-clause-same
-lock_each-locked-requires-clause-same g c = ap (λ (v : OpenView). v.levels) c.in-Ok-room_for.ensures.value ∙ c.requires ∙ sym c.in-Ok.ensures.tree
-
-pub lock_each-locked-requires-clause-ask : goal.lock_each-locked-requires-clause-ask
-lock_each-locked-requires-clause-ask g c = c.in_ok-ask.ensures ∙ ap (λ (v : OpenView). lock_ask v.txn c.args.file.now c.args.mode) (sym c.in-Ok-room_for.ensures.value)
-
-pub take_back-requires-clause-kept : goal.take_back-requires-clause-kept
-take_back-requires-clause-kept g c = λ server here. c.lock_each-locked.ensures.kept.touched server (c.in-Ok-room_for.ensures.left server here)
-
-pub returns-in-Ok-locked-clause-asks : goal.returns-in-Ok-locked-clause-asks
-returns-in-Ok-locked-clause-asks g c =
+pub returns-in-Ok-lock_each-clause-asks : goal.returns-in-Ok-lock_each-clause-asks
+returns-in-Ok-lock_each-clause-asks g c =
     let file = c.args.file.now in
     let told = g.A.Asker.told c.args.asker.now in
     let mid = g.A.Asker.told c.choose.new.asker in
-    let after = g.A.Asker.told c.lock_each-locked.new.asker in
+    let after = g.A.Asker.told c.lock_each.new.asker in
     let old = c.args.open.now in
     let handed = c.room_for.new.self in
-    let none = answers_of handed.txn file c.in-Ok-with_capacity.grants.items in
-    let empty : none ≡ [] = ap (answers_of handed.txn file) c.in-Ok-with_capacity.ensures.items in
+    let start = c.in-Ok-room_for.granting in
+    let none = answers_of handed.txn file start.grants in
+    let empty : none ≡ [] = ap (answers_of handed.txn file) c.in-Ok-room_for.ensures.grants in
     let same : handed.txn ≡ old.txn = ap (λ (v : OpenView). v.txn) c.in-Ok-room_for.ensures.value in
-    let new : LocksView = record { answers = answers_of handed.txn file c.lock_each-locked.new.grants.items; txn = noted handed c.lock_each-locked.new.noting } in
-    let locked = started file c.args.mode (numbers_of c.servers-servers.result.now) none (noted handed c.in-Ok-room_for.noting) old c.in-Ok-room_for.ensures.value mid after (Some (record { answer = Ok tt; after = new })) c.in-Ok-locked.ensures.asks in
+    let new : LocksView = locks_of file handed c.lock_each.new.granting in
+    let locked = started file c.args.mode (numbers_of c.servers-servers.result.now) none (noted handed start) old c.in-Ok-room_for.ensures.value mid after (Some (record { answer = Ok tt; after = new })) c.in-Ok-lock_each.ensures.asks in
     let all = quorum_locked file c.args.mode c.levels.result old c.levels.ensures c.purpose_of.result c.purpose_of.ensures c.in-Ok.quorum.servers c.servers-servers.result.now none c.servers-servers.ensures.numbers empty told mid c.in-Ok.ensures.asks new after locked in
-    let P : List NodeTold → OpenView → Type 0 = λ xs txn. Follows (quorum_line file c.args.mode old) told after (Some (record { answer = Ok xs; after = txn })) in
-    let Q : List NodeTold → Type 0 = λ xs. P xs c.take_back.new.self in
-    let answers : new.answers ≡ answers_of old.txn file c.from_vec.result = λ i. answers_of (same i) file (sym c.from_vec.ensures i) in
-    subst Q answers (subst (P new.answers) (sym c.take_back.ensures.after) all)
+    let P : ℕ → Type 0 = λ txn. Follows (quorum_line file c.args.mode old) told after (Some (record { answer = Ok (answers_of txn file c.lock_each.new.granting.grants); after = new.txn })) in
+    subst P same all
 
-pub returns-clause-asks : goal.returns-clause-asks
-returns-clause-asks g c =
+pub returns-in-Err-lock_each-clause-asks : goal.returns-in-Err-lock_each-clause-asks
+returns-in-Err-lock_each-clause-asks g c =
     let file = c.args.file.now in
     let told = g.A.Asker.told c.args.asker.now in
     let mid = g.A.Asker.told c.choose.new.asker in
-    let after = g.A.Asker.told c.lock_each-locked.new.asker in
+    let after = g.A.Asker.told c.lock_each.new.asker in
     let old = c.args.open.now in
     let handed = c.room_for.new.self in
-    let none = answers_of handed.txn file c.in-Ok-with_capacity.grants.items in
-    let empty : none ≡ [] = ap (answers_of handed.txn file) c.in-Ok-with_capacity.ensures.items in
-    let new : LocksView = record { answers = answers_of handed.txn file c.lock_each-locked.new.grants.items; txn = noted handed c.lock_each-locked.new.noting } in
-    let locked = started file c.args.mode (numbers_of c.servers-servers.result.now) none (noted handed c.in-Ok-room_for.noting) old c.in-Ok-room_for.ensures.value mid after (ended_by (Err c.in-Err-locked.fault) new) c.in-Err-locked.ensures.asks in
-    let all = quorum_stopped file c.args.mode c.levels.result old c.levels.ensures c.purpose_of.result c.purpose_of.ensures c.in-Ok.quorum.servers c.servers-servers.result.now none c.servers-servers.ensures.numbers empty told mid c.in-Ok.ensures.asks c.in-Err-locked.fault new after locked in
-    let P : OpenView → Type 0 = λ txn. Follows (quorum_line file c.args.mode old) told after (ended_by (Err c.in-Err-locked.fault) txn) in
-    subst P (sym c.take_back.ensures.after) all
+    let start = c.in-Ok-room_for.granting in
+    let none = answers_of handed.txn file start.grants in
+    let empty : none ≡ [] = ap (answers_of handed.txn file) c.in-Ok-room_for.ensures.grants in
+    let new : LocksView = locks_of file handed c.lock_each.new.granting in
+    let locked = started file c.args.mode (numbers_of c.servers-servers.result.now) none (noted handed start) old c.in-Ok-room_for.ensures.value mid after (ended_by (Err c.in-Err-lock_each.fault) new) c.in-Err-lock_each.ensures.asks in
+    let all = quorum_stopped file c.args.mode c.levels.result old c.levels.ensures c.purpose_of.result c.purpose_of.ensures c.in-Ok.quorum.servers c.servers-servers.result.now none c.servers-servers.ensures.numbers empty told mid c.in-Ok.ensures.asks c.in-Err-lock_each.fault new after locked in
+    let P : OpenView → Type 0 = λ txn. Follows (quorum_line file c.args.mode old) told after (ended_by (Err c.in-Err-lock_each.fault) txn) in
+    subst P (sym c.take_back.ensures) all
 
-pub returns-in-Ok-locked-clause-heard : goal.returns-in-Ok-locked-clause-heard
-returns-in-Ok-locked-clause-heard g c =
+pub returns-in-Ok-lock_each-clause-heard : goal.returns-in-Ok-lock_each-clause-heard
+returns-in-Ok-lock_each-clause-heard g c =
     let file = c.args.file.now in
     let told = g.A.Asker.told c.choose.new.asker in
+    let after = g.A.Asker.told c.lock_each.new.asker in
     let handed = c.room_for.new.self in
     let same : handed.txn ≡ c.args.open.now.txn = ap (λ (v : OpenView). v.txn) c.in-Ok-room_for.ensures.value in
-    let empty : answers_of handed.txn file c.in-Ok-with_capacity.grants.items ≡ [] = ap (answers_of handed.txn file) c.in-Ok-with_capacity.ensures.items in
-    let answers : answers_of handed.txn file c.lock_each-locked.new.grants.items ≡ answers_of c.args.open.now.txn file c.from_vec.result = λ i. answers_of (same i) file (sym c.from_vec.ensures i) in
-    subst (AreTold (g.A.Asker.told c.lock_each-locked.new.asker)) answers
-    (c.lock_each-locked.ensures.heard (subst (AreTold told) (sym empty) (All-nil (Contains (answers_in told)))))
+    let empty : answers_of handed.txn file c.in-Ok-room_for.granting.grants ≡ [] = ap (answers_of handed.txn file) c.in-Ok-room_for.ensures.grants in
+    let P : ℕ → Type 0 = λ txn. AreTold after (answers_of txn file c.lock_each.new.granting.grants) in
+    subst P same (c.lock_each.ensures.heard (subst (AreTold told) (sym empty) (All-nil (Contains (answers_in told)))))
 
-pub returns-in-Ok-locked-clause-member : goal.returns-in-Ok-locked-clause-member
-returns-in-Ok-locked-clause-member g c =
+pub returns-in-Ok-lock_each-clause-member : goal.returns-in-Ok-lock_each-clause-member
+returns-in-Ok-lock_each-clause-member g c =
     let servers = c.servers-servers.result.now in
-    let none : granters c.in-Ok-with_capacity.grants.items ≡ [] = ap granters c.in-Ok-with_capacity.ensures.items in
-    let all : granters c.from_vec.result ≡ numbers_of servers = ap granters c.from_vec.ensures ∙ c.in-Ok-locked.ensures.servers ∙ ap (λ numbers. numbers ++ numbers_of servers) none in
-    member_of c.args.open.now.levels c.in-Ok.quorum.levels servers c.from_vec.result c.servers-servers.ensures.member (c.in-Ok.ensures.quorum ∙ c.levels.ensures) all
+    let none : granters c.in-Ok-room_for.granting.grants ≡ [] = ap granters c.in-Ok-room_for.ensures.grants in
+    let all : granters c.lock_each.new.granting.grants ≡ numbers_of servers = c.in-Ok-lock_each.ensures.servers ∙ ap (λ numbers. numbers ++ numbers_of servers) none in
+    member_of c.args.open.now.levels c.in-Ok.quorum.levels servers c.lock_each.new.granting.grants c.servers-servers.ensures.member (c.in-Ok.ensures.quorum ∙ c.levels.ensures) all
 
-pub returns-in-Ok-locked-clause-modes : goal.returns-in-Ok-locked-clause-modes
-returns-in-Ok-locked-clause-modes g c =
+pub returns-in-Ok-lock_each-clause-take : goal.returns-in-Ok-lock_each-clause-take
+returns-in-Ok-lock_each-clause-take g c =
+    let servers = c.servers-servers.result.now in
+    let none : granters c.in-Ok-room_for.granting.grants ≡ [] = ap granters c.in-Ok-room_for.ensures.grants in
+    let all : granters c.lock_each.new.granting.grants ≡ numbers_of servers = c.in-Ok-lock_each.ensures.servers ∙ ap (λ numbers. numbers ++ numbers_of servers) none in
+    can_take_grown c.in-Ok-room_for.granting c.lock_each.new.granting (numbers_of servers) (granters c.lock_each.new.granting.grants) c.lock_each.ensures.grown all c.in-Ok-room_for.ensures.take
+
+pub returns-in-Ok-lock_each-clause-modes : goal.returns-in-Ok-lock_each-clause-modes
+returns-in-Ok-lock_each-clause-modes g c =
     let mode = c.args.mode in
-    subst (AreOf mode) (sym c.from_vec.ensures)
-    (c.lock_each-locked.ensures.modes (subst (AreOf mode) (sym c.in-Ok-with_capacity.ensures.items) (All-nil (λ (grant : Grant). grant.mode ≡ mode))))
+    c.lock_each.ensures.modes (subst (AreOf mode) (sym c.in-Ok-room_for.ensures.grants) (All-nil (λ (grant : Grant). grant.mode ≡ mode)))
 
-kept : (old start new after : OpenView) → start ≡ old → after ≡ new → IsTouched start new → IsTouched old after
-kept old start new after before same touched = subst (IsTouched old) (sym same) (let P : OpenView → Type 0 = λ txn. IsTouched txn new in subst P before touched)
+pub returns-in-Ok-lock_each-clause-of_tree : goal.returns-in-Ok-lock_each-clause-of_tree
+returns-in-Ok-lock_each-clause-of_tree g c = of_tree_grown c.room_for.new.self.levels c.in-Ok-room_for.granting c.lock_each.new.granting c.lock_each.ensures.grown c.in-Ok-room_for.ensures.tree
 
-pub returns-in-Ok-locked-clause-kept : goal.returns-in-Ok-locked-clause-kept
-returns-in-Ok-locked-clause-kept g c =
-    kept c.args.open.now (noted c.room_for.new.self c.in-Ok-room_for.noting) (noted c.room_for.new.self c.lock_each-locked.new.noting) c.take_back.new.self c.in-Ok-room_for.ensures.value c.take_back.ensures.after c.lock_each-locked.ensures.kept
+pub returns-in-Ok-lock_each-clause-good : goal.returns-in-Ok-lock_each-clause-good
+returns-in-Ok-lock_each-clause-good g c =
+    let touched = kept c.args.open.now c.room_for.new.self c.in-Ok-room_for.granting c.lock_each.new.granting c.in-Ok-room_for.ensures.value c.lock_each.ensures.grown in
+    open_touched c.args.open.now (noted c.room_for.new.self c.lock_each.new.granting) touched c.in-Ok-room_for.ensures.good
 
-pub returns-clause-kept : goal.returns-clause-kept
-returns-clause-kept g c =
-    kept c.args.open.now (noted c.room_for.new.self c.in-Ok-room_for.noting) (noted c.room_for.new.self c.lock_each-locked.new.noting) c.take_back.new.self c.in-Ok-room_for.ensures.value c.take_back.ensures.after c.lock_each-locked.ensures.kept
+pub returns-in-Ok-lock_each-clause-kept : goal.returns-in-Ok-lock_each-clause-kept
+returns-in-Ok-lock_each-clause-kept g c =
+    kept c.args.open.now c.room_for.new.self c.in-Ok-room_for.granting c.lock_each.new.granting c.in-Ok-room_for.ensures.value c.lock_each.ensures.grown
+
+pub returns-in-Err-lock_each-clause-kept : goal.returns-in-Err-lock_each-clause-kept
+returns-in-Err-lock_each-clause-kept g c =
+    let old = c.args.open.now in
+    let touched = kept old c.room_for.new.self c.in-Ok-room_for.granting c.lock_each.new.granting c.in-Ok-room_for.ensures.value c.lock_each.ensures.grown in
+    subst (IsTouched old) (sym c.take_back.ensures) touched
 
 pub returns-in_err-ask-clause-memory : goal.returns-in_err-ask-clause-memory
 returns-in_err-ask-clause-memory g c =
-    quorum_same c.args.file.now c.args.mode c.args.open.now (grants_answer c.args.open.now.txn c.args.file.now c.from_residual.result) (g.A.Asker.told c.args.asker.now)
+    quorum_same c.args.file.now c.args.mode c.args.open.now (granting_answer c.args.open.now.txn c.args.file.now c.from_residual.result) (g.A.Asker.told c.args.asker.now)
 
 pub returns-in-Err-clause-memory : goal.returns-in-Err-clause-memory
 returns-in-Err-clause-memory g c =
     quorum_unchosen c.args.file.now c.args.mode c.args.open.now c.in-Err.fault (g.A.Asker.told c.args.asker.now) (g.A.Asker.told c.choose.new.asker) c.in-Err.ensures.unasked
-
-pub returns-in-Err-with_capacity-clause-memory : goal.returns-in-Err-with_capacity-clause-memory
-returns-in-Err-with_capacity-clause-memory g c =
-    quorum_unlocked c.args.file.now c.args.mode c.args.open.now c.levels.result c.levels.ensures c.purpose_of.result c.purpose_of.ensures c.in-Ok.quorum.servers c.servers-servers.result.now c.servers-servers.ensures.numbers
-    (g.A.Asker.told c.args.asker.now) (g.A.Asker.told c.choose.new.asker) c.in-Ok.ensures.asks c.in-Ok.quorum.levels c.servers-servers.ensures.member c.args.open.now refl
 
 pub returns-in-Err-room_for-clause-memory : goal.returns-in-Err-room_for-clause-memory
 returns-in-Err-room_for-clause-memory g c =
     quorum_unlocked c.args.file.now c.args.mode c.args.open.now c.levels.result c.levels.ensures c.purpose_of.result c.purpose_of.ensures c.in-Ok.quorum.servers c.servers-servers.result.now c.servers-servers.ensures.numbers
     (g.A.Asker.told c.args.asker.now) (g.A.Asker.told c.choose.new.asker) c.in-Ok.ensures.asks c.in-Ok.quorum.levels c.servers-servers.ensures.member c.room_for.new.self c.in-Err-room_for.ensures.err
 
-pub returns-clause-memory : goal.returns-clause-memory
-returns-clause-memory g c =
+pub returns-in-Err-lock_each-clause-memory : goal.returns-in-Err-lock_each-clause-memory
+returns-in-Err-lock_each-clause-memory g c =
     let file = c.args.file.now in
     let told = g.A.Asker.told c.args.asker.now in
     let mid = g.A.Asker.told c.choose.new.asker in
-    let after = g.A.Asker.told c.lock_each-locked.new.asker in
+    let after = g.A.Asker.told c.lock_each.new.asker in
     let old = c.args.open.now in
     let handed = c.room_for.new.self in
-    let none = answers_of handed.txn file c.in-Ok-with_capacity.grants.items in
-    let empty : none ≡ [] = ap (answers_of handed.txn file) c.in-Ok-with_capacity.ensures.items in
-    let new : LocksView = record { answers = answers_of handed.txn file c.lock_each-locked.new.grants.items; txn = noted handed c.lock_each-locked.new.noting } in
-    let P : OpenView → Type 0 = λ v. IsUnfailed {A = List NodeTold} (Err c.in-Err-locked.fault) v (quorum_line file c.args.mode old) told after in
-    subst P (sym c.take_back.ensures.after)
+    let start = c.in-Ok-room_for.granting in
+    let none = answers_of handed.txn file start.grants in
+    let empty : none ≡ [] = ap (answers_of handed.txn file) c.in-Ok-room_for.ensures.grants in
+    let new : LocksView = locks_of file handed c.lock_each.new.granting in
+    let P : OpenView → Type 0 = λ v. IsUnfailed {A = List NodeTold} (Err c.in-Err-lock_each.fault) v (quorum_line file c.args.mode old) told after in
+    subst P (sym c.take_back.ensures)
     (quorum_unfailed file c.args.mode old c.levels.result c.levels.ensures c.purpose_of.result c.purpose_of.ensures c.in-Ok.quorum.servers c.servers-servers.result.now c.servers-servers.ensures.numbers
-    told mid c.in-Ok.ensures.asks none empty (noted handed c.in-Ok-room_for.noting) c.in-Ok-room_for.ensures.value c.in-Err-locked.fault new after c.in-Err-locked.ensures.memory)
+    told mid c.in-Ok.ensures.asks none empty (noted handed start) c.in-Ok-room_for.ensures.value c.in-Err-lock_each.fault new after c.in-Err-lock_each.ensures.memory)

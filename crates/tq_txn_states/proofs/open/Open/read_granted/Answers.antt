@@ -10,13 +10,13 @@ use Rattle.tq_txn_states.proofs.open.Open.read_granted.Goals as goal
 
 pub take-requires : goal.take-requires
 take-requires c =
-    let grants : c.in_ok-grants.grants ≡ c.args.grants = c.in_ok-grants.ensures ∙ c.into_vec.ensures in
+    let grants : c.from_vec.result ≡ c.args.grants = c.from_vec.ensures ∙ c.into_vec.ensures in
     let P : List Grant → Type 0 = λ gs. is_member c.args.self.now.levels gs ≡ true in
-    let given : c.in_ok-given.given ≡ read_copy c.in_ok-grants.grants = c.in_ok-given.ensures ∙ ap read_copy c.as_slice.ensures in
+    let given : c.in_ok-given.given ≡ read_copy c.from_vec.result = c.in_ok-given.ensures ∙ ap read_copy (c.as_slice.ensures ∙ sym grants) in
     let kept : c.in_ok-kept.kept ≡ c.in_ok-given.given.content = search rules in
-    good_read_of c.args.self.now c.args.file.now c.in_ok-kept.kept c.in_ok-grants.grants c.in_ok-given.given.version (ap (λ (f : FileCopy). f.version) given) (kept ∙ ap (λ (f : FileCopy). f.content) given) (subst P (sym grants) c.requires.member) c.requires.fresh
+    good_read_of c.args.self.now c.args.file.now c.in_ok-kept.kept c.from_vec.result c.in_ok-given.given.version (ap (λ (f : FileCopy). f.version) given) (kept ∙ ap (λ (f : FileCopy). f.content) given) (subst P (sym grants) c.requires.member) c.requires.fresh
 
 pub returns-clause-cited : goal.returns-clause-cited
 returns-clause-cited c =
-    let op : Op = record { file = c.args.file.now; kind = kinds.Read; version = c.in_ok-given.given.version; content = c.in_ok-kept.kept; grants = c.in_ok-grants.grants } in
-    granted_cited c.args.self.now c.take.new.self op c.args.grants c.in_ok-take.ensures.after (c.in_ok-grants.ensures ∙ c.into_vec.ensures)
+    let op : Op = record { file = c.args.file.now; kind = kinds.Read; version = c.in_ok-given.given.version; content = c.in_ok-kept.kept; grants = c.from_vec.result } in
+    granted_cited c.args.self.now c.take.new.self op c.args.grants c.in_ok-take.ensures.after (c.from_vec.ensures ∙ c.into_vec.ensures)

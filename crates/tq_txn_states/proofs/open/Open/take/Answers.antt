@@ -6,23 +6,18 @@ use Rattle.tq_evidence.specs.Evidence.{rises, granters}
 use Rattle.tq_txn_states.specs.Open.{OpenView, with_op}
 use Rattle.tq_txn_states.specs.Sets.{with_numbers}
 use Rattle.tq_txn_states.proofs.GoodOps.{IsOpen-with}
+use Rattle.tq_txn_states.proofs.Tested.{quorum_found}
 use Rattle.tq_txn_states.proofs.open.Open.take.Goals as goal
-
--- the operation's grants are of a quorum, of whichever tree is this one
-tested : (levels tree : ℕ) (granted found : List Grant) → (rises (granters granted) && is_quorum levels (granters granted)) ≡ true → found ≡ granted → levels ≡ tree → is_quorum tree (granters found) ≡ true
-tested levels tree granted found good is same =
-    let quorum = and_parts (rises (granters granted)) (is_quorum levels (granters granted)) good in
-    rw (is, ← same) quorum.1
 
 pub grow-requires-clause-quorum : goal.grow-requires-clause-quorum
 grow-requires-clause-quorum c =
     let levels : c.args.self.now.levels ≡ c.make_room_for.new.self.levels = ap (λ (v : OpenView). v.levels) (sym c.self.view_is) ∙ sym c.self.invariant.1.0 ∙ sym c.make_room_for.ensures.levels in
-    tested c.args.self.now.levels c.make_room_for.new.self.levels c.args.op.grants c.as_slice-3.result.now c.requires.quorum c.as_slice-3.ensures levels
+    quorum_found c.args.self.now.levels c.make_room_for.new.self.levels c.args.op.grants c.as_slice-3.result.now c.requires.quorum c.as_slice-3.ensures levels
 
 pub grow-requires-2-clause-quorum : goal.grow-requires-2-clause-quorum
 grow-requires-2-clause-quorum c =
     let levels : c.args.self.now.levels ≡ c.make_room_for-2.new.self.levels = ap (λ (v : OpenView). v.levels) (sym c.self.view_is) ∙ sym c.self.invariant.1.1 ∙ sym c.make_room_for-2.ensures.levels in
-    tested c.args.self.now.levels c.make_room_for-2.new.self.levels c.args.op.grants c.as_slice-4.result.now c.requires.quorum c.as_slice-4.ensures levels
+    quorum_found c.args.self.now.levels c.make_room_for-2.new.self.levels c.args.op.grants c.as_slice-4.result.now c.requires.quorum c.as_slice-4.ensures levels
 
 pub invariant_of-self-2 : goal.invariant_of-self-2
 invariant_of-self-2 c =
