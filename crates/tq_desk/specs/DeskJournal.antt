@@ -1,5 +1,5 @@
 -- The journal of the desk, newest entry first: what is legal, and what its entries say.
-use Rattle.std.specs.Prelude.{◌≡◌, ◌+◌, ◌==◌, ◌&&◌, ◌⊎◌, ℕ, suc, Bool, true, cond, List, [], ◌∷◌, Option, Some, None, if◌then◌else◌}
+use Rattle.std.specs.Prelude.{◌≡◌, ◌+◌, ◌==◌, ◌⊎◌, ℕ, suc, true, cond, List, [], ◌∷◌, Option, Some, None, if◌then◌else◌}
 use Rattle.std.specs.FinMap as fin
 use Rattle.std.specs.List.{find}
 use Rattle.tq_shape.specs.Journal.{entry_at, Has, IsLegal, state_after}
@@ -15,7 +15,6 @@ use Rattle.tq_desk.specs.declared.ask.DeskReply.TheVariants as replies
 use Rattle.tq_evidence.specs.declared.op.Op.{Op}
 use Rattle.tq_evidence.specs.declared.vote.Vote.{Vote}
 use Rattle.tq_evidence.specs.Evidence.{is_write, writes_file}
-use Rattle.tq_store.specs.Names.{same_name}
 use Rattle.tq_desk.specs.DeskStep.{DeskView, FileSet, cited, desk_after, desk_reply, opening, with_files}
 use Rattle.tq_shape.specs.Steps.{or_else}
 

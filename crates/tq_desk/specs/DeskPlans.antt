@@ -1,6 +1,6 @@
 -- The desk's plans may be made, and lead where its asks do; its settings stay, and at most one transaction begins.
-use Rattle.std.specs.Prelude.{not, nat_lt}
-use Rattle.std.proofs.Common.{◌≡◌, ◌≤◌, ◌<◌, ◌+◌, ℕ, Bool, true, false, List, [], ◌∷◌, Option, Some, None, map, filter, fold, cond, length, refl, ap, arith}
+use Rattle.std.specs.Prelude.{not}
+use Rattle.std.proofs.Common.{◌≡◌, ◌≤◌, ◌<◌, ◌+◌, ℕ, List, [], ◌∷◌, Option, Some, None, map, filter, fold, refl, ap, arith}
 use Rattle.std.specs.FinMap as fin
 use Rattle.tq_shape.specs.Limits.{LimitsView}
 use Rattle.tq_asks.specs.declared.ask.Verdict.{Verdict}
@@ -11,10 +11,9 @@ use Rattle.tq_desk.specs.declared.ask.DeskRefusal.TheVariants as refusals
 use Rattle.tq_evidence.specs.declared.op.Op.{Op}
 use Rattle.tq_evidence.specs.declared.vote.Vote.{Vote}
 use Rattle.tq_desk.specs.declared.change.DeskChange.{DeskChange}
-use Rattle.tq_desk.specs.declared.change.DeskChange.TheVariants as changes
-use Rattle.tq_evidence.specs.Evidence.{failed_rule, is_write}
+use Rattle.tq_evidence.specs.Evidence.{is_write}
 use Rattle.tq_desk.specs.DeskStep.{DeskView, FileSet, committed, desk_after, desk_answered, desk_refusal, is_begun, opening, resolved, with_file, with_files}
-use Rattle.tq_shape.specs.Steps.{refuse, refuse_for, state_at}
+use Rattle.tq_shape.specs.Steps.{state_at}
 use Rattle.tq_desk.specs.DeskChanges.{abort_unless, change_at, change_of, desk_change, desk_changed, names_written, with_names, DeskFits}
 use Rattle.tq_shape.specs.Unrefused.{refuse-none, refuse_for-none}
 

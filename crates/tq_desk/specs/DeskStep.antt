@@ -1,5 +1,5 @@
 -- The step of the desk: what it has recorded, what it answers, and what it has recorded afterwards.
-use Rattle.std.specs.Prelude.{◌+◌, ℕ, Bool, not, ◌&&◌, nat_lt, nat_le, List, map, filter, fold, length, Option, Some, None, if◌then◌else◌, is_some}
+use Rattle.std.specs.Prelude.{◌+◌, ℕ, Bool, not, ◌&&◌, nat_lt, nat_le, List, map, filter, fold, length, Option, Some, None, is_some}
 use Rattle.std.specs.FinMap as fin
 use Rattle.std.specs.Ordering.{nat_cmp}
 use Rattle.tq_shape.specs.Limits.{LimitsView}
