@@ -10,7 +10,7 @@ use std::sync::Wait;
 use std::thread::Threads;
 use std::{env, io};
 use tq_shape::Levels;
-use tq_shell::{Reading, RunFault, Words, WordsFault, Writing, audit, run, threads, upgrade};
+use tq_shell::{RunFault, StdSink, StdSource, Words, WordsFault, audit, run, threads, upgrade};
 
 /// The status of what was done.
 const DONE: u8 = 0;
@@ -67,8 +67,8 @@ fn obey<H: Threads + Wait + Sync>(rt: &HostRuntime, handle: &H, words: Words) ->
 }
 
 fn shell(rt: &HostRuntime, levels: Levels) -> ExitCode {
-    let mut reader = Reading::new(rt.reader());
-    let mut writer = Writing::new(io::writer(rt));
+    let mut reader = StdSource::new(rt.reader());
+    let mut writer = StdSink::new(io::writer(rt));
     match run(rt.alloc(), levels, &mut reader, &mut writer) {
         Ok(()) => ExitCode::SUCCESS,
         Err(fault) => say_fault(rt, fault),
@@ -86,8 +86,8 @@ fn scripts<H: Threads + Wait + Sync>(
     requires workers { workers ≤ 2 }
     requires rounds { rounds ≤ 1000 }
 {
-    let mut reader = Reading::new(rt.reader());
-    let mut writer = Writing::new(io::writer(rt));
+    let mut reader = StdSource::new(rt.reader());
+    let mut writer = StdSink::new(io::writer(rt));
     match threads(
         handle,
         rt.alloc(),
@@ -104,8 +104,8 @@ fn scripts<H: Threads + Wait + Sync>(
 
 /// Audits the journal file of the standard input.
 fn audit_file(rt: &HostRuntime) -> ExitCode {
-    let mut reader = Reading::new(rt.reader());
-    let mut writer = Writing::new(io::writer(rt));
+    let mut reader = StdSource::new(rt.reader());
+    let mut writer = StdSink::new(io::writer(rt));
     match audit(rt.alloc(), &mut reader, &mut writer) {
         Ok(status) => ExitCode::from(status),
         Err(fault) => say_fault(rt, fault),
@@ -114,8 +114,8 @@ fn audit_file(rt: &HostRuntime) -> ExitCode {
 
 /// Writes the journal file of the standard input in the format of today.
 fn upgrade_file(rt: &HostRuntime) -> ExitCode {
-    let mut reader = Reading::new(rt.reader());
-    let mut writer = Writing::new(io::writer(rt));
+    let mut reader = StdSource::new(rt.reader());
+    let mut writer = StdSink::new(io::writer(rt));
     match upgrade(rt.alloc(), &mut reader, &mut writer) {
         Ok(status) => ExitCode::from(status),
         Err(fault) => say_fault(rt, fault),

@@ -15,7 +15,7 @@ use Rattle.std.proofs.lemmas.List.{drop_more, at_drop_all}
 use Rattle.tq_shape.specs.Tree.{Server, IsServer}
 use Rattle.tq_live.specs.View.{is_server}
 use Rattle.tq_syntax.specs.declared.script.Line.{Line}
-use Rattle.tq_client.specs.Script.{leaving, passed, went, is_answered, server_marked, mark_asked, closing, line_asked, script_asked}
+use Rattle.tq_client.specs.Script.{leaving, passed, was_answered, is_answered, server_marked, mark_asked, closing, line_asked, script_asked}
 
 behind : (old mid first : List Exchange) (entry : Exchange) (told : List Exchange) → mid ≡ old ++ told → told ≡ entry ∷ first → mid ≡ (old ++ entry ∷ []) ++ first
 behind old mid first entry told grown is = grown ∙ ap (λ t. old ++ t) is ∙ sym (append_assoc old (entry ∷ []) first)
@@ -66,8 +66,8 @@ follows_leaving line after old new first = follows_then line (λ asked. Ends aft
 -- ---- a line that was answered, refused, or cut off
 
 module _ {A S B : Type 0} (line : Dialogue (LineEnd A S)) (next : Bool → S → Dialogue B) where
-  -- it went on as it was answered
-  pub follows_went : (answer : Result A LineFault) (after : S) (answered : Bool) (old mid new : List Exchange) (end : Option B) → Some answered ≡ went answer → Follows line old mid (ended_by answer after) → Follows (next answered after) mid new end → Follows (then_line line (λ e. next (is_answered e.answer) e.after)) old new end
+  -- it was_answered on as it was answered
+  pub follows_went : (answer : Result A LineFault) (after : S) (answered : Bool) (old mid new : List Exchange) (end : Option B) → Some answered ≡ was_answered answer → Follows line old mid (ended_by answer after) → Follows (next answered after) mid new end → Follows (then_line line (λ e. next (is_answered e.answer) e.after)) old new end
   follows_went (Ok a) after answered old mid new end is first rest =
       let P : Bool → Type 0 = λ b. Follows (next b after) mid new end in
       let same : answered ≡ true = cc in
@@ -78,7 +78,7 @@ module _ {A S B : Type 0} (line : Dialogue (LineEnd A S)) (next : Bool → S →
       let same : answered ≡ false = cc in
       follows_then line (λ e. next (is_answered e.answer) e.after) (record { answer = Err fault; after = after }) old mid new end first (subst P same rest)
 
-  pub follows_went_out : (answer : Result A LineFault) (after : S) (old new : List Exchange) → None ≡ went answer → Follows line old new (ended_by answer after) → Follows (then_line line (λ e. next (is_answered e.answer) e.after)) old new None
+  pub follows_went_out : (answer : Result A LineFault) (after : S) (old new : List Exchange) → None ≡ was_answered answer → Follows line old new (ended_by answer after) → Follows (then_line line (λ e. next (is_answered e.answer) e.after)) old new None
   follows_went_out (Ok a) after old new is first = absurd cc
   follows_went_out (Err faults.Memory) after old new is first = follows_cut line (λ e. next (is_answered e.answer) e.after) old new first
   follows_went_out (Err fault) after old new is first = absurd cc

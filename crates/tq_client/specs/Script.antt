@@ -61,10 +61,10 @@ mark_asked levels server up = cond (is_server levels server) (server_marked serv
 -- ---- begin and abort
 
 -- whether a line was answered or refused, unless memory ran out
-abbrev pub went : {A : Type 0} → Result A LineFault → Option Bool
-went (Ok a) = Some true
-went (Err faults.Memory) = None
-went (Err fault) = Some false
+abbrev pub was_answered : {A : Type 0} → Result A LineFault → Option Bool
+was_answered (Ok a) = Some true
+was_answered (Err faults.Memory) = None
+was_answered (Err fault) = Some false
 
 -- a line was answered, and not refused
 abbrev pub is_answered : {A : Type 0} → Result A LineFault → Bool

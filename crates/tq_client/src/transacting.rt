@@ -15,8 +15,8 @@ use tq_txn::{
 };
 
 /// Whether a line was answered, and not refused.
-fn went<T: Drop>(answer: Result<T, LineFault>) -> Result<bool, Memory>
-    ensures { result_ok result ≡ spec.went answer }
+fn was_answered<T: Drop>(answer: Result<T, LineFault>) -> Result<bool, Memory>
+    ensures { result_ok result ≡ spec.was_answered answer }
 {
     match answer {
         Ok(_value) => Ok(true),
@@ -26,7 +26,7 @@ fn went<T: Drop>(answer: Result<T, LineFault>) -> Result<bool, Memory>
 }
 
 /// Aborts a transaction, whatever is answered.
-fn give_up<A: Asker>(asker: &mut A, alloc: Global, txn: Txn) -> Result<(), Memory>
+fn abort_ignoring_answer<A: Asker>(asker: &mut A, alloc: Global, txn: Txn) -> Result<(), Memory>
     requires { levels_of txn ≡ A.levels asker.old }
     ensures asks { Follows (spec.given_up txn)
         (A.told asker.old) (A.told asker.new) (result_ok result) }
@@ -36,7 +36,7 @@ fn give_up<A: Asker>(asker: &mut A, alloc: Global, txn: Txn) -> Result<(), Memor
         answer,
         txn: _ended,
     } = abort(asker, alloc, txn);
-    let _done = went(answer)?;
+    let _done = was_answered(answer)?;
     Ok(())
 }
 
@@ -52,7 +52,7 @@ pub(crate) fn close<A: Asker>(
     ensures tree { A.levels asker.new ≡ A.levels asker.old }
 {
     match open_txn {
-        Some(txn) => give_up(asker, alloc, Txn::Open(txn)),
+        Some(txn) => abort_ignoring_answer(asker, alloc, Txn::Open(txn)),
         None => Ok(()),
     }
 }
@@ -144,7 +144,7 @@ fn abort_in<A: Asker>(asker: &mut A, alloc: Global, open_txn: Open) -> Result<Op
     ensures none { IfOk result (λ txn. txn ≡ None) }
     ensures tree { A.levels asker.new ≡ A.levels asker.old }
 {
-    give_up(asker, alloc, Txn::Open(open_txn))?;
+    abort_ignoring_answer(asker, alloc, Txn::Open(open_txn))?;
     Ok(None)
 }
 
@@ -181,7 +181,7 @@ fn read_in<A: Asker>(
 {
     let mut reader = open_txn;
     let answer = read_file(asker, alloc, &mut reader, file);
-    let answered = went(answer)?;
+    let answered = was_answered(answer)?;
     after(asker, alloc, reader, answered)
 }
 
@@ -221,7 +221,7 @@ fn write_in<A: Asker>(
     let written = content.clone()?;
     let mut writer = open_txn;
     let answer = write_file(asker, alloc, &mut writer, file, written);
-    let answered = went(answer)?;
+    let answered = was_answered(answer)?;
     after(asker, alloc, writer, answered)
 }
 
@@ -281,7 +281,7 @@ fn commit_or_abort<A: Asker>(asker: &mut A, alloc: Global, open_txn: Open) -> Re
 {
     match open_txn.close() {
         Ok(voting) => commit_voting(asker, alloc, voting),
-        Err(back) => give_up(asker, alloc, Txn::Open(back.0)),
+        Err(back) => abort_ignoring_answer(asker, alloc, Txn::Open(back.0)),
     }
 }
 
@@ -292,9 +292,9 @@ fn commit_voting<A: Asker>(asker: &mut A, alloc: Global, voting: Voting) -> Resu
     ensures tree { A.levels asker.new ≡ A.levels asker.old }
 {
     let Decision { answer, txn } = commit(asker, alloc, voting);
-    let answered = went(answer)?;
+    let answered = was_answered(answer)?;
     if answered {
         return Ok(());
     }
-    give_up(asker, alloc, txn)
+    abort_ignoring_answer(asker, alloc, txn)
 }

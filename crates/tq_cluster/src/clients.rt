@@ -131,7 +131,7 @@ fn run_all<'s, 'e: 's, R: Threads + Wait + Sync, G: Gate + Drop + Sync>(
 /// All that a run left: its callers, the one that was made last first, and the end of the queue as it was when all had
 /// come back to it, for the proofs alone.
 #[derive(Drop)]
-struct Left {
+struct JoinedRun {
     callers: Vec<Caller>,
     queue: Snapshot<Putter<Message>>,
     memory: bool,
@@ -147,7 +147,7 @@ fn run_in_threads<R: Threads + Wait + Sync, G: Gate + Drop + Sync>(
     team: Team,
     mut putter: Putter<Message>,
     mut callers: Vec<Caller>,
-) -> Left
+) -> JoinedRun
     requires workers { team.workers ≤ 2 }
     requires room { length scripts.now + team.workers + 1 ≤ vec_capacity callers }
     requires empty { callers.items ≡ [] }
@@ -184,14 +184,14 @@ fn run_in_threads<R: Threads + Wait + Sync, G: Gate + Drop + Sync>(
     );
     let queue = Snapshot::of(&putter);
     if memory {
-        return Left {
+        return JoinedRun {
             callers,
             queue,
             memory: true,
         };
     }
     putter.settle();
-    Left {
+    JoinedRun {
         callers,
         queue,
         memory: false,
@@ -233,7 +233,7 @@ impl<G: Gate + Drop + Sync> Cluster<G> {
             };
         };
         let team = Team { workers, rounds };
-        let Left {
+        let JoinedRun {
             mut callers,
             queue: _,
             memory,

@@ -34,7 +34,7 @@ pub(crate) struct Team {
 
 /// A worker's end: its caller, its end of the queue, and whether it met want of memory.
 #[derive(Drop)]
-pub(crate) struct Worked {
+pub(crate) struct WorkerResult {
     pub(crate) caller: Caller,
     pub(crate) taker: Taker<Message>,
     pub(crate) memory: bool,
@@ -63,7 +63,7 @@ fn work<R: Wait, G: Gate + Drop>(
     cluster: &Cluster<G>,
     caller: Caller,
     mut taker: Taker<Message>,
-) -> Worked
+) -> WorkerResult
     requires tree { caller.levels ≡ cluster.now.levels }
     requires fresh { caller.told ≡ [] }
     requires idle { (view taker.pass).taken ≡ [] }
@@ -82,7 +82,7 @@ fn work<R: Wait, G: Gate + Drop>(
             memory = true;
         }
     }
-    Worked {
+    WorkerResult {
         caller: asking.into_caller(),
         taker,
         memory,
@@ -92,28 +92,28 @@ fn work<R: Wait, G: Gate + Drop>(
 /// The worker's caller was told what the jobs ask that it took, unless memory ran out, and its end is one of the same
 /// queue.
 #[derive(Drop)]
-pub(crate) struct Refreshed(Levels, Snapshot<Taker<Message>>);
+pub(crate) struct WorkerPromise(Levels, Snapshot<Taker<Message>>);
 
-impl Promise<Worked> for Refreshed {
+impl Promise<WorkerResult> for WorkerPromise {
     ghost kept_by = { λ p r. (r.memory ≡ false → Works p.0 (view r.taker.pass).taken r.caller)
         × (receives_on r.taker.receiver ≡ receives_on p.1.value.receiver) };
 }
 
 /// What a worker's thread takes along.
 #[derive(Drop)]
-struct Ready {
+struct WorkerSeat {
     caller: Caller,
     taker: Taker<Message>,
 }
 
 /// What one worker more takes along. Where it is refused, those that were started are stopped.
-fn what_one_takes<R: Wait, G: Gate + Drop>(
+fn seat_for_worker<R: Wait, G: Gate + Drop>(
     rt: &R,
     alloc: Global,
     cluster: &Cluster<G>,
     started: u32,
     putter: &mut Putter<Message>,
-) -> Option<Ready>
+) -> Option<WorkerSeat>
     requires { 1 < (view putter.old.pass).parts }
     ensures caller { IfSome result (λ r. (r.caller.levels ≡ cluster.now.levels)
         × (r.caller.told ≡ [])) }
@@ -132,7 +132,7 @@ fn what_one_takes<R: Wait, G: Gate + Drop>(
         stop(rt, putter, started);
         return None;
     };
-    Some(Ready { caller, taker })
+    Some(WorkerSeat { caller, taker })
 }
 
 /// Whether one of the two is so.
@@ -172,13 +172,13 @@ pub(crate) fn run_workers<'s, 'e: 's, R: Threads + Wait + Sync, G: Gate + Drop +
     if started == team.workers {
         return run_rounds(rt, alloc, cluster, team, putter, callers);
     }
-    let Some(taken) = what_one_takes(rt, alloc, cluster, started, putter) else {
+    let Some(taken) = seat_for_worker(rt, alloc, cluster, started, putter) else {
         return true;
     };
-    let Ready { caller, taker } = taken;
+    let WorkerSeat { caller, taker } = taken;
     let child = scope.spawn_with(
-        Refreshed(cluster.levels(), Snapshot::of(&taker)),
-        move || -> Worked
+        WorkerPromise(cluster.levels(), Snapshot::of(&taker)),
+        move || -> WorkerResult
             requires { (caller.levels ≡ cluster.now.levels) × (caller.told ≡ [])
                 × ((view taker.pass).taken ≡ []) }
             ensures { (result.memory ≡ false → Works cluster.entry.now.levels
@@ -198,7 +198,7 @@ pub(crate) fn run_workers<'s, 'e: 's, R: Threads + Wait + Sync, G: Gate + Drop +
                 putter,
                 callers,
             );
-            let Worked {
+            let WorkerResult {
                 caller,
                 taker,
                 memory: mine,

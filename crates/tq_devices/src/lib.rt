@@ -14,5 +14,5 @@ mod writing;
 pub use device::{Failed, Sink, Source};
 pub use fault::RunFault;
 pub use memory::{MemorySink, MemorySource};
-pub use standard::{Reading, Writing};
+pub use standard::{StdSink, StdSource};
 pub use writing::write_out;

@@ -8,13 +8,13 @@ use std::marker::Model;
 
 /// A source over a reader. A read that a signal interrupts is tried again, and is no failure.
 #[derive(Drop)]
-pub struct Reading<R: Read> {
+pub struct StdSource<R: Read> {
     reader: R,
     ended: bool,
     failures: u64,
 }
 
-impl<R: Read> Model for Reading<R> {
+impl<R: Read> Model for StdSource<R> {
     ghost use Rattle.tq_devices.specs.Devices.{OuterSource};
 
     ghost Value = { OuterSource };
@@ -22,14 +22,14 @@ impl<R: Read> Model for Reading<R> {
     ghost view = { λ source. record { left = R.remaining source.reader; is_ended = source.ended; failed = source.failures } };
 }
 
-impl<R: Read> Reading<R> {
+impl<R: Read> StdSource<R> {
     ghost use Rattle.std.specs.Prelude.{◌≡◌, false};
 
     /// A source none of whose calls failed yet.
-    pub fn new(reader: R) -> Reading<R>
+    pub fn new(reader: R) -> StdSource<R>
         ensures { result ≡ record { left = R.remaining reader; is_ended = false; failed = 0 } }
     {
-        Reading {
+        StdSource {
             reader,
             ended: false,
             failures: 0,
@@ -37,7 +37,7 @@ impl<R: Read> Reading<R> {
     }
 }
 
-impl<R: Read> Source for Reading<R> {
+impl<R: Read> Source for StdSource<R> {
     ghost use Rattle.std.specs.Prelude.{None, ◌≡◌, ◌+◌, ◌-◌, ◌^◌, ◌<◌, ◌≤◌, ◌↔◌, IfOk, OnErr, IsTrue, length};
     ghost use Rattle.std.specs.Io.KnownBytes.{IsAtEnd, Keeps};
     ghost use Rattle.tq_devices.specs.Devices.{ConsumesFront, Counts};
@@ -99,12 +99,12 @@ fn read_on<R: Read>(reader: &mut R, buffer: &mut [u8]) -> Option<usize>
 
 /// A sink over a writer. A write that a signal interrupts is tried again, and is no failure; one that takes nothing is.
 #[derive(Drop)]
-pub struct Writing<W: Write> {
+pub struct StdSink<W: Write> {
     writer: W,
     failures: u64,
 }
 
-impl<W: Write> Model for Writing<W> {
+impl<W: Write> Model for StdSink<W> {
     ghost use Rattle.tq_devices.specs.Devices.{OuterSink};
 
     ghost Value = { OuterSink };
@@ -112,21 +112,21 @@ impl<W: Write> Model for Writing<W> {
     ghost view = { λ sink. record { taken = W.contents sink.writer; failed = sink.failures } };
 }
 
-impl<W: Write> Writing<W> {
+impl<W: Write> StdSink<W> {
     ghost use Rattle.std.specs.Prelude.{◌≡◌};
 
     /// A sink none of whose calls failed yet.
-    pub fn new(writer: W) -> Writing<W>
+    pub fn new(writer: W) -> StdSink<W>
         ensures { result ≡ record { taken = W.contents writer; failed = 0 } }
     {
-        Writing {
+        StdSink {
             writer,
             failures: 0,
         }
     }
 }
 
-impl<W: Write> Sink for Writing<W> {
+impl<W: Write> Sink for StdSink<W> {
     ghost taken = { λ sink. sink.taken };
 
     ghost failed = { λ sink. sink.failed };

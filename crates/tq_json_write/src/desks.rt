@@ -1,11 +1,11 @@
 //! What the desk is asked and what it replies.
 use crate::codes;
-use crate::formed::{Formed, put_after, put_code};
 use crate::out::Out;
+use crate::to_json::{ToJson, put_after, put_code};
 use tq_desk::{DeskAsk, DeskRefusal, DeskReply};
 use tq_evidence::{Grant, Op, OpKind, Rule, Vote};
 
-impl Formed for OpKind {
+impl ToJson for OpKind {
     ghost use Rattle.tq_json_write.specs.Desks.{op_kind_value};
     ghost use Rattle.tq_json_write.specs.Sound.{IsAny};
 
@@ -21,7 +21,7 @@ impl Formed for OpKind {
     }
 }
 
-impl Formed for Grant {
+impl ToJson for Grant {
     ghost use Rattle.tq_json_write.specs.Desks.{grant_value};
     ghost use Rattle.tq_json_write.specs.Sound.{IsGrant};
 
@@ -39,7 +39,7 @@ impl Formed for Grant {
     }
 }
 
-impl Formed for Op {
+impl ToJson for Op {
     ghost use Rattle.tq_json_write.specs.Desks.{op_value};
     ghost use Rattle.tq_json_write.specs.Sound.{IsOp};
 
@@ -57,7 +57,7 @@ impl Formed for Op {
     }
 }
 
-impl Formed for Vote {
+impl ToJson for Vote {
     ghost use Rattle.tq_json_write.specs.Desks.{vote_value};
     ghost use Rattle.tq_json_write.specs.Sound.{IsVote};
 
@@ -74,7 +74,7 @@ impl Formed for Vote {
     }
 }
 
-impl Formed for DeskAsk {
+impl ToJson for DeskAsk {
     ghost use Rattle.tq_json_write.specs.Desks.{desk_ask_value};
     ghost use Rattle.tq_json_write.specs.Sound.{IsDeskAsk};
 
@@ -99,7 +99,7 @@ impl Formed for DeskAsk {
     }
 }
 
-impl Formed for Rule {
+impl ToJson for Rule {
     ghost use Rattle.tq_json_write.specs.Desks.{rule_value};
     ghost use Rattle.tq_json_write.specs.Sound.{IsAny};
 
@@ -112,7 +112,7 @@ impl Formed for Rule {
     }
 }
 
-impl Formed for DeskRefusal {
+impl ToJson for DeskRefusal {
     ghost use Rattle.tq_json_write.specs.Desks.{desk_refusal_value};
     ghost use Rattle.tq_json_write.specs.Sound.{IsAny};
 
@@ -139,7 +139,7 @@ impl Formed for DeskRefusal {
     }
 }
 
-impl Formed for DeskReply {
+impl ToJson for DeskReply {
     ghost use Rattle.tq_json_write.specs.Desks.{desk_reply_value};
     ghost use Rattle.tq_json_write.specs.Sound.{IsAny};
 

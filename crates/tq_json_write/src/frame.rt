@@ -9,17 +9,17 @@ ghost use Rattle.tq_json_write.specs.Spilled.{IsSpilled, IsWrittenOut, spill};
 ghost use Rattle.tq_json_write.specs.Text.{IsTextOf};
 ghost use Rattle.tq_json_write.specs.Written.{Adds};
 
-use crate::formed::{Formed, put_after, put_list};
 use crate::out::Out;
 use crate::spilling::{ROOM, Spilling};
 use crate::text::Text;
+use crate::to_json::{ToJson, put_after, put_list};
 use std::alloc::Global;
 use tq_devices::{RunFault, Sink};
 use tq_json::Format;
 use tq_shape::{Limits, Memory};
 use tq_tables::Journals;
 
-impl Formed for Limits {
+impl ToJson for Limits {
     ghost use Rattle.tq_json_write.specs.Form.{limits_value};
     ghost use Rattle.tq_json_write.specs.Sound.{HasLimits};
 

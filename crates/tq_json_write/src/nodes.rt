@@ -8,12 +8,12 @@ ghost use Rattle.tq_json_write.specs.Sound.{IsWork};
 ghost use Rattle.tq_json_write.specs.Written.{Adds};
 
 use crate::codes;
-use crate::formed::{Formed, put_after, put_code};
 use crate::out::Out;
+use crate::to_json::{ToJson, put_after, put_code};
 use tq_asks::{CitedVote, HeldLock, NodeAsk, NodeRefusal, NodeReply, Verdict, WorkAsk};
 use tq_store::Write;
 
-impl Formed for CitedVote {
+impl ToJson for CitedVote {
     ghost use Rattle.tq_json_write.specs.Nodes.{cited_value};
     ghost use Rattle.tq_json_write.specs.Sound.{IsAny};
 
@@ -28,7 +28,7 @@ impl Formed for CitedVote {
     }
 }
 
-impl Formed for Write {
+impl ToJson for Write {
     ghost use Rattle.tq_json_write.specs.Nodes.{write_value};
     ghost use Rattle.tq_json_write.specs.Sound.{IsWrite};
 
@@ -44,7 +44,7 @@ impl Formed for Write {
     }
 }
 
-impl Formed for HeldLock {
+impl ToJson for HeldLock {
     ghost use Rattle.tq_json_write.specs.Nodes.{held_value};
     ghost use Rattle.tq_json_write.specs.Sound.{IsHeldLock};
 
@@ -60,7 +60,7 @@ impl Formed for HeldLock {
     }
 }
 
-impl Formed for Verdict {
+impl ToJson for Verdict {
     ghost use Rattle.tq_json_write.specs.Nodes.{verdict_value};
     ghost use Rattle.tq_json_write.specs.Sound.{IsAny};
 
@@ -79,7 +79,7 @@ impl Formed for Verdict {
     }
 }
 
-impl Formed for WorkAsk {
+impl ToJson for WorkAsk {
     ghost use Rattle.tq_json_write.specs.Nodes.{work_value};
     ghost use Rattle.tq_json_write.specs.Sound.{IsWork};
 
@@ -130,7 +130,7 @@ impl Formed for WorkAsk {
     }
 }
 
-impl Formed for NodeAsk {
+impl ToJson for NodeAsk {
     ghost use Rattle.tq_json_write.specs.Nodes.{node_ask_value};
     ghost use Rattle.tq_json_write.specs.Sound.{IsNodeAsk};
 
@@ -160,7 +160,7 @@ fn put_stop<O: Out>(out: &mut O, ask: &WorkAsk, after: u32) -> Result<(), O::Fau
     out.push(",\"is\":\"crashin\"}")
 }
 
-impl Formed for NodeRefusal {
+impl ToJson for NodeRefusal {
     ghost use Rattle.tq_json_write.specs.Nodes.{node_refusal_value};
     ghost use Rattle.tq_json_write.specs.Sound.{IsNodeRefusal};
 
@@ -191,7 +191,7 @@ impl Formed for NodeRefusal {
     }
 }
 
-impl Formed for NodeReply {
+impl ToJson for NodeReply {
     ghost use Rattle.tq_json_write.specs.Nodes.{node_reply_value};
     ghost use Rattle.tq_json_write.specs.Sound.{IsNodeReply};
 

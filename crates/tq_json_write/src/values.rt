@@ -1,13 +1,13 @@
 //! Numbers, flags, texts, lists and entries.
-use crate::formed::{Formed, put_after, put_list};
 use crate::out::{Out, put_content, put_name};
+use crate::to_json::{ToJson, put_after, put_list};
 use tq_evidence::Shareable;
 use tq_live::Purpose;
 use tq_locks::Mode;
 use tq_shape::{Entry, Seq, ServerId, SharedSeq};
 use tq_store::{Content, FileName};
 
-impl Formed for u64 {
+impl ToJson for u64 {
     ghost use Rattle.tq_json_write.specs.Values.{whole};
     ghost use Rattle.tq_json_write.specs.Sound.{IsAny};
 
@@ -20,7 +20,7 @@ impl Formed for u64 {
     }
 }
 
-impl Formed for u32 {
+impl ToJson for u32 {
     ghost use Rattle.tq_json_write.specs.Values.{whole};
     ghost use Rattle.tq_json_write.specs.Sound.{IsAny};
 
@@ -33,7 +33,7 @@ impl Formed for u32 {
     }
 }
 
-impl Formed for bool {
+impl ToJson for bool {
     ghost use Rattle.serde_json.specs.Data.{boolean};
     ghost use Rattle.tq_json_write.specs.Sound.{IsAny};
 
@@ -49,7 +49,7 @@ impl Formed for bool {
     }
 }
 
-impl Formed for ServerId {
+impl ToJson for ServerId {
     ghost use Rattle.tq_json_write.specs.Values.{whole};
     ghost use Rattle.tq_json_write.specs.Sound.{IsAny};
 
@@ -62,7 +62,7 @@ impl Formed for ServerId {
     }
 }
 
-impl Formed for FileName {
+impl ToJson for FileName {
     ghost use Rattle.serde_json.specs.Data.{string};
     ghost use Rattle.tq_json_write.specs.Sound.{IsFile};
 
@@ -75,7 +75,7 @@ impl Formed for FileName {
     }
 }
 
-impl Formed for Mode {
+impl ToJson for Mode {
     ghost use Rattle.tq_json_write.specs.Nodes.{mode_value};
     ghost use Rattle.tq_json_write.specs.Sound.{IsAny};
 
@@ -91,7 +91,7 @@ impl Formed for Mode {
     }
 }
 
-impl Formed for Purpose {
+impl ToJson for Purpose {
     ghost use Rattle.tq_json_write.specs.Views.{purpose_value};
     ghost use Rattle.tq_json_write.specs.Sound.{IsAny};
 
@@ -107,7 +107,7 @@ impl Formed for Purpose {
     }
 }
 
-impl Formed for Content {
+impl ToJson for Content {
     ghost use Rattle.tq_json_write.specs.Values.{content_value};
     ghost use Rattle.tq_json_write.specs.Sound.{IsContent};
 
@@ -120,7 +120,7 @@ impl Formed for Content {
     }
 }
 
-impl<T: Formed> Formed for Seq<T> {
+impl<T: ToJson> ToJson for Seq<T> {
     ghost use Rattle.tq_json_write.specs.Values.{list_value};
     ghost use Rattle.std.specs.List.{AllByRecursion};
 
@@ -133,7 +133,7 @@ impl<T: Formed> Formed for Seq<T> {
     }
 }
 
-impl<T: Formed> Formed for SharedSeq<T> {
+impl<T: ToJson> ToJson for SharedSeq<T> {
     ghost use Rattle.tq_json_write.specs.Values.{list_value};
     ghost use Rattle.std.specs.List.{AllByRecursion};
 
@@ -146,7 +146,7 @@ impl<T: Formed> Formed for SharedSeq<T> {
     }
 }
 
-impl<T: Formed> Formed for Shareable<T> {
+impl<T: ToJson> ToJson for Shareable<T> {
     ghost use Rattle.tq_json_write.specs.Values.{list_value};
     ghost use Rattle.std.specs.List.{AllByRecursion};
 
@@ -159,7 +159,7 @@ impl<T: Formed> Formed for Shareable<T> {
     }
 }
 
-impl<T: Formed> Formed for Vec<T> {
+impl<T: ToJson> ToJson for Vec<T> {
     ghost use Rattle.tq_json_write.specs.Values.{list_value};
     ghost use Rattle.std.specs.List.{AllByRecursion};
 
@@ -172,7 +172,7 @@ impl<T: Formed> Formed for Vec<T> {
     }
 }
 
-impl<A: Formed, R: Formed> Formed for Entry<A, R> {
+impl<A: ToJson, R: ToJson> ToJson for Entry<A, R> {
     ghost use Rattle.tq_json_write.specs.Values.{entry_value};
     ghost use Rattle.tq_json_write.specs.Sound.{IsEntry};
 

@@ -7,8 +7,8 @@ ghost use Rattle.tq_json_write.specs.Fitting.{IsFitting};
 ghost use Rattle.tq_json_write.specs.Written.{Adds};
 
 use crate::codes;
-use crate::formed::{Formed, put_after, put_code, put_list};
 use crate::out::Out;
+use crate::to_json::{ToJson, put_after, put_code, put_list};
 use tq_coterie::{Blocker, Quorum};
 use tq_live::{ViewAsk, ViewRefusal, ViewReply};
 use tq_shape::ServerId;
@@ -23,7 +23,7 @@ fn put_servers<O: Out>(out: &mut O, servers: &[ServerId]) -> Result<(), O::Fault
     Ok(())
 }
 
-impl Formed for Quorum {
+impl ToJson for Quorum {
     ghost use Rattle.tq_json_write.specs.Views.{servers_value};
     ghost use Rattle.tq_json_write.specs.Sound.{IsMember};
 
@@ -37,7 +37,7 @@ impl Formed for Quorum {
     }
 }
 
-impl Formed for Blocker {
+impl ToJson for Blocker {
     ghost use Rattle.tq_json_write.specs.Views.{servers_value};
     ghost use Rattle.tq_json_write.specs.Sound.{IsMember};
 
@@ -51,7 +51,7 @@ impl Formed for Blocker {
     }
 }
 
-impl Formed for ViewAsk {
+impl ToJson for ViewAsk {
     ghost use Rattle.tq_json_write.specs.Views.{view_ask_value};
     ghost use Rattle.tq_json_write.specs.Sound.{IsAny};
 
@@ -84,7 +84,7 @@ impl Formed for ViewAsk {
     }
 }
 
-impl Formed for ViewRefusal {
+impl ToJson for ViewRefusal {
     ghost use Rattle.tq_json_write.specs.Views.{view_refusal_value};
     ghost use Rattle.tq_json_write.specs.Sound.{IsViewRefusal};
 
@@ -105,7 +105,7 @@ impl Formed for ViewRefusal {
     }
 }
 
-impl Formed for ViewReply {
+impl ToJson for ViewReply {
     ghost use Rattle.tq_json_write.specs.Views.{view_reply_value};
     ghost use Rattle.tq_json_write.specs.Sound.{IsViewReply};
 

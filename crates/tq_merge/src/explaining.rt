@@ -52,7 +52,7 @@ pub fn explain_legal(alloc: Global, journals: &Journals) -> Result<Order, Fault>
         run journals.now.levels journals.now.limits (asks_of journals.now order) ≡ journals.now) }
     ensures committed_reads { IfOk result (λ order. HasCommittedReads journals.now) }
 {
-    see_lists(journals);
+    show_bounds(journals);
     let mut placing = Placing::new(alloc, journals)?;
     placing.place_all(alloc)?;
     if placing.is_whole() {
@@ -63,7 +63,7 @@ pub fn explain_legal(alloc: Global, journals: &Journals) -> Result<Order, Fault>
 }
 
 /// There is one list of entries for each server, and each list is within the limit.
-fn see_lists(journals: &Journals)
+fn show_bounds(journals: &Journals)
     ensures { AreJournals journals.now }
 {
     let _servers = journals.servers();

@@ -249,7 +249,7 @@ impl<'a> Placing<'a> {
         ensures blocked { result ≡ Ok false → kept.IsDone self.new.journals self.new.order }
     {
         let mut moved = false;
-        self.view_is_placed();
+        self.show_view_placed();
         for place in 0..self.server_count() {
             if self.run_server(place)? {
                 moved = true;
@@ -268,7 +268,7 @@ impl<'a> Placing<'a> {
     }
 
     /// The view has no further entry, and what is placed was placed in its turn.
-    fn view_is_placed(&self)
+    fn show_view_placed(&self)
         ensures view { spec.IsNext self.now.journals self.now.order parts.View → ⊥ }
         ensures founded { spec.ArePlaced self.now.journals [] self.now.order }
     {

@@ -4,7 +4,7 @@
 //!
 //! Files: `threading.rt` over `reading.rt`, `running.rt`, `outcome.rt` client scripts in threads; `auditing.rt` over
 //! `reading.rt`, `judging.rt`, `verdict.rt` the audit; `upgrading.rt` the upgrade; `line.rt` a line that is written.
-//! Definitions: `specs/Running`, `Outcome`, `Threads`; `Verdicts`, `Texts`, `Report`, `Audit`, `Upgrade`, `Reading`.
+//! Definitions: `specs/Running`, `Outcome`, `Threads`; `Verdicts`, `Texts`, `Report`, `Audit`, `Upgrade`, `StdSource`.
 #![tactic(auto)]
 
 mod auditing;
@@ -22,7 +22,7 @@ pub use outcome::Outcome;
 pub use running::run_text;
 pub use threading::threads;
 pub use tq_cli::{Words, WordsFault};
-pub use tq_devices::{Failed, MemorySink, MemorySource, Reading, RunFault, Sink, Source, Writing};
+pub use tq_devices::{Failed, MemorySink, MemorySource, StdSource, RunFault, Sink, Source, StdSink};
 pub use tq_interpreter::{Ending, Kept};
 pub use tq_session::{INPUT_LIMIT, Shell, run};
 pub use tq_syntax::{LINE_LIMIT, Line, TxnLine, numbers_are_read_again};

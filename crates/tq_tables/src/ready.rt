@@ -1,7 +1,7 @@
 ghost use Rattle.std.specs.Prelude.{◌≡◌, IfOk};
 
 use crate::PartEntry;
-use crate::followed::Followed;
+use crate::live_tables::LiveTables;
 use crate::ready_entry::ReadyEntry;
 use std::alloc::Global;
 use tq_shape::{Memory, Part};
@@ -9,7 +9,7 @@ use tq_shape::{Memory, Part};
 /// An entry that is reserved, and the tables as they will follow it.
 pub(crate) struct Ready {
     pub(crate) entry: ReadyEntry,
-    pub(crate) after: Followed,
+    pub(crate) after: LiveTables,
 }
 
 // Written out, as that of the tables.
@@ -26,7 +26,7 @@ impl Ready {
     /// That entry of the part, of that number, with a copy of the tables that follows it.
     pub(crate) fn of(
         alloc: Global,
-        followed: &Followed,
+        followed: &LiveTables,
         part: Part,
         number: u64,
         entry: &PartEntry<'_>,
@@ -51,7 +51,7 @@ impl Ready {
     }
 
     /// The tables as they follow the entry.
-    pub(crate) fn into_after(self) -> Followed
+    pub(crate) fn into_after(self) -> LiveTables
         ensures { result ≡ self.after }
     {
         let Self { entry: _, after } = self;

@@ -4,7 +4,7 @@ ghost use Rattle.tq_tables.specs.Asked.{FollowsDesk, FollowsNode, FollowsView, M
 ghost use Rattle.tq_tables.specs.Asked.{desk_replies, node_replies, view_replies};
 ghost use Rattle.tq_tables.specs.Reserved.{ready_entry, reserved_entry, unboxed};
 
-use crate::followed::Followed;
+use crate::live_tables::LiveTables;
 use crate::ready::Ready;
 use crate::replies::Replies;
 use crate::{
@@ -24,7 +24,7 @@ use tq_shape::{Levels, Memory, Part, ServerId};
 /// A note of an entry may be reserved: the tables as they will follow it are kept beside them then, and a note takes
 /// these.
 pub struct Tables {
-    followed: Followed,
+    followed: LiveTables,
     ready: Option<Box<Ready>>,
 }
 
@@ -72,7 +72,7 @@ impl Tables {
         requires { AreLegal journals.now }
         ensures { IfOk result (λ tables. tables ≡ tables_of journals.now) }
     {
-        let followed = Followed::of(alloc, journals)?;
+        let followed = LiveTables::of(alloc, journals)?;
         Ok(Tables {
             followed,
             ready: None,
@@ -85,7 +85,7 @@ impl Tables {
         requires { StandsAfter parts.desk entries.now }
         ensures { IfOk result (λ tables. tables ≡ tables_over parts entries.now) }
     {
-        let followed = Followed::over(alloc, parts, entries)?;
+        let followed = LiveTables::over(alloc, parts, entries)?;
         Ok(Tables {
             followed,
             ready: None,

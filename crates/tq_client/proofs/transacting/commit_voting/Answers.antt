@@ -20,5 +20,5 @@ returns-then-answered-clause-asks g c =
 
 pub returns-clause-asks : goal.returns-clause-asks
 returns-clause-asks g c =
-    follows_went (commit_line c.args.voting) committed c.commit-answer.result.answer c.commit-answer.result.txn c.in_ok-answered.answered (g.A.Asker.told c.args.asker.now) (g.A.Asker.told c.commit-answer.new.asker) (g.A.Asker.told c.give_up.new.asker) (result_ok c.give_up.result)
-    c.in_ok-answered.ensures c.commit-answer.ensures.asks (rw c.if-answered.false c.give_up.ensures.asks)
+    follows_went (commit_line c.args.voting) committed c.commit-answer.result.answer c.commit-answer.result.txn c.in_ok-answered.answered (g.A.Asker.told c.args.asker.now) (g.A.Asker.told c.commit-answer.new.asker) (g.A.Asker.told c.abort_ignoring_answer.new.asker) (result_ok c.abort_ignoring_answer.result)
+    c.in_ok-answered.ensures c.commit-answer.ensures.asks (rw c.if-answered.false c.abort_ignoring_answer.ensures.asks)

@@ -5,7 +5,7 @@ use denote.Param.Send.{IsSync, param_send, arg_send, shr_send}
 use denote.Exit.{no}
 use Rattle.std.proofs.Crossing.{send}
 use Rattle.crossbeam_channel.specs.Claims.{view}
-use Rattle.tq_cluster.specs.declared.workers.Refreshed.{Refreshed}
+use Rattle.tq_cluster.specs.declared.workers.WorkerPromise.{WorkerPromise}
 use Rattle.tq_cluster.specs.Backwards.{Works}
 use Rattle.tq_cluster.proofs.Callers.{joined, one_worker_more}
 use Rattle.tq_cluster.proofs.Crossing.{caller_send, taker_send, cluster_sync, five_send}
@@ -30,16 +30,16 @@ returns-in-Ok-clause-ran g t c = λ none.
     let mine = (view c.join-caller.result.taker.pass).taken in
     let works =
     subst (λ (n : ℕ). Works n mine caller) c.levels.ensures
-    (subst (λ (p : Refreshed). Works p.0 mine caller) c.in-Ok.ensures.ok (c.join-caller.ensures.0 both.1)) in (
+    (subst (λ (p : WorkerPromise). Works p.0 mine caller) c.in-Ok.ensures.ok (c.join-caller.ensures.0 both.1)) in (
       before.0 ++ caller ∷ [],
       before.1 ++ mine,
       joined c.args.callers.now.items c.args.callers.now.items c.run_workers-memory.new.callers.items before.0 (caller ∷ []) c.push_reserved.new.self.items refl before.2 c.push_reserved.ensures.items,
-      joined (view c.args.putter.now.pass).taken (view c.what_one_takes.new.putter.pass).taken (view c.run_workers-memory.new.putter.pass).taken before.1 mine (view c.rejoin.new.self.pass).taken c.in-Some.ensures.taken before.3 c.rejoin.ensures.taken,
+      joined (view c.args.putter.now.pass).taken (view c.seat_for_worker.new.putter.pass).taken (view c.run_workers-memory.new.putter.pass).taken before.1 mine (view c.rejoin.new.self.pass).taken c.in-Some.ensures.taken before.3 c.rejoin.ensures.taken,
       one_worker_more c.args.cluster.now.levels (workers - (started + 1)) (workers - started) before.1 mine before.0 caller more before.4 works,
     )
 
 pub returns-in-Ok-clause-channel : goal.returns-in-Ok-clause-channel
-returns-in-Ok-clause-channel g t c = c.rejoin.ensures.channel ∙ c.run_workers-memory.ensures.channel ∙ c.what_one_takes.ensures.channel
+returns-in-Ok-clause-channel g t c = c.rejoin.ensures.channel ∙ c.run_workers-memory.ensures.channel ∙ c.seat_for_worker.ensures.channel
 
 pub returns-in-Ok-clause-room : goal.returns-in-Ok-clause-room
 returns-in-Ok-clause-room g t c = c.push_reserved.ensures.capacity ∙ c.run_workers-memory.ensures.room
