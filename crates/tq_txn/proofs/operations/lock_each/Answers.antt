@@ -43,7 +43,7 @@ loop-server-preserved g c =
       of_tree = subst R (sym c.lock_next.ensures.tree) parts.1;
       ask = c.in-Ok.ensures.ask;
       room = c.in-Ok.ensures.room (numbers_of rest) (subst P is held.room);
-      grown = grown_trans c.loop-server.initial.granting c.loop-server.granting c.lock_next.new.granting held.grown c.lock_next.ensures.grown;
+      grown = grown_trans c.args.granting.now c.loop-server.granting c.lock_next.new.granting held.grown c.lock_next.ensures.grown;
       heard = λ before. c.lock_next.ensures.heard (held.heard before);
       servers = servers_left c.loop-server.granting.grants c.lock_next.new.granting.grants c.server-item.result all rest c.in-Ok.ensures.servers is ∙ held.servers;
       modes = λ before. c.lock_next.ensures.modes (held.modes before);
@@ -60,7 +60,7 @@ returns-clause-asks g c =
     c.loop-server.invariant.asks told end (subst P (sym (drop_all c.loop-server.server-index c.args.servers.now c.loop-server-test.false)) (follows_end _ told))
 
 pub returns-in-Err-clause-grown : goal.returns-in-Err-clause-grown
-returns-in-Err-clause-grown g c = grown_trans c.loop-server.initial.granting c.loop-server.granting c.lock_next.new.granting c.loop-server.invariant.grown c.lock_next.ensures.grown
+returns-in-Err-clause-grown g c = grown_trans c.args.granting.now c.loop-server.granting c.lock_next.new.granting c.loop-server.invariant.grown c.lock_next.ensures.grown
 
 pub returns-in-Err-clause-asks : goal.returns-in-Err-clause-asks
 returns-in-Err-clause-asks g c =

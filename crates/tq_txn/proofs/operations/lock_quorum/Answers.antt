@@ -1,15 +1,16 @@
 use Rattle.std.proofs.lemmas.List.Elements.{All-nil}
 use Rattle.std.specs.List.{Contains}
-use Rattle.std.proofs.Common.{◌≡◌, ◌==◌, ◌∙◌, ◌++◌, ℕ, List, [], true, refl, sym, ap, subst, Option, Some, Ok, Err}
+use Rattle.std.proofs.Common.{◌≡◌, ◌==◌, ◌∙◌, ◌++◌, ℕ, List, [], true, refl, sym, ap, subst, Option, Some, Result, Ok, Err}
 use Rattle.std.specs.List.{list_all}
 use Rattle.tq_txn_states.specs.declared.told.NodeTold.{NodeTold}
+use Rattle.tq_txn.specs.declared.fault.LineFault.{LineFault}
 use Rattle.tq_txn.specs.declared.fault.LineFault.TheVariants.{Memory}
 use Rattle.tq_coterie.specs.Coterie.{numbers_of}
 use Rattle.tq_locks.specs.declared.mode.Mode.{Mode}
 use Rattle.tq_txn.specs.declared.asker.Exchange.{Exchange}
 use Rattle.tq_txn.specs.Dialogue.{Follows, IsUnfailed, LineEnd, ended_by}
 use Rattle.tq_txn.specs.Told.{AreTold, answers_in}
-use Rattle.tq_txn.specs.Lines.{AreOf, LocksView, granting_answer, lock_ask, locks_line, locks_of, quorum_line}
+use Rattle.tq_txn.specs.Lines.{AreOf, LocksView, granting_answer, lock_ask, locked, locks_line, locks_of, quorum_line}
 use Rattle.tq_evidence.specs.declared.grant.Grant.{Grant}
 use Rattle.tq_evidence.specs.Evidence.{granters}
 use Rattle.tq_txn_states.specs.Cited.{answers_of}
@@ -33,6 +34,11 @@ kept : (old handed : OpenView) (start new : GrantingView) → noted handed start
 kept old handed start new before grown =
     let P : OpenView → Type 0 = λ txn. IsTouched txn (noted handed new) in
     subst P before (touched_by_grown handed start new grown)
+
+-- where nothing was told, the transaction is as it was
+unasked : (file : List ℕ) (mode : Mode) (old : OpenView) (result : Result GrantingView LineFault) (told : List Exchange) → IsUnfailed (granting_answer old.txn file result) (locked old result) (quorum_line file mode old) told told
+unasked file mode old (Ok granting) told = tt
+unasked file mode old (Err fault) told = quorum_same file mode old (Err fault) told
 
 pub returns-in-Err-clause-asks : goal.returns-in-Err-clause-asks
 returns-in-Err-clause-asks g c =
@@ -77,13 +83,13 @@ returns-in-Ok-lock_each-clause-asks g c =
     let empty : none ≡ [] = ap (answers_of handed.txn file) c.in-Ok-room_for.ensures.grants in
     let same : handed.txn ≡ old.txn = ap (λ (v : OpenView). v.txn) c.in-Ok-room_for.ensures.value in
     let new : LocksView = locks_of file handed c.lock_each.new.granting in
-    let locked = started file c.args.mode (numbers_of c.servers-servers.result.now) none (noted handed start) old c.in-Ok-room_for.ensures.value mid after (Some (record { answer = Ok tt; after = new })) c.in-Ok-lock_each.ensures.asks in
-    let all = quorum_locked file c.args.mode c.levels.result old c.levels.ensures c.purpose_of.result c.purpose_of.ensures c.in-Ok.quorum.servers c.servers-servers.result.now none c.servers-servers.ensures.numbers empty told mid c.in-Ok.ensures.asks new after locked in
+    let all_locked = started file c.args.mode (numbers_of c.servers-servers.result.now) none (noted handed start) old c.in-Ok-room_for.ensures.value mid after (Some (record { answer = Ok tt; after = new })) c.in-Ok-lock_each.ensures.asks in
+    let all = quorum_locked file c.args.mode c.levels.result old c.levels.ensures c.purpose_of.result c.purpose_of.ensures c.in-Ok.quorum.servers c.servers-servers.result.now none c.servers-servers.ensures.numbers empty told mid c.in-Ok.ensures.asks new after all_locked in
     let P : ℕ → Type 0 = λ txn. Follows (quorum_line file c.args.mode old) told after (Some (record { answer = Ok (answers_of txn file c.lock_each.new.granting.grants); after = new.txn })) in
     subst P same all
 
-pub returns-in-Err-lock_each-clause-asks : goal.returns-in-Err-lock_each-clause-asks
-returns-in-Err-lock_each-clause-asks g c =
+pub returns-clause-asks : goal.returns-clause-asks
+returns-clause-asks g c =
     let file = c.args.file.now in
     let told = g.A.Asker.told c.args.asker.now in
     let mid = g.A.Asker.told c.choose.new.asker in
@@ -94,8 +100,8 @@ returns-in-Err-lock_each-clause-asks g c =
     let none = answers_of handed.txn file start.grants in
     let empty : none ≡ [] = ap (answers_of handed.txn file) c.in-Ok-room_for.ensures.grants in
     let new : LocksView = locks_of file handed c.lock_each.new.granting in
-    let locked = started file c.args.mode (numbers_of c.servers-servers.result.now) none (noted handed start) old c.in-Ok-room_for.ensures.value mid after (ended_by (Err c.in-Err-lock_each.fault) new) c.in-Err-lock_each.ensures.asks in
-    let all = quorum_stopped file c.args.mode c.levels.result old c.levels.ensures c.purpose_of.result c.purpose_of.ensures c.in-Ok.quorum.servers c.servers-servers.result.now none c.servers-servers.ensures.numbers empty told mid c.in-Ok.ensures.asks c.in-Err-lock_each.fault new after locked in
+    let all_locked = started file c.args.mode (numbers_of c.servers-servers.result.now) none (noted handed start) old c.in-Ok-room_for.ensures.value mid after (ended_by (Err c.in-Err-lock_each.fault) new) c.in-Err-lock_each.ensures.asks in
+    let all = quorum_stopped file c.args.mode c.levels.result old c.levels.ensures c.purpose_of.result c.purpose_of.ensures c.in-Ok.quorum.servers c.servers-servers.result.now none c.servers-servers.ensures.numbers empty told mid c.in-Ok.ensures.asks c.in-Err-lock_each.fault new after all_locked in
     let P : OpenView → Type 0 = λ txn. Follows (quorum_line file c.args.mode old) told after (ended_by (Err c.in-Err-lock_each.fault) txn) in
     subst P (sym c.take_back.ensures) all
 
@@ -141,15 +147,14 @@ pub returns-in-Ok-lock_each-clause-kept : goal.returns-in-Ok-lock_each-clause-ke
 returns-in-Ok-lock_each-clause-kept g c =
     kept c.args.open.now c.room_for.new.self c.in-Ok-room_for.granting c.lock_each.new.granting c.in-Ok-room_for.ensures.value c.lock_each.ensures.grown
 
-pub returns-in-Err-lock_each-clause-kept : goal.returns-in-Err-lock_each-clause-kept
-returns-in-Err-lock_each-clause-kept g c =
+pub returns-clause-kept : goal.returns-clause-kept
+returns-clause-kept g c =
     let old = c.args.open.now in
     let touched = kept old c.room_for.new.self c.in-Ok-room_for.granting c.lock_each.new.granting c.in-Ok-room_for.ensures.value c.lock_each.ensures.grown in
     subst (IsTouched old) (sym c.take_back.ensures) touched
 
 pub returns-in_err-ask-clause-memory : goal.returns-in_err-ask-clause-memory
-returns-in_err-ask-clause-memory g c =
-    quorum_same c.args.file.now c.args.mode c.args.open.now (granting_answer c.args.open.now.txn c.args.file.now c.from_residual.result) (g.A.Asker.told c.args.asker.now)
+returns-in_err-ask-clause-memory g c = unasked c.args.file.now c.args.mode c.args.open.now c.from_residual.result (g.A.Asker.told c.args.asker.now)
 
 pub returns-in-Err-clause-memory : goal.returns-in-Err-clause-memory
 returns-in-Err-clause-memory g c =
@@ -160,8 +165,8 @@ returns-in-Err-room_for-clause-memory g c =
     quorum_unlocked c.args.file.now c.args.mode c.args.open.now c.levels.result c.levels.ensures c.purpose_of.result c.purpose_of.ensures c.in-Ok.quorum.servers c.servers-servers.result.now c.servers-servers.ensures.numbers
     (g.A.Asker.told c.args.asker.now) (g.A.Asker.told c.choose.new.asker) c.in-Ok.ensures.asks c.in-Ok.quorum.levels c.servers-servers.ensures.member c.room_for.new.self c.in-Err-room_for.ensures.err
 
-pub returns-in-Err-lock_each-clause-memory : goal.returns-in-Err-lock_each-clause-memory
-returns-in-Err-lock_each-clause-memory g c =
+pub returns-clause-memory : goal.returns-clause-memory
+returns-clause-memory g c =
     let file = c.args.file.now in
     let told = g.A.Asker.told c.args.asker.now in
     let mid = g.A.Asker.told c.choose.new.asker in
