@@ -170,7 +170,7 @@ impl Service {
     }
 
     /// The journals are those of a run: this does nothing, and says what follows.
-    fn ran(&self)
+    fn show_run(&self)
         ensures committed_reads { HasCommittedReads self.now }
         ensures headline { Headline self.now (tables_of self.now) }
     {
@@ -215,7 +215,7 @@ impl Service {
         let unfounded = unfounded_in_node_ask(self, &ask);
         let entries = self.servers[place].len();
         if let Some(fault) = self.refusal(Part::Server(number), entries, unfounded) {
-            self.ran();
+            self.show_run();
             return Err(fault);
         }
         let asked = enter_node(
@@ -225,7 +225,7 @@ impl Service {
             number,
             ask,
         );
-        self.ran();
+        self.show_run();
         told_of(asked)
     }
 
@@ -240,11 +240,11 @@ impl Service {
     {
         let unfounded = unfounded_in_desk_ask(self, &ask);
         if let Some(fault) = self.refusal(Part::Desk, self.desk_journal().len(), unfounded) {
-            self.ran();
+            self.show_run();
             return Err(fault);
         }
         let asked = enter_desk(&mut self.tables, &mut self.desk, alloc, ask);
-        self.ran();
+        self.show_run();
         told_of(asked)
     }
 
@@ -260,11 +260,11 @@ impl Service {
         ensures headline { Headline self.new (tables_of self.new) }
     {
         if let Some(fault) = self.refusal(Part::View, self.view.len(), None) {
-            self.ran();
+            self.show_run();
             return Err(fault);
         }
         let asked = enter_view(&mut self.tables, &mut self.view, alloc, ask);
-        self.ran();
+        self.show_run();
         told_of(asked)
     }
 
@@ -282,7 +282,7 @@ impl Service {
         match step {
             Step::Node { server, ask } => {
                 let Some(id) = self.tables.levels().server(server) else {
-                    self.ran();
+                    self.show_run();
                     return Err(Refusal::NoSuchServer);
                 };
                 match self.ask_node(alloc, id, ask) {

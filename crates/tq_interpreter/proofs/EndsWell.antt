@@ -47,7 +47,7 @@ use Rattle.tq_txn_states.specs.Voting.{VotingView, writes_in, write_in, writes_a
 use Rattle.tq_txn_states.proofs.NumberSets.{rises_from, rises-from}
 use Rattle.tq_txn_states.proofs.Tested.{a_member}
 use Rattle.tq_txn.specs.declared.fault.LineFault.TheVariants as faults
-use Rattle.tq_txn.specs.declared.reading.Reading.TheVariants.{Copy}
+use Rattle.tq_txn.specs.declared.read_answer.ReadAnswer.TheVariants.{Copy}
 use Rattle.tq_txn.specs.declared.txn.Txn.{Txn}
 use Rattle.tq_txn.specs.declared.txn.Txn.TheVariants as states
 use Rattle.tq_txn.specs.Dialogue.{done, failed, and_then, node_line, fault_of_desk}

@@ -14,7 +14,7 @@ use Rattle.tq_txn_states.specs.declared.fault.TxnFault.TheVariants as txn
 use Rattle.tq_txn.specs.declared.applying.Applied.{Applied}
 use Rattle.tq_txn.specs.declared.fault.LineFault.{LineFault}
 use Rattle.tq_txn.specs.declared.fault.LineFault.TheVariants as faults
-use Rattle.tq_txn.specs.declared.reading.Reading.{Reading}
+use Rattle.tq_txn.specs.declared.read_answer.ReadAnswer.{ReadAnswer}
 use Rattle.tq_text.specs.Print.{printed, reading_text, writing_text, applied_text, verdict_text}
 use Rattle.tq_text.specs.Refusals.{fault_text}
 
@@ -58,7 +58,7 @@ IsPossible (faults.WrongReply part) = ⊥
 
 -- an answer, or the fault that ended the line, with the servers of which it speaks
 pub data Saying : Type 0 where
-  Reads : List ℕ → Option Op → Reading → Saying
+  Reads : List ℕ → Option Op → ReadAnswer → Saying
   Writes : List ℕ → Option Op → ℕ → Saying
   Votes : ℕ → Saying
   Commits : ℕ → Saying

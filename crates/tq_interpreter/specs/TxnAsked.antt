@@ -8,7 +8,7 @@ use Rattle.tq_desk.specs.declared.ask.DeskReply.TheVariants as desk_replies
 use Rattle.tq_live.specs.View.{is_server}
 use Rattle.tq_asks.specs.declared.ask.WorkAsk.TheVariants.{Decide}
 use Rattle.tq_txn.specs.declared.fault.LineFault.{LineFault}
-use Rattle.tq_txn.specs.declared.reading.Reading.{Reading}
+use Rattle.tq_txn.specs.declared.read_answer.ReadAnswer.{ReadAnswer}
 use Rattle.tq_txn.specs.declared.applying.Applied.{Applied}
 use Rattle.tq_txn_states.specs.declared.told.DeskTold.{DeskTold}
 use Rattle.tq_txn.specs.declared.txn.Txn.{Txn}
@@ -96,7 +96,7 @@ missing_in txn = []
 
 -- ---- the lines of a transaction
 
-abbrev pub read_text : List ℕ → OpenView → Reading → List ℕ
+abbrev pub read_text : List ℕ → OpenView → ReadAnswer → List ℕ
 read_text file new reading = reading_text file (seen new file) reading
 
 abbrev pub written_text : List ℕ → OpenView → ℕ → List ℕ

@@ -14,7 +14,7 @@ use std::alloc::Global;
 use tq_shape::Memory;
 use tq_store::{Content, FileName};
 use tq_text::{say_fault, say_number, say_reading, say_writing};
-use tq_txn::{LineFault, Open, Reading, Txn, read_file, write_file};
+use tq_txn::{LineFault, Open, ReadAnswer, Txn, read_file, write_file};
 
 /// What a line does with a file.
 #[derive(Drop)]
@@ -88,7 +88,7 @@ fn say_read(
     text: &mut Vec<u8>,
     file: &FileName,
     reader: &Open,
-    answer: Result<Reading, LineFault>,
+    answer: Result<ReadAnswer, LineFault>,
 ) -> Result<(), Memory>
     ensures text { OnOk result (Prints text.old text.new
         (spec.result_text [] (spec.read_text file.now reader.now) answer)) }

@@ -14,7 +14,7 @@ use tq_live::{Purpose, ViewAsk};
 use tq_shape::{Levels, Limits, Part};
 use tq_store::{Content, FileName};
 use tq_txn::{
-    AskFault, Asker, Decision, DeskTold, LineFault, Open, Reading, Voting, commit, read_file,
+    AskFault, Asker, Decision, DeskTold, LineFault, Open, ReadAnswer, Voting, commit, read_file,
     write_file,
 };
 
@@ -63,17 +63,18 @@ fn begin<R: Abort, A: Asker>(rt: &R, alloc: Global, asker: &mut A, number: u64) 
 }
 
 /// Whether what was read is the transaction's own write, which has not ended yet.
-fn is_pending(read: &Result<Reading, LineFault>) -> bool {
+fn is_pending(read: &Result<ReadAnswer, LineFault>) -> bool {
     match read {
-        Ok(Reading::Pending(content)) => content.as_bytes() == b"x".as_slice(),
+        Ok(ReadAnswer::Pending(content)) => content.as_bytes() == b"x".as_slice(),
         _ => false,
     }
 }
 
 /// Whether what was read is the write of the transaction before.
-fn is_copy(read: &Result<Reading, LineFault>) -> bool {
+fn is_copy(read: &Result<ReadAnswer, LineFault>) -> bool {
     match read {
-        Ok(Reading::Copy(copy)) => copy.version == 1 && copy.content.as_bytes() == b"x".as_slice(),
+        Ok(ReadAnswer::Copy(copy)) => copy.version == 1
+            && copy.content.as_bytes() == b"x".as_slice(),
         _ => false,
     }
 }

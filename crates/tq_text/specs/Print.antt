@@ -13,8 +13,8 @@ use Rattle.tq_live.specs.declared.view.ViewRefusal.TheVariants as refusals
 use Rattle.tq_store.specs.declared.copies.FileCopy.{FileCopy}
 use Rattle.tq_txn.specs.declared.applying.Applied.{Applied}
 use Rattle.tq_txn.specs.declared.applying.Applied.TheVariants.{Installed, Discarded}
-use Rattle.tq_txn.specs.declared.reading.Reading.{Reading}
-use Rattle.tq_txn.specs.declared.reading.Reading.TheVariants.{Pending, Copy}
+use Rattle.tq_txn.specs.declared.read_answer.ReadAnswer.{ReadAnswer}
+use Rattle.tq_txn.specs.declared.read_answer.ReadAnswer.TheVariants.{Pending, Copy}
 
 -- a text goes on from what stood in it
 abbrev pub Extends : List ℕ → List ℕ → Type 0
@@ -57,7 +57,7 @@ abbrev pub version_text : List ℕ → ℕ → List ℕ
 version_text file version = file ++ codes " version " ++ decimal version
 
 -- a file as the transaction reads it; the operation is its read of the file
-abbrev pub reading_text : List ℕ → Option Op → Reading → List ℕ
+abbrev pub reading_text : List ℕ → Option Op → ReadAnswer → List ℕ
 reading_text file op (Pending content) = file ++ codes " pending [" ++ content ++ codes "]"
 reading_text file op (Copy copy) = version_text file copy.version ++ codes " from" ++ numbers_text (op_servers op) ++ bracketed copy.content
 

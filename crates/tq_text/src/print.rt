@@ -10,7 +10,7 @@ use tq_desk::{Grant, Op};
 use tq_live::{ViewRefusal, ViewReply};
 use tq_shape::{Memory, ServerId};
 use tq_store::{Content, FileCopy, FileName};
-use tq_txn::{Applied, Reading};
+use tq_txn::{Applied, ReadAnswer};
 
 /// Puts what a view chose behind the text, as a line.
 pub fn say_choice(text: &mut Vec<u8>, reply: &ViewReply) -> Result<(), Memory>
@@ -83,20 +83,20 @@ pub fn say_reading(
     text: &mut Vec<u8>,
     file: &FileName,
     op: Option<&Op>,
-    reading: &Reading,
+    reading: &ReadAnswer,
 ) -> Result<(), Memory>
     ensures text { OnOk result
         (Prints text.old text.new (spec.reading_text file.now (option_copied op.entry) reading.now)) }
     ensures kept { OnErr result (Extends text.old.items text.new.items) }
 {
     match reading {
-        Reading::Pending(content) => {
+        ReadAnswer::Pending(content) => {
             text.extend_from_slice(file.as_bytes())?;
             text.extend_from_slice(b" pending [")?;
             text.extend_from_slice(content.as_bytes())?;
             say_line(text, b"]")
         }
-        Reading::Copy(copy) => say_copy(text, file, op, copy),
+        ReadAnswer::Copy(copy) => say_copy(text, file, op, copy),
     }
 }
 

@@ -28,8 +28,8 @@ use Rattle.tq_txn.specs.Lines.{LocksView, purpose_of, choose_line, next_lock, lo
 use Rattle.tq_store.specs.declared.copies.FileCopy.{FileCopy}
 use Rattle.tq_evidence.specs.declared.op.OpKind.TheVariants as kinds
 use Rattle.tq_evidence.specs.Evidence.{greatest}
-use Rattle.tq_txn.specs.declared.reading.Reading.{Reading}
-use Rattle.tq_txn.specs.declared.reading.Reading.TheVariants.{Copy}
+use Rattle.tq_txn.specs.declared.read_answer.ReadAnswer.{ReadAnswer}
+use Rattle.tq_txn.specs.declared.read_answer.ReadAnswer.TheVariants.{Copy}
 use Rattle.tq_txn_states.specs.Voting.{VotingView, has_vote, ask_fault, prepare_ask, vote_fault, vote_after}
 use Rattle.tq_txn_states.specs.Open.{OpenView, ComesOf, has_all_ops, pending, seen, written, read_fault, read_copy, read_after, write_fault, write_after, grants_of}
 use Rattle.tq_txn.specs.Dialogue.{Told, Dialogue, Ends, AsksNode, AsksDesk, AsksView, Makes, Begins, Follows, then_line, LineEnd, done, go_on, and_then, unless, ended_by, fault_of_ask, fault_of_txn, line_result, node_exchange, desk_exchange, view_exchange, node_line, desk_line, view_line}
@@ -267,7 +267,7 @@ module _ (ended : EndedView) (servers rest : List Server) (server : Server) (is 
 
 -- ---- what was not read or written before
 
-pub first_of_reads : (old : OpenView) (file : List ℕ) (told new : List Exchange) (end : Option (LineEnd Reading OpenView)) → pending old file ≡ None → seen old file ≡ None → has_all_ops old ≡ false → Follows (quorum_read old file) told new end → Follows (read_line old file) told new end
+pub first_of_reads : (old : OpenView) (file : List ℕ) (told new : List Exchange) (end : Option (LineEnd ReadAnswer OpenView)) → pending old file ≡ None → seen old file ≡ None → has_all_ops old ≡ false → Follows (quorum_read old file) told new end → Follows (read_line old file) told new end
 first_of_reads old file told new end unwritten unread few follows = rw (unwritten, unread, few) follows
 
 pub first_of_writes : (old : OpenView) (file content : List ℕ) (told new : List Exchange) (end : Option (LineEnd ℕ OpenView)) → written old file ≡ None → has_all_ops old ≡ false → Follows (quorum_write old file content) told new end → Follows (write_line old file content) told new end

@@ -28,8 +28,8 @@ use Rattle.tq_txn.specs.declared.fault.LineFault.{LineFault}
 use Rattle.tq_txn.specs.declared.fault.LineFault.TheVariants as faults
 use Rattle.tq_txn_states.specs.declared.fault.TxnFault.TheVariants.{NotAMember, TooManyOps}
 use Rattle.tq_txn_states.specs.declared.told.NodeTold.{NodeTold}
-use Rattle.tq_txn.specs.declared.reading.Reading.{Reading}
-use Rattle.tq_txn.specs.declared.reading.Reading.TheVariants.{Pending, Copy}
+use Rattle.tq_txn.specs.declared.read_answer.ReadAnswer.{ReadAnswer}
+use Rattle.tq_txn.specs.declared.read_answer.ReadAnswer.TheVariants.{Pending, Copy}
 use Rattle.tq_txn.specs.declared.applying.Applied.{Applied}
 use Rattle.tq_txn.specs.declared.applying.Applied.TheVariants.{Installed, Discarded}
 use Rattle.tq_txn_states.specs.Cited.{answers_of, grant_told}
@@ -141,27 +141,27 @@ IsNoted result after quorum old new = Unit {0}
 
 -- ---- read
 
-abbrev pub read_end : List ℕ → List NodeTold → OpenView → Dialogue (LineEnd Reading OpenView)
+abbrev pub read_end : List ℕ → List NodeTold → OpenView → Dialogue (LineEnd ReadAnswer OpenView)
 read_end file told old =
     unless (read_fault old file told) old (done (Copy (read_copy (grants_of kinds.Read old.txn file told))) (read_after old file told))
 
 -- shared locks at a quorum
-abbrev pub quorum_read : OpenView → List ℕ → Dialogue (LineEnd Reading OpenView)
+abbrev pub quorum_read : OpenView → List ℕ → Dialogue (LineEnd ReadAnswer OpenView)
 quorum_read old file = and_then (quorum_line file Shared old) (λ new. new) (λ told new. read_end file told new)
 
-abbrev pub first_read : OpenView → List ℕ → Dialogue (LineEnd Reading OpenView)
+abbrev pub first_read : OpenView → List ℕ → Dialogue (LineEnd ReadAnswer OpenView)
 first_read old file = if has_all_ops old then failed (faults.Txn TooManyOps) old else quorum_read old file
 
 abbrev pub copy_read : Op → FileCopy
 copy_read op = record { version = op.version; content = op.content }
 
 -- what the transaction has written or read is answered again, with no ask
-abbrev pub read_again : Option (List ℕ) → Option Op → OpenView → Dialogue (LineEnd Reading OpenView) → Dialogue (LineEnd Reading OpenView)
+abbrev pub read_again : Option (List ℕ) → Option Op → OpenView → Dialogue (LineEnd ReadAnswer OpenView) → Dialogue (LineEnd ReadAnswer OpenView)
 read_again (Some content) op old first = done (Pending content) old
 read_again None (Some op) old first = done (Copy (copy_read op)) old
 read_again None None old first = first
 
-abbrev pub read_line : OpenView → List ℕ → Dialogue (LineEnd Reading OpenView)
+abbrev pub read_line : OpenView → List ℕ → Dialogue (LineEnd ReadAnswer OpenView)
 read_line old file = read_again (pending old file) (seen old file) old (first_read old file)
 
 -- ---- write

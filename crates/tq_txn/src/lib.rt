@@ -12,7 +12,7 @@ mod commits;
 mod endings;
 mod fault;
 mod operations;
-mod reading;
+mod read_answer;
 mod stops;
 mod txn;
 
@@ -23,7 +23,7 @@ pub use commits::{commit, decide};
 pub use endings::{apply_at, ask_any, prepare_at};
 pub use fault::LineFault;
 pub use operations::{read_file, write_file};
-pub use reading::Reading;
+pub use read_answer::ReadAnswer;
 pub use stops::{prepare_stopping, stop_at};
 pub use tq_part::{Answered, AskFault};
 pub use tq_txn_states::{DeskTold, Ended, NodeTold, Open, Ready, TxnFault, Voting};

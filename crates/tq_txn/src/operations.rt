@@ -10,7 +10,7 @@ ghost use Rattle.tq_txn_states.specs.Cited.{grant_told};
 ghost use Rattle.tq_txn_states.specs.Granting as handed;
 ghost use Rattle.tq_txn_states.specs.Open as open_spec;
 
-use crate::{Asker, LineFault, NodeTold, Open, Reading, TxnFault};
+use crate::{Asker, LineFault, NodeTold, Open, ReadAnswer, TxnFault};
 use std::alloc::Global;
 use tq_asks::{NodeAsk, NodeReply, WorkAsk};
 use tq_coterie::Quorum;
@@ -270,15 +270,7 @@ fn lock_quorum<A: Asker>(
         Ok(granting) => granting,
         Err(_) => return Err(LineFault::Memory),
     };
-    match lock_each(
-        asker,
-        alloc,
-        open,
-        &lock,
-        servers,
-        ask,
-        &mut granting,
-    ) {
+    match lock_each(asker, alloc, open, &lock, servers, ask, &mut granting) {
         Ok(()) => Ok(granting),
         Err(fault) => {
             open.take_back(granting);
@@ -294,7 +286,7 @@ pub fn read_file<A: Asker>(
     alloc: Global,
     open: &mut Open,
     file: &FileName,
-) -> Result<Reading, LineFault>
+) -> Result<ReadAnswer, LineFault>
     requires { open.old.levels ≡ A.levels asker.old }
     ensures asks { line.Follows (spec.read_line open.old file.now) (A.told asker.old) (A.told asker.new) (line.ended_by result open.new) }
     ensures memory { spec.IsNoted result open.new (spec.quorum_line file.now Mode.Shared open.old) (A.told asker.old) (A.told asker.new) }
@@ -304,10 +296,10 @@ pub fn read_file<A: Asker>(
     ensures tree { A.levels asker.new ≡ A.levels asker.old }
 {
     if let Some(content) = open.pending(file) {
-        return Ok(Reading::Pending(content.clone()?));
+        return Ok(ReadAnswer::Pending(content.clone()?));
     }
     if let Some(op) = open.seen(file) {
-        return Ok(Reading::Copy(FileCopy {
+        return Ok(ReadAnswer::Copy(FileCopy {
             version: op.version,
             content: op.content.clone()?,
         }));
@@ -324,7 +316,7 @@ fn read_at_quorum<A: Asker>(
     alloc: Global,
     open: &mut Open,
     file: &FileName,
-) -> Result<Reading, LineFault>
+) -> Result<ReadAnswer, LineFault>
     requires tree { open.old.levels ≡ A.levels asker.old }
     requires fresh { open_spec.is_used open.old.ops file.now ≡ false }
     requires few { open_spec.has_all_ops open.old ≡ false }
@@ -340,7 +332,7 @@ fn read_at_quorum<A: Asker>(
         Err(fault) => return Err(fault),
     };
     match open.read_locked(file, granting) {
-        Ok(copy) => Ok(Reading::Copy(copy)),
+        Ok(copy) => Ok(ReadAnswer::Copy(copy)),
         Err(_) => Err(LineFault::Memory),
     }
 }

@@ -31,10 +31,10 @@ ready_first set false number more is = and_from (has set.servers number) true (a
 -- room for the locks of several servers is room for that of the first
 pub can_grant_first : (levels : ℕ) (granting : GrantingView) (number : ℕ) (more : List ℕ) → CanGrant levels granting (number ∷ more) → CanGrant levels granting (number ∷ [])
 can_grant_first levels granting number more can = record {
-    tree = can.tree;
-    noting = ready_first granting.touched granting.notes number more can.noting;
-    left = fewer number more granting.left can.left;
-  }
+  tree = can.tree;
+  noting = ready_first granting.touched granting.notes number more can.noting;
+  left = fewer number more granting.left can.left;
+}
 
 -- a server that was put there leaves room for the rest
 pub ready_rest : (before after : RoomySet) (grows : Bool) (number : ℕ) (more : List ℕ) → after.servers ≡ with_number before.servers number → before.room ≤ after.room + 1 → IsReady before grows (number ∷ more) → IsReady after grows more
@@ -65,13 +65,13 @@ noted_push touched before after grant is all here = subst (λ gs. are_noted touc
 -- a transaction that takes back what grew is touched at most
 pub touched_by_grown : (open_txn : OpenView) (old new : GrantingView) → IsGrown old new → IsTouched (noted open_txn old) (noted open_txn new)
 touched_by_grown open_txn old new grown = record {
-    levels = refl;
-    limits = refl;
-    txn = refl;
-    ops = grown.ops;
-    voters = ap (λ (set : RoomySet). set.servers) grown.voters;
-    touched = grown.touched;
-  }
+  levels = refl;
+  limits = refl;
+  txn = refl;
+  ops = grown.ops;
+  voters = ap (λ (set : RoomySet). set.servers) grown.voters;
+  touched = grown.touched;
+}
 
 -- servers that were noted do not count for whether the operations are good
 pub open_touched : (old new : OpenView) → IsTouched old new → IsOpen old → IsOpen new
@@ -83,32 +83,32 @@ open_touched old new kept good =
 pub grown_push : {seen noted : GrantingView} (old : GrantingView) (number : ℕ) (grants : List Grant) (left : ℕ) → seen ≡ noted → noted ≡ record old { touched = noted.touched } → noted.touched.servers ≡ with_number old.touched.servers number → noted.touched.levels ≡ old.touched.levels
     → IsGrown old (record seen { grants = grants; left = left })
 grown_push old number grants left is same servers levels = record {
-    ops = ap (λ (v : GrantingView). v.ops) is ∙ ap (λ (v : GrantingView). v.ops) same;
-    place = ap (λ (v : GrantingView). v.place) is ∙ ap (λ (v : GrantingView). v.place) same;
-    voters = ap (λ (v : GrantingView). v.voters) is ∙ ap (λ (v : GrantingView). v.voters) same;
-    grows = ap (λ (v : GrantingView). v.grows) is ∙ ap (λ (v : GrantingView). v.grows) same;
-    tree = ap (λ (v : GrantingView). v.touched.levels) is ∙ levels;
-    touched = λ server here. subst (λ (numbers : List ℕ). has numbers server ≡ true) (sym (ap (λ (v : GrantingView). v.touched.servers) is ∙ servers)) (within-with_number old.touched.servers number server here);
-  }
+  ops = ap (λ (v : GrantingView). v.ops) is ∙ ap (λ (v : GrantingView). v.ops) same;
+  place = ap (λ (v : GrantingView). v.place) is ∙ ap (λ (v : GrantingView). v.place) same;
+  voters = ap (λ (v : GrantingView). v.voters) is ∙ ap (λ (v : GrantingView). v.voters) same;
+  grows = ap (λ (v : GrantingView). v.grows) is ∙ ap (λ (v : GrantingView). v.grows) same;
+  tree = ap (λ (v : GrantingView). v.touched.levels) is ∙ levels;
+  touched = λ server here. subst (λ (numbers : List ℕ). has numbers server ≡ true) (sym (ap (λ (v : GrantingView). v.touched.servers) is ∙ servers)) (within-with_number old.touched.servers number server here);
+}
 
 pub grown_same : (granting : GrantingView) → IsGrown granting granting
 grown_same granting = record { ops = refl; place = refl; voters = refl; grows = refl; tree = refl; touched = λ server here. here }
 
 pub grown_trans : (first second third : GrantingView) → IsGrown first second → IsGrown second third → IsGrown first third
 grown_trans first second third a b = record {
-    ops = b.ops ∙ a.ops;
-    place = b.place ∙ a.place;
-    voters = b.voters ∙ a.voters;
-    grows = b.grows ∙ a.grows;
-    tree = b.tree ∙ a.tree;
-    touched = λ server here. b.touched server (a.touched server here);
-  }
+  ops = b.ops ∙ a.ops;
+  place = b.place ∙ a.place;
+  voters = b.voters ∙ a.voters;
+  grows = b.grows ∙ a.grows;
+  tree = b.tree ∙ a.tree;
+  touched = λ server here. b.touched server (a.touched server here);
+}
 
 pub of_tree_grown : (levels : ℕ) (old new : GrantingView) → IsGrown old new → IsOfTree levels old → IsOfTree levels new
 of_tree_grown levels old new grown of = record {
-    voters = ap (λ (set : RoomySet). set.levels) grown.voters ∙ of.voters;
-    touched = grown.tree ∙ of.touched;
-  }
+  voters = ap (λ (set : RoomySet). set.levels) grown.voters ∙ of.voters;
+  touched = grown.tree ∙ of.touched;
+}
 
 pub can_take_grown : (old new : GrantingView) (numbers found : List ℕ) → IsGrown old new → found ≡ numbers → CanTake old numbers → CanTake new found
 can_take_grown old new numbers found grown same can =

@@ -266,7 +266,10 @@ impl Open {
                 return Err(refused);
             }
         };
-        let ReadTwice { copy, kept: content } = given;
+        let ReadTwice {
+            copy,
+            kept: content,
+        } = given;
         let (kept, grants) = granting.into_parts();
         let op = Op {
             file: *file,
@@ -281,7 +284,12 @@ impl Open {
 
     /// Writes a file by the exclusive grants that came in for what was handed out, and answers the version; none where the
     /// greatest granted is the last, and then takes that back. It takes no memory.
-    pub fn write_locked(&mut self, file: &FileName, content: Content, granting: Granting) -> Option<u64>
+    pub fn write_locked(
+        &mut self,
+        file: &FileName,
+        content: Content,
+        granting: Granting,
+    ) -> Option<u64>
         requires tree { handed.IsOfTree self.old.levels granting }
         requires open { spec.IsOpen (handed.noted self.old granting) }
         requires take { handed.CanTake granting (granters_of granting.grants) }

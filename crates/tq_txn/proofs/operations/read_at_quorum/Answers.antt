@@ -13,8 +13,8 @@ use Rattle.tq_txn_states.proofs.CitedLaws.{granted_cited}
 use Rattle.tq_txn_states.specs.declared.fault.TxnFault.TheVariants as txn_faults
 use Rattle.tq_txn_states.proofs.Granted.{any_fit, grants_again, read_as_told}
 use Rattle.tq_txn.specs.declared.fault.LineFault.TheVariants.{Memory}
-use Rattle.tq_txn.specs.declared.reading.Reading.{Reading}
-use Rattle.tq_txn.specs.declared.reading.Reading.TheVariants.{Copy}
+use Rattle.tq_txn.specs.declared.read_answer.ReadAnswer.{ReadAnswer}
+use Rattle.tq_txn.specs.declared.read_answer.ReadAnswer.TheVariants.{Copy}
 use Rattle.tq_txn.specs.Dialogue.{ended_by}
 use Rattle.tq_txn.specs.Lines.{quorum_line, read_end}
 use Rattle.tq_txn.proofs.GrantLaws.{same_answers, still_few, still_member, still_unused}
@@ -92,9 +92,9 @@ returns-in-Err-read_locked-clause-knows g c =
 
 pub returns-in-Err-clause-memory : goal.returns-in-Err-clause-memory
 returns-in-Err-clause-memory g c =
-    noted_off (quorum_line c.args.file.now Shared c.args.open.now) c.lock_quorum.new.open (g.A.Asker.told c.args.asker.now) (g.A.Asker.told c.lock_quorum.new.asker) Reading c.in-Err.fault c.in-Err.ensures.memory
+    noted_off (quorum_line c.args.file.now Shared c.args.open.now) c.lock_quorum.new.open (g.A.Asker.told c.args.asker.now) (g.A.Asker.told c.lock_quorum.new.asker) ReadAnswer c.in-Err.fault c.in-Err.ensures.memory
 
 pub returns-in-Err-read_locked-clause-memory : goal.returns-in-Err-read_locked-clause-memory
 returns-in-Err-read_locked-clause-memory g c =
-    noted_last (quorum_line c.args.file.now Shared c.args.open.now) c.read_locked.new.self (g.A.Asker.told c.args.asker.now) (g.A.Asker.told c.lock_quorum.new.asker) Reading Memory
+    noted_last (quorum_line c.args.file.now Shared c.args.open.now) c.read_locked.new.self (g.A.Asker.told c.args.asker.now) (g.A.Asker.told c.lock_quorum.new.asker) ReadAnswer Memory
     (answers_of c.args.open.now.txn c.args.file.now c.in-Ok.granting.grants) (noted c.lock_quorum.new.open c.in-Ok.granting) c.in-Ok.ensures.asks c.in-Err-read_locked.ensures.err
