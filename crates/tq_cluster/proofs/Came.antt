@@ -11,7 +11,7 @@ use Rattle.tq_tables.specs.Journals.{JournalsView}
 use Rattle.tq_mirror.specs.declared.entries.Entries.{Entries}
 use Rattle.tq_mirror.specs.declared.entries.Entries.TheVariants as entries
 use Rattle.tq_mirror.specs.declared.fault.PullFault.{PullFault}
-use Rattle.tq_mirror.specs.Prefixes.{IsPullFault, grown, prefix_length}
+use Rattle.tq_mirror.specs.Prefixes.{IsPullFault, IsTaken, grown, prefix_length}
 use Rattle.tq_cluster.specs.Told.{CallerView, having_seen, seen_of}
 use Rattle.tq_cluster.specs.Pulls.{Continues, EachContinues, EndedAt, HasSeenBefore, HasSeenServers, IsPull, SawWhatCame, seen_then}
 use Rattle.tq_cluster.proofs.Pulled.{continues-grown, continues-same, other-prefix, other-seen, servers-desk}
@@ -86,6 +86,19 @@ pull-ok part old new more before after fresh known count x grew enough long saw 
 pub took_none : (seen : ℕ) (old new : JournalsView) (part : Part) → new ≡ old → seen ≡ max seen (last_behind (prefix_length old part) (prefix_length new part - prefix_length old part))
 took_none seen old new part same =
     subst (λ (o : JournalsView). seen ≡ max seen (last_behind (prefix_length old part) (prefix_length o part - prefix_length old part))) (sym same) (stays seen (prefix_length old part))
+
+-- what came was not taken: the fault is passed on, and all is as it was
+pub pull-refused : {T U : Type 0} (part : Part) (old new : JournalsView) (more : Entries) (least seen : ℕ) (fault : PullFault) (out : Result U PullFault) → least ≡ seen → out ≡ Err fault
+    → IsTaken {T = T} old new part more least (Err fault) → IsPull part old new seen seen out
+pull-refused {T} {U} part old new more least seen fault out counted is taken =
+    let here : IsTaken {T = T} old new part more seen (Err fault) = subst (λ (n : ℕ). IsTaken {T = T} old new part more n (Err fault)) counted taken in
+    subst (λ (o : Result U PullFault). IsPull part old new seen seen o) (sym is) (record {
+      grows = tt;
+      seen = tt;
+      err = here.err;
+      fault = (more, here.fault);
+      saw = took_none seen old new part here.err;
+    })
 
 pub saw-same : (prefixes : JournalsView) (caller : CallerView) → SawWhatCame prefixes prefixes caller caller
 saw-same prefixes caller part = stays (seen_of caller part) (prefix_length prefixes part)

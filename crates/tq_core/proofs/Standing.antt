@@ -50,7 +50,8 @@ use Rattle.tq_world.proofs.Legal.{all_offered, legal_run}
 use Rattle.tq_world.proofs.Rooms.{entry_room, item_above, node_room}
 use Rattle.tq_world.proofs.Runs.{told_answer, told_refusal, world_grown}
 use Rattle.tq_core.specs.Asked.{answer_of, refusal_of, told_by, told_of}
-use Rattle.tq_core.specs.Service.{IsEntered, IsService, journals_in, reply_of}
+use Rattle.tq_tables.specs.Tabled.{journals_in}
+use Rattle.tq_core.specs.Service.{IsEntered, IsService, reply_of}
 
 -- ---- whether an ask is taken
 
@@ -320,14 +321,11 @@ module _ {V : Type 0} (items : V → List NodeEntry) (journals : List V) (tables
 
 -- ---- a new service
 
-pub opened : (tables : TablesView) (levels : ℕ) (limits : LimitsView) (servers : List (List NodeEntry)) (desk : List DeskEntry) (view : List ViewEntry)
-    → servers ≡ replicate (2 ^ levels - 1) [] → desk ≡ [] → view ≡ [] → tables ≡ tables_of (empty_world levels limits)
-    → IsService tables (journals_in tables limits servers desk view)
-opened tables levels limits servers desk view s d v stand =
+pub opened : (tables : TablesView) (levels : ℕ) (limits : LimitsView) (world : JournalsView) → world ≡ empty_world levels limits → tables ≡ tables_of (empty_world levels limits) → IsService tables world
+opened tables levels limits world all stand =
     let positive : 0 < 2 ^ levels = pow_pos levels in
     let count : length (replicate {A = List NodeEntry} (2 ^ levels - 1) []) ≡ 2 ^ levels - 1 = length-replicate (2 ^ levels - 1) [] in
     let P : List NodeEntry → Type 0 = λ entries. length entries ≤ limits.entries in
-    let all : journals_in tables limits servers desk view ≡ empty_world levels limits = (λ i. record { levels = (stand i).levels; limits = limits; servers = s i; desk = d i; view = v i }) in
     subst (λ (w : JournalsView). IsService tables w) (sym all) (record {
       journals = record {
         one_each = omega arith;

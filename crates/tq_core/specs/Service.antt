@@ -1,24 +1,16 @@
 -- What a service keeps: its tables, and beside them the journals that they are of.
 use Rattle.std.specs.Prelude.{◌≡◌, ◌+◌, List, [], ◌∷◌, ◌++◌, length, Result, IfOk, OnErr, OnOk}
 use Rattle.tq_shape.specs.Journal.{entry}
-use Rattle.tq_shape.specs.Limits.{LimitsView}
 use Rattle.tq_shape.specs.declared.entry.Entry.{Entry}
 use Rattle.tq_part.specs.declared.journaled.Answered.{Answered}
 use Rattle.tq_asks.specs.declared.ask.NodeAsk.{NodeAsk}
 use Rattle.tq_asks.specs.declared.ask.NodeReply.{NodeReply}
 use Rattle.tq_node.specs.Node.{NodeView}
-use Rattle.tq_node.specs.NodeJournal.{NodeEntry}
 use Rattle.tq_node.specs.Records.{node_reply}
-use Rattle.tq_desk.specs.DeskJournal.{DeskEntry}
-use Rattle.tq_tables.specs.Journals.{AreJournals, JournalsView, ViewEntry}
+use Rattle.tq_tables.specs.Journals.{AreJournals, JournalsView}
 use Rattle.tq_tables.specs.Parts.{AreLegal}
 use Rattle.tq_tables.specs.Tables.{TablesView, tables_of}
 use Rattle.tq_world.specs.Steps.{IsOfRun}
-
--- the journals beside tables of that tree
-abbrev pub journals_in : TablesView → LimitsView → List (List NodeEntry) → List DeskEntry → List ViewEntry → JournalsView
-journals_in tables limits servers desk view =
-    record { levels = tables.levels; limits = limits; servers = servers; desk = desk; view = view }
 
 -- the journals are those of a run, and the tables are theirs
 pub record IsService (tables : TablesView) (world : JournalsView) : Type 0 where

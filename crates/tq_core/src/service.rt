@@ -1,4 +1,4 @@
-ghost use Rattle.std.specs.Prelude.{◌≡◌, ◌+◌, ◌-◌, ◌^◌, [], IfOk, OnOk, OnErr, length, map, replicate};
+ghost use Rattle.std.specs.Prelude.{◌≡◌, ◌+◌, ◌-◌, ◌^◌, IfOk, OnOk, OnErr, length};
 ghost use Rattle.std.specs.Option.{option_copied, option_map};
 ghost use Rattle.tq_desk.specs.DeskStep.{desk_reply};
 ghost use Rattle.tq_live.specs.View.{view_reply};
@@ -14,52 +14,33 @@ use crate::{Answer, Answered, Journal, Refusal, Reply, Step};
 use std::alloc::Global;
 use std::marker::Model;
 use tq_asks::{NodeAsk, NodeReply};
-use tq_desk::{Desk, DeskAsk, DeskReply};
+use tq_desk::{DeskAsk, DeskReply};
 use tq_live::{View, ViewAsk, ViewReply};
 use tq_part::AskFault;
 use tq_shape::{Levels, Limits, Memory, Part, ServerId, make_room};
 use tq_tables::{
-    DeskEntry, Entry, Journals, NodeEntry, Parts, Replies, Tables, ViewEntry, replay_nodes,
+    DeskEntry, Entry, Journals, NodeEntry, Replies, TabledJournals, Tables, ViewEntry,
 };
 use tq_world::{Citation, CitedEntries, item_at, unfounded_in_desk_ask, unfounded_in_node_ask};
 
 /// All parts of a system, which the tables follow, and beside them a journal of each: its servers, its desk and its
 /// view. Each ask that a part answers is entered into the part's journal with the reply, and changes the rows of the
 /// tables that it is about.
+#[derive(Drop)]
 pub struct Service {
-    limits: Limits,
-    tables: Tables,
-    servers: Vec<Vec<NodeEntry>>,
-    desk: Vec<DeskEntry>,
-    view: Vec<ViewEntry>,
-}
-
-// Written out, so that a crate above lets go of one by a call.
-impl Drop for Service {
-    fn drop(self) {
-        let Self {
-            limits: _,
-            tables: _,
-            servers: _,
-            desk: _,
-            view: _,
-        } = self;
-    }
+    tabled: TabledJournals,
 }
 
 impl Model for Service {
-    ghost use Rattle.std.specs.Prelude.{map};
     ghost use Rattle.tq_tables.specs.Journals.{JournalsView};
-    ghost use Rattle.tq_core.specs.Service.{IsService, journals_in};
+    ghost use Rattle.tq_tables.specs.Tabled.{journals_of};
+    ghost use Rattle.tq_core.specs.Service.{IsService};
 
     ghost Value = { JournalsView };
 
-    ghost view = { λ a. journals_in a.tables a.limits
-        (map (λ entries. entries.items) a.servers.items) a.desk.items a.view.items };
+    ghost view = { λ a. journals_of a.tabled };
 
-    ghost invariant = { λ a. IsService a.tables
-        (journals_in a.tables a.limits
-        (map (λ entries. entries.items) a.servers.items) a.desk.items a.view.items) };
+    ghost invariant = { λ a. IsService a.tabled.tables (journals_of a.tabled) };
 }
 
 impl CitedEntries for Service {
@@ -90,26 +71,16 @@ impl Service {
     pub fn new(alloc: Global, levels: Levels, limits: Limits) -> Result<Service, Memory>
         ensures { IfOk result (λ service. service ≡ world.empty_world levels limits) }
     {
-        let servers = empty_journals(alloc, levels)?;
-        let nodes = replay_nodes(alloc, levels, servers.as_slice())?;
-        let desk = Desk::new(alloc, levels, limits);
-        let view = View::new(alloc, levels)?;
-        let tables = Tables::over(alloc, Parts::new(nodes, desk, view), &[])?;
-        Ok(Service {
-            limits,
-            tables,
-            servers,
-            desk: Vec::new(alloc),
-            view: Vec::new(alloc),
-        })
+        let tabled = TabledJournals::new(alloc, levels, limits)?;
+        Ok(Service { tabled })
     }
 
     /// The view, as its journal leaves it.
     pub fn view(&self) -> &View
         ensures { result.now ≡ world.view_at self.now.levels self.now.view }
     {
-        let _ = &self.limits;
-        self.tables.view()
+        let _ = &self.tabled.limits;
+        self.tabled.tables.view()
     }
 
     /// The tables, as all journals leave them.
@@ -117,8 +88,8 @@ impl Service {
         ensures value { result.now ≡ tables_of self.now }
         ensures headline { Headline self.now result.now }
     {
-        let _ = &self.limits;
-        &self.tables
+        let _ = &self.tabled.limits;
+        &self.tabled.tables
     }
 
     /// The journals. It takes no memory.
@@ -127,21 +98,15 @@ impl Service {
         ensures legal { AreLegal result }
         ensures committed_reads { HasCommittedReads result }
     {
-        let Service {
-            limits,
-            tables,
-            servers,
-            desk,
-            view,
-        } = self;
-        Journals::new(tables.levels(), limits, servers, desk, view)
+        let Service { tabled } = self;
+        tabled.into_journals()
     }
 
     /// The entries of a server, if there is such a server.
     pub(crate) fn server_journal(&self, server: u64) -> Option<&[NodeEntry]>
         ensures { option_copied result ≡ world.item_at self.now.servers server }
     {
-        match item_at(self.servers.as_slice(), server) {
+        match item_at(self.tabled.servers.as_slice(), server) {
             Some(entries) => Some(entries.as_slice()),
             None => None,
         }
@@ -157,8 +122,8 @@ impl Service {
                 Some(entries) => Some(Journal::Server(entries)),
                 None => None,
             },
-            Part::Desk => Some(Journal::Desk(self.desk.as_slice())),
-            Part::View => Some(Journal::View(self.view.as_slice())),
+            Part::Desk => Some(Journal::Desk(self.tabled.desk.as_slice())),
+            Part::View => Some(Journal::View(self.tabled.view.as_slice())),
         }
     }
 
@@ -166,7 +131,7 @@ impl Service {
     pub(crate) fn desk_journal(&self) -> &[DeskEntry]
         ensures { result.now ≡ self.now.desk }
     {
-        self.desk.as_slice()
+        self.tabled.desk.as_slice()
     }
 
     /// The journals are those of a run: this does nothing, and says what follows.
@@ -174,7 +139,7 @@ impl Service {
         ensures committed_reads { HasCommittedReads self.now }
         ensures headline { Headline self.now (tables_of self.now) }
     {
-        let _ = &self.limits;
+        let _ = &self.tabled.limits;
     }
 
     /// Why an ask of a part that has so many entries is not taken: the journal is full, or the ask cites this, which does
@@ -183,7 +148,7 @@ impl Service {
         ensures { option_map asks.refusal_of result
             ≡ spec.refuse_entry self.now part entries unfounded }
     {
-        if entries >= self.limits.entries() as usize {
+        if entries >= self.tabled.limits.entries() as usize {
             return Some(AskFault::JournalFull { part });
         }
         match unfounded {
@@ -213,14 +178,14 @@ impl Service {
         let number = server.number();
         let place = (number - 1) as usize;
         let unfounded = unfounded_in_node_ask(self, &ask);
-        let entries = self.servers[place].len();
+        let entries = self.tabled.servers[place].len();
         if let Some(fault) = self.refusal(Part::Server(number), entries, unfounded) {
             self.show_run();
             return Err(fault);
         }
         let asked = enter_node(
-            &mut self.tables,
-            &mut self.servers[place],
+            &mut self.tabled.tables,
+            &mut self.tabled.servers[place],
             alloc,
             number,
             ask,
@@ -243,7 +208,7 @@ impl Service {
             self.show_run();
             return Err(fault);
         }
-        let asked = enter_desk(&mut self.tables, &mut self.desk, alloc, ask);
+        let asked = enter_desk(&mut self.tabled.tables, &mut self.tabled.desk, alloc, ask);
         self.show_run();
         told_of(asked)
     }
@@ -259,11 +224,11 @@ impl Service {
         ensures committed_reads { HasCommittedReads self.new }
         ensures headline { Headline self.new (tables_of self.new) }
     {
-        if let Some(fault) = self.refusal(Part::View, self.view.len(), None) {
+        if let Some(fault) = self.refusal(Part::View, self.tabled.view.len(), None) {
             self.show_run();
             return Err(fault);
         }
-        let asked = enter_view(&mut self.tables, &mut self.view, alloc, ask);
+        let asked = enter_view(&mut self.tabled.tables, &mut self.tabled.view, alloc, ask);
         self.show_run();
         told_of(asked)
     }
@@ -278,10 +243,10 @@ impl Service {
         ensures committed_reads { HasCommittedReads self.new }
         ensures headline { Headline self.new (tables_of self.new) }
     {
-        let _ = &self.limits;
+        let _ = &self.tabled.limits;
         match step {
             Step::Node { server, ask } => {
-                let Some(id) = self.tables.levels().server(server) else {
+                let Some(id) = self.tabled.tables.levels().server(server) else {
                     self.show_run();
                     return Err(Refusal::NoSuchServer);
                 };
@@ -324,7 +289,7 @@ impl Service {
         ensures committed_reads { HasCommittedReads self.new }
         ensures headline { Headline self.new (tables_of self.new) }
     {
-        let _ = &self.limits;
+        let _ = &self.tabled.limits;
         let results = self.take(alloc, steps)?;
         Ok(results)
     }
@@ -340,7 +305,7 @@ impl Service {
         ensures err { OnErr result (self.new ≡ self.old) }
         ensures committed_reads { HasCommittedReads self.new }
     {
-        let _ = &self.limits;
+        let _ = &self.tabled.limits;
         let mut results = Vec::with_capacity(alloc, steps.len())?;
         for step in steps {
             let result = self.step(alloc, step);
@@ -449,16 +414,4 @@ fn refusal_of(fault: AskFault) -> Refusal
         AskFault::JournalFull { part } => Refusal::JournalFull { part },
         AskFault::Unfounded { part, number } => Refusal::Unfounded { part, number },
     }
-}
-
-/// A journal with no entry for each server of the tree.
-fn empty_journals(alloc: Global, levels: Levels) -> Result<Vec<Vec<NodeEntry>>, Memory>
-    ensures { IfOk result (λ servers.
-        map (λ entries. entries.items) servers.items ≡ replicate (2 ^ levels - 1) []) }
-{
-    let mut servers = Vec::new(alloc);
-    for _ in 0..levels.servers() {
-        servers.push(Vec::new(alloc))?;
-    }
-    Ok(servers)
 }

@@ -33,7 +33,8 @@ use Rattle.tq_tables.specs.Tables.{TablesView, tables_of}
 use Rattle.tq_mirror.specs.declared.entries.Entries.{Entries}
 use Rattle.tq_mirror.specs.declared.entries.Entries.TheVariants as entries
 use Rattle.tq_mirror.specs.Prefixes.{GivesNext, IsForeign, IsPartOf, count_of, nothing_pulled, prefix_length, server_prefix, grown}
-use Rattle.tq_mirror.specs.Kept.{AreAhead, AreKept, AreLed, prefixes_in}
+use Rattle.tq_tables.specs.Tabled.{journals_in}
+use Rattle.tq_mirror.specs.Kept.{AreAhead, AreKept, AreLed}
 use Rattle.tq_mirror.proofs.Led.{Grows, Led, legal-joined, state-joined}
 
 -- ---- legal journals of servers
@@ -367,41 +368,46 @@ taken_at tables ahead kept old was part more least of_tree led leads =
     }
 
 module _ (tables ahead : TablesView) (limits : LimitsView) (servers : List (List NodeEntry)) (now : List DeskEntry) (view : List ViewEntry) (old : JournalsView)
-    (same : prefixes_in tables limits servers now view ≡ old) (kept : AreKept tables (prefixes_in tables limits servers now view)) where
+    (same : journals_in tables limits servers now view ≡ old) (kept : AreKept tables (journals_in tables limits servers now view)) where
   pub kept_old : AreKept tables old
   kept_old = subst (λ (w : JournalsView). AreKept tables w) same kept
 
   pub desk_taken : (after more : List DeskEntry) (least : ℕ) → AreAhead ahead old parts.Desk (entries.Desk more) least → after ≡ now ++ more
-      → Taken ahead (prefixes_in ahead limits servers after view) old parts.Desk (entries.Desk more) least
+      → Taken ahead (journals_in ahead limits servers after view) old parts.Desk (entries.Desk more) least
   desk_taken after more least led is =
-      taken_at tables ahead (prefixes_in ahead limits servers after view) old kept_old parts.Desk (entries.Desk more) least tt led
-      ((λ i. prefixes_in (led.stand i) limits servers (is i) view)
+      taken_at tables ahead (journals_in ahead limits servers after view) old kept_old parts.Desk (entries.Desk more) least tt led
+      ((λ i. journals_in (led.stand i) limits servers (is i) view)
       ∙ (λ i. record { levels = old.levels; limits = (same i).limits; servers = (same i).servers; desk = (same i).desk ++ more; view = (same i).view }))
 
   pub view_taken : (after more : List ViewEntry) (least : ℕ) → AreAhead ahead old parts.View (entries.View more) least → after ≡ view ++ more
-      → Taken ahead (prefixes_in ahead limits servers now after) old parts.View (entries.View more) least
+      → Taken ahead (journals_in ahead limits servers now after) old parts.View (entries.View more) least
   view_taken after more least led is =
-      taken_at tables ahead (prefixes_in ahead limits servers now after) old kept_old parts.View (entries.View more) least tt led
-      ((λ i. prefixes_in (led.stand i) limits servers now (is i))
+      taken_at tables ahead (journals_in ahead limits servers now after) old kept_old parts.View (entries.View more) least tt led
+      ((λ i. journals_in (led.stand i) limits servers now (is i))
       ∙ (λ i. record { levels = old.levels; limits = (same i).limits; servers = (same i).servers; desk = (same i).desk; view = (same i).view ++ more }))
 
   server_taken : (number : ℕ) (of_tree : IsServer old.levels number) (after : List (List NodeEntry)) (more : List NodeEntry) (least : ℕ) → AreAhead ahead old (parts.Server number) (entries.Server more) least
       → after ≡ set servers (number - 1) (get_or servers (number - 1) [] ++ more)
-      → Taken ahead (prefixes_in ahead limits after now view) old (parts.Server number) (entries.Server more) least
+      → Taken ahead (journals_in ahead limits after now view) old (parts.Server number) (entries.Server more) least
   server_taken number of_tree after more least led is =
-      taken_at tables ahead (prefixes_in ahead limits after now view) old kept_old (parts.Server number) (entries.Server more) least of_tree led
-      ((λ i. prefixes_in (led.stand i) limits (is i) now view)
+      taken_at tables ahead (journals_in ahead limits after now view) old kept_old (parts.Server number) (entries.Server more) least of_tree led
+      ((λ i. journals_in (led.stand i) limits (is i) now view)
       ∙ (λ i. record { levels = old.levels; limits = (same i).limits; servers = set (same i).servers (number - 1) (server_prefix (same i) number ++ more); desk = (same i).desk; view = (same i).view }))
 
   -- where memory is refused the entries of a part stay
-  pub desk_stays : (after : List DeskEntry) → after ≡ now → Stands tables (prefixes_in tables limits servers after view) old
-  desk_stays after is = stands_at tables (prefixes_in tables limits servers after view) old (ap (λ (es : List DeskEntry). prefixes_in tables limits servers es view) is ∙ same) kept_old
+  pub desk_stays : (after : List DeskEntry) → after ≡ now → Stands tables (journals_in tables limits servers after view) old
+  desk_stays after is = stands_at tables (journals_in tables limits servers after view) old (ap (λ (es : List DeskEntry). journals_in tables limits servers es view) is ∙ same) kept_old
 
-  pub view_stays : (after : List ViewEntry) → after ≡ view → Stands tables (prefixes_in tables limits servers now after) old
-  view_stays after is = stands_at tables (prefixes_in tables limits servers now after) old (ap (λ (es : List ViewEntry). prefixes_in tables limits servers now es) is ∙ same) kept_old
+  pub view_stays : (after : List ViewEntry) → after ≡ view → Stands tables (journals_in tables limits servers now after) old
+  view_stays after is = stands_at tables (journals_in tables limits servers now after) old (ap (λ (es : List ViewEntry). journals_in tables limits servers now es) is ∙ same) kept_old
 
-  servers_stay : (after : List (List NodeEntry)) → after ≡ servers → Stands tables (prefixes_in tables limits after now view) old
-  servers_stay after is = stands_at tables (prefixes_in tables limits after now view) old (ap (λ (all : List (List NodeEntry)). prefixes_in tables limits all now view) is ∙ same) kept_old
+  servers_stay : (after : List (List NodeEntry)) → after ≡ servers → Stands tables (journals_in tables limits after now view) old
+  servers_stay after is = stands_at tables (journals_in tables limits after now view) old (ap (λ (all : List (List NodeEntry)). journals_in tables limits all now view) is ∙ same) kept_old
+
+-- equal tables stand as well
+pub alike : (tables same : TablesView) (limits : LimitsView) (servers : List (List NodeEntry)) (now : List DeskEntry) (view : List ViewEntry) (old : JournalsView) → same ≡ tables
+    → Stands tables (journals_in tables limits servers now view) old → Stands same (journals_in same limits servers now view) old
+alike tables same limits servers now view old is stands = subst (λ (t : TablesView). Stands t (journals_in t limits servers now view) old) (sym is) stands
 
 -- what was found to be ahead
 pub found_ahead : {E : Type 0} (found : Option TablesView) (ahead : TablesView) (w : JournalsView) (part : Part) (of : List E → Entries) (lent more : List E) (least : ℕ) → lent ≡ more → found ≡ Some ahead
@@ -422,12 +428,12 @@ on_error P (Err fault) holds = holds
 
 -- a server, of which the entries are read at its place, and put there once more
 module _ {V : Type 0} (items : V → List NodeEntry) (tables : TablesView) (limits : LimitsView) (journals : List V) (now : List DeskEntry) (view : List ViewEntry) (old : JournalsView)
-    (same : prefixes_in tables limits (map items journals) now view ≡ old) (kept : AreKept tables (prefixes_in tables limits (map items journals) now view))
+    (same : journals_in tables limits (map items journals) now view ≡ old) (kept : AreKept tables (journals_in tables limits (map items journals) now view))
     (number : ℕ) (of_tree : IsServer old.levels number) where
   pub less : number - 1 < length journals
   less =
       let inside = subst (λ (w : JournalsView). IsServer w.levels number) (sym same) of_tree in
-      let there = within (prefixes_in tables limits (map items journals) now view) kept.one_each number inside in
+      let there = within (journals_in tables limits (map items journals) now view) kept.one_each number inside in
       let count = length-map journals items in
       omega (arith, there, count)
 
@@ -436,7 +442,7 @@ module _ {V : Type 0} (items : V → List NodeEntry) (tables : TablesView) (limi
     read = get_or-map items journals (number - 1) here [] less ∙ ap items (sym at)
 
     pub server_followed : (ahead : TablesView) (more : List NodeEntry) (least : ℕ) → AreAhead ahead old (parts.Server number) (entries.Server more) least → items after ≡ items here ++ more
-        → Taken ahead (prefixes_in ahead limits (map items (set journals (number - 1) after)) now view) old (parts.Server number) (entries.Server more) least
+        → Taken ahead (journals_in ahead limits (map items (set journals (number - 1) after)) now view) old (parts.Server number) (entries.Server more) least
     server_followed ahead more least led is =
         server_taken tables ahead limits (map items journals) now view old same kept number of_tree (map items (set journals (number - 1) after)) more least led
         (map-set items journals (number - 1) after
@@ -449,7 +455,7 @@ module _ {V : Type 0} (items : V → List NodeEntry) (tables : TablesView) (limi
         let count_here : known ≡ length (items here) = count ∙ ap length (ap (λ (w : JournalsView). server_prefix w number) (sym same) ∙ read) in
         those_behind known (items here) more all count_here (lent ∙ ap items (there ∙ get_or-set_same journals (number - 1) after again less) ∙ is)
 
-    pub server_stays : items after ≡ items here → Stands tables (prefixes_in tables limits (map items (set journals (number - 1) after)) now view) old
+    pub server_stays : items after ≡ items here → Stands tables (journals_in tables limits (map items (set journals (number - 1) after)) now view) old
     server_stays is =
         servers_stay tables tables limits (map items journals) now view old same kept (map items (set journals (number - 1) after))
         (map-set items journals (number - 1) after ∙ ap (set (map items journals) (number - 1)) (is ∙ sym read) ∙ set-get_or (map items journals) (number - 1) [])
@@ -460,14 +466,12 @@ legal-none : (first count : ℕ) → AreLegalServers first (replicate count [])
 legal-none first zero = tt
 legal-none first (suc count) = (tt, legal-none (first + 1) count)
 
-pub opened_is : (tables : TablesView) (levels : ℕ) (limits : LimitsView) (servers : List (List NodeEntry)) (now : List DeskEntry) (view : List ViewEntry)
-    → servers ≡ replicate (2 ^ levels - 1) [] → now ≡ [] → view ≡ [] → tables ≡ tables_of (nothing_pulled levels limits)
-    → Stands tables (prefixes_in tables limits servers now view) (nothing_pulled levels limits)
-opened_is tables levels limits servers now view s d v stand =
+pub opened_is : (tables : TablesView) (levels : ℕ) (limits : LimitsView) (prefixes : JournalsView) → prefixes ≡ nothing_pulled levels limits → tables ≡ tables_of (nothing_pulled levels limits)
+    → Stands tables prefixes (nothing_pulled levels limits)
+opened_is tables levels limits prefixes is stand =
     let positive : 0 < 2 ^ levels = pow_pos levels in
     let count : length (replicate {A = List NodeEntry} (2 ^ levels - 1) []) ≡ 2 ^ levels - 1 = length-replicate (2 ^ levels - 1) [] in
-    stands_at tables (prefixes_in tables limits servers now view) (nothing_pulled levels limits)
-    (λ i. record { levels = (stand i).levels; limits = limits; servers = s i; desk = d i; view = v i })
+    stands_at tables prefixes (nothing_pulled levels limits) is
     (record {
       one_each = omega arith;
       legal = record { servers = legal-none 1 (2 ^ levels - 1); desk = tt; view = tt };

@@ -1,5 +1,5 @@
 -- Whether journals begin with what was pulled of them.
-use Rattle.std.specs.Prelude.{◌<◌, ℕ, ⊤}
+use Rattle.std.specs.Prelude.{◌<◌, ◌^◌, ℕ, ⊤}
 use Rattle.tq_shape.specs.Tree.{IsServer}
 use Rattle.tq_shape.specs.declared.part.Part.{Part}
 use Rattle.tq_shape.specs.declared.part.Part.TheVariants as parts
@@ -36,6 +36,10 @@ pub record IsFirstAstray (prefixes journals : JournalsView) (part : Part) : Type
 -- those below that number do
 abbrev pub ServersBegin : JournalsView → JournalsView → ℕ → Type 0
 ServersBegin prefixes journals past = (number : ℕ) → 0 < number → number < past → Begins (server_prefix prefixes number) (server_prefix journals number)
+
+-- all of them do
+abbrev pub AllServersBegin : JournalsView → JournalsView → Type 0
+AllServersBegin prefixes journals = ServersBegin prefixes journals (2 ^ prefixes.levels)
 
 -- it is the first server whose journal does not
 abbrev pub IsServerAstray : JournalsView → JournalsView → ℕ → Type 0

@@ -1,20 +1,12 @@
 -- What is kept of the parts: their entries, and beside them the tables.
-use Rattle.std.specs.Prelude.{◌≡◌, ◌<◌, ◌≤◌, ℕ, ◌+◌, ◌^◌, List, Option, length, MatchOption}
+use Rattle.std.specs.Prelude.{◌≡◌, ◌<◌, ◌≤◌, ℕ, ◌+◌, ◌^◌, Option, length, MatchOption}
 use Rattle.tq_shape.specs.Tree.{IsServer}
-use Rattle.tq_shape.specs.Limits.{LimitsView}
 use Rattle.tq_shape.specs.declared.part.Part.{Part}
-use Rattle.tq_node.specs.NodeJournal.{NodeEntry}
-use Rattle.tq_desk.specs.DeskJournal.{DeskEntry}
-use Rattle.tq_tables.specs.Journals.{JournalsView, ViewEntry}
+use Rattle.tq_tables.specs.Journals.{JournalsView}
 use Rattle.tq_tables.specs.Parts.{AreLegal}
 use Rattle.tq_tables.specs.Tables.{TablesView, tables_of}
 use Rattle.tq_mirror.specs.declared.entries.Entries.{Entries}
 use Rattle.tq_mirror.specs.Prefixes.{GivesNext, count_of, grown, prefix_length, server_prefix}
-
--- the entries beside tables of that tree
-abbrev pub prefixes_in : TablesView → LimitsView → List (List NodeEntry) → List DeskEntry → List ViewEntry → JournalsView
-prefixes_in tables limits servers desk view =
-    record { levels = tables.levels; limits = limits; servers = servers; desk = desk; view = view }
 
 -- there are entries for each server of the tree, the journals that have them alone are legal, and the tables are theirs
 pub record AreKept (tables : TablesView) (prefixes : JournalsView) : Type 0 where

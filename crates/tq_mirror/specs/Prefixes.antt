@@ -1,5 +1,5 @@
 -- What was pulled of the journals of a system: of each part the first entries. They are seen as journals.
-use Rattle.std.specs.Prelude.{◌≡◌, ◌<◌, ◌⊎◌, ℕ, ◌+◌, ◌-◌, ◌^◌, List, [], ◌++◌, length, get_or, set, replicate, ⊤}
+use Rattle.std.specs.Prelude.{◌≡◌, ◌<◌, ◌≤◌, ◌⊎◌, ℕ, ◌+◌, ◌-◌, List, [], ◌++◌, length, get_or, set, ⊤, Result, OnOk, OnErr, IfErr}
 use Rattle.tq_shape.specs.Tree.{IsServer}
 use Rattle.tq_shape.specs.Limits.{LimitsView}
 use Rattle.tq_shape.specs.Journal.{IsLegalFrom}
@@ -11,7 +11,7 @@ use Rattle.tq_node.specs.Node.{NodeView, answered}
 use Rattle.tq_node.specs.NodeJournal.{NodeEntry}
 use Rattle.tq_desk.specs.DeskJournal.{step_reply, step_after}
 use Rattle.tq_live.specs.View.{view_reply_at, view_after_at}
-use Rattle.tq_tables.specs.Journals.{JournalsView}
+use Rattle.tq_tables.specs.Journals.{JournalsView, no_entries}
 use Rattle.tq_tables.specs.Parts.{node_after_all, desk_at, view_at}
 use Rattle.tq_mirror.specs.declared.entries.Entries.{Entries}
 use Rattle.tq_mirror.specs.declared.entries.Entries.TheVariants as entries
@@ -20,7 +20,7 @@ use Rattle.tq_mirror.specs.declared.fault.PullFault.TheVariants as faults
 
 -- nothing was pulled of any part of a system
 abbrev pub nothing_pulled : ℕ → LimitsView → JournalsView
-nothing_pulled levels limits = record { levels = levels; limits = limits; servers = replicate (2 ^ levels - 1) []; desk = []; view = [] }
+nothing_pulled levels limits = no_entries levels limits
 
 -- a system with a tree of so many levels has the part
 abbrev pub IsPartOf : ℕ → Part → Type 0
@@ -68,3 +68,12 @@ IsForeign prefixes part more least = (GivesNext prefixes part more → ⊥) ⊎ 
 abbrev pub IsPullFault : JournalsView → Part → Entries → ℕ → PullFault → Type 0
 IsPullFault prefixes part more least faults.Memory = ⊤
 IsPullFault prefixes part more least (faults.Foreign there given) = (there ≡ part) × ((given ≡ more) × IsForeign prefixes part more least)
+
+-- what comes of entries of the part, of which with its prefix there were to be that many at least: they stand behind the
+-- prefix, or all is as it was
+pub record IsTaken {T : Type 0} (old new : JournalsView) (part : Part) (more : Entries) (enough : ℕ) (result : Result T PullFault) : Type 0 where
+  pub grown : OnOk result (new ≡ grown old part more)
+  pub least : OnOk result (enough ≤ prefix_length new part)
+  pub count : OnOk result (prefix_length new part ≡ prefix_length old part + count_of more)
+  pub err : OnErr result (new ≡ old)
+  pub fault : IfErr result (IsPullFault old part more enough)

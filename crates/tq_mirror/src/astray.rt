@@ -3,7 +3,7 @@ ghost use Rattle.std.specs.Prelude.{◌≡◌, ◌^◌, MatchOption};
 ghost use Rattle.tq_shape.specs.Tree.{IsServer};
 ghost use Rattle.tq_tables.specs.Parts.{AreLegal};
 ghost use Rattle.tq_mirror.specs.Prefixes.{server_prefix};
-ghost use Rattle.tq_mirror.specs.Astray.{AllBegin, IsFirstAstray, IsServerAstray, ServersBegin};
+ghost use Rattle.tq_mirror.specs.Astray.{AllBegin, AllServersBegin, IsFirstAstray, IsServerAstray};
 
 use crate::prefixes::Prefixes;
 use tq_equality::{OfDesk, OfServer, OfView, begins};
@@ -24,7 +24,8 @@ impl Prefixes {
     /// pulled of it; none where each begins so. Journals that have what was pulled alone are legal.
     pub fn first_astray(&self, journals: &Journals) -> Option<Part>
         requires { self.now.levels ≡ journals.now.levels }
-        ensures first { MatchOption result (AllBegin self.now journals.now) (IsFirstAstray self.now journals.now) }
+        ensures first { MatchOption result
+            (AllBegin self.now journals.now) (IsFirstAstray self.now journals.now) }
         ensures legal { AreLegal self.now }
     {
         let _tables = self.tables();
@@ -43,7 +44,8 @@ impl Prefixes {
     /// The first server, upwards, whose journal does not begin so.
     fn first_server_astray(&self, journals: &Journals) -> Option<u64>
         requires { self.now.levels ≡ journals.now.levels }
-        ensures { MatchOption result (ServersBegin self.now journals.now (2 ^ self.now.levels)) (IsServerAstray self.now journals.now) }
+        ensures { MatchOption result
+            (AllServersBegin self.now journals.now) (IsServerAstray self.now journals.now) }
     {
         for place in 0..journals.levels().servers() {
             let number = place + 1;

@@ -1,9 +1,9 @@
-ghost use Rattle.std.specs.Prelude.{◌≡◌, ◌<◌, ◌≤◌, ◌+◌, ◌-◌, ◌^◌, [], length, map, replicate, IfOk, IfErr, OnOk, OnErr};
+ghost use Rattle.std.specs.Prelude.{◌≡◌, ◌<◌, ◌^◌, ◌++◌, length, IfOk, OnOk, OnErr};
 ghost use Rattle.tq_shape.specs.Tree.{IsServer};
 ghost use Rattle.tq_tables.specs.Parts.{AreLegal};
 ghost use Rattle.tq_tables.specs.Tables.{tables_of};
 ghost use Rattle.tq_mirror.specs.Kept.{AreKept};
-ghost use Rattle.tq_mirror.specs.Prefixes.{IsPullFault, grown, nothing_pulled, prefix_length, server_prefix};
+ghost use Rattle.tq_mirror.specs.Prefixes.{IsTaken, nothing_pulled, server_prefix};
 
 use crate::entries::Entries;
 use crate::fault::PullFault;
@@ -11,10 +11,8 @@ use crate::following::{follow_desk, follow_server, follow_view, has_nothing_new}
 use std::alloc::Global;
 use std::marker::Model;
 use std::mem;
-use tq_desk::Desk;
-use tq_live::View;
 use tq_shape::{Levels, Limits, Memory, Part, Seq};
-use tq_tables::{DeskEntry, NodeEntry, Parts, Tables, ViewEntry, replay_nodes};
+use tq_tables::{DeskEntry, NodeEntry, TabledJournals, Tables, ViewEntry};
 
 /// What was pulled of the journals of a system: of each part the first entries, and the tables over them, which alone
 /// keep how the parts stand. Contracts see it as these entries; the journals that have them alone are legal.
@@ -23,39 +21,32 @@ use tq_tables::{DeskEntry, NodeEntry, Parts, Tables, ViewEntry, replay_nodes};
 /// place of the tables where all is well; the tables that stood there follow then, and are the spare ones. So each entry is
 /// asked twice, and nothing is copied but where there are no spare tables.
 pub struct Prefixes {
-    limits: Limits,
-    tables: Tables,
+    tabled: TabledJournals,
     spare: Option<Tables>,
-    servers: Vec<Vec<NodeEntry>>,
-    desk: Vec<DeskEntry>,
-    view: Vec<ViewEntry>,
 }
 
 // Written out, so that a crate above lets go of one by a call.
 impl Drop for Prefixes {
     fn drop(self) {
         let Self {
-            limits: _,
-            tables: _,
+            tabled: _,
             spare: _,
-            servers: _,
-            desk: _,
-            view: _,
         } = self;
     }
 }
 
 impl Model for Prefixes {
-    ghost use Rattle.std.specs.Prelude.{◌≡◌, map, IfSome};
+    ghost use Rattle.std.specs.Prelude.{◌≡◌, IfSome};
     ghost use Rattle.tq_tables.specs.Journals.{JournalsView};
-    ghost use Rattle.tq_mirror.specs.Kept.{AreKept, prefixes_in};
+    ghost use Rattle.tq_tables.specs.Tabled.{journals_of};
+    ghost use Rattle.tq_mirror.specs.Kept.{AreKept};
 
     ghost Value = { JournalsView };
 
-    ghost view = { λ a. prefixes_in a.tables a.limits (map (λ entries. entries.items) a.servers.items) a.desk.items a.view.items };
+    ghost view = { λ a. journals_of a.tabled };
 
-    ghost invariant = { λ a. AreKept a.tables (prefixes_in a.tables a.limits (map (λ entries. entries.items) a.servers.items) a.desk.items a.view.items)
-        × IfSome a.spare (λ spare. spare ≡ a.tables) };
+    ghost invariant = { λ a. AreKept a.tabled.tables (journals_of a.tabled)
+        × IfSome a.spare (λ spare. spare ≡ a.tabled.tables) };
 }
 
 impl Prefixes {
@@ -63,18 +54,10 @@ impl Prefixes {
     pub fn new(alloc: Global, levels: Levels, limits: Limits) -> Result<Prefixes, Memory>
         ensures { IfOk result (λ prefixes. prefixes ≡ nothing_pulled levels limits) }
     {
-        let servers = empty_journals(alloc, levels)?;
-        let nodes = replay_nodes(alloc, levels, servers.as_slice())?;
-        let desk = Desk::new(alloc, levels, limits);
-        let view = View::new(alloc, levels)?;
-        let tables = Tables::over(alloc, Parts::new(nodes, desk, view), &[])?;
+        let tabled = TabledJournals::new(alloc, levels, limits)?;
         Ok(Prefixes {
-            limits,
-            tables,
+            tabled,
             spare: None,
-            servers,
-            desk: Vec::new(alloc),
-            view: Vec::new(alloc),
         })
     }
 
@@ -82,14 +65,14 @@ impl Prefixes {
     pub fn levels(&self) -> Levels
         ensures { result ≡ self.now.levels }
     {
-        self.tables.levels()
+        self.tabled.tables.levels()
     }
 
     /// The limits of the system.
     pub fn limits(&self) -> Limits
         ensures { result ≡ self.now.limits }
     {
-        self.limits
+        self.tabled.limits
     }
 
     /// The tables over what was pulled: those of journals that have these entries alone, which are legal.
@@ -104,8 +87,8 @@ impl Prefixes {
     pub(crate) fn kept(&self) -> &Tables
         ensures { AreKept result.now self.now }
     {
-        let _ = &self.limits;
-        &self.tables
+        let _ = &self.tabled.limits;
+        &self.tabled.tables
     }
 
     /// The spare tables, or a copy of the tables where there are none.
@@ -113,10 +96,10 @@ impl Prefixes {
         ensures same { self.new ≡ self.old }
         ensures spare { IfOk result (λ spare. AreKept spare self.old) }
     {
-        let _ = &self.limits;
+        let _ = &self.tabled.limits;
         match self.spare.take() {
             Some(spare) => Ok(spare),
-            None => self.tables.copy(alloc),
+            None => self.tabled.tables.copy(alloc),
         }
     }
 
@@ -126,7 +109,7 @@ impl Prefixes {
         ensures { result.now ≡ server_prefix self.now number }
     {
         let place = (number - 1) as usize;
-        self.servers[place].as_slice()
+        self.tabled.servers[place].as_slice()
     }
 
     /// How many entries were pulled of the server of that number.
@@ -136,21 +119,21 @@ impl Prefixes {
         ensures few { result < 2 ^ 63 }
     {
         let place = (number - 1) as usize;
-        self.servers[place].len()
+        self.tabled.servers[place].len()
     }
 
     /// What was pulled of the desk.
     pub fn desk(&self) -> &[DeskEntry]
         ensures { result.now ≡ self.now.desk }
     {
-        self.desk.as_slice()
+        self.tabled.desk.as_slice()
     }
 
     /// What was pulled of the view.
     pub fn view(&self) -> &[ViewEntry]
         ensures { result.now ≡ self.now.view }
     {
-        self.view.as_slice()
+        self.tabled.view.as_slice()
     }
 
     /// Takes entries of the server of that number, as `take_desk` takes those of the desk.
@@ -162,11 +145,8 @@ impl Prefixes {
         least: u64,
     ) -> Result<(), PullFault>
         requires { IsServer self.old.levels number }
-        ensures grown { OnOk result (self.new ≡ grown self.old (Part.Server number) (Entries.Server entries.items)) }
-        ensures least { OnOk result (least ≤ prefix_length self.new (Part.Server number)) }
-        ensures count { OnOk result (prefix_length self.new (Part.Server number) ≡ prefix_length self.old (Part.Server number) + length entries.items) }
-        ensures err { OnErr result (self.new ≡ self.old) }
-        ensures fault { IfErr result (IsPullFault self.old (Part.Server number) (Entries.Server entries.items) least) }
+        ensures { IsTaken self.old self.new
+            (Part.Server number) (Entries.Server entries.items) least result }
     {
         let known = self.server_count(number);
         if has_nothing_new(known, entries.len(), least) {
@@ -179,10 +159,13 @@ impl Prefixes {
             });
         };
         let place = (number - 1) as usize;
-        let mut next = entries;
-        self.servers[place].append(&mut next)?;
-        let behind = mem::replace(&mut self.tables, ahead);
-        let fresh = &self.servers[place].as_slice()[known..];
+        let behind = put_behind(
+            &mut self.tabled.servers[place],
+            &mut self.tabled.tables,
+            entries,
+            ahead,
+        )?;
+        let fresh = &self.tabled.servers[place].as_slice()[known..];
         self.spare = follow_server(alloc, behind, number, known, fresh).unwrap_or(None);
         Ok(())
     }
@@ -196,11 +179,7 @@ impl Prefixes {
         entries: Vec<DeskEntry>,
         least: u64,
     ) -> Result<(), PullFault>
-        ensures grown { OnOk result (self.new ≡ grown self.old Part.Desk (Entries.Desk entries.items)) }
-        ensures least { OnOk result (least ≤ prefix_length self.new Part.Desk) }
-        ensures count { OnOk result (prefix_length self.new Part.Desk ≡ prefix_length self.old Part.Desk + length entries.items) }
-        ensures err { OnErr result (self.new ≡ self.old) }
-        ensures fault { IfErr result (IsPullFault self.old Part.Desk (Entries.Desk entries.items) least) }
+        ensures { IsTaken self.old self.new Part.Desk (Entries.Desk entries.items) least result }
     {
         if has_nothing_new(self.desk().len(), entries.len(), least) {
             return Ok(());
@@ -211,11 +190,10 @@ impl Prefixes {
                 entries: Entries::Desk(Seq::from_vec(entries)),
             });
         };
-        let known = self.desk.len();
-        let mut next = entries;
-        self.desk.append(&mut next)?;
-        let behind = mem::replace(&mut self.tables, ahead);
-        let fresh = &self.desk.as_slice()[known..];
+        let known = self.tabled.desk.len();
+        let tabled = &mut self.tabled;
+        let behind = put_behind(&mut tabled.desk, &mut tabled.tables, entries, ahead)?;
+        let fresh = &self.tabled.desk.as_slice()[known..];
         self.spare = follow_desk(alloc, behind, fresh).unwrap_or(None);
         Ok(())
     }
@@ -227,11 +205,7 @@ impl Prefixes {
         entries: Vec<ViewEntry>,
         least: u64,
     ) -> Result<(), PullFault>
-        ensures grown { OnOk result (self.new ≡ grown self.old Part.View (Entries.View entries.items)) }
-        ensures least { OnOk result (least ≤ prefix_length self.new Part.View) }
-        ensures count { OnOk result (prefix_length self.new Part.View ≡ prefix_length self.old Part.View + length entries.items) }
-        ensures err { OnErr result (self.new ≡ self.old) }
-        ensures fault { IfErr result (IsPullFault self.old Part.View (Entries.View entries.items) least) }
+        ensures { IsTaken self.old self.new Part.View (Entries.View entries.items) least result }
     {
         if has_nothing_new(self.view().len(), entries.len(), least) {
             return Ok(());
@@ -242,23 +216,30 @@ impl Prefixes {
                 entries: Entries::View(Seq::from_vec(entries)),
             });
         };
-        let known = self.view.len();
-        let mut next = entries;
-        self.view.append(&mut next)?;
-        let behind = mem::replace(&mut self.tables, ahead);
-        let fresh = &self.view.as_slice()[known..];
+        let known = self.tabled.view.len();
+        let tabled = &mut self.tabled;
+        let behind = put_behind(&mut tabled.view, &mut tabled.tables, entries, ahead)?;
+        let fresh = &self.tabled.view.as_slice()[known..];
         self.spare = follow_view(alloc, behind, fresh).unwrap_or(None);
         Ok(())
     }
 }
 
-/// A journal with no entry for each server of the tree.
-fn empty_journals(alloc: Global, levels: Levels) -> Result<Vec<Vec<NodeEntry>>, Memory>
-    ensures { IfOk result (λ servers. map (λ entries. entries.items) servers.items ≡ replicate (2 ^ levels - 1) []) }
+/// Puts the entries behind those of the journal, and the tables ahead in the place of the tables, which are handed back.
+/// Out of memory changes nothing.
+fn put_behind<E: Drop>(
+    journal: &mut Vec<E>,
+    tables: &mut Tables,
+    entries: Vec<E>,
+    ahead: Tables,
+) -> Result<Tables, Memory>
+    ensures entries { OnOk result (journal.new.items ≡ journal.old.items ++ entries.items) }
+    ensures ahead { OnOk result (tables.new ≡ ahead) }
+    ensures behind { IfOk result (λ behind. behind ≡ tables.old) }
+    ensures same { OnErr result (journal.new.items ≡ journal.old.items) }
+    ensures unchanged { OnErr result (tables.new ≡ tables.old) }
 {
-    let mut servers = Vec::new(alloc);
-    for _ in 0..levels.servers() {
-        servers.push(Vec::new(alloc))?;
-    }
-    Ok(servers)
+    let mut next = entries;
+    journal.append(&mut next)?;
+    Ok(mem::replace(tables, ahead))
 }

@@ -9,7 +9,7 @@ pub invariant_of-self : goal.invariant_of-self
 invariant_of-self c =
     let now = c.args.self.now in
     let refusal_is = c.refusal.ensures ∙ (λ i. refuse_entry now Desk (length (c.desk_journal.ensures i)) (c.unfounded_in_desk_ask-unfounded.ensures i)) in
-    let asked = desk_asked c.self.inside.tables c.enter_desk-asked.new.tables _ now c.self.view_is c.self.invariant c.enter_desk-asked.new.journal.items c.args.ask c.enter_desk-asked.result _ refl
+    let asked = desk_asked c.self.inside.tabled.tables c.enter_desk-asked.new.tables _ now c.self.view_is c.self.invariant c.enter_desk-asked.new.journal.items c.args.ask c.enter_desk-asked.result _ refl
     (not-refused now (steps.Desk c.args.ask) c.refusal.result refusal_is c.in_default.is)
     c.enter_desk-asked.ensures in
     asked.stands
@@ -18,7 +18,7 @@ pub returns-clause-after : goal.returns-clause-after
 returns-clause-after c =
     let now = c.args.self.now in
     let refusal_is = c.refusal.ensures ∙ (λ i. refuse_entry now Desk (length (c.desk_journal.ensures i)) (c.unfounded_in_desk_ask-unfounded.ensures i)) in
-    let asked = desk_asked c.self.inside.tables c.enter_desk-asked.new.tables _ now c.self.view_is c.self.invariant c.enter_desk-asked.new.journal.items c.args.ask c.enter_desk-asked.result _ c.told_of.ensures
+    let asked = desk_asked c.self.inside.tabled.tables c.enter_desk-asked.new.tables _ now c.self.view_is c.self.invariant c.enter_desk-asked.new.journal.items c.args.ask c.enter_desk-asked.result _ c.told_of.ensures
     (not-refused now (steps.Desk c.args.ask) c.refusal.result refusal_is c.in_default.is)
     c.enter_desk-asked.ensures in
     asked.after

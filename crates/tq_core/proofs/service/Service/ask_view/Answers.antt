@@ -10,8 +10,8 @@ use Rattle.tq_core.proofs.service.Service.ask_view.Goals as goal
 pub invariant_of-self : goal.invariant_of-self
 invariant_of-self c =
     let now = c.args.self.now in
-    let refusal_is = c.refusal.ensures ∙ (λ i. refuse_entry now View ((c.len.ensures ∙ c.self.inside.view.ok.0 ∙ ap (λ (w : JournalsView). length w.view) c.self.view_is) i) None) in
-    let asked = view_asked c.self.inside.tables c.enter_view-asked.new.tables _ now c.self.view_is c.self.invariant c.enter_view-asked.new.journal.items c.args.ask c.enter_view-asked.result _ refl
+    let refusal_is = c.refusal.ensures ∙ (λ i. refuse_entry now View ((c.len.ensures ∙ c.self.inside.tabled.view.ok.0 ∙ ap (λ (w : JournalsView). length w.view) c.self.view_is) i) None) in
+    let asked = view_asked c.self.inside.tabled.tables c.enter_view-asked.new.tables _ now c.self.view_is c.self.invariant c.enter_view-asked.new.journal.items c.args.ask c.enter_view-asked.result _ refl
     (not-refused now (steps.View c.args.ask) c.refusal.result refusal_is c.in_default.is)
     c.enter_view-asked.ensures in
     asked.stands
@@ -19,8 +19,8 @@ invariant_of-self c =
 pub returns-clause-after : goal.returns-clause-after
 returns-clause-after c =
     let now = c.args.self.now in
-    let refusal_is = c.refusal.ensures ∙ (λ i. refuse_entry now View ((c.len.ensures ∙ c.self.inside.view.ok.0 ∙ ap (λ (w : JournalsView). length w.view) c.self.view_is) i) None) in
-    let asked = view_asked c.self.inside.tables c.enter_view-asked.new.tables _ now c.self.view_is c.self.invariant c.enter_view-asked.new.journal.items c.args.ask c.enter_view-asked.result _ c.told_of.ensures
+    let refusal_is = c.refusal.ensures ∙ (λ i. refuse_entry now View ((c.len.ensures ∙ c.self.inside.tabled.view.ok.0 ∙ ap (λ (w : JournalsView). length w.view) c.self.view_is) i) None) in
+    let asked = view_asked c.self.inside.tabled.tables c.enter_view-asked.new.tables _ now c.self.view_is c.self.invariant c.enter_view-asked.new.journal.items c.args.ask c.enter_view-asked.result _ c.told_of.ensures
     (not-refused now (steps.View c.args.ask) c.refusal.result refusal_is c.in_default.is)
     c.enter_view-asked.ensures in
     asked.after
@@ -28,8 +28,8 @@ returns-clause-after c =
 pub returns-clause-told : goal.returns-clause-told
 returns-clause-told c =
     let now = c.args.self.now in
-    let refusal_is = c.refusal.ensures ∙ (λ i. refuse_entry now View ((c.len.ensures ∙ c.self.inside.view.ok.0 ∙ ap (λ (w : JournalsView). length w.view) c.self.view_is) i) None) in
-    let asked = view_asked c.self.inside.tables c.enter_view-asked.new.tables _ now c.self.view_is c.self.invariant c.enter_view-asked.new.journal.items c.args.ask c.enter_view-asked.result _ c.told_of.ensures
+    let refusal_is = c.refusal.ensures ∙ (λ i. refuse_entry now View ((c.len.ensures ∙ c.self.inside.tabled.view.ok.0 ∙ ap (λ (w : JournalsView). length w.view) c.self.view_is) i) None) in
+    let asked = view_asked c.self.inside.tabled.tables c.enter_view-asked.new.tables _ now c.self.view_is c.self.invariant c.enter_view-asked.new.journal.items c.args.ask c.enter_view-asked.result _ c.told_of.ensures
     (not-refused now (steps.View c.args.ask) c.refusal.result refusal_is c.in_default.is)
     c.enter_view-asked.ensures in
     asked.told

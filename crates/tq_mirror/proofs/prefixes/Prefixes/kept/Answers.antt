@@ -4,4 +4,4 @@ use Rattle.tq_mirror.specs.Kept.{AreKept}
 use Rattle.tq_mirror.proofs.prefixes.Prefixes.kept.Goals as goal
 
 pub returns : goal.returns
-returns c = subst (λ (w : JournalsView). AreKept c.self.inside.tables w) c.self.view_is c.self.invariant.0
+returns c = subst (λ (w : JournalsView). AreKept c.self.inside.tabled.tables w) c.self.view_is c.self.invariant.0
