@@ -276,7 +276,7 @@ impl Open {
             kind: OpKind::Read,
             version: copy.version,
             content,
-            grants: Shareable::from_vec(grants),
+            grants: share_grants(grants),
         };
         self.put(kept, op);
         Ok(copy)
@@ -310,7 +310,7 @@ impl Open {
             kind: OpKind::Write,
             version,
             content,
-            grants: Shareable::from_vec(grants),
+            grants: share_grants(grants),
         };
         self.put(kept, op);
         Some(version)
@@ -568,6 +568,15 @@ fn write_place(ops: &[Op], file: &FileName) -> Option<usize>
     ensures within { IfSome result (λ place. place < length ops.now) }
 {
     ops.iter().position(|op| op.writes(file))
+}
+
+/// The grants of an operation, which its clones share. Where memory for that is refused, each clone copies them.
+fn share_grants(grants: Vec<Grant>) -> Shareable<Grant>
+    ensures { result ≡ grants.items }
+{
+    let mut list = Shareable::from_vec(grants);
+    let _unless_refused = list.share();
+    list
 }
 
 /// Puts the operation before those of later files, in a list that has room.

@@ -26,11 +26,11 @@ pub put-requires-clause-noted : goal.put-requires-clause-noted
 put-requires-clause-noted c =
     let kept = c.into_parts-kept.ensures.kept in
     let P : RoomySet → List Grant → Type 0 = λ set gs. are_noted set.servers gs ≡ true in
-    subst (λ (set : RoomySet). P set c.from_vec.result) (sym kept.touched) (subst (P c.args.granting.touched) (sym (c.from_vec.ensures ∙ c.into_parts-kept.ensures.grants)) c.into_parts-kept.ensures.noted)
+    subst (λ (set : RoomySet). P set c.share_grants.result) (sym kept.touched) (subst (P c.args.granting.touched) (sym (c.share_grants.ensures ∙ c.into_parts-kept.ensures.grants)) c.into_parts-kept.ensures.noted)
 
 pub put-requires-clause-room : goal.put-requires-clause-room
 put-requires-clause-room c =
-    rw (c.into_parts-kept.ensures.kept.voters, c.into_parts-kept.ensures.kept.grows, c.from_vec.ensures, c.into_parts-kept.ensures.grants) c.requires.take.voters
+    rw (c.into_parts-kept.ensures.kept.voters, c.into_parts-kept.ensures.kept.grows, c.share_grants.ensures, c.into_parts-kept.ensures.grants) c.requires.take.voters
 
 pub put-requires-clause-place : goal.put-requires-clause-place
 put-requires-clause-place c = place_left c.into_parts-kept.result.0 c.args.granting c.into_parts-kept.ensures.kept c.requires.take.place
@@ -39,12 +39,12 @@ pub put-requires-clause-good : goal.put-requires-clause-good
 put-requires-clause-good c =
     let granting = c.args.granting in
     let old = noted c.args.self.now granting in
-    let grants = c.from_vec.ensures ∙ c.into_parts-kept.ensures.grants in
+    let grants = c.share_grants.ensures ∙ c.into_parts-kept.ensures.grants in
     let same = kept_as c.args.self.now c.into_parts-kept.result.0 granting c.into_parts-kept.ensures.kept in
     let read = c.in-Ok.given in
-    let op : Op = record { file = c.args.file.now; kind = kinds.Read; version = read.copy.version; content = read.kept; grants = c.from_vec.result } in
-    let copy : read.copy ≡ read_copy c.from_vec.result = c.in-Ok.ensures.copy ∙ ap read_copy (c.grants.ensures ∙ sym grants) in
+    let op : Op = record { file = c.args.file.now; kind = kinds.Read; version = read.copy.version; content = read.kept; grants = c.share_grants.result } in
+    let copy : read.copy ≡ read_copy c.share_grants.result = c.in-Ok.ensures.copy ∙ ap read_copy (c.grants.ensures ∙ sym grants) in
     let kept = c.in-Ok.ensures.kept ∙ ap (λ gs. (read_copy gs).content) (c.grants.ensures ∙ sym grants) in
     let member = subst (λ gs. is_member c.args.self.now.levels gs ≡ true) (sym grants) c.requires.member in
     subst (λ (v : OpenView). IsGoodOp v op) (sym same)
-    (good_read_of old c.args.file.now read.kept c.from_vec.result read.copy.version (ap (λ (f : FileCopy). f.version) copy) kept member c.requires.fresh)
+    (good_read_of old c.args.file.now read.kept c.share_grants.result read.copy.version (ap (λ (f : FileCopy). f.version) copy) kept member c.requires.fresh)

@@ -25,11 +25,11 @@ pub put-requires-clause-noted : goal.put-requires-clause-noted
 put-requires-clause-noted c =
     let kept = c.into_parts-kept.ensures.kept in
     let P : RoomySet → List Grant → Type 0 = λ set gs. are_noted set.servers gs ≡ true in
-    subst (λ (set : RoomySet). P set c.from_vec.result) (sym kept.touched) (subst (P c.args.granting.touched) (sym (c.from_vec.ensures ∙ c.into_parts-kept.ensures.grants)) c.into_parts-kept.ensures.noted)
+    subst (λ (set : RoomySet). P set c.share_grants.result) (sym kept.touched) (subst (P c.args.granting.touched) (sym (c.share_grants.ensures ∙ c.into_parts-kept.ensures.grants)) c.into_parts-kept.ensures.noted)
 
 pub put-requires-clause-room : goal.put-requires-clause-room
 put-requires-clause-room c =
-    rw (c.into_parts-kept.ensures.kept.voters, c.into_parts-kept.ensures.kept.grows, c.from_vec.ensures, c.into_parts-kept.ensures.grants) c.requires.take.voters
+    rw (c.into_parts-kept.ensures.kept.voters, c.into_parts-kept.ensures.kept.grows, c.share_grants.ensures, c.into_parts-kept.ensures.grants) c.requires.take.voters
 
 pub put-requires-clause-place : goal.put-requires-clause-place
 put-requires-clause-place c = place_left c.into_parts-kept.result.0 c.args.granting c.into_parts-kept.ensures.kept c.requires.take.place
@@ -38,10 +38,10 @@ pub put-requires-clause-good : goal.put-requires-clause-good
 put-requires-clause-good c =
     let granting = c.args.granting in
     let old = noted c.args.self.now granting in
-    let grants = c.from_vec.ensures ∙ c.into_parts-kept.ensures.grants in
+    let grants = c.share_grants.ensures ∙ c.into_parts-kept.ensures.grants in
     let same = kept_as c.args.self.now c.into_parts-kept.result.0 granting c.into_parts-kept.ensures.kept in
-    let op : Op = record { file = c.args.file.now; kind = kinds.Write; version = c.in-Some.version; content = c.args.content; grants = c.from_vec.result } in
+    let op : Op = record { file = c.args.file.now; kind = kinds.Write; version = c.in-Some.version; content = c.args.content; grants = c.share_grants.result } in
     let best : c.greatest_version.result ≡ greatest granting.grants = c.greatest_version.ensures ∙ ap greatest c.grants.ensures in
     let next : c.in-Some.version ≡ greatest granting.grants + 1 = (search rules) ∙ ap (λ n. n + 1) best in
     subst (λ (v : OpenView). IsGoodOp v op) (sym same)
-    (good_write_by old c.args.file.now c.args.content granting.grants c.from_vec.result c.in-Some.version next grants c.requires.member c.requires.exclusive c.requires.fresh)
+    (good_write_by old c.args.file.now c.args.content granting.grants c.share_grants.result c.in-Some.version next grants c.requires.member c.requires.exclusive c.requires.fresh)
