@@ -1,4 +1,4 @@
-use Rattle.std.proofs.Common.{◌≡◌, ◌∙◌, ◌<◌, ◌++◌, None, length, ap, sym, subst}
+use Rattle.std.proofs.Common.{◌≡◌, ◌∙◌, ◌<◌, ◌++◌, None, length, refl, ap, sym, subst}
 use Rattle.std.proofs.lemmas.List.Elements.{All-set}
 use Rattle.tq_world.specs.World.{item_at}
 use Rattle.tq_txn.specs.States.{levels_of}
@@ -48,7 +48,7 @@ pub returns-in-None-clause-possible : goal.returns-in-None-clause-possible
 returns-in-None-clause-possible c =
     let tree = tree_known _ _ _ _ c.args.self.now c.self.invariant.0 c.self.invariant.1 c.self.view_is in
     let line = lines.Txn c.in-Txn.number c.in-Txn.line in
-    let none : item_at c.args.self.now.known.txns c.in-Txn.number ≡ None = c.in-None.ensures.none in
+    let none : item_at c.args.self.now.known.txns c.in-Txn.number ≡ None = c.in-None.ensures.none refl in
     rw c.in-Txn.is (said_on c.say_number.result c.args.self.now line c.args.text.now.items c.say_number.new.text.items tree (rw none c.say_number.ensures.text))
 
 pub invariant_of-self : goal.invariant_of-self
@@ -56,40 +56,40 @@ invariant_of-self c =
     let On : Kept → Type 0 = λ k. levels_of k.txn ≡ c.self.inside.levels in
     let P : World → Type 0 = λ v. c.in-Some.place < length v.known.txns in
     let less : c.in-Some.place < length c.self.inside.txns.items = subst P (sym c.self.view_is) c.in-Some.ensures.some.1 in
-    let left : levels_of c.answer_txn.new.kept.txn ≡ c.self.inside.levels = c.in_err-answer_txn.ensures.levels ∙ ap (λ (k : Kept). levels_of k.txn) c.index_mut-kept.ensures.value ∙ c.self.invariant.1 c.in-Some.place c.index_mut-kept.result.now less in
-    (c.in_err-answer_txn.ensures.tree ∙ c.self.invariant.0, All-set On c.self.inside.txns.items c.in-Some.place c.answer_txn.new.kept left c.self.invariant.1)
+    let left : levels_of c.answer_txn.new.kept.txn ≡ c.self.inside.levels = c.in_err-answer_txn-in-Some.ensures.levels ∙ ap (λ (k : Kept). levels_of k.txn) c.index_mut-kept.ensures.value ∙ c.self.invariant.1 c.in-Some.place c.index_mut-kept.result.now less in
+    (c.in_err-answer_txn-in-Some.ensures.tree ∙ c.self.invariant.0, All-set On c.self.inside.txns.items c.in-Some.place c.answer_txn.new.kept left c.self.invariant.1)
 
-pub invariant_of-self-2 : goal.invariant_of-self-2
-invariant_of-self-2 c =
+pub invariant_of-self-in-Some : goal.invariant_of-self-in-Some
+invariant_of-self-in-Some c =
     let On : Kept → Type 0 = λ k. levels_of k.txn ≡ c.self.inside.levels in
     let P : World → Type 0 = λ v. c.in-Some.place < length v.known.txns in
     let less : c.in-Some.place < length c.self.inside.txns.items = subst P (sym c.self.view_is) c.in-Some.ensures.some.1 in
-    let left : levels_of c.answer_txn.new.kept.txn ≡ c.self.inside.levels = c.in_ok-answer_txn.ensures.levels ∙ ap (λ (k : Kept). levels_of k.txn) c.index_mut-kept.ensures.value ∙ c.self.invariant.1 c.in-Some.place c.index_mut-kept.result.now less in
-    (c.in_ok-answer_txn.ensures.tree ∙ c.self.invariant.0, All-set On c.self.inside.txns.items c.in-Some.place c.answer_txn.new.kept left c.self.invariant.1)
+    let left : levels_of c.answer_txn.new.kept.txn ≡ c.self.inside.levels = c.in_ok-answer_txn-in-Some.ensures.levels ∙ ap (λ (k : Kept). levels_of k.txn) c.index_mut-kept.ensures.value ∙ c.self.invariant.1 c.in-Some.place c.index_mut-kept.result.now less in
+    (c.in_ok-answer_txn-in-Some.ensures.tree ∙ c.self.invariant.0, All-set On c.self.inside.txns.items c.in-Some.place c.answer_txn.new.kept left c.self.invariant.1)
 
-pub returns-in-Some-clause-text : goal.returns-in-Some-clause-text
-returns-in-Some-clause-text c =
+pub returns-in_ok-answer_txn-in-Some-clause-text : goal.returns-in_ok-answer_txn-in-Some-clause-text
+returns-in_ok-answer_txn-in-Some-clause-text c =
     let w : World = record { journals = c.self.inside.recorder.journals; known = record { levels = c.self.inside.levels; limits = c.self.inside.limits; txns = c.self.inside.txns.items } } in
     let P : World → Type 0 = λ v. c.in-Some.place < length v.known.txns in
     let less : c.in-Some.place < length c.self.inside.txns.items = subst P (sym c.self.view_is) c.in-Some.ensures.some.1 in
-    let end = txn_answered w c.in-Txn.number c.in-Some.place c.in-Txn.line c.index_mut-kept.result.now c.answer_txn.new.kept c.answer_txn.new.recorder.journals c.args.text.now.items c.answer_txn.new.text.items c.in-Some.ensures.some.0 less c.index_mut-kept.ensures.value c.in_ok-answer_txn.ensures.answered in
+    let end = txn_answered w c.in-Txn.number c.in-Some.place c.in-Txn.line c.index_mut-kept.result.now c.answer_txn.new.kept c.answer_txn.new.recorder.journals c.args.text.now.items c.answer_txn.new.text.items c.in-Some.ensures.some.0 less c.index_mut-kept.ensures.value c.in_ok-answer_txn-in-Some.ensures.answered in
     rw c.in-Txn.is (end.0 ∙ ap (λ (v : World). c.args.text.now.items ++ (answer v (lines.Txn c.in-Txn.number c.in-Txn.line)).text) c.self.view_is)
 
-pub returns-in-Some-clause-after : goal.returns-in-Some-clause-after
-returns-in-Some-clause-after c =
+pub returns-in_ok-answer_txn-in-Some-clause-after : goal.returns-in_ok-answer_txn-in-Some-clause-after
+returns-in_ok-answer_txn-in-Some-clause-after c =
     let w : World = record { journals = c.self.inside.recorder.journals; known = record { levels = c.self.inside.levels; limits = c.self.inside.limits; txns = c.self.inside.txns.items } } in
     let P : World → Type 0 = λ v. c.in-Some.place < length v.known.txns in
     let less : c.in-Some.place < length c.self.inside.txns.items = subst P (sym c.self.view_is) c.in-Some.ensures.some.1 in
-    let end = txn_answered w c.in-Txn.number c.in-Some.place c.in-Txn.line c.index_mut-kept.result.now c.answer_txn.new.kept c.answer_txn.new.recorder.journals c.args.text.now.items c.answer_txn.new.text.items c.in-Some.ensures.some.0 less c.index_mut-kept.ensures.value c.in_ok-answer_txn.ensures.answered in
+    let end = txn_answered w c.in-Txn.number c.in-Some.place c.in-Txn.line c.index_mut-kept.result.now c.answer_txn.new.kept c.answer_txn.new.recorder.journals c.args.text.now.items c.answer_txn.new.text.items c.in-Some.ensures.some.0 less c.index_mut-kept.ensures.value c.in_ok-answer_txn-in-Some.ensures.answered in
     rw c.in-Txn.is (end.1 ∙ ap (λ (v : World). (answer v (lines.Txn c.in-Txn.number c.in-Txn.line)).after) c.self.view_is)
 
-pub returns-in-Some-clause-possible : goal.returns-in-Some-clause-possible
-returns-in-Some-clause-possible c =
+pub returns-in_ok-answer_txn-in-Some-clause-possible : goal.returns-in_ok-answer_txn-in-Some-clause-possible
+returns-in_ok-answer_txn-in-Some-clause-possible c =
     let tree = tree_known _ _ _ _ c.args.self.now c.self.invariant.0 c.self.invariant.1 c.self.view_is in
     let w : World = record { journals = c.self.inside.recorder.journals; known = record { levels = c.self.inside.levels; limits = c.self.inside.limits; txns = c.self.inside.txns.items } } in
     let P : World → Type 0 = λ v. c.in-Some.place < length v.known.txns in
     let less : c.in-Some.place < length c.self.inside.txns.items = subst P (sym c.self.view_is) c.in-Some.ensures.some.1 in
     let line = lines.Txn c.in-Txn.number c.in-Txn.line in
-    let end = txn_answered w c.in-Txn.number c.in-Some.place c.in-Txn.line c.index_mut-kept.result.now c.answer_txn.new.kept c.answer_txn.new.recorder.journals c.args.text.now.items c.answer_txn.new.text.items c.in-Some.ensures.some.0 less c.index_mut-kept.ensures.value c.in_ok-answer_txn.ensures.answered in
+    let end = txn_answered w c.in-Txn.number c.in-Some.place c.in-Txn.line c.index_mut-kept.result.now c.answer_txn.new.kept c.answer_txn.new.recorder.journals c.args.text.now.items c.answer_txn.new.text.items c.in-Some.ensures.some.0 less c.index_mut-kept.ensures.value c.in_ok-answer_txn-in-Some.ensures.answered in
     let text = end.0 ∙ ap (λ (v : World). c.args.text.now.items ++ (answer v line).text) c.self.view_is in
     rw c.in-Txn.is (said_of c.args.self.now line c.args.text.now.items c.answer_txn.new.text.items tree text)
