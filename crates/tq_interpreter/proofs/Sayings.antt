@@ -1,10 +1,12 @@
 -- A line of the shell says an answer, or a fault that can come.
-use Rattle.std.proofs.Common.{◌≡◌, ◌∙◌, ℕ, Bool, true, false, cond, List, [], ◌++◌, Option, Some, None, Result, Ok, Err, refl, ap, subst, codes}
+use Rattle.std.proofs.Common.{◌≡◌, ◌∙◌, ℕ, Bool, true, false, cond, List, [], ◌++◌, Option, Some, None, Result, Ok, Err, refl, sym, ap, subst, codes}
 use Rattle.std.specs.Fmt.{decimal}
-use Rattle.std.specs.Prelude.{◌-◌, nat_lt, slice_get}
+use Rattle.std.specs.Prelude.{◌-◌, nat_lt, slice_get, OnOk}
 use Rattle.std.proofs.lemmas.List.{append-nil}
 use Rattle.std.proofs.lemmas.List.Elements.{All-get_or}
 use Rattle.std.proofs.lemmas.Option.{get_or_from_slice_get, slice_get_within}
+use Rattle.tq_shape.specs.Limits.{LimitsView}
+use Rattle.tq_tables.specs.Journals.{JournalsView}
 use Rattle.tq_desk.specs.declared.ask.DeskAsk.TheVariants as desk_asks
 use Rattle.tq_desk.specs.declared.ask.DeskReply.{DeskReply}
 use Rattle.tq_desk.specs.declared.ask.DeskReply.TheVariants as desk_replies
@@ -173,3 +175,16 @@ said_of w (of.Txn number line) before after all is =
     let asks = of_txn w.known number (item_at w.known.txns number) (line_asked w.known.levels line) in
     said_as before after (run_line w.journals asks).end is
     (ends_so Shows asks w.journals (txn_says w.journals.levels w.known.levels line number w.known (item_at w.known.txns number) (λ kept there. kept_in w.journals.levels w.known.txns number kept all there)))
+
+-- the transactions of the world that a shell stands on are of its tree
+pub tree_known : (journals : JournalsView) (levels : ℕ) (limits : LimitsView) (txns : List Kept) (w : World) → journals.levels ≡ levels → AreOfTree levels txns
+    → record { journals = journals; known = record { levels = levels; limits = limits; txns = txns } } ≡ w → AreOfTree w.journals.levels w.known.txns
+tree_known journals levels limits txns w same all is =
+    let On : World → Type 0 = λ v. AreOfTree v.journals.levels v.known.txns in
+    subst On is (subst (λ (l : ℕ). AreOfTree l txns) (sym same) all)
+
+-- what was printed of a line, where memory was not refused
+pub said_on : {A E : Type 0} (result : Result A E) (w : World) (line : Line) (before after : List ℕ) → AreOfTree w.journals.levels w.known.txns
+    → OnOk result (after ≡ before ++ (answer w line).text) → OnOk result (IsSaidOf line before after)
+said_on (Ok done) w line before after all is = said_of w line before after all is
+said_on (Err fault) w line before after all is = tt

@@ -1,5 +1,5 @@
 -- A line of a transaction says an answer, or a fault that can come.
-use Rattle.std.proofs.Common.{◌≡◌, ℕ, Bool, true, false, cond, List, [], ◌∷◌, ◌++◌, Option, Some, None, Result, Ok, Err, refl, ap, subst, ◌∙◌}
+use Rattle.std.proofs.Common.{◌≡◌, ℕ, Bool, true, false, cond, List, [], ◌∷◌, Option, Some, None, Result, Ok, Err, refl, subst}
 use Rattle.std.specs.Prelude.{IfSome}
 use Rattle.tq_shape.specs.Journal.{is_empty}
 use Rattle.tq_desk.specs.declared.ask.DeskAsk.TheVariants as desk_asks
@@ -14,7 +14,6 @@ use Rattle.tq_txn_states.specs.declared.fault.TxnFault.TheVariants as txn_faults
 use Rattle.tq_txn_states.specs.declared.told.DeskTold.{DeskTold}
 use Rattle.tq_txn_states.specs.Open.{OpenView, seen, written, close_fault}
 use Rattle.tq_txn_states.specs.Voting.{VotingView, closed}
-use Rattle.tq_tables.specs.Journals.{JournalsView}
 use Rattle.tq_txn.specs.declared.fault.LineFault.{LineFault}
 use Rattle.tq_txn.specs.declared.fault.LineFault.TheVariants as faults
 use Rattle.tq_txn.specs.declared.txn.Txn.{Txn}
@@ -26,16 +25,14 @@ use Rattle.tq_txn.specs.Aborts.{abort_line}
 use Rattle.tq_txn.specs.States.{levels_of}
 use Rattle.tq_syntax.specs.declared.line.TxnLine.{TxnLine}
 use Rattle.tq_syntax.specs.declared.line.TxnLine.TheVariants as of
-use Rattle.tq_text.specs.Print.{printed}
 use Rattle.tq_interpreter.specs.declared.kept.Kept.{Kept}
 use Rattle.tq_interpreter.specs.declared.kept.Ending.{Ending}
 use Rattle.tq_interpreter.specs.Known.{in_state, ending_in}
-use Rattle.tq_interpreter.specs.PossibleTxn.{IsOfOwn, Saying, Reads, Writes, Votes, Commits, Aborts, Resolves, Applies, Closed, Undecided, Stops, OffTree, Fails, saying_text, CanCome, IsSaid}
-use Rattle.tq_interpreter.specs.TxnAsked.{TxnAnswer, IsAnswered, txn_said, result_text, answer_end, answered, no_servers, open_in, closing, voting_in, missing_in, read_text, read_open, written_text, write_open, voted_text, stopped_text, prepare_voting, prepare_asked, serial_text, decision_voting, decision_asked, aborted_text, abort_asked, resolved_text, resolve_end, resolve_asked, told_text, apply_stopped_text, apply_ending, apply_by, apply_asked, server_asked, line_asked}
+use Rattle.tq_interpreter.specs.PossibleTxn.{IsOfOwn, Saying, Reads, Writes, Votes, Commits, Aborts, Resolves, Applies, Closed, Undecided, Stops, OffTree, Fails, saying_text, CanCome}
+use Rattle.tq_interpreter.specs.TxnAsked.{TxnAnswer, txn_said, result_text, answer_end, answered, no_servers, open_in, closing, voting_in, missing_in, read_text, read_open, written_text, write_open, voted_text, stopped_text, prepare_voting, prepare_asked, serial_text, decision_voting, decision_asked, aborted_text, abort_asked, resolved_text, resolve_end, resolve_asked, told_text, apply_stopped_text, apply_ending, apply_by, apply_asked, server_asked, line_asked}
 use Rattle.tq_interpreter.proofs.Replies.{IsDeskReply, refuse_all}
-use Rattle.tq_interpreter.proofs.EndsIn.{EndsIn, Answers, IsWell, Any, ends_so, ends_then, desk_ends}
+use Rattle.tq_interpreter.proofs.EndsIn.{EndsIn, Answers, IsWell, Any, ends_then, desk_ends}
 use Rattle.tq_interpreter.proofs.EndsWell.{read_well, write_well, prepare_well, decide_well, commit_well, abort_well, apply_well, stop_well, prepare_stop_well}
-use Rattle.tq_interpreter.proofs.Fits.{fits_text}
 
 -- the text is one that can come
 abbrev pub IsSayable : List ℕ → Type 0
@@ -152,15 +149,3 @@ line_says levels tree of.Abort number kept same = abort_says levels number kept
 line_says levels tree of.Resolve number kept same = resolve_says levels number kept
 line_says levels tree (of.PrepareCrash server after) number kept same = server_says levels tree server number kept (prepare_asked (Some after)) (prepare_says levels (Some after) server number kept)
 line_says levels tree (of.ApplyCrash server after) number kept same = server_says levels tree server number kept (apply_asked (Some after)) (apply_says levels (Some after) server number kept (ending_in kept))
-
--- what was printed of a line of a transaction of the world's tree
-pub said_by_line : (levels : ℕ) (line : TxnLine) (number : ℕ) (kept : Kept) (old new : JournalsView) (before after : List ℕ) (left : Kept)
-    → levels_of kept.txn ≡ old.levels → IsAnswered (line_asked levels line number kept) (record { journals = old; text = before }) (record { journals = new; text = after }) left → IsSaid before after
-said_by_line levels line number kept old new before after left same is =
-    let says = ends_so Says (line_asked levels line number kept) old (line_says old.levels levels line number kept same) in
-    record {
-      saying = says.0;
-      possible = says.1;
-      text = is.text ∙ ap (λ (t : List ℕ). before ++ printed t) says.2;
-      fit = fits_text says.0 says.1;
-    }

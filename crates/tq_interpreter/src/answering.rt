@@ -1,7 +1,6 @@
 //! The lines of a transaction, by what they ask for.
 ghost use Rattle.std.specs.Prelude.{◌≡◌, IfOk, OnOk, OnErr};
 ghost use Rattle.tq_txn.specs.States.{levels_of};
-ghost use Rattle.tq_interpreter.specs.PossibleTxn.{IsSaid};
 ghost use Rattle.tq_interpreter.specs.TxnAsked as spec;
 ghost use Rattle.tq_text.specs.Print.{Extends};
 ghost use Rattle.tq_interpreter.specs.Progress.{progress_of};
@@ -16,31 +15,8 @@ use std::alloc::Global;
 use tq_shape::{Levels, Memory};
 use tq_syntax::TxnLine;
 
-/// Answers a line of a transaction: puts its text behind the text, as a line. No text stands for an answer that no part
-/// gives: a line says an answer, or one of the faults that can come.
+/// Answers a line of a transaction: puts its text behind the text, as a line.
 pub(crate) fn answer_txn(
-    recorder: &mut Recorder,
-    alloc: Global,
-    levels: Levels,
-    number: u64,
-    kept: &mut Kept,
-    line: TxnLine,
-    text: &mut Vec<u8>,
-) -> Result<(), Memory>
-    requires txn { levels_of kept.old.txn ≡ recorder.old.journals.levels }
-    requires levels { levels ≡ recorder.old.journals.levels }
-    ensures answered { OnOk result (spec.IsAnswered (spec.line_asked levels line number kept.old)
-        (progress_of recorder.old text.old) (progress_of recorder.new text.new) kept.new) }
-    ensures levels { levels_of kept.new.txn ≡ levels_of kept.old.txn }
-    ensures tree { recorder.new.journals.levels ≡ recorder.old.journals.levels }
-    ensures possible { OnOk result (IsSaid text.old.items text.new.items) }
-    ensures kept { OnErr result (Extends text.old.items text.new.items) }
-{
-    answer_line(recorder, alloc, levels, number, kept, line, text)?;
-    Ok(())
-}
-
-fn answer_line(
     recorder: &mut Recorder,
     alloc: Global,
     levels: Levels,

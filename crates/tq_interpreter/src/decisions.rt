@@ -1,11 +1,10 @@
 //! The lines of a transaction that bring its desk to a decision.
 ghost use Rattle.std.specs.Prelude.{◌≡◌, ◌++◌, false, IfOk, OnOk, OnErr};
 ghost use Rattle.tq_coterie.specs.Coterie.{numbers_of};
-ghost use Rattle.tq_txn.specs.Dialogue.{Follows, ended_by};
 ghost use Rattle.tq_txn.specs.States.{levels_of};
 ghost use Rattle.tq_interpreter.specs.TxnAsked as spec;
-ghost use Rattle.tq_text.specs.Print.{Extends, printed};
-ghost use Rattle.tq_interpreter.specs.Progress.{Prints, progress_of};
+ghost use Rattle.tq_text.specs.Print.{Extends, printed, Prints};
+ghost use Rattle.tq_interpreter.specs.Progress.{progress_of};
 
 use crate::kept::Kept;
 use crate::recorder::Recorder;
@@ -51,24 +50,14 @@ pub(crate) fn decide_txn(
         Closed::Voting(voting) => voting,
     };
     recorder.replayed();
-    let Decision { answer, txn } = decision(recorder, alloc, voting, course);
+    let Decision { answer, txn } = match course {
+        Course::Decide => decide(recorder, alloc, voting),
+        Course::Commit => commit(recorder, alloc, voting),
+    };
     recorder.replayed();
     kept.txn = txn;
     say_committed(alloc, text, answer, &kept.txn)?;
     Ok(())
-}
-
-fn decision(recorder: &mut Recorder, alloc: Global, voting: Voting, course: Course) -> Decision
-    requires { voting.txn.levels ≡ recorder.old.journals.levels }
-    ensures asks { Follows (spec.course_line course voting) recorder.old.told recorder.new.told
-        (ended_by result.answer result.txn) }
-    ensures levels { levels_of result.txn ≡ voting.txn.levels }
-    ensures tree { recorder.new.journals.levels ≡ recorder.old.journals.levels }
-{
-    match course {
-        Course::Decide => decide(recorder, alloc, voting),
-        Course::Commit => commit(recorder, alloc, voting),
-    }
 }
 
 /// The voters whose votes are not there.

@@ -2,8 +2,8 @@
 ghost use Rattle.std.specs.Prelude.{◌≡◌, ◌++◌, [], false, codes, IfOk, OnOk, OnErr};
 ghost use Rattle.tq_txn.specs.States.{levels_of};
 ghost use Rattle.tq_interpreter.specs.TxnAsked as spec;
-ghost use Rattle.tq_text.specs.Print.{Extends, printed};
-ghost use Rattle.tq_interpreter.specs.Progress.{Prints, progress_of};
+ghost use Rattle.tq_text.specs.Print.{Extends, printed, Prints};
+ghost use Rattle.tq_interpreter.specs.Progress.{progress_of};
 
 use crate::kept::{Ending, Kept};
 use crate::recorder::Recorder;

@@ -4,8 +4,8 @@ ghost use Rattle.std.specs.Fmt.{decimal};
 ghost use Rattle.tq_txn.specs.States.{levels_of};
 ghost use Rattle.tq_interpreter.specs.TxnAsked as spec;
 ghost use Rattle.tq_interpreter.specs.Known.{in_state};
-ghost use Rattle.tq_text.specs.Print.{Extends, printed, applied_text};
-ghost use Rattle.tq_interpreter.specs.Progress.{Prints, progress_of};
+ghost use Rattle.tq_text.specs.Print.{Extends, printed, applied_text, Prints};
+ghost use Rattle.tq_interpreter.specs.Progress.{progress_of};
 
 use crate::kept::{Ending, Kept};
 use crate::recorder::Recorder;

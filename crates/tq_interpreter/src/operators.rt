@@ -10,9 +10,8 @@ ghost use Rattle.tq_refresh.specs.declared.job.Job.{Job};
 ghost use Rattle.tq_txn.specs.Dialogue.{fault_of_ask};
 ghost use Rattle.tq_interpreter.specs.Asking.{node_told, run_line};
 ghost use Rattle.tq_interpreter.specs.Operators as spec;
-ghost use Rattle.tq_text.specs.Print.{Extends, printed};
+ghost use Rattle.tq_text.specs.Print.{Extends, printed, Appends, Prints};
 ghost use Rattle.tq_text.specs.Refusals.{is_memory};
-ghost use Rattle.tq_interpreter.specs.Progress.{Appends, Prints};
 
 use crate::recorder::{Recorder, copy_of_node_ask};
 use std::alloc::{AllocError, Global};

@@ -5,8 +5,7 @@ ghost use Rattle.std.specs.Fmt.{decimal};
 ghost use Rattle.tq_interpreter.specs.Asked as asked;
 ghost use Rattle.tq_interpreter.specs.Known as known;
 ghost use Rattle.tq_interpreter.specs.TxnAsked as said;
-ghost use Rattle.tq_text.specs.Print.{Extends, printed, mark_word};
-ghost use Rattle.tq_interpreter.specs.Progress.{Appends, Prints};
+ghost use Rattle.tq_text.specs.Print.{Extends, printed, mark_word, Appends, Prints};
 
 use crate::answering::answer_txn;
 use crate::kept::Kept;
@@ -19,7 +18,7 @@ use tq_core::Service;
 use tq_desk::{DeskAsk, DeskReply};
 use tq_live::{Purpose, ViewAsk, is_cost};
 use tq_shape::{Levels, Limits, Memory, ServerId};
-use tq_syntax::{Line, TxnLine};
+use tq_syntax::Line;
 use tq_text::{push_desk_refusal, say_choice, say_fault, say_line, say_number};
 use tq_txn::{AskFault, Asker, DeskTold, LineFault, Open, Txn, ViewTold};
 
@@ -86,16 +85,6 @@ impl Shell {
         ensures kept { OnErr result (Extends text.old.items text.new.items) }
     {
         let _ = &self.recorder;
-        self.answer_line(alloc, line, text)?;
-        Ok(())
-    }
-
-    fn answer_line(&mut self, alloc: Global, line: Line, text: &mut Vec<u8>) -> Result<(), Memory>
-        ensures text { OnOk result (Appends text.old text.new (answer self.old line).text) }
-        ensures after { OnOk result (self.new ≡ (answer self.old line).after) }
-        ensures begun { OnErr result (line ≡ Line.Begin → IsWhole self.old line self.new) }
-        ensures kept { OnErr result (Extends text.old.items text.new.items) }
-    {
         match line {
             Line::Empty => Ok(()),
             Line::Bad => say_line(text, b"bad line"),
@@ -109,7 +98,15 @@ impl Shell {
             Line::Begin => self.begin(alloc, text),
             Line::Refresh => self.refresh(alloc, text),
             Line::Board => self.board(alloc, text),
-            Line::Txn { number, line } => self.txn(alloc, number, line, text),
+            Line::Txn { number, line } => match self.place_of(number) {
+                None => say_number(text, b"no such transaction ", number),
+                Some(place) => {
+                    let levels = self.levels;
+                    let kept = &mut self.txns[place];
+                    answer_txn(&mut self.recorder, alloc, levels, number, kept, line, text)?;
+                    Ok(())
+                }
+            },
         }
     }
 
@@ -261,28 +258,6 @@ impl Shell {
             return None;
         }
         Some((number - 1) as usize)
-    }
-
-    fn txn(
-        &mut self,
-        alloc: Global,
-        number: u64,
-        line: TxnLine,
-        text: &mut Vec<u8>,
-    ) -> Result<(), Memory>
-        ensures text { OnOk result
-            (Appends text.old text.new (answer self.old (Line.Txn number line)).text) }
-        ensures after { OnOk result (self.new ≡ (answer self.old (Line.Txn number line)).after) }
-        ensures kept { OnErr result (Extends text.old.items text.new.items) }
-    {
-        let place = match self.place_of(number) {
-            None => return say_number(text, b"no such transaction ", number),
-            Some(place) => place,
-        };
-        let levels = self.levels;
-        let kept = &mut self.txns[place];
-        answer_txn(&mut self.recorder, alloc, levels, number, kept, line, text)?;
-        Ok(())
     }
 }
 

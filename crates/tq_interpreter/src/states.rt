@@ -1,12 +1,11 @@
 //! The states of a transaction, as its lines want them.
 ghost use Rattle.std.specs.Prelude.{◌≡◌, ◌++◌, OnOk, OnErr, IfOk};
 ghost use Rattle.std.specs.Option.{option_map};
-ghost use Rattle.tq_text.specs.Print.{Extends, printed};
+ghost use Rattle.tq_text.specs.Print.{Extends, printed, Prints};
 ghost use Rattle.tq_interpreter.specs.Known.{ending_in};
 ghost use Rattle.tq_text.specs.Refusals.{decided_text};
 ghost use Rattle.tq_txn.specs.States.{levels_of};
 ghost use Rattle.tq_interpreter.specs.States as spec;
-ghost use Rattle.tq_interpreter.specs.Progress.{Prints};
 
 use crate::kept::{Ending, Kept};
 use std::alloc::Global;

@@ -1,3 +1,6 @@
+mod StreamLaws
+mod Pieces
+mod SessionLaws
 pub mod ReadingLaws
 pub mod ReportLaws
 pub mod UpgradeLaws

@@ -1,3 +1,6 @@
+pub mod Session
+pub mod Stream
+pub mod SessionRun
 pub mod Reading
 pub mod Texts
 pub mod Verdicts

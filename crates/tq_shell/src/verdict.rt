@@ -1,11 +1,10 @@
 ghost use Rattle.std.specs.Prelude.{◌≡◌, ◌++◌, IfOk, OnOk};
 ghost use Rattle.tq_shell.specs.Texts as spec;
-ghost use Rattle.tq_text.specs.Print.{numbers_text};
 
 use std::alloc::Global;
 use tq_merge::Counts;
 use tq_shape::{Memory, Part};
-use tq_text::{push_at, say_line, say_number};
+use tq_text::{push_at, push_numbers, say_line, say_number};
 
 /// What an audit finds in the bytes of a journal file.
 #[derive(Debug, Drop, PartialEq)]
@@ -67,17 +66,7 @@ fn say_stuck(text: &mut Vec<u8>, placed: &Counts) -> Result<(), Memory>
         (text.new.items ≡ text.old.items ++ spec.verdict_line (Verdict.Stuck placed.now)) }
 {
     text.extend_from_slice(b"stuck")?;
-    push_counts(text, placed.servers.as_slice())?;
+    push_numbers(text, placed.servers.as_slice())?;
     push_at(text, b" desk ", placed.desk)?;
     say_number(text, b" view ", placed.view)
-}
-
-/// Puts the numbers behind the text, each after a space.
-fn push_counts(text: &mut Vec<u8>, counts: &[u64]) -> Result<(), Memory>
-    ensures { OnOk result (text.new.items ≡ text.old.items ++ numbers_text counts.now) }
-{
-    for count in counts {
-        push_at(text, b" ", *count)?;
-    }
-    Ok(())
 }

@@ -1,3 +1,0 @@
-mod StreamLaws
-mod Pieces
-mod RunLaws
