@@ -5,7 +5,7 @@ use Rattle.tq_txn.specs.declared.fault.LineFault.{LineFault}
 use Rattle.tq_txn.specs.declared.fault.LineFault.TheVariants as faults
 use Rattle.tq_tables.specs.Journals.{JournalsView}
 use Rattle.tq_txn.specs.Dialogue.{Dialogue, LineEnd, Ends, Follows, then_line, ended_by}
-use Rattle.tq_interpreter.specs.declared.kept.Kept.{Kept}
+use Rattle.tq_interpreter.specs.declared.txn_slot.TxnSlot.{TxnSlot}
 use Rattle.tq_interpreter.specs.TxnAsked.{TxnAnswer, IsAnswered, answered, answer_end, result_text, is_refused_memory}
 use Rattle.tq_interpreter.specs.Asking.{Ran, run_line}
 use Rattle.tq_text.specs.Print.{printed}
@@ -31,7 +31,7 @@ line_ran {A} {S} line f old new result after replayed_old replayed_new levels fo
     (ran.0, then_ran line f old.journals ∙ ap (ran_as f) ran.1)
 
 -- a line of a transaction that was printed so
-pub answered_by : {A S : Type 0} (line : Dialogue (LineEnd A S)) (kept : S → Kept) (servers : S → List ℕ) (text : S → A → List ℕ) (old new : RecorderView) (result : Result A LineFault) (after : S) (before written : List ℕ) (left : Kept)
+pub answered_by : {A S : Type 0} (line : Dialogue (LineEnd A S)) (kept : S → TxnSlot) (servers : S → List ℕ) (text : S → A → List ℕ) (old new : RecorderView) (result : Result A LineFault) (after : S) (before written : List ℕ) (left : TxnSlot)
     → IsReplayed old → IsReplayed new → new.journals.levels ≡ old.journals.levels → Follows line old.told new.told (ended_by result after) → is_refused_memory result ≡ false
     → written ≡ before ++ printed (result_text (servers after) (text after) result) → left ≡ kept after
     → IsAnswered (answered line kept servers text) (got_to old.journals before) (got_to new.journals written) left
@@ -44,7 +44,7 @@ answered_by line kept servers text old new result after before written left repl
     }
 
 -- the same of a line that makes what is said of its whole end
-pub said_by : {A S : Type 0} (line : Dialogue (LineEnd A S)) (f : LineEnd A S → TxnAnswer) (old new : RecorderView) (result : Result A LineFault) (after : S) (before written : List ℕ) (left : Kept)
+pub said_by : {A S : Type 0} (line : Dialogue (LineEnd A S)) (f : LineEnd A S → TxnAnswer) (old new : RecorderView) (result : Result A LineFault) (after : S) (before written : List ℕ) (left : TxnSlot)
     → IsReplayed old → IsReplayed new → new.journals.levels ≡ old.journals.levels → Follows line old.told new.told (ended_by result after) → is_refused_memory result ≡ false
     → written ≡ before ++ printed (f (record { answer = result; after = after })).text → left ≡ (f (record { answer = result; after = after })).kept
     → IsAnswered (then_line line (λ end. Ends (f end))) (got_to old.journals before) (got_to new.journals written) left
@@ -57,7 +57,7 @@ said_by line f old new result after before written left replayed_old replayed_ne
     }
 
 -- a line that is another in the state of the transaction
-pub answered_as : (line found : Dialogue TxnAnswer) (old new : JournalsView) (before mid after : List ℕ) (left : Kept) → line ≡ found → mid ≡ before → IsAnswered found (got_to old mid) (got_to new after) left → IsAnswered line (got_to old before) (got_to new after) left
+pub answered_as : (line found : Dialogue TxnAnswer) (old new : JournalsView) (before mid after : List ℕ) (left : TxnSlot) → line ≡ found → mid ≡ before → IsAnswered found (got_to old mid) (got_to new after) left → IsAnswered line (got_to old before) (got_to new after) left
 answered_as line found old new before mid after left lines texts said =
     let P : Dialogue TxnAnswer → Type 0 = λ d. IsAnswered d (got_to old before) (got_to new after) left in
     let Q : List ℕ → Type 0 = λ t. IsAnswered found (got_to old t) (got_to new after) left in

@@ -30,7 +30,7 @@ use Rattle.tq_syntax.specs.declared.line.TxnLine.{TxnLine}
 use Rattle.tq_interpreter.specs.Asking.{run_line}
 use Rattle.tq_client.specs.Script.{mark_ask}
 use Rattle.tq_text.specs.Print.{printed, choice_text}
-use Rattle.tq_interpreter.specs.declared.kept.Kept.{Kept}
+use Rattle.tq_interpreter.specs.declared.txn_slot.TxnSlot.{TxnSlot}
 use Rattle.tq_interpreter.specs.Known.{AreOfTree, Known, with_kept}
 use Rattle.tq_interpreter.specs.PossibleTxn.{Fails, IsFit}
 use Rattle.tq_interpreter.specs.TxnAsked.{result_text, line_asked}
@@ -102,7 +102,7 @@ begin_says levels known =
     by (Err fault) after possible = (OfTxn (Fails [] fault), possible, refl)
 
 -- a line of a transaction that was begun
-txn_says : (levels tree : ℕ) (line : TxnLine) (number : ℕ) (known : Known) (kept : Option Kept) → ((some : Kept) → kept ≡ Some some → levels_of some.txn ≡ levels) → EndsIn levels Shows (of_txn known number kept (line_asked tree line))
+txn_says : (levels tree : ℕ) (line : TxnLine) (number : ℕ) (known : Known) (kept : Option TxnSlot) → ((some : TxnSlot) → kept ≡ Some some → levels_of some.txn ≡ levels) → EndsIn levels Shows (of_txn known number kept (line_asked tree line))
 txn_says levels tree line number known None same = (NotBegun number, tt, refl)
 txn_says levels tree line number known (Some kept) same =
     ends_then levels Says Shows (line_asked tree line number kept) (λ end. Ends (record { text = printed end.text; known = with_kept known number end.kept }))
@@ -139,10 +139,10 @@ if_cost : (levels : ℕ) (good : Bool) (cost : ℕ) (known : Known) (line : Dial
 if_cost levels true cost known line is = is
 if_cost levels false cost known line is = (BadCost cost, tt, refl)
 
-kept_in : (levels : ℕ) (txns : List Kept) (number : ℕ) (kept : Kept) → AreOfTree levels txns → item_at txns number ≡ Some kept → levels_of kept.txn ≡ levels
+kept_in : (levels : ℕ) (txns : List TxnSlot) (number : ℕ) (kept : TxnSlot) → AreOfTree levels txns → item_at txns number ≡ Some kept → levels_of kept.txn ≡ levels
 kept_in levels txns number kept all is = by (nat_lt 0 number) is
   where
-    On : Kept → Type 0
+    On : TxnSlot → Type 0
     On some = levels_of some.txn ≡ levels
 
     by : (some : Bool) → cond some (slice_get txns (number - 1)) None ≡ Some kept → levels_of kept.txn ≡ levels
@@ -177,7 +177,7 @@ said_of w (of.Txn number line) before after all is =
     (ends_so Shows asks w.journals (txn_says w.journals.levels w.known.levels line number w.known (item_at w.known.txns number) (λ kept there. kept_in w.journals.levels w.known.txns number kept all there)))
 
 -- the transactions of the world that a shell stands on are of its tree
-pub tree_known : (journals : JournalsView) (levels : ℕ) (limits : LimitsView) (txns : List Kept) (w : World) → journals.levels ≡ levels → AreOfTree levels txns
+pub tree_known : (journals : JournalsView) (levels : ℕ) (limits : LimitsView) (txns : List TxnSlot) (w : World) → journals.levels ≡ levels → AreOfTree levels txns
     → record { journals = journals; known = record { levels = levels; limits = limits; txns = txns } } ≡ w → AreOfTree w.journals.levels w.known.txns
 tree_known journals levels limits txns w same all is =
     let On : World → Type 0 = λ v. AreOfTree v.journals.levels v.known.txns in

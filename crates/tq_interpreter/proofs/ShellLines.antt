@@ -11,7 +11,7 @@ use Rattle.tq_txn.proofs.LineLaws.{asked_desk}
 use Rattle.tq_tables.specs.Journals.{JournalsView}
 use Rattle.tq_txn.specs.declared.fault.LineFault.{LineFault}
 use Rattle.tq_txn.specs.Dialogue.{Dialogue, LineEnd, Ends, Follows, then_line, ended_by, desk_exchange, desk_line, line_result}
-use Rattle.tq_interpreter.specs.declared.kept.Kept.{Kept}
+use Rattle.tq_interpreter.specs.declared.txn_slot.TxnSlot.{TxnSlot}
 use Rattle.tq_interpreter.specs.TxnAsked.{TxnAnswer, line_asked, IsAnswered, is_refused_memory}
 use Rattle.tq_interpreter.specs.Asking.{Ran, run_line}
 use Rattle.tq_interpreter.specs.Answer.{World, Answer, answer, answered, IsWhole}
@@ -39,7 +39,7 @@ answered_by line f old new result after replayed_old replayed_new levels follows
     (ap (λ (r : Ran LineAnswer). r.end.text) (sym ran.1), ap (λ (r : Ran LineAnswer). (answered r).after) (sym ran.1))
 
 -- a line of a transaction that is kept, answered so
-pub txn_answered : (w : World) (number place : ℕ) (line : TxnLine) (kept new : Kept) (after : JournalsView) (before text : List ℕ) → number ≡ place + 1 → place < length w.known.txns → kept ≡ get_or w.known.txns place kept
+pub txn_answered : (w : World) (number place : ℕ) (line : TxnLine) (kept new : TxnSlot) (after : JournalsView) (before text : List ℕ) → number ≡ place + 1 → place < length w.known.txns → kept ≡ get_or w.known.txns place kept
     → IsAnswered (line_asked w.known.levels line number kept) (got_to w.journals before) (got_to after text) new
     → (text ≡ before ++ (answer w (shell_lines.Txn number line)).text)
     × (record { journals = after; known = record { levels = w.known.levels; limits = w.known.limits; txns = slice_set w.known.txns place new } } ≡ (answer w (shell_lines.Txn number line)).after)

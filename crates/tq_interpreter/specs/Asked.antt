@@ -16,7 +16,7 @@ use Rattle.tq_txn_states.specs.declared.told.DeskTold.{DeskTold}
 use Rattle.tq_txn.specs.Dialogue as asks
 use Rattle.tq_txn.specs.Dialogue.{LineEnd, Ends, then_line, desk_line, view_line}
 use Rattle.tq_client.specs.Script.{mark_line}
-use Rattle.tq_interpreter.specs.declared.kept.Kept.{Kept}
+use Rattle.tq_interpreter.specs.declared.txn_slot.TxnSlot.{TxnSlot}
 use Rattle.tq_syntax.specs.declared.line.Line.{Line}
 use Rattle.tq_syntax.specs.declared.line.Line.TheVariants as is
 use Rattle.tq_interpreter.specs.Operators.{refresh_asked, board_of}
@@ -36,12 +36,12 @@ said known text = Ends (record { text = printed text; known = known })
 -- ---- the checks before
 
 -- the transaction is one that was begun
-abbrev pub of_txn : Known → ℕ → Option Kept → (ℕ → Kept → asks.Dialogue TxnAnswer) → asks.Dialogue LineAnswer
+abbrev pub of_txn : Known → ℕ → Option TxnSlot → (ℕ → TxnSlot → asks.Dialogue TxnAnswer) → asks.Dialogue LineAnswer
 of_txn known number None next = said known (codes "no such transaction " ++ decimal number)
 of_txn known number (Some kept) next =
     then_line (next number kept) (λ end. Ends (record { text = printed end.text; known = with_kept known number end.kept }))
 
-abbrev pub txn_asked : Known → ℕ → (ℕ → Kept → asks.Dialogue TxnAnswer) → asks.Dialogue LineAnswer
+abbrev pub txn_asked : Known → ℕ → (ℕ → TxnSlot → asks.Dialogue TxnAnswer) → asks.Dialogue LineAnswer
 txn_asked known number next = of_txn known number (item_at known.txns number) next
 
 -- ---- the lines of the parts

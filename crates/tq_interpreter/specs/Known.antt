@@ -8,43 +8,43 @@ use Rattle.tq_txn.specs.declared.txn.Txn.{Txn}
 use Rattle.tq_txn.specs.declared.txn.Txn.TheVariants as states
 use Rattle.tq_txn.specs.States.{levels_of}
 use Rattle.tq_txn_states.specs.Open as first
-use Rattle.tq_interpreter.specs.declared.kept.Kept.{Kept}
-use Rattle.tq_interpreter.specs.declared.kept.Ending.{Ending}
+use Rattle.tq_interpreter.specs.declared.txn_slot.TxnSlot.{TxnSlot}
+use Rattle.tq_interpreter.specs.declared.txn_slot.Ending.{Ending}
 
 -- the levels of the tree and the limits, and the transactions in the order of their begins: the first is 1
 pub record Known : Type 0 where
   pub levels : ℕ
   pub limits : LimitsView
-  pub txns : List Kept
+  pub txns : List TxnSlot
 
 -- nothing was begun
 abbrev pub nothing_known : ℕ → LimitsView → Known
 nothing_known levels limits = record { levels = levels; limits = limits; txns = [] }
 
 -- the same, the transactions as a program keeps them
-abbrev pub known_of : ℕ → LimitsView → Vec Kept → Known
+abbrev pub known_of : ℕ → LimitsView → Vec TxnSlot → Known
 known_of levels limits txns = record { levels = levels; limits = limits; txns = txns.items }
 
 -- every transaction is of a tree of that many levels
-abbrev pub AreOfTree : ℕ → List Kept → Type 0
+abbrev pub AreOfTree : ℕ → List TxnSlot → Type 0
 AreOfTree levels txns = All (λ kept. levels_of kept.txn ≡ levels) txns
 
 -- a transaction that did nothing yet, and of which no verdict was told
-abbrev pub fresh : ℕ → LimitsView → ℕ → Kept
+abbrev pub fresh : ℕ → LimitsView → ℕ → TxnSlot
 fresh levels limits number = record { txn = states.Open (first.opening levels limits number); told = None }
 
 abbrev pub with_begun : Known → ℕ → Known
 with_begun known number = record { levels = known.levels; limits = known.limits; txns = known.txns ++ fresh known.levels known.limits number ∷ [] }
 
 -- with another state of the transaction of that number
-abbrev pub with_kept : Known → ℕ → Kept → Known
+abbrev pub with_kept : Known → ℕ → TxnSlot → Known
 with_kept known number kept = record { levels = known.levels; limits = known.limits; txns = slice_set known.txns (number - 1) kept }
 
-abbrev pub in_state : Kept → Txn → Kept
+abbrev pub in_state : TxnSlot → Txn → TxnSlot
 in_state kept txn = record { txn = txn; told = kept.told }
 
 -- the verdict that a further answer told, with the number of its entry
-abbrev pub with_told : Kept → ℕ → Option Verdict → Kept
+abbrev pub with_told : TxnSlot → ℕ → Option Verdict → TxnSlot
 with_told kept cite None = kept
 with_told kept cite (Some verdict) = record { txn = kept.txn; told = Some (record { verdict = verdict; cite = cite }) }
 
@@ -53,5 +53,5 @@ abbrev pub ending_by : Txn → Option Ending → Option Ending
 ending_by (states.Ended old) told = Some (record { verdict = old.verdict; cite = old.cite })
 ending_by txn told = told
 
-abbrev pub ending_in : Kept → Option Ending
+abbrev pub ending_in : TxnSlot → Option Ending
 ending_in kept = ending_by kept.txn kept.told

@@ -5,12 +5,12 @@ ghost use Rattle.tq_interpreter.specs.TxnAsked as spec;
 ghost use Rattle.tq_text.specs.Print.{Extends};
 ghost use Rattle.tq_interpreter.specs.Progress.{progress_of};
 
-use crate::decisions::{Course, decide_txn};
+use crate::decisions::{CommitScope, decide_txn};
 use crate::endings::{abort_txn, resolve};
-use crate::errands::{Duty, Errand, run_errand};
-use crate::kept::Kept;
 use crate::operations::{Operation, operate};
 use crate::recorder::Recorder;
+use crate::server_lines::{Phase, ServerLine, run_at_server};
+use crate::txn_slot::TxnSlot;
 use std::alloc::Global;
 use tq_shape::{Levels, Memory};
 use tq_syntax::TxnLine;
@@ -21,7 +21,7 @@ pub(crate) fn answer_txn(
     alloc: Global,
     levels: Levels,
     number: u64,
-    kept: &mut Kept,
+    kept: &mut TxnSlot,
     line: TxnLine,
     text: &mut Vec<u8>,
 ) -> Result<(), Memory>
@@ -42,24 +42,24 @@ pub(crate) fn answer_txn(
             operate(recorder, alloc, number, kept, &file, operation, text)
         }
         TxnLine::Prepare { server } => {
-            let errand = Errand::whole(Duty::Prepare, server);
-            run_errand(recorder, alloc, levels, number, kept, errand, text)
+            let errand = ServerLine::whole(Phase::Prepare, server);
+            run_at_server(recorder, alloc, levels, number, kept, errand, text)
         }
-        TxnLine::Decide => decide_txn(recorder, alloc, kept, Course::Decide, text),
+        TxnLine::Decide => decide_txn(recorder, alloc, kept, CommitScope::Decide, text),
         TxnLine::Apply { server } => {
-            let errand = Errand::whole(Duty::Apply, server);
-            run_errand(recorder, alloc, levels, number, kept, errand, text)
+            let errand = ServerLine::whole(Phase::Apply, server);
+            run_at_server(recorder, alloc, levels, number, kept, errand, text)
         }
-        TxnLine::Commit => decide_txn(recorder, alloc, kept, Course::Commit, text),
+        TxnLine::Commit => decide_txn(recorder, alloc, kept, CommitScope::Commit, text),
         TxnLine::Abort => abort_txn(recorder, alloc, kept, text),
         TxnLine::Resolve => resolve(recorder, alloc, number, kept, text),
         TxnLine::PrepareCrash { server, after } => {
-            let errand = Errand::stopping(Duty::Prepare, server, after);
-            run_errand(recorder, alloc, levels, number, kept, errand, text)
+            let errand = ServerLine::stopping(Phase::Prepare, server, after);
+            run_at_server(recorder, alloc, levels, number, kept, errand, text)
         }
         TxnLine::ApplyCrash { server, after } => {
-            let errand = Errand::stopping(Duty::Apply, server, after);
-            run_errand(recorder, alloc, levels, number, kept, errand, text)
+            let errand = ServerLine::stopping(Phase::Apply, server, after);
+            run_at_server(recorder, alloc, levels, number, kept, errand, text)
         }
     }
 }

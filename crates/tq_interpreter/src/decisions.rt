@@ -6,9 +6,9 @@ ghost use Rattle.tq_interpreter.specs.TxnAsked as spec;
 ghost use Rattle.tq_text.specs.Print.{Extends, printed, Prints};
 ghost use Rattle.tq_interpreter.specs.Progress.{progress_of};
 
-use crate::kept::Kept;
 use crate::recorder::Recorder;
 use crate::states::{Closed, stand_in, voting_of};
+use crate::txn_slot::TxnSlot;
 use std::alloc::Global;
 use std::mem;
 use tq_shape::{Memory, ServerId};
@@ -17,7 +17,7 @@ use tq_txn::{Decision, LineFault, Txn, Voting, commit, decide};
 
 /// How much of a commit a line asks for.
 #[derive(Drop)]
-pub(crate) enum Course {
+pub(crate) enum CommitScope {
     /// The desk's decision alone: the votes have to be there.
     Decide,
     /// The votes missing, the desk, and the ending.
@@ -28,8 +28,8 @@ pub(crate) enum Course {
 pub(crate) fn decide_txn(
     recorder: &mut Recorder,
     alloc: Global,
-    kept: &mut Kept,
-    course: Course,
+    kept: &mut TxnSlot,
+    course: CommitScope,
     text: &mut Vec<u8>,
 ) -> Result<(), Memory>
     requires { levels_of kept.old.txn ≡ recorder.old.journals.levels }
@@ -49,12 +49,12 @@ pub(crate) fn decide_txn(
         }
         Closed::Voting(voting) => voting,
     };
-    recorder.replayed();
+    recorder.show_replayed();
     let Decision { answer, txn } = match course {
-        Course::Decide => decide(recorder, alloc, voting),
-        Course::Commit => commit(recorder, alloc, voting),
+        CommitScope::Decide => decide(recorder, alloc, voting),
+        CommitScope::Commit => commit(recorder, alloc, voting),
     };
-    recorder.replayed();
+    recorder.show_replayed();
     kept.txn = txn;
     say_committed(alloc, text, answer, &kept.txn)?;
     Ok(())

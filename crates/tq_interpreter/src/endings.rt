@@ -5,9 +5,9 @@ ghost use Rattle.tq_interpreter.specs.TxnAsked as spec;
 ghost use Rattle.tq_text.specs.Print.{Extends, printed, Prints};
 ghost use Rattle.tq_interpreter.specs.Progress.{progress_of};
 
-use crate::kept::{Ending, Kept};
 use crate::recorder::Recorder;
 use crate::states::stand_in;
+use crate::txn_slot::{Ending, TxnSlot};
 use std::alloc::Global;
 use std::mem;
 use tq_desk::{DeskAsk, DeskReply};
@@ -19,7 +19,7 @@ use tq_txn::{Abortion, Asker, LineFault, abort};
 pub(crate) fn abort_txn(
     recorder: &mut Recorder,
     alloc: Global,
-    kept: &mut Kept,
+    kept: &mut TxnSlot,
     text: &mut Vec<u8>,
 ) -> Result<(), Memory>
     requires { levels_of kept.old.txn ≡ recorder.old.journals.levels }
@@ -31,9 +31,9 @@ pub(crate) fn abort_txn(
 {
     let vacant = stand_in(alloc, &kept.txn);
     let txn = mem::replace(&mut kept.txn, vacant);
-    recorder.replayed();
+    recorder.show_replayed();
     let Abortion { answer, txn } = abort(recorder, alloc, txn);
-    recorder.replayed();
+    recorder.show_replayed();
     kept.txn = txn;
     say_aborted(text, answer)?;
     Ok(())
@@ -58,7 +58,7 @@ pub(crate) fn resolve(
     recorder: &mut Recorder,
     alloc: Global,
     number: u64,
-    kept: &mut Kept,
+    kept: &mut TxnSlot,
     text: &mut Vec<u8>,
 ) -> Result<(), Memory>
     ensures answered { OnOk result (spec.IsAnswered (spec.resolve_asked number kept.old)
@@ -67,9 +67,9 @@ pub(crate) fn resolve(
     ensures tree { recorder.new.journals.levels ≡ recorder.old.journals.levels }
     ensures kept { OnErr result (Extends text.old.items text.new.items) }
 {
-    recorder.replayed();
+    recorder.show_replayed();
     let answer = recorder.desk(alloc, DeskAsk::Resolve { txn: number });
-    recorder.replayed();
+    recorder.show_replayed();
     match answer {
         Ok(told) => {
             say_resolved(text, &told.reply)?;
@@ -100,7 +100,7 @@ fn say_resolved(text: &mut Vec<u8>, reply: &DeskReply) -> Result<(), Memory>
 }
 
 /// Keeps the verdict that the desk's answer tells.
-fn keep_reply(kept: &mut Kept, cite: u64, reply: DeskReply)
+fn keep_reply(kept: &mut TxnSlot, cite: u64, reply: DeskReply)
     ensures kept { kept.new ≡ spec.resolved_kept kept.old cite reply }
     ensures txn { kept.new.txn ≡ kept.old.txn }
 {

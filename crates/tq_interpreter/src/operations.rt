@@ -7,9 +7,9 @@ ghost use Rattle.tq_interpreter.specs.TxnAsked as spec;
 ghost use Rattle.tq_text.specs.Print.{Extends, printed, Prints};
 ghost use Rattle.tq_interpreter.specs.Progress.{progress_of};
 
-use crate::kept::Kept;
 use crate::recorder::Recorder;
 use crate::states::say_decided;
+use crate::txn_slot::TxnSlot;
 use std::alloc::Global;
 use tq_shape::Memory;
 use tq_store::{Content, FileName};
@@ -28,7 +28,7 @@ pub(crate) fn operate(
     recorder: &mut Recorder,
     alloc: Global,
     number: u64,
-    kept: &mut Kept,
+    kept: &mut TxnSlot,
     file: &FileName,
     operation: Operation,
     text: &mut Vec<u8>,
@@ -58,7 +58,7 @@ fn operate_open(
     text: &mut Vec<u8>,
 ) -> Result<(), Memory>
     requires { «open».old.levels ≡ recorder.old.journals.levels }
-    ensures answered { OnOk result ((kept : Kept) →
+    ensures answered { OnOk result ((kept : TxnSlot) →
         spec.IsAnswered (spec.operation_open operation file.now kept «open».old)
         (progress_of recorder.old text.old) (progress_of recorder.new text.new)
         (in_state kept (states.Open «open».new))) }
@@ -66,17 +66,17 @@ fn operate_open(
     ensures tree { recorder.new.journals.levels ≡ recorder.old.journals.levels }
     ensures kept { OnErr result (Extends text.old.items text.new.items) }
 {
-    recorder.replayed();
+    recorder.show_replayed();
     match operation {
         Operation::Read => {
             let answer = read_file(recorder, alloc, open, file);
-            recorder.replayed();
+            recorder.show_replayed();
             say_read(text, file, open, answer)?;
             Ok(())
         }
         Operation::Write { content } => {
             let answer = write_file(recorder, alloc, open, file, content);
-            recorder.replayed();
+            recorder.show_replayed();
             say_written(text, file, open, answer)?;
             Ok(())
         }

@@ -192,9 +192,9 @@ fn answer_of(
         ≡ world_after recorder.old.journals (steps.Node server.number ask)) }
     ensures tree { recorder.new.journals.levels ≡ recorder.old.journals.levels }
 {
-    recorder.replayed();
+    recorder.show_replayed();
     let result = recorder.put(alloc, server, ask);
-    recorder.replayed();
+    recorder.show_replayed();
     match result {
         Ok(told) => Ok(Some(told)),
         Err(fault) => {

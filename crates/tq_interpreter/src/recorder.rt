@@ -73,7 +73,7 @@ impl Recorder {
     }
 
     /// What was told, replayed from empty journals, leads to these: this does nothing, and says so.
-    pub(crate) fn replayed(&self)
+    pub(crate) fn show_replayed(&self)
         ensures { IsReplayed self.now }
     {
         let _ = &self.service;

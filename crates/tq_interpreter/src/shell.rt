@@ -8,9 +8,9 @@ ghost use Rattle.tq_interpreter.specs.TxnAsked as said;
 ghost use Rattle.tq_text.specs.Print.{Extends, printed, mark_word, Appends, Prints};
 
 use crate::answering::answer_txn;
-use crate::kept::Kept;
 use crate::operators::{refresh_all, say_board};
 use crate::recorder::Recorder;
+use crate::txn_slot::TxnSlot;
 use std::alloc::Global;
 use std::marker::Model;
 use tq_client::mark_server;
@@ -28,7 +28,7 @@ pub struct Shell {
     levels: Levels,
     limits: Limits,
     recorder: Recorder,
-    txns: Vec<Kept>,
+    txns: Vec<TxnSlot>,
 }
 
 impl Model for Shell {
@@ -150,14 +150,14 @@ impl Shell {
             ≡ (given_by self.old (λ k. asked.cost_asked k server read write)).after) }
         ensures kept { OnErr result (Extends text.old.items text.new.items) }
     {
-        self.recorder.replayed();
+        self.recorder.show_replayed();
         let ask = ViewAsk::SetCost {
             server,
             read,
             write,
         };
         let answer = self.recorder.view(alloc, ask);
-        self.recorder.replayed();
+        self.recorder.show_replayed();
         say_ok(text, &answer)?;
         Ok(())
     }
@@ -195,9 +195,9 @@ impl Shell {
         ensures kept { OnErr result (Extends text.old.items text.new.items) }
     {
         let server = id.number();
-        self.recorder.replayed();
+        self.recorder.show_replayed();
         let answer = mark_server(&mut self.recorder, alloc, id, up);
-        self.recorder.replayed();
+        self.recorder.show_replayed();
         say_marked(text, server, up, &answer)?;
         Ok(())
     }
@@ -208,9 +208,9 @@ impl Shell {
         ensures after { OnOk result (self.new ≡ (answer self.old (Line.Choose purpose)).after) }
         ensures kept { OnErr result (Extends text.old.items text.new.items) }
     {
-        self.recorder.replayed();
+        self.recorder.show_replayed();
         let answer = self.recorder.view(alloc, ViewAsk::Choose { purpose });
-        self.recorder.replayed();
+        self.recorder.show_replayed();
         say_chosen(text, &answer)?;
         Ok(())
     }
@@ -223,9 +223,9 @@ impl Shell {
         ensures kept { OnErr result (Extends text.old.items text.new.items) }
     {
         self.txns.reserve(1)?;
-        self.recorder.replayed();
+        self.recorder.show_replayed();
         let answer = self.recorder.desk(alloc, DeskAsk::Begin);
-        self.recorder.replayed();
+        self.recorder.show_replayed();
         let (levels, limits) = (self.levels, self.limits);
         begin_end(&mut self.txns, alloc, levels, limits, answer, text)?;
         Ok(())
@@ -264,7 +264,7 @@ impl Shell {
 /// Keeps the transaction that the desk began in a list that has room for it, and puts the answer behind the text. Memory is
 /// taken for the text alone.
 fn begin_end(
-    txns: &mut Vec<Kept>,
+    txns: &mut Vec<TxnSlot>,
     alloc: Global,
     levels: Levels,
     limits: Limits,
@@ -289,7 +289,7 @@ fn begin_end(
 
 /// The same for the desk's answer.
 fn begun(
-    txns: &mut Vec<Kept>,
+    txns: &mut Vec<TxnSlot>,
     alloc: Global,
     levels: Levels,
     limits: Limits,
@@ -317,10 +317,10 @@ fn begun(
 }
 
 /// A transaction that did nothing yet.
-fn fresh(alloc: Global, levels: Levels, limits: Limits, number: u64) -> Kept
+fn fresh(alloc: Global, levels: Levels, limits: Limits, number: u64) -> TxnSlot
     ensures { result ≡ known.fresh levels limits number }
 {
-    Kept {
+    TxnSlot {
         txn: Txn::Open(Open::new(alloc, levels, limits, number)),
         told: None,
     }

@@ -7,7 +7,7 @@ ghost use Rattle.tq_text.specs.Refusals.{decided_text};
 ghost use Rattle.tq_txn.specs.States.{levels_of};
 ghost use Rattle.tq_interpreter.specs.States as spec;
 
-use crate::kept::{Ending, Kept};
+use crate::txn_slot::{Ending, TxnSlot};
 use std::alloc::Global;
 use tq_asks::Verdict;
 use tq_shape::{Limits, Memory};
@@ -68,7 +68,7 @@ fn close(still_open: Open, text: &mut Vec<u8>) -> Result<Closed, Memory>
 }
 
 /// The verdict that ended the transaction or, before that, was told, and the entry to cite.
-pub(crate) fn ending_of(kept: &Kept) -> Result<Option<Ending>, Memory>
+pub(crate) fn ending_of(kept: &TxnSlot) -> Result<Option<Ending>, Memory>
     ensures { IfOk result (λ ending. ending ≡ ending_in kept.now) }
 {
     match &kept.txn {

@@ -5,7 +5,7 @@ use Rattle.tq_devices.specs.declared.fault.RunFault.{RunFault}
 use Rattle.tq_text.specs.Print.{printed}
 use Rattle.tq_tables.specs.Journals.{JournalsView}
 use Rattle.tq_json_write.specs.Form.{journals_value}
-use Rattle.tq_shell.specs.declared.verdict.Verdict.TheVariants.{Unreadable}
+use Rattle.tq_shell.specs.declared.audit_finding.AuditFinding.TheVariants.{Unreadable}
 use Rattle.tq_shell.specs.Texts.{verdict_line, status_of}
 use Rattle.tq_shell.specs.Verdicts.{IsFileOf, IsVerdict}
 use Rattle.tq_shell.specs.Report.{IsReportText}

@@ -7,8 +7,8 @@ use Rattle.tq_json_read.specs.Faults.{IsJson}
 use Rattle.tq_json_read.specs.Frame.{journals_of}
 use Rattle.tq_merge.specs.Order.{Explains, IsStuck}
 use Rattle.tq_merge.specs.Wrong.{IsWrong}
-use Rattle.tq_shell.specs.declared.verdict.Verdict.{Verdict}
-use Rattle.tq_shell.specs.declared.verdict.Verdict.TheVariants.{Explained, Wrong, Stuck, Unreadable}
+use Rattle.tq_shell.specs.declared.audit_finding.AuditFinding.{AuditFinding}
+use Rattle.tq_shell.specs.declared.audit_finding.AuditFinding.TheVariants.{Explained, Wrong, Stuck, Unreadable}
 
 -- the bytes are a journal file, and these are its journals
 abbrev pub IsFileOf : List ℕ → JournalsView → Type 0
@@ -19,7 +19,7 @@ abbrev pub IsExplained : JournalsView → ℕ → Type 0
 IsExplained journals entries = (order : List Part) × Explains journals order × (entries ≡ length order)
 
 -- what is found in the bytes
-abbrev pub IsVerdict : List ℕ → Verdict → Type 0
+abbrev pub IsVerdict : List ℕ → AuditFinding → Type 0
 IsVerdict bytes (Explained entries) = (journals : JournalsView) × IsFileOf bytes journals × IsExplained journals entries
 IsVerdict bytes (Wrong part number) = (journals : JournalsView) × IsFileOf bytes journals × IsWrong journals part number
 IsVerdict bytes (Stuck placed) = (journals : JournalsView) × IsFileOf bytes journals × IsStuck journals placed

@@ -3,12 +3,13 @@
 //! written now; and, handed on, the words of the command line and the devices that they read and write.
 //!
 //! Files: `session.rt` `run` over `receiver.rt`, pieces of input to lines; `threading.rt` over `reading.rt`, `running.rt`,
-//! `outcome.rt` client scripts in threads; `auditing.rt` over `reading.rt`, `judging.rt`, `verdict.rt` the audit; `upgrading.rt`
+//! `outcome.rt` client scripts in threads; `auditing.rt` over `reading.rt`, `judging.rt`, `audit_finding.rt` the audit; `upgrading.rt`
 //! the upgrade; `line.rt` a line that is written.
 //! Definitions: `specs/Session`, `SessionRun`, and `Stream`, the code's own word; `Running`, `Outcome`, `Threads`; `Verdicts`,
 //! `Texts`, `Report`, `Audit`, `Upgrade`, `Reading`.
 #![tactic(auto)]
 
+mod audit_finding;
 mod auditing;
 mod judging;
 mod line;
@@ -19,16 +20,17 @@ mod running;
 mod session;
 mod threading;
 mod upgrading;
-mod verdict;
 
+pub use audit_finding::AuditFinding;
 pub use auditing::audit;
 pub use outcome::Outcome;
 pub use running::run_text;
 pub use session::{INPUT_LIMIT, run};
 pub use threading::threads;
 pub use tq_cli::{Words, WordsFault};
-pub use tq_devices::{Failed, MemorySink, MemorySource, RunFault, Sink, Source, StdSink, StdSource};
+pub use tq_devices::{
+    Failed, MemorySink, MemorySource, RunFault, Sink, Source, StdSink, StdSource,
+};
 pub use tq_interpreter::{Ending, Kept, Shell};
 pub use tq_syntax::{LINE_LIMIT, Line, TxnLine, numbers_are_read_again};
 pub use upgrading::upgrade;
-pub use verdict::Verdict;

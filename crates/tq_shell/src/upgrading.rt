@@ -5,9 +5,9 @@ ghost use Rattle.tq_json_write.specs.Spilled.{IsWrittenOut};
 ghost use Rattle.tq_shell.specs.Texts.{verdict_line};
 ghost use Rattle.tq_shell.specs.Upgrade.{IsFound, IsUpgradeText, found_line, found_status};
 
+use crate::audit_finding::AuditFinding;
 use crate::line::write_line;
 use crate::reading::read_all;
-use crate::verdict::Verdict;
 use std::alloc::{AllocError, Global};
 use std::mem;
 use tq_devices::{RunFault, Sink, Source};
@@ -62,7 +62,7 @@ fn status_of(found: &Option<Journals>) -> u8
 {
     match found {
         Some(_) => 0,
-        None => Verdict::Unreadable.status(),
+        None => AuditFinding::Unreadable.status(),
     }
 }
 
@@ -85,9 +85,9 @@ fn write_found<W: Sink>(
 /// Writes what an audit tells of bytes that are no journal file.
 fn write_unread<W: Sink>(alloc: Global, writer: &mut W) -> Result<(), RunFault>
     requires { W.failed writer.old < 2 ^ 64 - 1 }
-    ensures { IsWrittenOut result (verdict_line Verdict.Unreadable)
+    ensures { IsWrittenOut result (verdict_line AuditFinding.Unreadable)
         (W.taken writer.old) (W.taken writer.new) (W.failed writer.old) (W.failed writer.new) }
 {
-    let line = Verdict::Unreadable.line(alloc)?;
+    let line = AuditFinding::Unreadable.line(alloc)?;
     write_line(writer, line.as_slice())
 }

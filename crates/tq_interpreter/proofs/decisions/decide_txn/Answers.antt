@@ -29,5 +29,5 @@ returns-clause-answered c =
     answered_as (decision_asked (course_line c.args.course) 0 kept) (decision_voting (course_line c.args.course) kept c.in-Voting.voting) c.args.recorder.now.journals c.match-course.recorder.journals c.args.text.now.items c.voting_of.new.text.items c.say_committed.new.text.items _
     (closed.2 kept (decision_voting (course_line c.args.course) kept)) closed.0
     (answered_by (course_line c.args.course c.in-Voting.voting) (in_state kept) missing_in serial_text c.args.recorder.now c.match-course.recorder c.match-course.answer.answer c.match-course.answer.txn
-    c.voting_of.new.text.items c.say_committed.new.text.items (record { txn = c.match-course.answer.txn; told = kept.told }) c.replayed.ensures c.replayed-2.ensures tree asks c.in_ok-say_committed.ensures.memory
+    c.voting_of.new.text.items c.say_committed.new.text.items (record { txn = c.match-course.answer.txn; told = kept.told }) c.show_replayed.ensures c.show_replayed-2.ensures tree asks c.in_ok-say_committed.ensures.memory
     c.in_ok-say_committed.ensures.text refl)

@@ -12,5 +12,5 @@ returns-clause-answered c =
     let kept = c.args.kept.now in
     let asks = subst (λ (txn : Txn). Follows (abort_line txn) c.args.recorder.now.told c.abort-answer.new.asker.told (ended_by c.abort-answer.result.answer c.abort-answer.result.txn)) c.replace-txn.ensures.value c.abort-answer.ensures.asks in
     answered_by (abort_line kept.txn) (in_state kept) no_servers aborted_text c.args.recorder.now c.abort-answer.new.asker c.abort-answer.result.answer c.abort-answer.result.txn
-    c.args.text.now.items c.say_aborted.new.text.items (record { txn = c.abort-answer.result.txn; told = kept.told }) c.replayed.ensures c.replayed-2.ensures c.abort-answer.ensures.tree asks c.in_ok-say_aborted.ensures.memory
+    c.args.text.now.items c.say_aborted.new.text.items (record { txn = c.abort-answer.result.txn; told = kept.told }) c.show_replayed.ensures c.show_replayed-2.ensures c.abort-answer.ensures.tree asks c.in_ok-say_aborted.ensures.memory
     c.in_ok-say_aborted.ensures.text refl

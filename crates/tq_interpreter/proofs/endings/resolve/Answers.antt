@@ -12,12 +12,12 @@ pub returns-in_ok-say_resolved-in-Ok-clause-answered : goal.returns-in_ok-say_re
 returns-in_ok-say_resolved-in-Ok-clause-answered c =
     let ask : DeskAsk = Resolve c.args.number in
     said_by (desk_line ask) (λ end. resolve_end c.args.kept.now end.answer) c.args.recorder.now c.desk-answer.new.self (Ok c.in-Ok.told) tt c.args.text.now.items c.say_resolved.new.text.items c.keep_reply.new.kept
-    c.replayed.ensures c.replayed-2.ensures c.in-Ok.ensures.tree (told_desk ask c.in-Ok.told c.args.recorder.now.told c.desk-answer.new.self.told c.in-Ok.ensures.exchanges c.in-Ok.ensures.same) refl c.in_ok-say_resolved-in-Ok.ensures.text c.keep_reply.ensures.kept
+    c.show_replayed.ensures c.show_replayed-2.ensures c.in-Ok.ensures.tree (told_desk ask c.in-Ok.told c.args.recorder.now.told c.desk-answer.new.self.told c.in-Ok.ensures.exchanges c.in-Ok.ensures.same) refl c.in_ok-say_resolved-in-Ok.ensures.text c.keep_reply.ensures.kept
 
 pub returns-in_ok-say_fault-in-Err-clause-answered : goal.returns-in_ok-say_fault-in-Err-clause-answered
 returns-in_ok-say_fault-in-Err-clause-answered c =
     let ask : DeskAsk = Resolve c.args.number in
     let P : LineFault → Type 0 = λ f. Follows (desk_line ask) c.args.recorder.now.told c.desk-answer.new.self.told (ended_by (Err f) tt) in
     said_by (desk_line ask) (λ end. resolve_end c.args.kept.now end.answer) c.args.recorder.now c.desk-answer.new.self (Err c.from.result) tt c.args.text.now.items c.say_fault.new.text.items c.args.kept.now
-    c.replayed.ensures c.replayed-2.ensures c.in-Err.ensures.tree (subst P (sym c.from.ensures) (refused_desk ask c.in-Err.fault c.args.recorder.now.told c.desk-answer.new.self.told c.in-Err.ensures.exchanges)) c.in_ok-say_fault-in-Err.ensures.memory
+    c.show_replayed.ensures c.show_replayed-2.ensures c.in-Err.ensures.tree (subst P (sym c.from.ensures) (refused_desk ask c.in-Err.fault c.args.recorder.now.told c.desk-answer.new.self.told c.in-Err.ensures.exchanges)) c.in_ok-say_fault-in-Err.ensures.memory
     c.in_ok-say_fault-in-Err.ensures.text refl

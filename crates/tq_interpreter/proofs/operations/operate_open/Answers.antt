@@ -13,7 +13,7 @@ returns-in_ok-say_read-in-Read-clause-answered c =
     answered_as (operation_open c.args.operation c.args.file.now kept c.args.«open».now) (read_open kept c.args.file.now c.args.«open».now) c.args.recorder.now.journals c.read_file-answer.new.asker.journals before before c.say_read.new.text.items _
     (ap (λ operation. operation_open operation c.args.file.now kept c.args.«open».now) c.in-Read.is) refl
     (answered_by (read_line c.args.«open».now c.args.file.now) (λ new. in_state kept (states.Open new)) no_servers (read_text c.args.file.now) c.args.recorder.now c.read_file-answer.new.asker c.read_file-answer.result c.read_file-answer.new.«open»
-    before c.say_read.new.text.items (in_state kept (states.Open c.read_file-answer.new.«open»)) c.replayed.ensures c.replayed-in-Read.ensures c.read_file-answer.ensures.tree c.read_file-answer.ensures.asks c.in_ok-say_read-in-Read.ensures.memory
+    before c.say_read.new.text.items (in_state kept (states.Open c.read_file-answer.new.«open»)) c.show_replayed.ensures c.show_replayed-in-Read.ensures c.read_file-answer.ensures.tree c.read_file-answer.ensures.asks c.in_ok-say_read-in-Read.ensures.memory
     c.in_ok-say_read-in-Read.ensures.text refl)
 
 pub returns-in_ok-say_written-in-Write-clause-answered : goal.returns-in_ok-say_written-in-Write-clause-answered
@@ -24,5 +24,5 @@ returns-in_ok-say_written-in-Write-clause-answered c =
     answered_as (operation_open c.args.operation c.args.file.now kept c.args.«open».now) (write_open kept c.args.file.now content c.args.«open».now) c.args.recorder.now.journals c.write_file-answer.new.asker.journals before before c.say_written.new.text.items _
     (ap (λ operation. operation_open operation c.args.file.now kept c.args.«open».now) c.in-Write.is) refl
     (answered_by (write_line c.args.«open».now c.args.file.now content) (λ new. in_state kept (states.Open new)) no_servers (written_text c.args.file.now) c.args.recorder.now c.write_file-answer.new.asker c.write_file-answer.result c.write_file-answer.new.«open»
-    before c.say_written.new.text.items (in_state kept (states.Open c.write_file-answer.new.«open»)) c.replayed.ensures c.replayed-in-Write.ensures c.write_file-answer.ensures.tree c.write_file-answer.ensures.asks c.in_ok-say_written-in-Write.ensures.memory
+    before c.say_written.new.text.items (in_state kept (states.Open c.write_file-answer.new.«open»)) c.show_replayed.ensures c.show_replayed-in-Write.ensures c.write_file-answer.ensures.tree c.write_file-answer.ensures.asks c.in_ok-say_written-in-Write.ensures.memory
     c.in_ok-say_written-in-Write.ensures.text refl)

@@ -4,7 +4,7 @@ use Rattle.tq_json_read.specs.declared.fault.ReadFault.{ReadFault}
 use Rattle.tq_json_read.specs.declared.fault.ReadFault.TheVariants.{NotJson}
 use Rattle.tq_json_read.specs.Faults.{Answers}
 use Rattle.tq_json_read.specs.Frame.{journals_of}
-use Rattle.tq_shell.specs.declared.verdict.Verdict.TheVariants.{Unreadable}
+use Rattle.tq_shell.specs.declared.audit_finding.AuditFinding.TheVariants.{Unreadable}
 use Rattle.tq_shell.specs.Verdicts.{IsVerdict}
 use Rattle.tq_shell.proofs.upgrading.found_in.Goals as goal
 

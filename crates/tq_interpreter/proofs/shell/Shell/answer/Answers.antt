@@ -3,7 +3,7 @@ use Rattle.std.proofs.lemmas.List.Elements.{All-set}
 use Rattle.tq_world.specs.World.{item_at}
 use Rattle.tq_txn.specs.States.{levels_of}
 use Rattle.tq_syntax.specs.declared.line.Line.TheVariants as lines
-use Rattle.tq_interpreter.specs.declared.kept.Kept.{Kept}
+use Rattle.tq_interpreter.specs.declared.txn_slot.TxnSlot.{TxnSlot}
 use Rattle.tq_interpreter.specs.Answer.{World, answer}
 use Rattle.tq_interpreter.proofs.Sayings.{said_of, said_on, tree_known}
 use Rattle.tq_interpreter.proofs.ShellLines.{txn_answered}
@@ -53,18 +53,18 @@ returns-in-None-clause-possible c =
 
 pub invariant_of-self : goal.invariant_of-self
 invariant_of-self c =
-    let On : Kept → Type 0 = λ k. levels_of k.txn ≡ c.self.inside.levels in
+    let On : TxnSlot → Type 0 = λ k. levels_of k.txn ≡ c.self.inside.levels in
     let P : World → Type 0 = λ v. c.in-Some.place < length v.known.txns in
     let less : c.in-Some.place < length c.self.inside.txns.items = subst P (sym c.self.view_is) c.in-Some.ensures.some.1 in
-    let left : levels_of c.answer_txn.new.kept.txn ≡ c.self.inside.levels = c.in_err-answer_txn-in-Some.ensures.levels ∙ ap (λ (k : Kept). levels_of k.txn) c.index_mut-kept.ensures.value ∙ c.self.invariant.1 c.in-Some.place c.index_mut-kept.result.now less in
+    let left : levels_of c.answer_txn.new.kept.txn ≡ c.self.inside.levels = c.in_err-answer_txn-in-Some.ensures.levels ∙ ap (λ (k : TxnSlot). levels_of k.txn) c.index_mut-kept.ensures.value ∙ c.self.invariant.1 c.in-Some.place c.index_mut-kept.result.now less in
     (c.in_err-answer_txn-in-Some.ensures.tree ∙ c.self.invariant.0, All-set On c.self.inside.txns.items c.in-Some.place c.answer_txn.new.kept left c.self.invariant.1)
 
 pub invariant_of-self-in-Some : goal.invariant_of-self-in-Some
 invariant_of-self-in-Some c =
-    let On : Kept → Type 0 = λ k. levels_of k.txn ≡ c.self.inside.levels in
+    let On : TxnSlot → Type 0 = λ k. levels_of k.txn ≡ c.self.inside.levels in
     let P : World → Type 0 = λ v. c.in-Some.place < length v.known.txns in
     let less : c.in-Some.place < length c.self.inside.txns.items = subst P (sym c.self.view_is) c.in-Some.ensures.some.1 in
-    let left : levels_of c.answer_txn.new.kept.txn ≡ c.self.inside.levels = c.in_ok-answer_txn-in-Some.ensures.levels ∙ ap (λ (k : Kept). levels_of k.txn) c.index_mut-kept.ensures.value ∙ c.self.invariant.1 c.in-Some.place c.index_mut-kept.result.now less in
+    let left : levels_of c.answer_txn.new.kept.txn ≡ c.self.inside.levels = c.in_ok-answer_txn-in-Some.ensures.levels ∙ ap (λ (k : TxnSlot). levels_of k.txn) c.index_mut-kept.ensures.value ∙ c.self.invariant.1 c.in-Some.place c.index_mut-kept.result.now less in
     (c.in_ok-answer_txn-in-Some.ensures.tree ∙ c.self.invariant.0, All-set On c.self.inside.txns.items c.in-Some.place c.answer_txn.new.kept left c.self.invariant.1)
 
 pub returns-in_ok-answer_txn-in-Some-clause-text : goal.returns-in_ok-answer_txn-in-Some-clause-text

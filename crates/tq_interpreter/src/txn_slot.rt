@@ -10,7 +10,7 @@ pub struct Ending {
 
 /// What is kept of a transaction: its state, and the verdict that was told last before its end.
 #[derive(Drop)]
-pub struct Kept {
+pub struct TxnSlot {
     pub txn: Txn,
     pub told: Option<Ending>,
 }

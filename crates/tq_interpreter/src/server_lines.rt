@@ -7,9 +7,9 @@ ghost use Rattle.tq_interpreter.specs.Known.{in_state};
 ghost use Rattle.tq_text.specs.Print.{Extends, printed, applied_text, Prints};
 ghost use Rattle.tq_interpreter.specs.Progress.{progress_of};
 
-use crate::kept::{Ending, Kept};
 use crate::recorder::Recorder;
 use crate::states::{Closed, ending_of, stand_in, voting_of};
+use crate::txn_slot::{Ending, TxnSlot};
 use std::alloc::Global;
 use std::mem;
 use tq_asks::WorkAsk;
@@ -19,7 +19,7 @@ use tq_txn::{Applied, LineFault, Txn, Voting, apply_at, prepare_at, prepare_stop
 
 /// What a server has to do for a transaction.
 #[derive(Drop)]
-pub(crate) enum Duty {
+pub(crate) enum Phase {
     /// Vote.
     Prepare,
     /// Do as the verdict says.
@@ -29,20 +29,20 @@ pub(crate) enum Duty {
 /// A duty at the server of a number. Where a number of records is given, the server stops in the midst of the duty, behind
 /// so many of the records that it would write.
 #[derive(Drop)]
-pub(crate) struct Errand {
+pub(crate) struct ServerLine {
     pub(crate) server: u64,
-    pub(crate) duty: Duty,
+    pub(crate) duty: Phase,
     pub(crate) stop: Option<u32>,
 }
 
-impl Errand {
+impl ServerLine {
     ghost use Rattle.std.specs.Prelude.{◌≡◌, Some, None};
 
     /// To do the whole of a duty.
-    pub(crate) fn whole(duty: Duty, server: u64) -> Errand
+    pub(crate) fn whole(duty: Phase, server: u64) -> ServerLine
         ensures { result ≡ record { server = server; duty = duty; stop = None } }
     {
-        Errand {
+        ServerLine {
             server,
             duty,
             stop: None,
@@ -50,10 +50,10 @@ impl Errand {
     }
 
     /// To stop in the midst of a duty, behind so many records.
-    pub(crate) fn stopping(duty: Duty, server: u64, after: u32) -> Errand
+    pub(crate) fn stopping(duty: Phase, server: u64, after: u32) -> ServerLine
         ensures { result ≡ record { server = server; duty = duty; stop = Some after } }
     {
-        Errand {
+        ServerLine {
             server,
             duty,
             stop: Some(after),
@@ -62,13 +62,13 @@ impl Errand {
 }
 
 /// Does an errand, if its server is one of the tree.
-pub(crate) fn run_errand(
+pub(crate) fn run_at_server(
     recorder: &mut Recorder,
     alloc: Global,
     levels: Levels,
     number: u64,
-    kept: &mut Kept,
-    errand: Errand,
+    kept: &mut TxnSlot,
+    errand: ServerLine,
     text: &mut Vec<u8>,
 ) -> Result<(), Memory>
     requires txn { levels_of kept.old.txn ≡ recorder.old.journals.levels }
@@ -80,12 +80,12 @@ pub(crate) fn run_errand(
     ensures tree { recorder.new.journals.levels ≡ recorder.old.journals.levels }
     ensures kept { OnErr result (Extends text.old.items text.new.items) }
 {
-    let Errand { server, duty, stop } = errand;
+    let ServerLine { server, duty, stop } = errand;
     match levels.server(server) {
         None => say_number(text, b"no such server ", server),
         Some(id) => match duty {
-            Duty::Prepare => prepare(recorder, alloc, kept, id, stop, text),
-            Duty::Apply => apply(recorder, alloc, number, kept, id, stop, text),
+            Phase::Prepare => prepare(recorder, alloc, kept, id, stop, text),
+            Phase::Apply => apply(recorder, alloc, number, kept, id, stop, text),
         },
     }
 }
@@ -94,7 +94,7 @@ pub(crate) fn run_errand(
 fn prepare(
     recorder: &mut Recorder,
     alloc: Global,
-    kept: &mut Kept,
+    kept: &mut TxnSlot,
     server: ServerId,
     stop: Option<u32>,
     text: &mut Vec<u8>,
@@ -127,7 +127,7 @@ fn vote(
     text: &mut Vec<u8>,
 ) -> Result<Txn, Memory>
     requires { server.levels ≡ recorder.old.journals.levels }
-    ensures answered { IfOk result (λ txn. (kept : Kept) →
+    ensures answered { IfOk result (λ txn. (kept : TxnSlot) →
         spec.IsAnswered (spec.prepare_voting stop server.number kept voting)
         (progress_of recorder.old text.old) (progress_of recorder.new text.new)
         (in_state kept txn)) }
@@ -137,17 +137,17 @@ fn vote(
 {
     let number = server.number();
     let mut voting = voting;
-    recorder.replayed();
+    recorder.show_replayed();
     match stop {
         None => {
             let answer = prepare_at(recorder, alloc, &mut voting, server);
-            recorder.replayed();
+            recorder.show_replayed();
             say_server(text, b"yes ", number, &[number], answer)?;
             Ok(Txn::Voting(voting))
         }
         Some(after) => {
             let answer = prepare_stopping(recorder, alloc, &voting, server, after);
-            recorder.replayed();
+            recorder.show_replayed();
             say_stopped(text, number, answer)?;
             Ok(Txn::Voting(voting))
         }
@@ -178,7 +178,7 @@ fn apply(
     recorder: &mut Recorder,
     alloc: Global,
     number: u64,
-    kept: &Kept,
+    kept: &TxnSlot,
     server: ServerId,
     stop: Option<u32>,
     text: &mut Vec<u8>,
@@ -207,7 +207,7 @@ fn tell(
     text: &mut Vec<u8>,
 ) -> Result<(), Memory>
     requires { server.levels ≡ recorder.old.journals.levels }
-    ensures answered { OnOk result ((kept : Kept) →
+    ensures answered { OnOk result ((kept : TxnSlot) →
         spec.IsAnswered (spec.apply_ending stop server.number number kept ending)
         (progress_of recorder.old text.old) (progress_of recorder.new text.new) kept) }
     ensures tree { recorder.new.journals.levels ≡ recorder.old.journals.levels }
@@ -215,18 +215,18 @@ fn tell(
 {
     let txn = number;
     let Ending { verdict, cite } = ending;
-    recorder.replayed();
+    recorder.show_replayed();
     match stop {
         None => {
             let answer = apply_at(recorder, alloc, txn, verdict, cite, server);
-            recorder.replayed();
+            recorder.show_replayed();
             say_told(text, server.number(), answer)?;
             Ok(())
         }
         Some(after) => {
             let ask = WorkAsk::Decide { txn, verdict, cite };
             let answer = stop_at(recorder, alloc, server, ask, after);
-            recorder.replayed();
+            recorder.show_replayed();
             say_server(text, b"down ", server.number(), &[], answer)?;
             Ok(())
         }

@@ -8,7 +8,7 @@ use tq_text::{push_at, push_numbers, say_line, say_number};
 
 /// What an audit finds in the bytes of a journal file.
 #[derive(Debug, Drop, PartialEq)]
-pub enum Verdict {
+pub enum AuditFinding {
     /// An order explains the journals; it has so many entries, which are all of theirs.
     Explained { entries: u64 },
     /// The first entry that its part would not have given: servers upwards, then the desk, then the view.
@@ -19,16 +19,16 @@ pub enum Verdict {
     Unreadable,
 }
 
-impl Verdict {
+impl AuditFinding {
     /// The status that tells of it.
     pub fn status(&self) -> u8
         ensures { result ≡ spec.status_of self.now }
     {
         match self {
-            Verdict::Explained { .. } => 0,
-            Verdict::Wrong { .. } => 3,
-            Verdict::Stuck { .. } => 3,
-            Verdict::Unreadable => 4,
+            AuditFinding::Explained { .. } => 0,
+            AuditFinding::Wrong { .. } => 3,
+            AuditFinding::Stuck { .. } => 3,
+            AuditFinding::Unreadable => 4,
         }
     }
 
@@ -38,10 +38,10 @@ impl Verdict {
     {
         let mut text = Vec::new(alloc);
         match self {
-            Verdict::Explained { entries } => say_number(&mut text, b"explained ", *entries)?,
-            Verdict::Wrong { part, number } => say_wrong(&mut text, *part, *number)?,
-            Verdict::Stuck { placed } => say_stuck(&mut text, placed)?,
-            Verdict::Unreadable => say_line(&mut text, b"unreadable")?,
+            AuditFinding::Explained { entries } => say_number(&mut text, b"explained ", *entries)?,
+            AuditFinding::Wrong { part, number } => say_wrong(&mut text, *part, *number)?,
+            AuditFinding::Stuck { placed } => say_stuck(&mut text, placed)?,
+            AuditFinding::Unreadable => say_line(&mut text, b"unreadable")?,
         }
         Ok(text)
     }
@@ -50,7 +50,7 @@ impl Verdict {
 /// Puts the name of a wrong entry behind the text, as a line.
 fn say_wrong(text: &mut Vec<u8>, part: Part, number: u64) -> Result<(), Memory>
     ensures { OnOk result
-        (text.new.items ≡ text.old.items ++ spec.verdict_line (Verdict.Wrong part number)) }
+        (text.new.items ≡ text.old.items ++ spec.verdict_line (AuditFinding.Wrong part number)) }
 {
     match part {
         Part::Server(server) => push_at(text, b"wrong server ", server)?,
@@ -63,7 +63,7 @@ fn say_wrong(text: &mut Vec<u8>, part: Part, number: u64) -> Result<(), Memory>
 /// Puts how many entries can be placed behind the text, as a line.
 fn say_stuck(text: &mut Vec<u8>, placed: &Counts) -> Result<(), Memory>
     ensures { OnOk result
-        (text.new.items ≡ text.old.items ++ spec.verdict_line (Verdict.Stuck placed.now)) }
+        (text.new.items ≡ text.old.items ++ spec.verdict_line (AuditFinding.Stuck placed.now)) }
 {
     text.extend_from_slice(b"stuck")?;
     push_numbers(text, placed.servers.as_slice())?;
