@@ -31,6 +31,6 @@ pub use tq_cli::{Words, WordsFault};
 pub use tq_devices::{
     Failed, MemorySink, MemorySource, RunFault, Sink, Source, StdSink, StdSource,
 };
-pub use tq_interpreter::{Ending, Kept, Shell};
+pub use tq_interpreter::{Ending, Shell, TxnSlot};
 pub use tq_syntax::{LINE_LIMIT, Line, TxnLine, numbers_are_read_again};
 pub use upgrading::upgrade;
