@@ -101,9 +101,9 @@ wanted_at first slot same b is e = (and_parts _ _ (sym is ∙ e)).1
 not_wanted : (first slot : ℕ) (same b : Bool) → b ≡ (nat_le first slot && same) → b ≡ false → first ≤ slot → same ≡ false
 not_wanted first slot same b is e h = sym (is ∙ ap (λ x. x && same) (le-leb first slot h)) ∙ e
 
-from_none : {P Q : Type 0} {R : ℕ → Type 0} (r : Option ℕ) → (P → Q) → MatchOption r P R → MatchOption r Q R
-from_none None f h = f h
-from_none (Some place) f h = h
+from_none : {P Q : Type 0} (R : ℕ → Type 0) (r : Option ℕ) → (P → Q) → MatchOption r P R → MatchOption r Q R
+from_none R None f h = f h
+from_none R (Some place) f h = h
 
 -- where the name is not in that slot, what the slots behind it have decides
 pub still_none : (name : List ℕ) (names : List (Bor (List ℕ))) (slot first : ℕ) (other : Bor (List ℕ)) (b : Bool) (r : Option ℕ) → slot < length names
@@ -111,5 +111,5 @@ pub still_none : (name : List ℕ) (names : List (Bor (List ℕ))) (slot first :
     → MatchOption r (first ≤ slot + 1 → is_among name (drop (slot + 1) (texts names)) ≡ false) (IsNameAt name (texts names))
     → MatchOption r (first ≤ slot → is_among name (drop slot (texts names)) ≡ false) (IsNameAt name (texts names))
 still_none name names slot first other b r within is e behind =
-    from_none r (λ none start.
+    from_none (IsNameAt name (texts names)) r (λ none start.
     sym (passed name names slot other _ within refl (not_wanted first slot _ b is e start)) ∙ none (omega (arith, start))) behind

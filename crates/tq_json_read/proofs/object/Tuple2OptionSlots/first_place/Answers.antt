@@ -1,10 +1,7 @@
-use Rattle.std.proofs.Common.{◌≡◌, ◌<◌, length, arith}
+use Rattle.std.proofs.Common.{◌≡◌, ◌<◌, length, refl, arith}
 use Rattle.tq_json_read.specs.Objects.{texts}
 use Rattle.tq_json_read.proofs.Places.{found_at, length-texts, none_behind, wanted_at, still_none}
 use Rattle.tq_json_read.proofs.object.Tuple2OptionSlots.first_place.Goals as goal
-
-pub returns-then-slot-ge : goal.returns-then-slot-ge
-returns-then-slot-ge g c start = none_behind c.args.name.now c.args.names.now c.args.slot (omega arith)
 
 pub returns-then-is_wanted : goal.returns-then-is_wanted
 returns-then-is_wanted g c =
