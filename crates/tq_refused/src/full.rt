@@ -10,22 +10,28 @@ use tq_locks::Mode;
 use tq_shape::{Levels, Limits, Memory, Part, Shared};
 use tq_store::FileName;
 
-/// Takes the steps, and prints what each is told: so the desk begins a transaction, and is full; server 1 grants a lock, and
-/// is full; and there is no server 2.
+/// Makes the service, and has it take the steps.
 pub(crate) fn run(rt: &HostRuntime) -> Result<(), Wrong> {
-    let alloc = rt.alloc();
-    let [lock, release] = asks(alloc)?;
     let mut service = Service::new(
-        alloc,
+        rt.alloc(),
         Levels::new(1).unwrap(),
         Limits::new(1000, 64, 1).unwrap(),
     )?;
-    tell(rt, &mut service, Step::Desk(DeskAsk::Begin))?;
-    tell(rt, &mut service, Step::Desk(DeskAsk::Begin))?;
-    tell(rt, &mut service, Step::Desk(DeskAsk::Resolve { txn: 1 }))?;
+    let told = tell_all(rt, &mut service);
+    drop(service);
+    told
+}
+
+/// Takes the steps, and prints what each is told: so the desk begins a transaction, and is full; server 1 grants a lock, and
+/// is full; and there is no server 2.
+fn tell_all(rt: &HostRuntime, service: &mut Service) -> Result<(), Wrong> {
+    let [lock, release] = asks(rt.alloc())?;
+    tell(rt, service, Step::Desk(DeskAsk::Begin))?;
+    tell(rt, service, Step::Desk(DeskAsk::Begin))?;
+    tell(rt, service, Step::Desk(DeskAsk::Resolve { txn: 1 }))?;
     tell(
         rt,
-        &mut service,
+        service,
         Step::Node {
             server: 1,
             ask: lock,
@@ -33,7 +39,7 @@ pub(crate) fn run(rt: &HostRuntime) -> Result<(), Wrong> {
     )?;
     tell(
         rt,
-        &mut service,
+        service,
         Step::Node {
             server: 1,
             ask: release,
@@ -41,7 +47,7 @@ pub(crate) fn run(rt: &HostRuntime) -> Result<(), Wrong> {
     )?;
     tell(
         rt,
-        &mut service,
+        service,
         Step::Node {
             server: 2,
             ask: NodeAsk::Crash,
