@@ -22,15 +22,15 @@ returns-clause-heard g c =
     let saw = server_saw own.levels own.told.items passes own.desk.seen own.view.seen number (parts.Server c.args.server.number) c.index_mut-pass.result.now c.ask_part.new.pass c.args.caller.now c.caller.view_is less
     (ap parts.Server (sym c.number-number.ensures.value)) c.index_mut-pass.ensures.value in
     record {
-      seen = asked_seen c.args.caller.now new (parts.Server c.args.server.number) c.index_mut-pass.result.now.seen c.ask_part.new.pass.seen c.in_ok-told.told.number saw c.in_ok-told.ensures.seen;
+      seen = asked_seen c.args.caller.now new (parts.Server c.args.server.number) c.index_mut-pass.result.now.seen c.ask_part.new.pass.seen c.in_ok-entry.entry.number saw c.in_ok-entry.ensures.seen;
       not_told = tt;
       fault = tt;
       others = asked_others c.args.caller.now new (parts.Server c.args.server.number) c.index_mut-pass.result.now.seen c.ask_part.new.pass.seen saw;
       tree = ap (λ (v : CallerView). v.levels) c.caller.view_is;
     }
 
-pub returns-in_err-told-clause-heard : goal.returns-in_err-told-clause-heard
-returns-in_err-told-clause-heard g c =
+pub returns-in_err-entry-clause-heard : goal.returns-in_err-entry-clause-heard
+returns-in_err-entry-clause-heard g c =
     let own = c.caller.inside in
     let passes = own.servers.items in
     let number = c.number-number.result in
@@ -44,7 +44,7 @@ returns-in_err-told-clause-heard g c =
     (ap parts.Server (sym c.number-number.ensures.value)) c.index_mut-pass.ensures.value in
     record {
       seen = search rules;
-      not_told = on_err _ _ (asked_none c.args.caller.now new (parts.Server c.args.server.number) c.index_mut-pass.result.now.seen c.ask_part.new.pass.seen saw c.in_err-told.ensures.not_told);
+      not_told = on_err _ _ (asked_none c.args.caller.now new (parts.Server c.args.server.number) c.index_mut-pass.result.now.seen c.ask_part.new.pass.seen saw c.in_err-entry.ensures.not_told);
       fault = search rules;
       others = asked_others c.args.caller.now new (parts.Server c.args.server.number) c.index_mut-pass.result.now.seen c.ask_part.new.pass.seen saw;
       tree = ap (λ (v : CallerView). v.levels) c.caller.view_is;
@@ -61,6 +61,6 @@ ask_part-requires g c =
 
 pub returns-clause-exchanges : goal.returns-clause-exchanges
 returns-clause-exchanges g c =
-    let told = c.in_ok-told.told in
-    c.in_ok-told.ensures.exchanges
-    ∙ (λ i. (c.caller.view_is i).told ++ exchanges.Node (c.number-number.ensures.value i) c.args.ask (Ok (record { number = told.number; reply = told.reply })) ∷ [])
+    let entry = c.in_ok-entry.entry in
+    c.in_ok-entry.ensures.exchanges
+    ∙ (λ i. (c.caller.view_is i).told ++ exchanges.Node (c.number-number.ensures.value i) c.args.ask (Ok (record { number = entry.number; reply = entry.reply })) ∷ [])
