@@ -11,9 +11,7 @@ use Rattle.tq_asks.specs.declared.ask.NodeReply.{NodeReply}
 use Rattle.tq_txn.specs.declared.asker.Exchange.{Exchange}
 use Rattle.tq_tables.specs.Journals.{JournalsView}
 use Rattle.tq_mirror.specs.declared.entries.Entries.{Entries}
-use Rattle.tq_mirror.specs.declared.entries.Entries.TheVariants as entries
 use Rattle.tq_mirror.specs.declared.fault.PullFault.{PullFault}
-use Rattle.tq_mirror.specs.declared.fault.PullFault.TheVariants as faults
 use Rattle.tq_mirror.specs.Prefixes.{IsPartOf, IsPullFault, grown, prefix_length}
 use Rattle.tq_cluster.specs.Told.{CallerView, SeesOn, seen_of, having_seen}
 use Rattle.tq_cluster.specs.Pulls.{IsPull, last_come, seen_then}
@@ -174,8 +172,3 @@ on_ok P Q (Err e) f is = tt
 
 pub if_ok : {T E : Type 0} (P : T → Type 0) (r : Result T E) (x : T) → r ≡ Ok x → IfOk r P → P x
 if_ok {T} {E} P r x is holds = subst (λ (q : Result T E). IfOk q P) is holds
-
-pub memory_fault : {T : Type 0} (prefixes : JournalsView) (part : Part) (seen : ℕ) (r : Result T PullFault) → IfErr r (λ f. f ≡ faults.Memory)
-    → IfErr r (λ f. (more : Entries) × IsPullFault prefixes part more seen f)
-memory_fault prefixes part seen (Ok x) is = tt
-memory_fault prefixes part seen (Err f) is = (entries.Desk [], subst (λ (o : PullFault). IsPullFault prefixes part (entries.Desk []) seen o) (sym is) tt)
