@@ -1,8 +1,7 @@
 -- What the methods of the kept locks find and leave.
-use Rattle.std.proofs.Common.{◌≡◌, ℕ, zero, suc, ◌==◌, Bool, true, false, cond, List, [], ◌∷◌, map, filter, length, Option, Some, None, IfNone, IfSome, Result, Ok, Err, OnErr, refl, ap, sym, subst, ◌∙◌, inl, inr, ◌<◌, ◌≤◌, ◌-◌, nat_eq, ltb, lt-ltb, ltb-true, get_or, arith}
+use Rattle.std.proofs.Common.{◌≡◌, ℕ, zero, suc, ◌==◌, Bool, true, false, cond, List, [], ◌∷◌, map, filter, length, Option, Some, None, IfNone, IfSome, Result, Ok, Err, OnErr, refl, ap, sym, subst, ◌∙◌, inl, inr, ◌<◌, ◌-◌, nat_eq, ltb, lt-ltb, ltb-true, get_or, arith}
 use lib.Dec.{T}
 use mathlib.Core.Bool.{true≢false}
-use Rattle.std.proofs.lemmas.Bool.{cases_lt}
 use Rattle.std.proofs.lemmas.Bool.Decides.{nat_tests}
 use Rattle.std.specs.FinMap as fin
 use Rattle.std.specs.FinMap.Entries.{find, is_sorted, below_all, is_sorted-where_key, find-where_key}
@@ -284,10 +283,3 @@ no_last (k ∷ keys) h = absurd (by_last k keys h)
         past : (k : ℕ) (keys : List ℕ) → slice_get (k ∷ keys) (length keys) ≡ None → ⊥
         past k [] h = none_some k (sym h)
         past k (j ∷ keys) h = past j keys h
-
--- what holds below a place and from there on holds of all
-pub all_below : (P : ℕ → Type 0) (at end : ℕ) → ((k : ℕ) → k < at → P k) → ((k : ℕ) → end ≤ k → P k) → end ≤ at → (k : ℕ) → P k
-all_below P at end below above past k = elim (cases_lt k at) [
-  | inl less ↦ below k less
-  | inr more ↦ above k (omega (arith, more, past))
-]

@@ -1,7 +1,7 @@
 -- Keys that move in a list, some of whose first places hold none.
 use Rattle.std.proofs.Common.{◌≡◌, ◌+◌, ◌-◌, ◌<◌, ◌≤◌, ◌++◌, ℕ, zero, suc, List, [], ◌∷◌, length, take, drop, get_or, slice_set, Result, Ok, Err, IsOk, OnOk, ap, sym, ◌∙◌, arith}
 use mathlib.Core.Bool.{true≢false}
-use Rattle.std.proofs.Math.Seq.{drop-append_seam, take-append_seam, drop-cons, set-append_seam}
+use Rattle.std.proofs.Math.Seq.{drop-append_seam, drop-cons, set-append_seam}
 use Rattle.std.proofs.lemmas.List.{append_assoc, append-nil, length-append, length-drop, length-take-le, drop-drop, drop_all, take_all}
 use Rattle.std.specs.List.{insert, remove, refill, copy_within}
 
@@ -13,9 +13,6 @@ refilled xs ws e =
 
 drop_past : (p q : List ℕ) (n : ℕ) → length p ≡ n → drop n (p ++ q) ≡ q
 drop_past p q n e = ap (λ m. drop m (p ++ q)) (sym e) ∙ drop-append_seam p q
-
-take_past : (p q : List ℕ) (n : ℕ) → length p ≡ n → take n (p ++ q) ≡ p
-take_past p q n e = ap (λ m. take m (p ++ q)) (sym e) ∙ take-append_seam p q
 
 -- the keys before a place go up by one, over the key there
 pub closed_up : (xs : List ℕ) (first place : ℕ) → first + place < length xs → drop (first + 1) (copy_within xs first (first + place) (first + 1)) ≡ remove (drop first xs) place
@@ -57,28 +54,6 @@ put_before xs first to place key next fits =
     (λ i. drop to (slice_set (copy_within xs (sym next i) (sym next i + place) to) (to + place) key))
     ∙ lowered xs to place key (omega (arith, next, fits))
     ∙ ap (λ n. insert (drop n xs) place key) next
-
--- all keys go down to the front
-pub moved_down : (xs : List ℕ) (first : ℕ) → take (length xs - first) (copy_within xs first (length xs) 0) ≡ drop first xs
-moved_down xs first =
-    let keys = drop first xs in
-    let n = length xs - first in
-    let all : take n keys ≡ keys = take_all n keys (omega (arith, length-drop first xs)) in
-    take_past (take n keys) (drop (0 + n) xs) n (ap length all ∙ length-drop first xs)
-    ∙ all
-
--- all keys go up by a gap
-pub moved_up : (xs more ys : List ℕ) (gap : ℕ) → ys ≡ xs ++ more → length ys ≡ length xs + gap → drop gap (copy_within ys 0 (length xs) gap) ≡ xs
-moved_up xs more ys gap is fits =
-    let n = length xs in
-    let front = take gap ys in
-    let moved : n - 0 ≡ n = omega arith in
-    let keys : take n ys ≡ xs = ap (take n) is ∙ take-append_seam xs more in
-    ap (λ m. drop gap (front ++ take m ys ++ drop (gap + m) ys)) moved
-    ∙ ap (drop gap) (append_assoc front (take n ys) (drop (gap + n) ys))
-    ∙ drop_past front (take n ys ++ drop (gap + n) ys) gap (length-take-le gap ys (omega (arith, fits)))
-    ∙ (λ i. keys i ++ drop_all (gap + n) ys (omega (arith, fits)) i)
-    ∙ append-nil xs
 
 none : (n : ℕ) → 0 + n ≡ n
 none n = omega arith

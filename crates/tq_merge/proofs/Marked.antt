@@ -1,9 +1,9 @@
 -- The marks of the entries that are named.
-use Rattle.std.proofs.Common.{◌≡◌, inl, inr, ◌<◌, ◌≤◌, ◌+◌, ◌-◌, ◌==◌, ◌&&◌, ◌||◌, ℕ, zero, suc, Bool, true, false, not, cond, List, [], ◌∷◌, ◌++◌, length, get_or, set, take, drop, map, replicate, refl, sym, ap, subst, ◌∙◌, arith}
+use Rattle.std.proofs.Common.{◌≡◌, inl, inr, ◌<◌, ◌≤◌, ◌+◌, ◌-◌, ◌==◌, ◌&&◌, ◌||◌, ℕ, zero, suc, Bool, true, false, not, cond, List, [], ◌∷◌, ◌++◌, length, get_or, set, take, drop, refl, sym, ap, subst, ◌∙◌, arith}
 use Rattle.std.specs.Prelude.{count_by}
 use Rattle.std.specs.List.{All, sum_by}
-use Rattle.std.proofs.lemmas.Bool.{cases_eq, cases_lt, cases_Bool, and_parts, and_from, and_left, and_right, or_left, or_right, or_cases, or_from, eqb-true, eq-eqb, ne_eqb, false_from_ne_true, false≢true}
-use Rattle.std.proofs.lemmas.List.{get_or-set_same, get_or-set_other, get_or_default, get_or-replicate, get_or_past, length-map, length-set, length-replicate, take_more, take_all}
+use Rattle.std.proofs.lemmas.Bool.{cases_eq, cases_Bool, and_parts, and_from, and_left, and_right, or_left, or_right, or_cases, or_from, eqb-true, eq-eqb, ne_eqb, false_from_ne_true, false≢true}
+use Rattle.std.proofs.lemmas.List.{get_or-set_same, get_or-set_other, get_or_default, length-set, take_more, take_all}
 use Rattle.std.proofs.lemmas.List.Elements.{All-get_or, All-from_get_or}
 use Rattle.std.proofs.lemmas.List.Folds.{list_any-append}
 use Rattle.std.proofs.lemmas.List.Sums.{count_by_more_yes, count_by_more_no, sum_by-cons}
@@ -94,25 +94,6 @@ pub record KeepsMarks (counts : List ℕ) (marks : List (List Bool)) (seen : Lis
   pub one_each : length marks ≡ length counts
   pub so_many : (place : ℕ) → length (get_or marks place []) ≡ get_or counts place 0
   pub marked : (part : Part) (index : ℕ) → index < get_or counts (place_of part) 0 → get_or (get_or marks (place_of part) []) index false ≡ is_named seen part (suc index)
-
-none_many : (counts : List ℕ) (place : ℕ) → length (get_or (map (λ (count : ℕ). replicate count false) counts) place []) ≡ get_or counts place 0
-none_many [] place = refl
-none_many (c ∷ counts) zero = length-replicate c false
-none_many (c ∷ counts) (suc place) = none_many counts place
-
-none_marked : (counts : List ℕ) (place index : ℕ) → get_or (get_or (map (λ (count : ℕ). replicate count false) counts) place []) index false ≡ false
-none_marked [] place index = refl
-none_marked (c ∷ counts) zero index =
-    elim (cases_lt index c) [
-      | inl within ↦ get_or-replicate c index false false within
-      | inr past ↦ get_or_past (replicate c false) index false (let many = length-replicate c false in omega (arith, many, past))
-    ]
-none_marked (c ∷ counts) (suc place) index = none_marked counts place index
-
-pub none_keeps : (counts : List ℕ) (marks : List (List Bool)) → marks ≡ map (λ (count : ℕ). replicate count false) counts → KeepsMarks counts marks []
-none_keeps counts marks is =
-    subst (λ (m : List (List Bool)). KeepsMarks counts m []) (sym is)
-    (record { one_each = length-map counts (λ (count : ℕ). replicate count false); so_many = none_many counts; marked = λ part index within. none_marked counts (place_of part) index })
 
 module _ (counts : List ℕ) (marks : List (List Bool)) (seen : List EntryName) (keeps : KeepsMarks counts marks seen) (name : EntryName) (good : IsWithin counts name) where
   abbrev pub here : List Bool
