@@ -26,6 +26,7 @@ use Rattle.tq_txn.specs.Lines.{any_line}
 use Rattle.tq_interpreter.specs.Asking.{run_line, node_told, desk_told, view_told}
 use Rattle.tq_interpreter.specs.PossibleTxn.{IsOfOwn, IsPossible}
 use Rattle.tq_interpreter.proofs.Replies.{IsUntaken, IsToldAs, IsNodeReply, IsDeskReply, IsViewReply, node_tells, desk_tells, view_tells}
+use Rattle.tq_interpreter.proofs.Recording.{levels_after}
 
 -- whatever the parts of a tree of those levels may tell, the line ends so
 abbrev pub EndsIn : {A : Type 0} → ℕ → (A → Type 0) → Dialogue A → Type 0
@@ -40,13 +41,6 @@ levels_grown : (world : JournalsView) (step : Step) → (grown world step).level
 levels_grown world (steps.Node server ask) = refl
 levels_grown world (steps.Desk ask) = refl
 levels_grown world (steps.View ask) = refl
-
-levels_after : (world : JournalsView) (step : Step) → (world_after world step).levels ≡ world.levels
-levels_after world step = by (refusal world step)
-  where
-    by : (r : Option Refusal) → (state_at r world (grown world step)).levels ≡ world.levels
-    by None = levels_grown world step
-    by (Some reason) = refl
 
 pub ends_so : {A : Type 0} (P : A → Type 0) (line : Dialogue A) (world : JournalsView) → EndsIn world.levels P line → P (run_line world line).end
 ends_so P (Ends a) world is = is

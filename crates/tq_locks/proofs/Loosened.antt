@@ -35,17 +35,6 @@ inserted_lists old new keys key e lists u has k loose = elim (cases_eq k key) [
 ]
 
 module _ (old new : Slab Entry) (key : ℕ) (lock : Lock) (put : (k : ℕ) → get new k ≡ with_lock old key lock k) where
-
-      apart : (k : ℕ) → k ≢ key → (k == key) ≡ false
-      apart k other = by_test (k == key) refl
-        where
-          by_test : (b : Bool) → (k == key) ≡ b → b ≡ false
-          by_test false e = refl
-          by_test true e = absurd (other (same e))
-            where
-              same : (k == key) ≡ true → k ≡ key
-              same h = grind (arith, nat_tests)
-
   pub put_lists : (keys : List ℕ) → ListsLoose old keys → ((entry : Entry) → get old key ≡ Some entry → lock.stable ≡ entry.1.stable) → ListsLoose new keys
   put_lists keys lists as_stable k loose = elim (cases_eq k key) [
     | inl one ↦ by_look one (get old key) refl

@@ -15,24 +15,7 @@ use Rattle.tq_merge.specs.EntryNames.{place_of, part_at, is_named, unnamed, unna
 use Rattle.tq_merge.specs.Order.{same_part}
 use Rattle.tq_merge.proofs.LastNumbers.{splits}
 use Rattle.tq_merge.proofs.NamePlaces.{has_push, same_place, counted}
-
--- ---- equal parts
-
-part-self : (p : Part) → same_part p p ≡ true
-part-self (Server a) = eq-eqb a a refl
-part-self Desk = refl
-part-self View = refl
-
-part-is : (p q : Part) → same_part p q ≡ true → p ≡ q
-part-is (Server a) (Server b) same = ap Server (eqb-true a b same)
-part-is Desk Desk same = refl
-part-is View View same = refl
-part-is (Server a) Desk same = absurd (false≢true same)
-part-is (Server a) View same = absurd (false≢true same)
-part-is Desk (Server b) same = absurd (false≢true same)
-part-is Desk View same = absurd (false≢true same)
-part-is View (Server b) same = absurd (false≢true same)
-part-is View Desk same = absurd (false≢true same)
+use Rattle.tq_merge.proofs.Places.{same_part-is, same_part-refl}
 
 pub place-part_at : (place : ℕ) → place_of (part_at place) ≡ place
 place-part_at zero = refl
@@ -49,7 +32,7 @@ pub has_named : (names : List EntryName) (name : EntryName) → Has names name �
 has_named [] name has = absurd has
 has_named (n ∷ names) name (inl same) =
     or_left (is_it name.part name.number n) (is_named names name.part name.number)
-    (subst (λ (m : EntryName). is_it name.part name.number m ≡ true) (sym same) (and_from (same_part name.part name.part) (name.number == name.number) (part-self name.part) (eq-eqb name.number name.number refl)))
+    (subst (λ (m : EntryName). is_it name.part name.number m ≡ true) (sym same) (and_from (same_part name.part name.part) (name.number == name.number) (same_part-refl name.part) (eq-eqb name.number name.number refl)))
 has_named (n ∷ names) name (inr has) = or_right (is_it name.part name.number n) (is_named names name.part name.number) (has_named names name has)
 
 pub named_has : (names : List EntryName) (part : Part) (number : ℕ) → is_named names part number ≡ true → Has names (record { part = part; number = number })
@@ -58,7 +41,7 @@ named_has (n ∷ names) part number named =
     elim (or_cases (is_it part number n) (is_named names part number) named) [
       | inl here ↦
           let both = and_parts (same_part n.part part) (n.number == number) here in
-          let at = part-is n.part part both.0 in
+          let at = same_part-is n.part part both.0 in
           let numbered = eqb-true n.number number both.1 in
           inl (λ i. record { part = at i; number = numbered i })
       | inr rest ↦ inr (named_has names part number rest)
@@ -70,7 +53,7 @@ named_more seen name part number = list_any-append (is_it part number) seen (nam
 
 named_by_it : (seen : List EntryName) (name : EntryName) (part : Part) (number : ℕ) → name.part ≡ part → name.number ≡ number → is_named (seen ++ name ∷ []) part number ≡ true
 named_by_it seen name part number at is =
-    let here : is_it part number name ≡ true = and_from (same_part name.part part) (name.number == number) (subst (λ (p : Part). same_part name.part p ≡ true) at (part-self name.part)) (eq-eqb name.number number is) in
+    let here : is_it part number name ≡ true = and_from (same_part name.part part) (name.number == number) (subst (λ (p : Part). same_part name.part p ≡ true) at (same_part-refl name.part)) (eq-eqb name.number number is) in
     named_more seen name part number ∙ or_right (is_named seen part number) (is_it part number name || false) (or_left (is_it part number name) false here)
 
 or_none : (a b : Bool) → b ≡ false → (a || (b || false)) ≡ a
@@ -86,7 +69,7 @@ other_number name part number other = and_right (same_part name.part part) (name
 other_part : (name : EntryName) (part : Part) (number : ℕ) → (place_of part ≡ place_of name.part → ⊥) → is_it part number name ≡ false
 other_part name part number other =
     and_left (same_part name.part part) (name.number == number)
-    (false_from_ne_true (same_part name.part part) (λ same. other (ap place_of (sym (part-is name.part part same)))))
+    (false_from_ne_true (same_part name.part part) (λ same. other (ap place_of (sym (same_part-is name.part part same)))))
 
 -- ---- the marks of all journals
 

@@ -83,7 +83,7 @@ begins_after (AsksNode server ask line) next told more a first rest = inr (first
 begins_after (AsksDesk ask line) next told more a first rest = inr (first.0, first.1 ++ more, ap (λ t. t ++ more) first.2, begins_after (line first.0) next first.1 more a first.3 rest)
 begins_after (AsksView ask line) next told more a first rest = inr (first.0, first.1 ++ more, ap (λ t. t ++ more) first.2, begins_after (line first.0) next first.1 more a first.3 rest)
 
-begins_then : {A B : Type 0} (line : Dialogue A) (next : A → Dialogue B) (told : List Exchange) → Begins line told → Begins (then_line line next) told
+pub begins_then : {A B : Type 0} (line : Dialogue A) (next : A → Dialogue B) (told : List Exchange) → Begins line told → Begins (then_line line next) told
 begins_then {A} {B} (Ends x) next told first =
     let Q : List Exchange → Type 0 = λ t. Begins (next x) t in
     subst Q (sym first) (begins_none (next x))
@@ -107,7 +107,7 @@ pub further : (old mid new first more : List Exchange) → mid ≡ old ++ first 
 further old mid new first more a b = b ∙ ap (λ t. t ++ more) a ∙ append_assoc old first more
 
 -- a part that ended, and the rest
-follows_then : {A B : Type 0} (line : Dialogue A) (next : A → Dialogue B) (a : A) (old mid new : List Exchange) (end : Option B) → Follows line old mid (Some a) → Follows (next a) mid new end → Follows (then_line line next) old new end
+pub follows_then : {A B : Type 0} (line : Dialogue A) (next : A → Dialogue B) (a : A) (old mid new : List Exchange) (end : Option B) → Follows line old mid (Some a) → Follows (next a) mid new end → Follows (then_line line next) old new end
 follows_then line next a old mid new None first rest = (first.0 ++ rest.0, further old mid new first.0 rest.0 first.1 rest.1, begins_after line next first.0 rest.0 a first.2 rest.2)
 follows_then line next a old mid new (Some end) first rest = (first.0 ++ rest.0, further old mid new first.0 rest.0 first.1 rest.1, makes_then line next first.0 rest.0 a end first.2 rest.2)
 
