@@ -8,10 +8,14 @@ use Rattle.indexmap.specs.IndexMap.{IndexMap, get, spare}
 use Rattle.std.specs.Ordering.{is_lt}
 use Rattle.std.specs.declared.cmp.Ordering.{Ordering}
 
+-- the keys of a list, none where there is no list
+abbrev pub keys_in : Option (SmallVec ℕ) → List ℕ
+keys_in list = option_map_or (λ keys. keys.items) list []
+
 module _ {K : Type 0} (eq : K → K → Bool) {S : Type 0} where
   -- the keys under a name, in their order
   abbrev pub keys_under : IndexMap K (SmallVec ℕ) S → K → List ℕ
-  keys_under lists name = option_map_or (λ keys. keys.items) (get eq lists name) []
+  keys_under lists name = keys_in (get eq lists name)
 
   -- a name's list is at this index and has room for one more key, or there is none, and room for one
   abbrev pub HasRoomUnder : IndexMap K (SmallVec ℕ) S → K → Option ℕ → Type 0

@@ -1,7 +1,8 @@
 //! A list of keys that gives up its first as cheaply as its last.
-ghost use Rattle.std.specs.Prelude.{◌≡◌, ◌+◌, ◌-◌, ◌<◌, ◌≤◌, OnOk, IfSome, IfNone, length, drop, Some, [], ◌∷◌};
+ghost use Rattle.std.specs.Prelude.{◌≡◌, ◌+◌, ◌-◌, ◌<◌, ◌≤◌, OnOk, IfSome, IfNone, ◌++◌, option_to_list, length, drop, Some, [], ◌∷◌};
 ghost use Rattle.std.specs.Bool.{OnTrue};
 ghost use Rattle.std.specs.List.{insert, remove, slice_get};
+ghost use Rattle.std.specs.List.Sorted.{IsPermutation};
 ghost use Rattle.smallvec.specs.SmallVec.{HasRoomFor, small_vec_len};
 ghost use Rattle.tq_locks.specs.Keys.{Sinks};
 
@@ -40,7 +41,7 @@ impl Clone for Keys {
 
     fn clone(&self) -> Result<Self, AllocError> {
         Ok(Keys {
-            places: SmallVec::from_slice(*self.places.allocator(), self.as_slice())?,
+            places: SmallVec::from_slice(*self.places.allocator(), self.plain())?,
             first: 0,
         })
     }
@@ -66,12 +67,38 @@ impl Keys {
         Keys { places, first: 0 }
     }
 
-    /// The keys.
+    /// The keys, in any order.
     #[inline(always)]
     pub(crate) fn as_slice(&self) -> &[usize]
+        ensures { IsPermutation self.now.items result.now }
+    {
+        self.plain()
+    }
+
+    fn plain(&self) -> &[usize]
         ensures { result.now ≡ self.now.items }
     {
         &self.places.as_slice()[self.first..]
+    }
+
+    /// The key at a place, where the list goes so far.
+    #[inline(always)]
+    pub(crate) fn get(&self, at: usize) -> Option<usize>
+        ensures { result ≡ slice_get self.now.items at }
+    {
+        self.plain().get(at).copied()
+    }
+
+    /// Takes the last key out, where there is one.
+    #[inline(always)]
+    pub(crate) fn pop(&mut self) -> Option<usize>
+        ensures items { self.old.items ≡ self.new.items ++ option_to_list result }
+        ensures none { IfNone result (self.old.items ≡ []) }
+    {
+        if self.len() == 0 {
+            return None;
+        }
+        self.places.pop()
     }
 
     /// The number of keys.
@@ -143,18 +170,6 @@ impl Keys {
             return;
         }
         self.first = put_before(&mut self.places, self.first, place, key);
-    }
-
-    /// The keys, from the first place on.
-    #[inline(always)]
-    pub(crate) fn into_places(self) -> SmallVec<usize, 6>
-        ensures { result.items ≡ self.items }
-    {
-        let Keys { mut places, first } = self;
-        if first > 0 {
-            move_down(&mut places, first);
-        }
-        places
     }
 
     /// Takes a key out where it is seen to be the last, and tells its place.
