@@ -85,7 +85,7 @@ impl KeyedLocks {
 
     /// The entries under the keys of a list, in its order.
     pub(crate) fn listed<'a>(&'a self, list: Option<&'a Keys>) -> HeldLocks<'a>
-        ensures { result ≡ told self.now.entries (keys_in (option_copied list)) }
+        ensures { result ≡ told self.now.entries (keys_in (option_copied list.entry)) }
     {
         walk(&self.entries, list)
     }
@@ -122,8 +122,8 @@ impl KeyedLocks {
     // The key at the place of a file in the list of a transaction, if it's that of an entry of the file.
     #[inline(always)]
     fn key_at(&self, list: Option<&Keys>, place: usize, file: &FileName) -> Option<usize>
-        ensures some { FindsOwnAt self.now file.now (keys_in (option_copied list)) place result }
-        ensures none { FindsNoneAt self.now file.now (keys_in (option_copied list)) place result }
+        ensures some { FindsOwnAt self.now file.now (keys_in (option_copied list.entry)) place result }
+        ensures none { FindsNoneAt self.now file.now (keys_in (option_copied list.entry)) place result }
     {
         let key = list?.get(place)?;
         let entry = self.entry(key)?;
@@ -327,7 +327,7 @@ pub(crate) fn held_by(
     txn: u64,
     mode: Mode,
 ) -> Option<u64>
-    ensures { result ≡ decided txn mode (told entries.now (keys_in (option_copied list))) }
+    ensures { result ≡ decided txn mode (told entries.now (keys_in (option_copied list.entry))) }
 {
     for entry in walk(entries, list) {
         if !(entry.txn == txn) {
@@ -344,7 +344,7 @@ pub(crate) fn held_by(
 /// A walk of the locks under the keys of a list, in its order.
 #[inline(always)]
 fn walk<'a>(entries: &'a LockSlab, list: Option<&'a Keys>) -> HeldLocks<'a>
-    ensures { result ≡ told entries.now (keys_in (option_copied list)) }
+    ensures { result ≡ told entries.now (keys_in (option_copied list.entry)) }
 {
     HeldLocks {
         entries,

@@ -41,8 +41,8 @@ fn is_below_at(entries: &LockSlab, keys: &Keys, at: usize, file: &FileName, txn:
 /// The place of this file and transaction among keys whose entries rise.
 #[inline(always)]
 pub(crate) fn place(entries: &LockSlab, list: Option<&Keys>, file: &FileName, txn: u64) -> usize
-    ensures within { result ≤ length (keys_in (option_copied list)) }
-    ensures place { RisesTo entries.now (keys_in (option_copied list)) (file.now, txn) result }
+    ensures within { result ≤ length (keys_in (option_copied list.entry)) }
+    ensures place { RisesTo entries.now (keys_in (option_copied list.entry)) (file.now, txn) result }
 {
     let Some(keys) = list else {
         return 0;
