@@ -1,5 +1,5 @@
 //! An index of a slab: lists of keys, each under a name. The names have no order.
-ghost use Rattle.std.specs.Prelude.{◌≡◌, ◌≤◌, ◌<◌, ◌∷◌, [], OnOk, OnErr, Some, None, length};
+ghost use Rattle.std.specs.Prelude.{◌≡◌, ◌==◌, ◌≤◌, ◌<◌, ◌∷◌, [], OnOk, OnErr, Some, None, length};
 ghost use Rattle.indexmap.specs.IndexMap.{get, index_of, spare};
 ghost use Rattle.slab.specs.Slab.{get as in_slab};
 ghost use Rattle.std.specs.Bool.{OnTrue};
@@ -26,6 +26,16 @@ pub(crate) fn listed_under<'a, K: Ord + Hash>(
     match lists.get(name) {
         Some(keys) => keys.as_slice(),
         None => &[],
+    }
+}
+
+/// Whether there is no key under a name.
+pub(crate) fn is_empty_under<K: Ord + Hash>(lists: &BoundedIndexMap<K, Keys>, name: &K) -> bool
+    ensures { result ≡ (length (keys_under K.eq lists.now name.now) == 0) }
+{
+    match lists.get(name) {
+        Some(keys) => keys.len() == 0,
+        None => true,
     }
 }
 
@@ -247,7 +257,7 @@ pub(crate) fn end_empty_under<K: Ord + Hash + Copy + Drop>(
 )
     ensures { HasSameKeys K.eq lists.old lists.new }
 {
-    if listed_under(lists, name).is_empty() {
+    if is_empty_under(lists, name) {
         lists.swap_remove(name);
     }
 }

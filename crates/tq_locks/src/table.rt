@@ -1,6 +1,7 @@
 ghost use Rattle.std.specs.Prelude.{◌≡◌, OnOk, OnErr, IfOk, IfSome, IfNone, None, Some};
 ghost use Rattle.std.specs.FinMap as fin;
 
+use crate::index::is_empty_under;
 use crate::keyed::{HeldLocks, KeyedLocks, held_by};
 use crate::{Lock, Mode};
 use std::alloc::{AllocError, Global};
@@ -239,7 +240,7 @@ impl LockTable {
     pub fn holds_nothing(&self, txn: u64) -> bool
         ensures { result ≡ holds_nothing self.now.locks txn }
     {
-        self.kept.keys_of_txn(txn).is_empty()
+        is_empty_under(&self.kept.by_txn, &txn)
     }
 
     /// Ends the locks of a transaction.
