@@ -26,7 +26,7 @@ pub(crate) struct Keys {
 }
 
 impl Model for Keys {
-    ghost use Rattle.std.specs.Prelude.{◌≤◌, ◌<◌, ◌*◌, ◌×◌, ℕ, suc, length, All};
+    ghost use Rattle.std.specs.Prelude.{◌≤◌, ◌<◌, ◌*◌, ℕ, suc, length, All};
     ghost use Rattle.std.specs.Coded.{coded_ℕ};
     ghost use Rattle.smallvec.specs.SmallVec.{SmallVec as Items, small_vec_code, small_vec_len};
     ghost use Rattle.tq_locks.specs.Keys.{keys_of, HasBlocks};
@@ -236,8 +236,7 @@ fn key_at(starts: &[usize], places: &[usize], at: usize) -> Option<usize>
 {
     match starts.get(at / BLOCK) {
         Some(start) => {
-            let turned = *start + at % BLOCK;
-            let within = if turned < BLOCK { turned } else { turned - BLOCK };
+            let within = (*start + at % BLOCK) % BLOCK;
             places.get(at / BLOCK * BLOCK + within).copied()
         }
         None => places.get(at).copied(),
@@ -348,11 +347,12 @@ fn push_in_front(starts: &mut [usize], places: &mut [usize], block: usize, key: 
     ensures put { insert (turned 1024 starts.new places.new) (1024 * suc block) result
         ≡ insert (turned 1024 starts.old places.old) (1024 * block) key }
 {
-    let start = starts[block];
-    let before = if start == 0 { BLOCK - 1 } else { start - 1 };
-    starts[block] = before;
-    let last = places[block * BLOCK + before];
-    places[block * BLOCK + before] = key;
+    let low = block * BLOCK;
+    let keys = &mut places[low..low + BLOCK];
+    let start = (starts[block] + BLOCK - 1) % BLOCK;
+    starts[block] = start;
+    let last = keys[start];
+    keys[start] = key;
     last
 }
 
@@ -366,10 +366,12 @@ fn pull_from_front(starts: &mut [usize], places: &mut [usize], block: usize, key
     ensures taken { insert (turned 1024 starts.new places.new) (1024 * block) result
         ≡ insert (turned 1024 starts.old places.old) (1024 * suc block) key }
 {
+    let low = block * BLOCK;
+    let keys = &mut places[low..low + BLOCK];
     let start = starts[block];
-    starts[block] = if start + 1 == BLOCK { 0 } else { start + 1 };
-    let first = places[block * BLOCK + start];
-    places[block * BLOCK + start] = key;
+    starts[block] = (start + 1) % BLOCK;
+    let first = keys[start];
+    keys[start] = key;
     first
 }
 
