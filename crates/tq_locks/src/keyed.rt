@@ -1,7 +1,6 @@
 //! The entries of a table in a slab, with the keys of each file and of each transaction.
 ghost use Rattle.std.specs.Prelude.{◌≡◌, ◌+◌, ◌-◌, ◌<◌, ◌≤◌, ℕ, List, [], ◌∷◌, None, Some, IsSome, IfSome, IfNone, IfOk, OnErr, length, nat_eq};
 ghost use Rattle.std.specs.FinMap as fin;
-ghost use Rattle.std.specs.List.Sorted.{IsPermutation};
 ghost use Rattle.std.specs.Option.{option_copied};
 ghost use Rattle.std.specs.Result.{result_err};
 ghost use Rattle.tq_store.specs.Names.{same_name};
@@ -67,27 +66,6 @@ impl KeyedLocks {
         ensures { option_copied result ≡ get self.now.entries key }
     {
         self.entries.get(key)
-    }
-
-    /// The keys of a file's entries, in any order.
-    pub(crate) fn keys_of_file(&self, file: &FileName) -> &[usize]
-        ensures { IsPermutation (file_keys self.now file.now) result.now }
-    {
-        listed_under(&self.by_file, file)
-    }
-
-    /// The keys of a transaction's entries, in any order.
-    pub(crate) fn keys_of_txn(&self, txn: u64) -> &[usize]
-        ensures { IsPermutation (keys_under nat_eq self.now.by_txn txn) result.now }
-    {
-        listed_under(&self.by_txn, &txn)
-    }
-
-    /// The entries under the keys of a list, in its order.
-    pub(crate) fn listed<'a>(&'a self, list: Option<&'a Keys>) -> HeldLocks<'a>
-        ensures { result ≡ told self.now.entries (keys_in (option_copied list.entry)) }
-    {
-        walk(&self.entries, list)
     }
 
     /// The entries, in the order of their keys.
@@ -343,7 +321,7 @@ pub(crate) fn held_by(
 
 /// A walk of the locks under the keys of a list, in its order.
 #[inline(always)]
-fn walk<'a>(entries: &'a LockSlab, list: Option<&'a Keys>) -> HeldLocks<'a>
+pub(crate) fn walk<'a>(entries: &'a LockSlab, list: Option<&'a Keys>) -> HeldLocks<'a>
     ensures { result ≡ told entries.now (keys_in (option_copied list.entry)) }
 {
     HeldLocks {

@@ -1,8 +1,8 @@
 ghost use Rattle.std.specs.Prelude.{◌≡◌, OnOk, OnErr, IfOk, IfSome, IfNone, None, Some};
 ghost use Rattle.std.specs.FinMap as fin;
 
-use crate::index::is_empty_under;
-use crate::keyed::{HeldLocks, KeyedLocks, held_by};
+use crate::index::{is_empty_under, listed_under};
+use crate::keyed::{HeldLocks, KeyedLocks, held_by, walk};
 use crate::{Lock, Mode};
 use std::alloc::{AllocError, Global};
 use std::marker::Model;
@@ -114,7 +114,7 @@ impl LockTable {
         ensures entries { ListsKeysOf self.now.slab result.now (on_file self.now.locks file.now) }
         ensures once { HasOneKeyEach result.now (on_file self.now.locks file.now) }
     {
-        self.kept.keys_of_file(file)
+        listed_under(&self.kept.by_file, file)
     }
 
     /// The keys of exactly a transaction's locks, each once, in any order.
@@ -122,7 +122,7 @@ impl LockTable {
         ensures entries { ListsKeysOf self.now.slab result.now (held_of self.now.locks txn) }
         ensures once { HasOneKeyEach result.now (held_of self.now.locks txn) }
     {
-        self.kept.keys_of_txn(txn)
+        listed_under(&self.kept.by_txn, &txn)
     }
 
     /// The lock that is kept under a key, None where there is none.
@@ -214,7 +214,7 @@ impl LockTable {
     pub fn locks_of(&self, txn: u64) -> HeldLocks<'_>
         ensures { result ≡ held_of self.now.locks txn }
     {
-        self.kept.listed(self.kept.by_txn.get(&txn))
+        walk(&self.kept.entries, self.kept.by_txn.get(&txn))
     }
 
     /// The locks of a transaction, ascending by file.
