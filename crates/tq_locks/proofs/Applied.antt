@@ -155,20 +155,6 @@ key_at f [] (y ∷ xs) i x e h = absurd (nil_cons (Some y) (map Some xs) e)
 key_at f (k ∷ keys) (y ∷ xs) zero x e h = (k, refl, head_of (f k) (Some y) (map f keys) (map Some xs) e ∙ h)
 key_at f (k ∷ keys) (y ∷ xs) (suc i) x e h = key_at f keys xs i x (tail_of (f k) (Some y) (map f keys) (map Some xs) e) h
 
--- a look-up in a list, by an index that is in range
-pub within : (keys : List ℕ) (i k : ℕ) → slice_get keys i ≡ Some k → (i < length keys) × ((d : ℕ) → get_or keys i d ≡ k)
-within [] i k e = absurd (none_some k e)
-within (j ∷ keys) zero k e = (omega arith, λ d. some_same j k e)
-within (j ∷ keys) (suc i) k e = let r = within keys i k e in (omega (arith, r.0), r.1)
-
-is_at_index : (keys : List ℕ) (i k : ℕ) → i < length keys → k ≡ get_or keys i k → slice_get keys i ≡ Some k
-is_at_index [] i k l e = absurd (omega (arith, l))
-is_at_index (j ∷ keys) zero k l e = ap Some (sym e)
-is_at_index (j ∷ keys) (suc i) k l e = is_at_index keys i k (omega (arith, l)) e
-
-pub looked_at : (keys : List ℕ) (i k : ℕ) → true ≡ ltb i (length keys) → k ≡ get_or keys i k → slice_get keys i ≡ Some k
-looked_at keys i k l e = is_at_index keys i k (ltb-true i (length keys) (sym l)) e
-
 pub Has-at : (keys : List ℕ) (i k : ℕ) → slice_get keys i ≡ Some k → Has keys k
 Has-at [] i k e = absurd (none_some k e)
 Has-at (j ∷ keys) zero k e = inl (some_same j k e)

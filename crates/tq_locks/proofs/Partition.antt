@@ -21,6 +21,7 @@ use Rattle.tq_locks.specs.Locks.{LockKey, lock_cmp}
 use Rattle.tq_locks.proofs.Found.{some_same, none_some, first, second, less, below_each}
 use Rattle.tq_locks.proofs.Agreed.{head_of, tail_of, nil_cons, item_of}
 use Rattle.tq_locks.proofs.Applied.{Has-at}
+use Rattle.tq_locks.proofs.LockMaps.{locks_total}
 
 less_test : (r : Ordering) → is_lt r ≡ true → r ≡ Less
 less_test r h = less r (subst T (sym h) tt)
@@ -95,11 +96,10 @@ module _ {K X : Type 0} {R : K → K → Ordering} (o : IsTotalOrder R) (f : ℕ
 
 -- no key is below a place
 pub none_rises : (slab : Slab (LockKey × Lock)) (keys : List ℕ) (key : LockKey) → keys ≡ [] → RisesTo slab keys key 0
-none_rises slab keys key none entries listed sorted = by_entries entries (ap (map (get slab)) (sym none) ∙ listed)
-  where
-    by_entries : (entries : List (LockKey × Lock)) → [] ≡ map Some entries → 0 ≡ place lock_cmp key entries
-    by_entries [] e = refl
-    by_entries (entry ∷ entries) e = absurd (nil_cons (Some entry) (map Some entries) e)
+none_rises slab keys key none entries listed sorted =
+    let most = place_most locks_total (get slab) key keys entries listed in
+    let empty : length keys ≡ 0 = ap length none in
+    omega (arith, most, empty)
 
 -- the middle is between
 pub middle : (low high : ℕ) → low < high → (low ≤ low + (high - low) / 2) × (low + (high - low) / 2 < high)
