@@ -1,10 +1,15 @@
 -- Keys in blocks, each of them turned.
-use Rattle.std.proofs.Common.{◌≡◌, ◌+◌, ◌-◌, ◌*◌, ◌<◌, ◌≤◌, ◌++◌, ℕ, zero, suc, List, [], ◌∷◌, length, take, drop, get_or, slice_set, refl, ap, sym, ◌∙◌, arith}
-use Rattle.std.proofs.lemmas.List.{append_assoc, append-nil, length-append, length-drop, length-take, length-take-le, take-append-le, drop-append-le, take_at, drop_at, take-append-drop, set_split, drop_more}
-use Rattle.std.proofs.lemmas.List.Edits.{length-between, insert-append_left, insert-append_right, insert_end}
+use Rattle.std.proofs.Common.{◌≡◌, ◌+◌, ◌-◌, ◌*◌, ◌<◌, ◌≤◌, ◌++◌, ℕ, zero, suc, List, [], ◌∷◌, length, take, drop, get_or, slice_set, ◌%◌, inl, inr, refl, ap, sym, subst, ◌∙◌, arith}
+use Rattle.std.proofs.lemmas.List.{append_assoc, append-nil, length-append, length-drop, length-take, length-take-le, take-append-le, drop-append-le, take_at, drop_at, take-append-drop, set_split, drop_more, drop_all, take_all, get_or-drop, get_or-take, get_or_append_left, get_or-append_right}
+use Rattle.std.proofs.lemmas.Bool.{cases_lt}
+use Rattle.std.proofs.Math.Nat.{mod-eq_of_lt, mod-lt}
+use Rattle.smallvec.specs.SmallVec.{SmallVec, HasRoomFor}
+use Rattle.std.proofs.lemmas.List.Edits.{length-remove, length-between, insert-append_left, insert-append_right, insert_end, remove-append_right}
+use Rattle.std.proofs.lemmas.List.Sorted.{IsPermutation-refl, IsPermutation-append_comm, IsPermutation-trans, IsPermutation-append_left, IsPermutation-append_right}
+use Rattle.std.specs.List.Sorted.{IsPermutation}
 use Rattle.std.specs.List.{insert, remove}
 use borrow.Rule.Slice.PartMut.{put_mid}
-use Rattle.tq_locks.specs.Keys.{turn, turned}
+use Rattle.tq_locks.specs.Keys.{turn, turned, keys_of, HasRoomBehind}
 
 pub length-turn : (start : ℕ) (block : List ℕ) → length (turn start block) ≡ length block
 length-turn start block = omega (arith, length-append (drop start block) (take start block), length-drop start block, length-take start block)
@@ -18,6 +23,9 @@ length-turned size (start ∷ starts) places =
     ∙ (λ i. length-turn start block i + length-turned size starts rest i)
     ∙ sym (length-append block rest)
     ∙ ap length (take-append-drop size places)
+
+nothing : (n : ℕ) → n - n ≡ 0
+nothing n = omega arith
 
 one_more : (size k : ℕ) → size * suc k ≡ size + size * k
 one_more size k = omega arith
@@ -105,3 +113,217 @@ pub lent_over : (starts places block : List ℕ) (b start p q key other to at : 
 lent_over starts places block b start p q key other to at within fits size first second goes comes same =
     written_over 1024 starts places block b (b * 1024) (b * 1024 + 1024 - b * 1024) start p q key other to at
       within (omega arith) (omega arith) (omega (arith, within, fits)) size first second (omega (arith, goes)) (omega (arith, comes)) same
+
+-- Keys behind the blocks lie as they are.
+pub behind_blocks : (size : ℕ) (starts xs ys : List ℕ) → size * length starts ≤ length xs → turned size starts (xs ++ ys) ≡ turned size starts xs ++ ys
+behind_blocks size starts xs ys fits =
+    let low = size * length starts in
+    let pre = take low xs in
+    let post = drop low xs in
+    let pre_len : length pre ≡ low = length-take-le low xs fits in
+    let parts : (zs : List ℕ) → turned size starts (pre ++ zs) ≡ turned size starts pre ++ zs =
+        λ zs. ap (λ s. turned size s (pre ++ zs)) (sym (append-nil starts)) ∙ before_others size starts [] pre zs pre_len in
+    ap (λ ks. turned size starts (ks ++ ys)) (sym (take-append-drop low xs))
+    ∙ ap (turned size starts) (append_assoc pre post ys)
+    ∙ parts (post ++ ys)
+    ∙ sym (append_assoc (turned size starts pre) post ys)
+    ∙ ap (λ ks. ks ++ ys) (sym (parts post) ∙ ap (turned size starts) (take-append-drop low xs))
+
+-- what happens from a place behind the blocks on
+changed_behind : (size : ℕ) (starts places : List ℕ) (place : ℕ) (change part : List ℕ → List ℕ) → size * length starts ≤ place → place ≤ length places
+    → ((xs ys : List ℕ) → length xs ≡ place → change (xs ++ ys) ≡ xs ++ part ys)
+    → turned size starts (change places) ≡ change (turned size starts places)
+changed_behind size starts places place change part low high law =
+    let pre = take place places in
+    let post = drop place places in
+    let front = turned size starts pre in
+    let pre_len : length pre ≡ place = length-take-le place places high in
+    let fits : size * length starts ≤ length pre = omega (arith, low, pre_len) in
+    let whole : pre ++ post ≡ places = take-append-drop place places in
+    ap (λ ks. turned size starts (change ks)) (sym whole)
+    ∙ ap (turned size starts) (law pre post pre_len)
+    ∙ behind_blocks size starts pre (part post) fits
+    ∙ sym (law front post (length-turned size starts pre ∙ pre_len))
+    ∙ ap change (sym (behind_blocks size starts pre post fits) ∙ ap (turned size starts) whole)
+
+pub insert_behind : (size : ℕ) (starts places : List ℕ) (place key : ℕ) → size * length starts ≤ place → place ≤ length places
+    → turned size starts (insert places place key) ≡ insert (turned size starts places) place key
+insert_behind size starts places place key low high =
+    changed_behind size starts places place (λ ks. insert ks place key) (λ ks. insert ks (place - place) key) low high
+      (λ xs ys all. insert-append_right xs ys place place key all (omega arith))
+
+pub remove_behind : (size : ℕ) (starts places : List ℕ) (place : ℕ) → size * length starts ≤ place → place ≤ length places
+    → turned size starts (remove places place) ≡ remove (turned size starts places) place
+remove_behind size starts places place low high =
+    changed_behind size starts places place (λ ks. remove ks place) (λ ks. remove ks (place - place)) low high
+      (λ xs ys all. remove-append_right xs ys place place all (omega arith))
+
+-- a key that comes in goes again, and the other way round
+pub put_and_taken : (keys : List ℕ) (place key : ℕ) → place ≤ length keys → remove (insert keys place key) place ≡ keys
+put_and_taken keys place key within =
+    let pre = take place keys in
+    let post = drop place keys in
+    let pre_len = length-take-le place keys within in
+    remove-append_right pre (key ∷ post) place place pre_len (omega arith)
+    ∙ ap (λ n. pre ++ remove (key ∷ post) n) (nothing place)
+    ∙ take-append-drop place keys
+
+pub taken_and_put : (keys : List ℕ) (place : ℕ) → place < length keys → insert (remove keys place) place (get_or keys place 0) ≡ keys
+taken_and_put keys place within =
+    let pre = take place keys in
+    let post = drop (suc place) keys in
+    let key = get_or keys place 0 in
+    let pre_len = length-take-le place keys (omega (arith, within)) in
+    let next : suc place ≡ place + 1 = omega arith in
+    insert-append_right pre post place place key pre_len (omega arith)
+    ∙ ap (λ n. pre ++ insert post n key) (nothing place)
+    ∙ ap (λ n. pre ++ key ∷ drop n keys) next
+    ∙ ap (λ ks. pre ++ ks) (sym (drop_more keys place 0 within))
+    ∙ take-append-drop place keys
+
+-- the last block becomes plain keys, as it is turned
+pub settled : (size : ℕ) (starts : List ℕ) (start : ℕ) (places keys : List ℕ) (low k : ℕ) → low ≡ size * length starts → k ≡ size → low + size ≤ length places
+    → keys ≡ turn start (take k (drop low places))
+    → turned size starts (put_mid low k places keys) ≡ turned size (starts ++ start ∷ []) places
+settled size starts start places keys low k is all_k fits same =
+    let pre = take low places in
+    let block = take k (drop low places) in
+    let post = drop k (drop low places) in
+    let pre_len : length pre ≡ size * length starts = length-take-le low places (omega (arith, fits)) ∙ is in
+    let block_len : length block ≡ size = length-take-le k (drop low places) (omega (arith, fits, all_k, length-drop low places)) ∙ all_k in
+    behind_blocks size starts pre (keys ++ post) (omega (arith, pre_len))
+    ∙ ap (λ ks. turned size starts pre ++ (ks ++ post)) same
+    ∙ sym (among_others size start starts [] pre block post pre_len block_len)
+    ∙ ap (turned size (starts ++ start ∷ [])) (sym (split_at k low places))
+
+-- plain keys become a block
+pub one_block_more : (size : ℕ) (starts places : List ℕ) → length places ≡ size * length starts + size → turned size (starts ++ 0 ∷ []) places ≡ turned size starts places
+one_block_more size starts places all =
+    let low = size * length starts in
+    let block = take size (drop low places) in
+    sym (settled size starts 0 places block low size (omega arith) (omega arith) (omega (arith, all)) (sym (append-nil block)))
+    ∙ ap (turned size starts) (sym (split_at size low places))
+
+-- in any order
+pub any_order : (size : ℕ) (starts places : List ℕ) → IsPermutation (turned size starts places) places
+any_order size [] places = IsPermutation-refl places
+any_order size (start ∷ starts) places =
+    let block = take size places in
+    let rest = drop size places in
+    let ahead = turn start block in
+    let turned_back : IsPermutation ahead block = subst (IsPermutation ahead) (take-append-drop start block) (IsPermutation-append_comm (drop start block) (take start block)) in
+    let whole : IsPermutation (ahead ++ turned size starts rest) (block ++ rest) =
+        IsPermutation-trans (ahead ++ turned size starts rest) (ahead ++ rest) (block ++ rest)
+          (IsPermutation-append_right ahead (turned size starts rest) rest (any_order size starts rest))
+          (IsPermutation-append_left rest ahead block turned_back) in
+    subst (IsPermutation (ahead ++ turned size starts rest)) (take-append-drop size places) whole
+
+-- what was lent as a whole
+pub refilled : (xs ws : List ℕ) (n : ℕ) → length ws ≡ length xs → n ≡ length xs → take n (ws ++ drop (length ws) xs) ≡ ws
+refilled xs ws n all is =
+    ap (λ rest. take n (ws ++ rest)) (drop_all (length ws) xs (omega (arith, all)))
+    ∙ ap (take n) (append-nil ws)
+    ∙ take_all n ws (omega (arith, all, is))
+
+-- a part is written over
+pub length-over : (low k : ℕ) (places block : List ℕ) → low + k ≤ length places → length block ≡ k → length (put_mid low k places block) ≡ length places
+length-over low k places block fits all =
+    let pre = take low places in
+    let post = drop k (drop low places) in
+    omega (arith, length-append pre (block ++ post), length-append block post, length-take-le low places (omega (arith, fits)), length-drop low places, length-drop k (drop low places), fits, all)
+
+-- room is seen
+pub room_behind : (starts : List ℕ) (places : SmallVec ℕ) → HasRoomFor (keys_of starts places) 1 → HasRoomBehind starts places
+room_behind starts places room =
+    let len : length (turned 1024 starts places.items) ≡ length places.items = length-turned 1024 starts places.items in
+    (omega (arith, room, len), omega (arith, room, len))
+
+pub room_told : (starts : List ℕ) (places : SmallVec ℕ) → HasRoomBehind starts places → HasRoomFor (keys_of starts places) 1
+room_told starts places room = omega (arith, room.0, room.1, length-turned 1024 starts places.items)
+
+-- the key at a place
+turned_key : (block : List ℕ) (start place : ℕ) → length block ≡ 1024 → start < 1024 → place < 1024 → get_or (turn start block) place 0 ≡ get_or block ((start + place) % 1024) 0
+turned_key block start place all first within =
+    let behind = drop start block in
+    let front = take start block in
+    let len : length behind ≡ 1024 - start = length-drop start block ∙ ap (λ n. n - start) all in
+    elim (cases_lt (start + place) 1024) [
+      inl below ↦
+          get_or_append_left behind front 0 place (omega (arith, below, len))
+          ∙ get_or-drop start block place 0
+          ∙ ap (λ n. get_or block n 0) (sym (mod-eq_of_lt below))
+      | inr above ↦
+          let rest : place - (1024 - start) ≡ (start + place) % 1024 = omega (arith, above, first, within) in
+          get_or-append_right behind front (1024 - start) place 0 len (omega (arith, above, first))
+          ∙ get_or-take start block (place - (1024 - start)) 0 (omega (arith, above, first, within))
+          ∙ ap (λ n. get_or block n 0) rest
+    ]
+
+pub key_in_block : (starts places : List ℕ) (b place at : ℕ) → b < length starts → 1024 * length starts ≤ length places → get_or starts b 0 < 1024 → place < 1024 → at ≡ b * 1024 + place
+    → get_or places (b * 1024 + (get_or starts b 0 + place) % 1024) 0 ≡ get_or (turned 1024 starts places) at 0
+key_in_block starts places b place at within fits first small is =
+    let low = b * 1024 in
+    let front = take b starts in
+    let back = drop (b + 1) starts in
+    let start = get_or starts b 0 in
+    let pre = take low places in
+    let block = take 1024 (drop low places) in
+    let post = drop 1024 (drop low places) in
+    let before = turned 1024 front pre in
+    let behind = turned 1024 back post in
+    let ring = (start + place) % 1024 in
+    let ring_within : ring < 1024 = mod-lt (start + place) (omega arith) in
+    let fits_low : low + 1024 ≤ length places = omega (arith, within, fits) in
+    let front_len : length front ≡ b = length-take-le b starts (omega (arith, within)) in
+    let pre_len : length pre ≡ low = length-take-le low places (omega (arith, fits_low)) in
+    let block_len : length block ≡ 1024 = length-take-le 1024 (drop low places) (omega (arith, fits_low, length-drop low places)) in
+    let blocks : length pre ≡ 1024 * length front = omega (arith, pre_len, front_len) in
+    let ring_len : length (turn start block) ≡ 1024 = length-turn start block ∙ block_len in
+    let past : low + place - low ≡ place = omega arith in
+    sym (get_or-drop low places ring 0)
+    ∙ sym (get_or-take 1024 (drop low places) ring 0 ring_within)
+    ∙ sym (turned_key block start place block_len first small)
+    ∙ sym (get_or_append_left (turn start block) behind 0 place (omega (arith, ring_len, small)))
+    ∙ ap (λ n. get_or (turn start block ++ behind) n 0) (sym past)
+    ∙ sym (get_or-append_right before (turn start block ++ behind) low (low + place) 0 (length-turned 1024 front pre ∙ pre_len) (omega arith))
+    ∙ ap (λ ks. get_or ks (low + place) 0) (sym (among_others 1024 start front back pre block post blocks block_len))
+    ∙ (λ i. get_or (turned 1024 (sym (split_starts starts b within) i) (sym (split_at 1024 low places) i)) (sym is i) 0)
+
+pub key_behind : (starts places : List ℕ) (at : ℕ) → 1024 * length starts ≤ at → at < length places → get_or places at 0 ≡ get_or (turned 1024 starts places) at 0
+key_behind starts places at low high =
+    let pre = take at places in
+    let post = drop at places in
+    let front = turned 1024 starts pre in
+    let pre_len : length pre ≡ at = length-take-le at places (omega (arith, high)) in
+    let whole : pre ++ post ≡ places = take-append-drop at places in
+    ap (λ ks. get_or ks at 0) (sym whole)
+    ∙ get_or-append_right pre post at at 0 pre_len (omega arith)
+    ∙ sym (get_or-append_right front post at at 0 (length-turned 1024 starts pre ∙ pre_len) (omega arith))
+    ∙ ap (λ ks. get_or ks at 0) (sym (behind_blocks 1024 starts pre post (omega (arith, low, pre_len))) ∙ ap (turned 1024 starts) whole)
+
+-- what goes into the blocks and out of them goes behind them
+pub put_behind : (starts places old_starts old_places : List ℕ) (place key last : ℕ) → 1024 * length starts ≤ length places
+    → insert (turned 1024 starts places) (1024 * length starts) last ≡ insert (turned 1024 old_starts old_places) place key
+    → turned 1024 starts (insert places (length starts * 1024) last) ≡ insert (turned 1024 old_starts old_places) place key
+put_behind starts places old_starts old_places place key last fits put =
+    let low : length starts * 1024 ≡ 1024 * length starts = omega arith in
+    ap (λ n. turned 1024 starts (insert places n last)) low
+    ∙ insert_behind 1024 starts places (1024 * length starts) last (omega arith) fits
+    ∙ put
+
+pub taken_out : (starts places old_starts old_places : List ℕ) (place low first taken : ℕ) → place ≤ length places → low ≡ 1024 * length old_starts → low < length old_places → first ≡ get_or old_places low 0
+    → insert (turned 1024 starts places) place taken ≡ insert (turned 1024 old_starts (remove old_places low)) (1024 * length old_starts) first
+    → turned 1024 starts places ≡ remove (turned 1024 old_starts old_places) place
+taken_out starts places old_starts old_places place low first taken within is behind was same =
+    let rest = remove old_places low in
+    let keys = turned 1024 starts places in
+    let rest_len : length rest + 1 ≡ length old_places = length-remove old_places low behind in
+    sym (put_and_taken keys place taken (omega (arith, within, length-turned 1024 starts places)))
+    ∙ ap (λ ks. remove ks place) (same
+    ∙ sym (insert_behind 1024 old_starts rest (1024 * length old_starts) first (omega arith) (omega (arith, is, behind, rest_len)))
+    ∙ (λ i. turned 1024 old_starts (insert rest (sym is i) (was i)))
+    ∙ ap (turned 1024 old_starts) (taken_and_put old_places low behind))
+
+pub none_past : (keys : List ℕ) (place : ℕ) → length keys ≤ place → keys ≡ remove keys place
+none_past keys place past =
+    sym ((λ i. take_all place keys past i ++ drop_all (suc place) keys (omega (arith, past)) i) ∙ append-nil keys)

@@ -68,6 +68,10 @@ keys_of starts places = record { items = turned 1024 starts places.items; capaci
 abbrev pub HasBlocks : List ℕ → ℕ → Type 0
 HasBlocks starts len = (1024 * length starts ≤ len) × (len ≤ 1024 * suc (length starts)) × All (λ start. start < 1024) starts
 
+-- there is room for one more key behind the blocks
+abbrev pub HasRoomBehind : List ℕ → SmallVec ℕ → Type 0
+HasRoomBehind starts places = HasRoomFor places 1 × (length places.items < 1024 * suc (length starts))
+
 -- the last of the keys has come into this place
 abbrev pub Sinks : List ℕ → List ℕ → ℕ → Type 0
 Sinks old new place = (front : List ℕ) (key : ℕ) → old ≡ front ++ key ∷ [] → new ≡ insert front place key

@@ -4,7 +4,7 @@ ghost use Rattle.std.specs.Bool.{OnTrue};
 ghost use Rattle.std.specs.List.{insert, remove, slice_get};
 ghost use Rattle.std.specs.List.Sorted.{IsPermutation};
 ghost use Rattle.smallvec.specs.SmallVec.{HasRoomFor, small_vec_len};
-ghost use Rattle.tq_locks.specs.Keys.{HasBlocks, Sinks, turned};
+ghost use Rattle.tq_locks.specs.Keys.{HasBlocks, HasRoomBehind, Sinks, turned};
 
 use smallvec::SmallVec;
 use std::alloc::{AllocError, Global};
@@ -106,9 +106,6 @@ impl Keys {
     pub(crate) fn get(&self, at: usize) -> Option<usize>
         ensures { result ≡ slice_get self.now.items at }
     {
-        if self.starts.is_empty() {
-            return self.places.as_slice().get(at).copied();
-        }
         key_at(self.starts.as_slice(), self.places.as_slice(), at)
     }
 
@@ -118,25 +115,7 @@ impl Keys {
         ensures room { OnOk result (HasRoomFor self.new 1) }
         ensures same { self.new.items ≡ self.old.items }
     {
-        let behind = self.places.len() - self.starts.len() * BLOCK;
-        if self.places.len() == self.places.capacity() || behind == BLOCK {
-            return self.grow();
-        }
-        Ok(())
-    }
-
-    // The same. Where the keys behind the blocks are as many as one has, they are one more.
-    #[inline(never)]
-    fn grow(&mut self) -> Result<(), AllocError>
-        ensures room { OnOk result (HasRoomFor self.new 1) }
-        ensures same { self.new.items ≡ self.old.items }
-    {
-        self.places.reserve(1)?;
-        if self.places.len() - self.starts.len() * BLOCK == BLOCK {
-            self.starts.reserve(1)?;
-            self.starts.push_reserved(0);
-        }
-        Ok(())
+        make_room(&mut self.starts, &mut self.places)
     }
 
     /// Puts a key into its place in a list that has room.
@@ -146,29 +125,7 @@ impl Keys {
         requires within { place ≤ length self.old.items }
         ensures { self.new.items ≡ insert self.old.items place key }
     {
-        // Most often it goes behind the others, or before a few.
-        if self.places.len() - place <= FEW && place >= self.starts.len() * BLOCK {
-            put_near_end(&mut self.places, place, key);
-        } else {
-            self.put_within(place, key);
-        }
-    }
-
-    // The same, where more of the keys move.
-    #[inline(never)]
-    fn put_within(&mut self, place: usize, key: usize)
-        requires room { HasRoomFor self.old 1 }
-        requires within { place ≤ length self.old.items }
-        ensures { self.new.items ≡ insert self.old.items place key }
-    {
-        let behind = self.starts.len() * BLOCK;
-        if place >= behind {
-            let _room_was_made = self.places.insert(place, key);
-            return;
-        }
-        let starts = self.starts.as_mut_slice();
-        let last = push_through(starts, self.places.as_mut_slice(), place, key);
-        let _room_was_made = self.places.insert(behind, last);
+        put(&mut self.starts, &mut self.places, place, key);
     }
 
     /// Takes the last key out.
@@ -176,8 +133,7 @@ impl Keys {
     pub(crate) fn pop(&mut self) -> Option<usize>
         ensures { self.old.items ≡ self.new.items ++ option_to_list result }
     {
-        settle(&mut self.starts, &mut self.places);
-        self.places.pop()
+        pop(&mut self.starts, &mut self.places)
     }
 
     /// Takes a key out where it is seen to be the last, and tells its place.
@@ -197,19 +153,98 @@ impl Keys {
     pub(crate) fn take_out(&mut self, place: usize)
         ensures { self.new.items ≡ remove self.old.items place }
     {
-        if place >= self.places.len() {
-            return;
-        }
-        settle(&mut self.starts, &mut self.places);
-        let behind = self.starts.len() * BLOCK;
-        if place >= behind {
-            self.places.remove(place);
-            return;
-        }
-        let first = self.places.remove(behind);
-        let starts = self.starts.as_mut_slice();
-        let _taken = pull_through(starts, self.places.as_mut_slice(), place, first);
+        take_out(&mut self.starts, &mut self.places, place);
     }
+}
+
+/// Makes room for one more key.
+#[inline(always)]
+fn make_room(starts: &mut Vec<usize>, places: &mut SmallVec<usize, 6>) -> Result<(), AllocError>
+    requires { HasBlocks starts.old.items (small_vec_len places.old) }
+    ensures blocks { HasBlocks starts.new.items (small_vec_len places.new) }
+    ensures room { OnOk result (HasRoomBehind starts.new.items places.new) }
+    ensures same { turned 1024 starts.new.items places.new.items ≡ turned 1024 starts.old.items places.old.items }
+{
+    let behind = places.len() - starts.len() * BLOCK;
+    if places.len() == places.capacity() || behind == BLOCK {
+        return grow(starts, places);
+    }
+    Ok(())
+}
+
+/// The same. Where the keys behind the blocks are as many as one has, they become one.
+#[inline(never)]
+fn grow(starts: &mut Vec<usize>, places: &mut SmallVec<usize, 6>) -> Result<(), AllocError>
+    requires { HasBlocks starts.old.items (small_vec_len places.old) }
+    ensures blocks { HasBlocks starts.new.items (small_vec_len places.new) }
+    ensures room { OnOk result (HasRoomBehind starts.new.items places.new) }
+    ensures same { turned 1024 starts.new.items places.new.items ≡ turned 1024 starts.old.items places.old.items }
+{
+    places.reserve(1)?;
+    if places.len() - starts.len() * BLOCK == BLOCK {
+        starts.reserve(1)?;
+        starts.push_reserved(0);
+    }
+    Ok(())
+}
+
+/// Puts a key into its place where there is room.
+#[inline(always)]
+fn put(starts: &mut Vec<usize>, places: &mut SmallVec<usize, 6>, place: usize, key: usize)
+    requires blocks { HasBlocks starts.old.items (small_vec_len places.old) }
+    requires room { HasRoomBehind starts.old.items places.old }
+    requires within { place ≤ small_vec_len places.old }
+    ensures blocks { HasBlocks starts.new.items (small_vec_len places.new) }
+    ensures put { turned 1024 starts.new.items places.new.items ≡ insert (turned 1024 starts.old.items places.old.items) place key }
+{
+    if place / BLOCK >= starts.len() {
+        put_plain(places, place, key);
+    } else {
+        put_within(starts, places, place, key);
+    }
+}
+
+/// The same in a block.
+#[inline(never)]
+fn put_within(starts: &mut Vec<usize>, places: &mut SmallVec<usize, 6>, place: usize, key: usize)
+    requires blocks { HasBlocks starts.old.items (small_vec_len places.old) }
+    requires room { HasRoomBehind starts.old.items places.old }
+    requires within { place < 1024 * length starts.old.items }
+    ensures blocks { HasBlocks starts.new.items (small_vec_len places.new) }
+    ensures put { turned 1024 starts.new.items places.new.items ≡ insert (turned 1024 starts.old.items places.old.items) place key }
+{
+    let last = push_through(starts.as_mut_slice(), places.as_mut_slice(), place, key);
+    put_plain(places, starts.len() * BLOCK, last);
+}
+
+/// Takes the key at a place out, where the keys go so far.
+fn take_out(starts: &mut Vec<usize>, places: &mut SmallVec<usize, 6>, place: usize)
+    requires { HasBlocks starts.old.items (small_vec_len places.old) }
+    ensures blocks { HasBlocks starts.new.items (small_vec_len places.new) }
+    ensures taken { turned 1024 starts.new.items places.new.items ≡ remove (turned 1024 starts.old.items places.old.items) place }
+{
+    if place >= places.len() {
+        return;
+    }
+    settle(starts, places);
+    let behind = starts.len() * BLOCK;
+    if place >= behind {
+        places.remove(place);
+        return;
+    }
+    let first = places.remove(behind);
+    let _taken = pull_through(starts.as_mut_slice(), places.as_mut_slice(), place, first);
+}
+
+/// Takes the last key out.
+#[inline(always)]
+fn pop(starts: &mut Vec<usize>, places: &mut SmallVec<usize, 6>) -> Option<usize>
+    requires { HasBlocks starts.old.items (small_vec_len places.old) }
+    ensures blocks { HasBlocks starts.new.items (small_vec_len places.new) }
+    ensures last { turned 1024 starts.old.items places.old.items ≡ turned 1024 starts.new.items places.new.items ++ option_to_list result }
+{
+    settle(starts, places);
+    places.pop()
 }
 
 /// Makes the last block plain keys, where no key is behind the blocks.
@@ -217,6 +252,7 @@ impl Keys {
 fn settle(starts: &mut Vec<usize>, places: &mut SmallVec<usize, 6>)
     requires { HasBlocks starts.old.items (small_vec_len places.old) }
     ensures blocks { HasBlocks starts.new.items (small_vec_len places.new) }
+    ensures len { small_vec_len places.new ≡ small_vec_len places.old }
     ensures behind { 0 < small_vec_len places.new → 1024 * length starts.new.items < small_vec_len places.new }
     ensures same { turned 1024 starts.new.items places.new.items ≡ turned 1024 starts.old.items places.old.items }
     ensures capacity { places.new.capacity ≡ places.old.capacity }
@@ -230,17 +266,19 @@ fn settle(starts: &mut Vec<usize>, places: &mut SmallVec<usize, 6>)
 }
 
 /// The key at a place in the order of blocks and of the keys behind them.
+#[inline(always)]
 fn key_at(starts: &[usize], places: &[usize], at: usize) -> Option<usize>
     requires { HasBlocks starts.now (length places.now) }
     ensures { result ≡ slice_get (turned 1024 starts.now places.now) at }
 {
-    match starts.get(at / BLOCK) {
-        Some(start) => {
-            let within = (*start + at % BLOCK) % BLOCK;
-            places.get(at / BLOCK * BLOCK + within).copied()
-        }
-        None => places.get(at).copied(),
+    if at >= places.len() {
+        return None;
     }
+    let block = at / BLOCK;
+    if block >= starts.len() {
+        return Some(places[at]);
+    }
+    Some(places[block * BLOCK + (starts[block] + at % BLOCK) % BLOCK])
 }
 
 /// Puts a key into its place in the blocks, from each of which the last key goes on to the next, and tells the last of all.
@@ -399,15 +437,30 @@ fn is_last(keys: &[usize], key: usize) -> bool
     }
 }
 
-/// Puts a key into its place, which is near the end of a list that has room.
+/// Puts a key into its place in plain keys that have room.
 #[inline(always)]
-fn put_near_end(keys: &mut SmallVec<usize, 6>, place: usize, key: usize)
+fn put_plain(keys: &mut SmallVec<usize, 6>, place: usize, key: usize)
     requires room { HasRoomFor keys.old 1 }
     requires within { place ≤ length keys.old.items }
     ensures { keys.new.items ≡ insert keys.old.items place key }
 {
-    keys.push_reserved(key);
-    sink(keys.as_mut_slice(), place);
+    // Most often it goes behind the others, or before a few.
+    if keys.len() - place <= FEW {
+        keys.push_reserved(key);
+        sink(keys.as_mut_slice(), place);
+    } else {
+        insert_far(keys, place, key);
+    }
+}
+
+/// The same, where more of the keys move.
+#[inline(never)]
+fn insert_far(keys: &mut SmallVec<usize, 6>, place: usize, key: usize)
+    requires room { HasRoomFor keys.old 1 }
+    requires within { place ≤ length keys.old.items }
+    ensures { keys.new.items ≡ insert keys.old.items place key }
+{
+    let _room_was_made = keys.insert(place, key);
 }
 
 /// Moves the last of the keys before those from a place on.
