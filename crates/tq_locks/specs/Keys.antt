@@ -1,5 +1,5 @@
 -- Lists of keys, each under a name.
-use Rattle.std.specs.Prelude.{◌≡◌, ◌<◌, ℕ, suc, Bool, true, List, [], ◌∷◌, Option, Some, None, if◌then◌else◌, filter_map, slice_get, drop, ◌-◌, ◌++◌}
+use Rattle.std.specs.Prelude.{◌≡◌, ◌<◌, ℕ, suc, Bool, true, List, [], ◌∷◌, Option, Some, None, if◌then◌else◌, filter_map, slice_get, length, take, drop, min, All, ◌+◌, ◌*◌, ◌≤◌, ◌++◌}
 use Rattle.slab.specs.Slab.{Slab, get as in_slab}
 use Rattle.std.specs.List.{insert, remove}
 use Rattle.std.specs.Option.{option_map_or}
@@ -8,10 +8,14 @@ use Rattle.indexmap.specs.IndexMap.{IndexMap, get, spare}
 use Rattle.std.specs.Ordering.{is_lt}
 use Rattle.std.specs.declared.cmp.Ordering.{Ordering}
 
+-- the keys of a list, none where there is no list
+abbrev pub keys_in : Option (SmallVec ℕ) → List ℕ
+keys_in list = option_map_or (λ keys. keys.items) list []
+
 module _ {K : Type 0} (eq : K → K → Bool) {S : Type 0} where
   -- the keys under a name, in their order
   abbrev pub keys_under : IndexMap K (SmallVec ℕ) S → K → List ℕ
-  keys_under lists name = option_map_or (λ keys. keys.items) (get eq lists name) []
+  keys_under lists name = keys_in (get eq lists name)
 
   -- a name's list is at this index and has room for one more key, or there is none, and room for one
   abbrev pub HasRoomUnder : IndexMap K (SmallVec ℕ) S → K → Option ℕ → Type 0
@@ -47,9 +51,26 @@ place cmp key (entry ∷ rest) = if is_lt (cmp entry.0 key) then suc (place cmp 
 abbrev pub told : {X : Type 0} → Slab X → List ℕ → List X
 told slab keys = filter_map (in_slab slab) keys
 
--- the keys behind so many places that hold none, with the room of those places and of the ones behind them
-abbrev pub behind : ℕ → SmallVec ℕ → SmallVec ℕ
-behind first places = record { items = drop first places.items; capacity = places.capacity - first }
+-- a block's keys in their order, where its first is at a place
+abbrev pub turn : ℕ → List ℕ → List ℕ
+turn start block = drop start block ++ take start block
+
+-- the keys of blocks of a size in their order, and those behind the blocks
+abbrev pub turned : ℕ → List ℕ → List ℕ → List ℕ
+turned size [] places = places
+turned size (start ∷ starts) places = turn start (take size places) ++ turned size starts (drop size places)
+
+-- the same of blocks of 1024 keys, with room for as many as one has behind them
+abbrev pub keys_of : List ℕ → SmallVec ℕ → SmallVec ℕ
+keys_of starts places = record { items = turned 1024 starts places.items; capacity = min places.capacity (1024 * suc (length starts)) }
+
+-- so many places are blocks of 1024 keys, each with its first in it, and at most as many keys behind them as one has
+abbrev pub HasBlocks : List ℕ → ℕ → Type 0
+HasBlocks starts len = (1024 * length starts ≤ len) × (len ≤ 1024 * suc (length starts)) × All (λ start. start < 1024) starts
+
+-- there is room for one more key behind the blocks
+abbrev pub HasRoomBehind : List ℕ → SmallVec ℕ → Type 0
+HasRoomBehind starts places = HasRoomFor places 1 × (length places.items < 1024 * suc (length starts))
 
 -- the last of the keys has come into this place
 abbrev pub Sinks : List ℕ → List ℕ → ℕ → Type 0

@@ -1,9 +1,10 @@
-//! A list of keys that gives up its first as cheaply as its last.
-ghost use Rattle.std.specs.Prelude.{◌≡◌, ◌+◌, ◌-◌, ◌<◌, ◌≤◌, OnOk, IfSome, IfNone, length, drop, Some, [], ◌∷◌};
+//! A list of keys in which a key comes in or leaves by moves of few others, however long it is.
+ghost use Rattle.std.specs.Prelude.{◌≡◌, ◌+◌, ◌-◌, ◌*◌, ◌<◌, ◌≤◌, ◌++◌, OnOk, IfSome, IfNone, length, suc, Some, [], ◌∷◌, option_to_list};
 ghost use Rattle.std.specs.Bool.{OnTrue};
 ghost use Rattle.std.specs.List.{insert, remove, slice_get};
+ghost use Rattle.std.specs.List.Sorted.{IsPermutation};
 ghost use Rattle.smallvec.specs.SmallVec.{HasRoomFor, small_vec_len};
-ghost use Rattle.tq_locks.specs.Keys.{Sinks};
+ghost use Rattle.tq_locks.specs.Keys.{HasBlocks, HasRoomBehind, Sinks, turned};
 
 use smallvec::SmallVec;
 use std::alloc::{AllocError, Global};
@@ -12,27 +13,31 @@ use std::marker::Model;
 /// As many keys as these move one by one at the most.
 const FEW: usize = 16;
 
+/// So many keys are a block.
+const BLOCK: usize = 1024;
+
 /// The keys under one name. Up to six of them need no allocation.
 #[derive(Drop)]
 pub(crate) struct Keys {
-    /// The keys, behind so many places that hold none.
+    /// The blocks, and behind them at most as many keys as one has, in their order.
     places: SmallVec<usize, 6>,
-    first: usize,
+    /// Where in each block its first key is. Those before that place follow those behind it.
+    starts: Vec<usize>,
 }
 
 impl Model for Keys {
-    ghost use Rattle.std.specs.Prelude.{◌≤◌, ℕ};
+    ghost use Rattle.std.specs.Prelude.{◌≤◌, ◌<◌, ◌*◌, ℕ, suc, length, All};
     ghost use Rattle.std.specs.Coded.{coded_ℕ};
     ghost use Rattle.smallvec.specs.SmallVec.{SmallVec as Items, small_vec_code, small_vec_len};
-    ghost use Rattle.tq_locks.specs.Keys.{behind};
+    ghost use Rattle.tq_locks.specs.Keys.{keys_of, HasBlocks};
 
     ghost Value = { Items ℕ };
 
     ghost coded = { small_vec_code coded_ℕ };
 
-    ghost view = { λ k. behind k.first k.places };
+    ghost view = { λ k. keys_of k.starts.items k.places };
 
-    ghost invariant = { λ k. k.first ≤ small_vec_len k.places };
+    ghost invariant = { λ k. HasBlocks k.starts.items (small_vec_len k.places) };
 }
 
 impl Clone for Keys {
@@ -40,8 +45,8 @@ impl Clone for Keys {
 
     fn clone(&self) -> Result<Self, AllocError> {
         Ok(Keys {
-            places: SmallVec::from_slice(*self.places.allocator(), self.as_slice())?,
-            first: 0,
+            places: SmallVec::from_slice(*self.places.allocator(), self.places.as_slice())?,
+            starts: self.starts.clone()?,
         })
     }
 }
@@ -53,7 +58,7 @@ impl Keys {
     {
         Keys {
             places: SmallVec::new(alloc),
-            first: 0,
+            starts: Vec::new(alloc),
         }
     }
 
@@ -63,15 +68,29 @@ impl Keys {
     {
         let mut places = SmallVec::new(alloc);
         places.push_reserved(key);
-        Keys { places, first: 0 }
+        Keys {
+            places,
+            starts: Vec::new(alloc),
+        }
     }
 
-    /// The keys.
+    /// The keys in any order, each once.
     #[inline(always)]
     pub(crate) fn as_slice(&self) -> &[usize]
-        ensures { result.now ≡ self.now.items }
+        ensures { IsPermutation self.now.items result.now }
     {
-        &self.places.as_slice()[self.first..]
+        self.places.as_slice()
+    }
+
+    /// The keys in their order, where they lie so.
+    #[inline(always)]
+    pub(crate) fn plain(&self) -> Option<&[usize]>
+        ensures { IfSome result (λ keys. keys.now ≡ self.now.items) }
+    {
+        if !self.starts.is_empty() {
+            return None;
+        }
+        Some(self.places.as_slice())
     }
 
     /// The number of keys.
@@ -79,7 +98,15 @@ impl Keys {
     pub(crate) fn len(&self) -> usize
         ensures { result ≡ length self.now.items }
     {
-        self.places.len() - self.first
+        self.places.len()
+    }
+
+    /// The key at a place in their order, where the list goes so far.
+    #[inline(always)]
+    pub(crate) fn get(&self, at: usize) -> Option<usize>
+        ensures { result ≡ slice_get self.now.items at }
+    {
+        key_at(self.starts.as_slice(), self.places.as_slice(), at)
     }
 
     /// Makes room for one more key.
@@ -88,23 +115,7 @@ impl Keys {
         ensures room { OnOk result (HasRoomFor self.new 1) }
         ensures same { self.new.items ≡ self.old.items }
     {
-        if self.places.len() == self.places.capacity() {
-            return self.grow();
-        }
-        Ok(())
-    }
-
-    // Moves the keys down where that frees half of the places, and else makes room for as many again.
-    #[inline(never)]
-    fn grow(&mut self) -> Result<(), AllocError>
-        ensures room { OnOk result (HasRoomFor self.new 1) }
-        ensures same { self.new.items ≡ self.old.items }
-    {
-        if self.first > self.places.len() / 2 {
-            move_down(&mut self.places, self.first);
-            self.first = 0;
-        }
-        self.places.reserve(1)
+        make_room(&mut self.starts, &mut self.places)
     }
 
     /// Puts a key into its place in a list that has room.
@@ -114,47 +125,15 @@ impl Keys {
         requires within { place ≤ length self.old.items }
         ensures { self.new.items ≡ insert self.old.items place key }
     {
-        // Most often it goes behind the others, or before a few.
-        let behind = self.len() - place;
-        if behind <= FEW {
-            let at = self.places.len() - behind;
-            put_near_end(&mut self.places, at, key);
-        } else {
-            self.put_within(place, key);
-        }
+        put(&mut self.starts, &mut self.places, place, key);
     }
 
-    // The same, where the fewer of the keys move: those before the place, or those behind it.
-    #[inline(never)]
-    fn put_within(&mut self, place: usize, key: usize)
-        requires room { HasRoomFor self.old 1 }
-        requires within { place ≤ length self.old.items }
-        ensures { self.new.items ≡ insert self.old.items place key }
-    {
-        let len = self.len();
-        if place >= len / 2 {
-            let at = self.places.len() - (len - place);
-            let _room_was_made = self.places.insert(at, key);
-            return;
-        }
-        if self.first == 0 {
-            let first = move_up(&mut self.places);
-            self.first = put_before(&mut self.places, first, place, key);
-            return;
-        }
-        self.first = put_before(&mut self.places, self.first, place, key);
-    }
-
-    /// The keys, from the first place on.
+    /// Takes the last key out.
     #[inline(always)]
-    pub(crate) fn into_places(self) -> SmallVec<usize, 6>
-        ensures { result.items ≡ self.items }
+    pub(crate) fn pop(&mut self) -> Option<usize>
+        ensures { self.old.items ≡ self.new.items ++ option_to_list result }
     {
-        let Keys { mut places, first } = self;
-        if first > 0 {
-            move_down(&mut places, first);
-        }
-        places
+        pop(&mut self.starts, &mut self.places)
     }
 
     /// Takes a key out where it is seen to be the last, and tells its place.
@@ -164,31 +143,286 @@ impl Keys {
         ensures after { IfSome result (λ place. self.new.items ≡ remove self.old.items place) }
         ensures same { IfNone result (self.new.items ≡ self.old.items) }
     {
-        if self.first > 0 {
+        if !self.starts.is_empty() {
             return None;
         }
         pop_if(&mut self.places, key)
     }
 
-    /// Takes the key at a place out, where the list goes so far. The fewer of the keys move: those before the place, or those behind it.
+    /// Takes the key at a place out, where the list goes so far.
     pub(crate) fn take_out(&mut self, place: usize)
         ensures { self.new.items ≡ remove self.old.items place }
     {
-        let len = self.len();
-        if place >= len {
-            return;
-        }
-        if len <= FEW || place >= len / 2 {
-            let at = self.places.len() - (len - place);
-            self.places.remove(at);
-            return;
-        }
-        self.first = close_up(&mut self.places, self.first, place);
-        if self.first > self.places.len() / 2 {
-            move_down(&mut self.places, self.first);
-            self.first = 0;
+        take_out(&mut self.starts, &mut self.places, place);
+    }
+}
+
+/// Makes room for one more key.
+#[inline(always)]
+fn make_room(starts: &mut Vec<usize>, places: &mut SmallVec<usize, 6>) -> Result<(), AllocError>
+    requires { HasBlocks starts.old.items (small_vec_len places.old) }
+    ensures blocks { HasBlocks starts.new.items (small_vec_len places.new) }
+    ensures room { OnOk result (HasRoomBehind starts.new.items places.new) }
+    ensures same { turned 1024 starts.new.items places.new.items ≡ turned 1024 starts.old.items places.old.items }
+{
+    let behind = places.len() - starts.len() * BLOCK;
+    if places.len() == places.capacity() || behind == BLOCK {
+        return grow(starts, places);
+    }
+    Ok(())
+}
+
+/// The same. Where the keys behind the blocks are as many as one has, they become one.
+#[inline(never)]
+fn grow(starts: &mut Vec<usize>, places: &mut SmallVec<usize, 6>) -> Result<(), AllocError>
+    requires { HasBlocks starts.old.items (small_vec_len places.old) }
+    ensures blocks { HasBlocks starts.new.items (small_vec_len places.new) }
+    ensures room { OnOk result (HasRoomBehind starts.new.items places.new) }
+    ensures same { turned 1024 starts.new.items places.new.items ≡ turned 1024 starts.old.items places.old.items }
+{
+    places.reserve(1)?;
+    if places.len() - starts.len() * BLOCK == BLOCK {
+        starts.reserve(1)?;
+        starts.push_reserved(0);
+    }
+    Ok(())
+}
+
+/// Puts a key into its place where there is room.
+#[inline(always)]
+fn put(starts: &mut Vec<usize>, places: &mut SmallVec<usize, 6>, place: usize, key: usize)
+    requires blocks { HasBlocks starts.old.items (small_vec_len places.old) }
+    requires room { HasRoomBehind starts.old.items places.old }
+    requires within { place ≤ small_vec_len places.old }
+    ensures blocks { HasBlocks starts.new.items (small_vec_len places.new) }
+    ensures put { turned 1024 starts.new.items places.new.items ≡ insert (turned 1024 starts.old.items places.old.items) place key }
+{
+    if place / BLOCK >= starts.len() {
+        put_plain(places, place, key);
+    } else {
+        put_within(starts, places, place, key);
+    }
+}
+
+/// The same in a block.
+#[inline(never)]
+fn put_within(starts: &mut Vec<usize>, places: &mut SmallVec<usize, 6>, place: usize, key: usize)
+    requires blocks { HasBlocks starts.old.items (small_vec_len places.old) }
+    requires room { HasRoomBehind starts.old.items places.old }
+    requires within { place < 1024 * length starts.old.items }
+    ensures blocks { HasBlocks starts.new.items (small_vec_len places.new) }
+    ensures put { turned 1024 starts.new.items places.new.items ≡ insert (turned 1024 starts.old.items places.old.items) place key }
+{
+    let last = push_through(starts.as_mut_slice(), places.as_mut_slice(), place, key);
+    put_plain(places, starts.len() * BLOCK, last);
+}
+
+/// Takes the key at a place out, where the keys go so far.
+fn take_out(starts: &mut Vec<usize>, places: &mut SmallVec<usize, 6>, place: usize)
+    requires { HasBlocks starts.old.items (small_vec_len places.old) }
+    ensures blocks { HasBlocks starts.new.items (small_vec_len places.new) }
+    ensures taken { turned 1024 starts.new.items places.new.items ≡ remove (turned 1024 starts.old.items places.old.items) place }
+{
+    if place >= places.len() {
+        return;
+    }
+    settle(starts, places);
+    let behind = starts.len() * BLOCK;
+    if place >= behind {
+        places.remove(place);
+        return;
+    }
+    let first = places.remove(behind);
+    let _taken = pull_through(starts.as_mut_slice(), places.as_mut_slice(), place, first);
+}
+
+/// Takes the last key out.
+#[inline(always)]
+fn pop(starts: &mut Vec<usize>, places: &mut SmallVec<usize, 6>) -> Option<usize>
+    requires { HasBlocks starts.old.items (small_vec_len places.old) }
+    ensures blocks { HasBlocks starts.new.items (small_vec_len places.new) }
+    ensures last { turned 1024 starts.old.items places.old.items ≡ turned 1024 starts.new.items places.new.items ++ option_to_list result }
+{
+    settle(starts, places);
+    places.pop()
+}
+
+/// Makes the last block plain keys, where no key is behind the blocks.
+#[inline(always)]
+fn settle(starts: &mut Vec<usize>, places: &mut SmallVec<usize, 6>)
+    requires { HasBlocks starts.old.items (small_vec_len places.old) }
+    ensures blocks { HasBlocks starts.new.items (small_vec_len places.new) }
+    ensures len { small_vec_len places.new ≡ small_vec_len places.old }
+    ensures behind { 0 < small_vec_len places.new → 1024 * length starts.new.items < small_vec_len places.new }
+    ensures same { turned 1024 starts.new.items places.new.items ≡ turned 1024 starts.old.items places.old.items }
+    ensures capacity { places.new.capacity ≡ places.old.capacity }
+{
+    if places.len() == starts.len() * BLOCK {
+        if let Some(start) = starts.pop() {
+            let low = starts.len() * BLOCK;
+            places.as_mut_slice()[low..low + BLOCK].rotate_left(start);
         }
     }
+}
+
+/// The key at a place in the order of blocks and of the keys behind them.
+#[inline(always)]
+fn key_at(starts: &[usize], places: &[usize], at: usize) -> Option<usize>
+    requires { HasBlocks starts.now (length places.now) }
+    ensures { result ≡ slice_get (turned 1024 starts.now places.now) at }
+{
+    if at >= places.len() {
+        return None;
+    }
+    let block = at / BLOCK;
+    if block >= starts.len() {
+        return Some(places[at]);
+    }
+    Some(places[block * BLOCK + (starts[block] + at % BLOCK) % BLOCK])
+}
+
+/// Puts a key into its place in the blocks, from each of which the last key goes on to the next, and tells the last of all.
+fn push_through(starts: &mut [usize], places: &mut [usize], place: usize, key: usize) -> usize
+    requires blocks { HasBlocks starts.old (length places.old) }
+    requires within { place < 1024 * length starts.old }
+    ensures blocks { HasBlocks starts.new (length places.new) }
+    ensures len { (length starts.new ≡ length starts.old) × (length places.new ≡ length places.old) }
+    ensures put { insert (turned 1024 starts.new places.new) (1024 * length starts.new) result
+        ≡ insert (turned 1024 starts.old places.old) place key }
+{
+    let mut block = place / BLOCK;
+    let mut carried = open_at(starts, places, block, place % BLOCK, key);
+    block += 1;
+    while block < starts.len() {
+        carried = push_in_front(starts, places, block, carried);
+        block += 1;
+    }
+    carried
+}
+
+/// Takes the key at a place in the blocks out. Into each block from there on comes the first key of the next, and a key into the last.
+fn pull_through(starts: &mut [usize], places: &mut [usize], place: usize, key: usize) -> usize
+    requires blocks { HasBlocks starts.old (length places.old) }
+    requires within { place < 1024 * length starts.old }
+    ensures blocks { HasBlocks starts.new (length places.new) }
+    ensures len { (length starts.new ≡ length starts.old) × (length places.new ≡ length places.old) }
+    ensures taken { insert (turned 1024 starts.new places.new) place result
+        ≡ insert (turned 1024 starts.old places.old) (1024 * length starts.old) key }
+{
+    let first = place / BLOCK;
+    let mut block = starts.len() - 1;
+    let mut carried = key;
+    while block > first {
+        carried = pull_from_front(starts, places, block, carried);
+        block -= 1;
+    }
+    close_at(starts, places, first, place % BLOCK, carried)
+}
+
+/// Puts a key into a place in a block, and tells the last, which leaves the block.
+fn open_at(
+    starts: &mut [usize],
+    places: &mut [usize],
+    block: usize,
+    place: usize,
+    key: usize,
+) -> usize
+    requires blocks { HasBlocks starts.old (length places.old) }
+    requires within { (block < length starts.old) × (place < 1024) }
+    ensures blocks { HasBlocks starts.new (length places.new) }
+    ensures len { (length starts.new ≡ length starts.old) × (length places.new ≡ length places.old) }
+    ensures put { insert (turned 1024 starts.new places.new) (1024 * suc block) result
+        ≡ insert (turned 1024 starts.old places.old) (1024 * block + place) key }
+{
+    let low = block * BLOCK;
+    let keys = &mut places[low..low + BLOCK];
+    keys.rotate_left(starts[block]);
+    starts[block] = 0;
+    open(keys, place, key)
+}
+
+/// Puts a key into its place in a list, and tells the last, which leaves the list.
+fn open(keys: &mut [usize], place: usize, key: usize) -> usize
+    requires { place < length keys.old }
+    ensures { keys.new ++ result ∷ [] ≡ insert keys.old place key }
+{
+    let end = keys.len() - 1;
+    let last = keys[end];
+    keys.copy_within(place..end, place + 1);
+    keys[place] = key;
+    last
+}
+
+/// Takes the key at a place in a block out. A key comes behind the others.
+fn close_at(
+    starts: &mut [usize],
+    places: &mut [usize],
+    block: usize,
+    place: usize,
+    key: usize,
+) -> usize
+    requires blocks { HasBlocks starts.old (length places.old) }
+    requires within { (block < length starts.old) × (place < 1024) }
+    ensures blocks { HasBlocks starts.new (length places.new) }
+    ensures len { (length starts.new ≡ length starts.old) × (length places.new ≡ length places.old) }
+    ensures taken { insert (turned 1024 starts.new places.new) (1024 * block + place) result
+        ≡ insert (turned 1024 starts.old places.old) (1024 * suc block) key }
+{
+    let low = block * BLOCK;
+    let keys = &mut places[low..low + BLOCK];
+    keys.rotate_left(starts[block]);
+    starts[block] = 0;
+    close(keys, place, key)
+}
+
+/// Takes the key at a place out of a list. A key comes behind the others.
+fn close(keys: &mut [usize], place: usize, key: usize) -> usize
+    requires { place < length keys.old }
+    ensures { insert keys.new place result ≡ keys.old ++ key ∷ [] }
+{
+    let end = keys.len();
+    let taken = keys[place];
+    keys.copy_within(place + 1..end, place);
+    keys[end - 1] = key;
+    taken
+}
+
+/// Puts a key before the others of a block, and tells the last, which leaves the block.
+#[inline(always)]
+fn push_in_front(starts: &mut [usize], places: &mut [usize], block: usize, key: usize) -> usize
+    requires blocks { HasBlocks starts.old (length places.old) }
+    requires within { block < length starts.old }
+    ensures blocks { HasBlocks starts.new (length places.new) }
+    ensures len { (length starts.new ≡ length starts.old) × (length places.new ≡ length places.old) }
+    ensures put { insert (turned 1024 starts.new places.new) (1024 * suc block) result
+        ≡ insert (turned 1024 starts.old places.old) (1024 * block) key }
+{
+    let low = block * BLOCK;
+    let keys = &mut places[low..low + BLOCK];
+    let start = (starts[block] + BLOCK - 1) % BLOCK;
+    starts[block] = start;
+    let last = keys[start];
+    keys[start] = key;
+    last
+}
+
+/// Takes the first key out of a block. A key comes behind the others.
+#[inline(always)]
+fn pull_from_front(starts: &mut [usize], places: &mut [usize], block: usize, key: usize) -> usize
+    requires blocks { HasBlocks starts.old (length places.old) }
+    requires within { block < length starts.old }
+    ensures blocks { HasBlocks starts.new (length places.new) }
+    ensures len { (length starts.new ≡ length starts.old) × (length places.new ≡ length places.old) }
+    ensures taken { insert (turned 1024 starts.new places.new) (1024 * block) result
+        ≡ insert (turned 1024 starts.old places.old) (1024 * suc block) key }
+{
+    let low = block * BLOCK;
+    let keys = &mut places[low..low + BLOCK];
+    let start = starts[block];
+    starts[block] = (start + 1) % BLOCK;
+    let first = keys[start];
+    keys[start] = key;
+    first
 }
 
 /// Takes a key out of a list where it is the last, and tells its place.
@@ -215,15 +449,30 @@ fn is_last(keys: &[usize], key: usize) -> bool
     }
 }
 
-/// Puts a key into its place, which is near the end of a list that has room.
+/// Puts a key into its place in plain keys that have room.
 #[inline(always)]
-fn put_near_end(keys: &mut SmallVec<usize, 6>, place: usize, key: usize)
+fn put_plain(keys: &mut SmallVec<usize, 6>, place: usize, key: usize)
     requires room { HasRoomFor keys.old 1 }
     requires within { place ≤ length keys.old.items }
     ensures { keys.new.items ≡ insert keys.old.items place key }
 {
-    keys.push_reserved(key);
-    sink(keys.as_mut_slice(), place);
+    // Most often it goes behind the others, or before a few.
+    if keys.len() - place <= FEW {
+        keys.push_reserved(key);
+        sink(keys.as_mut_slice(), place);
+    } else {
+        insert_far(keys, place, key);
+    }
+}
+
+/// The same, where more of the keys move.
+#[inline(never)]
+fn insert_far(keys: &mut SmallVec<usize, 6>, place: usize, key: usize)
+    requires room { HasRoomFor keys.old 1 }
+    requires within { place ≤ length keys.old.items }
+    ensures { keys.new.items ≡ insert keys.old.items place key }
+{
+    let _room_was_made = keys.insert(place, key);
 }
 
 /// Moves the last of the keys before those from a place on.
@@ -237,56 +486,4 @@ fn sink(keys: &mut [usize], place: usize)
         keys.swap(at - 1, at);
         at -= 1;
     }
-}
-
-/// Puts a key into its place by moves of those before it, and tells where the first is then. The place before the first holds none.
-fn put_before(keys: &mut SmallVec<usize, 6>, first: usize, place: usize, key: usize) -> usize
-    requires free { 0 < first }
-    requires within { first + place ≤ length keys.old.items }
-    ensures first { result + 1 ≡ first }
-    ensures items { drop result keys.new.items ≡ insert (drop first keys.old.items) place key }
-    ensures len { length keys.new.items ≡ length keys.old.items }
-{
-    let to = first - 1;
-    let keys = keys.as_mut_slice();
-    keys.copy_within(first..first + place, to);
-    keys[to + place] = key;
-    to
-}
-
-/// Takes the key at a place out by moves of those before it, and tells where the first is then.
-fn close_up(keys: &mut SmallVec<usize, 6>, first: usize, place: usize) -> usize
-    requires { first + place < length keys.old.items }
-    ensures first { result ≡ first + 1 }
-    ensures items { drop result keys.new.items ≡ remove (drop first keys.old.items) place }
-    ensures len { length keys.new.items ≡ length keys.old.items }
-{
-    keys.as_mut_slice()
-        .copy_within(first..first + place, first + 1);
-    first + 1
-}
-
-/// Moves the keys from the first one on to the front.
-fn move_down(keys: &mut SmallVec<usize, 6>, first: usize)
-    requires { first ≤ length keys.old.items }
-    ensures items { keys.new.items ≡ drop first keys.old.items }
-    ensures capacity { keys.new.capacity ≡ keys.old.capacity }
-{
-    let len = keys.len();
-    keys.as_mut_slice().copy_within(first..len, 0);
-    keys.truncate(len - first);
-}
-
-/// Moves the keys up by half of the room behind them, and tells the place of the first.
-fn move_up(keys: &mut SmallVec<usize, 6>) -> usize
-    requires { HasRoomFor keys.old 1 }
-    ensures free { 0 < result }
-    ensures within { result + length keys.old.items ≡ length keys.new.items }
-    ensures items { drop result keys.new.items ≡ keys.old.items }
-{
-    let len = keys.len();
-    let gap = (keys.capacity() - len).div_ceil(2);
-    let _room_was_made = keys.resize(len + gap, 0);
-    keys.as_mut_slice().copy_within(0..len, gap);
-    gap
 }

@@ -1,10 +1,14 @@
-use Rattle.std.proofs.Common.{drop, ap, ◌∙◌, ℕ}
-use Rattle.smallvec.specs.SmallVec.{SmallVec}
-use Rattle.tq_locks.proofs.Shifted.{inserted}
+use Rattle.std.proofs.Common.{length, ap, sym, subst, ◌∙◌, ℕ, arith}
+use Rattle.smallvec.specs.SmallVec.{SmallVec, HasRoomFor}
+use Rattle.tq_locks.proofs.Blocks.{length-turned, room_behind}
 use Rattle.tq_locks.proofs.keys.Keys.put.Goals as goal
 
-pub returns-then-behind-le-FEW : goal.returns-then-behind-le-FEW
-returns-then-behind-le-FEW c =
+pub put-requires-clause-room : goal.put-requires-clause-room
+put-requires-clause-room c =
     let k = c.self.inside in
-    ap (drop k.first) c.put_near_end.ensures
-    ∙ inserted k.first c.args.place c.args.key c.len-then-behind-le-FEW.result c.len.result k.places.items c.args.self.now.items c.self.invariant (ap (λ (v : SmallVec ℕ). v.items) c.self.view_is) c.len-then-behind-le-FEW.ensures.value c.len.ensures c.requires.within
+    room_behind k.starts.items k.places (subst (λ v. HasRoomFor v 1) (sym c.self.view_is) c.requires.room)
+
+pub put-requires-clause-within : goal.put-requires-clause-within
+put-requires-clause-within c =
+    let k = c.self.inside in
+    omega (arith, c.requires.within, length-turned 1024 k.starts.items k.places.items, ap (λ (v : SmallVec ℕ). length v.items) c.self.view_is)

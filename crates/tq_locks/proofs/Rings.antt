@@ -1,0 +1,105 @@
+-- What happens in one block.
+use Rattle.std.proofs.Common.{◌≡◌, ◌+◌, ◌-◌, ◌*◌, ◌%◌, ◌<◌, ◌≤◌, ◌++◌, ℕ, zero, suc, List, [], ◌∷◌, length, take, drop, get_or, slice_set, refl, ap, sym, ◌∙◌, inl, inr, arith}
+use Rattle.std.proofs.lemmas.List.{append_assoc, append-nil, length-append, length-drop, length-take-le, take_at, drop_at, set_at, take_all, drop_all, take-append-drop, take_more, drop_more, take_more_set, drop-set-lt, get_or-drop, get_or-set_same, length-set, set-set, set-get_or}
+use Rattle.std.proofs.lemmas.List.Edits.{insert_end}
+use Rattle.std.proofs.lemmas.Bool.{cases_lt}
+use Rattle.std.proofs.Math.Nat.{mod-eq_of_lt, mod-lt}
+use Rattle.std.specs.List.{insert, remove, copy_within}
+use Rattle.tq_locks.specs.Keys.{turn}
+
+-- the last key goes, and those from a place on move up
+pub opened : (keys : List ℕ) (place end key : ℕ) → place < length keys → end ≡ length keys - 1
+    → slice_set (copy_within keys place end (place + 1)) place key ++ get_or keys end 0 ∷ [] ≡ insert keys place key
+opened keys place end key within is =
+    let pre = take place keys in
+    let rest = drop place keys in
+    let old = get_or keys place 0 in
+    let moved = take (end - place) rest in
+    let size : length rest ≡ length keys - place = length-drop place keys in
+    let last_at : place + (end - place) ≡ end = omega (arith, within, is) in
+    let written : slice_set (copy_within keys place end (place + 1)) place key ≡ pre ++ key ∷ moved =
+    ap (λ ks. slice_set (take (place + 1) keys ++ moved ++ ks) place key) (drop_all (place + 1 + (end - place)) keys (omega (arith, within, is)))
+    ∙ ap (λ ks. slice_set ks place key) (append-nil (take (place + 1) keys ++ moved))
+    ∙ ap (λ ks. slice_set (ks ++ moved) place key) (take_more keys place 0 within)
+    ∙ ap (λ ks. slice_set ks place key) (append_assoc pre (old ∷ []) moved)
+    ∙ set_at pre old moved key place (length-take-le place keys (omega (arith, within))) in
+    let whole : moved ++ get_or keys end 0 ∷ [] ≡ rest =
+    ap (λ n. moved ++ get_or keys n 0 ∷ []) (sym last_at)
+    ∙ ap (λ k. moved ++ k ∷ []) (sym (get_or-drop place keys (end - place) 0))
+    ∙ sym (take_more rest (end - place) 0 (omega (arith, within, is, size)))
+    ∙ take_all (end - place + 1) rest (omega (arith, within, is, size)) in
+    ap (λ ks. ks ++ get_or keys end 0 ∷ []) written
+    ∙ append_assoc pre (key ∷ moved) (get_or keys end 0 ∷ [])
+    ∙ ap (λ ks. pre ++ key ∷ ks) whole
+
+-- the keys behind a place move down, and a key comes behind them
+pub closed : (keys : List ℕ) (place end key : ℕ) → place < length keys → end ≡ length keys - 1
+    → insert (slice_set (copy_within keys (place + 1) (length keys) place) end key) place (get_or keys place 0) ≡ keys ++ key ∷ []
+closed keys place end key within is =
+    let pre = take place keys in
+    let rest = drop (place + 1) keys in
+    let old = get_or keys place 0 in
+    let last = get_or keys end 0 in
+    let n = length keys - (place + 1) in
+    let size : length rest ≡ n = length-drop (place + 1) keys in
+    let pre_len : length pre ≡ place = length-take-le place keys (omega (arith, within)) in
+    let last_at : place + n ≡ end = omega (arith, within, is) in
+    let after : end + 1 ≡ length keys = omega (arith, within, is) in
+    let tail : drop (place + n) keys ≡ last ∷ [] =
+    ap (λ m. drop m keys) last_at
+    ∙ drop_more keys end 0 (omega (arith, after))
+    ∙ ap (λ ks. last ∷ ks) (drop_all (end + 1) keys (omega (arith, after))) in
+    let written : slice_set (copy_within keys (place + 1) (length keys) place) end key ≡ pre ++ (rest ++ key ∷ []) =
+    (λ i. slice_set (pre ++ take_all n rest (omega (arith, size)) i ++ tail i) end key)
+    ∙ set_at (pre ++ rest) last [] key end (omega (arith, length-append pre rest, pre_len, size, last_at))
+    ∙ append_assoc pre rest (key ∷ []) in
+    ap (λ ks. insert ks place old) written
+    ∙ (λ i. take_at pre (rest ++ key ∷ []) place pre_len i ++ old ∷ drop_at pre (rest ++ key ∷ []) place pre_len i)
+    ∙ sym (append_assoc pre (old ∷ rest) (key ∷ []))
+    ∙ ap (λ ks. (pre ++ ks) ++ key ∷ []) (sym (drop_more keys place 0 within))
+    ∙ ap (λ ks. ks ++ key ∷ []) (take-append-drop place keys)
+
+-- a block that begins at its front, or behind its end
+pub not_turned : (block : List ℕ) → turn 0 block ≡ block
+not_turned block = append-nil block
+
+turned_over : (block : List ℕ) (start : ℕ) → length block ≡ start → turn start block ≡ turn 0 block
+turned_over block start is =
+    (λ i. drop_all start block (omega (arith, is)) i ++ take_all start block (omega (arith, is)) i)
+    ∙ sym (not_turned block)
+
+one_on : (block : List ℕ) (start key : ℕ) → start < length block
+    → turn start block ++ key ∷ [] ≡ get_or block start 0 ∷ turn (start + 1) (slice_set block start key)
+one_on block start key within =
+    let rest = drop (start + 1) block in
+    let front = take start block in
+    (λ i. (drop_more block start 0 within i ++ front) ++ key ∷ [])
+    ∙ append_assoc (get_or block start 0 ∷ rest) front (key ∷ [])
+    ∙ (λ i. get_or block start 0 ∷ (sym (drop-set-lt (start + 1) block start key (omega arith)) i ++ sym (take_more_set block start key within) i))
+
+-- a key goes behind the others of a ring, in the place of the first
+pub behind_others : (block : List ℕ) (start next key : ℕ) → start < length block → length block ≡ 1024 → next ≡ (start + 1) % 1024
+    → turn start block ++ key ∷ [] ≡ get_or block start 0 ∷ turn next (slice_set block start key)
+behind_others block start next key within all is =
+    let keys = slice_set block start key in
+    let old = get_or block start 0 in
+    elim (cases_lt (start + 1) 1024) [
+      | inl below ↦ one_on block start key within ∙ ap (λ n. old ∷ turn n keys) (sym (is ∙ mod-eq_of_lt below))
+      | inr above ↦
+          let end : start + 1 ≡ 1024 = omega (arith, above, within, all) in
+          one_on block start key within
+          ∙ ap (λ ks. old ∷ ks) (turned_over keys (start + 1) (length-set block start key ∙ all ∙ sym end))
+          ∙ ap (λ n. old ∷ turn n keys) (sym (is ∙ ap (λ n. n % 1024) end))
+    ]
+
+-- a key goes before the others of a ring, in the place of the last
+pub before_others : (block : List ℕ) (start before key : ℕ) → start < length block → length block ≡ 1024 → before ≡ (start + 1024 - 1) % 1024
+    → turn before (slice_set block before key) ++ get_or block before 0 ∷ [] ≡ key ∷ turn start block
+before_others block start before key within all is =
+    let last = get_or block before 0 in
+    let keys = slice_set block before key in
+    let small : (start + 1024 - 1) % 1024 < 1024 = mod-lt (start + 1024 - 1) (omega arith) in
+    let below : before < length block = omega (arith, is, all, small) in
+    let size : length keys ≡ length block = length-set block before key in
+    behind_others keys before start last (omega (arith, size, below)) (size ∙ all) (omega (arith, is, within, all))
+    ∙ (λ i. get_or-set_same block before key 0 below i ∷ turn start ((set-set block before key last ∙ set-get_or block before 0) i))

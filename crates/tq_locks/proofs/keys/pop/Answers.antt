@@ -1,0 +1,20 @@
+use Rattle.std.proofs.Common.{◌≡◌, ◌-◌, ◌*◌, ◌≤◌, ◌<◌, ◌++◌, length, ap, sym, ◌∙◌, arith, option_to_list, Some, None, ℕ, List, Option, zero, suc, refl}
+use Rattle.std.proofs.lemmas.List.{length-take}
+use Rattle.tq_locks.specs.Keys.{turned}
+use Rattle.tq_locks.proofs.Blocks.{behind_blocks}
+use Rattle.tq_locks.proofs.keys.pop.Goals as goal
+
+-- one key less is still behind the blocks
+behind : (low len rest : ℕ) → low ≤ len → (0 < len → low < len) → rest ≡ len - 1 → low ≤ rest
+behind low zero rest within some is = omega (arith, within)
+behind low (suc len) rest within some is = omega (arith, some (omega arith), is)
+
+pub returns-clause-last : goal.returns-clause-last
+returns-clause-last c =
+    let starts = c.settle.new.starts.items in
+    let places = c.settle.new.places.items in
+    let rest = c.pop.new.self.items in
+    let one_less : length rest ≡ length places - 1 = ap length c.pop.ensures.rest ∙ omega (arith, length-take (length places - 1) places) in
+    sym c.settle.ensures.same
+    ∙ ap (turned 1024 starts) c.pop.ensures.items
+    ∙ behind_blocks 1024 starts rest (option_to_list c.pop.result) (behind (1024 * length starts) (length places) (length rest) c.settle.ensures.blocks.0 c.settle.ensures.behind one_less)
