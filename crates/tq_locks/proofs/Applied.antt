@@ -1,8 +1,7 @@
 -- What the methods of the kept locks find and leave.
-use Rattle.std.proofs.Common.{◌≡◌, ℕ, zero, suc, ◌==◌, Bool, true, false, cond, List, [], ◌∷◌, map, filter, length, Option, Some, None, IfNone, IfSome, Result, Ok, Err, OnErr, refl, ap, sym, subst, ◌∙◌, inl, inr, ◌<◌, ◌≤◌, ◌-◌, nat_eq, ltb, lt-ltb, ltb-true, get_or, arith}
+use Rattle.std.proofs.Common.{◌≡◌, ℕ, zero, suc, ◌==◌, Bool, true, false, cond, List, [], ◌∷◌, map, filter, length, Option, Some, None, IfNone, IfSome, Result, Ok, Err, OnErr, refl, ap, sym, subst, ◌∙◌, inl, inr, ◌-◌, nat_eq, arith}
 use lib.Dec.{T}
 use mathlib.Core.Bool.{true≢false}
-use Rattle.std.proofs.lemmas.Bool.{cases_lt}
 use Rattle.std.proofs.lemmas.Bool.Decides.{nat_tests}
 use Rattle.std.proofs.lemmas.List.Sorted.{IsPermutation-map, length_permutation}
 use Rattle.std.proofs.lemmas.Map.Keys.{IsDistinct-IsPermutation}
@@ -269,10 +268,3 @@ lent_once slab keys moved xs p e t =
   where
     flips : (m n : ℕ) → nat_eq m n ≡ nat_eq n m
     flips m n = grind (arith, nat_tests)
-
--- what holds below a place and from there on holds of all
-pub all_below : (P : ℕ → Type 0) (at end : ℕ) → ((k : ℕ) → k < at → P k) → ((k : ℕ) → end ≤ k → P k) → end ≤ at → (k : ℕ) → P k
-all_below P at end below above past k = elim (cases_lt k at) [
-  | inl less ↦ below k less
-  | inr more ↦ above k (omega (arith, more, past))
-]

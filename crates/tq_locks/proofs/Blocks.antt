@@ -112,7 +112,7 @@ pub lent_over : (starts places block : List ℕ) (b start p q key other to at : 
     → insert (turned 1024 (slice_set starts b start) (put_mid (b * 1024) (b * 1024 + 1024 - b * 1024) places block)) at other ≡ insert (turned 1024 starts places) to key
 lent_over starts places block b start p q key other to at within fits size first second goes comes same =
     written_over 1024 starts places block b (b * 1024) (b * 1024 + 1024 - b * 1024) start p q key other to at
-      within (omega arith) (omega arith) (omega (arith, within, fits)) size first second (omega (arith, goes)) (omega (arith, comes)) same
+    within (omega arith) (omega arith) (omega (arith, within, fits)) size first second (omega (arith, goes)) (omega (arith, comes)) same
 
 -- Keys behind the blocks lie as they are.
 pub behind_blocks : (size : ℕ) (starts xs ys : List ℕ) → size * length starts ≤ length xs → turned size starts (xs ++ ys) ≡ turned size starts xs ++ ys
@@ -122,7 +122,7 @@ behind_blocks size starts xs ys fits =
     let post = drop low xs in
     let pre_len : length pre ≡ low = length-take-le low xs fits in
     let parts : (zs : List ℕ) → turned size starts (pre ++ zs) ≡ turned size starts pre ++ zs =
-        λ zs. ap (λ s. turned size s (pre ++ zs)) (sym (append-nil starts)) ∙ before_others size starts [] pre zs pre_len in
+    λ zs. ap (λ s. turned size s (pre ++ zs)) (sym (append-nil starts)) ∙ before_others size starts [] pre zs pre_len in
     ap (λ ks. turned size starts (ks ++ ys)) (sym (take-append-drop low xs))
     ∙ ap (turned size starts) (append_assoc pre post ys)
     ∙ parts (post ++ ys)
@@ -150,13 +150,13 @@ pub insert_behind : (size : ℕ) (starts places : List ℕ) (place key : ℕ) �
     → turned size starts (insert places place key) ≡ insert (turned size starts places) place key
 insert_behind size starts places place key low high =
     changed_behind size starts places place (λ ks. insert ks place key) (λ ks. insert ks (place - place) key) low high
-      (λ xs ys all. insert-append_right xs ys place place key all (omega arith))
+    (λ xs ys all. insert-append_right xs ys place place key all (omega arith))
 
 pub remove_behind : (size : ℕ) (starts places : List ℕ) (place : ℕ) → size * length starts ≤ place → place ≤ length places
     → turned size starts (remove places place) ≡ remove (turned size starts places) place
 remove_behind size starts places place low high =
     changed_behind size starts places place (λ ks. remove ks place) (λ ks. remove ks (place - place)) low high
-      (λ xs ys all. remove-append_right xs ys place place all (omega arith))
+    (λ xs ys all. remove-append_right xs ys place place all (omega arith))
 
 -- a key that comes in goes again, and the other way round
 pub put_and_taken : (keys : List ℕ) (place key : ℕ) → place ≤ length keys → remove (insert keys place key) place ≡ keys
@@ -213,9 +213,9 @@ any_order size (start ∷ starts) places =
     let ahead = turn start block in
     let turned_back : IsPermutation ahead block = subst (IsPermutation ahead) (take-append-drop start block) (IsPermutation-append_comm (drop start block) (take start block)) in
     let whole : IsPermutation (ahead ++ turned size starts rest) (block ++ rest) =
-        IsPermutation-trans (ahead ++ turned size starts rest) (ahead ++ rest) (block ++ rest)
-          (IsPermutation-append_right ahead (turned size starts rest) rest (any_order size starts rest))
-          (IsPermutation-append_left rest ahead block turned_back) in
+    IsPermutation-trans (ahead ++ turned size starts rest) (ahead ++ rest) (block ++ rest)
+    (IsPermutation-append_right ahead (turned size starts rest) rest (any_order size starts rest))
+    (IsPermutation-append_left rest ahead block turned_back) in
     subst (IsPermutation (ahead ++ turned size starts rest)) (take-append-drop size places) whole
 
 -- what was lent as a whole
@@ -248,7 +248,7 @@ turned_key block start place all first within =
     let front = take start block in
     let len : length behind ≡ 1024 - start = length-drop start block ∙ ap (λ n. n - start) all in
     elim (cases_lt (start + place) 1024) [
-      inl below ↦
+      | inl below ↦
           get_or_append_left behind front 0 place (omega (arith, below, len))
           ∙ get_or-drop start block place 0
           ∙ ap (λ n. get_or block n 0) (sym (mod-eq_of_lt below))

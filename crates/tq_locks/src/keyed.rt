@@ -299,12 +299,7 @@ fn stabilise_each(entries: &mut LockSlab, keys: &[usize])
 
 /// The transaction of the first of these entries that is not this one's, where it conflicts with the mode.
 #[inline(always)]
-pub(crate) fn held_by(
-    entries: &LockSlab,
-    list: Option<&Keys>,
-    txn: u64,
-    mode: Mode,
-) -> Option<u64>
+pub(crate) fn held_by(entries: &LockSlab, list: Option<&Keys>, txn: u64, mode: Mode) -> Option<u64>
     ensures { result ≡ decided txn mode (told entries.now (keys_in (option_copied list.entry))) }
 {
     for entry in walk(entries, list) {

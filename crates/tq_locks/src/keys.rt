@@ -311,7 +311,13 @@ fn pull_through(starts: &mut [usize], places: &mut [usize], place: usize, key: u
 }
 
 /// Puts a key into a place in a block, and tells the last, which leaves the block.
-fn open_at(starts: &mut [usize], places: &mut [usize], block: usize, place: usize, key: usize) -> usize
+fn open_at(
+    starts: &mut [usize],
+    places: &mut [usize],
+    block: usize,
+    place: usize,
+    key: usize,
+) -> usize
     requires blocks { HasBlocks starts.old (length places.old) }
     requires within { (block < length starts.old) × (place < 1024) }
     ensures blocks { HasBlocks starts.new (length places.new) }
@@ -339,7 +345,13 @@ fn open(keys: &mut [usize], place: usize, key: usize) -> usize
 }
 
 /// Takes the key at a place in a block out. A key comes behind the others.
-fn close_at(starts: &mut [usize], places: &mut [usize], block: usize, place: usize, key: usize) -> usize
+fn close_at(
+    starts: &mut [usize],
+    places: &mut [usize],
+    block: usize,
+    place: usize,
+    key: usize,
+) -> usize
     requires blocks { HasBlocks starts.old (length places.old) }
     requires within { (block < length starts.old) × (place < 1024) }
     ensures blocks { HasBlocks starts.new (length places.new) }

@@ -17,5 +17,5 @@ returns-clause-taken c =
     let within = c.requires.within.0 in
     let old : length before ≡ 1024 = c.rotate_left.ensures.len ∙ length-block c.args.places.now block (length c.args.starts.now) within c.requires.blocks.0 in
     lent_over c.args.starts.now c.args.places.now keys block 0 1024 place key taken (1024 * suc block) (1024 * block + place)
-      within c.requires.blocks.0 (c.close.auto.keys ∙ old) (omega arith) (omega (arith, c.requires.within.1)) (omega arith) (omega arith)
-      (ap (λ ks. insert ks place taken) (not_turned keys) ∙ c.close.ensures ∙ sym (at_end before 1024 key old) ∙ ap (λ ks. insert ks 1024 key) c.rotate_left.ensures.after)
+    within c.requires.blocks.0 (c.close.auto.keys ∙ old) (omega arith) (omega (arith, c.requires.within.1)) (omega arith) (omega arith)
+    (ap (λ ks. insert ks place taken) (not_turned keys) ∙ c.close.ensures ∙ sym (at_end before 1024 key old) ∙ ap (λ ks. insert ks 1024 key) c.rotate_left.ensures.after)

@@ -16,5 +16,5 @@ returns-clause-put c =
     let within = c.requires.within.0 in
     let size : length keys ≡ 1024 = c.open.auto.keys ∙ c.rotate_left.ensures.len ∙ length-block c.args.places.now block (length c.args.starts.now) within c.requires.blocks.0 in
     lent_over c.args.starts.now c.args.places.now keys block 0 place 1024 key last (1024 * block + place) (1024 * suc block)
-      within c.requires.blocks.0 size (omega (arith, c.requires.within.1)) (omega arith) (omega arith) (omega arith)
-      (ap (λ ks. insert ks 1024 last) (not_turned keys) ∙ at_end keys 1024 last size ∙ c.open.ensures ∙ ap (λ ks. insert ks place key) c.rotate_left.ensures.after)
+    within c.requires.blocks.0 size (omega (arith, c.requires.within.1)) (omega arith) (omega arith) (omega arith)
+    (ap (λ ks. insert ks 1024 last) (not_turned keys) ∙ at_end keys 1024 last size ∙ c.open.ensures ∙ ap (λ ks. insert ks place key) c.rotate_left.ensures.after)

@@ -18,5 +18,5 @@ returns-clause-taken c =
     let size : length block ≡ 1024 = length-block places b (length c.args.starts.now) c.requires.within c.requires.blocks.0 in
     let within : start < length block = omega (arith, size, c.requires.blocks.2 b 0 c.requires.within) in
     lent_over c.args.starts.now places keys b next 1024 0 key (slice_index_or block start 0) (1024 * suc b) (1024 * b)
-      c.requires.within c.requires.blocks.0 (length-set block start key ∙ size) (omega arith) (omega arith) (omega arith) (omega arith)
-      (sym (behind_others block start next key within size refl) ∙ sym (at_end (turn start block) 1024 key (length-turn start block ∙ size)))
+    c.requires.within c.requires.blocks.0 (length-set block start key ∙ size) (omega arith) (omega arith) (omega arith) (omega arith)
+    (sym (behind_others block start next key within size refl) ∙ sym (at_end (turn start block) 1024 key (length-turn start block ∙ size)))

@@ -20,5 +20,5 @@ returns-clause-put c =
     let same : length keys ≡ 1024 = length-set block before key ∙ size in
     let within : start < length block = omega (arith, size, c.requires.blocks.2 b 0 c.requires.within) in
     lent_over c.args.starts.now places keys b before 0 1024 key last (1024 * b) (1024 * suc b)
-      c.requires.within c.requires.blocks.0 same (omega arith) (omega arith) (omega arith) (omega arith)
-      (at_end (turn before keys) 1024 last (length-turn before keys ∙ same) ∙ before_others block start before key within size refl)
+    c.requires.within c.requires.blocks.0 same (omega arith) (omega arith) (omega arith) (omega arith)
+    (at_end (turn before keys) 1024 last (length-turn before keys ∙ same) ∙ before_others block start before key within size refl)

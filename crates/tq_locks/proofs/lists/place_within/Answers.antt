@@ -14,8 +14,8 @@ loop-low-init c =
       ends = (omega arith, omega (arith, len));
       next = λ more. (omega arith, omega (arith, last, more));
       between = λ entries listed sorted.
-        let most = place_most locks_total (get c.args.entries.now) (c.args.file.now, c.args.txn) c.args.keys.now.items entries listed in
-        (omega arith, omega (arith, len, most));
+          let most = place_most locks_total (get c.args.entries.now) (c.args.file.now, c.args.txn) c.args.keys.now.items entries listed in
+          (omega arith, omega (arith, len, most));
     }
 
 pub loop-low-preserved : goal.loop-low-preserved
@@ -29,21 +29,21 @@ loop-low-preserved c =
     let at = c.loop-low.invariant.next c.loop-low-test.true in
     elim c.if-is_below_at.branch [
       | then-is_below_at w ↦
-        record {
-          ends = (omega (arith, w.low-is, w.high-is, at), omega (arith, w.high-is, ends));
-          next = middle low high;
-          between = λ entries listed sorted.
-            let old = c.loop-low.invariant.between entries listed sorted in
-            let before = behind_under locks_total find name keys entries c.loop-low.at listed sorted (sym c.is_below_at.ensures ∙ w.if-is_below_at.true) in
-            (omega (arith, w.low-is, before), omega (arith, w.high-is, old.1));
-        }
+          record {
+            ends = (omega (arith, w.low-is, w.high-is, at), omega (arith, w.high-is, ends));
+            next = middle low high;
+            between = λ entries listed sorted.
+                let old = c.loop-low.invariant.between entries listed sorted in
+                let before = behind_under locks_total find name keys entries c.loop-low.at listed sorted (sym c.is_below_at.ensures ∙ w.if-is_below_at.true) in
+                (omega (arith, w.low-is, before), omega (arith, w.high-is, old.1));
+          }
       | else-is_below_at w ↦
-        record {
-          ends = (omega (arith, w.low-is, w.high-is, at), omega (arith, w.high-is, at, ends));
-          next = middle low high;
-          between = λ entries listed sorted.
-            let old = c.loop-low.invariant.between entries listed sorted in
-            let behind = upto_other locks_total find name keys entries c.loop-low.at listed (omega (arith, at, ends)) (sym c.is_below_at.ensures ∙ w.if-is_below_at.false) in
-            (omega (arith, w.low-is, old.0), omega (arith, w.high-is, behind));
-        }
+          record {
+            ends = (omega (arith, w.low-is, w.high-is, at), omega (arith, w.high-is, at, ends));
+            next = middle low high;
+            between = λ entries listed sorted.
+                let old = c.loop-low.invariant.between entries listed sorted in
+                let behind = upto_other locks_total find name keys entries c.loop-low.at listed (omega (arith, at, ends)) (sym c.is_below_at.ensures ∙ w.if-is_below_at.false) in
+                (omega (arith, w.low-is, old.0), omega (arith, w.high-is, behind));
+          }
     ]
