@@ -1,5 +1,5 @@
 -- What the methods of the kept locks find and leave.
-use Rattle.std.proofs.Common.{◌≡◌, ℕ, zero, suc, ◌==◌, Bool, true, false, cond, List, [], ◌∷◌, map, filter, length, Option, Some, None, IfNone, IfSome, Result, Ok, Err, OnErr, refl, ap, sym, subst, ◌∙◌, inl, inr, ◌-◌, nat_eq, arith}
+use Rattle.std.proofs.Common.{◌≡◌, ℕ, zero, suc, ◌==◌, Bool, true, false, cond, List, [], ◌∷◌, map, filter, length, Option, Some, None, IfNone, IfSome, Result, Ok, Err, OnErr, refl, ap, sym, subst, ◌∙◌, inl, inr, nat_eq, arith}
 use lib.Dec.{T}
 use mathlib.Core.Bool.{true≢false}
 use Rattle.std.proofs.lemmas.Bool.Decides.{nat_tests}

@@ -1,5 +1,5 @@
 -- Keys that a list has.
-use Rattle.std.proofs.Common.{◌≡◌, ◌++◌, ℕ, nat_eq, zero, suc, ◌+◌, ◌-◌, ◌≤◌, drop, ◌||◌, Bool, false, ap, sym, length, Option, Some, None, true, List, [], ◌∷◌, refl, ◌∙◌, inl, inr, ◌⊎◌, arith}
+use Rattle.std.proofs.Common.{◌≡◌, ◌++◌, ℕ, nat_eq, zero, suc, ◌+◌, ◌≤◌, drop, ◌||◌, Bool, false, ap, sym, length, Option, Some, None, true, List, [], ◌∷◌, refl, ◌∙◌, inl, inr, ◌⊎◌, arith}
 use Rattle.std.proofs.lemmas.Bool.Decides.{nat_tests}
 use mathlib.Core.Bool.{true≢false}
 use Rattle.std.specs.List.{list_any, filter_map, cons_option, slice_get}

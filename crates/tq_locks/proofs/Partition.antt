@@ -1,5 +1,5 @@
 -- The place that a binary search finds among keys whose entries rise.
-use Rattle.std.proofs.Common.{◌≡◌, ℕ, zero, suc, ◌≤◌, ◌<◌, ◌+◌, ◌-◌, ◌/◌, Bool, true, false, cond, List, [], ◌∷◌, map, length, Option, None, Some, refl, ap, sym, subst, ◌∙◌, arith}
+use Rattle.std.proofs.Common.{◌≡◌, ℕ, zero, suc, ◌≤◌, ◌<◌, ◌+◌, ◌-◌, ◌/◌, Bool, true, false, cond, List, [], ◌∷◌, map, length, Option, Some, ap, sym, subst, ◌∙◌, arith}
 use lib.Dec.{T}
 use mathlib.Core.Bool.{true≢false}
 use Rattle.std.specs.Cmp.{IsTotalOrder}
@@ -17,7 +17,7 @@ use Rattle.slab.specs.Slab.{Slab, get}
 use Rattle.tq_locks.specs.declared.mode.Lock.{Lock}
 use Rattle.tq_locks.specs.Keys.{place}
 use Rattle.tq_locks.specs.Kept.{RisesTo}
-use Rattle.tq_locks.specs.Locks.{LockKey, lock_cmp}
+use Rattle.tq_locks.specs.Locks.{LockKey}
 use Rattle.tq_locks.proofs.Found.{some_same, none_some, first, second, less, below_each}
 use Rattle.tq_locks.proofs.Agreed.{head_of, tail_of, nil_cons, item_of}
 use Rattle.tq_locks.proofs.Applied.{Has-at}

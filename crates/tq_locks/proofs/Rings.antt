@@ -1,10 +1,9 @@
 -- What happens in one block.
-use Rattle.std.proofs.Common.{◌≡◌, ◌+◌, ◌-◌, ◌*◌, ◌%◌, ◌<◌, ◌≤◌, ◌++◌, ℕ, zero, suc, List, [], ◌∷◌, length, take, drop, get_or, slice_set, refl, ap, sym, ◌∙◌, inl, inr, arith}
+use Rattle.std.proofs.Common.{◌≡◌, ◌+◌, ◌-◌, ◌%◌, ◌<◌, ◌++◌, ℕ, List, [], ◌∷◌, length, take, drop, get_or, slice_set, ap, sym, ◌∙◌, inl, inr, arith}
 use Rattle.std.proofs.lemmas.List.{append_assoc, append-nil, length-append, length-drop, length-take-le, take_at, drop_at, set_at, take_all, drop_all, take-append-drop, take_more, drop_more, take_more_set, drop-set-lt, get_or-drop, get_or-set_same, length-set, set-set, set-get_or}
-use Rattle.std.proofs.lemmas.List.Edits.{insert_end}
 use Rattle.std.proofs.lemmas.Bool.{cases_lt}
 use Rattle.std.proofs.Math.Nat.{mod-eq_of_lt, mod-lt}
-use Rattle.std.specs.List.{insert, remove, copy_within}
+use Rattle.std.specs.List.{insert, copy_within}
 use Rattle.tq_locks.specs.Keys.{turn}
 
 -- the last key goes, and those from a place on move up

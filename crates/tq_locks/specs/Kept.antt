@@ -1,5 +1,5 @@
 -- The locks of a table as it keeps them: entries under keys, and the keys of each file and of each transaction.
-use Rattle.std.specs.Prelude.{◌≡◌, ◌≤◌, ◌==◌, ◌+◌, ◌-◌, ℕ, T, Bool, IfSome, IfNone, IsSome, slice_get, List, [], ◌∷◌, Option, length, map, filter, Some, None, false, nat_eq, if◌then◌else◌}
+use Rattle.std.specs.Prelude.{◌≡◌, ◌≤◌, ◌==◌, ◌+◌, ℕ, T, Bool, IfSome, IfNone, IsSome, slice_get, List, [], ◌∷◌, Option, length, map, filter, Some, None, false, nat_eq, if◌then◌else◌}
 use Rattle.std.specs.List.{IsDistinct, remove}
 use Rattle.std.specs.List.Sorted.{IsPermutation}
 use Rattle.std.specs.Option.{option_map, option_map_or, option_and_then}

@@ -1,5 +1,5 @@
 -- Lists of keys, each under a name.
-use Rattle.std.specs.Prelude.{◌≡◌, ◌<◌, ℕ, suc, Bool, true, List, [], ◌∷◌, Option, Some, None, if◌then◌else◌, filter_map, slice_get, length, take, drop, min, All, ◌+◌, ◌*◌, ◌≤◌, ◌++◌}
+use Rattle.std.specs.Prelude.{◌≡◌, ◌<◌, ℕ, suc, Bool, true, List, [], ◌∷◌, Option, Some, None, if◌then◌else◌, filter_map, slice_get, length, take, drop, min, All, ◌*◌, ◌≤◌, ◌++◌}
 use Rattle.slab.specs.Slab.{Slab, get as in_slab}
 use Rattle.std.specs.List.{insert, remove}
 use Rattle.std.specs.Option.{option_map_or}

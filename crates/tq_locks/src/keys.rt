@@ -82,17 +82,6 @@ impl Keys {
         self.places.as_slice()
     }
 
-    /// The keys in their order, where they lie so.
-    #[inline(always)]
-    pub(crate) fn plain(&self) -> Option<&[usize]>
-        ensures { IfSome result (λ keys. keys.now ≡ self.now.items) }
-    {
-        if !self.starts.is_empty() {
-            return None;
-        }
-        Some(self.places.as_slice())
-    }
-
     /// The number of keys.
     #[inline(always)]
     pub(crate) fn len(&self) -> usize
@@ -131,7 +120,8 @@ impl Keys {
     /// Takes the last key out.
     #[inline(always)]
     pub(crate) fn pop(&mut self) -> Option<usize>
-        ensures { self.old.items ≡ self.new.items ++ option_to_list result }
+        ensures items { self.old.items ≡ self.new.items ++ option_to_list result }
+        ensures none { IfNone result (self.old.items ≡ []) }
     {
         pop(&mut self.starts, &mut self.places)
     }
@@ -242,6 +232,7 @@ fn pop(starts: &mut Vec<usize>, places: &mut SmallVec<usize, 6>) -> Option<usize
     requires { HasBlocks starts.old.items (small_vec_len places.old) }
     ensures blocks { HasBlocks starts.new.items (small_vec_len places.new) }
     ensures last { turned 1024 starts.old.items places.old.items ≡ turned 1024 starts.new.items places.new.items ++ option_to_list result }
+    ensures none { IfNone result (turned 1024 starts.old.items places.old.items ≡ []) }
 {
     settle(starts, places);
     places.pop()

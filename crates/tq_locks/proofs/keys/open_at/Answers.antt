@@ -1,9 +1,7 @@
-use Rattle.std.proofs.Common.{◌++◌, ◌∷◌, [], ◌≡◌, ◌+◌, ◌*◌, ◌-◌, ◌%◌, suc, length, take, drop, slice_index_or, slice_set, ap, sym, ◌∙◌, arith}
+use Rattle.std.proofs.Common.{◌≡◌, ◌+◌, ◌*◌, suc, length, ap, ◌∙◌, arith}
 use Rattle.std.specs.List.{insert}
-use Rattle.std.proofs.lemmas.List.{length-set}
-use Rattle.tq_locks.specs.Keys.{turn}
-use Rattle.tq_locks.proofs.Rings.{not_turned, before_others, behind_others}
-use Rattle.tq_locks.proofs.Blocks.{lent_over, length-block, length-turn, at_end}
+use Rattle.tq_locks.proofs.Rings.{not_turned}
+use Rattle.tq_locks.proofs.Blocks.{lent_over, length-block, at_end}
 use Rattle.tq_locks.proofs.keys.open_at.Goals as goal
 
 pub returns-clause-put : goal.returns-clause-put

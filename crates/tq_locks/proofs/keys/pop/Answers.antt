@@ -1,13 +1,26 @@
-use Rattle.std.proofs.Common.{◌≡◌, ◌-◌, ◌*◌, ◌≤◌, ◌<◌, ◌++◌, length, ap, sym, ◌∙◌, arith, option_to_list, Some, None, ℕ, List, Option, zero, suc, refl}
+use Rattle.std.proofs.Common.{◌≡◌, ◌-◌, ◌*◌, ◌≤◌, ◌<◌, length, ap, sym, ◌∙◌, arith, option_to_list, Some, None, ℕ, List, Option, zero, suc, refl, IsSome, IfNone, [], ◌∷◌}
+use mathlib.Core.Bool.{false≢true}
 use Rattle.std.proofs.lemmas.List.{length-take}
 use Rattle.tq_locks.specs.Keys.{turned}
-use Rattle.tq_locks.proofs.Blocks.{behind_blocks}
+use Rattle.tq_locks.proofs.Blocks.{behind_blocks, length-turned}
 use Rattle.tq_locks.proofs.keys.pop.Goals as goal
 
 -- one key less is still behind the blocks
 behind : (low len rest : ℕ) → low ≤ len → (0 < len → low < len) → rest ≡ len - 1 → low ≤ rest
 behind low zero rest within some is = omega (arith, within)
 behind low (suc len) rest within some is = omega (arith, some (omega arith), is)
+
+-- there was none
+emptied : (last : Option ℕ) (keys : List ℕ) → (0 < length keys → IsSome last) → IfNone last (keys ≡ [])
+emptied (Some key) keys some = tt
+emptied None [] some = refl
+emptied None (key ∷ keys) some = absurd (false≢true (some (omega arith)))
+
+pub returns-clause-none : goal.returns-clause-none
+returns-clause-none c =
+    let starts = c.args.starts.now.items in
+    let places = c.args.places.now.items in
+    emptied c.pop.result (turned 1024 starts places) (λ some. c.pop.ensures.variant.1 (omega (arith, some, length-turned 1024 starts places, c.settle.ensures.len)))
 
 pub returns-clause-last : goal.returns-clause-last
 returns-clause-last c =

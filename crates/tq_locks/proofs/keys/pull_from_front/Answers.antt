@@ -1,8 +1,7 @@
-use Rattle.std.proofs.Common.{◌++◌, ◌∷◌, [], ◌≡◌, ◌<◌, ◌+◌, ◌*◌, ◌-◌, ◌%◌, suc, length, take, drop, slice_index_or, slice_set, ap, sym, refl, ◌∙◌, arith}
-use Rattle.std.specs.List.{insert}
+use Rattle.std.proofs.Common.{◌≡◌, ◌<◌, ◌+◌, ◌*◌, ◌-◌, ◌%◌, suc, length, take, drop, slice_index_or, slice_set, sym, refl, ◌∙◌, arith}
 use Rattle.std.proofs.lemmas.List.{length-set}
 use Rattle.tq_locks.specs.Keys.{turn}
-use Rattle.tq_locks.proofs.Rings.{not_turned, before_others, behind_others}
+use Rattle.tq_locks.proofs.Rings.{behind_others}
 use Rattle.tq_locks.proofs.Blocks.{lent_over, length-block, length-turn, at_end}
 use Rattle.tq_locks.proofs.keys.pull_from_front.Goals as goal
 

@@ -1,4 +1,4 @@
-use Rattle.std.proofs.Common.{◌≡◌, ◌*◌, ◌≤◌, length, ap, sym, refl, ◌∙◌, arith}
+use Rattle.std.proofs.Common.{◌≡◌, ◌*◌, length, ap, refl, ◌∙◌, arith}
 use Rattle.std.specs.List.{insert}
 use Rattle.tq_locks.specs.Keys.{turned}
 use Rattle.tq_locks.proofs.Blocks.{put_behind, refilled}

@@ -1,4 +1,4 @@
-use Rattle.std.proofs.Common.{[], ap}
+use Rattle.std.proofs.Common.{ap}
 use Rattle.std.specs.Option.{option_copied}
 use Rattle.tq_locks.specs.Keys.{keys_in}
 use Rattle.tq_locks.proofs.Partition.{none_rises}

@@ -1,4 +1,4 @@
-use Rattle.std.proofs.Common.{◌≡◌, ◌+◌, ◌∷◌, drop, Some, rules, ap, sym, ◌∙◌}
+use Rattle.std.proofs.Common.{◌+◌, ◌∷◌, drop, rules, ap, sym, ◌∙◌}
 use Rattle.std.specs.List.{cons_option}
 use Rattle.slab.specs.Slab.{get}
 use Rattle.tq_locks.specs.Keys.{keys_in, told}
