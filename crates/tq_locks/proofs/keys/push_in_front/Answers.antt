@@ -2,8 +2,8 @@ use Rattle.std.proofs.Common.{◌++◌, ◌∷◌, [], ◌≡◌, ◌<◌, ◌+�
 use Rattle.std.specs.List.{insert}
 use Rattle.std.proofs.lemmas.List.{length-set}
 use Rattle.tq_locks.specs.Keys.{turn}
-use Rattle.tq_locks.proofs.Rings.{not_turned, before_others, behind_others}
-use Rattle.tq_locks.proofs.Blocks.{lent_over, length-block, length-turn, at_end}
+use Rattle.tq_locks.proofs.Rings.{length-turn, not_turned, before_others, behind_others}
+use Rattle.tq_locks.proofs.Blocks.{written_over, length-block, at_end}
 use Rattle.tq_locks.proofs.keys.push_in_front.Goals as goal
 
 pub returns-clause-put : goal.returns-clause-put
@@ -19,6 +19,6 @@ returns-clause-put c =
     let size : length block ≡ 1024 = length-block places b (length c.args.starts.now) c.requires.within c.requires.blocks.0 in
     let same : length keys ≡ 1024 = length-set block before key ∙ size in
     let within : start < length block = omega (arith, size, c.requires.blocks.2 b 0 c.requires.within) in
-    lent_over c.args.starts.now places keys b before 0 1024 key last (1024 * b) (1024 * suc b)
+    written_over c.args.starts.now places keys b before 0 1024 key last (1024 * b) (1024 * suc b)
       c.requires.within c.requires.blocks.0 same (omega arith) (omega arith) (omega arith) (omega arith)
       (at_end (turn before keys) 1024 last (length-turn before keys ∙ same) ∙ before_others block start before key within size refl)
