@@ -272,31 +272,29 @@ fn key_at(starts: &[usize], places: &[usize], at: usize) -> Option<usize>
     Some(places[block * BLOCK + (starts[block] + at % BLOCK) % BLOCK])
 }
 
-/// Puts a key into its place in the blocks, from each of which the last key goes on to the next, and tells the last of all.
+/// Puts a key into its place in the blocks, and tells the last of all. The last of each block goes on to the next.
 fn push_through(starts: &mut [usize], places: &mut [usize], place: usize, key: usize) -> usize
     requires blocks { HasBlocks starts.old (length places.old) }
     requires within { place < 1024 * length starts.old }
     ensures blocks { HasBlocks starts.new (length places.new) }
-    ensures len { (length starts.new ≡ length starts.old) × (length places.new ≡ length places.old) }
     ensures put { insert (turned starts.new places.new) (1024 * length starts.new) result
         ≡ insert (turned starts.old places.old) place key }
 {
     let mut block = place / BLOCK;
-    let mut carried = open_at(starts, places, block, place % BLOCK, key);
+    let mut carried = put_in_block(starts, places, block, place % BLOCK, key);
     block += 1;
     while block < starts.len() {
-        carried = push_in_front(starts, places, block, carried);
+        carried = put_in_block(starts, places, block, 0, carried);
         block += 1;
     }
     carried
 }
 
-/// Takes the key at a place in the blocks out. Into each block from there on comes the first key of the next, and a key into the last.
+/// Takes the key at a place in the blocks out. A key comes behind them, and the first of each block goes on to the one before.
 fn pull_through(starts: &mut [usize], places: &mut [usize], place: usize, key: usize) -> usize
     requires blocks { HasBlocks starts.old (length places.old) }
     requires within { place < 1024 * length starts.old }
     ensures blocks { HasBlocks starts.new (length places.new) }
-    ensures len { (length starts.new ≡ length starts.old) × (length places.new ≡ length places.old) }
     ensures taken { insert (turned starts.new places.new) place result
         ≡ insert (turned starts.old places.old) (1024 * length starts.old) key }
 {
@@ -304,23 +302,36 @@ fn pull_through(starts: &mut [usize], places: &mut [usize], place: usize, key: u
     let mut block = starts.len() - 1;
     let mut carried = key;
     while block > first {
-        carried = pull_from_front(starts, places, block, carried);
+        carried = take_from_block(starts, places, block, 0, carried);
         block -= 1;
     }
-    close_at(starts, places, first, place % BLOCK, carried)
+    take_from_block(starts, places, first, place % BLOCK, carried)
 }
 
 /// Puts a key into a place in a block, and tells the last, which leaves the block.
-fn open_at(starts: &mut [usize], places: &mut [usize], block: usize, place: usize, key: usize) -> usize
+#[inline(always)]
+fn put_in_block(
+    starts: &mut [usize],
+    places: &mut [usize],
+    block: usize,
+    place: usize,
+    key: usize,
+) -> usize
     requires blocks { HasBlocks starts.old (length places.old) }
     requires within { (block < length starts.old) × (place < 1024) }
     ensures blocks { HasBlocks starts.new (length places.new) }
-    ensures len { (length starts.new ≡ length starts.old) × (length places.new ≡ length places.old) }
     ensures put { insert (turned starts.new places.new) (1024 * suc block) result
         ≡ insert (turned starts.old places.old) (1024 * block + place) key }
 {
     let low = block * BLOCK;
     let keys = &mut places[low..low + BLOCK];
+    if place == 0 {
+        let start = (starts[block] + BLOCK - 1) % BLOCK;
+        starts[block] = start;
+        let last = keys[start];
+        keys[start] = key;
+        return last;
+    }
     keys.rotate_left(starts[block]);
     starts[block] = 0;
     open(keys, place, key)
@@ -339,17 +350,30 @@ fn open(keys: &mut [usize], place: usize, key: usize) -> usize
 }
 
 /// Takes the key at a place in a block out. A key comes behind the others.
-fn close_at(starts: &mut [usize], places: &mut [usize], block: usize, place: usize, key: usize) -> usize
+#[inline(always)]
+fn take_from_block(
+    starts: &mut [usize],
+    places: &mut [usize],
+    block: usize,
+    place: usize,
+    key: usize,
+) -> usize
     requires blocks { HasBlocks starts.old (length places.old) }
     requires within { (block < length starts.old) × (place < 1024) }
     ensures blocks { HasBlocks starts.new (length places.new) }
-    ensures len { (length starts.new ≡ length starts.old) × (length places.new ≡ length places.old) }
     ensures taken { insert (turned starts.new places.new) (1024 * block + place) result
         ≡ insert (turned starts.old places.old) (1024 * suc block) key }
 {
     let low = block * BLOCK;
     let keys = &mut places[low..low + BLOCK];
-    keys.rotate_left(starts[block]);
+    let start = starts[block];
+    if place == 0 {
+        starts[block] = (start + 1) % BLOCK;
+        let first = keys[start];
+        keys[start] = key;
+        return first;
+    }
+    keys.rotate_left(start);
     starts[block] = 0;
     close(keys, place, key)
 }
@@ -364,44 +388,6 @@ fn close(keys: &mut [usize], place: usize, key: usize) -> usize
     keys.copy_within(place + 1..end, place);
     keys[end - 1] = key;
     taken
-}
-
-/// Puts a key before the others of a block, and tells the last, which leaves the block.
-#[inline(always)]
-fn push_in_front(starts: &mut [usize], places: &mut [usize], block: usize, key: usize) -> usize
-    requires blocks { HasBlocks starts.old (length places.old) }
-    requires within { block < length starts.old }
-    ensures blocks { HasBlocks starts.new (length places.new) }
-    ensures len { (length starts.new ≡ length starts.old) × (length places.new ≡ length places.old) }
-    ensures put { insert (turned starts.new places.new) (1024 * suc block) result
-        ≡ insert (turned starts.old places.old) (1024 * block) key }
-{
-    let low = block * BLOCK;
-    let keys = &mut places[low..low + BLOCK];
-    let start = (starts[block] + BLOCK - 1) % BLOCK;
-    starts[block] = start;
-    let last = keys[start];
-    keys[start] = key;
-    last
-}
-
-/// Takes the first key out of a block. A key comes behind the others.
-#[inline(always)]
-fn pull_from_front(starts: &mut [usize], places: &mut [usize], block: usize, key: usize) -> usize
-    requires blocks { HasBlocks starts.old (length places.old) }
-    requires within { block < length starts.old }
-    ensures blocks { HasBlocks starts.new (length places.new) }
-    ensures len { (length starts.new ≡ length starts.old) × (length places.new ≡ length places.old) }
-    ensures taken { insert (turned starts.new places.new) (1024 * block) result
-        ≡ insert (turned starts.old places.old) (1024 * suc block) key }
-{
-    let low = block * BLOCK;
-    let keys = &mut places[low..low + BLOCK];
-    let start = starts[block];
-    starts[block] = (start + 1) % BLOCK;
-    let first = keys[start];
-    keys[start] = key;
-    first
 }
 
 /// Takes a key out of a list where it is the last, and tells its place.
