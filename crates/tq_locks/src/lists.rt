@@ -2,8 +2,7 @@
 ghost use Rattle.std.specs.Prelude.{◌≡◌, ◌≤◌, length, Some};
 ghost use Rattle.std.specs.List.{remove};
 ghost use Rattle.slab.specs.Slab.{get};
-ghost use Rattle.std.specs.Option.{option_copied};
-ghost use Rattle.tq_locks.specs.Keys.{keys_in};
+ghost use Rattle.tq_locks.specs.Keys.{lent_keys};
 ghost use Rattle.tq_locks.specs.Kept.{is_under, is_under_at, RisesTo};
 
 use crate::LockEntry;
@@ -41,8 +40,8 @@ fn is_below_at(entries: &LockSlab, keys: &Keys, at: usize, file: &FileName, txn:
 /// The place of this file and transaction among keys whose entries rise.
 #[inline(always)]
 pub(crate) fn place(entries: &LockSlab, list: Option<&Keys>, file: &FileName, txn: u64) -> usize
-    ensures within { result ≤ length (keys_in (option_copied list.entry)) }
-    ensures place { RisesTo entries.now (keys_in (option_copied list.entry)) (file.now, txn) result }
+    ensures within { result ≤ length (lent_keys list.entry) }
+    ensures place { RisesTo entries.now (lent_keys list.entry) (file.now, txn) result }
 {
     let Some(keys) = list else {
         return 0;
