@@ -1,6 +1,12 @@
 -- What happens in one block.
+<<<<<<< HEAD
 use Rattle.std.proofs.Common.{◌≡◌, ◌+◌, ◌-◌, ◌%◌, ◌<◌, ◌++◌, ℕ, List, [], ◌∷◌, length, take, drop, get_or, slice_set, ap, sym, ◌∙◌, inl, inr, arith}
 use Rattle.std.proofs.lemmas.List.{append_assoc, append-nil, length-append, length-drop, length-take-le, take_at, drop_at, set_at, take_all, drop_all, take-append-drop, take_more, drop_more, take_more_set, drop-set-lt, get_or-drop, get_or-set_same, length-set, set-set, set-get_or}
+=======
+use Rattle.std.proofs.Common.{◌≡◌, ◌+◌, ◌-◌, ◌*◌, ◌%◌, ◌<◌, ◌≤◌, ◌++◌, ℕ, zero, suc, List, [], ◌∷◌, length, take, drop, get_or, slice_set, refl, ap, sym, ◌∙◌, inl, inr, arith}
+use Rattle.std.proofs.lemmas.List.{append_assoc, append-nil, length-append, length-drop, length-take, length-take-le, take_at, drop_at, set_at, take_all, drop_all, take-append-drop, take_more, drop_more, take_more_set, drop-set-lt, get_or-drop, get_or-take, get_or_append_left, get_or-append_right, get_or-set_same, length-set, set-set, set-get_or}
+use Rattle.std.proofs.lemmas.List.Edits.{insert_end}
+>>>>>>> 92450184eab436c9537d58347670da17f5cb89e8
 use Rattle.std.proofs.lemmas.Bool.{cases_lt}
 use Rattle.std.proofs.Math.Nat.{mod-eq_of_lt, mod-lt}
 use Rattle.std.specs.List.{insert, copy_within}
@@ -58,6 +64,9 @@ closed keys place end key within is =
     ∙ ap (λ ks. (pre ++ ks) ++ key ∷ []) (sym (drop_more keys place 0 within))
     ∙ ap (λ ks. ks ++ key ∷ []) (take-append-drop place keys)
 
+pub length-turn : (start : ℕ) (block : List ℕ) → length (turn start block) ≡ length block
+length-turn start block = omega (arith, length-append (drop start block) (take start block), length-drop start block, length-take start block)
+
 -- a block that begins at its front, or behind its end
 pub not_turned : (block : List ℕ) → turn 0 block ≡ block
 not_turned block = append-nil block
@@ -102,3 +111,21 @@ before_others block start before key within all is =
     let size : length keys ≡ length block = length-set block before key in
     behind_others keys before start last (omega (arith, size, below)) (size ∙ all) (omega (arith, is, within, all))
     ∙ (λ i. get_or-set_same block before key 0 below i ∷ turn start ((set-set block before key last ∙ set-get_or block before 0) i))
+
+-- the key at a place in a ring
+pub turned_key : (block : List ℕ) (start place : ℕ) → length block ≡ 1024 → start < 1024 → place < 1024 → get_or (turn start block) place 0 ≡ get_or block ((start + place) % 1024) 0
+turned_key block start place all first within =
+    let behind = drop start block in
+    let front = take start block in
+    let len : length behind ≡ 1024 - start = length-drop start block ∙ ap (λ n. n - start) all in
+    elim (cases_lt (start + place) 1024) [
+      inl below ↦
+          get_or_append_left behind front 0 place (omega (arith, below, len))
+          ∙ get_or-drop start block place 0
+          ∙ ap (λ n. get_or block n 0) (sym (mod-eq_of_lt below))
+      | inr above ↦
+          let rest : place - (1024 - start) ≡ (start + place) % 1024 = omega (arith, above, first, within) in
+          get_or-append_right behind front (1024 - start) place 0 len (omega (arith, above, first))
+          ∙ get_or-take start block (place - (1024 - start)) 0 (omega (arith, above, first, within))
+          ∙ ap (λ n. get_or block n 0) rest
+    ]

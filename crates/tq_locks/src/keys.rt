@@ -153,7 +153,7 @@ fn make_room(starts: &mut Vec<usize>, places: &mut SmallVec<usize, 6>) -> Result
     requires { HasBlocks starts.old.items (small_vec_len places.old) }
     ensures blocks { HasBlocks starts.new.items (small_vec_len places.new) }
     ensures room { OnOk result (HasRoomBehind starts.new.items places.new) }
-    ensures same { turned 1024 starts.new.items places.new.items ≡ turned 1024 starts.old.items places.old.items }
+    ensures same { turned starts.new.items places.new.items ≡ turned starts.old.items places.old.items }
 {
     let behind = places.len() - starts.len() * BLOCK;
     if places.len() == places.capacity() || behind == BLOCK {
@@ -168,7 +168,7 @@ fn grow(starts: &mut Vec<usize>, places: &mut SmallVec<usize, 6>) -> Result<(), 
     requires { HasBlocks starts.old.items (small_vec_len places.old) }
     ensures blocks { HasBlocks starts.new.items (small_vec_len places.new) }
     ensures room { OnOk result (HasRoomBehind starts.new.items places.new) }
-    ensures same { turned 1024 starts.new.items places.new.items ≡ turned 1024 starts.old.items places.old.items }
+    ensures same { turned starts.new.items places.new.items ≡ turned starts.old.items places.old.items }
 {
     places.reserve(1)?;
     if places.len() - starts.len() * BLOCK == BLOCK {
@@ -185,7 +185,7 @@ fn put(starts: &mut Vec<usize>, places: &mut SmallVec<usize, 6>, place: usize, k
     requires room { HasRoomBehind starts.old.items places.old }
     requires within { place ≤ small_vec_len places.old }
     ensures blocks { HasBlocks starts.new.items (small_vec_len places.new) }
-    ensures put { turned 1024 starts.new.items places.new.items ≡ insert (turned 1024 starts.old.items places.old.items) place key }
+    ensures put { turned starts.new.items places.new.items ≡ insert (turned starts.old.items places.old.items) place key }
 {
     if place / BLOCK >= starts.len() {
         put_plain(places, place, key);
@@ -201,7 +201,7 @@ fn put_within(starts: &mut Vec<usize>, places: &mut SmallVec<usize, 6>, place: u
     requires room { HasRoomBehind starts.old.items places.old }
     requires within { place < 1024 * length starts.old.items }
     ensures blocks { HasBlocks starts.new.items (small_vec_len places.new) }
-    ensures put { turned 1024 starts.new.items places.new.items ≡ insert (turned 1024 starts.old.items places.old.items) place key }
+    ensures put { turned starts.new.items places.new.items ≡ insert (turned starts.old.items places.old.items) place key }
 {
     let last = push_through(starts.as_mut_slice(), places.as_mut_slice(), place, key);
     put_plain(places, starts.len() * BLOCK, last);
@@ -211,7 +211,7 @@ fn put_within(starts: &mut Vec<usize>, places: &mut SmallVec<usize, 6>, place: u
 fn take_out(starts: &mut Vec<usize>, places: &mut SmallVec<usize, 6>, place: usize)
     requires { HasBlocks starts.old.items (small_vec_len places.old) }
     ensures blocks { HasBlocks starts.new.items (small_vec_len places.new) }
-    ensures taken { turned 1024 starts.new.items places.new.items ≡ remove (turned 1024 starts.old.items places.old.items) place }
+    ensures taken { turned starts.new.items places.new.items ≡ remove (turned starts.old.items places.old.items) place }
 {
     if place >= places.len() {
         return;
@@ -231,8 +231,8 @@ fn take_out(starts: &mut Vec<usize>, places: &mut SmallVec<usize, 6>, place: usi
 fn pop(starts: &mut Vec<usize>, places: &mut SmallVec<usize, 6>) -> Option<usize>
     requires { HasBlocks starts.old.items (small_vec_len places.old) }
     ensures blocks { HasBlocks starts.new.items (small_vec_len places.new) }
-    ensures last { turned 1024 starts.old.items places.old.items ≡ turned 1024 starts.new.items places.new.items ++ option_to_list result }
-    ensures none { IfNone result (turned 1024 starts.old.items places.old.items ≡ []) }
+    ensures last { turned starts.old.items places.old.items ≡ turned starts.new.items places.new.items ++ option_to_list result }
+    ensures none { IfNone result (turned starts.old.items places.old.items ≡ []) }
 {
     settle(starts, places);
     places.pop()
@@ -245,7 +245,7 @@ fn settle(starts: &mut Vec<usize>, places: &mut SmallVec<usize, 6>)
     ensures blocks { HasBlocks starts.new.items (small_vec_len places.new) }
     ensures len { small_vec_len places.new ≡ small_vec_len places.old }
     ensures behind { 0 < small_vec_len places.new → 1024 * length starts.new.items < small_vec_len places.new }
-    ensures same { turned 1024 starts.new.items places.new.items ≡ turned 1024 starts.old.items places.old.items }
+    ensures same { turned starts.new.items places.new.items ≡ turned starts.old.items places.old.items }
     ensures capacity { places.new.capacity ≡ places.old.capacity }
 {
     if places.len() == starts.len() * BLOCK {
@@ -260,7 +260,7 @@ fn settle(starts: &mut Vec<usize>, places: &mut SmallVec<usize, 6>)
 #[inline(always)]
 fn key_at(starts: &[usize], places: &[usize], at: usize) -> Option<usize>
     requires { HasBlocks starts.now (length places.now) }
-    ensures { result ≡ slice_get (turned 1024 starts.now places.now) at }
+    ensures { result ≡ slice_get (turned starts.now places.now) at }
 {
     if at >= places.len() {
         return None;
@@ -278,8 +278,8 @@ fn push_through(starts: &mut [usize], places: &mut [usize], place: usize, key: u
     requires within { place < 1024 * length starts.old }
     ensures blocks { HasBlocks starts.new (length places.new) }
     ensures len { (length starts.new ≡ length starts.old) × (length places.new ≡ length places.old) }
-    ensures put { insert (turned 1024 starts.new places.new) (1024 * length starts.new) result
-        ≡ insert (turned 1024 starts.old places.old) place key }
+    ensures put { insert (turned starts.new places.new) (1024 * length starts.new) result
+        ≡ insert (turned starts.old places.old) place key }
 {
     let mut block = place / BLOCK;
     let mut carried = open_at(starts, places, block, place % BLOCK, key);
@@ -297,8 +297,8 @@ fn pull_through(starts: &mut [usize], places: &mut [usize], place: usize, key: u
     requires within { place < 1024 * length starts.old }
     ensures blocks { HasBlocks starts.new (length places.new) }
     ensures len { (length starts.new ≡ length starts.old) × (length places.new ≡ length places.old) }
-    ensures taken { insert (turned 1024 starts.new places.new) place result
-        ≡ insert (turned 1024 starts.old places.old) (1024 * length starts.old) key }
+    ensures taken { insert (turned starts.new places.new) place result
+        ≡ insert (turned starts.old places.old) (1024 * length starts.old) key }
 {
     let first = place / BLOCK;
     let mut block = starts.len() - 1;
@@ -322,8 +322,8 @@ fn open_at(
     requires within { (block < length starts.old) × (place < 1024) }
     ensures blocks { HasBlocks starts.new (length places.new) }
     ensures len { (length starts.new ≡ length starts.old) × (length places.new ≡ length places.old) }
-    ensures put { insert (turned 1024 starts.new places.new) (1024 * suc block) result
-        ≡ insert (turned 1024 starts.old places.old) (1024 * block + place) key }
+    ensures put { insert (turned starts.new places.new) (1024 * suc block) result
+        ≡ insert (turned starts.old places.old) (1024 * block + place) key }
 {
     let low = block * BLOCK;
     let keys = &mut places[low..low + BLOCK];
@@ -356,8 +356,8 @@ fn close_at(
     requires within { (block < length starts.old) × (place < 1024) }
     ensures blocks { HasBlocks starts.new (length places.new) }
     ensures len { (length starts.new ≡ length starts.old) × (length places.new ≡ length places.old) }
-    ensures taken { insert (turned 1024 starts.new places.new) (1024 * block + place) result
-        ≡ insert (turned 1024 starts.old places.old) (1024 * suc block) key }
+    ensures taken { insert (turned starts.new places.new) (1024 * block + place) result
+        ≡ insert (turned starts.old places.old) (1024 * suc block) key }
 {
     let low = block * BLOCK;
     let keys = &mut places[low..low + BLOCK];
@@ -385,8 +385,8 @@ fn push_in_front(starts: &mut [usize], places: &mut [usize], block: usize, key: 
     requires within { block < length starts.old }
     ensures blocks { HasBlocks starts.new (length places.new) }
     ensures len { (length starts.new ≡ length starts.old) × (length places.new ≡ length places.old) }
-    ensures put { insert (turned 1024 starts.new places.new) (1024 * suc block) result
-        ≡ insert (turned 1024 starts.old places.old) (1024 * block) key }
+    ensures put { insert (turned starts.new places.new) (1024 * suc block) result
+        ≡ insert (turned starts.old places.old) (1024 * block) key }
 {
     let low = block * BLOCK;
     let keys = &mut places[low..low + BLOCK];
@@ -404,8 +404,8 @@ fn pull_from_front(starts: &mut [usize], places: &mut [usize], block: usize, key
     requires within { block < length starts.old }
     ensures blocks { HasBlocks starts.new (length places.new) }
     ensures len { (length starts.new ≡ length starts.old) × (length places.new ≡ length places.old) }
-    ensures taken { insert (turned 1024 starts.new places.new) (1024 * block) result
-        ≡ insert (turned 1024 starts.old places.old) (1024 * suc block) key }
+    ensures taken { insert (turned starts.new places.new) (1024 * block) result
+        ≡ insert (turned starts.old places.old) (1024 * suc block) key }
 {
     let low = block * BLOCK;
     let keys = &mut places[low..low + BLOCK];

@@ -22,6 +22,6 @@ returns-in-Some-clause-same c =
     let all : length places ≡ low + 1024 = omega (arith, c.if-len.true, c.len.ensures.value, c.len-2.ensures, is, one_less) in
     let block_len : length block ≡ 1024 = c.rotate_left.ensures.len ∙ length-block lent n (n + 1) (omega arith) (omega (arith, all, ap length same)) in
     let whole : length (put_mid low k lent block) ≡ length places = length-over low k lent block (omega (arith, all, ap length same)) (omega (arith, block_len)) ∙ ap length same in
-    ap (turned 1024 starts) (refilled places (put_mid low k lent block) (length places) whole refl ∙ ap (λ ks. put_mid low k ks block) same)
-    ∙ settled 1024 starts start places block low k (omega (arith, is)) (omega arith) (omega (arith, all)) (c.rotate_left.ensures.after ∙ ap (λ ks. turn start (take k (drop low ks))) same)
-    ∙ ap (λ ss. turned 1024 ss places) (sym was)
+    ap (turned starts) (refilled places (put_mid low k lent block) (length places) whole refl ∙ ap (λ ks. put_mid low k ks block) same)
+    ∙ settled starts start places block low k (omega (arith, is)) (omega arith) (omega (arith, all)) (c.rotate_left.ensures.after ∙ ap (λ ks. turn start (take k (drop low ks))) same)
+    ∙ ap (λ ss. turned ss places) (sym was)
