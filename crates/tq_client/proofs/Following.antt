@@ -10,50 +10,12 @@ use Rattle.tq_txn.specs.declared.asker.ViewTold.{ViewTold}
 use Rattle.tq_txn.specs.declared.fault.LineFault.{LineFault}
 use Rattle.tq_txn.specs.declared.fault.LineFault.TheVariants as faults
 use Rattle.tq_txn.specs.Dialogue.{Dialogue, Ends, AsksNode, AsksDesk, AsksView, Begins, Follows, LineEnd, then_line, ended_by, line_result}
-use Rattle.tq_txn.proofs.LineLaws.{follows_end, follows_node, follows_desk, follows_view}
+use Rattle.tq_txn.proofs.LineLaws.{begins_then, follows_end, follows_node, follows_desk, follows_then, follows_view}
 use Rattle.std.proofs.lemmas.List.{drop_more, at_drop_all}
 use Rattle.tq_shape.specs.Tree.{Server, IsServer}
 use Rattle.tq_live.specs.View.{is_server}
 use Rattle.tq_syntax.specs.declared.script.Line.{Line}
 use Rattle.tq_client.specs.Script.{leaving, passed, was_answered, is_answered, server_marked, mark_asked, closing, line_asked, script_asked}
-
-behind : (old mid first : List Exchange) (entry : Exchange) (told : List Exchange) → mid ≡ old ++ told → told ≡ entry ∷ first → mid ≡ (old ++ entry ∷ []) ++ first
-behind old mid first entry told grown is = grown ∙ ap (λ t. old ++ t) is ∙ sym (append_assoc old (entry ∷ []) first)
-
--- a part that ended, and the rest
-pub follows_then : {A B : Type 0} (line : Dialogue A) (next : A → Dialogue B) (a : A) (old mid new : List Exchange) (end : Option B) → Follows line old mid (Some a) → Follows (next a) mid new end → Follows (then_line line next) old new end
-follows_then {A} {B} (Ends x) next a old mid new end first rest =
-    let same : mid ≡ old = first.1 ∙ ap (λ t. old ++ t) first.2.0 ∙ append-nil old in
-    let P : A → Type 0 = λ y. Follows (next y) mid new end in
-    let Q : List Exchange → Type 0 = λ t. Follows (next x) t new end in
-    subst Q same (subst P first.2.1 rest)
-follows_then (AsksNode server ask more) next a old mid new end first rest =
-    let entry = exchanges.Node server ask first.2.0 in
-    follows_node server ask (λ answer. then_line (more answer) next) first.2.0 old (old ++ entry ∷ []) new end refl
-    (follows_then (more first.2.0) next a (old ++ entry ∷ []) mid new end (first.2.1, behind old mid first.2.1 entry first.0 first.1 first.2.2, first.2.3) rest)
-follows_then (AsksDesk ask more) next a old mid new end first rest =
-    let entry = exchanges.Desk ask first.2.0 in
-    follows_desk ask (λ answer. then_line (more answer) next) first.2.0 old (old ++ entry ∷ []) new end refl
-    (follows_then (more first.2.0) next a (old ++ entry ∷ []) mid new end (first.2.1, behind old mid first.2.1 entry first.0 first.1 first.2.2, first.2.3) rest)
-follows_then (AsksView ask more) next a old mid new end first rest =
-    let entry = exchanges.View ask first.2.0 in
-    follows_view ask (λ answer. then_line (more answer) next) first.2.0 old (old ++ entry ∷ []) new end refl
-    (follows_then (more first.2.0) next a (old ++ entry ∷ []) mid new end (first.2.1, behind old mid first.2.1 entry first.0 first.1 first.2.2, first.2.3) rest)
-
-begins_none : {A : Type 0} (line : Dialogue A) → Begins line []
-begins_none (Ends a) = refl
-begins_none (AsksNode server ask more) = inl refl
-begins_none (AsksDesk ask more) = inl refl
-begins_none (AsksView ask more) = inl refl
-
-begins_then : {A B : Type 0} (line : Dialogue A) (next : A → Dialogue B) (told : List Exchange) → Begins line told → Begins (then_line line next) told
-begins_then {A} {B} (Ends x) next told first = let Q : List Exchange → Type 0 = λ t. Begins (next x) t in subst Q (sym first) (begins_none (next x))
-begins_then (AsksNode server ask more) next told first =
-    elim first [ inl none ↦ inl none | inr some ↦ inr (some.0, some.1, some.2, begins_then (more some.0) next some.1 some.3) ]
-begins_then (AsksDesk ask more) next told first =
-    elim first [ inl none ↦ inl none | inr some ↦ inr (some.0, some.1, some.2, begins_then (more some.0) next some.1 some.3) ]
-begins_then (AsksView ask more) next told first =
-    elim first [ inl none ↦ inl none | inr some ↦ inr (some.0, some.1, some.2, begins_then (more some.0) next some.1 some.3) ]
 
 -- memory ran out in the first part
 pub follows_cut : {A B : Type 0} (line : Dialogue A) (next : A → Dialogue B) (old new : List Exchange) → Follows line old new None → Follows (then_line line next) old new None

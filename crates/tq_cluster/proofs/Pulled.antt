@@ -39,18 +39,6 @@ continues-grown old new parts.View (entries.View more) before =
     record { levels = before.levels; limits = before.limits; servers = before.servers; desk = before.desk; view = (before.view.0 ++ more, ap (λ l. l ++ more) before.view.1 ∙ append_assoc old.view before.view.0 more) }
 continues-grown old new part more before = before
 
-pub grown-levels : (prefixes : JournalsView) (part : Part) (more : Entries) → (grown prefixes part more).levels ≡ prefixes.levels
-grown-levels prefixes (parts.Server number) (entries.Server more) = refl
-grown-levels prefixes parts.Desk (entries.Desk more) = refl
-grown-levels prefixes parts.View (entries.View more) = refl
-grown-levels prefixes part more = refl
-
-pub grown-limits : (prefixes : JournalsView) (part : Part) (more : Entries) → (grown prefixes part more).limits ≡ prefixes.limits
-grown-limits prefixes (parts.Server number) (entries.Server more) = refl
-grown-limits prefixes parts.Desk (entries.Desk more) = refl
-grown-limits prefixes parts.View (entries.View more) = refl
-grown-limits prefixes part more = refl
-
 -- ---- what was seen of the parts before
 
 -- another server's prefix, and what was seen of it, is as it was

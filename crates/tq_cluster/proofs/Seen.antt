@@ -1,7 +1,7 @@
 -- What a caller has seen of servers.
-use Rattle.std.proofs.Common.{◌≡◌, ◌≤◌, ◌<◌, ◌+◌, ◌-◌, ◌^◌, ℕ, zero, suc, List, [], ◌∷◌, ◌++◌, length, map, max, set, get_or, replicate, refl, sym, ap, subst, ◌∙◌, arith}
-use Rattle.std.proofs.lemmas.List.{length-map, map-set, map-append, get_or-map, get_or-set_same, set-get_or, replicate_more}
-use Rattle.std.specs.Prelude.{Result, Ok, Err, IfOk, IfErr, OnOk, OnErr}
+use Rattle.std.proofs.Common.{◌≡◌, ◌≤◌, ◌<◌, ◌+◌, ◌-◌, ◌^◌, ℕ, zero, suc, List, [], ◌∷◌, length, map, max, set, get_or, refl, sym, ap, subst, ◌∙◌, arith}
+use Rattle.std.proofs.lemmas.List.{length-map, map-set, get_or-map, get_or-set_same, set-get_or}
+use Rattle.std.specs.Prelude.{Result, Ok, Err, IfErr, OnOk, OnErr}
 use Rattle.tq_cells.specs.Passes.{Seen}
 use Rattle.tq_shape.specs.Tree.{IsServer}
 use Rattle.tq_shape.specs.declared.part.Part.{Part}
@@ -32,12 +32,6 @@ module _ {A R : Type 0} where
   -- of a server whose pass is as it was
   pub seen_before : (passes : List (Seen A R)) (place : ℕ) (pass : Seen A R) → place < length passes → pass ≡ get_or passes place pass → get_or (map (λ (p : Seen A R). p.seen) passes) place 0 ≡ pass.seen
   seen_before passes place pass less is = get_or-map (λ (p : Seen A R). p.seen) passes place pass 0 less ∙ ap (λ (p : Seen A R). p.seen) (sym is)
-
-  -- one more pass of a caller that was told nothing
-  pub one_more_unseen : (passes more : List (Seen A R)) (place : ℕ) (pass : Seen A R) → map (λ (p : Seen A R). p.seen) passes ≡ replicate place 0 → more ≡ passes ++ pass ∷ [] → pass.seen ≡ 0
-      → map (λ (p : Seen A R). p.seen) more ≡ replicate (place + 1) 0
-  one_more_unseen passes more place pass unseen grown none =
-      ap (map (λ (p : Seen A R). p.seen)) grown ∙ map-append (λ (p : Seen A R). p.seen) passes (pass ∷ []) ∙ (λ i. unseen i ++ none i ∷ []) ∙ replicate_more place 0
 
 -- a caller with these passes
 abbrev pub seeing : ℕ → List Exchange → List (Seen NodeAsk NodeReply) → ℕ → ℕ → CallerView
@@ -167,13 +161,6 @@ sees-on-after first old new there before (seen, less, same) part =
     subst (λ (c : CallerView). seen_of first part ≤ seen_of c part) (sym same) (omega (arith, more, grown))
 
 -- ---- what a call answered, said otherwise
-
-pub on_ok : {T E : Type 0} (P Q : Type 0) (r : Result T E) → (P → Q) → OnOk r P → OnOk r Q
-on_ok P Q (Ok x) f is = f is
-on_ok P Q (Err e) f is = tt
-
-pub if_ok : {T E : Type 0} (P : T → Type 0) (r : Result T E) (x : T) → r ≡ Ok x → IfOk r P → P x
-if_ok {T} {E} P r x is holds = subst (λ (q : Result T E). IfOk q P) is holds
 
 pub memory_fault : {T : Type 0} (prefixes : JournalsView) (part : Part) (seen : ℕ) (r : Result T PullFault) → IfErr r (λ f. f ≡ faults.Memory)
     → IfErr r (λ f. (more : Entries) × IsPullFault prefixes part more seen f)

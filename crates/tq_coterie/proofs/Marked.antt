@@ -179,12 +179,6 @@ pub record IsLastMark (marks : List ℕ) (limit server : ℕ) : Type 0 where
   pub below : server < limit
   pub last : (other : ℕ) → server < other → other < limit → is_marked marks other ≡ false
 
-pub looked-none : (marks : List ℕ) (limit place word : ℕ) → 0 < limit → IsLookedAt marks limit place word → word ≡ 0 → place ≡ 0 → IsLastMark marks limit 0
-looked-none marks limit place word some looked empty first = record {
-  below = some;
-  last = λ other above under. none-from marks limit place word other looked empty (omega (arith, first)) under;
-}
-
 pub looked-last : (marks : List ℕ) (limit place word : ℕ) → IsLookedAt marks limit place word → 0 < word → word < 2 ^ 64 → IsLastMark marks limit (64 * place + (63 - count_leading_zeros 64 word))
 looked-last marks limit place word looked some small =
     let top = leading_top 64 word some small in

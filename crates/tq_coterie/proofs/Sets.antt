@@ -159,39 +159,3 @@ joined-nil low (x ∷ xs) up = rw (joined-nil x xs up.1) (with_server-first x xs
     with_server-first : (x : ℕ) (xs : List ℕ) → Ascends x xs → with_server x xs ≡ x ∷ xs
     with_server-first x [] up = refl
     with_server-first x (y ∷ ys) up = rw (lt-ltb x y up.0) refl
-
--- ---- joining is associative
-
-with_server_comm : (a b : ℕ) (xs : List ℕ) → a < b → with_server a (with_server b xs) ≡ with_server b (with_server a xs)
-with_server_comm a b [] less = rw (lt-ltb a b less, le-ltb b a (omega arith)) refl
-with_server_comm a b (x ∷ xs) less =
-    elim (cases_lt b x) [
-      | inl b_x ↦
-          let a_x : a < x = omega arith in
-          rw (lt-ltb b x b_x, lt-ltb a x a_x, lt-ltb a b less, le-ltb b a (omega arith), lt-ltb b x b_x) refl
-      | inr x_b ↦
-          elim (cases_lt a x) [
-            | inl a_x ↦ rw (le-ltb b x x_b, lt-ltb a x a_x, le-ltb b a (omega arith), le-ltb b x x_b) refl
-            | inr x_a ↦ rw (le-ltb b x x_b, le-ltb a x x_a, le-ltb b x x_b, with_server_comm a b xs less) refl
-          ]
-    ]
-
-pub with_server_swap : (a b : ℕ) (xs : List ℕ) → with_server a (with_server b xs) ≡ with_server b (with_server a xs)
-with_server_swap a b xs =
-    elim (cases_order a b) [
-      | inl e ↦ rw e refl
-      | inr (inl less) ↦ with_server_comm a b xs less
-      | inr (inr more) ↦ sym (with_server_comm b a xs more)
-    ]
-
-pub joined-with_server : (a : ℕ) (xs ys : List ℕ) → joined (with_server a xs) ys ≡ with_server a (joined xs ys)
-joined-with_server a [] ys = refl
-joined-with_server a (x ∷ xs) ys =
-    elim (cases_lt a x) [
-      | inl less ↦ rw (lt-ltb a x less) refl
-      | inr more ↦ rw (le-ltb a x more, joined-with_server a xs ys) (with_server_swap x a (joined xs ys))
-    ]
-
-pub joined_assoc : (xs ys zs : List ℕ) → joined (joined xs ys) zs ≡ joined xs (joined ys zs)
-joined_assoc [] ys zs = refl
-joined_assoc (x ∷ xs) ys zs = joined-with_server x (joined xs ys) zs ∙ ap (with_server x) (joined_assoc xs ys zs)

@@ -1,6 +1,5 @@
 -- What a desk keeps, after a legal journal, is what the journal says.
-use Rattle.std.specs.declared.alloc.AllocError.{AllocError}
-use Rattle.std.specs.Prelude.{IfOk, OnOk, Result, Ok, Err, not, nat_lt, nat_le, ◌&&◌}
+use Rattle.std.specs.Prelude.{not, nat_lt, nat_le, ◌&&◌}
 use Rattle.std.proofs.Common.{◌≡◌, ℕ, ◌+◌, ◌++◌, Bool, true, false, cond, nat_eq, List, [], ◌∷◌, length, Option, Some, None, refl, sym, ap, subst, ◌∙◌, arith}
 use Rattle.std.specs.FinMap as fin
 use Rattle.std.specs.Cmp.{nat_cmp_total, unsigned_ties}
@@ -144,12 +143,6 @@ answers old new ask reply replied stood bounds journal legal stands =
       legal = (is, legal);
       stands = stood ∙ ap (λ d. desk_after d ask) stands;
     }
-
--- and where it is a reply at all
-pub answered : (old new : DeskView) (ask : DeskAsk) (result : Result DeskReply AllocError) → IfOk result (λ reply. reply ≡ desk_reply old ask) → OnOk result (new ≡ desk_after old ask)
-    → IfOk result (λ reply. (bounds : DeskBounds) (journal : List DeskEntry) → IsLegalDesk bounds journal → old ≡ desk_state bounds journal → AnswersByLog old new ask reply bounds journal)
-answered old new ask (Ok reply) replied stood = answers old new ask reply replied stood
-answered old new ask (Err memory) replied stood = tt
 
 -- ---- an end once recorded stays
 

@@ -92,7 +92,7 @@ cited-is a b same =
 cited-self : (a : CitedVote) → same_cited a a ≡ true
 cited-self a = and_from (a.server == a.server) (a.number == a.number) (eq-eqb a.server a.server refl) (eq-eqb a.number a.number refl)
 
-verdict-is : (a b : Verdict) → same_verdict a b ≡ true → a ≡ b
+pub verdict-is : (a b : Verdict) → same_verdict a b ≡ true → a ≡ b
 verdict-is verdicts.Abort verdicts.Abort same = refl
 verdict-is (verdicts.Commit votes) (verdicts.Commit others) same = ap (λ v. verdicts.Commit v) (list-is same_cited cited-is votes others same)
 verdict-is verdicts.Abort (verdicts.Commit others) same = absurd (false≢true same)

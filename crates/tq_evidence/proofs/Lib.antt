@@ -4,3 +4,4 @@ pub mod Merging
 pub mod Halving
 pub mod Sorting
 pub mod StableSort
+pub mod NameTable

@@ -1,6 +1,6 @@
 -- The locks that a vote lists, put in a table by file: for each file the least number that it is held since.
-use Rattle.std.specs.Prelude.{◌≡◌, ℕ, Bool, false, nat_le, min, List, fold, Option, Some, None, refl}
-use Rattle.std.specs.Coded.{Coded, code_by, coded×, coded_list, coded_ℕ}
+use Rattle.std.specs.Prelude.{◌≡◌, ℕ, Bool, false, nat_le, min, List, fold, Option, Some, None}
+use Rattle.std.specs.Coded.{Coded, coded_list, coded_ℕ}
 use Rattle.std.specs.FinMap as fin
 use Rattle.tq_store.specs.Copies.{name_cmp}
 use Rattle.tq_asks.specs.declared.ask.HeldLock.{HeldLock}
@@ -8,16 +8,8 @@ use Rattle.tq_asks.specs.declared.ask.HeldLock.{HeldLock}
 abbrev pub LeastSince : Type 0
 LeastSince = fin.FinMap name_cmp ℕ
 
--- the table, and how many more files fit with no memory asked for
-pub record HeldView : Type 0 where
-  pub least : LeastSince
-  pub room : ℕ
-
 abbrev pub least_code : Coded LeastSince
 least_code = fin.code (coded_list coded_ℕ) coded_ℕ
-
-abbrev pub held_view_code : Coded HeldView
-held_view_code = code_by (LeastSince × ℕ) (coded× least_code coded_ℕ) (λ v. (v.least, v.room)) (λ p. record { least = p.0; room = p.1 }) (λ _. refl)
 
 -- the least of a number known and one more
 abbrev pub lesser : Option ℕ → ℕ → ℕ

@@ -1,7 +1,6 @@
 -- How a line ends, whatever the parts may tell; and so in any world.
-use Rattle.std.proofs.Common.{◌≡◌, ℕ, Option, Some, None, Result, Ok, Err, refl, sym, subst}
+use Rattle.std.proofs.Common.{ℕ, Option, Some, None, Result, Ok, Err, sym, subst}
 use Rattle.std.specs.Prelude.{IfSome}
-use Rattle.tq_shape.specs.Steps.{state_at}
 use Rattle.tq_shape.specs.declared.part.Part.TheVariants as parts
 use Rattle.tq_asks.specs.declared.ask.NodeAsk.{NodeAsk}
 use Rattle.tq_asks.specs.declared.ask.NodeReply.{NodeReply}
@@ -15,10 +14,8 @@ use Rattle.tq_txn_states.specs.declared.fault.TxnFault.{TxnFault}
 use Rattle.tq_txn_states.specs.declared.told.NodeTold.{NodeTold}
 use Rattle.tq_txn_states.specs.declared.told.DeskTold.{DeskTold}
 use Rattle.tq_tables.specs.Journals.{JournalsView}
-use Rattle.tq_world.specs.declared.answer.Refusal.{Refusal}
-use Rattle.tq_world.specs.declared.answer.Step.{Step}
 use Rattle.tq_world.specs.declared.answer.Step.TheVariants as steps
-use Rattle.tq_world.specs.Steps.{refusal, grown, world_after}
+use Rattle.tq_world.specs.Steps.{world_after}
 use Rattle.tq_txn.specs.declared.asker.ViewTold.{ViewTold}
 use Rattle.tq_txn.specs.declared.fault.LineFault.{LineFault}
 use Rattle.tq_txn.specs.Dialogue.{Told, Dialogue, LineEnd, Ends, AsksNode, AsksDesk, AsksView, then_line, and_then, go_on, unless, fault_of_ask, node_line, desk_line, view_line}
@@ -26,6 +23,7 @@ use Rattle.tq_txn.specs.Lines.{any_line}
 use Rattle.tq_interpreter.specs.Asking.{run_line, node_told, desk_told, view_told}
 use Rattle.tq_interpreter.specs.PossibleTxn.{IsOfOwn, IsPossible}
 use Rattle.tq_interpreter.proofs.Replies.{IsUntaken, IsToldAs, IsNodeReply, IsDeskReply, IsViewReply, node_tells, desk_tells, view_tells}
+use Rattle.tq_interpreter.proofs.Recording.{levels_after}
 
 -- whatever the parts of a tree of those levels may tell, the line ends so
 abbrev pub EndsIn : {A : Type 0} → ℕ → (A → Type 0) → Dialogue A → Type 0
@@ -35,18 +33,6 @@ EndsIn levels P (AsksDesk ask next) = (answer : Told DeskReply) → IsToldAs (λ
 EndsIn levels P (AsksView ask next) = (answer : Told ViewReply) → IsToldAs (λ reply. IsViewReply levels reply ask) answer → EndsIn levels P (next answer)
 
 -- ---- in any world
-
-levels_grown : (world : JournalsView) (step : Step) → (grown world step).levels ≡ world.levels
-levels_grown world (steps.Node server ask) = refl
-levels_grown world (steps.Desk ask) = refl
-levels_grown world (steps.View ask) = refl
-
-levels_after : (world : JournalsView) (step : Step) → (world_after world step).levels ≡ world.levels
-levels_after world step = by (refusal world step)
-  where
-    by : (r : Option Refusal) → (state_at r world (grown world step)).levels ≡ world.levels
-    by None = levels_grown world step
-    by (Some reason) = refl
 
 pub ends_so : {A : Type 0} (P : A → Type 0) (line : Dialogue A) (world : JournalsView) → EndsIn world.levels P line → P (run_line world line).end
 ends_so P (Ends a) world is = is

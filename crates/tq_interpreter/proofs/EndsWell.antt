@@ -58,6 +58,7 @@ use Rattle.tq_txn.specs.States.{number_of}
 use Rattle.tq_interpreter.specs.PossibleTxn.{IsOfOwn, IsPossible}
 use Rattle.tq_interpreter.proofs.Replies.{IsWorkReply, IsDeskReply, IsViewReply, refuse_all, refuse_for_all, or_else_all}
 use Rattle.tq_interpreter.proofs.EndsIn.{EndsIn, Answers, IsWell, Any, ends_and, ends_unless, ends_node, ends_desk, ends_view, any_ends}
+use Rattle.tq_txn.proofs.GrantLaws.{none_found}
 
 -- ---- a quorum from the view
 
@@ -202,14 +203,6 @@ grants_well kind mode fit old now file told is =
 
 -- ---- read and write
 
-none_any : {A : Type 0} (p : A → Bool) (xs : List A) → find p xs ≡ None → list_any p xs ≡ false
-none_any p [] none = refl
-none_any p (x ∷ xs) none =
-    elim (p x) as (λ b. cond b (Some x) (find p xs) ≡ None → (b || list_any p xs) ≡ false) [
-      | true ↦ λ e. absurd cc
-      | false ↦ λ e. none_any p xs e
-    ] none
-
 unused : (ops : List Op) (file : List ℕ) → list_any (writes_file file) ops ≡ false → list_any (is_read_of file) ops ≡ false → is_used ops file ≡ false
 unused [] file w r = refl
 unused (op ∷ ops) file w r =
@@ -229,7 +222,7 @@ read_ends levels file told old now is free =
 
 free_of : (old : OpenView) (file : List ℕ) → pending old file ≡ None → seen old file ≡ None → is_used old.ops file ≡ false
 free_of old file unwritten unread =
-    unused old.ops file (none_any (writes_file file) old.ops (map-none (λ (op : Op). op.content) (written old file) unwritten)) (none_any (is_read_of file) old.ops unread)
+    unused old.ops file (none_found (writes_file file) old.ops (map-none (λ (op : Op). op.content) (written old file) unwritten)) (none_found (is_read_of file) old.ops unread)
 
 first_read_ends : (old : OpenView) (file : List ℕ) → is_used old.ops file ≡ false → EndsIn old.levels (IsWell Any) (first_read old file)
 first_read_ends old file free = by (has_all_ops old)
@@ -269,7 +262,7 @@ write_well old file content = by (written old file) refl
   where
     by : (op : Option Op) → written old file ≡ op → EndsIn old.levels (IsWell Any) (written_again op (rewritten old file content) (first_write old file content))
     by (Some op) p = tt
-    by None p = first_write_ends old file content (none_any (writes_file file) old.ops p)
+    by None p = first_write_ends old file content (none_found (writes_file file) old.ops p)
 
 -- ---- votes
 

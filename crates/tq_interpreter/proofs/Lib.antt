@@ -1,6 +1,5 @@
 mod Leading
 mod Recording
-mod Servers
 mod Answered
 mod Replies
 mod EndsIn

@@ -83,10 +83,6 @@ jobs_on all end old after mended job jobs refreshed ends leads is there =
       ap (λ w. (run_line w (next refreshed)).after) there ∙ ap (λ r. (run_line (run_line old (mends_asked job)).after (next r)).after) is ∙ sym (then_after (mends_asked job) next old) ∙ leads,
     )
 
--- jobs that lead on lead on through those that they lead to
-pub leads_through : {old middle new : JournalsView} {start halfway done : Mended} {jobs some left : List Job} → LeadsOn old start jobs middle halfway some → LeadsOn middle halfway some new done left → LeadsOn old start jobs new done left
-leads_through first second = record { end = second.end ∙ first.end; after = second.after ∙ first.after }
-
 -- the same jobs may be listed otherwise
 pub leads_from : {old new : JournalsView} {start done : Mended} {jobs some left : List Job} → some ≡ left → LeadsOn old start jobs new done some → LeadsOn old start jobs new done left
 leads_from {old = old} {new = new} {start = start} {done = done} {jobs = jobs} same leads = subst (λ (js : List Job). LeadsOn old start jobs new done js) same leads

@@ -95,10 +95,3 @@ pub record IsFit (text : List ℕ) : Type 0 where
   pub answer : text ≡ codes "bad answer" → ⊥
   pub server : text ≡ codes "no such server" → ⊥
   pub view : text ≡ codes "unfounded view 0" → ⊥
-
--- what was printed behind the text is such an answer, or such a fault
-pub record IsSaid (before after : List ℕ) : Type 0 where
-  pub saying : Saying
-  pub possible : CanCome saying
-  pub text : after ≡ before ++ printed (saying_text saying)
-  pub fit : IsFit (saying_text saying)

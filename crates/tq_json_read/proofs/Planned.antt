@@ -72,34 +72,6 @@ is_planned plan d e =
     ap (λ o. o >>= λ limits. parts plan d limits plan.limit) g.at_limits ∙ ap (parts plan d g.limits) (sym g.is_limit)
     ∙ sym (ap (λ o. o >>= λ number. journals_by number d) g.at_format ∙ ap (λ o. o >>= λ format. journals_in format d) g.is_format ∙ in_format plan.format d plan.levels g.limits g.at_levels g.at_limits)
 
--- ---- a file that gives no plan
-
-abbrev made : Format → ℕ → LimitsView → Option Plan
-made format levels limits = Some (record { format = format; levels = levels; limit = limits.entries })
-
-no_limits : (format : Format) (d : Data) (levels : ℕ) (o : Option LimitsView) → (o >>= λ limits. made format levels limits) ≡ None
-    → (o >>= λ limits. parts (record { format = format; levels = levels; limit = limits.entries }) d limits limits.entries) ≡ None
-no_limits format d levels None e = refl
-no_limits format d levels (Some limits) e = absurd (cc)
-
-no_levels : (format : Format) (d : Data) (o : Option ℕ) → (o >>= λ levels. limits_at d >>= λ limits. made format levels limits) ≡ None
-    → (o >>= λ levels. limits_at d >>= λ limits. parts (record { format = format; levels = levels; limit = limits.entries }) d limits limits.entries) ≡ None
-no_levels format d None e = refl
-no_levels format d (Some levels) e = no_limits format d levels (limits_at d) e
-
-no_format : (d : Data) (o : Option Format) → (o >>= λ format. levels_at format d >>= λ levels. limits_at d >>= λ limits. made format levels limits) ≡ None
-    → (o >>= λ format. journals_in format d) ≡ None
-no_format d None e = refl
-no_format d (Some format) e = no_levels format d (levels_at format d) e
-
-no_number : (d : Data) (o : Option ℕ) → (o >>= λ number. format_of number >>= λ format. levels_at format d >>= λ levels. limits_at d >>= λ limits. made format levels limits) ≡ None
-    → (o >>= λ number. journals_by number d) ≡ None
-no_number d None e = refl
-no_number d (Some number) e = no_format d (format_of number) e
-
-pub not_planned : (d : Data) → plan_of d ≡ None → journals_of d ≡ None
-not_planned d e = no_number d (number_at (codes "format") d) e
-
 -- ---- the journals are what the types hold
 
 pub planned-are-journals : (levels : ℕ) (fields : FileFields) (limits : LimitsView) (servers : List (List NodeEntry)) (desk : List DeskEntry) (view : List ViewEntry) → IsPlanned levels fields

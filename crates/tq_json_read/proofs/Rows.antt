@@ -6,14 +6,14 @@ use Rattle.std.proofs.lemmas.List.{length-append}
 use Rattle.json.specs.Token.{Token}
 use Rattle.json.specs.Json.{parse_map}
 use Rattle.serde_json.specs.Data.{Data, Items, no_items, item, Members, put}
-use Rattle.serde_json.specs.Find.{get_member, as_array}
+use Rattle.serde_json.specs.Find.{get_member}
 use Rattle.serde_json.proofs.Views.{get_member-put, get_member-put_other}
 use Rattle.std.specs.Str.{bytes_eq}
 use Rattle.std.proofs.lemmas.Slice.Eq.{bytes_eq-Decides}
 use Rattle.tq_json.specs.Next.{HasNoNames}
 use Rattle.tq_json.specs.Member.{◌>>=◌, each}
 use Rattle.tq_json.proofs.Listed.{with_front, no_front}
-use Rattle.tq_json_read.specs.Objects.{names_of, with, capped, listed}
+use Rattle.tq_json_read.specs.Objects.{names_of, with, capped}
 
 -- ---- items
 
@@ -94,9 +94,6 @@ still_fits None xs new a n full count h e pushed = refl
 still_fits (Some most) xs new a n full count h e pushed =
     let less : n < most = lt_of_not-le (λ le. false≢true (sym e ∙ h.1 le)) in
     fits_limit most new (omega (arith, less, count, ap length pushed, length-append xs (a ∷ [])))
-
-pub no_list : {A : Type 0} (form : Data → Option A) (most : Option ℕ) (d : Data) → as_array d ≡ None → None ≡ listed form most d
-no_list form most d e = sym (ap (λ o. o >>= λ values. capped most (each form values)) e)
 
 -- ---- members
 

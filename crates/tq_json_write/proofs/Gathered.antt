@@ -1,45 +1,15 @@
 -- Text that goes to a sink as it comes, step by step.
-use Rattle.std.proofs.Common.{◌≡◌, ◌-◌, ◌^◌, ◌<◌, ◌/◌, ◌%◌, ℕ, Bool, true, false, true≢false, Option, List, [], ◌∷◌, ◌++◌, slice_index, Result, Ok, Err, length, take, drop, refl, sym, ap, subst, ◌∙◌, arith, append_assoc}
+use Rattle.std.proofs.Common.{◌≡◌, ◌-◌, ◌/◌, ◌%◌, ℕ, Bool, true, false, true≢false, Option, List, [], ◌∷◌, ◌++◌, slice_index, Result, Ok, Err, length, take, drop, refl, sym, ap, subst, ◌∙◌, arith, append_assoc}
 use Rattle.std.proofs.lemmas.List.{append-nil, take-append-drop}
 use Rattle.std.proofs.Math.Seq.{take-append_seam}
 use Rattle.std.specs.Prelude.{is_err}
 use Rattle.std.specs.Io.KnownBytes.{Appends}
 use Rattle.hex.specs.Hex.{encode_with, encode_lower, lower_digits}
 use Rattle.tq_devices.specs.Faults.{IsWritten}
-use Rattle.tq_devices.proofs.Written.{Appends-none, Appends-then}
+use Rattle.tq_devices.proofs.Written.{Appends-then}
 use Rattle.tq_devices.specs.declared.fault.RunFault.{RunFault}
 use Rattle.tq_devices.specs.declared.fault.RunFault.TheVariants.{Memory, Read, Write, TooLong}
 use Rattle.tq_json_write.specs.Spilled.{Spill, IsSpilled, Settles, Spills, Ends, IsWrittenOut}
-
--- nothing was put, and the room is empty
-pub nothing : (taken : Option (List ℕ)) (failures : ℕ) → failures < 2 ^ 64 - 1 → IsSpilled taken failures (record { taken = taken; failures = failures; has_failed = false; room = [] }) []
-nothing taken failures few = record {
-  front = [];
-  rest = [];
-  whole = refl;
-  written = Appends-none taken;
-  kept = λ h. refl;
-  few = few;
-  counted = omega arith;
-}
-
--- once the sink has failed, what the room keeps does not count
-pub lost : (taken : Option (List ℕ)) (failures : ℕ) (room room_now : List ℕ) → Settles (record { taken = taken; failures = failures; has_failed = true; room = room }) (record { taken = taken; failures = failures; has_failed = true; room = room_now })
-lost taken failures room room_now = record {
-  after = λ first count text h. record {
-    front = h.front;
-    rest = h.rest;
-    whole = h.whole;
-    written = h.written;
-    kept = λ e. absurd (true≢false e);
-    few = h.few;
-    counted = h.counted;
-  };
-}
-
--- a sink that has failed so often has failed in writing this text too
-pub often : (taken : Option (List ℕ)) (failures : ℕ) (room : List ℕ) (new : Spill) → failures ≡ 2 ^ 64 - 1 → Settles (record { taken = taken; failures = failures; has_failed = false; room = room }) new
-often taken failures room new most = record { after = λ first count text h. absurd (omega (arith, most, h.few, h.counted)) }
 
 -- what the room keeps is written, or a front of it and the sink failed
 pub passed : (result : Result (Unit {0}) RunFault) (taken taken_now : Option (List ℕ)) (failures failures_now : ℕ) (room : List ℕ) → IsWritten result room taken taken_now failures failures_now

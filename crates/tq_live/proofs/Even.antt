@@ -1,32 +1,19 @@
 -- What is kept in a new tree, and in a copy.
-use Rattle.std.proofs.Common.{◌≡◌, ℕ, zero, suc, ◌+◌, ◌-◌, ◌*◌, ◌^◌, ◌<◌, ◌≤◌, Bool, true, false, Option, Some, None, IfSome, nat_lt, refl, sym, ap, subst, ◌∙◌, arith}
-use Rattle.tq_live.specs.Subtree.{Subtree, Alone, Over, leaves}
-use Rattle.tq_live.specs.Kept.{weight_over, weight_of, form_in, cache_of, other_weight, least_kept, form_kept, even}
+use Rattle.std.proofs.Common.{◌≡◌, ℕ, zero, suc, ◌+◌, ◌-◌, ◌*◌, ◌^◌, ◌<◌, ◌≤◌, true, false, Option, Some, None, IfSome, nat_lt, refl, sym, ap, subst, ◌∙◌, arith}
+use Rattle.tq_live.specs.Subtree.{Subtree, Over, leaves}
+use Rattle.tq_live.specs.Kept.{weight_over, weight_of, form_in, cache_of, other_weight, even}
 use Rattle.tq_live.specs.Form.{form_of}
 use Rattle.tq_live.specs.Below.{subtree_of, IsKept}
 use Rattle.tq_live.specs.Costs.{even_costs}
 use Rattle.tq_live.specs.declared.purpose.Purpose.{Purpose}
 use Rattle.tq_live.specs.declared.purpose.Purpose.TheVariants.{Read, Write}
-use Rattle.tq_live.specs.declared.costs.Costs.{Costs}
 use Rattle.tq_live.specs.declared.node.Below.{Below}
 use Rattle.tq_live.specs.declared.weight.Form.TheVariants.{WithLeft}
 use Rattle.tq_live.specs.declared.tree.cache.Cache.{Cache}
-use Rattle.tq_live.specs.declared.search_for.SearchFor.{SearchFor}
 use Rattle.tq_live.specs.declared.search_for.SearchFor.TheVariants.{Quorum, Blocker}
 use Rattle.tq_live.proofs.Weights.{IsAtMost}
 use Rattle.tq_live.proofs.Repair.{weight_of-blocker, over-at_most}
 use Rattle.tq_live.proofs.Gather.{leaves-even}
-
--- ---- what is read of a cache
-
-pub least_kept-is : (purpose : Purpose) (tree : Subtree) → least_kept purpose (cache_of tree) ≡ weight_of (Quorum purpose) tree
-least_kept-is Read tree = refl
-least_kept-is Write tree = refl
-
-pub form_kept-is : (sought : SearchFor) (tree : Subtree) → form_kept sought (cache_of tree) ≡ form_in sought tree
-form_kept-is (Quorum Read) tree = refl
-form_kept-is (Quorum Write) tree = refl
-form_kept-is Blocker tree = refl
 
 -- ---- a new tree
 
@@ -85,24 +72,9 @@ kept-even height below cache few is kept =
       small = subst (λ tree. leaves tree ≤ 512) (sym is) small;
     }
 
-pub even-alone : (height : ℕ) → height ≡ 0 → Alone (even_costs 1) true ≡ even height
-even-alone height e = rw e refl
-
 -- two equal sides below a server make a tree of one level more
 pub even-over : (height : ℕ) (left right : Subtree) → 0 < height → left ≡ even (height - 1) → right ≡ even (height - 1) → Over (even_costs 1) true left right ≡ even height
 even-over zero left right high e f = absurd (omega arith)
 even-over (suc height) left right high e f =
     let back : suc height - 1 ≡ height = omega arith in
     rw (e, f, back) refl
-
--- ---- a copy
-
-pub kept-copy : (costs : Costs) (up : Bool) (below copied : Below) (cache made : Cache) → subtree_of costs up copied ≡ subtree_of costs up below → made ≡ cache → IsKept costs up below cache → IsKept costs up copied made
-kept-copy costs up below copied cache made is same kept =
-    let Fits = λ (tree : Subtree). (purpose : Purpose) → IfSome (weight_of (Quorum purpose) tree) (λ w. w ≤ 1000000 * leaves tree) in
-    record {
-      kept = same ∙ (kept.kept ∙ ap cache_of (sym is));
-      bounded = kept.bounded;
-      fits = subst Fits (sym is) kept.fits;
-      small = subst (λ tree. leaves tree ≤ 512) (sym is) kept.small;
-    }

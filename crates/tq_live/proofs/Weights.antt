@@ -15,14 +15,6 @@ is_less-plus c None b = refl
 is_less-plus c (Some a) None = refl
 is_less-plus c (Some a) (Some b) = ltb-add c a b
 
-pub plus-lesser : (top a b : Option ℕ) → plus top (lesser a b) ≡ lesser (plus top a) (plus top b)
-plus-lesser None a b = refl
-plus-lesser (Some c) a b = rw (is_less-plus c b a) (either (is_less b a))
-  where
-    either : (less : Bool) → plus (Some c) (cond less b a) ≡ cond less (plus (Some c) b) (plus (Some c) a)
-    either true = refl
-    either false = refl
-
 -- the weight of a server, if it may be taken
 abbrev pub top_weight : (ℕ → ℕ) → (ℕ → Bool) → ℕ → Option ℕ
 top_weight cost allowed top = cond (allowed top) (Some (cost top)) None

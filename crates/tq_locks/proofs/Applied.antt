@@ -1,10 +1,12 @@
 -- What the methods of the kept locks find and leave.
-use Rattle.std.proofs.Common.{◌≡◌, ℕ, zero, suc, ◌==◌, Bool, true, false, cond, List, [], ◌∷◌, map, filter, length, Option, Some, None, IfNone, IfSome, Result, Ok, Err, OnErr, refl, ap, sym, subst, ◌∙◌, inl, inr, ◌<◌, ◌≤◌, ◌-◌, nat_eq, ltb, lt-ltb, ltb-true, get_or, arith}
+use Rattle.std.proofs.Common.{◌≡◌, ℕ, zero, suc, ◌==◌, Bool, true, false, cond, List, [], ◌∷◌, map, filter, length, Option, Some, None, IfNone, IfSome, Result, Ok, Err, OnErr, refl, ap, sym, subst, ◌∙◌, inl, inr, nat_eq, arith}
 use lib.Dec.{T}
 use mathlib.Core.Bool.{true≢false}
-use Rattle.std.proofs.lemmas.Bool.{cases_lt}
 use Rattle.std.proofs.lemmas.Bool.Decides.{nat_tests}
+use Rattle.std.proofs.lemmas.List.Sorted.{IsPermutation-map, length_permutation}
+use Rattle.std.proofs.lemmas.Map.Keys.{IsDistinct-IsPermutation}
 use Rattle.std.specs.FinMap as fin
+use Rattle.std.specs.List.Sorted.{IsPermutation}
 use Rattle.std.specs.FinMap.Entries.{find, is_sorted, below_all, is_sorted-where_key, find-where_key}
 use Rattle.std.specs.List.{insert, remove, slice_get, filter_map, cons_option, AllByRecursion, IsDistinct}
 use Rattle.std.proofs.lemmas.Cmp.{tied_itself}
@@ -21,7 +23,7 @@ use Rattle.tq_locks.specs.declared.mode.Mode.{Mode}
 use Rattle.tq_locks.specs.declared.mode.Lock.{Lock}
 use Rattle.tq_locks.specs.Locks.{LockKey, Locks, lock_cmp, held_of}
 use Rattle.tq_locks.specs.Keys.{place, keys_under, told}
-use Rattle.tq_locks.specs.Kept.{decided, on_file, lock_found, AreKeysOf, Agrees, IsOf, RisesTo}
+use Rattle.tq_locks.specs.Kept.{decided, on_file, lock_found, AreKeysOf, ListsKeysOf, HasOneKeyEach, Agrees, IsOf, RisesTo}
 use Rattle.tq_locks.proofs.LockMaps.{locks_total, locks_same}
 use Rattle.tq_locks.proofs.Found.{none_some, some_same, first, second, less, below_each, Has-looked_up}
 use Rattle.tq_locks.proofs.Placed.{turned}
@@ -152,23 +154,6 @@ key_at f [] (y ∷ xs) i x e h = absurd (nil_cons (Some y) (map Some xs) e)
 key_at f (k ∷ keys) (y ∷ xs) zero x e h = (k, refl, head_of (f k) (Some y) (map f keys) (map Some xs) e ∙ h)
 key_at f (k ∷ keys) (y ∷ xs) (suc i) x e h = key_at f keys xs i x (tail_of (f k) (Some y) (map f keys) (map Some xs) e) h
 
--- a look-up in a list, by an index that is in range
-pub within : (keys : List ℕ) (i k : ℕ) → slice_get keys i ≡ Some k → (i < length keys) × ((d : ℕ) → get_or keys i d ≡ k)
-within [] i k e = absurd (none_some k e)
-within (j ∷ keys) zero k e = (omega arith, λ d. some_same j k e)
-within (j ∷ keys) (suc i) k e = let r = within keys i k e in (omega (arith, r.0), r.1)
-
-pub in_range : (keys : List ℕ) (i k : ℕ) → slice_get keys i ≡ Some k → (ltb i (length keys) ≡ true) × ((d : ℕ) → get_or keys i d ≡ k)
-in_range keys i k e = let r = within keys i k e in (lt-ltb i (length keys) r.0, r.1)
-
-is_at_index : (keys : List ℕ) (i k : ℕ) → i < length keys → k ≡ get_or keys i k → slice_get keys i ≡ Some k
-is_at_index [] i k l e = absurd (omega (arith, l))
-is_at_index (j ∷ keys) zero k l e = ap Some (sym e)
-is_at_index (j ∷ keys) (suc i) k l e = is_at_index keys i k (omega (arith, l)) e
-
-pub looked_at : (keys : List ℕ) (i k : ℕ) → true ≡ ltb i (length keys) → k ≡ get_or keys i k → slice_get keys i ≡ Some k
-looked_at keys i k l e = is_at_index keys i k (ltb-true i (length keys) (sym l)) e
-
 pub Has-at : (keys : List ℕ) (i k : ℕ) → slice_get keys i ≡ Some k → Has keys k
 Has-at [] i k e = absurd (none_some k e)
 Has-at (j ∷ keys) zero k e = inl (some_same j k e)
@@ -258,7 +243,7 @@ all_other f k x (j ∷ keys) (y ∷ xs) e m t =
         let same : x ≡ y = some_same x y (sym e ∙ ap f one ∙ head_of (f j) (Some y) (map f keys) (map Some xs) m) in
         absurd (true≢false (ap is_lt (sym (less (lock_cmp x.0 y.0) (first (is_lt (lock_cmp x.0 y.0)) (below_all lock_cmp x.0 xs) t)) ∙ ap (λ (z : Entry). lock_cmp x.0 z.0) (sym same) ∙ tied_itself locks_total x.0)))
 
-pub distinct_keys : (f : ℕ → Option Entry) (keys : List ℕ) (xs : List Entry) → map f keys ≡ map Some xs → T (is_sorted lock_cmp xs) → IsDistinct nat_eq keys
+distinct_keys : (f : ℕ → Option Entry) (keys : List ℕ) (xs : List Entry) → map f keys ≡ map Some xs → T (is_sorted lock_cmp xs) → IsDistinct nat_eq keys
 unfolding IsDistinct
 distinct_keys f [] xs e t = tt
 distinct_keys f (k ∷ keys) [] e t = absurd (nil_cons (f k) (map f keys) (sym e))
@@ -267,27 +252,19 @@ distinct_keys f (k ∷ keys) (x ∷ xs) e t = (
   distinct_keys f keys xs (tail_of (f k) (Some x) (map f keys) (map Some xs) e) (second (below_all lock_cmp x.0 xs) (is_sorted lock_cmp xs) t),
 )
 
-pub as_many : (f : ℕ → Option Entry) (keys : List ℕ) (xs : List Entry) → map f keys ≡ map Some xs → length keys ≡ length xs
+as_many : (f : ℕ → Option Entry) (keys : List ℕ) (xs : List Entry) → map f keys ≡ map Some xs → length keys ≡ length xs
 as_many f [] [] e = refl
 as_many f [] (x ∷ xs) e = absurd (nil_cons (Some x) (map Some xs) e)
 as_many f (k ∷ keys) [] e = absurd (nil_cons (f k) (map f keys) (sym e))
 as_many f (k ∷ keys) (x ∷ xs) e = ap suc (as_many f keys xs (tail_of (f k) (Some x) (map f keys) (map Some xs) e))
 
--- a list with no last item is empty
-pub no_last : (keys : List ℕ) → slice_get keys (length keys - 1) ≡ None → keys ≡ []
-no_last [] h = refl
-no_last (k ∷ keys) h = absurd (by_last k keys h)
-  where
-    by_last : (k : ℕ) (keys : List ℕ) → slice_get (k ∷ keys) (length (k ∷ keys) - 1) ≡ None → ⊥
-    by_last k keys h = let e : length (k ∷ keys) - 1 ≡ length keys = omega arith in past k keys (ap (slice_get (k ∷ keys)) (sym e) ∙ h)
-      where
-        past : (k : ℕ) (keys : List ℕ) → slice_get (k ∷ keys) (length keys) ≡ None → ⊥
-        past k [] h = none_some k (sym h)
-        past k (j ∷ keys) h = past j keys h
+-- keys in another order are those of the same entries, each once
+pub lent : (slab : Slab Entry) (keys moved : List ℕ) (xs : List Entry) → IsPermutation keys moved → AreKeysOf slab keys xs → ListsKeysOf slab moved xs
+lent slab keys moved xs p e = subst (λ found. IsPermutation found (map (get slab) moved)) e (IsPermutation-map (get slab) keys moved p)
 
--- what holds below a place and from there on holds of all
-pub all_below : (P : ℕ → Type 0) (at end : ℕ) → ((k : ℕ) → k < at → P k) → ((k : ℕ) → end ≤ k → P k) → end ≤ at → (k : ℕ) → P k
-all_below P at end below above past k = elim (cases_lt k at) [
-  | inl less ↦ below k less
-  | inr more ↦ above k (omega (arith, more, past))
-]
+pub lent_once : (slab : Slab Entry) (keys moved : List ℕ) (xs : List Entry) → IsPermutation keys moved → AreKeysOf slab keys xs → T (is_sorted lock_cmp xs) → HasOneKeyEach moved xs
+lent_once slab keys moved xs p e t =
+    (IsDistinct-IsPermutation nat_eq flips keys moved p (distinct_keys (get slab) keys xs e t), length_permutation keys moved p ∙ as_many (get slab) keys xs e)
+  where
+    flips : (m n : ℕ) → nat_eq m n ≡ nat_eq n m
+    flips m n = grind (arith, nat_tests)

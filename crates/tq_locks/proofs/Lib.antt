@@ -14,6 +14,7 @@ pub mod TakenOut
 pub mod Indexed
 pub mod Asked
 pub mod Sinking
-pub mod Shifted
+pub mod Rings
+pub mod Blocks
 pub mod Listed
 pub mod Loosened

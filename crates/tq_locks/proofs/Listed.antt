@@ -1,9 +1,10 @@
 -- Keys that a list has.
-use Rattle.std.proofs.Common.{◌≡◌, ◌++◌, ℕ, nat_eq, suc, ◌≤◌, ◌||◌, Bool, false, ap, sym, length, Option, Some, None, true, List, [], ◌∷◌, refl, inl, inr, ◌⊎◌, arith}
+use Rattle.std.proofs.Common.{◌≡◌, ◌++◌, ℕ, nat_eq, zero, suc, ◌+◌, ◌≤◌, drop, ◌||◌, Bool, false, ap, sym, length, Option, Some, None, true, List, [], ◌∷◌, refl, ◌∙◌, inl, inr, ◌⊎◌, arith}
 use Rattle.std.proofs.lemmas.Bool.Decides.{nat_tests}
 use mathlib.Core.Bool.{true≢false}
-use Rattle.std.specs.List.{list_any, filter_map, cons_option}
+use Rattle.std.specs.List.{list_any, filter_map, cons_option, slice_get}
 use Rattle.tq_shape.specs.Journal.{Has}
+use Rattle.tq_locks.proofs.Found.{none_some, some_same}
 
 pub Has-more : (xs ys : List ℕ) (k : ℕ) → Has xs k → Has (xs ++ ys) k
 Has-more [] ys k h = absurd h
@@ -43,6 +44,14 @@ any-Has (x ∷ xs) k h = by_test (nat_eq k x) refl h (any-Has xs k)
     by_test : (b : Bool) → nat_eq k x ≡ b → b || list_any (nat_eq k) xs ≡ true → (list_any (nat_eq k) xs ≡ true → Has xs k) → Has (x ∷ xs) k
     by_test true e h next = inl (sym (equal k x e))
     by_test false e h next = inr (next h)
+
+-- what is told from a place on is what the key there tells, and what is told behind it
+pub told-at : {B : Type 0} (f : ℕ → Option B) (keys : List ℕ) (at key : ℕ) → slice_get keys at ≡ Some key → filter_map f (drop at keys) ≡ cons_option (f key) (filter_map f (drop (at + 1) keys))
+told-at f [] at key e = absurd (none_some key e)
+told-at f (k ∷ keys) zero key e = ap (λ k. cons_option (f k) (filter_map f keys)) (some_same k key e)
+told-at f (k ∷ keys) (suc at) key e =
+    let next : suc (at + 1) ≡ suc at + 1 = omega arith in
+    told-at f keys at key e ∙ ap (λ n. cons_option (f key) (filter_map f (drop n (k ∷ keys)))) next
 
 -- no more are told of than are listed
 pub told_most : {A B : Type 0} (f : A → Option B) (xs : List A) → length (filter_map f xs) ≤ length xs

@@ -35,25 +35,6 @@ inserted_lists old new keys key e lists u has k loose = elim (cases_eq k key) [
 ]
 
 module _ (old new : Slab Entry) (key : ℕ) (lock : Lock) (put : (k : ℕ) → get new k ≡ with_lock old key lock k) where
-  pub put_updates : (entry : Entry) → get old key ≡ Some entry → Updates old new key (Some (entry.0, lock))
-  put_updates entry at = record {
-    changed = put key ∙ ap (λ b. cond b (option_map (λ (e : Entry). (e.0, lock)) (get old key)) (get old key)) (itself key) ∙ ap (option_map (λ (e : Entry). (e.0, lock))) at;
-    others = λ k other. put k ∙ ap (λ b. cond b (option_map (λ (e : Entry). (e.0, lock)) (get old k)) (get old k)) (apart k other);
-  }
-    where
-      itself : (n : ℕ) → (n == n) ≡ true
-      itself n = grind (arith, nat_tests)
-
-      apart : (k : ℕ) → k ≢ key → (k == key) ≡ false
-      apart k other = by_test (k == key) refl
-        where
-          by_test : (b : Bool) → (k == key) ≡ b → b ≡ false
-          by_test false e = refl
-          by_test true e = absurd (other (same e))
-            where
-              same : (k == key) ≡ true → k ≡ key
-              same h = grind (arith, nat_tests)
-
   pub put_lists : (keys : List ℕ) → ListsLoose old keys → ((entry : Entry) → get old key ≡ Some entry → lock.stable ≡ entry.1.stable) → ListsLoose new keys
   put_lists keys lists as_stable k loose = elim (cases_eq k key) [
     | inl one ↦ by_look one (get old key) refl

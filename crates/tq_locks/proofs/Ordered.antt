@@ -1,9 +1,7 @@
 -- A tree's entries, which rise by their keys, and the finite map that contracts see.
-use Rattle.std.proofs.Common.{◌≡◌, Bool, true, false, cond, ◌&&◌, List, [], ◌∷◌, Option, Some, None, filter, refl, ap, sym, subst, ◌∙◌}
+use Rattle.std.proofs.Common.{◌≡◌, Bool, true, false, cond, ◌&&◌, List, [], ◌∷◌, Some, None, filter, refl, ap, sym, subst, ◌∙◌}
 use lib.Dec.{T}
-use Rattle.std.proofs.lemmas.Map.Entries.{lookup-filter-keys, lookup-filter-values, option_filter}
-use Rattle.std.proofs.lemmas.Map.Keys.{IsDistinct-from_sorted}
-use Rattle.std.specs.Option.{option_map_or}
+use Rattle.std.proofs.lemmas.Map.Entries.{lookup-filter-keys}
 use Rattle.std.specs.BTreeMap.{is_at}
 use Rattle.std.specs.Cmp.{IsTotalOrder, eq_by_cmp_equiv}
 use Rattle.std.specs.FinMap as fin
@@ -63,19 +61,3 @@ module _ {K X : Type 0} {R : K → K → Ordering} (o : IsTotalOrder R) where
       ∙ lookup-filter-keys (is_at (R q)) p (p q) (λ k t. ap p (sym (same q k (is_at-Equal R q k t)))) es
       ∙ ap (λ v. cond (p q) v None) (sym (get_entry es q))
       ∙ sym (fin.get-retain_keys (fin.from_entries es) p q (λ k t. ap p (sym (same q k t)))))
-
-  kept_value : (p : X → Bool) (v : Option X) → option_filter p v ≡ cond (option_map_or p v false) v None
-  kept_value p None = refl
-  kept_value p (Some x) = refl
-
-  -- a tree without the entries that fail a test of the values
-  pub from_entries-filter_values : IsAntisymmetric R → (p : X → Bool) → (es : List (K × X)) → IsStrictlySortedBy R (keys_of es) → fin.from_entries {R = R} (filter (λ e. p e.1) es) ≡ fin.retain_keys (fin.from_entries es) (λ k. option_map_or p (fin.get (fin.from_entries {R = R} es) k) false)
-  from_entries-filter_values same p es h =
-      let m = fin.from_entries {R = R} es in
-      let test = λ (k : K). option_map_or p (fin.get m k) false in
-      fin.same_map o same _ _ (λ q.
-      get_entry (filter (λ e. p e.1) es) q
-      ∙ lookup-filter-values (eq_by_cmp_equiv o) p q es (IsDistinct-from_sorted R (keys_of es) h)
-      ∙ ap (option_filter p) (sym (get_entry es q))
-      ∙ kept_value p (fin.get m q)
-      ∙ sym (fin.get-retain_keys m test q (λ k t. ap test (sym (same q k t)))))

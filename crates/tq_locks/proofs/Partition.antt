@@ -1,13 +1,13 @@
 -- The place that a binary search finds among keys whose entries rise.
-use Rattle.std.proofs.Common.{◌≡◌, ℕ, zero, suc, ◌≤◌, ◌<◌, ◌-◌, Bool, true, false, cond, List, [], ◌∷◌, map, length, get_or, Option, None, Some, refl, ap, sym, subst, ◌∙◌, arith}
+use Rattle.std.proofs.Common.{◌≡◌, ℕ, zero, suc, ◌≤◌, ◌<◌, ◌+◌, ◌-◌, ◌/◌, Bool, true, false, cond, List, [], ◌∷◌, map, length, Option, Some, ap, sym, subst, ◌∙◌, arith}
 use lib.Dec.{T}
 use mathlib.Core.Bool.{true≢false}
 use Rattle.std.specs.Cmp.{IsTotalOrder}
 use Rattle.std.specs.FinMap.{IsAntisymmetric}
+use Rattle.std.proofs.Math.Arith.{half_le}
 use Rattle.std.proofs.lemmas.Cmp.{tied_itself}
 use Rattle.tq_shape.specs.Journal.{Has}
 use Rattle.std.specs.FinMap.Entries.{is_sorted, below_all}
-use Rattle.std.specs.List.Sorted.{IsPartitionPoint, IsPartitionedBy}
 use Rattle.std.specs.Ordering.{is_lt}
 use Rattle.std.specs.List.{slice_get}
 use Rattle.std.specs.Option.{option_map_or}
@@ -17,10 +17,11 @@ use Rattle.slab.specs.Slab.{Slab, get}
 use Rattle.tq_locks.specs.declared.mode.Lock.{Lock}
 use Rattle.tq_locks.specs.Keys.{place}
 use Rattle.tq_locks.specs.Kept.{RisesTo}
-use Rattle.tq_locks.specs.Locks.{LockKey, lock_cmp}
+use Rattle.tq_locks.specs.Locks.{LockKey}
 use Rattle.tq_locks.proofs.Found.{some_same, none_some, first, second, less, below_each}
 use Rattle.tq_locks.proofs.Agreed.{head_of, tail_of, nil_cons, item_of}
-use Rattle.tq_locks.proofs.Applied.{within, Has-at}
+use Rattle.tq_locks.proofs.Applied.{Has-at}
+use Rattle.tq_locks.proofs.LockMaps.{locks_total}
 
 less_test : (r : Ordering) → is_lt r ≡ true → r ≡ Less
 less_test r h = less r (subst T (sym h) tt)
@@ -33,48 +34,50 @@ module _ {K X : Type 0} {R : K → K → Ordering} (o : IsTotalOrder R) (f : ℕ
   under_found : (k : ℕ) (x : K × X) → f k ≡ Some x → under k ≡ is_lt (R x.0 q)
   under_found k x e = ap (λ s. option_map_or (λ (e : K × X). is_lt (R e.0 q)) s false) e
 
-  -- an entry above one that isn't below q isn't below q either
-  all_under : (x : K) (keys : List ℕ) (xs : List (K × X)) (j d : ℕ) → map f keys ≡ map Some xs → T (below_all R x xs) → j < length keys → under (get_or keys j d) ≡ true → R x q ≡ Less
-  all_under x [] xs j d e t l u = absurd (omega (arith, l))
-  all_under x (k ∷ keys) [] j d e t l u = absurd (nil_cons (f k) (map f keys) (sym e))
-  all_under x (k ∷ keys) (y ∷ xs) zero d e t l u =
+  -- there is a key at this index, and its entry is below q
+  abbrev pub under_at : List ℕ → ℕ → Bool
+  under_at keys j = option_map_or under (slice_get keys j) false
+
+  -- an entry before one that is below q is below q too
+  all_under : (x : K) (keys : List ℕ) (xs : List (K × X)) (j : ℕ) → map f keys ≡ map Some xs → T (below_all R x xs) → under_at keys j ≡ true → R x q ≡ Less
+  all_under x [] xs j e t u = absurd (true≢false (sym u))
+  all_under x (k ∷ keys) [] j e t u = absurd (nil_cons (f k) (map f keys) (sym e))
+  all_under x (k ∷ keys) (y ∷ xs) zero e t u =
       o.trans x y.0 q (less (R x y.0) (first (is_lt (R x y.0)) (below_all R x xs) t)) (less_test (R y.0 q) (sym (under_found k y (head_of (f k) (Some y) (map f keys) (map Some xs) e)) ∙ u))
-  all_under x (k ∷ keys) (y ∷ xs) (suc j) d e t l u =
-      all_under x keys xs j d (tail_of (f k) (Some y) (map f keys) (map Some xs) e) (second (is_lt (R x y.0)) (below_all R x xs) t) (omega (arith, l)) u
+  all_under x (k ∷ keys) (y ∷ xs) (suc j) e t u = all_under x keys xs j (tail_of (f k) (Some y) (map f keys) (map Some xs) e) (second (is_lt (R x y.0)) (below_all R x xs) t) u
 
-  pub parted : (keys : List ℕ) (xs : List (K × X)) → map f keys ≡ map Some xs → T (is_sorted R xs) → IsPartitionedBy under keys
-  parted [] xs e t i j d le l u = absurd (omega (arith, l))
-  parted (k ∷ keys) [] e t i j d le l u = absurd (nil_cons (f k) (map f keys) (sym e))
-  parted (k ∷ keys) (y ∷ xs) e t zero zero d le l u = u
-  parted (k ∷ keys) (y ∷ xs) e t zero (suc j) d le l u =
-      under_found k y (head_of (f k) (Some y) (map f keys) (map Some xs) e)
-      ∙ ap is_lt (all_under y.0 keys xs j d (tail_of (f k) (Some y) (map f keys) (map Some xs) e) (first (below_all R y.0 xs) (is_sorted R xs) t) (omega (arith, l)) u)
-  parted (k ∷ keys) (y ∷ xs) e t (suc i) zero d le l u = absurd (omega (arith, le))
-  parted (k ∷ keys) (y ∷ xs) e t (suc i) (suc j) d le l u =
-      parted keys xs (tail_of (f k) (Some y) (map f keys) (map Some xs) e) (second (below_all R y.0 xs) (is_sorted R xs) t) i j d (omega (arith, le)) (omega (arith, l)) u
+  -- q's place is behind each entry that is below it
+  pub behind_under : (keys : List ℕ) (xs : List (K × X)) (j : ℕ) → map f keys ≡ map Some xs → T (is_sorted R xs) → under_at keys j ≡ true → j < place R q xs
+  behind_under [] xs j e t u = absurd (true≢false (sym u))
+  behind_under (k ∷ keys) [] j e t u = absurd (nil_cons (f k) (map f keys) (sym e))
+  behind_under (k ∷ keys) (y ∷ xs) zero e t u =
+      let here : place R q (y ∷ xs) ≡ suc (place R q xs) = ap (λ b. cond b (suc (place R q xs)) 0) (sym (under_found k y (head_of (f k) (Some y) (map f keys) (map Some xs) e)) ∙ u) in
+      omega (arith, here)
+  behind_under (k ∷ keys) (y ∷ xs) (suc j) e t u =
+      let listed = tail_of (f k) (Some y) (map f keys) (map Some xs) e in
+      let here : place R q (y ∷ xs) ≡ suc (place R q xs) = ap (λ r. cond (is_lt r) (suc (place R q xs)) 0) (all_under y.0 keys xs j listed (first (below_all R y.0 xs) (is_sorted R xs) t) u) in
+      let rest = behind_under keys xs j listed (second (below_all R y.0 xs) (is_sorted R xs) t) u in
+      omega (arith, here, rest)
 
-  -- the point between the entries below q and the others is q's place
-  pub point-place : (keys : List ℕ) (xs : List (K × X)) (i : ℕ) → i ≤ length keys → map f keys ≡ map Some xs → IsPartitionPoint (λ k. under k ≡ true) (λ k. under k ≡ false) keys i → i ≡ place R q xs
-  point-place [] [] i le e p = omega (arith, le)
-  point-place [] (y ∷ xs) i le e p = absurd (nil_cons (Some y) (map Some xs) e)
-  point-place (k ∷ keys) [] i le e p = absurd (nil_cons (f k) (map f keys) (sym e))
-  point-place (k ∷ keys) (y ∷ xs) zero le e p =
-      let found = under_found k y (head_of (f k) (Some y) (map f keys) (map Some xs) e) in
-      ap (λ b. cond b (suc (place R q xs)) 0) (sym (p.1 0 0 (omega arith) (omega arith)) ∙ found)
-  point-place (k ∷ keys) (y ∷ xs) (suc i) le e p =
-      let found = under_found k y (head_of (f k) (Some y) (map f keys) (map Some xs) e) in
-      let rest = point-place keys xs i (omega (arith, le)) (tail_of (f k) (Some y) (map f keys) (map Some xs) e) (λ j d a b. p.0 (suc j) d (omega arith) (omega (arith, b)), λ j d a b. p.1 (suc j) d (omega (arith, a)) (omega (arith, b))) in
-      ap suc rest ∙ ap (λ b. cond b (suc (place R q xs)) 0) (sym (p.0 0 0 (omega arith) (omega arith)) ∙ found)
+  one_more : (b : Bool) (n j : ℕ) → n ≤ j → cond b (suc n) 0 ≤ suc j
+  one_more true n j le = omega (arith, le)
+  one_more false n j le = omega arith
 
-  -- where the last entry is below q, all are
-  pub behind-place : (keys : List ℕ) (xs : List (K × X)) → option_map_or under (slice_get keys (length keys - 1)) false ≡ true → map f keys ≡ map Some xs → T (is_sorted R xs) → length keys ≡ place R q xs
-  behind-place keys xs u e t = by_last (slice_get keys (length keys - 1)) refl u
-    where
-      by_last : (last : Option ℕ) → slice_get keys (length keys - 1) ≡ last → option_map_or under last false ≡ true → length keys ≡ place R q xs
-      by_last None at u = absurd (true≢false (sym u))
-      by_last (Some k) at u =
-          let last = within keys (length keys - 1) k at in
-          point-place keys xs (length keys) (omega arith) e (λ i d a b. parted keys xs e t i (length keys - 1) d (omega (arith, b)) last.0 (ap under (last.1 d) ∙ u), λ i d a b. absurd (omega (arith, a, b)))
+  -- and not behind one that isn't
+  pub upto_other : (keys : List ℕ) (xs : List (K × X)) (j : ℕ) → map f keys ≡ map Some xs → j < length keys → under_at keys j ≡ false → place R q xs ≤ j
+  upto_other [] xs j e l u = absurd (omega (arith, l))
+  upto_other (k ∷ keys) [] j e l u = absurd (nil_cons (f k) (map f keys) (sym e))
+  upto_other (k ∷ keys) (y ∷ xs) zero e l u =
+      let here : place R q (y ∷ xs) ≡ 0 = ap (λ b. cond b (suc (place R q xs)) 0) (sym (under_found k y (head_of (f k) (Some y) (map f keys) (map Some xs) e)) ∙ u) in
+      omega (arith, here)
+  upto_other (k ∷ keys) (y ∷ xs) (suc j) e l u = one_more (is_lt (R y.0 q)) (place R q xs) j (upto_other keys xs j (tail_of (f k) (Some y) (map f keys) (map Some xs) e) (omega (arith, l)) u)
+
+  -- nor behind them all
+  pub place_most : (keys : List ℕ) (xs : List (K × X)) → map f keys ≡ map Some xs → place R q xs ≤ length keys
+  place_most [] [] e = omega arith
+  place_most [] (y ∷ xs) e = absurd (nil_cons (Some y) (map Some xs) e)
+  place_most (k ∷ keys) [] e = absurd (nil_cons (f k) (map f keys) (sym e))
+  place_most (k ∷ keys) (y ∷ xs) e = one_more (is_lt (R y.0 q)) (place R q xs) (length keys) (place_most keys xs (tail_of (f k) (Some y) (map f keys) (map Some xs) e))
 
   -- the key of the entry at q stands in q's place
   pub stands-in_place : IsAntisymmetric R → (l : X) (keys : List ℕ) (xs : List (K × X)) (n k : ℕ) → slice_get keys n ≡ Some k → f k ≡ Some (q, l) → map f keys ≡ map Some xs → T (is_sorted R xs) → n ≡ place R q xs
@@ -93,8 +96,13 @@ module _ {K X : Type 0} {R : K → K → Ordering} (o : IsTotalOrder R) (f : ℕ
 
 -- no key is below a place
 pub none_rises : (slab : Slab (LockKey × Lock)) (keys : List ℕ) (key : LockKey) → keys ≡ [] → RisesTo slab keys key 0
-none_rises slab keys key none entries listed sorted = by_entries entries (ap (map (get slab)) (sym none) ∙ listed)
-  where
-    by_entries : (entries : List (LockKey × Lock)) → [] ≡ map Some entries → 0 ≡ place lock_cmp key entries
-    by_entries [] e = refl
-    by_entries (entry ∷ entries) e = absurd (nil_cons (Some entry) (map Some entries) e)
+none_rises slab keys key none entries listed sorted =
+    let most = place_most locks_total (get slab) key keys entries listed in
+    let empty : length keys ≡ 0 = ap length none in
+    omega (arith, most, empty)
+
+-- the middle is between
+pub middle : (low high : ℕ) → low < high → (low ≤ low + (high - low) / 2) × (low + (high - low) / 2 < high)
+middle low high l =
+    let half : (high - low) / 2 ≤ high - low - 1 = half_le {a = high - low} {n = high - low - 1} (omega (arith, l)) in
+    (omega arith, omega (arith, l, half))

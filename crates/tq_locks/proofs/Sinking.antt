@@ -2,11 +2,6 @@
 use Rattle.std.proofs.Common.{◌≡◌, ◌<◌, ◌++◌, ℕ, zero, suc, List, [], ◌∷◌, length, slice_index_or, slice_set, refl, ap, arith}
 use Rattle.std.specs.List.{insert, swap}
 
--- behind all others
-pub behind : (front : List ℕ) (key : ℕ) → front ++ key ∷ [] ≡ insert front (length front) key
-behind [] key = refl
-behind (x ∷ front) key = ap (λ keys. x ∷ keys) (behind front key)
-
 pub longer : (front : List ℕ) (key : ℕ) → length (front ++ key ∷ []) ≡ suc (length front)
 longer [] key = refl
 longer (x ∷ front) key = ap suc (longer front key)

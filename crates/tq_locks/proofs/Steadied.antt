@@ -3,8 +3,11 @@ use Rattle.std.proofs.Common.{◌≡◌, ℕ, nat_eq, ◌==◌, Bool, true, fals
 use lib.Dec.{T}
 use mathlib.Core.Bool.{true≢false}
 use Rattle.std.proofs.lemmas.Bool.Decides.{nat_tests}
+use Rattle.std.proofs.lemmas.List.Sorted.{list_any-IsPermutation}
 use Rattle.std.specs.FinMap as fin
 use Rattle.std.specs.FinMap.Entries.{where_key, same_entries}
+use Rattle.std.specs.List.{list_any}
+use Rattle.std.specs.List.Sorted.{IsPermutation}
 use Rattle.std.specs.Option.{option_map}
 use Rattle.slab.specs.Slab.{Slab, get}
 use Rattle.tq_store.specs.Names.{same_name}
@@ -39,6 +42,21 @@ steadied-more old new k keys changed j = by_test (j == k) keys (changed j)
     by_test false [] e = e
     by_test true (i ∷ keys) e = (λ n. cond (j == i) (option_map steady_entry (e n)) (by_test true keys e n)) ∙ same (j == i) (get old j)
     by_test false (i ∷ keys) e = λ n. cond (j == i) (option_map steady_entry (e n)) (by_test false keys e n)
+
+-- whatever order the keys have
+steadied-any : (slab : Slab Entry) (keys : List ℕ) (k : ℕ) → steadied slab keys k ≡ cond (list_any (λ j. k == j) keys) (option_map steady_entry (get slab k)) (get slab k)
+steadied-any slab [] k = refl
+steadied-any slab (j ∷ keys) k = by_test (k == j) (steadied-any slab keys k)
+  where
+    by_test : (b : Bool) → steadied slab keys k ≡ cond (list_any (λ j. k == j) keys) (option_map steady_entry (get slab k)) (get slab k) → cond b (option_map steady_entry (get slab k)) (steadied slab keys k) ≡ cond (b || list_any (λ j. k == j) keys) (option_map steady_entry (get slab k)) (get slab k)
+    by_test true next = refl
+    by_test false next = next
+
+pub steadied-moved : (slab : Slab Entry) (keys moved : List ℕ) → IsPermutation keys moved → (k : ℕ) → steadied slab moved k ≡ steadied slab keys k
+steadied-moved slab keys moved p k =
+    steadied-any slab moved k
+    ∙ ap (λ b. cond b (option_map steady_entry (get slab k)) (get slab k)) (sym (list_any-IsPermutation (λ j. k == j) keys moved p))
+    ∙ sym (steadied-any slab keys k)
 
 -- what becomes stable is the transaction's
 marked : (e : Entry) (b : Bool) → Some (e.0, record { mode = e.1.mode; since = e.1.since; version = e.1.version; stable = e.1.stable || b }) ≡ cond b (Some (steady_entry e)) (Some e)

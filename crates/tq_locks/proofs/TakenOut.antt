@@ -1,5 +1,5 @@
 -- The locks while the list of a transaction is out of its index.
-use Rattle.std.proofs.Common.{◌≡◌, ℕ, zero, suc, ◌==◌, ◌+◌, Bool, true, false, cond, List, [], ◌∷◌, length, take, Some, None, refl, ap, sym, ◌∙◌, nat_eq, arith}
+use Rattle.std.proofs.Common.{◌≡◌, ℕ, ◌==◌, ◌++◌, Bool, true, false, cond, List, [], ◌∷◌, length, Some, None, refl, ap, sym, ◌∙◌, nat_eq, arith}
 use Rattle.std.proofs.lemmas.Bool.Decides.{nat_tests}
 use Rattle.std.specs.FinMap as fin
 use Rattle.std.specs.List.{remove, slice_get}
@@ -11,7 +11,6 @@ use Rattle.tq_locks.specs.declared.mode.Lock.{Lock}
 use Rattle.tq_locks.specs.Locks.{LockKey, Locks}
 use Rattle.tq_locks.specs.Keys.{keys_under}
 use Rattle.tq_locks.specs.Kept.{Agrees, LeftFile}
-use Rattle.tq_locks.proofs.Found.{none_some}
 use Rattle.tq_locks.proofs.LockMaps.{locks_total, locks_same}
 use Rattle.tq_locks.proofs.Applied.{Agrees-same, Agrees-left, cond_same}
 use Rattle.tq_locks.proofs.Partition.{stands-in_place}
@@ -54,24 +53,26 @@ Agrees-back kept locks txn a none = Agrees-same (with_list kept txn []) kept loc
     by_test t true e = sym none ∙ ap (keys_under nat_eq kept.by_txn) (same_number txn t e)
     by_test t false e = refl
 
-without_last : (keys : List ℕ) (n k : ℕ) → slice_get keys n ≡ Some k → n + 1 ≡ length keys → remove keys n ≡ take n keys
-without_last [] n k at e = absurd (none_some k at)
-without_last (j ∷ []) zero k at e = refl
-without_last (j ∷ i ∷ keys) zero k at e = absurd (omega (arith, e))
-without_last (j ∷ keys) (suc n) k at e = ap (λ ks. j ∷ ks) (without_last keys n k at (omega (arith, e)))
+pub at_last : (rest : List ℕ) (key : ℕ) → slice_get (rest ++ key ∷ []) (length rest) ≡ Some key
+at_last [] key = refl
+at_last (k ∷ rest) key = at_last rest key
+
+without_last : (rest : List ℕ) (key : ℕ) → remove (rest ++ key ∷ []) (length rest) ≡ rest
+without_last [] key = refl
+without_last (k ∷ rest) key = ap (λ ks. k ∷ ks) (without_last rest key)
 
 -- the last key of the list goes, with its entry
-pub Agrees-popped : (old new : KeyedLocks) (locks : Locks) (txn : ℕ) (keys rest : List ℕ) (n key : ℕ) (entry : LockKey × Lock) → Agrees (with_list old txn keys) locks → slice_get keys n ≡ Some key → n + 1 ≡ length keys → rest ≡ take n keys
+pub Agrees-popped : (old new : KeyedLocks) (locks : Locks) (txn : ℕ) (keys rest : List ℕ) (key : ℕ) (entry : LockKey × Lock) → Agrees (with_list old txn keys) locks → keys ≡ rest ++ key ∷ []
     → entry.0.1 ≡ txn → get old.entries key ≡ Some entry → LeftFile old new entry.0 → Updates old.entries new.entries key None → new.by_txn ≡ old.by_txn → Agrees (with_list new txn rest) (fin.remove locks entry.0)
-Agrees-popped old new locks txn keys rest n key entry a at last popped is_txn found left u txns =
-    Agrees-left (with_list old txn keys) (with_list new txn rest) locks a entry entry.0.0 txn refl (sym is_txn) left.place n key left.stood
-    (λ entries listed sorted. stands-in_place locks_total (get old.entries) entry.0 locks_same entry.1 (keys_under nat_eq (with_list old txn keys).by_txn txn) entries n key (ap (λ ks. slice_get ks n) own ∙ at) found listed sorted)
+Agrees-popped old new locks txn keys rest key entry a popped is_txn found left u txns =
+    Agrees-left (with_list old txn keys) (with_list new txn rest) locks a entry entry.0.0 txn refl (sym is_txn) left.place (length rest) key left.stood
+    (λ entries listed sorted. stands-in_place locks_total (get old.entries) entry.0 locks_same entry.1 (keys_under nat_eq (with_list old txn keys).by_txn txn) entries (length rest) key (ap (λ ks. slice_get ks (length rest)) (own ∙ popped) ∙ at_last rest key) found listed sorted)
     found u left.files
-    (λ t. keys-with_list new txn rest t ∙ by_test t (txn == t) ∙ (λ i. cond (txn == t) (remove (sym own i) n) (sym (keys-with_list old txn keys t) i)))
+    (λ t. keys-with_list new txn rest t ∙ by_test t (txn == t) ∙ (λ i. cond (txn == t) (remove (sym own i) (length rest)) (sym (keys-with_list old txn keys t) i)))
   where
     own : keys_under nat_eq (with_list old txn keys).by_txn txn ≡ keys
     own = own-with_list old txn keys
 
-    by_test : (t : ℕ) (b : Bool) → cond b rest (keys_under nat_eq new.by_txn t) ≡ cond b (remove keys n) (cond b keys (keys_under nat_eq old.by_txn t))
-    by_test t true = popped ∙ sym (without_last keys n key at last)
+    by_test : (t : ℕ) (b : Bool) → cond b rest (keys_under nat_eq new.by_txn t) ≡ cond b (remove keys (length rest)) (cond b keys (keys_under nat_eq old.by_txn t))
+    by_test t true = sym (ap (λ ks. remove ks (length rest)) popped ∙ without_last rest key)
     by_test t false = ap (λ lists. keys_under nat_eq lists t) txns

@@ -1,6 +1,7 @@
 -- The locks of a table as it keeps them: entries under keys, and the keys of each file and of each transaction.
-use Rattle.std.specs.Prelude.{◌≡◌, ◌≤◌, ◌==◌, ◌+◌, ◌-◌, ℕ, T, Bool, IfSome, IfNone, IsSome, slice_get, List, [], ◌∷◌, Option, length, map, filter, Some, None, false, nat_eq, if◌then◌else◌}
+use Rattle.std.specs.Prelude.{◌≡◌, ◌≤◌, ◌==◌, ◌+◌, ℕ, T, Bool, IfSome, IfNone, IsSome, slice_get, List, [], ◌∷◌, Option, length, map, filter, Some, None, false, nat_eq, if◌then◌else◌}
 use Rattle.std.specs.List.{IsDistinct, remove}
+use Rattle.std.specs.List.Sorted.{IsPermutation}
 use Rattle.std.specs.Option.{option_map, option_map_or, option_and_then}
 use Rattle.std.specs.FinMap as fin
 use Rattle.std.specs.Ordering.{is_lt}
@@ -52,6 +53,10 @@ decided_on kept name mode = decided name.1 mode (on_file (locks_in kept) name.0)
 abbrev pub AreKeysOf : Slab (LockKey × Lock) → List ℕ → List (LockKey × Lock) → Type 0
 AreKeysOf slab keys entries = map (get slab) keys ≡ map Some entries
 
+-- the keys are those of exactly these entries, in any order
+abbrev pub ListsKeysOf : Slab (LockKey × Lock) → List ℕ → List (LockKey × Lock) → Type 0
+ListsKeysOf slab keys entries = IsPermutation (map Some entries) (map (get slab) keys)
+
 -- the slab and both indexes keep the same locks
 pub record Agrees (kept : KeyedLocks) (locks : Locks) : Type 0 where
   -- each entry of the slab is a lock of the set, and no other key has it
@@ -65,9 +70,9 @@ pub record Agrees (kept : KeyedLocks) (locks : Locks) : Type 0 where
 abbrev pub is_under : Slab (LockKey × Lock) → LockKey → ℕ → Bool
 is_under slab name key = option_map_or (λ entry. is_lt (lock_cmp entry.0 name)) (get slab key) false
 
--- the entry under the last of the keys comes before a place in the set
-abbrev pub is_last_under : Slab (LockKey × Lock) → LockKey → List ℕ → Bool
-is_last_under slab name keys = option_map_or (is_under slab name) (slice_get keys (length keys - 1)) false
+-- there is a key at this index, and the entry under it comes before a place in the set
+abbrev pub is_under_at : Slab (LockKey × Lock) → LockKey → List ℕ → ℕ → Bool
+is_under_at slab name keys at = option_map_or (is_under slab name) (slice_get keys at) false
 
 -- where the entries of the keys rise, so many of them are below a key of the set
 abbrev pub RisesTo : Slab (LockKey × Lock) → List ℕ → LockKey → ℕ → Type 0

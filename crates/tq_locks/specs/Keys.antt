@@ -1,17 +1,26 @@
 -- Lists of keys, each under a name.
-use Rattle.std.specs.Prelude.{◌≡◌, ◌<◌, ℕ, suc, Bool, true, List, [], ◌∷◌, Option, Some, None, if◌then◌else◌, filter_map, slice_get, length, take, drop, min, All, ◌+◌, ◌*◌, ◌≤◌, ◌++◌}
+use Rattle.std.specs.Prelude.{◌≡◌, ◌<◌, ℕ, suc, Bool, true, List, [], ◌∷◌, Option, Some, None, if◌then◌else◌, filter_map, slice_get, length, take, drop, min, All, ◌*◌, ◌≤◌, ◌++◌}
 use Rattle.slab.specs.Slab.{Slab, get as in_slab}
 use Rattle.std.specs.List.{insert, remove}
-use Rattle.std.specs.Option.{option_map_or}
+use denote.Ref.{Bor}
+use Rattle.std.specs.Option.{option_copied, option_map_or}
 use Rattle.smallvec.specs.SmallVec.{SmallVec, HasRoomFor}
 use Rattle.indexmap.specs.IndexMap.{IndexMap, get, spare}
 use Rattle.std.specs.Ordering.{is_lt}
 use Rattle.std.specs.declared.cmp.Ordering.{Ordering}
 
+-- the keys of a list, none where there is no list
+abbrev pub keys_in : Option (SmallVec ℕ) → List ℕ
+keys_in list = option_map_or (λ keys. keys.items) list []
+
+-- the same of a list that is lent
+abbrev pub lent_keys : Option (Bor (SmallVec ℕ)) → List ℕ
+lent_keys list = keys_in (option_copied list)
+
 module _ {K : Type 0} (eq : K → K → Bool) {S : Type 0} where
   -- the keys under a name, in their order
   abbrev pub keys_under : IndexMap K (SmallVec ℕ) S → K → List ℕ
-  keys_under lists name = option_map_or (λ keys. keys.items) (get eq lists name) []
+  keys_under lists name = keys_in (get eq lists name)
 
   -- a name's list is at this index and has room for one more key, or there is none, and room for one
   abbrev pub HasRoomUnder : IndexMap K (SmallVec ℕ) S → K → Option ℕ → Type 0

@@ -1,8 +1,10 @@
 //! An index of a slab: lists of keys, each under a name. The names have no order.
-ghost use Rattle.std.specs.Prelude.{◌≡◌, ◌≤◌, ◌<◌, ◌∷◌, [], OnOk, OnErr, Some, None, length};
+ghost use Rattle.std.specs.Prelude.{◌≡◌, ◌==◌, ◌≤◌, ◌<◌, ◌∷◌, [], OnOk, OnErr, Some, None, length};
 ghost use Rattle.indexmap.specs.IndexMap.{get, index_of, spare};
 ghost use Rattle.slab.specs.Slab.{get as in_slab};
 ghost use Rattle.std.specs.Bool.{OnTrue};
+ghost use Rattle.std.specs.List.Sorted.{IsPermutation};
+ghost use Rattle.std.specs.Option.{option_copied};
 ghost use Rattle.tq_locks.specs.Keys.{keys_under, Enters, HasListAt, HasRoomUnder, HasSameKeys, Leaves, Sets};
 ghost use Rattle.tq_locks.specs.Kept.{RisesTo};
 
@@ -10,17 +12,16 @@ use crate::LockEntry;
 use crate::keys::Keys;
 use crate::lists::leave;
 use crate::lock_slab::LockSlab;
-use smallvec::SmallVec;
 use std::alloc::{AllocError, Global};
 use std::hash::Hash;
 use tq_store::BoundedIndexMap;
 
-/// The keys under a name.
+/// The keys under a name, in any order.
 pub(crate) fn listed_under<'a, K: Ord + Hash>(
     lists: &'a BoundedIndexMap<K, Keys>,
     name: &K,
 ) -> &'a [usize]
-    ensures { result.now ≡ keys_under K.eq lists.now name.now }
+    ensures { IsPermutation (keys_under K.eq lists.now name.now) result.now }
 {
     match lists.get(name) {
         Some(keys) => keys.as_slice(),
@@ -28,18 +29,28 @@ pub(crate) fn listed_under<'a, K: Ord + Hash>(
     }
 }
 
-/// The index of a name's list, if there is one, and its keys.
+/// Whether there is no key under a name.
+pub(crate) fn is_empty_under<K: Ord + Hash>(lists: &BoundedIndexMap<K, Keys>, name: &K) -> bool
+    ensures { result ≡ (length (keys_under K.eq lists.now name.now) == 0) }
+{
+    match lists.get(name) {
+        Some(keys) => keys.len() == 0,
+        None => true,
+    }
+}
+
+/// The index of a name's list, if there is one, and the list.
 #[inline(always)]
 pub(crate) fn list_under<'a, K: Ord + Hash>(
     lists: &'a BoundedIndexMap<K, Keys>,
     name: &K,
-) -> (Option<usize>, &'a [usize])
+) -> (Option<usize>, Option<&'a Keys>)
     ensures index { result.0 ≡ index_of K.eq lists.now name.now }
-    ensures keys { result.1.now ≡ keys_under K.eq lists.now name.now }
+    ensures list { option_copied result.1 ≡ get K.eq lists.now name.now }
 {
     match lists.get_full(name) {
-        Some(list) => (Some(list.0), list.2.as_slice()),
-        None => (None, &[]),
+        Some(list) => (Some(list.0), Some(list.2)),
+        None => (None, None),
     }
 }
 
@@ -224,18 +235,18 @@ fn take_at<K: Ord + Hash>(
     }
 }
 
-/// Takes a whole list out, and gives the keys that were under the name.
+/// Takes a name's list out.
 pub(crate) fn take_all_under<K: Ord + Hash + Copy + Drop>(
     alloc: Global,
     lists: &mut BoundedIndexMap<K, Keys>,
     name: &K,
-) -> SmallVec<usize, 6>
+) -> Keys
     ensures keys { result.items ≡ keys_under K.eq lists.old name.now }
     ensures after { Sets K.eq lists.old lists.new name.now [] }
 {
     match lists.swap_remove(name) {
-        Some(keys) => keys.into_places(),
-        None => SmallVec::new(alloc),
+        Some(keys) => keys,
+        None => Keys::new(alloc),
     }
 }
 
@@ -246,7 +257,7 @@ pub(crate) fn end_empty_under<K: Ord + Hash + Copy + Drop>(
 )
     ensures { HasSameKeys K.eq lists.old lists.new }
 {
-    if listed_under(lists, name).is_empty() {
+    if is_empty_under(lists, name) {
         lists.swap_remove(name);
     }
 }

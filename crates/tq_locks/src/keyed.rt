@@ -8,7 +8,7 @@ ghost use Rattle.indexmap.specs.IndexMap.{index_of};
 ghost use Rattle.slab.specs.Slab.{get, slab_len, values, Updates};
 ghost use Rattle.tq_shape.specs.Steps.{state_at};
 ghost use Rattle.tq_locks.specs.Locks.{LockKey, Locks, kept, released, only_stable};
-ghost use Rattle.tq_locks.specs.Keys.{keys_under, place, told};
+ghost use Rattle.tq_locks.specs.Keys.{lent_keys, keys_under, place, told};
 ghost use Rattle.tq_locks.specs.Kept.{decided};
 ghost use Rattle.tq_locks.specs.Loose.{IsAsStable, IsLooseAt, steadied};
 
@@ -68,30 +68,6 @@ impl KeyedLocks {
         self.entries.get(key)
     }
 
-    /// The keys of a file's entries, ascending by transaction.
-    pub(crate) fn keys_of_file(&self, file: &FileName) -> &[usize]
-        ensures { result.now ≡ file_keys self.now file.now }
-    {
-        listed_under(&self.by_file, file)
-    }
-
-    /// The keys of a transaction's entries, ascending by file.
-    pub(crate) fn keys_of_txn(&self, txn: u64) -> &[usize]
-        ensures { result.now ≡ keys_under nat_eq self.now.by_txn txn }
-    {
-        listed_under(&self.by_txn, &txn)
-    }
-
-    /// The entries under these keys.
-    pub(crate) fn listed<'a>(&'a self, keys: &'a [usize]) -> HeldLocks<'a>
-        ensures { result ≡ told self.now.entries keys.now }
-    {
-        HeldLocks {
-            entries: &self.entries,
-            keys,
-        }
-    }
-
     /// The entries, in the order of their keys.
     pub(crate) fn unsorted(&self, alloc: Global) -> Result<Vec<LockEntry>, AllocError>
         ensures { IfOk result (λ all. all.items ≡ values self.now.entries) }
@@ -121,13 +97,13 @@ impl KeyedLocks {
         }
     }
 
-    // The key at the place of a file in the keys of a transaction, if it's that of an entry of the file.
+    // The key at the place of a file in the list of a transaction, if it's that of an entry of the file.
     #[inline(always)]
-    fn key_at(&self, keys: &[usize], place: usize, file: &FileName) -> Option<usize>
-        ensures some { FindsOwnAt self.now file.now keys.now place result }
-        ensures none { FindsNoneAt self.now file.now keys.now place result }
+    fn key_at(&self, list: Option<&Keys>, place: usize, file: &FileName) -> Option<usize>
+        ensures some { FindsOwnAt self.now file.now (lent_keys list.entry) place result }
+        ensures none { FindsNoneAt self.now file.now (lent_keys list.entry) place result }
     {
-        let key = *keys.get(place)?;
+        let key = list?.get(place)?;
         let entry = self.entry(key)?;
         if entry.file == *file { Some(key) } else { None }
     }
@@ -323,10 +299,10 @@ fn stabilise_each(entries: &mut LockSlab, keys: &[usize])
 
 /// The transaction of the first of these entries that is not this one's, where it conflicts with the mode.
 #[inline(always)]
-pub(crate) fn held_by(entries: &LockSlab, keys: &[usize], txn: u64, mode: Mode) -> Option<u64>
-    ensures { result ≡ decided txn mode (told entries.now keys.now) }
+pub(crate) fn held_by(entries: &LockSlab, list: Option<&Keys>, txn: u64, mode: Mode) -> Option<u64>
+    ensures { result ≡ decided txn mode (told entries.now (lent_keys list.entry)) }
 {
-    for entry in (HeldLocks { entries, keys }) {
+    for entry in walk(entries, list) {
         if !(entry.txn == txn) {
             return if mode.conflicts_with(entry.lock.mode) {
                 Some(entry.txn)
@@ -338,11 +314,25 @@ pub(crate) fn held_by(entries: &LockSlab, keys: &[usize], txn: u64, mode: Mode) 
     None
 }
 
+/// A walk of the locks under the keys of a list, in its order.
+#[inline(always)]
+pub(crate) fn walk<'a>(entries: &'a LockSlab, list: Option<&'a Keys>) -> HeldLocks<'a>
+    ensures { result ≡ told entries.now (lent_keys list.entry) }
+{
+    HeldLocks {
+        entries,
+        list,
+        at: 0,
+    }
+}
+
 /// Locks of a table that are left to walk.
 #[derive(Drop)]
 pub struct HeldLocks<'a> {
     entries: &'a LockSlab,
-    keys: &'a [usize],
+    list: Option<&'a Keys>,
+    /// So many keys were passed.
+    at: usize,
 }
 
 impl<'a> HeldLocks<'a> {
@@ -351,7 +341,10 @@ impl<'a> HeldLocks<'a> {
     pub fn most(&self) -> usize
         ensures { length self.now ≤ result }
     {
-        self.keys.len()
+        match self.list {
+            Some(keys) => keys.len().saturating_sub(self.at),
+            None => 0,
+        }
     }
 }
 
@@ -359,11 +352,12 @@ impl<'a> Model for HeldLocks<'a> {
     ghost use Rattle.std.specs.Prelude.{List};
     ghost use Rattle.tq_locks.specs.Locks.{LockKey};
     ghost use Rattle.tq_locks.specs.declared.mode.Lock.{Lock};
-    ghost use Rattle.tq_locks.specs.Keys.{told};
+    ghost use Rattle.std.specs.Prelude.{drop};
+    ghost use Rattle.tq_locks.specs.Keys.{lent_keys, told};
 
     ghost Value = { List (LockKey × Lock) };
 
-    ghost view = { λ it. told it.entries.now it.keys.now };
+    ghost view = { λ it. told it.entries.now (drop it.at (lent_keys it.list)) };
 }
 
 impl<'a> Iterator for HeldLocks<'a> {
@@ -377,9 +371,11 @@ impl<'a> Iterator for HeldLocks<'a> {
 
     #[inline(always)]
     fn next(&mut self) -> Option<LockEntry> {
-        while let Some((key, rest)) = self.keys.split_first() {
-            self.keys = rest;
-            if let Some(entry) = self.entries.get(*key) {
+        let keys = self.list?;
+        while self.at < keys.len() {
+            let key = keys.get(self.at)?;
+            self.at += 1;
+            if let Some(entry) = self.entries.get(key) {
                 return Some(*entry);
             }
         }

@@ -2,7 +2,8 @@
 ghost use Rattle.std.specs.Prelude.{◌≡◌, ◌≤◌, length, Some};
 ghost use Rattle.std.specs.List.{remove};
 ghost use Rattle.slab.specs.Slab.{get};
-ghost use Rattle.tq_locks.specs.Kept.{is_last_under, is_under, RisesTo};
+ghost use Rattle.tq_locks.specs.Keys.{lent_keys};
+ghost use Rattle.tq_locks.specs.Kept.{is_under, is_under_at, RisesTo};
 
 use crate::LockEntry;
 use crate::keys::Keys;
@@ -25,23 +26,27 @@ fn is_below(entries: &LockSlab, key: usize, file: &FileName, txn: u64) -> bool
     }
 }
 
-/// Whether the entry under the last of the keys comes before the place of this file and transaction.
-fn ends_below(entries: &LockSlab, keys: &[usize], file: &FileName, txn: u64) -> bool
-    ensures { result ≡ is_last_under entries.now (file.now, txn) keys.now }
+/// Whether the entry under the key at a place of the list comes before the place of this file and transaction.
+#[inline(always)]
+fn is_below_at(entries: &LockSlab, keys: &Keys, at: usize, file: &FileName, txn: u64) -> bool
+    ensures { result ≡ is_under_at entries.now (file.now, txn) keys.now.items at }
 {
-    match keys.last() {
-        Some(key) => is_below(entries, *key, file, txn),
+    match keys.get(at) {
+        Some(key) => is_below(entries, key, file, txn),
         None => false,
     }
 }
 
 /// The place of this file and transaction among keys whose entries rise.
 #[inline(always)]
-pub(crate) fn place(entries: &LockSlab, keys: &[usize], file: &FileName, txn: u64) -> usize
-    ensures within { result ≤ length keys.now }
-    ensures place { RisesTo entries.now keys.now (file.now, txn) result }
+pub(crate) fn place(entries: &LockSlab, list: Option<&Keys>, file: &FileName, txn: u64) -> usize
+    ensures within { result ≤ length (lent_keys list.entry) }
+    ensures place { RisesTo entries.now (lent_keys list.entry) (file.now, txn) result }
 {
-    if keys.is_empty() {
+    let Some(keys) = list else {
+        return 0;
+    };
+    if keys.len() == 0 {
         return 0;
     }
     place_within(entries, keys, file, txn)
@@ -49,15 +54,23 @@ pub(crate) fn place(entries: &LockSlab, keys: &[usize], file: &FileName, txn: u6
 
 /// The same, where the list may be long.
 #[inline(never)]
-fn place_within(entries: &LockSlab, keys: &[usize], file: &FileName, txn: u64) -> usize
-    ensures within { result ≤ length keys.now }
-    ensures place { RisesTo entries.now keys.now (file.now, txn) result }
+fn place_within(entries: &LockSlab, keys: &Keys, file: &FileName, txn: u64) -> usize
+    ensures within { result ≤ length keys.now.items }
+    ensures place { RisesTo entries.now keys.now.items (file.now, txn) result }
 {
+    let mut low = 0;
+    let mut high = keys.len();
     // Most often a lock goes behind those that are there.
-    if ends_below(entries, keys, file, txn) {
-        return keys.len();
+    let mut at = high.saturating_sub(1);
+    while low < high {
+        if is_below_at(entries, keys, at, file, txn) {
+            low = at + 1;
+        } else {
+            high = at;
+        }
+        at = low + (high - low) / 2;
     }
-    keys.partition_point(|key| is_below(entries, *key, file, txn))
+    low
 }
 
 /// Takes the key of an entry out of a list, and tells its place.
@@ -81,7 +94,7 @@ fn leave_within(keys: &mut Keys, entries: &LockSlab, entry: &LockEntry, key: usi
     ensures place { RisesTo entries.now keys.old.items entry.now.0 result }
     ensures after { keys.new.items ≡ remove keys.old.items result }
 {
-    let place = place(entries, keys.as_slice(), &entry.file, entry.txn);
+    let place = place_within(entries, keys, &entry.file, entry.txn);
     keys.take_out(place);
     place
 }

@@ -1,7 +1,8 @@
 ghost use Rattle.std.specs.Prelude.{◌≡◌, OnOk, OnErr, IfOk, IfSome, IfNone, None, Some};
 ghost use Rattle.std.specs.FinMap as fin;
 
-use crate::keyed::{HeldLocks, KeyedLocks, held_by};
+use crate::index::{is_empty_under, listed_under};
+use crate::keyed::{HeldLocks, KeyedLocks, held_by, walk};
 use crate::{Lock, Mode};
 use std::alloc::{AllocError, Global};
 use std::marker::Model;
@@ -80,7 +81,7 @@ impl LockTable {
     ghost use Rattle.tq_locks.specs.Locks.{HasNoConflict, IsAmong, IsAsked, IsFree, IsGranted, IsLeastBlocker, IsTold};
     ghost use Rattle.slab.specs.Slab.{get};
     ghost use Rattle.std.specs.Option.{option_copied};
-    ghost use Rattle.tq_locks.specs.Kept.{on_file, AreKeysOf, HasOneKeyEach};
+    ghost use Rattle.tq_locks.specs.Kept.{on_file, ListsKeysOf, HasOneKeyEach};
 
     /// No transaction holds a lock.
     pub fn new(alloc: Global) -> LockTable
@@ -108,20 +109,20 @@ impl LockTable {
         Ok(all)
     }
 
-    /// The keys of exactly the locks on a file, each once, ascending by transaction.
+    /// The keys of exactly the locks on a file, each once, in any order.
     pub fn keys_of_file(&self, file: &FileName) -> &[usize]
-        ensures entries { AreKeysOf self.now.slab result.now (on_file self.now.locks file.now) }
+        ensures entries { ListsKeysOf self.now.slab result.now (on_file self.now.locks file.now) }
         ensures once { HasOneKeyEach result.now (on_file self.now.locks file.now) }
     {
-        self.kept.keys_of_file(file)
+        listed_under(&self.kept.by_file, file)
     }
 
-    /// The keys of exactly a transaction's locks, each once, ascending by file.
+    /// The keys of exactly a transaction's locks, each once, in any order.
     pub fn keys_of_txn(&self, txn: u64) -> &[usize]
-        ensures entries { AreKeysOf self.now.slab result.now (held_of self.now.locks txn) }
+        ensures entries { ListsKeysOf self.now.slab result.now (held_of self.now.locks txn) }
         ensures once { HasOneKeyEach result.now (held_of self.now.locks txn) }
     {
-        self.kept.keys_of_txn(txn)
+        listed_under(&self.kept.by_txn, &txn)
     }
 
     /// The lock that is kept under a key, None where there is none.
@@ -139,8 +140,8 @@ impl LockTable {
         ensures free { IfNone result (IsFree self.now.locks file txn mode) }
     {
         // Locks on a file are in no conflict, so the first of another transaction decides for all.
-        let keys = self.kept.keys_of_file(&file);
-        held_by(&self.kept.entries, keys, txn, mode)
+        let list = self.kept.by_file.get(&file);
+        held_by(&self.kept.entries, list, txn, mode)
     }
 
     /// The lock of a transaction on a file. No two locks of the table are in conflict.
@@ -213,16 +214,16 @@ impl LockTable {
     pub fn locks_of(&self, txn: u64) -> HeldLocks<'_>
         ensures { result ≡ held_of self.now.locks txn }
     {
-        self.kept.listed(self.kept.keys_of_txn(txn))
+        walk(&self.kept.entries, self.kept.by_txn.get(&txn))
     }
 
     /// The locks of a transaction, ascending by file.
     pub fn held(&self, alloc: Global, txn: u64) -> Result<Vec<LockEntry>, AllocError>
         ensures { IfOk result (λ held. held.items ≡ held_of self.now.locks txn) }
     {
-        let keys = self.kept.keys_of_txn(txn);
-        let mut held = Vec::with_capacity(alloc, keys.len())?;
-        for entry in self.locks_of(txn) {
+        let locks = self.locks_of(txn);
+        let mut held = Vec::with_capacity(alloc, locks.most())?;
+        for entry in locks {
             held.push(entry)?;
         }
         Ok(held)
@@ -239,7 +240,7 @@ impl LockTable {
     pub fn holds_nothing(&self, txn: u64) -> bool
         ensures { result ≡ holds_nothing self.now.locks txn }
     {
-        self.kept.keys_of_txn(txn).is_empty()
+        is_empty_under(&self.kept.by_txn, &txn)
     }
 
     /// Ends the locks of a transaction.

@@ -1,9 +1,9 @@
 -- The marks of the entries that are named.
-use Rattle.std.proofs.Common.{◌≡◌, inl, inr, ◌<◌, ◌≤◌, ◌+◌, ◌-◌, ◌==◌, ◌&&◌, ◌||◌, ℕ, zero, suc, Bool, true, false, not, cond, List, [], ◌∷◌, ◌++◌, length, get_or, set, take, drop, map, replicate, refl, sym, ap, subst, ◌∙◌, arith}
+use Rattle.std.proofs.Common.{◌≡◌, inl, inr, ◌<◌, ◌≤◌, ◌+◌, ◌-◌, ◌==◌, ◌&&◌, ◌||◌, ℕ, zero, suc, Bool, true, false, not, cond, List, [], ◌∷◌, ◌++◌, length, get_or, set, take, drop, refl, sym, ap, subst, ◌∙◌, arith}
 use Rattle.std.specs.Prelude.{count_by}
 use Rattle.std.specs.List.{All, sum_by}
-use Rattle.std.proofs.lemmas.Bool.{cases_eq, cases_lt, cases_Bool, and_parts, and_from, and_left, and_right, or_left, or_right, or_cases, or_from, eqb-true, eq-eqb, ne_eqb, false_from_ne_true, false≢true}
-use Rattle.std.proofs.lemmas.List.{get_or-set_same, get_or-set_other, get_or_default, get_or-replicate, get_or_past, length-map, length-set, length-replicate, take_more, take_all}
+use Rattle.std.proofs.lemmas.Bool.{cases_eq, cases_Bool, and_parts, and_from, and_left, and_right, or_left, or_right, or_cases, or_from, eqb-true, eq-eqb, ne_eqb, false_from_ne_true, false≢true}
+use Rattle.std.proofs.lemmas.List.{get_or-set_same, get_or-set_other, get_or_default, length-set, take_more, take_all}
 use Rattle.std.proofs.lemmas.List.Elements.{All-get_or, All-from_get_or}
 use Rattle.std.proofs.lemmas.List.Folds.{list_any-append}
 use Rattle.std.proofs.lemmas.List.Sums.{count_by_more_yes, count_by_more_no, sum_by-cons}
@@ -15,24 +15,7 @@ use Rattle.tq_merge.specs.EntryNames.{place_of, part_at, is_named, unnamed, unna
 use Rattle.tq_merge.specs.Order.{same_part}
 use Rattle.tq_merge.proofs.LastNumbers.{splits}
 use Rattle.tq_merge.proofs.NamePlaces.{has_push, same_place, counted}
-
--- ---- equal parts
-
-part-self : (p : Part) → same_part p p ≡ true
-part-self (Server a) = eq-eqb a a refl
-part-self Desk = refl
-part-self View = refl
-
-part-is : (p q : Part) → same_part p q ≡ true → p ≡ q
-part-is (Server a) (Server b) same = ap Server (eqb-true a b same)
-part-is Desk Desk same = refl
-part-is View View same = refl
-part-is (Server a) Desk same = absurd (false≢true same)
-part-is (Server a) View same = absurd (false≢true same)
-part-is Desk (Server b) same = absurd (false≢true same)
-part-is Desk View same = absurd (false≢true same)
-part-is View (Server b) same = absurd (false≢true same)
-part-is View Desk same = absurd (false≢true same)
+use Rattle.tq_merge.proofs.Places.{same_part-is, same_part-refl}
 
 pub place-part_at : (place : ℕ) → place_of (part_at place) ≡ place
 place-part_at zero = refl
@@ -49,7 +32,7 @@ pub has_named : (names : List EntryName) (name : EntryName) → Has names name �
 has_named [] name has = absurd has
 has_named (n ∷ names) name (inl same) =
     or_left (is_it name.part name.number n) (is_named names name.part name.number)
-    (subst (λ (m : EntryName). is_it name.part name.number m ≡ true) (sym same) (and_from (same_part name.part name.part) (name.number == name.number) (part-self name.part) (eq-eqb name.number name.number refl)))
+    (subst (λ (m : EntryName). is_it name.part name.number m ≡ true) (sym same) (and_from (same_part name.part name.part) (name.number == name.number) (same_part-refl name.part) (eq-eqb name.number name.number refl)))
 has_named (n ∷ names) name (inr has) = or_right (is_it name.part name.number n) (is_named names name.part name.number) (has_named names name has)
 
 pub named_has : (names : List EntryName) (part : Part) (number : ℕ) → is_named names part number ≡ true → Has names (record { part = part; number = number })
@@ -58,7 +41,7 @@ named_has (n ∷ names) part number named =
     elim (or_cases (is_it part number n) (is_named names part number) named) [
       | inl here ↦
           let both = and_parts (same_part n.part part) (n.number == number) here in
-          let at = part-is n.part part both.0 in
+          let at = same_part-is n.part part both.0 in
           let numbered = eqb-true n.number number both.1 in
           inl (λ i. record { part = at i; number = numbered i })
       | inr rest ↦ inr (named_has names part number rest)
@@ -70,7 +53,7 @@ named_more seen name part number = list_any-append (is_it part number) seen (nam
 
 named_by_it : (seen : List EntryName) (name : EntryName) (part : Part) (number : ℕ) → name.part ≡ part → name.number ≡ number → is_named (seen ++ name ∷ []) part number ≡ true
 named_by_it seen name part number at is =
-    let here : is_it part number name ≡ true = and_from (same_part name.part part) (name.number == number) (subst (λ (p : Part). same_part name.part p ≡ true) at (part-self name.part)) (eq-eqb name.number number is) in
+    let here : is_it part number name ≡ true = and_from (same_part name.part part) (name.number == number) (subst (λ (p : Part). same_part name.part p ≡ true) at (same_part-refl name.part)) (eq-eqb name.number number is) in
     named_more seen name part number ∙ or_right (is_named seen part number) (is_it part number name || false) (or_left (is_it part number name) false here)
 
 or_none : (a b : Bool) → b ≡ false → (a || (b || false)) ≡ a
@@ -86,7 +69,7 @@ other_number name part number other = and_right (same_part name.part part) (name
 other_part : (name : EntryName) (part : Part) (number : ℕ) → (place_of part ≡ place_of name.part → ⊥) → is_it part number name ≡ false
 other_part name part number other =
     and_left (same_part name.part part) (name.number == number)
-    (false_from_ne_true (same_part name.part part) (λ same. other (ap place_of (sym (part-is name.part part same)))))
+    (false_from_ne_true (same_part name.part part) (λ same. other (ap place_of (sym (same_part-is name.part part same)))))
 
 -- ---- the marks of all journals
 
@@ -94,25 +77,6 @@ pub record KeepsMarks (counts : List ℕ) (marks : List (List Bool)) (seen : Lis
   pub one_each : length marks ≡ length counts
   pub so_many : (place : ℕ) → length (get_or marks place []) ≡ get_or counts place 0
   pub marked : (part : Part) (index : ℕ) → index < get_or counts (place_of part) 0 → get_or (get_or marks (place_of part) []) index false ≡ is_named seen part (suc index)
-
-none_many : (counts : List ℕ) (place : ℕ) → length (get_or (map (λ (count : ℕ). replicate count false) counts) place []) ≡ get_or counts place 0
-none_many [] place = refl
-none_many (c ∷ counts) zero = length-replicate c false
-none_many (c ∷ counts) (suc place) = none_many counts place
-
-none_marked : (counts : List ℕ) (place index : ℕ) → get_or (get_or (map (λ (count : ℕ). replicate count false) counts) place []) index false ≡ false
-none_marked [] place index = refl
-none_marked (c ∷ counts) zero index =
-    elim (cases_lt index c) [
-      | inl within ↦ get_or-replicate c index false false within
-      | inr past ↦ get_or_past (replicate c false) index false (let many = length-replicate c false in omega (arith, many, past))
-    ]
-none_marked (c ∷ counts) (suc place) index = none_marked counts place index
-
-pub none_keeps : (counts : List ℕ) (marks : List (List Bool)) → marks ≡ map (λ (count : ℕ). replicate count false) counts → KeepsMarks counts marks []
-none_keeps counts marks is =
-    subst (λ (m : List (List Bool)). KeepsMarks counts m []) (sym is)
-    (record { one_each = length-map counts (λ (count : ℕ). replicate count false); so_many = none_many counts; marked = λ part index within. none_marked counts (place_of part) index })
 
 module _ (counts : List ℕ) (marks : List (List Bool)) (seen : List EntryName) (keeps : KeepsMarks counts marks seen) (name : EntryName) (good : IsWithin counts name) where
   abbrev pub here : List Bool

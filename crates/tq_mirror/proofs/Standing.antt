@@ -208,18 +208,6 @@ server_none w number =
     ap (λ (all : List (List NodeEntry)). let o : JournalsView = record w { servers = all } in o)
     (ap (set w.servers (number - 1)) (append-nil (server_prefix w number)) ∙ set-get_or w.servers (number - 1) [])
 
-pub desk_empty : (w : JournalsView) (more : List DeskEntry) → length more ≡ 0 → w ≡ grown w parts.Desk (entries.Desk more)
-desk_empty w [] none = sym (desk_none w)
-desk_empty w (e ∷ more) none = absurd (omega (arith, none))
-
-pub view_empty : (w : JournalsView) (more : List ViewEntry) → length more ≡ 0 → w ≡ grown w parts.View (entries.View more)
-view_empty w [] none = sym (view_none w)
-view_empty w (e ∷ more) none = absurd (omega (arith, none))
-
-pub server_empty : (w : JournalsView) (number : ℕ) (more : List NodeEntry) → length more ≡ 0 → w ≡ grown w (parts.Server number) (entries.Server more)
-server_empty w number [] none = sym (server_none w number)
-server_empty w number (e ∷ more) none = absurd (omega (arith, none))
-
 -- ---- tables that are led on
 
 abbrev pub DeskLed : JournalsView → TablesView → List DeskEntry → Type 0
@@ -263,10 +251,6 @@ ahead_with (Some ahead) w part more least many led = record { gives = led.gives;
 pub spare_kept : (spare tables : TablesView) (kept w : JournalsView) → kept ≡ w → AreKept tables kept → spare ≡ tables → AreKept spare w
 spare_kept spare tables kept w leads keeps same =
     subst (λ (t : TablesView). AreKept t w) (sym same) (subst (λ (o : JournalsView). AreKept tables o) leads keeps)
-
--- those that are there are
-pub some_kept : (found : Option TablesView) (spare tables : TablesView) → IfSome found (λ (t : TablesView). t ≡ tables) → found ≡ Some spare → spare ≡ tables
-some_kept found spare tables same is = subst (λ (o : Option TablesView). IfSome o (λ (t : TablesView). t ≡ tables)) is same
 
 -- entries from a place on, as a slice has them
 abbrev pub from_on : {E : Type 0} → ℕ → List E → List E
@@ -393,13 +377,6 @@ module _ (tables ahead : TablesView) (limits : LimitsView) (servers : List (List
       taken_at tables ahead (journals_in ahead limits after now view) old kept_old (parts.Server number) (entries.Server more) least of_tree led
       ((λ i. journals_in (led.stand i) limits (is i) now view)
       ∙ (λ i. record { levels = old.levels; limits = (same i).limits; servers = set (same i).servers (number - 1) (server_prefix (same i) number ++ more); desk = (same i).desk; view = (same i).view }))
-
-  -- where memory is refused the entries of a part stay
-  pub desk_stays : (after : List DeskEntry) → after ≡ now → Stands tables (journals_in tables limits servers after view) old
-  desk_stays after is = stands_at tables (journals_in tables limits servers after view) old (ap (λ (es : List DeskEntry). journals_in tables limits servers es view) is ∙ same) kept_old
-
-  pub view_stays : (after : List ViewEntry) → after ≡ view → Stands tables (journals_in tables limits servers now after) old
-  view_stays after is = stands_at tables (journals_in tables limits servers now after) old (ap (λ (es : List ViewEntry). journals_in tables limits servers now es) is ∙ same) kept_old
 
   servers_stay : (after : List (List NodeEntry)) → after ≡ servers → Stands tables (journals_in tables limits after now view) old
   servers_stay after is = stands_at tables (journals_in tables limits after now view) old (ap (λ (all : List (List NodeEntry)). journals_in tables limits all now view) is ∙ same) kept_old

@@ -33,7 +33,7 @@ installed-cases files name copy f =
       | inr p ↦ inl (comes.others f p.0)
     ]
 
-installed-low : (files : Files) (name : List ℕ) (copy : FileCopy) → copy.version ≤ (copy_of (installed files name copy) name).version
+pub installed-low : (files : Files) (name : List ℕ) (copy : FileCopy) → copy.version ≤ (copy_of (installed files name copy) name).version
 installed-low files name copy =
     let comes = Installs-installed files name copy in
     elim (cases_Bool (nat_lt (copy_of files name).version copy.version)) [

@@ -1,7 +1,7 @@
 -- What each ask of a server does to its records: the frames hold of its step.
 use Rattle.std.specs.Prelude.{◌==◌, not}
 use Rattle.std.proofs.Common.{◌≡◌, ◌≢◌, ℕ, ◌≤◌, ◌<◌, Bool, true, false, cond, List, [], ◌∷◌, map, Option, Some, None, refl, sym, ap, subst, ◌∙◌, ◌⊎◌, inl, inr, arith}
-use Rattle.std.proofs.lemmas.Bool.{cases_Bool, cond-true, cond-false, false≢true, true≢false, and_parts, and_from, or_right, eqb-true, ne_eqb, eq-eqb, leb-false}
+use Rattle.std.proofs.lemmas.Bool.{cases_Bool, cond-true, false≢true, true≢false, and_from, eqb-true, ne_eqb, eq-eqb}
 use Rattle.std.specs.Cmp.{nat_cmp_total}
 use Rattle.std.specs.FinMap as fin
 use Rattle.std.specs.FinMap.{nat_cmp-IsAntisymmetric}
@@ -210,16 +210,6 @@ among_kept m t = λ f u lock h.
     let k = map-some (λ (lock : Lock). (stabilised t ((f, u), lock)).1) (fin.get m (f, u)) lock (sym (get-kept m t (f, u)) ∙ h) in
     let is : stabled k.0 (u == t) ≡ lock = k.2 in
     (k.0, k.1, ap (λ (l : Lock). l.mode) is, ap (λ (l : Lock). l.since) is, ap (λ (l : Lock). l.version) is)
-
-pub filter-in : {A : Type 0} (p : A → Bool) (xs : List A) (x : A) → Has xs x → p x ≡ true → Has (filter p xs) x
-filter-in p [] x h t = h
-filter-in p (y ∷ xs) x h t = by (p y) refl h (λ k. filter-in p xs x k t)
-  where
-    by : (b : Bool) → p y ≡ b → (y ≡ x) ⊎ Has xs x → (Has xs x → Has (filter p xs) x) → Has (cond b (y ∷ filter p xs) (filter p xs)) x
-    by true q (inl e) ih = inl e
-    by true q (inr k) ih = inr (ih k)
-    by false q (inl e) ih = absurd (true≢false (sym t ∙ ap p (sym e) ∙ q))
-    by false q (inr k) ih = ih k
 
 held_maps : (es : List (LockKey × Lock)) → map held_kept (map kept_lock es) ≡ map held_lock es
 held_maps [] = refl

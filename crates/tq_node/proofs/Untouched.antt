@@ -15,6 +15,7 @@ use Rattle.tq_node.specs.Untouched.{AreReached, KeepsOthers, raised_files, step_
 use Rattle.tq_node.specs.Records.{Records}
 use Rattle.tq_node.specs.declared.change.NodeStep.{NodeStep}
 use Rattle.tq_node.specs.declared.change.NodeStep.TheVariants as steps
+use Rattle.tq_node.proofs.Installed.{installed-low}
 
 other-installed : (files : Files) (name : List ℕ) (copy : FileCopy) (other : List ℕ) → same_name other name ≡ false → copy_of (installed files name copy) other ≡ copy_of files other
 other-installed files name copy other differs =
@@ -44,20 +45,11 @@ step-keeps ask old number steps.Return file none = refl
 
 -- ---- and those of its own files come to the versions told
 
-own-installed : (files : Files) (name : List ℕ) (copy : FileCopy) → copy.version ≤ (copy_of (installed files name copy) name).version
-own-installed files name copy = by_order (nat_lt (copy_of files name).version copy.version) refl
-  where
-    by_order : (b : Bool) → nat_lt (copy_of files name).version copy.version ≡ b → copy.version ≤ (copy_of (installed files name copy) name).version
-    by_order true less = subst (λ (had : FileCopy). copy.version ≤ had.version) (sym ((Installs-installed files name copy).newer (ltb-true _ _ less))) (omega arith)
-    by_order false more =
-        let low = ltb-false _ _ more in
-        subst (λ (had : FileCopy). copy.version ≤ had.version) (sym ((Installs-installed files name copy).no_newer low)) low
-
 own-installed_all : (files : Files) (writes : List Write) → AllByRecursion (λ write. write.version ≤ (copy_of (installed_all files writes) write.file).version) writes
 own-installed_all files [] = tt
 own-installed_all files (write ∷ writes) =
     let first = installed files write.file (copy_in write) in
-    (rises_then _ _ _ (own-installed files write.file (copy_in write)) (rises-installed_all first writes write.file), own-installed_all first writes)
+    (rises_then _ _ _ (installed-low files write.file (copy_in write)) (rises-installed_all first writes write.file), own-installed_all first writes)
 
 pub step-reaches : (ask : NodeAsk) (old : Records) (number : ℕ) (step : NodeStep) → AreReached ask (step_raises step) (stepped old number step).copies
 step-reaches ask old number steps.Nothing = tt
@@ -66,7 +58,7 @@ step-reaches ask old number (steps.Vote txn vote) = tt
 step-reaches ask old number (steps.Discard txn vote) = tt
 step-reaches ask old number (steps.Install txn vote writes newer) = own-installed_all old.copies writes
 step-reaches ask old number (steps.Release txn) = tt
-step-reaches ask old number (steps.Refresh write) = (own-installed old.copies write.file (record { version = write.version; content = write.content }), tt)
+step-reaches ask old number (steps.Refresh write) = (installed-low old.copies write.file (record { version = write.version; content = write.content }), tt)
 step-reaches ask old number (steps.Unfinished records) = tt
 step-reaches ask old number (steps.Copies newer) = own-installed_all old.copies newer
 step-reaches ask old number steps.Crash = tt

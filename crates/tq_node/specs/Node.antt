@@ -1,17 +1,17 @@
 -- What contracts see of a server.
-use Rattle.std.specs.Prelude.{◌≡◌, ℕ, Bool, true, false, List, [], ◌∷◌, Some, ◌+◌, ◌++◌, refl}
+use Rattle.std.specs.Prelude.{◌≡◌, ℕ, Bool, true, false, List, [], Some, ◌+◌, refl}
 use Rattle.std.specs.Coded.{Coded, code_by, coded×, coded_list, coded_ℕ, coded_bool}
 use Rattle.std.specs.FinMap as fin
 use Rattle.tq_shape.specs.Journal.{Has}
 use Rattle.tq_store.specs.Copies.{Files, files_code}
-use Rattle.tq_locks.specs.Locks.{Locks, locks_code, only_stable, released}
+use Rattle.tq_locks.specs.Locks.{Locks, locks_code, only_stable}
 use Rattle.tq_locks.specs.declared.mode.Lock.{Lock}
 use Rattle.tq_intents.specs.Kept.{Votes, HasOneVoteEach, IsAbove, kept_copies, kept_votes, stable_lock}
 use Rattle.tq_intents.specs.declared.record.KeptLock.{KeptLock}
 use Rattle.tq_intents.specs.declared.record.OpenVote.{OpenVote}
 use Rattle.tq_intents.specs.declared.record.Record.{Record}
 use Rattle.tq_intents.specs.declared.record.Record.TheVariants as stable
-use Rattle.tq_node.specs.Records.{Records, NodeState, open_vote, node_after, node_reply, kept_records}
+use Rattle.tq_node.specs.Records.{Records, NodeState, node_after, node_reply, kept_records}
 use Rattle.tq_asks.specs.declared.ask.NodeAsk.{NodeAsk}
 use Rattle.tq_asks.specs.declared.ask.NodeReply.{NodeReply}
 
@@ -40,19 +40,6 @@ numbered number old = record { levels = old.levels; server = old.server; state =
 -- a server that is up and has stored nothing
 abbrev pub opening : ℕ → ℕ → NodeView
 opening levels server = record { levels = levels; server = server; state = record { records = record { copies = fin.empty; locks = fin.empty; votes = fin.empty; down = false }; stable = [] }; last = 0 }
-
--- the server after a vote ends, with nothing installed
-abbrev pub ended : NodeView → ℕ → NodeView
-ended old txn =
-    record {
-      levels = old.levels;
-      server = old.server;
-      state = record {
-        records = record old.state.records { locks = released old.state.records.locks txn; votes = fin.remove old.state.records.votes txn };
-        stable = old.state.stable ++ stable.Gone txn (open_vote old.state.records txn).number ∷ [];
-      };
-      last = old.last;
-    }
 
 -- the reply to an ask
 abbrev pub replied : NodeView → NodeAsk → NodeReply

@@ -18,15 +18,6 @@ pub refused : (job : Job) (old new : List Exchange) → IsAnswered job.source.nu
 refused job old new told =
     (exchanges.Node job.source.number (Work (Peek job.file)) (Err told.0) ∷ [], told.1, (Err told.0, [], refl, (refl, refl)))
 
--- it told no copy
-pub no_copy : (job : Job) (t : NodeTold) (old new : List Exchange) → IsAnswered job.source.number (Work (Peek job.file)) (Some t) old new → refresh_of job t.number t.reply ≡ None → Grows (worker_asked job) old new
-no_copy job t old new told none =
-    let answer : Told NodeReply = Ok (record { number = t.number; reply = t.reply }) in (
-      exchanges.Node job.source.number (Work (Peek job.file)) answer ∷ [],
-      told,
-      (answer, [], refl, subst (λ (a : Option NodeAsk). Makes (mend_asked (λ (mended : Bool). tt) job a) [] tt) (sym none) (refl, refl)),
-    )
-
 both : (job : Job) (t : NodeTold) (ask : NodeAsk) (second : Told NodeReply) (old mid new : List Exchange) → IsAnswered job.source.number (Work (Peek job.file)) (Some t) old mid
     → refresh_of job t.number t.reply ≡ Some ask → new ≡ mid ++ exchanges.Node job.server.number ask second ∷ [] → Grows (worker_asked job) old new
 both job t ask second old mid new told some taken =

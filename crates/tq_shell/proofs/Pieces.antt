@@ -139,9 +139,6 @@ pub record IsReceiving (start : Received) (said piece : List ℕ) (now : Receive
   pub text_is : text ≡ said ++ answers_to start front
   pub taken : taken_at_once (length said) start piece ≡ length front + taken_at_once (length text) now left
 
-pub receiving-starts : (start : Received) (said piece : List ℕ) → IsReceiving start said piece start said piece
-receiving-starts start said piece = record { front = []; parts = refl; received_is = refl; text_is = sym (append-nil said); taken = omega arith }
-
 -- a line feed parts the bytes
 pub line-parts : (left : List ℕ) (place : ℕ) → place < length left → slice_index left place ≡ 10 → left ≡ take place left ++ 10 ∷ drop (place + 1) left
 line-parts left place less is =

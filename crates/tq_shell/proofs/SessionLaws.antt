@@ -30,15 +30,6 @@ abbrev pub HasRun : {T : Type 0} → Result T RunFault → ℕ → Option (List 
 HasRun result levels given given_after taken taken_after =
     (bytes : List ℕ) × (text : List ℕ) × Appends given given_after bytes × Appends taken taken_after text × IsRunText result levels bytes text
 
-pub going_starts : (levels : ℕ) (given taken : Option (List ℕ)) → IsGoing levels given given taken taken (nothing_received levels) 16777216
-going_starts levels given taken = record {
-  bytes = [];
-  read = Appends-none given;
-  wrote = Appends-none taken;
-  received_is = refl;
-  room = omega arith;
-}
-
 pub ends_before : (levels : ℕ) (given taken : Option (List ℕ)) → HasRun {T = Unit {0}} (Err Memory) levels given given taken taken
 ends_before levels given taken = ([], [], Appends-none given, Appends-none taken, (0, refl))
 
@@ -195,14 +186,6 @@ module _ (levels : ℕ) (given given_now taken taken_now : Option (List ℕ)) (r
 -- what is put behind no text is all of it
 pub said_alone : (old new said : List ℕ) → old ≡ [] → new ≡ old ++ said → new ≡ said
 said_alone old new said none is = is ∙ ap (λ text. text ++ said) none
-
-pub answering_starts : (start : Received) (piece : List ℕ) (taken : Option (List ℕ)) → IsAnswering start piece taken taken start piece
-answering_starts start piece taken = record {
-  front = [];
-  parts = refl;
-  wrote = Appends-none taken;
-  received_is = refl;
-}
 
 module _ (start : Received) (piece : List ℕ) (taken taken_now : Option (List ℕ)) (received : Received) (left : List ℕ) (going : IsAnswering start piece taken taken_now received left) where
   -- the answers to a part of what is left go on from those that are written

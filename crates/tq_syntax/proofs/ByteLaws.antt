@@ -10,7 +10,7 @@ use Rattle.tq_syntax.specs.Word.{without_return}
 use Rattle.tq_syntax.specs.ClientLine.{client_line_of}
 use Rattle.tq_syntax.specs.declared.client.ClientLine.{ClientLine}
 use Rattle.tq_syntax.specs.declared.client.ClientLine.TheVariants.{Bad}
-use Rattle.tq_syntax.specs.Scripts.{last_by, lines_within}
+use Rattle.tq_syntax.specs.Scripts.{last_by}
 
 -- the first part goes on from what came before it
 abbrev onto_parts : List ℕ → List (List ℕ) → List (List ℕ)
@@ -26,13 +26,6 @@ lines_left is_over line bytes = lines_from is_over (onto_parts line (parts_of by
 
 parts_some : (bytes : List ℕ) → 0 < length (parts_of bytes)
 parts_some bytes = let count = length-slice_split (λ byte. byte == 10) bytes in omega (arith, count)
-
-onto_nothing : (parts : List (List ℕ)) → onto_parts [] parts ≡ parts
-onto_nothing [] = refl
-onto_nothing (part ∷ parts) = refl
-
-pub all_left : (is_over : Bool) (bytes : List ℕ) → lines_left is_over [] bytes ≡ lines_within is_over bytes
-all_left is_over bytes = ap (lines_from is_over) (onto_nothing (parts_of bytes))
 
 ends_by : (is_over : Bool) (line : List ℕ) (parts : List (List ℕ)) → 0 < length parts → lines_from is_over (onto_parts line ([] ∷ parts)) ≡ client_line_of (without_return line) ∷ lines_from is_over (onto_parts [] parts)
 ends_by is_over line [] some = absurd (omega (arith, some))

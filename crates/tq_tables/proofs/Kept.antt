@@ -1,7 +1,7 @@
 -- Rows that are kept under the names of their files.
 use Rattle.std.specs.Prelude.{◌||◌}
-use Rattle.std.proofs.Common.{◌≡◌, ℕ, ◌+◌, ◌<◌, Bool, true, false, cond, List, [], ◌∷◌, ◌++◌, length, map, take, get_or, Some, None, refl, ap, sym, subst, ◌∙◌}
-use Rattle.std.specs.List.{All, fold}
+use Rattle.std.proofs.Common.{◌≡◌, ℕ, ◌+◌, Bool, true, false, cond, List, [], ◌∷◌, ◌++◌, map, Some, None, refl, ap, sym, subst, ◌∙◌}
+use Rattle.std.specs.List.{All}
 use Rattle.std.specs.Map.{lookup, set_value}
 use Rattle.std.specs.Option.{unwrap_or}
 use Rattle.std.proofs.lemmas.List.{append-nil, append_assoc}
@@ -16,7 +16,6 @@ use Rattle.tq_tables.specs.Files.{AreExact, AreFiles, AreOfLevels, all_stood, mo
 use Rattle.tq_tables.specs.NamesApart.{is_in, Apart}
 use Rattle.tq_tables.specs.Rows.{has_version, row_at}
 use Rattle.tq_tables.proofs.Names.{differ, or_false, or_true}
-use Rattle.tq_tables.proofs.RowLaws.{take-next}
 
 -- ---- rows by their names
 
@@ -210,10 +209,6 @@ version-none file rows none = sym (lookup-version file rows ∙ ap (λ o. unwrap
 pub all_stood-append : (node : NodeView) (rows : List FileRow) (files : List (List ℕ)) (file : List ℕ) → all_stood node rows (files ++ file ∷ []) ≡ map (stood_at node file) (all_stood node rows files)
 all_stood-append node rows [] file = refl
 all_stood-append node rows (first ∷ files) file = all_stood-append node (map (stood_at node first) rows) files file
-
-pub all_stood-next : (node : NodeView) (rows : List FileRow) (files : List (List ℕ)) (i : ℕ) (file : List ℕ) → i < length files → file ≡ get_or files i file
-    → map (stood_at node file) (all_stood node rows (take i files)) ≡ all_stood node rows (take (i + 1) files)
-all_stood-next node rows files i file less is = sym (ap (all_stood node rows) (take-next files i file less is) ∙ all_stood-append node rows (take i files) file)
 
 -- ---- rows put where there is none of their files
 

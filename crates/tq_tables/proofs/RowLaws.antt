@@ -1,31 +1,22 @@
 -- Rows as they are gathered, one after another.
 use Rattle.std.specs.Prelude.{reverse, nat_le}
-use Rattle.std.proofs.Common.{◌≡◌, ℕ, zero, suc, ◌+◌, ◌≤◌, ◌<◌, Bool, true, false, cond, List, [], ◌∷◌, ◌++◌, length, map, filter, take, get_or, Option, Some, None, refl, ap, sym, subst, ◌∙◌, arith}
-use Rattle.std.specs.List.{All, flat_map}
-use Rattle.std.specs.Option.{option_map}
-use Rattle.std.proofs.lemmas.List.{append-nil, append_assoc, take_more, map-append}
+use Rattle.std.proofs.Common.{◌≡◌, ℕ, zero, suc, ◌+◌, ◌≤◌, ◌<◌, Bool, true, false, cond, List, [], ◌∷◌, ◌++◌, length, map, filter, take, get_or, refl, ap, sym, subst, ◌∙◌, arith}
+use Rattle.std.specs.List.{All}
+use Rattle.std.proofs.lemmas.List.{append-nil, take_more, map-append}
 use Rattle.std.proofs.lemmas.List.Elements.{All-cons, filter-append}
 use Rattle.tq_shape.specs.ServerSet.{Servers}
 use Rattle.tq_shape.specs.Tree.{Server}
 use Rattle.tq_shape.proofs.Joined.{reverse-push}
 use Rattle.tq_desk.specs.DeskJournal.{commits, with_commit, DeskEntry}
-use Rattle.tq_live.specs.BestOf.{IsBestOf}
-use Rattle.tq_live.specs.Live.{Live}
 use Rattle.tq_live.specs.View.{upwards}
-use Rattle.tq_live.specs.declared.purpose.Purpose.{Purpose}
-use Rattle.tq_live.specs.declared.least.Least.{Least}
 use Rattle.tq_node.specs.Node.{NodeView}
 use Rattle.tq_tables.specs.Parts.{AreOfTree}
-use Rattle.tq_tables.specs.Rows.{least_of, least_row, row_at, servers_where}
+use Rattle.tq_tables.specs.Rows.{row_at, servers_where}
 
 -- ---- lists
 
 pub take-next : {X : Type 0} (xs : List X) (i : ℕ) (x : X) → i < length xs → x ≡ get_or xs i x → take (i + 1) xs ≡ take i xs ++ x ∷ []
 take-next xs i x less is = take_more xs i x less ∙ ap (λ y. take i xs ++ y ∷ []) (sym is)
-
-pub flat_map-append : {X Y : Type 0} (f : X → List Y) (xs ys : List X) → flat_map f (xs ++ ys) ≡ flat_map f xs ++ flat_map f ys
-flat_map-append f [] ys = refl
-flat_map-append f (x ∷ xs) ys = ap (λ rest. f x ++ rest) (flat_map-append f xs ys) ∙ sym (append_assoc (f x) (flat_map f xs) (flat_map f ys))
 
 -- ---- quorums
 
@@ -38,12 +29,6 @@ upwards-push first count = ap (upwards first) (one count) ∙ by first count
     by : (first count : ℕ) → upwards first (suc count) ≡ upwards first count ++ (first + count) ∷ []
     by first zero = ap (λ (n : ℕ). n ∷ []) (omega arith)
     by first (suc count) = ap (λ rest. first ∷ rest) (by (first + 1) count ∙ ap (λ (n : ℕ). upwards (first + 1) count ++ n ∷ []) (omega arith))
-
-pub least_row-is : (live : Live) (purpose : Purpose) (server : ℕ) (told : Option Least) → IsBestOf live purpose server told → told ≡ least_row live purpose server
-least_row-is live purpose server None is = sym (ap (option_map (least_of live purpose)) is)
-least_row-is live purpose server (Some least) is =
-    (λ i. Some (record { cost = is.2 i; servers = record { levels = is.1 i; numbers = least.servers.numbers } }))
-    ∙ sym (ap (option_map (least_of live purpose)) is.0)
 
 -- ---- files
 

@@ -13,7 +13,7 @@ use Rattle.tq_txn.specs.declared.txn.Txn.{Txn}
 use Rattle.tq_txn.specs.declared.txn.Txn.TheVariants as states
 use Rattle.tq_txn.specs.Commits.{prepares_line, committed, decided, ready_line, decide_line, commit_end, decide_and_end_line, commit_line}
 use Rattle.tq_txn_states.specs.Ended.{EndedView}
-use Rattle.tq_txn.specs.Dialogue.{LineEnd, Follows, done, ended_by, fault_of_txn, desk_line}
+use Rattle.tq_txn.specs.Dialogue.{LineEnd, Follows, done, ended_by, desk_line}
 use Rattle.tq_txn.specs.Lines.{answers, prepare_line, ending_line}
 use Rattle.tq_txn_states.specs.Voting.{VotingView, has_votes, ready_fault, evidence_of}
 use Rattle.tq_txn.proofs.LineLaws.{follows_end, follows_answer, follows_on, follows_off}
@@ -37,10 +37,6 @@ module _ (old : VotingView) (ask : DeskAsk) (asks : ask ≡ evidence_of old) whe
   asked : (exchanges after : List Exchange) (end : Option (LineEnd DeskTold (Unit {0}))) → Follows (desk_line ask) exchanges after end → Follows (desk_line (evidence_of old)) exchanges after end
   asked exchanges after end first = let P : DeskAsk → Type 0 = λ a. Follows (desk_line a) exchanges after end in subst P asks first
 
-  pub ready_off : (fault : LineFault) (exchanges after : List Exchange) → Follows (desk_line ask) exchanges after (ended_by (Err fault) tt) → Follows (ready_line old) exchanges after (ended_by (Err fault) (states.Voting old))
-  ready_off fault exchanges after first =
-      follows_off (desk_line (evidence_of old)) (λ none. states.Voting old) (λ told none. answers (committed told.reply) (decided old told)) fault tt (states.Voting old) exchanges after refl (asked exchanges after (ended_by (Err fault) tt) first)
-
   pub ready_on : (told : DeskTold) (answer : Result ℕ LineFault) (left : Txn) (exchanges after : List Exchange) → Follows (desk_line ask) exchanges after (Some (record { answer = Ok told; after = tt })) → answer ≡ committed told.reply → left ≡ decided old told → Follows (ready_line old) exchanges after (ended_by answer left)
   ready_on told answer left exchanges after first is leaves =
       follows_on (desk_line (evidence_of old)) (λ none. states.Voting old) (λ t none. answers (committed t.reply) (decided old t)) told tt exchanges after after (ended_by answer left)
@@ -59,15 +55,6 @@ there old is =
       | true ↦ λ e. refl
       | false ↦ λ e. cc
     ] is
-
-pub decide_missing : (old back : VotingView) (fault : TxnFault) (line_fault : LineFault) (exchanges : List Exchange) → ready_fault old ≡ Some fault → line_fault ≡ fault_of_txn fault → back ≡ old → Follows (decide_line old) exchanges exchanges (ended_by (Err line_fault) (states.Voting back))
-decide_missing old back fault line_fault exchanges is faults_are backs =
-    let so = missing old fault is in
-    let P : LineFault → Type 0 = λ f. Follows (decide_line old) exchanges exchanges (ended_by (Err f) (states.Voting old)) in
-    let Q : VotingView → Type 0 = λ v. Follows (decide_line old) exchanges exchanges (ended_by (Err line_fault) (states.Voting v)) in
-    let R : TxnFault → Type 0 = λ f. line_fault ≡ fault_of_txn f in
-    let last : P (faults.Txn txn_faults.VotesMissing) = rw so.0 (follows_end _ exchanges) in
-    subst Q (sym backs) (subst P (sym (subst R so.1 faults_are)) last)
 
 pub decide_ready : (old ready : VotingView) (answer : Result ℕ LineFault) (left : Txn) (exchanges after : List Exchange) → ready_fault old ≡ None → ready ≡ old → Follows (ready_line ready) exchanges after (ended_by answer left) → Follows (decide_line old) exchanges after (ended_by answer left)
 decide_ready old ready answer left exchanges after none same follows =

@@ -103,9 +103,6 @@ ends_refused number ask (ask_faults.Unfounded part n) old new after grown = (des
 abbrev pub Untold : ℕ → List Exchange → List Exchange → Type 0
 Untold number old new = (more : List Exchange) × (new ≡ old ++ more) × (list_any (tells_end number) more ≡ false)
 
-pub untold_nothing : (number : ℕ) (old : List Exchange) → Untold number old old
-untold_nothing number old = ([], sym (append-nil old), refl)
-
 neither : (a b : Bool) → a ≡ false → (a || b) ≡ b
 neither true b none = cc
 neither false b none = refl

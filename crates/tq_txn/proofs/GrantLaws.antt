@@ -129,7 +129,7 @@ none_first : {X : Type 0} (b : Bool) (x : X) (rest : Option X) → cond b (Some 
 none_first true x rest is = cc
 none_first false x rest is = (refl, is)
 
-none_found : {X : Type 0} (test : X → Bool) (xs : List X) → find test xs ≡ None → list_any test xs ≡ false
+pub none_found : {X : Type 0} (test : X → Bool) (xs : List X) → find test xs ≡ None → list_any test xs ≡ false
 none_found test [] none = refl
 none_found test (x ∷ xs) none =
     let parts = none_first (test x) x (find test xs) none in

@@ -61,9 +61,6 @@ voted_on_after old new told is none = subst (IsVotedOn old) (sym is) (voted_on_b
 
 -- ---- the transaction in any state
 
-pub gathered_same : (old new : VotingView) (txn : Txn) → txn ≡ states.Voting new → new ≡ old → IsGathered old txn
-gathered_same old new txn is same = subst (IsGathered old) (sym is) (voted_on_same old new same)
-
 pub gathered_on : (old mid : VotingView) (txn : Txn) → IsVotedOn old mid → IsGathered mid txn → IsGathered old txn
 gathered_on old mid (states.Open new) first second = second
 gathered_on old mid (states.Voting new) first second = voted_on_on old mid new first second

@@ -47,9 +47,6 @@ all_left few more = All-weaker (Contains few) (Contains (few ++ more)) (λ answe
 
 -- ---- as more is told
 
-pub grown_none : (old : List Exchange) → Grown old old
-grown_none old = ([], sym (append-nil old))
-
 pub answers_grow : (old new : List Exchange) → Grown old new → All (Contains (answers_in new)) (answers_in old)
 answers_grow old new more =
     let P : List NodeTold → Type 0 = λ xs. All (Contains xs) (answers_in old) in
@@ -118,9 +115,6 @@ cites_append before [] more none rest = let P : List Exchange → Type 0 = λ to
 cites_append before (entry ∷ first) more some rest =
     let P : List Exchange → Type 0 = λ told. CitesTold told more in
     (some.0, cites_append (before ++ entry ∷ []) first more some.1 (subst P (sym (append_assoc before (entry ∷ []) first)) rest))
-
-pub cites_none : (old : List Exchange) → CitesSince old old
-cites_none old = ([], sym (append-nil old), tt)
 
 pub cites_on : (old mid new : List Exchange) → CitesSince old mid → CitesSince mid new → CitesSince old new
 cites_on old mid new first rest =

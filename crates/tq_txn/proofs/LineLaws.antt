@@ -1,5 +1,5 @@
 -- What was told along a line, one ask or one part of it after another.
-use Rattle.std.proofs.Common.{◌≡◌, ◌<◌, ℕ, Bool, false, List, [], ◌∷◌, ◌++◌, Option, Some, None, Result, Ok, Err, refl, sym, ap, ◌∙◌, subst, inl, inr, append_assoc, append-nil, ◌+◌, ◌-◌, ◌≤◌, suc, length, take, drop, get_or, arith}
+use Rattle.std.proofs.Common.{◌≡◌, ◌<◌, ℕ, Bool, false, List, [], ◌∷◌, ◌++◌, Option, Some, None, Result, Ok, Err, refl, sym, ap, ◌∙◌, subst, inl, inr, append_assoc, append-nil, ◌+◌, ◌-◌, suc, length, drop, get_or, arith}
 use Rattle.std.proofs.Math.Seq.{drop-cons}
 use Rattle.tq_asks.specs.declared.ask.NodeAsk.{NodeAsk}
 use Rattle.tq_asks.specs.declared.ask.NodeReply.{NodeReply}
@@ -65,9 +65,6 @@ follows_view ask next answer old mid new (Some end) first rest = (exchanges.View
 
 -- ---- parts after one another
 
-joined : (told rest : List Exchange) (first : List Exchange) (entry : Exchange) (more : List Exchange) → told ≡ entry ∷ first → told ++ more ≡ entry ∷ (first ++ more)
-joined told rest first entry more is = ap (λ t. t ++ more) is
-
 makes_then : {A B : Type 0} (line : Dialogue A) (next : A → Dialogue B) (told more : List Exchange) (a : A) (b : B) → Makes line told a → Makes (next a) more b → Makes (then_line line next) (told ++ more) b
 makes_then {A} {B} (Ends x) next told more a b first rest =
     let P : A → Type 0 = λ y. Makes (next y) more b in
@@ -86,7 +83,7 @@ begins_after (AsksNode server ask line) next told more a first rest = inr (first
 begins_after (AsksDesk ask line) next told more a first rest = inr (first.0, first.1 ++ more, ap (λ t. t ++ more) first.2, begins_after (line first.0) next first.1 more a first.3 rest)
 begins_after (AsksView ask line) next told more a first rest = inr (first.0, first.1 ++ more, ap (λ t. t ++ more) first.2, begins_after (line first.0) next first.1 more a first.3 rest)
 
-begins_then : {A B : Type 0} (line : Dialogue A) (next : A → Dialogue B) (told : List Exchange) → Begins line told → Begins (then_line line next) told
+pub begins_then : {A B : Type 0} (line : Dialogue A) (next : A → Dialogue B) (told : List Exchange) → Begins line told → Begins (then_line line next) told
 begins_then {A} {B} (Ends x) next told first =
     let Q : List Exchange → Type 0 = λ t. Begins (next x) t in
     subst Q (sym first) (begins_none (next x))
@@ -110,7 +107,7 @@ pub further : (old mid new first more : List Exchange) → mid ≡ old ++ first 
 further old mid new first more a b = b ∙ ap (λ t. t ++ more) a ∙ append_assoc old first more
 
 -- a part that ended, and the rest
-follows_then : {A B : Type 0} (line : Dialogue A) (next : A → Dialogue B) (a : A) (old mid new : List Exchange) (end : Option B) → Follows line old mid (Some a) → Follows (next a) mid new end → Follows (then_line line next) old new end
+pub follows_then : {A B : Type 0} (line : Dialogue A) (next : A → Dialogue B) (a : A) (old mid new : List Exchange) (end : Option B) → Follows line old mid (Some a) → Follows (next a) mid new end → Follows (then_line line next) old new end
 follows_then line next a old mid new None first rest = (first.0 ++ rest.0, further old mid new first.0 rest.0 first.1 rest.1, begins_after line next first.0 rest.0 a first.2 rest.2)
 follows_then line next a old mid new (Some end) first rest = (first.0 ++ rest.0, further old mid new first.0 rest.0 first.1 rest.1, makes_then line next first.0 rest.0 a end first.2 rest.2)
 
@@ -174,11 +171,6 @@ refused_view ask ask_faults.Memory old new grown = ([], grown, inl refl)
 refused_view ask (ask_faults.JournalFull part) old new grown = follows_view ask _ (Err (ask_faults.JournalFull part)) old new new (Some (record { answer = Err (faults.JournalFull part); after = tt })) grown (follows_end _ new)
 refused_view ask (ask_faults.Unfounded part number) old new grown = follows_view ask _ (Err (ask_faults.Unfounded part number)) old new new (Some (record { answer = Err (faults.Unfounded part number); after = tt })) grown (follows_end _ new)
 
--- whatever was told of an ask
-pub asked_node : (server : ℕ) (ask : NodeAsk) (result : Result NodeTold AskFault) (old new : List Exchange) → new ≡ old ++ node_exchange server ask result → IfOk result (λ t. (t.server ≡ server) × (t.ask ≡ ask)) → Follows (node_line server ask) old new (ended_by (line_result result) tt)
-asked_node server ask (Ok told) old new grown same = told_node server ask told old new grown same.0 same.1
-asked_node server ask (Err fault) old new grown same = refused_node server ask fault old new grown
-
 pub asked_desk : (ask : DeskAsk) (result : Result DeskTold AskFault) (old new : List Exchange) → new ≡ old ++ desk_exchange ask result → IfOk result (λ t. t.ask ≡ ask) → Follows (desk_line ask) old new (ended_by (line_result result) tt)
 asked_desk ask (Ok told) old new grown same = told_desk ask told old new grown same
 asked_desk ask (Err fault) old new grown same = refused_desk ask fault old new grown
@@ -192,21 +184,11 @@ asked_view ask (Err fault) old new grown same = refused_view ask fault old new g
 pub follows_unless : {A S : Type 0} (cause : Option TxnFault) (a : A) (before after : S) (old : List Exchange) → cause ≡ None → Follows (unless cause before (done a after)) old old (Some (record { answer = Ok a; after = after }))
 follows_unless cause a before after old none = rw none (follows_end _ old)
 
-take-length-self : {X : Type 0} (xs : List X) → take (length xs) xs ≡ xs
-take-length-self [] = refl
-take-length-self (x ∷ xs) = ap (λ ys. x ∷ ys) (take-length-self xs)
-
 -- what is left of a list from a place on: the value there, and those behind it
 pub left_from : {X : Type 0} (xs : List X) (place : ℕ) (x : X) → place < length xs → x ≡ get_or xs place x → drop place xs ≡ x ∷ drop (place + 1) xs
 left_from xs place x less is =
     let next : suc place ≡ place + 1 = omega arith in
     drop-cons xs place x less ∙ (λ i. sym is i ∷ drop (next i) xs)
-
-pub first_rest : {X : Type 0} (xs : List X) (x : X) → 1 ≤ length xs → x ≡ get_or xs 0 x → xs ≡ x ∷ take (length xs - 1) (drop 1 xs)
-first_rest [] x some is = absurd (omega arith)
-first_rest (y ∷ ys) x some is =
-    let len : suc (length ys) - 1 ≡ length ys = omega arith in
-    rw (len, is, take-length-self ys) refl
 
 module _ (file : List ℕ) (mode : Mode) (servers rest : List Server) (server : Server) (old new : LocksView) (is : servers ≡ server ∷ rest) where
   pub locks_off : (fault : LineFault) (told after : List Exchange) → Follows (next_lock file mode server.number old) told after (ended_by (Err fault) new) → Follows (locks_line file mode (numbers_of servers) old) told after (ended_by (Err fault) new)

@@ -1,57 +1,28 @@
 -- Where memory ran out in the locks of a quorum a further ask was to come, and what was granted is noted.
-use Rattle.std.proofs.Common.{◌≡◌, ◌==◌, ◌∙◌, Bool, true, if◌then◌else◌, ◌++◌, ℕ, false, List, [], ◌∷◌, Some, None, Option, Result, Ok, Err, refl, sym, subst, inl, inr, append-nil}
+use Rattle.std.proofs.Common.{◌≡◌, ◌∙◌, Bool, true, if◌then◌else◌, ◌++◌, ℕ, false, List, [], ◌∷◌, Some, None, Option, Result, Ok, Err, refl, sym, subst, inl, inr}
 use Rattle.std.proofs.lemmas.Bool.{false≢true}
-use Rattle.tq_part.specs.declared.fault.AskFault.{AskFault}
 use Rattle.tq_part.specs.declared.fault.AskFault.TheVariants as ask_faults
 use Rattle.tq_shape.specs.Tree.{Server}
-use Rattle.tq_coterie.specs.Coterie.{ServerList, IsMemberList, numbers_of}
+use Rattle.tq_coterie.specs.Coterie.{IsMemberList, numbers_of}
 use Rattle.tq_live.specs.declared.purpose.Purpose.{Purpose}
-use Rattle.tq_live.specs.declared.view.ViewAsk.{ViewAsk}
 use Rattle.tq_live.specs.declared.view.ViewAsk.TheVariants.{Choose}
-use Rattle.tq_live.specs.declared.view.ViewReply.{ViewReply}
 use Rattle.tq_live.specs.declared.view.ViewReply.TheVariants as view_replies
 use Rattle.tq_locks.specs.declared.mode.Mode.{Mode}
 use Rattle.tq_evidence.specs.declared.op.Op.{Op}
 use Rattle.tq_txn_states.specs.Open.{OpenView, has_all_ops, rewritten, touched_by, written}
-use Rattle.tq_txn_states.specs.declared.fault.TxnFault.TheVariants.{NotAMember, TooManyOps}
+use Rattle.tq_txn_states.specs.declared.fault.TxnFault.TheVariants.{TooManyOps}
 use Rattle.tq_txn_states.specs.declared.told.NodeTold.{NodeTold}
 use Rattle.tq_txn_states.proofs.Tested.{a_member, empty_set}
 use Rattle.tq_txn.specs.declared.asker.Exchange.{Exchange}
 use Rattle.tq_txn.specs.declared.asker.Exchange.TheVariants as exchanges
 use Rattle.tq_txn.specs.declared.fault.LineFault.{LineFault}
 use Rattle.tq_txn.specs.declared.fault.LineFault.TheVariants as faults
-use Rattle.tq_txn.specs.Dialogue.{Dialogue, LineEnd, Follows, IsUnasked, IsUnfailed, and_then, done, failed, fault_of_ask, view_exchange, view_line}
-use Rattle.tq_txn.specs.Lines.{IsNoted, LocksView, answers, granted, chosen, choose_line, lock_ask, lock_line, locks_line, next_lock, purpose_of, quorum_line, quorum_write, first_write, write_line, written_again, servers_of}
+use Rattle.tq_txn.specs.Dialogue.{Dialogue, LineEnd, Follows, IsUnasked, IsUnfailed, and_then, done, failed, fault_of_ask, view_line}
+use Rattle.tq_txn.specs.Lines.{IsNoted, LocksView, answers, granted, chosen, choose_line, lock_ask, lock_line, locks_line, next_lock, purpose_of, quorum_line, quorum_write, first_write, write_line, written_again}
 use Rattle.tq_txn.proofs.BreakLaws.{fails, full, node_fails, unfailed_first, unfailed_off, unfailed_on, unfailed_same}
 use Rattle.tq_txn.proofs.LineLaws.{refused_view}
 
 -- ---- the view's choice
-
--- what the view answers is no want of memory
-said : (levels : ℕ) (reply : ViewReply) (before later : List Exchange) → IsUnasked (chosen levels reply) before later
-said levels (view_replies.Chosen quorum cost) before later = by (quorum.levels == levels)
-  where
-    by : (same : Bool) → IsUnasked (if same then Ok quorum.servers else Err (faults.Txn NotAMember)) before later
-    by true = tt
-    by false = tt
-said levels (view_replies.Refused refusal) before later = tt
-said levels reply before later = tt
-
-pub unasked_chosen : (levels : ℕ) (reply : ViewReply) (result : Result ServerList LineFault) (before later : List Exchange) → servers_of result ≡ chosen levels reply → IsUnasked result before later
-unasked_chosen levels reply (Ok quorum) before later is = tt
-unasked_chosen levels reply (Err fault) before later is =
-    let P : Result (List ℕ) LineFault → Type 0 = λ r. IsUnasked r before later in
-    subst P (sym is) (said levels reply before later)
-
-pub unasked_view : (ask : ViewAsk) (fault : AskFault) (line_fault : LineFault) (old new : List Exchange) → line_fault ≡ fault_of_ask fault → new ≡ old ++ view_exchange ask (Err fault) → IsUnasked {A = Unit {0}} (Err line_fault) old new
-unasked_view ask fault line_fault old new is grown =
-    let P : LineFault → Type 0 = λ f. IsUnasked {A = Unit {0}} (Err f) old new in
-    subst P (sym is) (by fault grown)
-  where
-    by : (fault : AskFault) → new ≡ old ++ view_exchange ask (Err fault) → IsUnasked {A = Unit {0}} (Err (fault_of_ask fault)) old new
-    by ask_faults.Memory grown = grown ∙ append-nil old
-    by (ask_faults.JournalFull part) grown = tt
-    by (ask_faults.Unfounded part n) grown = tt
 
 choose_asks : (levels : ℕ) (purpose : Purpose) (told : List Exchange) → IsUnfailed {A = List ℕ} (Err faults.Memory) tt (choose_line levels purpose) told told
 choose_asks levels purpose told =

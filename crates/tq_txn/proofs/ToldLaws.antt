@@ -5,7 +5,6 @@ use Rattle.std.proofs.lemmas.List.Elements.{Contains-append_left, Contains-appen
 use Rattle.tq_desk.specs.declared.ask.DeskAsk.{DeskAsk}
 use Rattle.tq_txn_states.specs.declared.told.DeskTold.{DeskTold}
 use Rattle.tq_txn_states.specs.Ended.{EndedView, IsEnd, verdict_in, verdict_by}
-use Rattle.tq_txn_states.specs.Open.{OpenView}
 use Rattle.tq_txn_states.specs.Voting.{VotingView}
 use Rattle.tq_txn.specs.declared.asker.Exchange.{Exchange}
 use Rattle.tq_txn.specs.declared.asker.Exchange.TheVariants as exchanges
@@ -24,17 +23,6 @@ grown_along line old new None follows = (follows.0, follows.1)
 grown_along line old new (Some end) follows = (follows.0, follows.1)
 
 -- ---- how a transaction ended
-
-pub answered_end : (old : OpenView) (told : DeskTold) (ended : EndedView) → IsEnd old told ended → (verdict_in ended.txn told ≡ Some ended.verdict) × (ended.cite ≡ told.number)
-answered_end old told ended is = (ap (λ txn. verdict_in txn told) is.txn ∙ is.verdict, is.cite)
-
-pub answered_same : (before after : Txn) (told : DeskTold) → after ≡ before → IsAnswered before told after
-answered_same before after told is = subst (IsAnswered before told) (sym is) (itself before)
-  where
-    itself : (txn : Txn) → IsAnswered txn told txn
-    itself (states.Open old) = refl
-    itself (states.Voting old) = refl
-    itself (states.Ended old) = refl
 
 module _ (ask : DeskAsk) (told : DeskTold) (asks : told.ask ≡ ask) (old mid new : List Exchange) (asked : mid ≡ old ++ desk_exchange ask (Ok told)) (more : Grown mid new) where
   end_told : (ended : EndedView) → (verdict_in ended.txn told ≡ Some ended.verdict) × (ended.cite ≡ told.number) → (later : List Exchange) × (new ≡ old ++ later) × IsEndTold later ended

@@ -42,9 +42,6 @@ pub appended : (vote : Vote) (votes : List Vote) → list_all (λ other. nat_lt 
 appended vote votes all =
     rw (none_below (λ (v : Vote). v.server) vote.server votes all) (put_above (λ (v : Vote). v.server) vote votes all)
 
-servers_in : List Vote → List ℕ
-servers_in votes = map (λ vote. vote.server) votes
-
 same_servers : (vote : Vote) (votes : List Vote) → map (λ v. v.server) (changed (is_of_server vote.server) (λ other. vote) votes) ≡ map (λ v. v.server) votes
 same_servers vote [] = refl
 same_servers vote (first ∷ rest) =

@@ -27,7 +27,7 @@ use Rattle.tq_desk.specs.DeskJournal.{gives_verdict}
 use Rattle.tq_asks.specs.Same.{same_verdict}
 use Rattle.tq_world.specs.Founded.{cites, cites_votes, is_granted, is_voted, is_peeked, is_ended}
 use Rattle.tq_equality.specs.Same.{same_mode, same_lock, same_write}
-use Rattle.tq_equality.proofs.Equal.{work-is, node_reply-is, desk_reply-is}
+use Rattle.tq_equality.proofs.Equal.{work-is, node_reply-is, desk_reply-is, verdict-is}
 
 -- lists whose items are the same in pairs
 pairs-is : {A B : Type 0} (test : A → B → Bool) (f : B → A) → ((a : A) (b : B) → test a b ≡ true → a ≡ f b) → (xs : List A) (ys : List B) → pointwise test xs ys ≡ true → xs ≡ map f ys
@@ -44,12 +44,6 @@ cites-is a b same =
     let server = eqb-true a.server b.server both.0 in
     let number = eqb-true a.number b.number both.1 in
     λ i. record { server = server i; number = number i }
-
-verdict-is : (a b : Verdict) → same_verdict a b ≡ true → a ≡ b
-verdict-is a b same =
-    let told : desk_replies.Verdict a ≡ desk_replies.Verdict b =
-    desk_reply-is (desk_replies.Verdict a) (desk_replies.Verdict b) same in
-    cc
 
 commit-is : (verdict : Verdict) (votes : List Vote) → cites_votes verdict votes ≡ true → verdict ≡ verdicts.Commit (log.cited votes)
 commit-is verdicts.Abort votes same = absurd (false≢true same)

@@ -6,7 +6,7 @@ use Rattle.tq_txn.specs.Dialogue.{LineEnd, Follows, ended_by, line_result, view_
 use Rattle.tq_txn.specs.Lines.{any_line}
 use Rattle.tq_txn.proofs.LineLaws.{asked_view}
 use Rattle.tq_client.specs.Script.{mark_ask}
-use Rattle.tq_client.proofs.Following.{follows_then}
+use Rattle.tq_txn.proofs.LineLaws.{follows_then}
 use Rattle.tq_client.proofs.operating.mark_server.Goals as goal
 
 pub returns-in-Ok-clause-asks : goal.returns-in-Ok-clause-asks

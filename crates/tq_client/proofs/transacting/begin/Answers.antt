@@ -1,7 +1,8 @@
 use Rattle.std.proofs.lemmas.Result.{err_from_is_err_and}
 use Rattle.std.specs.Result.{result_ok}
 use Rattle.tq_client.specs.Script.{closing, desk_begun}
-use Rattle.tq_client.proofs.Following.{follows_cut, follows_then}
+use Rattle.tq_client.proofs.Following.{follows_cut}
+use Rattle.tq_txn.proofs.LineLaws.{follows_then}
 use Rattle.tq_client.proofs.transacting.begin.Goals as goal
 
 pub returns-in_err-close-clause-asks : goal.returns-in_err-close-clause-asks

@@ -1,6 +1,7 @@
-use Rattle.std.proofs.Common.{Some, nat_eq, ap, subst, ◌∙◌}
+use Rattle.std.proofs.Common.{Some, nat_eq, length, ltb-true, refl, ap, sym, subst, ◌∙◌}
+use Rattle.std.proofs.lemmas.Option.{slice_get_read}
 use Rattle.tq_shape.specs.Journal.{Has}
-use Rattle.tq_locks.proofs.Applied.{Has-at, looked_at}
+use Rattle.tq_locks.proofs.Applied.{Has-at}
 use Rattle.tq_locks.proofs.Indexed.{OnTrue-to}
 use Rattle.tq_locks.proofs.Listed.{equal}
 use Rattle.tq_locks.proofs.lock_slab.is_in_place.Goals as goal
@@ -12,4 +13,4 @@ returns-in-Some-get c =
     let listed = c.in-Some-get.listed.now in
     OnTrue-to _ (nat_eq listed c.args.key) (λ same.
     subst (λ ks. Has ks c.args.key) c.deref-2.ensures.value
-    (Has-at keys place c.args.key (looked_at keys place listed c.in-Some-get.ensures.lookup.0 c.in-Some-get.ensures.lookup.1 ∙ ap Some (equal listed c.args.key same))))
+    (Has-at keys place c.args.key (slice_get_read keys (length keys) place listed refl (ltb-true place (length keys) (sym c.in-Some-get.ensures.lookup.0)) c.in-Some-get.ensures.lookup.1 ∙ ap Some (equal listed c.args.key same))))

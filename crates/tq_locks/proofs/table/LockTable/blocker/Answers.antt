@@ -1,17 +1,18 @@
-use Rattle.std.proofs.Common.{ℕ, Option, Some, refl, IfNone, IfSome, ◌≡◌, None, map, ap, sym, subst, ◌∙◌}
-use Rattle.slab.specs.Slab.{get}
+use Rattle.std.proofs.Common.{ℕ, Option, Some, refl, IfNone, IfSome, ◌≡◌, None, ap, sym, subst, ◌∙◌}
 use Rattle.tq_locks.specs.Locks.{blocker, IsFree, IsLeastBlocker, LocksView}
-use Rattle.tq_locks.specs.Kept.{decided, locks_in, on_file}
-use Rattle.tq_locks.proofs.Applied.{told-listed}
+use Rattle.tq_locks.specs.Keys.{keys_in, told}
+use Rattle.tq_locks.specs.Kept.{decided, locks_in}
+use Rattle.tq_locks.proofs.Applied.{decided_on_file}
 use Rattle.tq_locks.proofs.Locked.{decided-blocker, least_blocker, no_blocker}
 use Rattle.tq_locks.proofs.table.LockTable.blocker.Goals as goal
 
 pub returns-clause-value : goal.returns-clause-value
 returns-clause-value c =
     let kept = c.self.inside.kept in
-    let all = told-listed (get kept.entries) c.keys_of_file-keys.result.now (on_file (locks_in kept) c.args.file) (ap (map (get kept.entries)) c.keys_of_file-keys.ensures ∙ c.self.invariant.0.of_file c.args.file) in
+    let all = decided_on_file kept (locks_in kept) c.self.invariant.0 c.args.file c.args.txn c.args.mode in
     c.held_by.ensures
-    ∙ ap (decided c.args.txn c.args.mode) all
+    ∙ ap (λ list. decided c.args.txn c.args.mode (told kept.entries (keys_in list))) c.get-list.ensures.value
+    ∙ all
     ∙ decided-blocker (locks_in kept) c.args.file c.args.txn c.args.mode c.self.invariant.1
     ∙ ap (λ m. blocker m c.args.file c.args.txn c.args.mode) (ap (λ (v : LocksView). v.locks) c.self.view_is)
 

@@ -1,20 +1,21 @@
-use Rattle.std.proofs.Common.{map, length, ap, subst, ◌∙◌}
-use Rattle.slab.specs.Slab.{get}
+use Rattle.std.proofs.Common.{subst}
+use Rattle.tq_store.specs.Names.{same_name}
+use Rattle.tq_locks.specs.Keys.{keys_under}
 use Rattle.tq_locks.specs.Locks.{LocksView}
-use Rattle.tq_locks.specs.Kept.{locks_in, on_file, AreKeysOf}
-use Rattle.tq_locks.proofs.Applied.{distinct_keys, as_many, sorted_on_file}
+use Rattle.tq_locks.specs.Kept.{locks_in, on_file, ListsKeysOf, HasOneKeyEach}
+use Rattle.tq_locks.proofs.Applied.{lent, lent_once, sorted_on_file}
 use Rattle.tq_locks.proofs.table.LockTable.keys_of_file.Goals as goal
 
 pub returns-clause-entries : goal.returns-clause-entries
 returns-clause-entries c =
     let kept = c.self.inside.kept in
-    let listed : AreKeysOf kept.entries c.keys_of_file.result.now (on_file (locks_in kept) c.args.file.now) = ap (map (get kept.entries)) c.keys_of_file.ensures ∙ c.self.invariant.0.of_file c.args.file.now in
-    subst (λ (v : LocksView). AreKeysOf v.slab c.keys_of_file.result.now (on_file v.locks c.args.file.now)) c.self.view_is listed
+    let moved = c.listed_under.result.now in
+    subst (λ (v : LocksView). ListsKeysOf v.slab moved (on_file v.locks c.args.file.now)) c.self.view_is
+    (lent kept.entries (keys_under same_name kept.by_file c.args.file.now) moved (on_file (locks_in kept) c.args.file.now) c.listed_under.ensures (c.self.invariant.0.of_file c.args.file.now))
 
 pub returns-clause-once : goal.returns-clause-once
 returns-clause-once c =
     let kept = c.self.inside.kept in
-    let keys = c.keys_of_file.result.now in
-    let locks = on_file (locks_in kept) c.args.file.now in
-    let listed : AreKeysOf kept.entries keys locks = ap (map (get kept.entries)) c.keys_of_file.ensures ∙ c.self.invariant.0.of_file c.args.file.now in
-    (distinct_keys (get kept.entries) keys locks listed (sorted_on_file (locks_in kept) c.args.file.now), as_many (get kept.entries) keys locks listed ∙ ap (λ (v : LocksView). length (on_file v.locks c.args.file.now)) c.self.view_is)
+    let moved = c.listed_under.result.now in
+    subst (λ (v : LocksView). HasOneKeyEach moved (on_file v.locks c.args.file.now)) c.self.view_is
+    (lent_once kept.entries (keys_under same_name kept.by_file c.args.file.now) moved (on_file (locks_in kept) c.args.file.now) c.listed_under.ensures (c.self.invariant.0.of_file c.args.file.now) (sorted_on_file (locks_in kept) c.args.file.now))
