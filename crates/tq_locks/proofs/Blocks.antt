@@ -1,11 +1,6 @@
-<<<<<<< HEAD
--- Keys in blocks, each of them turned.
-use Rattle.std.proofs.Common.{◌≡◌, ◌+◌, ◌-◌, ◌*◌, ◌<◌, ◌≤◌, ◌++◌, ℕ, suc, List, [], ◌∷◌, length, take, drop, get_or, slice_set, ◌%◌, inl, inr, refl, ap, sym, subst, ◌∙◌, arith}
-=======
 -- Keys in blocks, each of them turned, and keys behind them.
 use Rattle.std.proofs.Common.{◌≡◌, ◌+◌, ◌-◌, ◌*◌, ◌%◌, ◌<◌, ◌≤◌, ◌++◌, ℕ, zero, suc, List, [], ◌∷◌, length, take, drop, get_or, slice_set, refl, ap, sym, subst, ◌∙◌, arith}
->>>>>>> 92450184eab436c9537d58347670da17f5cb89e8
-use Rattle.std.proofs.lemmas.List.{append_assoc, append-nil, length-append, length-drop, length-take, length-take-le, take-append-le, drop-append-le, take_at, drop_at, take-append-drop, set_split, drop_more, drop_all, take_all, get_or-drop, get_or-take, get_or_append_left, get_or-append_right}
+use Rattle.std.proofs.lemmas.List.{append_assoc, append-nil, length-append, length-drop, length-take-le, take-append-le, drop-append-le, take_at, drop_at, take-append-drop, set_split, drop_more, drop_all, take_all, get_or-drop, get_or-take, get_or_append_left, get_or-append_right}
 use Rattle.std.proofs.lemmas.List.Edits.{length-remove, length-between, insert-append_left, insert-append_right, insert_end, remove-append_right}
 use Rattle.std.proofs.lemmas.List.Sorted.{IsPermutation-refl, IsPermutation-append_comm, IsPermutation-trans, IsPermutation-append_left, IsPermutation-append_right}
 use Rattle.std.proofs.Math.Nat.{mod-lt}
@@ -91,32 +86,11 @@ written_over starts places block b start p q key other to at within fits all fir
     let set_is : slice_set starts b start ≡ front ++ start ∷ back = set_split starts b start within ∙ ap (λ n. front ++ start ∷ drop n starts) next in
     let to_is : length pre + p ≡ to = omega (arith, pre_len, goes) in
     let at_is : at ≡ length pre + q = omega (arith, pre_len, comes) in
-<<<<<<< HEAD
-    (λ i. insert (turned size (set_is i) (pre ++ (block ++ post))) (at_is i) other)
-    ∙ put_among size start q other front back pre block post blocks all second
-    ∙ ap (λ keys. turned size front pre ++ (keys ++ turned size back post)) same
-    ∙ sym (put_among size old p key front back pre here post blocks here_len first)
-    ∙ (λ i. insert (turned size (sym (split_starts starts b within) i) (sym (split_at k low places) i)) (to_is i) key)
-
--- a block of 1024 keys among others is as long
-pub length-block : (places : List ℕ) (b count : ℕ) → b < count → 1024 * count ≤ length places → length (take (b * 1024 + 1024 - b * 1024) (drop (b * 1024) places)) ≡ 1024
-length-block places b count within fits = length-between places (b * 1024) (b * 1024 + 1024) (omega (arith, within, fits)) ∙ omega arith
-
--- the same of a block of 1024 keys that was lent
-pub lent_over : (starts places block : List ℕ) (b start p q key other to at : ℕ)
-    → b < length starts → 1024 * length starts ≤ length places → length block ≡ 1024 → p ≤ 1024 → q ≤ 1024 → to ≡ 1024 * b + p → at ≡ 1024 * b + q
-    → insert (turn start block) q other ≡ insert (turn (get_or starts b 0) (take (b * 1024 + 1024 - b * 1024) (drop (b * 1024) places))) p key
-    → insert (turned 1024 (slice_set starts b start) (put_mid (b * 1024) (b * 1024 + 1024 - b * 1024) places block)) at other ≡ insert (turned 1024 starts places) to key
-lent_over starts places block b start p q key other to at within fits size first second goes comes same =
-    written_over 1024 starts places block b (b * 1024) (b * 1024 + 1024 - b * 1024) start p q key other to at
-    within (omega arith) (omega arith) (omega (arith, within, fits)) size first second (omega (arith, goes)) (omega (arith, comes)) same
-=======
     (λ i. insert (turned (set_is i) (pre ++ (block ++ post))) (at_is i) other)
     ∙ put_among start q other front back pre block post blocks all second
     ∙ ap (λ keys. turned front pre ++ (keys ++ turned back post)) same
     ∙ sym (put_among old p key front back pre here post blocks (length-block places b (length starts) within fits) first)
     ∙ (λ i. insert (turned (sym (split_starts starts b within) i) (sym (split_at low k places) i)) (to_is i) key)
->>>>>>> 92450184eab436c9537d58347670da17f5cb89e8
 
 -- Keys behind the blocks lie as they are.
 pub behind_blocks : (starts xs ys : List ℕ) → 1024 * length starts ≤ length xs → turned starts (xs ++ ys) ≡ turned starts xs ++ ys
@@ -124,19 +98,11 @@ behind_blocks starts xs ys fits =
     let low = 1024 * length starts in
     let pre = take low xs in
     let post = drop low xs in
-<<<<<<< HEAD
-    let pre_len : length pre ≡ low = length-take-le low xs fits in
-    let parts : (zs : List ℕ) → turned size starts (pre ++ zs) ≡ turned size starts pre ++ zs =
-    λ zs. ap (λ s. turned size s (pre ++ zs)) (sym (append-nil starts)) ∙ before_others size starts [] pre zs pre_len in
-    ap (λ ks. turned size starts (ks ++ ys)) (sym (take-append-drop low xs))
-    ∙ ap (turned size starts) (append_assoc pre post ys)
-=======
     let whole : pre ++ post ≡ xs = take-append-drop low xs in
     let parts : (zs : List ℕ) → turned starts (pre ++ zs) ≡ turned starts pre ++ zs =
         λ zs. ap (λ s. turned s (pre ++ zs)) (sym (append-nil starts)) ∙ before_others starts [] pre zs (length-take-le low xs fits) in
     ap (λ ks. turned starts (ks ++ ys)) (sym whole)
     ∙ ap (turned starts) (append_assoc pre post ys)
->>>>>>> 92450184eab436c9537d58347670da17f5cb89e8
     ∙ parts (post ++ ys)
     ∙ sym (append_assoc (turned starts pre) post ys)
     ∙ ap (λ ks. ks ++ ys) (sym (parts post) ∙ ap (turned starts) whole)
@@ -157,19 +123,6 @@ changed_behind starts places place change part low high law =
     ∙ sym (law (turned starts pre) post (length-turned starts pre ∙ pre_len))
     ∙ ap change (sym (behind_blocks starts pre post fits) ∙ ap (turned starts) whole)
 
-<<<<<<< HEAD
-pub insert_behind : (size : ℕ) (starts places : List ℕ) (place key : ℕ) → size * length starts ≤ place → place ≤ length places
-    → turned size starts (insert places place key) ≡ insert (turned size starts places) place key
-insert_behind size starts places place key low high =
-    changed_behind size starts places place (λ ks. insert ks place key) (λ ks. insert ks (place - place) key) low high
-    (λ xs ys all. insert-append_right xs ys place place key all (omega arith))
-
-pub remove_behind : (size : ℕ) (starts places : List ℕ) (place : ℕ) → size * length starts ≤ place → place ≤ length places
-    → turned size starts (remove places place) ≡ remove (turned size starts places) place
-remove_behind size starts places place low high =
-    changed_behind size starts places place (λ ks. remove ks place) (λ ks. remove ks (place - place)) low high
-    (λ xs ys all. remove-append_right xs ys place place all (omega arith))
-=======
 pub insert_behind : (starts places : List ℕ) (place key : ℕ) → 1024 * length starts ≤ place → place ≤ length places
     → turned starts (insert places place key) ≡ insert (turned starts places) place key
 insert_behind starts places place key low high =
@@ -181,7 +134,6 @@ pub remove_behind : (starts places : List ℕ) (place : ℕ) → 1024 * length s
 remove_behind starts places place low high =
     changed_behind starts places place (λ ks. remove ks place) (λ ks. remove ks (place - place)) low high
       (λ xs ys all. remove-append_right xs ys place place all (omega arith))
->>>>>>> 92450184eab436c9537d58347670da17f5cb89e8
 
 -- a key that comes in goes again, and the other way round
 put_and_taken : (keys : List ℕ) (place key : ℕ) → place ≤ length keys → remove (insert keys place key) place ≡ keys
@@ -229,18 +181,10 @@ any_order (start ∷ starts) places =
     let ahead = turn start block in
     let behind = turned starts rest in
     let turned_back : IsPermutation ahead block = subst (IsPermutation ahead) (take-append-drop start block) (IsPermutation-append_comm (drop start block) (take start block)) in
-<<<<<<< HEAD
-    let whole : IsPermutation (ahead ++ turned size starts rest) (block ++ rest) =
-    IsPermutation-trans (ahead ++ turned size starts rest) (ahead ++ rest) (block ++ rest)
-    (IsPermutation-append_right ahead (turned size starts rest) rest (any_order size starts rest))
-    (IsPermutation-append_left rest ahead block turned_back) in
-    subst (IsPermutation (ahead ++ turned size starts rest)) (take-append-drop size places) whole
-=======
     subst (IsPermutation (ahead ++ behind)) (take-append-drop 1024 places)
       (IsPermutation-trans (ahead ++ behind) (ahead ++ rest) (block ++ rest)
         (IsPermutation-append_right ahead behind rest (any_order starts rest))
         (IsPermutation-append_left rest ahead block turned_back))
->>>>>>> 92450184eab436c9537d58347670da17f5cb89e8
 
 -- what was lent as a whole
 pub refilled : (xs ws : List ℕ) (n : ℕ) → length ws ≡ length xs → n ≡ length xs → take n (ws ++ drop (length ws) xs) ≡ ws
@@ -266,26 +210,6 @@ pub room_told : (starts : List ℕ) (places : SmallVec ℕ) → HasRoomBehind st
 room_told starts places room = omega (arith, room.0, room.1, length-turned starts places.items)
 
 -- the key at a place
-<<<<<<< HEAD
-turned_key : (block : List ℕ) (start place : ℕ) → length block ≡ 1024 → start < 1024 → place < 1024 → get_or (turn start block) place 0 ≡ get_or block ((start + place) % 1024) 0
-turned_key block start place all first within =
-    let behind = drop start block in
-    let front = take start block in
-    let len : length behind ≡ 1024 - start = length-drop start block ∙ ap (λ n. n - start) all in
-    elim (cases_lt (start + place) 1024) [
-      | inl below ↦
-          get_or_append_left behind front 0 place (omega (arith, below, len))
-          ∙ get_or-drop start block place 0
-          ∙ ap (λ n. get_or block n 0) (sym (mod-eq_of_lt below))
-      | inr above ↦
-          let rest : place - (1024 - start) ≡ (start + place) % 1024 = omega (arith, above, first, within) in
-          get_or-append_right behind front (1024 - start) place 0 len (omega (arith, above, first))
-          ∙ get_or-take start block (place - (1024 - start)) 0 (omega (arith, above, first, within))
-          ∙ ap (λ n. get_or block n 0) rest
-    ]
-
-=======
->>>>>>> 92450184eab436c9537d58347670da17f5cb89e8
 pub key_in_block : (starts places : List ℕ) (b place at : ℕ) → b < length starts → 1024 * length starts ≤ length places → get_or starts b 0 < 1024 → place < 1024 → at ≡ b * 1024 + place
     → get_or places (b * 1024 + (get_or starts b 0 + place) % 1024) 0 ≡ get_or (turned starts places) at 0
 key_in_block starts places b place at within fits first small is =

@@ -1,13 +1,8 @@
 use Rattle.std.proofs.Common.{◌≡◌, ◌<◌, ◌+◌, ◌*◌, ◌-◌, ◌%◌, suc, length, take, drop, slice_index_or, slice_set, refl, ◌∙◌, arith}
 use Rattle.std.proofs.lemmas.List.{length-set}
 use Rattle.tq_locks.specs.Keys.{turn}
-<<<<<<< HEAD
-use Rattle.tq_locks.proofs.Rings.{before_others}
-use Rattle.tq_locks.proofs.Blocks.{lent_over, length-block, length-turn, at_end}
-=======
-use Rattle.tq_locks.proofs.Rings.{length-turn, not_turned, before_others, behind_others}
+use Rattle.tq_locks.proofs.Rings.{length-turn, before_others}
 use Rattle.tq_locks.proofs.Blocks.{written_over, length-block, at_end}
->>>>>>> 92450184eab436c9537d58347670da17f5cb89e8
 use Rattle.tq_locks.proofs.keys.push_in_front.Goals as goal
 
 pub returns-clause-put : goal.returns-clause-put
@@ -23,12 +18,6 @@ returns-clause-put c =
     let size : length block ≡ 1024 = length-block places b (length c.args.starts.now) c.requires.within c.requires.blocks.0 in
     let same : length keys ≡ 1024 = length-set block before key ∙ size in
     let within : start < length block = omega (arith, size, c.requires.blocks.2 b 0 c.requires.within) in
-<<<<<<< HEAD
-    lent_over c.args.starts.now places keys b before 0 1024 key last (1024 * b) (1024 * suc b)
-    c.requires.within c.requires.blocks.0 same (omega arith) (omega arith) (omega arith) (omega arith)
-    (at_end (turn before keys) 1024 last (length-turn before keys ∙ same) ∙ before_others block start before key within size refl)
-=======
     written_over c.args.starts.now places keys b before 0 1024 key last (1024 * b) (1024 * suc b)
       c.requires.within c.requires.blocks.0 same (omega arith) (omega arith) (omega arith) (omega arith)
       (at_end (turn before keys) 1024 last (length-turn before keys ∙ same) ∙ before_others block start before key within size refl)
->>>>>>> 92450184eab436c9537d58347670da17f5cb89e8
