@@ -153,7 +153,8 @@ fn make_room(starts: &mut Vec<usize>, places: &mut SmallVec<usize, 6>) -> Result
     requires { HasBlocks starts.old.items (small_vec_len places.old) }
     ensures blocks { HasBlocks starts.new.items (small_vec_len places.new) }
     ensures room { OnOk result (HasRoomBehind starts.new.items places.new) }
-    ensures same { turned starts.new.items places.new.items ≡ turned starts.old.items places.old.items }
+    ensures same { turned starts.new.items places.new.items
+        ≡ turned starts.old.items places.old.items }
 {
     let behind = places.len() - starts.len() * BLOCK;
     if places.len() == places.capacity() || behind == BLOCK {
@@ -168,7 +169,8 @@ fn grow(starts: &mut Vec<usize>, places: &mut SmallVec<usize, 6>) -> Result<(), 
     requires { HasBlocks starts.old.items (small_vec_len places.old) }
     ensures blocks { HasBlocks starts.new.items (small_vec_len places.new) }
     ensures room { OnOk result (HasRoomBehind starts.new.items places.new) }
-    ensures same { turned starts.new.items places.new.items ≡ turned starts.old.items places.old.items }
+    ensures same { turned starts.new.items places.new.items
+        ≡ turned starts.old.items places.old.items }
 {
     places.reserve(1)?;
     if places.len() - starts.len() * BLOCK == BLOCK {
@@ -185,7 +187,8 @@ fn put(starts: &mut Vec<usize>, places: &mut SmallVec<usize, 6>, place: usize, k
     requires room { HasRoomBehind starts.old.items places.old }
     requires within { place ≤ small_vec_len places.old }
     ensures blocks { HasBlocks starts.new.items (small_vec_len places.new) }
-    ensures put { turned starts.new.items places.new.items ≡ insert (turned starts.old.items places.old.items) place key }
+    ensures put { turned starts.new.items places.new.items
+        ≡ insert (turned starts.old.items places.old.items) place key }
 {
     if place / BLOCK >= starts.len() {
         put_plain(places, place, key);
@@ -201,7 +204,8 @@ fn put_within(starts: &mut Vec<usize>, places: &mut SmallVec<usize, 6>, place: u
     requires room { HasRoomBehind starts.old.items places.old }
     requires within { place < 1024 * length starts.old.items }
     ensures blocks { HasBlocks starts.new.items (small_vec_len places.new) }
-    ensures put { turned starts.new.items places.new.items ≡ insert (turned starts.old.items places.old.items) place key }
+    ensures put { turned starts.new.items places.new.items
+        ≡ insert (turned starts.old.items places.old.items) place key }
 {
     let last = push_through(starts.as_mut_slice(), places.as_mut_slice(), place, key);
     put_plain(places, starts.len() * BLOCK, last);
@@ -211,7 +215,8 @@ fn put_within(starts: &mut Vec<usize>, places: &mut SmallVec<usize, 6>, place: u
 fn take_out(starts: &mut Vec<usize>, places: &mut SmallVec<usize, 6>, place: usize)
     requires { HasBlocks starts.old.items (small_vec_len places.old) }
     ensures blocks { HasBlocks starts.new.items (small_vec_len places.new) }
-    ensures taken { turned starts.new.items places.new.items ≡ remove (turned starts.old.items places.old.items) place }
+    ensures taken { turned starts.new.items places.new.items
+        ≡ remove (turned starts.old.items places.old.items) place }
 {
     if place >= places.len() {
         return;
@@ -231,7 +236,8 @@ fn take_out(starts: &mut Vec<usize>, places: &mut SmallVec<usize, 6>, place: usi
 fn pop(starts: &mut Vec<usize>, places: &mut SmallVec<usize, 6>) -> Option<usize>
     requires { HasBlocks starts.old.items (small_vec_len places.old) }
     ensures blocks { HasBlocks starts.new.items (small_vec_len places.new) }
-    ensures last { turned starts.old.items places.old.items ≡ turned starts.new.items places.new.items ++ option_to_list result }
+    ensures last { turned starts.old.items places.old.items
+        ≡ turned starts.new.items places.new.items ++ option_to_list result }
     ensures none { IfNone result (turned starts.old.items places.old.items ≡ []) }
 {
     settle(starts, places);
@@ -244,8 +250,10 @@ fn settle(starts: &mut Vec<usize>, places: &mut SmallVec<usize, 6>)
     requires { HasBlocks starts.old.items (small_vec_len places.old) }
     ensures blocks { HasBlocks starts.new.items (small_vec_len places.new) }
     ensures len { small_vec_len places.new ≡ small_vec_len places.old }
-    ensures behind { 0 < small_vec_len places.new → 1024 * length starts.new.items < small_vec_len places.new }
-    ensures same { turned starts.new.items places.new.items ≡ turned starts.old.items places.old.items }
+    ensures behind { 0 < small_vec_len places.new
+        → 1024 * length starts.new.items < small_vec_len places.new }
+    ensures same { turned starts.new.items places.new.items
+        ≡ turned starts.old.items places.old.items }
     ensures capacity { places.new.capacity ≡ places.old.capacity }
 {
     if places.len() == starts.len() * BLOCK {
