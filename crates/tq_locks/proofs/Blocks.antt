@@ -1,6 +1,6 @@
 -- Keys in blocks, each of them turned, and keys behind them.
 use Rattle.std.proofs.Common.{◌≡◌, ◌+◌, ◌-◌, ◌*◌, ◌%◌, ◌<◌, ◌≤◌, ◌++◌, ℕ, zero, suc, List, [], ◌∷◌, length, take, drop, get_or, slice_set, refl, ap, sym, subst, ◌∙◌, arith}
-use Rattle.std.proofs.lemmas.List.{append_assoc, append-nil, length-append, length-drop, length-take, length-take-le, take-append-le, drop-append-le, take_at, drop_at, take-append-drop, set_split, drop_more, drop_all, take_all, get_or-drop, get_or-take, get_or_append_left, get_or-append_right}
+use Rattle.std.proofs.lemmas.List.{append_assoc, append-nil, length-append, length-drop, length-take-le, take-append-le, drop-append-le, take_at, drop_at, take-append-drop, set_split, drop_more, drop_all, take_all, get_or-drop, get_or-take, get_or_append_left, get_or-append_right}
 use Rattle.std.proofs.lemmas.List.Edits.{length-remove, length-between, insert-append_left, insert-append_right, insert_end, remove-append_right}
 use Rattle.std.proofs.lemmas.List.Sorted.{IsPermutation-refl, IsPermutation-append_comm, IsPermutation-trans, IsPermutation-append_left, IsPermutation-append_right}
 use Rattle.std.proofs.Math.Nat.{mod-lt}
@@ -100,7 +100,7 @@ behind_blocks starts xs ys fits =
     let post = drop low xs in
     let whole : pre ++ post ≡ xs = take-append-drop low xs in
     let parts : (zs : List ℕ) → turned starts (pre ++ zs) ≡ turned starts pre ++ zs =
-        λ zs. ap (λ s. turned s (pre ++ zs)) (sym (append-nil starts)) ∙ before_others starts [] pre zs (length-take-le low xs fits) in
+    λ zs. ap (λ s. turned s (pre ++ zs)) (sym (append-nil starts)) ∙ before_others starts [] pre zs (length-take-le low xs fits) in
     ap (λ ks. turned starts (ks ++ ys)) (sym whole)
     ∙ ap (turned starts) (append_assoc pre post ys)
     ∙ parts (post ++ ys)
@@ -127,13 +127,13 @@ pub insert_behind : (starts places : List ℕ) (place key : ℕ) → 1024 * leng
     → turned starts (insert places place key) ≡ insert (turned starts places) place key
 insert_behind starts places place key low high =
     changed_behind starts places place (λ ks. insert ks place key) (λ ks. insert ks (place - place) key) low high
-      (λ xs ys all. insert-append_right xs ys place place key all (omega arith))
+    (λ xs ys all. insert-append_right xs ys place place key all (omega arith))
 
 pub remove_behind : (starts places : List ℕ) (place : ℕ) → 1024 * length starts ≤ place → place ≤ length places
     → turned starts (remove places place) ≡ remove (turned starts places) place
 remove_behind starts places place low high =
     changed_behind starts places place (λ ks. remove ks place) (λ ks. remove ks (place - place)) low high
-      (λ xs ys all. remove-append_right xs ys place place all (omega arith))
+    (λ xs ys all. remove-append_right xs ys place place all (omega arith))
 
 -- a key that comes in goes again, and the other way round
 put_and_taken : (keys : List ℕ) (place key : ℕ) → place ≤ length keys → remove (insert keys place key) place ≡ keys
@@ -182,9 +182,9 @@ any_order (start ∷ starts) places =
     let behind = turned starts rest in
     let turned_back : IsPermutation ahead block = subst (IsPermutation ahead) (take-append-drop start block) (IsPermutation-append_comm (drop start block) (take start block)) in
     subst (IsPermutation (ahead ++ behind)) (take-append-drop 1024 places)
-      (IsPermutation-trans (ahead ++ behind) (ahead ++ rest) (block ++ rest)
-        (IsPermutation-append_right ahead behind rest (any_order starts rest))
-        (IsPermutation-append_left rest ahead block turned_back))
+    (IsPermutation-trans (ahead ++ behind) (ahead ++ rest) (block ++ rest)
+    (IsPermutation-append_right ahead behind rest (any_order starts rest))
+    (IsPermutation-append_left rest ahead block turned_back))
 
 -- what was lent as a whole
 pub refilled : (xs ws : List ℕ) (n : ℕ) → length ws ≡ length xs → n ≡ length xs → take n (ws ++ drop (length ws) xs) ≡ ws

@@ -1,10 +1,9 @@
 -- What happens in one block.
-use Rattle.std.proofs.Common.{◌≡◌, ◌+◌, ◌-◌, ◌*◌, ◌%◌, ◌<◌, ◌≤◌, ◌++◌, ℕ, zero, suc, List, [], ◌∷◌, length, take, drop, get_or, slice_set, refl, ap, sym, ◌∙◌, inl, inr, arith}
+use Rattle.std.proofs.Common.{◌≡◌, ◌+◌, ◌-◌, ◌%◌, ◌<◌, ◌++◌, ℕ, List, [], ◌∷◌, length, take, drop, get_or, slice_set, ap, sym, ◌∙◌, inl, inr, arith}
 use Rattle.std.proofs.lemmas.List.{append_assoc, append-nil, length-append, length-drop, length-take, length-take-le, take_at, drop_at, set_at, take_all, drop_all, take-append-drop, take_more, drop_more, take_more_set, drop-set-lt, get_or-drop, get_or-take, get_or_append_left, get_or-append_right, get_or-set_same, length-set, set-set, set-get_or}
-use Rattle.std.proofs.lemmas.List.Edits.{insert_end}
 use Rattle.std.proofs.lemmas.Bool.{cases_lt}
 use Rattle.std.proofs.Math.Nat.{mod-eq_of_lt, mod-lt}
-use Rattle.std.specs.List.{insert, remove, copy_within}
+use Rattle.std.specs.List.{insert, copy_within}
 use Rattle.tq_locks.specs.Keys.{turn}
 
 -- the last key goes, and those from a place on move up
@@ -18,16 +17,16 @@ opened keys place end key within is =
     let size : length rest ≡ length keys - place = length-drop place keys in
     let last_at : place + (end - place) ≡ end = omega (arith, within, is) in
     let written : slice_set (copy_within keys place end (place + 1)) place key ≡ pre ++ key ∷ moved =
-        ap (λ ks. slice_set (take (place + 1) keys ++ moved ++ ks) place key) (drop_all (place + 1 + (end - place)) keys (omega (arith, within, is)))
-        ∙ ap (λ ks. slice_set ks place key) (append-nil (take (place + 1) keys ++ moved))
-        ∙ ap (λ ks. slice_set (ks ++ moved) place key) (take_more keys place 0 within)
-        ∙ ap (λ ks. slice_set ks place key) (append_assoc pre (old ∷ []) moved)
-        ∙ set_at pre old moved key place (length-take-le place keys (omega (arith, within))) in
+    ap (λ ks. slice_set (take (place + 1) keys ++ moved ++ ks) place key) (drop_all (place + 1 + (end - place)) keys (omega (arith, within, is)))
+    ∙ ap (λ ks. slice_set ks place key) (append-nil (take (place + 1) keys ++ moved))
+    ∙ ap (λ ks. slice_set (ks ++ moved) place key) (take_more keys place 0 within)
+    ∙ ap (λ ks. slice_set ks place key) (append_assoc pre (old ∷ []) moved)
+    ∙ set_at pre old moved key place (length-take-le place keys (omega (arith, within))) in
     let whole : moved ++ get_or keys end 0 ∷ [] ≡ rest =
-        ap (λ n. moved ++ get_or keys n 0 ∷ []) (sym last_at)
-        ∙ ap (λ k. moved ++ k ∷ []) (sym (get_or-drop place keys (end - place) 0))
-        ∙ sym (take_more rest (end - place) 0 (omega (arith, within, is, size)))
-        ∙ take_all (end - place + 1) rest (omega (arith, within, is, size)) in
+    ap (λ n. moved ++ get_or keys n 0 ∷ []) (sym last_at)
+    ∙ ap (λ k. moved ++ k ∷ []) (sym (get_or-drop place keys (end - place) 0))
+    ∙ sym (take_more rest (end - place) 0 (omega (arith, within, is, size)))
+    ∙ take_all (end - place + 1) rest (omega (arith, within, is, size)) in
     ap (λ ks. ks ++ get_or keys end 0 ∷ []) written
     ∙ append_assoc pre (key ∷ moved) (get_or keys end 0 ∷ [])
     ∙ ap (λ ks. pre ++ key ∷ ks) whole
@@ -46,13 +45,13 @@ closed keys place end key within is =
     let last_at : place + n ≡ end = omega (arith, within, is) in
     let after : end + 1 ≡ length keys = omega (arith, within, is) in
     let tail : drop (place + n) keys ≡ last ∷ [] =
-        ap (λ m. drop m keys) last_at
-        ∙ drop_more keys end 0 (omega (arith, after))
-        ∙ ap (λ ks. last ∷ ks) (drop_all (end + 1) keys (omega (arith, after))) in
+    ap (λ m. drop m keys) last_at
+    ∙ drop_more keys end 0 (omega (arith, after))
+    ∙ ap (λ ks. last ∷ ks) (drop_all (end + 1) keys (omega (arith, after))) in
     let written : slice_set (copy_within keys (place + 1) (length keys) place) end key ≡ pre ++ (rest ++ key ∷ []) =
-        (λ i. slice_set (pre ++ take_all n rest (omega (arith, size)) i ++ tail i) end key)
-        ∙ set_at (pre ++ rest) last [] key end (omega (arith, length-append pre rest, pre_len, size, last_at))
-        ∙ append_assoc pre rest (key ∷ []) in
+    (λ i. slice_set (pre ++ take_all n rest (omega (arith, size)) i ++ tail i) end key)
+    ∙ set_at (pre ++ rest) last [] key end (omega (arith, length-append pre rest, pre_len, size, last_at))
+    ∙ append_assoc pre rest (key ∷ []) in
     ap (λ ks. insert ks place old) written
     ∙ (λ i. take_at pre (rest ++ key ∷ []) place pre_len i ++ old ∷ drop_at pre (rest ++ key ∷ []) place pre_len i)
     ∙ sym (append_assoc pre (old ∷ rest) (key ∷ []))
@@ -87,7 +86,7 @@ behind_others block start next key within all is =
     let keys = slice_set block start key in
     let old = get_or block start 0 in
     elim (cases_lt (start + 1) 1024) [
-      inl below ↦ one_on block start key within ∙ ap (λ n. old ∷ turn n keys) (sym (is ∙ mod-eq_of_lt below))
+      | inl below ↦ one_on block start key within ∙ ap (λ n. old ∷ turn n keys) (sym (is ∙ mod-eq_of_lt below))
       | inr above ↦
           let end : start + 1 ≡ 1024 = omega (arith, above, within, all) in
           one_on block start key within
@@ -114,7 +113,7 @@ turned_key block start place all first within =
     let front = take start block in
     let len : length behind ≡ 1024 - start = length-drop start block ∙ ap (λ n. n - start) all in
     elim (cases_lt (start + place) 1024) [
-      inl below ↦
+      | inl below ↦
           get_or_append_left behind front 0 place (omega (arith, below, len))
           ∙ get_or-drop start block place 0
           ∙ ap (λ n. get_or block n 0) (sym (mod-eq_of_lt below))

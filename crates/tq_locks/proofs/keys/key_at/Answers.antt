@@ -1,4 +1,4 @@
-use Rattle.std.proofs.Common.{◌≡◌, ◌<◌, ◌≤◌, ◌*◌, ◌+◌, ◌/◌, ◌%◌, length, Some, ap, sym, ◌∙◌, arith, slice_index_or}
+use Rattle.std.proofs.Common.{◌<◌, ◌/◌, ◌%◌, length, Some, ap, sym, ◌∙◌, arith}
 use Rattle.std.proofs.lemmas.Option.{slice_get-get_or, slice_get_past}
 use Rattle.std.proofs.Math.Nat.{mod-lt}
 use Rattle.tq_locks.specs.Keys.{turned}

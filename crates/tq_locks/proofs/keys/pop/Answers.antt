@@ -1,4 +1,4 @@
-use Rattle.std.proofs.Common.{◌≡◌, ◌-◌, ◌*◌, ◌≤◌, ◌<◌, ◌++◌, length, ap, sym, ◌∙◌, arith, option_to_list, Some, None, ℕ, List, Option, zero, suc, refl, IsSome, IfNone, [], ◌∷◌}
+use Rattle.std.proofs.Common.{◌≡◌, ◌-◌, ◌*◌, ◌≤◌, ◌<◌, length, ap, sym, ◌∙◌, arith, option_to_list, Some, None, ℕ, List, Option, zero, suc, refl, IsSome, IfNone, [], ◌∷◌}
 use mathlib.Core.Bool.{false≢true}
 use Rattle.std.proofs.lemmas.List.{length-take}
 use Rattle.tq_locks.specs.Keys.{turned}

@@ -6,12 +6,12 @@ use Rattle.tq_locks.proofs.keys.pull_through.Given as goal
 -- the key that is carried comes behind the block
 abbrev pub invariant-loop-block : goal.invariant-loop-block
 invariant-loop-block l = record {
-    blocks : HasBlocks l.starts (length l.places);
-    starts : length l.starts ≡ length l.fn.starts;
-    places : length l.places ≡ length l.fn.places;
-    above : l.first ≤ l.block;
-    within : l.block < length l.starts;
-    taken : insert (turned l.starts l.places) (1024 * suc l.block) l.carried ≡ insert (turned l.fn.starts l.fn.places) (1024 * length l.fn.starts) l.fn.key;
+  blocks : HasBlocks l.starts (length l.places);
+  starts : length l.starts ≡ length l.fn.starts;
+  places : length l.places ≡ length l.fn.places;
+  above : l.first ≤ l.block;
+  within : l.block < length l.starts;
+  taken : insert (turned l.starts l.places) (1024 * suc l.block) l.carried ≡ insert (turned l.fn.starts l.fn.places) (1024 * length l.fn.starts) l.fn.key;
 }
 
 abbrev pub decreases-loop-block : goal.decreases-loop-block

@@ -6,11 +6,11 @@ use Rattle.tq_locks.proofs.keys.push_through.Given as goal
 -- the key that is carried comes before the next block
 abbrev pub invariant-loop-block : goal.invariant-loop-block
 invariant-loop-block l = record {
-    blocks : HasBlocks l.starts (length l.places);
-    starts : length l.starts ≡ length l.fn.starts;
-    places : length l.places ≡ length l.fn.places;
-    within : l.block ≤ length l.starts;
-    put : insert (turned l.starts l.places) (1024 * l.block) l.carried ≡ insert (turned l.fn.starts l.fn.places) l.fn.place l.fn.key;
+  blocks : HasBlocks l.starts (length l.places);
+  starts : length l.starts ≡ length l.fn.starts;
+  places : length l.places ≡ length l.fn.places;
+  within : l.block ≤ length l.starts;
+  put : insert (turned l.starts l.places) (1024 * l.block) l.carried ≡ insert (turned l.fn.starts l.fn.places) l.fn.place l.fn.key;
 }
 
 abbrev pub decreases-loop-block : goal.decreases-loop-block

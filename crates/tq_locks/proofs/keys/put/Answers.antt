@@ -1,4 +1,4 @@
-use Rattle.std.proofs.Common.{◌*◌, ◌≤◌, length, ap, ◌∙◌, arith}
+use Rattle.std.proofs.Common.{ap, ◌∙◌, arith}
 use Rattle.tq_locks.specs.Keys.{turned}
 use Rattle.tq_locks.proofs.Blocks.{insert_behind}
 use Rattle.tq_locks.proofs.keys.put.Goals as goal

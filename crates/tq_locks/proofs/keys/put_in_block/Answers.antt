@@ -1,8 +1,8 @@
-use Rattle.std.proofs.Common.{◌++◌, ◌∷◌, [], ◌≡◌, ◌<◌, ◌+◌, ◌*◌, ◌-◌, ◌%◌, suc, length, take, drop, slice_index_or, slice_set, ap, sym, refl, ◌∙◌, arith}
+use Rattle.std.proofs.Common.{◌≡◌, ◌<◌, ◌+◌, ◌*◌, ◌-◌, ◌%◌, suc, length, take, drop, slice_index_or, slice_set, ap, refl, ◌∙◌, arith}
 use Rattle.std.specs.List.{insert}
 use Rattle.std.proofs.lemmas.List.{length-set}
 use Rattle.tq_locks.specs.Keys.{turn}
-use Rattle.tq_locks.proofs.Rings.{length-turn, not_turned, before_others, behind_others}
+use Rattle.tq_locks.proofs.Rings.{length-turn, not_turned, before_others}
 use Rattle.tq_locks.proofs.Blocks.{written_over, length-block, at_end}
 use Rattle.tq_locks.proofs.keys.put_in_block.Goals as goal
 
@@ -20,8 +20,8 @@ returns-then-place-eq0-clause-put c =
     let same : length keys ≡ 1024 = length-set block before key ∙ size in
     let within : start < length block = omega (arith, size, c.requires.blocks.2 b 0 c.requires.within.0) in
     written_over c.args.starts.now places keys b before 0 1024 key last (1024 * b + c.args.place) (1024 * suc b)
-      c.requires.within.0 c.requires.blocks.0 same (omega arith) (omega arith) (omega (arith, c.if-place-eq0.true)) (omega arith)
-      (at_end (turn before keys) 1024 last (length-turn before keys ∙ same) ∙ before_others block start before key within size refl)
+    c.requires.within.0 c.requires.blocks.0 same (omega arith) (omega arith) (omega (arith, c.if-place-eq0.true)) (omega arith)
+    (at_end (turn before keys) 1024 last (length-turn before keys ∙ same) ∙ before_others block start before key within size refl)
 
 pub returns-clause-put : goal.returns-clause-put
 returns-clause-put c =
@@ -33,5 +33,5 @@ returns-clause-put c =
     let within = c.requires.within.0 in
     let size : length keys ≡ 1024 = c.open.auto.keys ∙ c.rotate_left.ensures.len ∙ length-block c.args.places.now block (length c.args.starts.now) within c.requires.blocks.0 in
     written_over c.args.starts.now c.args.places.now keys block 0 place 1024 key last (1024 * block + place) (1024 * suc block)
-      within c.requires.blocks.0 size (omega (arith, c.requires.within.1)) (omega arith) (omega arith) (omega arith)
-      (ap (λ ks. insert ks 1024 last) (not_turned keys) ∙ at_end keys 1024 last size ∙ c.open.ensures ∙ ap (λ ks. insert ks place key) c.rotate_left.ensures.after)
+    within c.requires.blocks.0 size (omega (arith, c.requires.within.1)) (omega arith) (omega arith) (omega arith)
+    (ap (λ ks. insert ks 1024 last) (not_turned keys) ∙ at_end keys 1024 last size ∙ c.open.ensures ∙ ap (λ ks. insert ks place key) c.rotate_left.ensures.after)

@@ -1,4 +1,4 @@
-use Rattle.std.proofs.Common.{◌≡◌, ◌*◌, ◌≤◌, length, ap, sym, refl, ◌∙◌, arith}
+use Rattle.std.proofs.Common.{◌≡◌, ◌*◌, length, ap, refl, ◌∙◌, arith}
 use Rattle.std.specs.List.{insert}
 use Rattle.tq_locks.specs.Keys.{turned}
 use Rattle.tq_locks.proofs.Blocks.{put_behind, refilled}
@@ -17,4 +17,4 @@ returns-clause-put c =
     (λ i. turned (refilled starts new_starts c.args.starts.now.len starts_len (omega arith) i) (c.put_plain.ensures i))
     ∙ (λ i. turned new_starts (insert (refilled places new_places (length places) places_len refl i) (count i * 1024) last))
     ∙ put_behind new_starts new_places starts places c.args.place c.args.key last c.push_through-last.ensures.blocks.0
-      (c.push_through-last.ensures.put ∙ (λ i. insert (turned (c.as_mut_slice.ensures.value i) (c.as_mut_slice-2.ensures.value i)) c.args.place c.args.key))
+    (c.push_through-last.ensures.put ∙ (λ i. insert (turned (c.as_mut_slice.ensures.value i) (c.as_mut_slice-2.ensures.value i)) c.args.place c.args.key))

@@ -1,5 +1,5 @@
-use Rattle.std.proofs.Common.{◌≡◌, ◌+◌, ◌-◌, ◌*◌, ◌<◌, ◌≤◌, ◌∷◌, [], ◌++◌, suc, length, take, drop, ap, sym, refl, ◌∙◌, arith}
-use Rattle.std.proofs.lemmas.List.{length-append, length-take, length-drop}
+use Rattle.std.proofs.Common.{◌≡◌, ◌+◌, ◌-◌, ◌*◌, ◌∷◌, [], ◌++◌, length, take, drop, ap, sym, refl, ◌∙◌, arith}
+use Rattle.std.proofs.lemmas.List.{length-append}
 use Rattle.tq_locks.specs.Keys.{turned, turn}
 use Rattle.tq_locks.proofs.Blocks.{settled, refilled, length-block, length-over}
 use borrow.Rule.Slice.PartMut.{put_mid}

@@ -1,8 +1,8 @@
-use Rattle.std.proofs.Common.{◌++◌, ◌∷◌, [], ◌≡◌, ◌<◌, ◌+◌, ◌*◌, ◌-◌, ◌%◌, suc, length, take, drop, slice_index_or, slice_set, ap, sym, refl, ◌∙◌, arith}
+use Rattle.std.proofs.Common.{◌≡◌, ◌<◌, ◌+◌, ◌*◌, ◌-◌, ◌%◌, suc, length, take, drop, slice_index_or, slice_set, ap, sym, refl, ◌∙◌, arith}
 use Rattle.std.specs.List.{insert}
 use Rattle.std.proofs.lemmas.List.{length-set}
 use Rattle.tq_locks.specs.Keys.{turn}
-use Rattle.tq_locks.proofs.Rings.{length-turn, not_turned, before_others, behind_others}
+use Rattle.tq_locks.proofs.Rings.{length-turn, not_turned, behind_others}
 use Rattle.tq_locks.proofs.Blocks.{written_over, length-block, at_end}
 use Rattle.tq_locks.proofs.keys.take_from_block.Goals as goal
 
@@ -18,8 +18,8 @@ returns-then-place-eq0-clause-taken c =
     let size : length block ≡ 1024 = length-block places b (length c.args.starts.now) c.requires.within.0 c.requires.blocks.0 in
     let within : start < length block = omega (arith, size, c.requires.blocks.2 b 0 c.requires.within.0) in
     written_over c.args.starts.now places keys b next 1024 0 key (slice_index_or block start 0) (1024 * suc b) (1024 * b + c.args.place)
-      c.requires.within.0 c.requires.blocks.0 (length-set block start key ∙ size) (omega arith) (omega arith) (omega arith) (omega (arith, c.if-place-eq0.true))
-      (sym (behind_others block start next key within size refl) ∙ sym (at_end (turn start block) 1024 key (length-turn start block ∙ size)))
+    c.requires.within.0 c.requires.blocks.0 (length-set block start key ∙ size) (omega arith) (omega arith) (omega arith) (omega (arith, c.if-place-eq0.true))
+    (sym (behind_others block start next key within size refl) ∙ sym (at_end (turn start block) 1024 key (length-turn start block ∙ size)))
 
 pub returns-clause-taken : goal.returns-clause-taken
 returns-clause-taken c =
@@ -32,5 +32,5 @@ returns-clause-taken c =
     let within = c.requires.within.0 in
     let old : length before ≡ 1024 = c.rotate_left.ensures.len ∙ length-block c.args.places.now block (length c.args.starts.now) within c.requires.blocks.0 in
     written_over c.args.starts.now c.args.places.now keys block 0 1024 place key taken (1024 * suc block) (1024 * block + place)
-      within c.requires.blocks.0 (c.close.auto.keys ∙ old) (omega arith) (omega (arith, c.requires.within.1)) (omega arith) (omega arith)
-      (ap (λ ks. insert ks place taken) (not_turned keys) ∙ c.close.ensures ∙ sym (at_end before 1024 key old) ∙ ap (λ ks. insert ks 1024 key) c.rotate_left.ensures.after)
+    within c.requires.blocks.0 (c.close.auto.keys ∙ old) (omega arith) (omega (arith, c.requires.within.1)) (omega arith) (omega arith)
+    (ap (λ ks. insert ks place taken) (not_turned keys) ∙ c.close.ensures ∙ sym (at_end before 1024 key old) ∙ ap (λ ks. insert ks 1024 key) c.rotate_left.ensures.after)

@@ -1,4 +1,4 @@
-use Rattle.std.proofs.Common.{◌≡◌, ◌*◌, ◌≤◌, ◌<◌, length, ◌+◌, ap, sym, refl, ◌∙◌, arith}
+use Rattle.std.proofs.Common.{◌≡◌, ◌*◌, ◌<◌, length, ◌+◌, ap, refl, ◌∙◌, arith}
 use Rattle.std.specs.List.{insert, remove}
 use Rattle.std.proofs.lemmas.List.{get_or_read}
 use Rattle.std.proofs.lemmas.List.Edits.{length-remove}
@@ -39,6 +39,6 @@ returns-clause-taken c =
     let rest_len : length rest + 1 ≡ length places = ap (λ ks. length ks + 1) c.remove-first.ensures.items ∙ length-remove places low behind in
     (λ i. turned (refilled starts new_starts c.settle.new.starts.len starts_len (omega arith) i) (refilled rest new_places (length rest) places_len refl i))
     ∙ taken_out new_starts new_places starts places place low first c.pull_through-taken.result
-      (omega (arith, places_len, rest_len, c.if-place-behind.false, behind)) low_is behind (get_or_read places low first behind c.remove-first.ensures.value 0)
-      (c.pull_through-taken.ensures.taken ∙ (λ i. insert (turned (c.as_mut_slice.ensures.value i) ((c.as_mut_slice-2.ensures.value ∙ c.remove-first.ensures.items) i)) (1024 * length (c.as_mut_slice.ensures.value i)) first))
+    (omega (arith, places_len, rest_len, c.if-place-behind.false, behind)) low_is behind (get_or_read places low first behind c.remove-first.ensures.value 0)
+    (c.pull_through-taken.ensures.taken ∙ (λ i. insert (turned (c.as_mut_slice.ensures.value i) ((c.as_mut_slice-2.ensures.value ∙ c.remove-first.ensures.items) i)) (1024 * length (c.as_mut_slice.ensures.value i)) first))
     ∙ ap (λ ks. remove ks place) c.settle.ensures.same

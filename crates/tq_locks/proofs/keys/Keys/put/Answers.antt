@@ -1,4 +1,4 @@
-use Rattle.std.proofs.Common.{length, ap, sym, subst, ◌∙◌, ℕ, arith}
+use Rattle.std.proofs.Common.{length, ap, sym, subst, ℕ, arith}
 use Rattle.smallvec.specs.SmallVec.{SmallVec, HasRoomFor}
 use Rattle.tq_locks.proofs.Blocks.{length-turned, room_behind}
 use Rattle.tq_locks.proofs.keys.Keys.put.Goals as goal
