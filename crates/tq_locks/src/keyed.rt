@@ -16,7 +16,7 @@ use crate::index::{
     Spot, end_empty_under, enter_under, list_under, listed_under, make_room_under, put_under,
     take_all_under, take_near, take_under,
 };
-use crate::keys::Keys;
+use crate::keys::{Keys, LentKeys};
 use crate::lists::place;
 use crate::lock_slab::LockSlab;
 use crate::{Lock, LockEntry, Mode};
@@ -319,9 +319,13 @@ pub(crate) fn held_by(entries: &LockSlab, list: Option<&Keys>, txn: u64, mode: M
 pub(crate) fn walk<'a>(entries: &'a LockSlab, list: Option<&'a Keys>) -> HeldLocks<'a>
     ensures { result ≡ told entries.now (lent_keys list.entry) }
 {
+    let keys = match list {
+        Some(keys) => keys.lend(),
+        None => LentKeys::none(),
+    };
     HeldLocks {
         entries,
-        list,
+        keys,
         at: 0,
     }
 }
@@ -330,7 +334,7 @@ pub(crate) fn walk<'a>(entries: &'a LockSlab, list: Option<&'a Keys>) -> HeldLoc
 #[derive(Drop)]
 pub struct HeldLocks<'a> {
     entries: &'a LockSlab,
-    list: Option<&'a Keys>,
+    keys: LentKeys<'a>,
     /// So many keys were passed.
     at: usize,
 }
@@ -341,10 +345,7 @@ impl<'a> HeldLocks<'a> {
     pub fn most(&self) -> usize
         ensures { length self.now ≤ result }
     {
-        match self.list {
-            Some(keys) => keys.len().saturating_sub(self.at),
-            None => 0,
-        }
+        self.keys.len().saturating_sub(self.at)
     }
 }
 
@@ -353,11 +354,11 @@ impl<'a> Model for HeldLocks<'a> {
     ghost use Rattle.tq_locks.specs.Locks.{LockKey};
     ghost use Rattle.tq_locks.specs.declared.mode.Lock.{Lock};
     ghost use Rattle.std.specs.Prelude.{drop};
-    ghost use Rattle.tq_locks.specs.Keys.{lent_keys, told};
+    ghost use Rattle.tq_locks.specs.Keys.{told};
 
     ghost Value = { List (LockKey × Lock) };
 
-    ghost view = { λ it. told it.entries.now (drop it.at (lent_keys it.list)) };
+    ghost view = { λ it. told it.entries.now (drop it.at it.keys) };
 }
 
 impl<'a> Iterator for HeldLocks<'a> {
@@ -371,9 +372,8 @@ impl<'a> Iterator for HeldLocks<'a> {
 
     #[inline(always)]
     fn next(&mut self) -> Option<LockEntry> {
-        let keys = self.list?;
-        while self.at < keys.len() {
-            let key = keys.get(self.at)?;
+        while self.at < self.keys.len() {
+            let key = self.keys.get(self.at)?;
             self.at += 1;
             if let Some(entry) = self.entries.get(key) {
                 return Some(*entry);

@@ -14,7 +14,7 @@ use std::marker::Model;
 const FEW: usize = 16;
 
 /// So many keys are a block.
-const BLOCK: usize = 1024;
+const BLOCK: usize = 2000;
 
 /// The keys under one name. Up to six of them need no allocation.
 #[derive(Drop)]
@@ -98,6 +98,17 @@ impl Keys {
         key_at(self.starts.as_slice(), self.places.as_slice(), at)
     }
 
+    /// The keys in their order, lent.
+    #[inline(always)]
+    pub(crate) fn lend(&self) -> LentKeys<'_>
+        ensures { result ≡ self.now.items }
+    {
+        LentKeys {
+            starts: self.starts.as_slice(),
+            places: self.places.as_slice(),
+        }
+    }
+
     /// Makes room for one more key.
     #[inline(always)]
     pub(crate) fn make_room(&mut self) -> Result<(), AllocError>
@@ -144,6 +155,53 @@ impl Keys {
         ensures { self.new.items ≡ remove self.old.items place }
     {
         take_out(&mut self.starts, &mut self.places, place);
+    }
+}
+
+/// The keys of a list in their order, lent.
+#[derive(Drop)]
+pub(crate) struct LentKeys<'a> {
+    starts: &'a [usize],
+    places: &'a [usize],
+}
+
+impl<'a> Model for LentKeys<'a> {
+    ghost use Rattle.std.specs.Prelude.{ℕ, List, length};
+    ghost use Rattle.tq_locks.specs.Keys.{turned, HasBlocks};
+
+    ghost Value = { List ℕ };
+
+    ghost view = { λ k. turned k.starts.now k.places.now };
+
+    ghost invariant = { λ k. HasBlocks k.starts.now (length k.places.now) };
+}
+
+impl<'a> LentKeys<'a> {
+    /// No key.
+    #[inline(always)]
+    pub(crate) fn none() -> LentKeys<'a>
+        ensures { result ≡ [] }
+    {
+        LentKeys {
+            starts: &[],
+            places: &[],
+        }
+    }
+
+    /// The number of keys.
+    #[inline(always)]
+    pub(crate) fn len(&self) -> usize
+        ensures { result ≡ length self.now }
+    {
+        self.places.len()
+    }
+
+    /// The key at a place in their order, where the list goes so far.
+    #[inline(always)]
+    pub(crate) fn get(&self, at: usize) -> Option<usize>
+        ensures { result ≡ slice_get self.now at }
+    {
+        key_at(self.starts, self.places, at)
     }
 }
 
@@ -202,7 +260,7 @@ fn put(starts: &mut Vec<usize>, places: &mut SmallVec<usize, 6>, place: usize, k
 fn put_within(starts: &mut Vec<usize>, places: &mut SmallVec<usize, 6>, place: usize, key: usize)
     requires blocks { HasBlocks starts.old.items (small_vec_len places.old) }
     requires room { HasRoomBehind starts.old.items places.old }
-    requires within { place < 1024 * length starts.old.items }
+    requires within { place < 2000 * length starts.old.items }
     ensures blocks { HasBlocks starts.new.items (small_vec_len places.new) }
     ensures put { turned starts.new.items places.new.items
         ≡ insert (turned starts.old.items places.old.items) place key }
@@ -251,7 +309,7 @@ fn settle(starts: &mut Vec<usize>, places: &mut SmallVec<usize, 6>)
     ensures blocks { HasBlocks starts.new.items (small_vec_len places.new) }
     ensures len { small_vec_len places.new ≡ small_vec_len places.old }
     ensures behind { 0 < small_vec_len places.new
-        → 1024 * length starts.new.items < small_vec_len places.new }
+        → 2000 * length starts.new.items < small_vec_len places.new }
     ensures same { turned starts.new.items places.new.items
         ≡ turned starts.old.items places.old.items }
     ensures capacity { places.new.capacity ≡ places.old.capacity }
@@ -283,9 +341,9 @@ fn key_at(starts: &[usize], places: &[usize], at: usize) -> Option<usize>
 /// Puts a key into its place in the blocks, and tells the last of all. The last of each block goes on to the next.
 fn push_through(starts: &mut [usize], places: &mut [usize], place: usize, key: usize) -> usize
     requires blocks { HasBlocks starts.old (length places.old) }
-    requires within { place < 1024 * length starts.old }
+    requires within { place < 2000 * length starts.old }
     ensures blocks { HasBlocks starts.new (length places.new) }
-    ensures put { insert (turned starts.new places.new) (1024 * length starts.new) result
+    ensures put { insert (turned starts.new places.new) (2000 * length starts.new) result
         ≡ insert (turned starts.old places.old) place key }
 {
     let mut block = place / BLOCK;
@@ -301,10 +359,10 @@ fn push_through(starts: &mut [usize], places: &mut [usize], place: usize, key: u
 /// Takes the key at a place in the blocks out. A key comes behind them, and the first of each block goes on to the one before.
 fn pull_through(starts: &mut [usize], places: &mut [usize], place: usize, key: usize) -> usize
     requires blocks { HasBlocks starts.old (length places.old) }
-    requires within { place < 1024 * length starts.old }
+    requires within { place < 2000 * length starts.old }
     ensures blocks { HasBlocks starts.new (length places.new) }
     ensures taken { insert (turned starts.new places.new) place result
-        ≡ insert (turned starts.old places.old) (1024 * length starts.old) key }
+        ≡ insert (turned starts.old places.old) (2000 * length starts.old) key }
 {
     let first = place / BLOCK;
     let mut block = starts.len() - 1;
@@ -326,10 +384,10 @@ fn put_in_block(
     key: usize,
 ) -> usize
     requires blocks { HasBlocks starts.old (length places.old) }
-    requires within { (block < length starts.old) × (place < 1024) }
+    requires within { (block < length starts.old) × (place < 2000) }
     ensures blocks { HasBlocks starts.new (length places.new) }
-    ensures put { insert (turned starts.new places.new) (1024 * suc block) result
-        ≡ insert (turned starts.old places.old) (1024 * block + place) key }
+    ensures put { insert (turned starts.new places.new) (2000 * suc block) result
+        ≡ insert (turned starts.old places.old) (2000 * block + place) key }
 {
     let low = block * BLOCK;
     let keys = &mut places[low..low + BLOCK];
@@ -367,10 +425,10 @@ fn take_from_block(
     key: usize,
 ) -> usize
     requires blocks { HasBlocks starts.old (length places.old) }
-    requires within { (block < length starts.old) × (place < 1024) }
+    requires within { (block < length starts.old) × (place < 2000) }
     ensures blocks { HasBlocks starts.new (length places.new) }
-    ensures taken { insert (turned starts.new places.new) (1024 * block + place) result
-        ≡ insert (turned starts.old places.old) (1024 * suc block) key }
+    ensures taken { insert (turned starts.new places.new) (2000 * block + place) result
+        ≡ insert (turned starts.old places.old) (2000 * suc block) key }
 {
     let low = block * BLOCK;
     let keys = &mut places[low..low + BLOCK];
