@@ -17,7 +17,7 @@ use Rattle.serde_json.specs.Read.{of_json, of_members, converted}
 use Rattle.tq_json.specs.Next.{next, next_items, next_members}
 use Rattle.tq_json.specs.Behind.{behind, closed, opened, Begins, Ends, GoesOn, Fails}
 use Rattle.tq_json.proofs.Nexts.{next-too_deep-array, next-too_deep-object, next-begin_array, next-begin_object}
-use Rattle.tq_json.proofs.Turns.{items_go, items_stop, items_end, members_behind, members_go, members_stop, members_no_key_left, members_end}
+use Rattle.tq_json.proofs.Turns.{items_go, items_stop, items_end, members_go, members_stop, members_no_key_left, members_end}
 
 -- ---- what stands behind an object does not hang on the members before
 
@@ -180,7 +180,7 @@ module _ (whole : Option (List Token)) (depth number inside : ℕ) (ts : List To
     one_more kind bit s lowest goes e less =
         let same : depth - inside - 1 ≡ depth - length (are.0 ∷ are.1) = omega (arith, are.3, less) in
         let is : opened kind (depth - inside) s ≡ closed kind (depth - length (are.0 ∷ are.1)) s =
-            opened_at kind (depth - inside) s (omega (arith, less)) ∙ ap (λ d. closed kind d s) same in
+        opened_at kind (depth - inside) s (omega (arith, less)) ∙ ap (λ d. closed kind d s) same in
         (kind, are.0 ∷ are.1, omega (arith, are.2, lowest, its_bit kind), omega (arith, are.3), omega (arith, less), at_value (closed kind (depth - length (are.0 ∷ are.1)) s) goes (e ∙ is))
 
 pub below_bits : (whole : Option (List Token)) (depth number inside most : ℕ) (ts : List Token) → AreOpen whole depth number inside ts → inside < most → number < 2 ^ most

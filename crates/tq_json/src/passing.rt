@@ -23,7 +23,11 @@ pub fn pass_over(reader: &mut Reader<'_>, depth: usize) -> Result<(), NotRead>
 }
 
 /// Takes the rest of the value that the token begins.
-pub(crate) fn pass_rest(reader: &mut Reader<'_>, token: Token<'_>, depth: usize) -> Result<(), NotRead>
+pub(crate) fn pass_rest(
+    reader: &mut Reader<'_>,
+    token: Token<'_>,
+    depth: usize,
+) -> Result<(), NotRead>
     ensures ok { IfOk result (Found (λ d u. ⊤) (next_from depth token.entry reader.old) reader.new) }
     ensures err { result ≡ Err NotRead.NotJson → next_from depth token.entry reader.old ≡ None }
     ensures shorter { OnOk result (length reader.new ≤ length reader.old) }

@@ -1,9 +1,9 @@
-use Rattle.std.proofs.Common.{◌≡◌, ◌-◌, ◌^◌, ◌<◌, [], ◌∷◌, length, Bool, true, false, Some, None, cond, refl, ap, subst, ◌∙◌, arith}
+use Rattle.std.proofs.Common.{◌≡◌, ◌-◌, ◌^◌, ◌<◌, [], ◌∷◌, length, Some, ap, subst, ◌∙◌, arith}
 use Rattle.json.specs.Reads.{token_of}
 use Rattle.tq_json.specs.Next.{next}
-use Rattle.tq_json.specs.Behind.{behind, closed, opened, Begins, GoesOn, Ends}
+use Rattle.tq_json.specs.Behind.{behind, closed, Begins}
 use Rattle.tq_json.proofs.Nexts.{next-nil}
-use Rattle.tq_json.proofs.Behind.{AreOpen, its_end, its_value, innermost_ends, value_refused, one_more, below_bits, a_bit}
+use Rattle.tq_json.proofs.Behind.{its_end, its_value, innermost_ends, value_refused, one_more, below_bits, a_bit}
 use Rattle.tq_json.proofs.passing.+pass_open.Goals as goal
 
 pub tokens-preserved-then-branch : goal.tokens-preserved-then-branch

@@ -1,4 +1,4 @@
-use Rattle.std.proofs.Common.{ℕ, ◌+◌, ◌*◌, ◌≤◌, length}
+use Rattle.std.proofs.Common.{◌≤◌, length}
 use Rattle.tq_json.specs.Behind.{closed}
 use Rattle.tq_json.proofs.Behind.{AreOpen}
 use Rattle.tq_json.proofs.passing.+pass_open.Given as goal

@@ -1,11 +1,11 @@
-use Rattle.std.proofs.Common.{◌≡◌, ◌∷◌, Some, None, true, false, refl, ap, ◌∙◌, arith}
+use Rattle.std.proofs.Common.{◌≡◌, ◌∷◌, None, true, false, ap, ◌∙◌, arith}
 use Rattle.std.specs.Option.{is_some}
 use Rattle.json.specs.Json.{value}
 use Rattle.json.specs.Reads.{token_of}
 use Rattle.json.proofs.Grammar.{value_is}
 use Rattle.serde_json.specs.Read.{number_of, of_json, converted}
 use Rattle.tq_json.specs.Next.{next}
-use Rattle.tq_json.specs.Behind.{behind, Begins, BeginsNone}
+use Rattle.tq_json.specs.Behind.{behind}
 use Rattle.tq_json.proofs.Nexts.{next-string, next-boolean, next-null, next-number, next-no_number, some_number, no_number}
 use Rattle.tq_json.proofs.Behind.{array_begins, object_begins}
 use Rattle.tq_json.proofs.passing.opening.Goals as goal

@@ -1,4 +1,3 @@
-use Rattle.std.proofs.Common.{◌≡◌, ◌∷◌}
 use Rattle.json.specs.Reads.{token_of}
 use Rattle.tq_json.proofs.Nexts.{some_left}
 use Rattle.tq_json.proofs.Behind.{alone}

@@ -1,4 +1,3 @@
-use Rattle.std.proofs.Common.{◌≡◌, refl, arith}
 use Rattle.tq_json.proofs.Behind.{key_taken, bracket_taken, no_key}
 use Rattle.tq_json.proofs.passing.take_end.Goals as goal
 
