@@ -1,5 +1,5 @@
 -- What a transaction keeps, and what its commit cites, stands among the answers that it was told.
-use Rattle.std.specs.Prelude.{ℕ, List, [], map}
+use Rattle.std.specs.Prelude.{ℕ, List, [], ◌∷◌, ◌++◌, map}
 use Rattle.std.specs.List.{All, Contains}
 use Rattle.tq_store.specs.declared.write.Write.{Write}
 use Rattle.tq_asks.specs.declared.ask.NodeAsk.TheVariants.{Work}
@@ -48,3 +48,10 @@ KeepsOnly told old = CitesOnly told (Commit old.txn old.ops [])
 
 abbrev pub VotesOnly : List NodeTold → VotingView → Type 0
 VotesOnly told old = CitesOnly told (evidence_of old)
+
+-- afterwards it keeps only what it kept before, and what these answers tell
+abbrev pub AddsOnly : List NodeTold → OpenView → OpenView → Type 0
+AddsOnly answers old new = (told : List NodeTold) → KeepsOnly told old → KeepsOnly (told ++ answers) new
+
+abbrev pub AddsVote : NodeTold → VotingView → VotingView → Type 0
+AddsVote answer old new = (told : List NodeTold) → VotesOnly told old → VotesOnly (told ++ answer ∷ []) new

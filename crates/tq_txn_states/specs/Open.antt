@@ -63,6 +63,10 @@ abbrev pub ComesOf : Option TxnFault → TxnFault → Type 0
 ComesOf cause Memory = Unit {0}
 ComesOf cause fault = cause ≡ Some fault
 
+-- a transaction comes back as it was, with a fault of which this is known
+abbrev pub IsBack : {S : Type 0} → S → (TxnFault → Type 0) → S × TxnFault → Type 0
+IsBack old P back = (back.0 ≡ old) × P back.1
+
 -- ---- grants
 
 -- a read rests on locks of either mode, a write on exclusive ones
@@ -168,10 +172,6 @@ pub record IsGoodOp (old : OpenView) (op : Op) : Type 0 where
 abbrev pub with_op : List Op → Op → List Op
 with_op ops op = put (λ other. is_lt (name_cmp op.file other.file)) op ops
 
--- the transaction with other operations and sets of servers
-abbrev pub keeping : OpenView → List Op → List ℕ → List ℕ → OpenView
-keeping old ops voters touched = record old { ops = ops; voters = voters; touched = touched }
-
 -- the transaction after an operation: its servers vote, and have granted a lock
 abbrev pub taken : OpenView → Op → OpenView
 taken old op =
@@ -180,6 +180,13 @@ taken old op =
       voters = with_numbers old.voters (servers_of op);
       touched = with_numbers old.touched (servers_of op);
     }
+
+-- what a read by these answers reads, and the version that a write by them makes
+abbrev pub copy_by : OpenView → List ℕ → List NodeTold → FileCopy
+copy_by old file answers = read_copy (grants_of Read old.txn file answers)
+
+abbrev pub version_by : OpenView → List ℕ → List NodeTold → ℕ
+version_by old file answers = greatest (grants_of Write old.txn file answers) + 1
 
 abbrev pub read_after : OpenView → List ℕ → List NodeTold → OpenView
 read_after old file answers = taken old (read_op file (grants_of Read old.txn file answers))

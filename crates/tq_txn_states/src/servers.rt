@@ -2,7 +2,7 @@ ghost use Rattle.std.specs.Prelude.{◌≡◌, ◌==◌, ◌+◌, ◌<◌, ◌�
 ghost use Rattle.std.specs.List.{insert, list_all, list_any};
 ghost use Rattle.tq_coterie.specs.Coterie.{has, is_quorum, numbers_of};
 ghost use Rattle.tq_evidence.specs.Evidence.{granters, rises};
-ghost use Rattle.tq_txn_states.specs.Sets.{IsReady, IsServerSet, put, with_number, with_numbers};
+ghost use Rattle.tq_txn_states.specs.Sets.{IsReady, IsServerSet, with_id, with_number, with_numbers};
 
 use std::alloc::Global;
 use std::marker::Model;
@@ -205,7 +205,7 @@ fn put_in_order(ids: &mut ServerIds, server: ServerId)
     requires rise { rises (numbers_of ids.old.items) ≡ true }
     requires absent { list_any (λ id. id.number == server.number) ids.old.items ≡ false }
     requires room { length ids.old.items + 1 ≤ ids.old.capacity }
-    ensures items { ids.new.items ≡ put (λ id. nat_lt server.number id.number) server ids.old.items }
+    ensures items { ids.new.items ≡ with_id server ids.old.items }
     ensures len { length ids.new.items ≡ length ids.old.items + 1 }
     ensures capacity { ids.new.capacity ≡ ids.old.capacity }
 {
@@ -217,7 +217,7 @@ fn put_in_order(ids: &mut ServerIds, server: ServerId)
 fn place_of(ids: &[ServerId], server: ServerId) -> usize
     requires rise { rises (numbers_of ids.now) ≡ true }
     requires absent { list_any (λ id. id.number == server.number) ids.now ≡ false }
-    ensures place { insert ids.now result server ≡ put (λ id. nat_lt server.number id.number) server ids.now }
+    ensures place { insert ids.now result server ≡ with_id server ids.now }
     ensures within { result ≤ length ids.now }
 {
     ids.partition_point(|id| id.number() < server.number())

@@ -1,7 +1,7 @@
-use Rattle.std.proofs.Common.{◌≡◌, ◌++◌, ◌∷◌, [], List, None, Some, sym, subst}
-use Rattle.std.specs.Prelude.{IfErr, IfOk, OnErr, OnOk}
+use Rattle.std.proofs.Common.{◌≡◌, None, Some, sym, subst}
+use Rattle.std.specs.Prelude.{IfErr, OnErr, OnOk}
 use Rattle.tq_txn_states.specs.declared.told.NodeTold.{NodeTold}
-use Rattle.tq_txn_states.specs.Cited.{VotesOnly}
+use Rattle.tq_txn_states.specs.Cited.{AddsVote}
 use Rattle.tq_txn_states.specs.Voting.{VotingView, IsVoting, KeepsVotes, vote_after, vote_fault}
 use Rattle.tq_txn_states.proofs.CastLaws.{comes_if}
 use Rattle.tq_txn_states.proofs.voting.Voting.vote.Goals as goal
@@ -11,7 +11,7 @@ vote_in-requires-clause-good c = subst IsVoting (sym c.in_ok-ballots.ensures.val
 
 pub returns-clause-succeeds : goal.returns-clause-succeeds
 returns-clause-succeeds c =
-    let P : VotingView → NodeTold → Type 0 = λ v t. IfOk c.vote_in.result (λ done. vote_fault v t ≡ None) in
+    let P : VotingView → NodeTold → Type 0 = λ v t. OnOk c.vote_in.result (vote_fault v t ≡ None) in
     subst (P c.args.self.now) c.in_ok-answer.ensures (subst (λ (v : VotingView). P v c.in_ok-answer.answer) c.in_ok-ballots.ensures.value c.vote_in.ensures.succeeds)
 
 pub returns-clause-after : goal.returns-clause-after
@@ -21,7 +21,7 @@ returns-clause-after c =
 
 pub returns-clause-cited : goal.returns-clause-cited
 returns-clause-cited c =
-    let P : VotingView → NodeTold → Type 0 = λ v t. OnOk c.vote_in.result ((before : List NodeTold) → VotesOnly before v → VotesOnly (before ++ t ∷ []) c.vote_in.new.self) in
+    let P : VotingView → NodeTold → Type 0 = λ v t. OnOk c.vote_in.result (AddsVote t v c.vote_in.new.self) in
     subst (P c.args.self.now) c.in_ok-answer.ensures (subst (λ (v : VotingView). P v c.in_ok-answer.answer) c.in_ok-ballots.ensures.value c.vote_in.ensures.cited)
 
 pub returns-clause-kept : goal.returns-clause-kept
