@@ -6,7 +6,7 @@ use Rattle.tq_evidence.specs.declared.grant.Grant.{Grant}
 use Rattle.tq_evidence.specs.declared.op.Op.{Op}
 use Rattle.tq_evidence.specs.Evidence.{granters}
 use Rattle.tq_txn_states.specs.declared.granting.Kept.{Kept}
-use Rattle.tq_txn_states.specs.Open.{OpenView, IsGoodOp, IsOpen, read_op, taken, write_op}
+use Rattle.tq_txn_states.specs.Open.{OpenView, IsGoodOp, IsOpen}
 use Rattle.tq_txn_states.specs.Sets.{IsReady, IsWithin, RoomySet, with_number}
 
 -- the operations, and how many more have a place; their servers, and whether these are to grow; the servers that granted
@@ -25,13 +25,6 @@ pub record GrantingView : Type 0 where
 abbrev pub noted : OpenView → GrantingView → OpenView
 noted old granting =
     record old { ops = granting.ops; voters = granting.voters.servers; touched = granting.touched.servers }
-
--- the transaction once it has taken back what it keeps, with a read or a write by the grants
-abbrev pub with_read : OpenView → List ℕ → GrantingView → OpenView
-with_read old file granting = taken (noted old granting) (read_op file granting.grants)
-
-abbrev pub with_write : OpenView → List ℕ → List ℕ → GrantingView → OpenView
-with_write old file content granting = taken (noted old granting) (write_op file content granting.grants)
 
 -- the sets are of servers of a tree of these levels
 pub record IsOfTree (levels : ℕ) (granting : GrantingView) : Type 0 where

@@ -181,13 +181,6 @@ taken old op =
       touched = with_numbers old.touched (servers_of op);
     }
 
--- what a read by these answers reads, and the version that a write by them makes
-abbrev pub copy_by : OpenView → List ℕ → List NodeTold → FileCopy
-copy_by old file answers = read_copy (grants_of Read old.txn file answers)
-
-abbrev pub version_by : OpenView → List ℕ → List NodeTold → ℕ
-version_by old file answers = greatest (grants_of Write old.txn file answers) + 1
-
 abbrev pub read_after : OpenView → List ℕ → List NodeTold → OpenView
 read_after old file answers = taken old (read_op file (grants_of Read old.txn file answers))
 

@@ -11,7 +11,7 @@ ghost use Rattle.tq_txn_states.specs.Sets as sets;
 ghost use Rattle.tq_txn_states.specs.Cited.{AddsOnly, KeepsOnly, VotesOnly, answers_of};
 ghost use Rattle.tq_txn_states.specs.Ended as ending;
 ghost use Rattle.tq_txn_states.specs.Granting as handed;
-ghost use Rattle.tq_txn_states.specs.Granting.{CanGrant, with_read, with_write};
+ghost use Rattle.tq_txn_states.specs.Granting.{CanGrant};
 ghost use Rattle.tq_txn_states.specs.Open as spec;
 ghost use Rattle.tq_txn_states.specs.Open.{ComesOf, IsBack, close_fault, grants_fault, taken, write_after, write_op};
 ghost use Rattle.tq_txn_states.specs.Voting.{closed};
@@ -250,7 +250,8 @@ impl Open {
         requires fresh { spec.is_used granting.ops file.now ≡ false }
         requires member { spec.is_member self.old.levels granting.grants ≡ true }
         ensures value { IfOk result (λ copy. copy ≡ spec.read_copy granting.grants) }
-        ensures after { OnOk result (self.new ≡ with_read self.old file.now granting) }
+        ensures after { OnOk result (self.new
+            ≡ taken (handed.noted self.old granting) (spec.read_op file.now granting.grants)) }
         ensures err { OnErr result (self.new ≡ handed.noted self.old granting) }
     {
         let given = match read_twice(granting.grants()) {
@@ -291,7 +292,8 @@ impl Open {
         requires member { spec.is_member self.old.levels granting.grants ≡ true }
         requires exclusive { evidence.is_exclusively_granted granting.grants ≡ true }
         ensures value { spec.version_after granting.grants ≡ result }
-        ensures after { OnSome result (self.new ≡ with_write self.old file.now content granting) }
+        ensures after { OnSome result (self.new
+            ≡ taken (handed.noted self.old granting) (write_op file.now content granting.grants)) }
         ensures full { result ≡ None → self.new ≡ handed.noted self.old granting }
     {
         let Some(version) = greatest_version(granting.grants()).checked_add(1) else {
@@ -319,7 +321,8 @@ impl Open {
         answers: &[NodeTold],
     ) -> Result<FileCopy, TxnFault>
         ensures succeeds { OnOk result (spec.read_fault self.old file.now answers.now ≡ None) }
-        ensures value { IfOk result (λ copy. copy ≡ spec.copy_by self.old file.now answers.now) }
+        ensures value { IfOk result (λ copy.
+            copy ≡ spec.read_copy (spec.grants_of OpKind.Read self.old.txn file.now answers.now)) }
         ensures after { OnOk result (self.new ≡ spec.read_after self.old file.now answers.now) }
         ensures cited { OnOk result (AddsOnly answers.now self.old self.new) }
         ensures fault { IfErr result (ComesOf (spec.read_fault self.old file.now answers.now)) }
@@ -367,7 +370,8 @@ impl Open {
         answers: &[NodeTold],
     ) -> Result<u64, TxnFault>
         ensures succeeds { OnOk result (spec.write_fault self.old file.now answers.now ≡ None) }
-        ensures value { IfOk result (λ made. made ≡ spec.version_by self.old file.now answers.now) }
+        ensures value { IfOk result (λ made. made ≡
+            evidence.greatest (spec.grants_of OpKind.Write self.old.txn file.now answers.now) + 1) }
         ensures after { OnOk result (self.new ≡ write_after self.old file.now content answers.now) }
         ensures cited { OnOk result (AddsOnly answers.now self.old self.new) }
         ensures fault { IfErr result (ComesOf (spec.write_fault self.old file.now answers.now)) }

@@ -2,12 +2,12 @@ ghost use Rattle.std.specs.Prelude.{◌≡◌, ◌≤◌, true, None, Some, IfOk
 ghost use Rattle.tq_coterie.specs.Coterie.{numbers_of};
 ghost use Rattle.tq_evidence.specs.Evidence as evidence;
 ghost use Rattle.tq_txn_states.specs.Ballots.{with_ballots};
-ghost use Rattle.tq_txn_states.specs.Cited.{AddsVote};
+ghost use Rattle.tq_txn_states.specs.Cited.{TakesVote};
 ghost use Rattle.tq_txn_states.specs.Ended as ending;
 ghost use Rattle.tq_txn_states.specs.Open.{ComesOf, HasVoters, IsBack};
 ghost use Rattle.tq_txn_states.specs.Sets as sets;
 ghost use Rattle.tq_txn_states.specs.Voting as spec;
-ghost use Rattle.tq_txn_states.specs.Voting.{prepare_ask, vote_after, vote_fault, with_vote};
+ghost use Rattle.tq_txn_states.specs.Voting.{prepare_ask, vote_fault, with_vote};
 
 use crate::ended::verdict_of;
 use crate::open::copy_of;
@@ -153,13 +153,8 @@ impl Voting {
 
     /// Takes a vote, in place of one of its server that is there. A fault leaves the transaction as it was.
     pub fn vote(&mut self, _alloc: Global, told: &NodeTold) -> Result<(), TxnFault>
-        ensures succeeds { IfOk result (λ done. spec.vote_fault self.old told.now ≡ None) }
-        ensures after { OnOk result (self.new ≡ spec.vote_after self.old told.now) }
-        ensures cited { OnOk result (AddsVote told.now self.old self.new) }
-        ensures txn { self.new.txn ≡ self.old.txn }
-        ensures kept { OnOk result (spec.KeepsVotes self.old.votes self.new.votes) }
-        ensures fault { IfErr result (ComesOf (spec.vote_fault self.old told.now)) }
-        ensures err { OnErr result (self.new ≡ self.old) }
+        ensures vote { TakesVote self.old told.now self.new result }
+        ensures fault { IfErr result (ComesOf (vote_fault self.old told.now)) }
     {
         let answer = told_again(told)?;
         let ballots = self.room_for_vote()?;
@@ -205,14 +200,9 @@ impl Voting {
     pub fn vote_in(&mut self, ballots: Ballots, told: NodeTold) -> Result<(), TxnFault>
         requires good { spec.IsVoting (with_ballots self.old ballots) }
         requires room { 1 ≤ ballots.room }
-        ensures succeeds { OnOk result (vote_fault (with_ballots self.old ballots) told ≡ None) }
-        ensures after { OnOk result (self.new ≡ vote_after (with_ballots self.old ballots) told) }
-        ensures cited { OnOk result (AddsVote told (with_ballots self.old ballots) self.new) }
-        ensures txn { self.new.txn ≡ self.old.txn }
-        ensures kept { OnOk result (spec.KeepsVotes ballots.votes self.new.votes) }
+        ensures vote { TakesVote (with_ballots self.old ballots) told self.new result }
         ensures fault { IfErr result (λ fault.
             vote_fault (with_ballots self.old ballots) told ≡ Some fault) }
-        ensures err { OnErr result (self.new ≡ with_ballots self.old ballots) }
     {
         match self.cast_by(told) {
             Ok(cast) => {
