@@ -22,8 +22,8 @@ returns-in-Some-clause-kept c = λ none. voted_on_same (with_ballots c.args.voti
 pub returns-in-Err-clause-kept : goal.returns-in-Err-clause-kept
 returns-in-Err-clause-kept c = λ none. voted_on_same (with_ballots c.args.voting.now c.args.ballots) c.vote_in.new.self c.in-Err.ensures.vote.err
 
-pub returns-clause-kept : goal.returns-clause-kept
-returns-clause-kept c = λ none. voted_on_after (with_ballots c.args.voting.now c.args.ballots) c.vote_in.new.self c.args.told c.in_default-vote_in.ensures.vote.after none
+pub returns-in-Ok-clause-kept : goal.returns-in-Ok-clause-kept
+returns-in-Ok-clause-kept c = λ none. voted_on_after (with_ballots c.args.voting.now c.args.ballots) c.vote_in.new.self c.args.told c.in-Ok.ensures.vote.after none
 
 pub returns-in-Some-clause-cited : goal.returns-in-Some-clause-cited
 returns-in-Some-clause-cited c = λ before is. knows_voted before c.args.told (with_ballots c.args.voting.now c.args.ballots) c.put_back.new.self c.put_back.ensures is
