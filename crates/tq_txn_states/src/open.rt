@@ -527,11 +527,12 @@ impl Open {
         ensures after { OnOk result (self.new ≡ spec.taken self.old op) }
         ensures err { OnErr result (self.new ≡ self.old) }
     {
-        let voters = self.voters.make_room_for(op.grants.as_slice())?;
-        let touched = self.touched.make_room_for(op.grants.as_slice())?;
+        let more = op.grants.as_slice().len();
+        self.voters.reserve(more)?;
+        self.touched.reserve(more)?;
         self.ops.reserve(1)?;
-        self.voters.grow(voters, op.grants.as_slice());
-        self.touched.grow(touched, op.grants.as_slice());
+        self.voters.grow(true, op.grants.as_slice());
+        self.touched.grow(true, op.grants.as_slice());
         put_in_order(&mut self.ops, op);
         Ok(())
     }

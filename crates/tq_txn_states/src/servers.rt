@@ -75,19 +75,6 @@ impl Servers {
         Ok(true)
     }
 
-    /// The same for the servers of the grants.
-    pub(crate) fn make_room_for(&mut self, grants: &[Grant]) -> Result<bool, Memory>
-        ensures ready { IfOk result (λ grows. IsReady self.new grows (granters grants.now)) }
-        ensures servers { self.new.servers ≡ self.old.servers }
-        ensures levels { self.new.levels ≡ self.old.levels }
-    {
-        if have_all(self.ids.as_slice(), grants) {
-            return Ok(false);
-        }
-        self.reserve(grants.len())?;
-        Ok(true)
-    }
-
     /// Puts a server at its place, if it is not there. It takes no memory.
     pub(crate) fn put(&mut self, server: ServerId)
         requires tree { server.levels ≡ self.old.levels }
@@ -177,24 +164,6 @@ fn has_all(ids: &[ServerId], others: &[ServerId]) -> bool
                     return has_all(ids, &others[1..]);
                 }
                 has_all(&ids[1..], others)
-            }
-        },
-    }
-}
-
-/// The same for the servers of the grants.
-fn have_all(ids: &[ServerId], grants: &[Grant]) -> bool
-    ensures { IsTrue result → list_all (has (numbers_of ids.now)) (granters grants.now) ≡ true }
-{
-    match grants {
-        [] => true,
-        [grant, ..] => match ids {
-            [] => false,
-            [id, ..] => {
-                if id.number() == grant.server {
-                    return have_all(ids, &grants[1..]);
-                }
-                have_all(&ids[1..], grants)
             }
         },
     }
