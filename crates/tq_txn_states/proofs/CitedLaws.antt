@@ -155,11 +155,6 @@ taken_cited kind old new op answers is grants told kept =
     let here : IsOpTold old.txn (told ++ answers) op = subst P (sym grants) (op_told kind old.txn op.file told answers) in
     subst (KeepsOnly (told ++ answers)) (sym is) (taken_keeps old op told answers here kept)
 
--- the same of a call that may have failed
-pub taken_cited_if : {A E : Type 0} (result : Result A E) (kind : OpKind) (old new : OpenView) (op : Op) (answers : List NodeTold) → OnOk result (new ≡ taken old op) → op.grants ≡ grants_of kind old.txn op.file answers → OnOk result (AddsOnly answers old new)
-taken_cited_if (Ok a) kind old new op answers is grants = taken_cited kind old new op answers is grants
-taken_cited_if (Err fault) kind old new op answers is grants = tt
-
 -- the same, by the answers that told of its grants
 pub granted_cited : (old new : OpenView) (op : Op) (grants : List Grant) → new ≡ taken old op → op.grants ≡ grants → AddsOnly (answers_of old.txn op.file grants) old new
 granted_cited old new op grants is same told kept =

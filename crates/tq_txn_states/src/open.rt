@@ -332,21 +332,6 @@ impl Open {
             return Err(TxnFault::AlreadyThere);
         }
         let grants = self.admit(alloc, OpKind::Read, file, answers)?;
-        Ok(self.read_granted(file, grants)?)
-    }
-
-    /// Reads a file by the grants of a quorum, as `read` does by the answers that tell of them. Out of memory leaves the
-    /// transaction as it was.
-    fn read_granted(&mut self, file: &FileName, grants: Seq<Grant>) -> Result<FileCopy, Memory>
-        requires fresh { spec.is_used self.old.ops file.now ≡ false }
-        requires few { spec.has_all_ops self.old ≡ false }
-        requires member { spec.is_member self.old.levels grants ≡ true }
-        ensures value { IfOk result (λ copy. copy ≡ spec.read_copy grants) }
-        ensures after { OnOk result (self.new ≡ taken self.old (spec.read_op file.now grants)) }
-        ensures cited { OnOk result
-            (AddsOnly (answers_of self.old.txn file.now grants) self.old self.new) }
-        ensures err { OnErr result (self.new ≡ self.old) }
-    {
         let given = read_copy(grants.as_slice())?;
         let kept = given.content.clone()?;
         let op = Op {
@@ -381,29 +366,6 @@ impl Open {
             return Err(TxnFault::AlreadyThere);
         }
         let grants = self.admit(alloc, OpKind::Write, file, answers)?;
-        self.write_granted(file, content, grants)
-    }
-
-    /// Writes a file by the exclusive grants of a quorum, as `write` does by the answers that tell of them. A fault
-    /// leaves the transaction as it was.
-    fn write_granted(
-        &mut self,
-        file: &FileName,
-        content: Content,
-        grants: Seq<Grant>,
-    ) -> Result<u64, TxnFault>
-        requires fresh { spec.is_written self.old.ops file.now ≡ false }
-        requires few { spec.has_all_ops self.old ≡ false }
-        requires member { spec.is_member self.old.levels grants ≡ true }
-        requires exclusive { evidence.is_exclusively_granted grants ≡ true }
-        ensures succeeds { IfOk result (λ version. spec.version_fault grants ≡ None) }
-        ensures value { IfOk result (λ version. version ≡ evidence.greatest grants + 1) }
-        ensures after { OnOk result (self.new ≡ taken self.old (write_op file.now content grants)) }
-        ensures cited { OnOk result
-            (AddsOnly (answers_of self.old.txn file.now grants) self.old self.new) }
-        ensures fault { IfErr result (ComesOf (spec.version_fault grants)) }
-        ensures err { OnErr result (self.new ≡ self.old) }
-    {
         let Some(version) = greatest_version(grants.as_slice()).checked_add(1) else {
             return Err(TxnFault::VersionFull);
         };
