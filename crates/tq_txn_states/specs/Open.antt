@@ -1,6 +1,6 @@
 -- An open transaction: what it has read and written, and what an answer that it is told makes of it.
-use Rattle.std.specs.Prelude.{◌≡◌, ◌==◌, ◌+◌, ◌^◌, ℕ, Bool, true, false, not, ◌&&◌, ◌≤◌, nat_lt, nat_le, List, [], length, Option, Some, None, is_none, if◌then◌else◌}
-use Rattle.std.specs.List.{list_all, list_any, find, filter_map}
+use Rattle.std.specs.Prelude.{◌≡◌, ◌==◌, ◌+◌, ◌^◌, ℕ, Bool, true, false, not, ◌&&◌, nat_lt, nat_le, List, [], length, Option, Some, None, is_none, if◌then◌else◌}
+use Rattle.std.specs.List.{list_any, find, filter_map}
 use Rattle.std.specs.Option.{option_map}
 use Rattle.std.specs.Ordering.{is_lt}
 use Rattle.tq_shape.specs.Limits.{LimitsView}

@@ -1,7 +1,7 @@
 use Rattle.std.proofs.Common.{◌≡◌, ◌∙◌, refl, sym, ap}
 use Rattle.tq_evidence.specs.Evidence.{granters}
 use Rattle.tq_txn_states.specs.Granting.{keeping}
-use Rattle.tq_txn_states.specs.Sets.{IsReady, with_numbers}
+use Rattle.tq_txn_states.specs.Sets.{with_numbers}
 use Rattle.tq_txn_states.proofs.GoodOps.{IsOpen-with}
 use Rattle.tq_txn_states.proofs.GrantingLaws.{taken_by}
 use Rattle.tq_txn_states.proofs.Tested.{quorum_found}

@@ -2,7 +2,7 @@ use Rattle.std.proofs.Common.{◌≡◌, ◌∙◌, false, sym, ap, rules}
 use Rattle.tq_store.specs.declared.copies.FileCopy.{FileCopy}
 use Rattle.tq_evidence.specs.declared.op.OpKind.TheVariants as kinds
 use Rattle.tq_evidence.specs.declared.op.Op.{Op}
-use Rattle.tq_txn_states.specs.Open.{grants_of, is_member, is_used, read_copy, taken}
+use Rattle.tq_txn_states.specs.Open.{is_member, is_used, read_copy, taken}
 use Rattle.tq_txn_states.proofs.CitedLaws.{taken_cited}
 use Rattle.tq_txn_states.proofs.GoodGrants.{good_read_of}
 use Rattle.tq_txn_states.proofs.open.Open.read.Goals as goal

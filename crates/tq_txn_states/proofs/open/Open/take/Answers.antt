@@ -1,8 +1,5 @@
-use Rattle.std.proofs.Common.{◌≡◌, ◌∙◌, ℕ, true, ◌&&◌, List, sym, ap}
-use Rattle.std.proofs.lemmas.Bool.{and_parts}
-use Rattle.tq_coterie.specs.Coterie.{is_quorum}
-use Rattle.tq_evidence.specs.declared.grant.Grant.{Grant}
-use Rattle.tq_evidence.specs.Evidence.{rises, granters}
+use Rattle.std.proofs.Common.{◌≡◌, ◌∙◌, sym, ap}
+use Rattle.tq_evidence.specs.Evidence.{granters}
 use Rattle.tq_txn_states.specs.Open.{OpenView, with_op}
 use Rattle.tq_txn_states.specs.Sets.{with_numbers}
 use Rattle.tq_txn_states.proofs.GoodOps.{IsOpen-with}
