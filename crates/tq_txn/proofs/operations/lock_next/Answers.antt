@@ -1,9 +1,9 @@
 use Rattle.std.proofs.Common.{◌++◌, ℕ, [], ◌∷◌, Some, Ok, Err, refl, subst}
 use Rattle.std.specs.List.{Contains}
-use Rattle.tq_txn_states.specs.Cited.{answers_of, grant_told}
+use Rattle.tq_txn_states.specs.Cited.{grant_told}
 use Rattle.tq_txn_states.specs.Open.{touched_by}
 use Rattle.tq_txn_states.specs.declared.told.NodeTold.{NodeTold}
-use Rattle.tq_txn.specs.Lines.{LocksView, grant_answer, lock_line, locks_of}
+use Rattle.tq_txn.specs.Lines.{LocksView, lock_line, locks_of}
 use Rattle.tq_txn.specs.Told.{answers_in}
 use Rattle.tq_txn.specs.Dialogue.{Follows, done, ended_by}
 use Rattle.tq_txn.proofs.GrantLaws.{answers_push, granters_push, modes_push, next_locked, noted_push}

@@ -1,18 +1,18 @@
 use Rattle.std.proofs.lemmas.List.Elements.{All-contains_itself}
-use Rattle.std.proofs.Common.{ℕ, sym, subst, ap, ◌∙◌, ◌+◌, Some, Ok, Err, refl}
+use Rattle.std.proofs.Common.{sym, subst, ap, ◌∙◌, ◌+◌, Some, Ok, Err, refl}
 use Rattle.tq_evidence.specs.Evidence.{greatest}
 use Rattle.tq_evidence.specs.declared.op.OpKind.TheVariants as kinds
 use Rattle.tq_locks.specs.declared.mode.Mode.TheVariants.{Exclusive}
 use Rattle.tq_txn_states.specs.declared.fault.TxnFault.TheVariants as txn_faults
 use Rattle.tq_txn_states.specs.Cited.{KeepsOnly, answers_of}
 use Rattle.tq_txn_states.specs.Granting.{noted}
-use Rattle.tq_txn_states.specs.Open.{ComesOf, taken, write_op}
+use Rattle.tq_txn_states.specs.Open.{taken, write_op}
 use Rattle.tq_txn_states.proofs.CitedLaws.{granted_cited}
 use Rattle.tq_txn_states.proofs.Granted.{grants_again, write_as_told}
 use Rattle.tq_txn_states.proofs.GrantingLaws.{version_made, version_refused}
 use Rattle.tq_txn.specs.declared.fault.LineFault.TheVariants as faults
 use Rattle.tq_txn.specs.Dialogue.{ended_by}
-use Rattle.tq_txn.specs.Lines.{granting_answer, locked, quorum_line, write_end}
+use Rattle.tq_txn.specs.Lines.{quorum_line, write_end}
 use Rattle.tq_txn.specs.Told.{AreTold, answers_in}
 use Rattle.tq_txn.proofs.BreakLaws.{unfailed_off}
 use Rattle.tq_txn.proofs.GrantLaws.{all_exclusive, same_answers, still_few, still_member, still_unwritten}
