@@ -69,7 +69,8 @@ impl<'a> Placing<'a> {
         ensures journals { IfOk result (λ placed. self.new.journals ≡ self.old.journals) }
         ensures placed { result ≡ Ok true → self.new.order
             ≡ self.old.order ++ parts.Server (suc place) ∷ [] }
-        ensures less { result ≡ Ok true → suc (kept.entries_left self.new.journals self.new.order)
+        ensures less { result ≡ Ok true →
+            suc (kept.entries_left self.new.journals self.new.order)
             ≡ kept.entries_left self.old.journals self.old.order }
         ensures still { result ≡ Ok false → self.new.order ≡ self.old.order }
         ensures blocked { result ≡ Ok false → spec.IsNext self.new.journals self.new.order
@@ -91,7 +92,8 @@ impl<'a> Placing<'a> {
     /// Places the desk's next entry, if there is one that can be placed.
     fn place_desk(&mut self, alloc: Global) -> Result<bool, Memory>
         ensures journals { IfOk result (λ placed. self.new.journals ≡ self.old.journals) }
-        ensures less { result ≡ Ok true → suc (kept.entries_left self.new.journals self.new.order)
+        ensures less { result ≡ Ok true →
+            suc (kept.entries_left self.new.journals self.new.order)
             ≡ kept.entries_left self.old.journals self.old.order }
         ensures still { result ≡ Ok false → self.new.order ≡ self.old.order }
         ensures blocked { result ≡ Ok false
