@@ -15,7 +15,7 @@ use Rattle.std.proofs.lemmas.List.{drop_more, at_drop_all}
 use Rattle.tq_shape.specs.Tree.{Server, IsServer}
 use Rattle.tq_live.specs.View.{is_server}
 use Rattle.tq_syntax.specs.declared.script.Line.{Line}
-use Rattle.tq_client.specs.Script.{leaving, passed, was_answered, is_answered, server_marked, mark_asked, closing, line_asked, script_asked}
+use Rattle.tq_client.specs.Script.{leaving, view_wait, was_answered, is_answered, server_marked, mark_asked, closing, line_asked, script_asked}
 
 -- memory ran out in the first part
 pub follows_cut : {A B : Type 0} (line : Dialogue A) (next : A → Dialogue B) (old new : List Exchange) → Follows line old new None → Follows (then_line line next) old new None
@@ -47,7 +47,7 @@ module _ {A S B : Type 0} (line : Dialogue (LineEnd A S)) (next : Bool → S →
 
 -- ---- the view's answer is passed over
 
-pub follows_passed : {A : Type 0} (line : Dialogue (LineEnd ViewTold A)) (answer : Result ViewTold AskFault) (after : A) (old new : List Exchange) → Follows line old new (ended_by (line_result answer) after) → Follows (then_line line (λ end. Ends tt)) old new (passed answer)
+pub follows_passed : {A : Type 0} (line : Dialogue (LineEnd ViewTold A)) (answer : Result ViewTold AskFault) (after : A) (old new : List Exchange) → Follows line old new (ended_by (line_result answer) after) → Follows (then_line line (λ end. Ends tt)) old new (view_wait answer)
 follows_passed line (Ok told) after old new first = follows_then line (λ end. Ends tt) (record { answer = Ok told; after = after }) old new new (Some tt) first (follows_end tt new)
 follows_passed line (Err ask_faults.Memory) after old new first = follows_cut line (λ end. Ends tt) old new first
 follows_passed line (Err fault) after old new first = follows_then line (λ end. Ends tt) (record { answer = line_result (Err fault); after = after }) old new new (Some tt) first (follows_end tt new)

@@ -35,9 +35,9 @@ leaving after line = then_line line (λ asked. Ends after)
 -- ---- the lines that concern no transaction
 
 -- an answer of the view was waited for, unless memory ran out
-abbrev pub passed : Result ViewTold AskFault → Option (Unit {0})
-passed (Err ask_faults.Memory) = None
-passed answer = Some tt
+abbrev pub view_wait : Result ViewTold AskFault → Option (Unit {0})
+view_wait (Err ask_faults.Memory) = None
+view_wait answer = Some tt
 
 -- an ask of the view, whatever it answers
 abbrev pub view_asked : ViewAsk → Dialogue (Unit {0})
@@ -81,22 +81,22 @@ closing None = Ends tt
 closing (Some txn) = given_up (states.Open txn)
 
 -- the transaction that the desk's reply begins; none where it refuses
-abbrev pub opened : ℕ → LimitsView → DeskReply → Option OpenView
-opened levels limits (replies.Txn number) = Some (opening levels limits number)
-opened levels limits reply = None
+abbrev pub txn_of_reply : ℕ → LimitsView → DeskReply → Option OpenView
+txn_of_reply levels limits (replies.Txn number) = Some (opening levels limits number)
+txn_of_reply levels limits reply = None
 
 abbrev pub desk_opened : ℕ → LimitsView → Told DeskReply → Option OpenView
-desk_opened levels limits (Ok answered) = opened levels limits answered.reply
+desk_opened levels limits (Ok answered) = txn_of_reply levels limits answered.reply
 desk_opened levels limits (Err fault) = None
 
 abbrev pub desk_begun : ℕ → LimitsView → Dialogue (Option OpenView)
 desk_begun levels limits = AsksDesk desk_asks.Begin (λ answer. Ends (desk_opened levels limits answer))
 
 -- what an answer to a begin leaves open, unless memory ran out
-abbrev pub begun : ℕ → LimitsView → Result DeskTold AskFault → Option (Option OpenView)
-begun levels limits (Ok told) = Some (opened levels limits told.reply)
-begun levels limits (Err ask_faults.Memory) = None
-begun levels limits (Err fault) = Some None
+abbrev pub txn_of_answer : ℕ → LimitsView → Result DeskTold AskFault → Option (Option OpenView)
+txn_of_answer levels limits (Ok told) = Some (txn_of_reply levels limits told.reply)
+txn_of_answer levels limits (Err ask_faults.Memory) = None
+txn_of_answer levels limits (Err fault) = Some None
 
 -- a transaction begins, after the one that is open was aborted
 abbrev pub begin_asked : ℕ → LimitsView → Option OpenView → Dialogue (Option OpenView)
@@ -116,12 +116,12 @@ abbrev pub write_asked : List ℕ → List ℕ → OpenView → Dialogue (Option
 write_asked file content txn = then_line (write_line txn file content) (λ end. after (is_answered end.answer) end.after)
 
 -- a commit that is refused aborts
-abbrev pub committed : Bool → Txn → Dialogue (Unit {0})
-committed true txn = Ends tt
-committed false txn = given_up txn
+abbrev pub after_commit : Bool → Txn → Dialogue (Unit {0})
+after_commit true txn = Ends tt
+after_commit false txn = given_up txn
 
 abbrev pub voting_asked : VotingView → Dialogue (Unit {0})
-voting_asked voting = then_line (commit_line voting) (λ end. committed (is_answered end.answer) end.after)
+voting_asked voting = then_line (commit_line voting) (λ end. after_commit (is_answered end.answer) end.after)
 
 -- a transaction that read and wrote nothing has nothing to commit: that is refused, too
 abbrev pub commit_asked : OpenView → Dialogue (Unit {0})

@@ -22,7 +22,7 @@ pub(crate) fn ask_view<A: Asker>(asker: &mut A, alloc: Global, ask: ViewAsk) -> 
 
 /// Passes over what the view answered, unless memory was refused.
 fn pass_over(answer: Result<ViewTold, AskFault>) -> Result<(), Memory>
-    ensures { result_ok result ≡ spec.passed answer }
+    ensures { result_ok result ≡ spec.view_wait answer }
 {
     match answer {
         Ok(_told) => Ok(()),

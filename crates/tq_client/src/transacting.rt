@@ -58,25 +58,25 @@ pub(crate) fn close<A: Asker>(
 }
 
 /// The transaction that the desk's answer begins.
-fn begun(
+fn txn_of_answer(
     alloc: Global,
     levels: Levels,
     limits: Limits,
     answer: Result<DeskTold, AskFault>,
 ) -> Result<Option<Open>, Memory>
-    ensures value { result_ok result ≡ spec.begun levels limits answer }
+    ensures value { result_ok result ≡ spec.txn_of_answer levels limits answer }
     ensures levels { IfOk result (λ txn. IfSome txn (λ o. o.levels ≡ levels)) }
 {
     match answer {
-        Ok(told) => Ok(opened(alloc, levels, limits, told.reply)),
+        Ok(told) => Ok(txn_of_reply(alloc, levels, limits, told.reply)),
         Err(AskFault::Memory) => Err(AllocError),
         Err(AskFault::JournalFull { .. }) => Ok(None),
         Err(AskFault::Unfounded { .. }) => Ok(None),
     }
 }
 
-fn opened(alloc: Global, levels: Levels, limits: Limits, reply: DeskReply) -> Option<Open>
-    ensures value { result ≡ spec.opened levels limits reply }
+fn txn_of_reply(alloc: Global, levels: Levels, limits: Limits, reply: DeskReply) -> Option<Open>
+    ensures value { result ≡ spec.txn_of_reply levels limits reply }
     ensures levels { IfSome result (λ o. o.levels ≡ levels) }
 {
     match reply {
@@ -115,7 +115,7 @@ fn ask_begin<A: Asker>(
     ensures tree { A.levels asker.new ≡ A.levels asker.old }
 {
     let answer = asker.desk(alloc, DeskAsk::Begin);
-    begun(alloc, levels, limits, answer)
+    txn_of_answer(alloc, levels, limits, answer)
 }
 
 /// The transaction after a read or a write: still open where that was answered, and aborted where it was refused.

@@ -6,9 +6,9 @@ use Rattle.tq_txn.specs.declared.fault.LineFault.TheVariants as faults
 use Rattle.tq_tables.specs.Journals.{JournalsView}
 use Rattle.tq_txn.specs.Dialogue.{Dialogue, LineEnd, Ends, Follows, then_line, ended_by}
 use Rattle.tq_interpreter.specs.declared.txn_slot.TxnSlot.{TxnSlot}
-use Rattle.tq_interpreter.specs.TxnAsked.{TxnAnswer, IsAnswered, answered, answer_end, result_text, is_refused_memory}
+use Rattle.tq_interpreter.specs.TxnAsked.{TxnAnswer, IsAnswered, answer_line, answer_end, result_text, is_refused_memory}
 use Rattle.tq_interpreter.specs.Asking.{Ran, run_line}
-use Rattle.tq_text.specs.Print.{printed}
+use Rattle.tq_text.specs.Print.{printed_line}
 use Rattle.tq_interpreter.specs.Progress.{Progress}
 use Rattle.tq_interpreter.specs.Recorded.{RecorderView, IsReplayed}
 use Rattle.tq_interpreter.proofs.Leading.{follows_ran, ran_as, then_ran}
@@ -33,12 +33,12 @@ line_ran {A} {S} line f old new result after replayed_old replayed_new levels fo
 -- a line of a transaction that was printed so
 pub answered_by : {A S : Type 0} (line : Dialogue (LineEnd A S)) (kept : S → TxnSlot) (servers : S → List ℕ) (text : S → A → List ℕ) (old new : RecorderView) (result : Result A LineFault) (after : S) (before written : List ℕ) (left : TxnSlot)
     → IsReplayed old → IsReplayed new → new.journals.levels ≡ old.journals.levels → Follows line old.told new.told (ended_by result after) → is_refused_memory result ≡ false
-    → written ≡ before ++ printed (result_text (servers after) (text after) result) → left ≡ kept after
-    → IsAnswered (answered line kept servers text) (got_to old.journals before) (got_to new.journals written) left
+    → written ≡ before ++ printed_line (result_text (servers after) (text after) result) → left ≡ kept after
+    → IsAnswered (answer_line line kept servers text) (got_to old.journals before) (got_to new.journals written) left
 answered_by line kept servers text old new result after before written left replayed_old replayed_new levels follows fine wrote is =
     let ran = line_ran line (answer_end kept servers text) old new result after replayed_old replayed_new levels follows fine in
     record {
-      text = wrote ∙ ap (λ (r : Ran TxnAnswer). before ++ printed r.end.text) (sym ran.1);
+      text = wrote ∙ ap (λ (r : Ran TxnAnswer). before ++ printed_line r.end.text) (sym ran.1);
       journals = ap (λ (r : Ran TxnAnswer). r.after) (sym ran.1);
       kept = is ∙ ap (λ (r : Ran TxnAnswer). r.end.kept) (sym ran.1);
     }
@@ -46,12 +46,12 @@ answered_by line kept servers text old new result after before written left repl
 -- the same of a line that makes what is said of its whole end
 pub said_by : {A S : Type 0} (line : Dialogue (LineEnd A S)) (f : LineEnd A S → TxnAnswer) (old new : RecorderView) (result : Result A LineFault) (after : S) (before written : List ℕ) (left : TxnSlot)
     → IsReplayed old → IsReplayed new → new.journals.levels ≡ old.journals.levels → Follows line old.told new.told (ended_by result after) → is_refused_memory result ≡ false
-    → written ≡ before ++ printed (f (record { answer = result; after = after })).text → left ≡ (f (record { answer = result; after = after })).kept
+    → written ≡ before ++ printed_line (f (record { answer = result; after = after })).text → left ≡ (f (record { answer = result; after = after })).kept
     → IsAnswered (then_line line (λ end. Ends (f end))) (got_to old.journals before) (got_to new.journals written) left
 said_by line f old new result after before written left replayed_old replayed_new levels follows fine wrote is =
     let ran = line_ran line f old new result after replayed_old replayed_new levels follows fine in
     record {
-      text = wrote ∙ ap (λ (r : Ran TxnAnswer). before ++ printed r.end.text) (sym ran.1);
+      text = wrote ∙ ap (λ (r : Ran TxnAnswer). before ++ printed_line r.end.text) (sym ran.1);
       journals = ap (λ (r : Ran TxnAnswer). r.after) (sym ran.1);
       kept = is ∙ ap (λ (r : Ran TxnAnswer). r.end.kept) (sym ran.1);
     }

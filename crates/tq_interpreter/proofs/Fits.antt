@@ -23,7 +23,7 @@ use Rattle.tq_txn.specs.declared.fault.LineFault.{LineFault}
 use Rattle.tq_txn.specs.declared.fault.LineFault.TheVariants as faults
 use Rattle.tq_txn.specs.declared.read_answer.ReadAnswer.{ReadAnswer}
 use Rattle.tq_txn.specs.declared.read_answer.ReadAnswer.TheVariants as readings
-use Rattle.tq_text.specs.Print.{numbers_text, op_servers, bracketed, version_text, reading_text, applied_text, verdict_text}
+use Rattle.tq_text.specs.Print.{numbers_text, op_servers, bracketed_text, version_text, reading_text, applied_text, verdict_text}
 use Rattle.tq_text.specs.Refusals.{ended_text, decided_text, server_refusal_text, desk_refusal_text, view_refusal_text, txn_fault_text, fault_text}
 use Rattle.tq_interpreter.specs.PossibleTxn.{IsOfWork, IsOfOwn, IsOfChoice, IsPossible, Saying, Reads, Writes, Votes, Commits, Aborts, Resolves, Applies, Closed, Undecided, Stops, OffTree, Fails, saying_text, CanCome, IsFit}
 
@@ -61,13 +61,13 @@ fit_shut : (text : List ℕ) → IsShut text → IsFit text
 fit_shut text shut =
     record { answer = unshut text (codes "bad answer") shut refl; server = unshut text (codes "no such server") shut refl; view = unshut text (codes "unfounded view 0") shut refl }
 
-shut_content : (content : List ℕ) → IsShut (bracketed content)
+shut_content : (content : List ℕ) → IsShut (bracketed_text content)
 shut_content content = shut_after (codes " [") (content ++ codes "]") (shut_after content (codes "]") refl)
 
 read_shut : (file : List ℕ) (op : Option Op) (reading : ReadAnswer) → IsShut (reading_text file op reading)
 read_shut file op (readings.Pending content) = shut_after (file ++ codes " pending [" ++ content) (codes "]") refl
 read_shut file op (readings.Copy copy) =
-    shut_after (version_text file copy.version ++ codes " from" ++ numbers_text (op_servers op)) (bracketed copy.content) (shut_content copy.content)
+    shut_after (version_text file copy.version ++ codes " from" ++ numbers_text (op_servers op)) (bracketed_text copy.content) (shut_content copy.content)
 
 -- ---- the texts of faults
 

@@ -16,7 +16,7 @@ use Rattle.tq_txn.specs.Dialogue.{Told, Dialogue, Ends, AsksNode, AsksDesk, Asks
 use Rattle.tq_refresh.specs.declared.job.Job.{Job}
 use Rattle.tq_refresh.specs.Mending.{answer_in, mends_asked}
 use Rattle.tq_interpreter.specs.Operators.{LeadsOn, Mended, nothing_mended, behind, so_far, jobs_asked, with_job, job_text, count_text, refresh_asked, refresh_jobs, refreshed_text}
-use Rattle.tq_text.specs.Print.{printed}
+use Rattle.tq_text.specs.Print.{printed_line}
 use Rattle.tq_text.specs.Refusals.{is_memory}
 use Rattle.tq_interpreter.specs.Asking.{Ran, run_line, node_told, desk_told, view_told}
 use Rattle.tq_interpreter.specs.Recorded.{RecorderView, Replays, IsReplayed, full_limits}
@@ -90,7 +90,7 @@ leads_from {old = old} {new = new} {start = start} {done = done} {jobs = jobs} s
 -- after one job more, the jobs behind it come to what all come to
 pub one_on : (old : JournalsView) (start : Mended) (jobs : List Job) (now after : JournalsView) (text_now text_after : List ℕ) (count number : ℕ) (job : Job) (left : List Job) (refreshed : Bool)
     → LeadsOn old start jobs now (so_far text_now count) (job ∷ left) → refreshed ≡ (run_line now (mends_asked job)).end → after ≡ (run_line now (mends_asked job)).after
-    → text_after ≡ text_now ++ printed (job_text job refreshed) → number ≡ from_bool refreshed → LeadsOn old start jobs after (so_far text_after (count + number)) left
+    → text_after ≡ text_now ++ printed_line (job_text job refreshed) → number ≡ from_bool refreshed → LeadsOn old start jobs after (so_far text_after (count + number)) left
 one_on old start jobs now after text_now text_after count number job left refreshed leads is there said counts =
     let before = so_far text_now count in
     let is_with : so_far text_after (count + number) ≡ with_job before job refreshed = λ k. record { text = said k; count = count + (counts ∙ counted refreshed) k } in
@@ -103,17 +103,17 @@ one_on old start jobs now after text_now text_after count number job left refres
 -- ---- how many jobs there were, which are no more than the bytes that they left
 
 -- a line is a byte or more
-pub longer : (text_now text_after line : List ℕ) → text_after ≡ text_now ++ printed line → length text_now + 1 ≤ length text_after
+pub longer : (text_now text_after line : List ℕ) → text_after ≡ text_now ++ printed_line line → length text_now + 1 ≤ length text_after
 longer text_now text_after line said =
     let long : length text_after ≡ length text_now + (length line + 1) =
-    ap length said ∙ length-append text_now (printed line) ∙ ap (λ n. length text_now + n) (length-append line (10 ∷ [])) in
+    ap length said ∙ length-append text_now (printed_line line) ∙ ap (λ n. length text_now + n) (length-append line (10 ∷ [])) in
     omega (arith, long)
 
 -- ---- jobs behind a text
 
 -- one job's line goes behind what stands
 pub line_behind : (text : List ℕ) (mended : Mended) (job : Job) (refreshed : Bool) → with_job (behind text mended) job refreshed ≡ behind text (with_job mended job refreshed)
-line_behind text mended job refreshed = λ k. record { text = append_assoc text mended.text (printed (job_text job refreshed)) k; count = mended.count + cond refreshed 1 0 }
+line_behind text mended job refreshed = λ k. record { text = append_assoc text mended.text (printed_line (job_text job refreshed)) k; count = mended.count + cond refreshed 1 0 }
 
 -- and so do the lines of all jobs
 pub end_behind : (text : List ℕ) (jobs : List Job) (mended : Mended) (old : JournalsView) → (run_line old (jobs_asked (behind text mended) jobs)).end ≡ behind text (run_line old (jobs_asked mended jobs)).end
@@ -139,14 +139,14 @@ after_behind text (job ∷ jobs) mended old =
 -- what all jobs of the plan came to, and how many they were, is what the line says
 pub refreshed_end : (old : JournalsView) (jobs : List Job) (before middle after : List ℕ) (count : ℕ) → jobs ≡ refresh_jobs old
     → middle ≡ (run_line old (jobs_asked (behind before nothing_mended) jobs)).end.text → count ≡ (run_line old (jobs_asked (behind before nothing_mended) jobs)).end.count
-    → after ≡ middle ++ printed (count_text count (length jobs)) → after ≡ before ++ (run_line old (refresh_asked old)).end
+    → after ≡ middle ++ printed_line (count_text count (length jobs)) → after ≡ before ++ (run_line old (refresh_asked old)).end
 refreshed_end old jobs before middle after count planned texts counts said =
-    let came : Mended → List ℕ = λ m. m.text ++ printed (count_text m.count (length jobs)) in
+    let came : Mended → List ℕ = λ m. m.text ++ printed_line (count_text m.count (length jobs)) in
     let mended = (run_line old (jobs_asked nothing_mended jobs)).end in
     let ran = then_ran (jobs_asked nothing_mended (refresh_jobs old)) (refreshed_text (length (refresh_jobs old))) old in
-    said ∙ (λ k. texts k ++ printed (count_text (counts k) (length jobs)))
+    said ∙ (λ k. texts k ++ printed_line (count_text (counts k) (length jobs)))
     ∙ ap came (end_behind before jobs nothing_mended old)
-    ∙ append_assoc before mended.text (printed (count_text mended.count (length jobs)))
+    ∙ append_assoc before mended.text (printed_line (count_text mended.count (length jobs)))
     ∙ ap (λ all. before ++ refreshed_text (length all) (run_line old (jobs_asked nothing_mended all)).end) planned
     ∙ ap (λ (r : Ran (List ℕ)). before ++ r.end) (sym ran)
 

@@ -29,8 +29,8 @@ use Rattle.tq_part.specs.declared.fault.AskFault.{AskFault}
 use Rattle.tq_part.specs.declared.fault.AskFault.TheVariants as ask_faults
 use Rattle.tq_txn.specs.Dialogue.{Told, unless_memory}
 use Rattle.tq_core.specs.Asked.{refusal_of, told_by as told_step}
-use Rattle.tq_interpreter.specs.Asking.{untaken_at, untaken, told_by}
-use Rattle.tq_interpreter.specs.Recorded.{full_limits, noted, step_of, Matches, Replays, IsReplayed}
+use Rattle.tq_interpreter.specs.Asking.{untaken_at, step_refusal, told_by}
+use Rattle.tq_interpreter.specs.Recorded.{full_limits, told_exchanges, step_of, Matches, Replays, IsReplayed}
 use Rattle.tq_interpreter.proofs.Leading.{replays_push}
 
 -- ---- the tree stays
@@ -103,12 +103,12 @@ untaken_there : (world : JournalsView) (server : ℕ) (journal : Option (List No
 untaken_there world server None unfounded fault is = absurd (no_fault fault is)
 untaken_there world server (Some entries) unfounded fault is = untaken_is world (parts.Server server) (length entries) unfounded fault is
 
-taken : (world : JournalsView) (step : Step) → refusal world step ≡ None → untaken world step ≡ None
+taken : (world : JournalsView) (step : Step) → refusal world step ≡ None → step_refusal world step ≡ None
 taken world (steps.Node server ask) is = taken_there world server (item_at world.servers server) (unfounded_in_node_ask world ask) is
 taken world (steps.Desk ask) is = taken_at world parts.Desk (length world.desk) (unfounded_in_desk_ask world ask) is
 taken world (steps.View ask) is = taken_at world parts.View (length world.view) None is
 
-faulted : (world : JournalsView) (step : Step) (fault : AskFault) → refusal world step ≡ Some (refusal_of fault) → untaken world step ≡ Some fault
+faulted : (world : JournalsView) (step : Step) (fault : AskFault) → refusal world step ≡ Some (refusal_of fault) → step_refusal world step ≡ Some fault
 faulted world (steps.Node server ask) fault is = untaken_there world server (item_at world.servers server) (unfounded_in_node_ask world ask) fault is
 faulted world (steps.Desk ask) fault is = untaken_is world parts.Desk (length world.desk) (unfounded_in_desk_ask world ask) fault is
 faulted world (steps.View ask) fault is = untaken_is world parts.View (length world.view) None fault is
@@ -135,7 +135,7 @@ module _ (old new : JournalsView) (told : List Exchange) (kept : IsReplayed (rec
   refused step fault h steps_are refuses matches same =
       asked h (same ∙ sym (ap (λ (r : Option Refusal). state_at r old (grown old step)) refuses) ∙ ap (λ (s : Step). world_after old s) (sym steps_are)) matches
 
-  unasked : (step : Step) (fault : AskFault) (h : Exchange) → step_of h ≡ step → (untaken old step ≡ Some fault → Matches old h) → IsTold old step (Err (refusal_of fault)) → new ≡ old
+  unasked : (step : Step) (fault : AskFault) (h : Exchange) → step_of h ≡ step → (step_refusal old step ≡ Some fault → Matches old h) → IsTold old step (Err (refusal_of fault)) → new ≡ old
       → IsAsked old new (told ++ unless_memory fault h)
   unasked step ask_faults.Memory h steps_are matches answered same =
       let P : JournalsView → Type 0 = λ w. IsAsked old w (told ++ []) in
@@ -149,7 +149,7 @@ module _ (old new : JournalsView) (told : List Exchange) (kept : IsReplayed (rec
       refused step (ask_faults.Unfounded part number) h steps_are refuses (matches (faulted old step (ask_faults.Unfounded part number) refuses)) same
 
   pub asked_node : (server : ℕ) (ask : NodeAsk) (answered : Told NodeReply) → IsTold old (steps.Node server ask) (told_step replies.Node answered)
-      → OnOk answered (new ≡ world_after old (steps.Node server ask)) → OnErr answered (new ≡ old) → IsAsked old new (told ++ noted answered (exchanges.Node server ask answered))
+      → OnOk answered (new ≡ world_after old (steps.Node server ask)) → OnErr answered (new ≡ old) → IsAsked old new (told ++ told_exchanges answered (exchanges.Node server ask answered))
   asked_node server ask (Ok taken_as) is after same =
       let ok = told_ok (refusal old (steps.Node server ask)) (answer old (steps.Node server ask)) _ is in
       let number : taken_as.number ≡ suc (length (server_journal old server)) = ap (λ (a : Answer). a.number) ok.1 in
@@ -162,7 +162,7 @@ module _ (old new : JournalsView) (told : List Exchange) (kept : IsReplayed (rec
       (λ not. sym (ap (λ (f : Option AskFault). told_by f (suc (length (server_journal old server))) (node_entry old server ask).reply) not)) is same
 
   pub asked_desk : (ask : DeskAsk) (answered : Told DeskReply) → IsTold old (steps.Desk ask) (told_step replies.Desk answered)
-      → OnOk answered (new ≡ world_after old (steps.Desk ask)) → OnErr answered (new ≡ old) → IsAsked old new (told ++ noted answered (exchanges.Desk ask answered))
+      → OnOk answered (new ≡ world_after old (steps.Desk ask)) → OnErr answered (new ≡ old) → IsAsked old new (told ++ told_exchanges answered (exchanges.Desk ask answered))
   asked_desk ask (Ok taken_as) is after same =
       let ok = told_ok (refusal old (steps.Desk ask)) (answer old (steps.Desk ask)) _ is in
       let number : taken_as.number ≡ suc (length old.desk) = ap (λ (a : Answer). a.number) ok.1 in
@@ -175,7 +175,7 @@ module _ (old new : JournalsView) (told : List Exchange) (kept : IsReplayed (rec
       (λ not. sym (ap (λ (f : Option AskFault). told_by f (suc (length old.desk)) (desk_entry old ask).reply) not)) is same
 
   pub asked_view : (ask : ViewAsk) (answered : Told ViewReply) → IsTold old (steps.View ask) (told_step replies.View answered)
-      → OnOk answered (new ≡ world_after old (steps.View ask)) → OnErr answered (new ≡ old) → IsAsked old new (told ++ noted answered (exchanges.View ask answered))
+      → OnOk answered (new ≡ world_after old (steps.View ask)) → OnErr answered (new ≡ old) → IsAsked old new (told ++ told_exchanges answered (exchanges.View ask answered))
   asked_view ask (Ok taken_as) is after same =
       let ok = told_ok (refusal old (steps.View ask)) (answer old (steps.View ask)) _ is in
       let number : taken_as.number ≡ suc (length old.view) = ap (λ (a : Answer). a.number) ok.1 in

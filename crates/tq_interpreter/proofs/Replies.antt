@@ -46,7 +46,7 @@ use Rattle.tq_world.specs.declared.citation.Citation.{Citation}
 use Rattle.tq_world.specs.declared.answer.Step.TheVariants as steps
 use Rattle.tq_world.specs.Founded.{is_founded_grant, is_founded_vote, is_founded_verdict, is_founded_copy, cited_grant, cited_vote, unfounded_grant, unfounded_op, unfounded_vote, unfounded_in_desk_ask, unfounded_in_work, unfounded_in_node_ask, unless}
 use Rattle.tq_txn.specs.Dialogue.{Told}
-use Rattle.tq_interpreter.specs.Asking.{untaken_at, untaken, told_by, node_told, desk_told, view_told}
+use Rattle.tq_interpreter.specs.Asking.{untaken_at, step_refusal, told_by, node_told, desk_told, view_told}
 use Rattle.tq_interpreter.specs.PossibleTxn.{IsOfWork}
 
 -- ---- why an ask is not taken
@@ -253,15 +253,15 @@ view_replies_so live (view_asks.Choose purpose) = choice_replied live purpose (b
 
 pub node_tells : (world : JournalsView) (server : ℕ) (ask : NodeAsk) → IsToldAs (λ reply. IsNodeReply reply ask) (node_told world server ask)
 node_tells world server ask =
-    told_as (λ reply. IsNodeReply reply ask) (untaken world (steps.Node server ask)) _ _
+    told_as (λ reply. IsNodeReply reply ask) (step_refusal world (steps.Node server ask)) _ _
     (untaken_so world (parts.Server server) _ (unfounded_in_node_ask world ask) (node_cites world ask)) (node_replies server (node_at server (server_journal world server)) ask)
 
 pub desk_tells : (world : JournalsView) (ask : DeskAsk) → IsToldAs (λ reply. IsDeskReply reply ask) (desk_told world ask)
 desk_tells world ask =
-    told_as (λ reply. IsDeskReply reply ask) (untaken world (steps.Desk ask)) _ _
+    told_as (λ reply. IsDeskReply reply ask) (step_refusal world (steps.Desk ask)) _ _
     (untaken_so world parts.Desk _ (unfounded_in_desk_ask world ask) (desk_cites world ask)) (desk_replies_so (desk_at world.levels world.limits world.desk) ask)
 
 pub view_tells : (world : JournalsView) (ask : ViewAsk) → IsToldAs (λ reply. IsViewReply world.levels reply ask) (view_told world ask)
 view_tells world ask =
-    told_as (λ reply. IsViewReply world.levels reply ask) (untaken world (steps.View ask)) _ _
+    told_as (λ reply. IsViewReply world.levels reply ask) (step_refusal world (steps.View ask)) _ _
     (untaken_so world parts.View _ None tt) (view_replies_so (view_at world.levels world.view) ask)

@@ -29,7 +29,7 @@ use Rattle.tq_syntax.specs.declared.line.Line.TheVariants as of
 use Rattle.tq_syntax.specs.declared.line.TxnLine.{TxnLine}
 use Rattle.tq_interpreter.specs.Asking.{run_line}
 use Rattle.tq_client.specs.Script.{mark_ask}
-use Rattle.tq_text.specs.Print.{printed, choice_text}
+use Rattle.tq_text.specs.Print.{printed_line, choice_text}
 use Rattle.tq_interpreter.specs.declared.txn_slot.TxnSlot.{TxnSlot}
 use Rattle.tq_interpreter.specs.Known.{AreOfTree, Known, with_kept}
 use Rattle.tq_interpreter.specs.PossibleTxn.{Fails, IsFit}
@@ -38,21 +38,21 @@ use Rattle.tq_interpreter.proofs.Replies.{IsDeskReply, IsViewReply}
 use Rattle.tq_interpreter.proofs.EndsIn.{EndsIn, Answers, IsWell, Any, ends_so, ends_then, desk_ends, view_ends, any_ends}
 use Rattle.tq_interpreter.proofs.Fits.{fit, fits_text}
 use Rattle.tq_interpreter.proofs.Says.{Says, line_says}
-use Rattle.tq_interpreter.specs.Asked.{LineAnswer, said, of_txn, ok_text, chosen_text, marked_text, cost_asked, mark_asked, choose_asked, begun, begin_end, begin_asked}
+use Rattle.tq_interpreter.specs.Asked.{LineAnswer, text_line, of_txn, ok_text, chosen_text, marked_text, cost_asked, mark_asked, choose_asked, begin_reply, begin_end, begin_asked}
 use Rattle.tq_interpreter.specs.Answer.{World, answer}
 use Rattle.tq_interpreter.specs.Possible.{Saying, BadLine, BadCost, OffTree, NotBegun, CostSet, Marked, Chosen, Begun, OfTxn, saying_text, CanCome, IsSaid, IsSaidOf}
 
 -- the text is, as a line, one that can come
 abbrev Shows : LineAnswer → Type 0
-Shows answer = (saying : Saying) × CanCome saying × (answer.text ≡ printed (saying_text saying))
+Shows answer = (saying : Saying) × CanCome saying × (answer.text ≡ printed_line (saying_text saying))
 
 -- a line of one ask shows what it answers, or the fault
 shown_by : {A S : Type 0} (P : A → S → Type 0) (text : A → List ℕ) → ((a : A) (after : S) → P a after → (saying : Saying) × CanCome saying × (text a ≡ saying_text saying))
-    → (known : Known) (end : LineEnd A S) → IsWell P end → Shows (record { text = printed (result_text [] text end.answer); known = known })
+    → (known : Known) (end : LineEnd A S) → IsWell P end → Shows (record { text = printed_line (result_text [] text end.answer); known = known })
 shown_by {A} {S} P text step known end well = by end.answer end.after well
   where
-    by : (answer : Result A LineFault) (after : S) → Answers P answer after → Shows (record { text = printed (result_text [] text answer); known = known })
-    by (Ok a) after so = let says = step a after so in (says.0, says.1, ap printed says.2)
+    by : (answer : Result A LineFault) (after : S) → Answers P answer after → Shows (record { text = printed_line (result_text [] text answer); known = known })
+    by (Ok a) after so = let says = step a after so in (says.0, says.1, ap printed_line says.2)
     by (Err fault) after possible = (OfTxn (Fails [] fault), possible, refl)
 
 -- ---- the lines of the parts
@@ -68,25 +68,25 @@ chosen_says levels purpose view_replies.Marked is = absurd is
 choose_says : (levels : ℕ) (purpose : Purpose) (known : Known) → EndsIn levels Shows (choose_asked known purpose)
 choose_says levels purpose known =
     ends_then levels (IsWell (λ (told : ViewTold) none. IsViewReply levels told.reply (view_asks.Choose purpose))) Shows (view_line (view_asks.Choose purpose))
-    (λ end. Ends (record { text = printed (result_text [] chosen_text end.answer); known = known })) (view_ends levels (view_asks.Choose purpose))
+    (λ end. Ends (record { text = printed_line (result_text [] chosen_text end.answer); known = known })) (view_ends levels (view_asks.Choose purpose))
     (shown_by (λ (told : ViewTold) none. IsViewReply levels told.reply (view_asks.Choose purpose)) chosen_text (λ told none so. chosen_says levels purpose told.reply so) known)
 
 cost_says : (levels server read write : ℕ) (known : Known) → EndsIn levels Shows (cost_asked known server read write)
 cost_says levels server read write known =
     ends_then levels (IsWell (λ (told : ViewTold) none. IsViewReply levels told.reply (view_asks.SetCost server read write))) Shows (view_line (view_asks.SetCost server read write))
-    (λ end. Ends (record { text = printed (result_text [] ok_text end.answer); known = known })) (view_ends levels (view_asks.SetCost server read write))
+    (λ end. Ends (record { text = printed_line (result_text [] ok_text end.answer); known = known })) (view_ends levels (view_asks.SetCost server read write))
     (shown_by (λ (told : ViewTold) none. IsViewReply levels told.reply (view_asks.SetCost server read write)) ok_text (λ told none so. (CostSet, tt, refl)) known)
 
 mark_says : (levels server : ℕ) (up : Bool) (known : Known) → EndsIn levels Shows (mark_asked known server up)
 mark_says levels server up known =
     ends_then levels (IsWell Any) Shows (any_line server (mark_ask up))
-    (λ any. then_line (view_line (view_asks.Mark server up)) (λ end. Ends (record { text = printed (result_text [] (marked_text server up) end.answer); known = known }))) (any_ends levels server (mark_ask up))
+    (λ any. then_line (view_line (view_asks.Mark server up)) (λ end. Ends (record { text = printed_line (result_text [] (marked_text server up) end.answer); known = known }))) (any_ends levels server (mark_ask up))
     (λ any so.
     ends_then levels (IsWell (λ (told : ViewTold) none. IsViewReply levels told.reply (view_asks.Mark server up))) Shows (view_line (view_asks.Mark server up))
-    (λ end. Ends (record { text = printed (result_text [] (marked_text server up) end.answer); known = known })) (view_ends levels (view_asks.Mark server up))
+    (λ end. Ends (record { text = printed_line (result_text [] (marked_text server up) end.answer); known = known })) (view_ends levels (view_asks.Mark server up))
     (shown_by (λ (told : ViewTold) none. IsViewReply levels told.reply (view_asks.Mark server up)) (marked_text server up) (λ told none so. (Marked server up, tt, refl)) known))
 
-begun_says : (known : Known) (reply : DeskReply) → IsDeskReply reply desk_asks.Begin → Shows (begun known reply)
+begun_says : (known : Known) (reply : DeskReply) → IsDeskReply reply desk_asks.Begin → Shows (begin_reply known reply)
 begun_says known (desk_replies.Txn number) is = (Begun number, tt, refl)
 begun_says known (desk_replies.Refused refusal) is = (OfTxn (Fails [] (faults.Desk refusal)), tt, refl)
 begun_says known (desk_replies.Verdict verdict) is = absurd is
@@ -105,8 +105,8 @@ begin_says levels known =
 txn_says : (levels tree : ℕ) (line : TxnLine) (number : ℕ) (known : Known) (kept : Option TxnSlot) → ((some : TxnSlot) → kept ≡ Some some → levels_of some.txn ≡ levels) → EndsIn levels Shows (of_txn known number kept (line_asked tree line))
 txn_says levels tree line number known None same = (NotBegun number, tt, refl)
 txn_says levels tree line number known (Some kept) same =
-    ends_then levels Says Shows (line_asked tree line number kept) (λ end. Ends (record { text = printed end.text; known = with_kept known number end.kept }))
-    (line_says levels tree line number kept (same kept refl)) (λ end says. (OfTxn says.0, says.1, ap printed says.2))
+    ends_then levels Says Shows (line_asked tree line number kept) (λ end. Ends (record { text = printed_line end.text; known = with_kept known number end.kept }))
+    (line_says levels tree line number kept (same kept refl)) (λ end says. (OfTxn says.0, says.1, ap printed_line says.2))
 
 -- ---- all lines
 
@@ -131,11 +131,11 @@ said_as before after answer is shows =
       fit = fits shows.0 shows.1;
     }
 
-if_server : (levels : ℕ) (there : Bool) (server : ℕ) (known : Known) (line : Dialogue LineAnswer) → EndsIn levels Shows line → EndsIn levels Shows (cond there line (said known (saying_text (OffTree server))))
+if_server : (levels : ℕ) (there : Bool) (server : ℕ) (known : Known) (line : Dialogue LineAnswer) → EndsIn levels Shows line → EndsIn levels Shows (cond there line (text_line known (saying_text (OffTree server))))
 if_server levels true server known line is = is
 if_server levels false server known line is = (OffTree server, tt, refl)
 
-if_cost : (levels : ℕ) (good : Bool) (cost : ℕ) (known : Known) (line : Dialogue LineAnswer) → EndsIn levels Shows line → EndsIn levels Shows (cond good line (said known (saying_text (BadCost cost))))
+if_cost : (levels : ℕ) (good : Bool) (cost : ℕ) (known : Known) (line : Dialogue LineAnswer) → EndsIn levels Shows line → EndsIn levels Shows (cond good line (text_line known (saying_text (BadCost cost))))
 if_cost levels true cost known line is = is
 if_cost levels false cost known line is = (BadCost cost, tt, refl)
 
@@ -154,18 +154,18 @@ pub said_of : (w : World) (line : Line) (before after : List ℕ) → AreOfTree 
 said_of w of.Empty before after all is = is ∙ append-nil before
 said_of w of.Refresh before after all is = tt
 said_of w of.Board before after all is = tt
-said_of w of.Bad before after all is = said_as before after (record { text = printed (codes "bad line"); known = w.known }) is (BadLine, tt, refl)
+said_of w of.Bad before after all is = said_as before after (record { text = printed_line (codes "bad line"); known = w.known }) is (BadLine, tt, refl)
 said_of w (of.Cost server read write) before after all is =
     let levels = w.known.levels in
-    let good = cond (is_cost write) (cost_asked w.known server read write) (said w.known (codes "bad cost " ++ decimal write)) in
-    let line = cond (is_server levels server) (cond (is_cost read) good (said w.known (codes "bad cost " ++ decimal read))) (said w.known (codes "no such server " ++ decimal server)) in
+    let good = cond (is_cost write) (cost_asked w.known server read write) (text_line w.known (codes "bad cost " ++ decimal write)) in
+    let line = cond (is_server levels server) (cond (is_cost read) good (text_line w.known (codes "bad cost " ++ decimal read))) (text_line w.known (codes "no such server " ++ decimal server)) in
     said_as before after (run_line w.journals line).end is
     (ends_so Shows line w.journals
     (if_server w.journals.levels (is_server levels server) server w.known _
     (if_cost w.journals.levels (is_cost read) read w.known _
     (if_cost w.journals.levels (is_cost write) write w.known _ (cost_says w.journals.levels server read write w.known)))))
 said_of w (of.Mark server up) before after all is =
-    let line = cond (is_server w.known.levels server) (mark_asked w.known server up) (said w.known (codes "no such server " ++ decimal server)) in
+    let line = cond (is_server w.known.levels server) (mark_asked w.known server up) (text_line w.known (codes "no such server " ++ decimal server)) in
     said_as before after (run_line w.journals line).end is
     (ends_so Shows line w.journals (if_server w.journals.levels (is_server w.known.levels server) server w.known _ (mark_says w.journals.levels server up w.known)))
 said_of w (of.Choose purpose) before after all is =

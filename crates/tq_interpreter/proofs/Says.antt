@@ -29,7 +29,7 @@ use Rattle.tq_interpreter.specs.declared.txn_slot.TxnSlot.{TxnSlot}
 use Rattle.tq_interpreter.specs.declared.txn_slot.Ending.{Ending}
 use Rattle.tq_interpreter.specs.Known.{in_state, ending_in}
 use Rattle.tq_interpreter.specs.PossibleTxn.{IsOfOwn, Saying, Reads, Writes, Votes, Commits, Aborts, Resolves, Applies, Closed, Undecided, Stops, OffTree, Fails, saying_text, CanCome}
-use Rattle.tq_interpreter.specs.TxnAsked.{TxnAnswer, txn_said, result_text, answer_end, answered, no_servers, open_in, closing, voting_in, missing_in, read_text, read_open, written_text, write_open, voted_text, stopped_text, prepare_voting, prepare_asked, serial_text, decision_voting, decision_asked, aborted_text, abort_asked, resolved_text, resolve_end, resolve_asked, told_text, apply_stopped_text, apply_ending, apply_by, apply_asked, server_asked, line_asked}
+use Rattle.tq_interpreter.specs.TxnAsked.{TxnAnswer, txn_said, result_text, answer_end, answer_line, no_servers, open_in, closing, voting_in, missing_in, read_text, read_open, written_text, write_open, voted_text, stopped_text, prepare_voting, prepare_asked, serial_text, decision_voting, decision_asked, aborted_text, abort_asked, resolved_text, resolve_end, resolve_asked, told_text, apply_stopped_text, apply_ending, apply_by, apply_asked, server_asked, line_asked}
 use Rattle.tq_interpreter.proofs.Replies.{IsDeskReply, refuse_all}
 use Rattle.tq_interpreter.proofs.EndsIn.{EndsIn, Answers, IsWell, Any, ends_then, desk_ends}
 use Rattle.tq_interpreter.proofs.EndsWell.{read_well, write_well, prepare_well, decide_well, commit_well, abort_well, apply_well, stop_well, prepare_stop_well}
@@ -43,7 +43,7 @@ Says answer = IsSayable answer.text
 
 -- a line that ends well says what it answers, or the fault
 answered_says : {A S : Type 0} (levels : ℕ) (P : A → S → Type 0) (line : Dialogue (LineEnd A S)) (kept : S → TxnSlot) (servers : S → List ℕ) (text : S → A → List ℕ)
-    → EndsIn levels (IsWell P) line → ((a : A) (after : S) → P a after → IsSayable (text after a)) → EndsIn levels Says (answered line kept servers text)
+    → EndsIn levels (IsWell P) line → ((a : A) (after : S) → P a after → IsSayable (text after a)) → EndsIn levels Says (answer_line line kept servers text)
 answered_says {A} {S} levels P line kept servers text is step =
     ends_then levels (IsWell P) Says line (λ end. Ends (answer_end kept servers text end)) is (λ end well. by end.answer end.after well)
   where

@@ -14,29 +14,29 @@ use Rattle.tq_txn.specs.Dialogue.{Dialogue, LineEnd, Ends, Follows, then_line, e
 use Rattle.tq_interpreter.specs.declared.txn_slot.TxnSlot.{TxnSlot}
 use Rattle.tq_interpreter.specs.TxnAsked.{TxnAnswer, line_asked, IsAnswered, is_refused_memory}
 use Rattle.tq_interpreter.specs.Asking.{Ran, run_line}
-use Rattle.tq_interpreter.specs.Answer.{World, Answer, answer, answered, IsWhole}
+use Rattle.tq_interpreter.specs.Answer.{World, Answer, answer, answer_of_run, IsWhole}
 use Rattle.tq_interpreter.specs.Known.{with_kept}
 use Rattle.tq_syntax.specs.declared.line.Line.TheVariants as shell_lines
 use Rattle.tq_syntax.specs.declared.line.TxnLine.{TxnLine}
 use Rattle.std.specs.Prelude.{slice_set}
 use Rattle.std.proofs.lemmas.Option.{slice_get_read}
-use Rattle.tq_text.specs.Print.{printed}
+use Rattle.tq_text.specs.Print.{printed_line}
 use Rattle.tq_interpreter.specs.Recorded.{RecorderView, IsReplayed, Replays, full_limits}
 use Rattle.tq_interpreter.specs.Asked.{LineAnswer, begin_end, of_txn}
 use Rattle.tq_interpreter.proofs.Leading.{item_of, ran_as, replays_more, then_ran}
 use Rattle.tq_interpreter.proofs.Answered.{got_to, line_ran}
 use Rattle.tq_interpreter.specs.Operators.{refresh_asked}
-use Rattle.tq_interpreter.specs.Asked.{refresh_line, shown}
+use Rattle.tq_interpreter.specs.Asked.{refresh_line, text_answer}
 use Rattle.tq_interpreter.specs.Known.{Known}
 
 -- a line of the shell that was answered so
 pub answered_by : {A S : Type 0} (line : Dialogue (LineEnd A S)) (f : LineEnd A S → LineAnswer) (old new : RecorderView) (result : Result A LineFault) (after : S)
     → IsReplayed old → IsReplayed new → new.journals.levels ≡ old.journals.levels → Follows line old.told new.told (ended_by result after) → is_refused_memory result ≡ false
-    → ((f (record { answer = result; after = after })).text ≡ (answered (run_line old.journals (then_line line (λ end. Ends (f end))))).text)
-    × (record { journals = new.journals; known = (f (record { answer = result; after = after })).known } ≡ (answered (run_line old.journals (then_line line (λ end. Ends (f end))))).after)
+    → ((f (record { answer = result; after = after })).text ≡ (answer_of_run (run_line old.journals (then_line line (λ end. Ends (f end))))).text)
+    × (record { journals = new.journals; known = (f (record { answer = result; after = after })).known } ≡ (answer_of_run (run_line old.journals (then_line line (λ end. Ends (f end))))).after)
 answered_by line f old new result after replayed_old replayed_new levels follows fine =
     let ran = line_ran line f old new result after replayed_old replayed_new levels follows fine in
-    (ap (λ (r : Ran LineAnswer). r.end.text) (sym ran.1), ap (λ (r : Ran LineAnswer). (answered r).after) (sym ran.1))
+    (ap (λ (r : Ran LineAnswer). r.end.text) (sym ran.1), ap (λ (r : Ran LineAnswer). (answer_of_run r).after) (sym ran.1))
 
 -- a line of a transaction that is kept, answered so
 pub txn_answered : (w : World) (number place : ℕ) (line : TxnLine) (kept new : TxnSlot) (after : JournalsView) (before text : List ℕ) → number ≡ place + 1 → place < length w.known.txns → kept ≡ get_or w.known.txns place kept
@@ -48,19 +48,19 @@ txn_answered w number place line kept new after before text is less here said =
     let some : 0 < number = omega (arith, is) in
     let item = item_of w.known.txns number place kept some minus (slice_get_read w.known.txns (length w.known.txns) place kept refl less here) in
     let tree = line_asked w.known.levels line number kept in
-    let f : TxnAnswer → LineAnswer = λ end. record { text = printed end.text; known = with_kept w.known number end.kept } in
-    let same : answer w (shell_lines.Txn number line) ≡ answered (ran_as f (run_line w.journals tree)) =
-    ap (λ o. answered (run_line w.journals (of_txn w.known number o (line_asked w.known.levels line)))) item ∙ ap answered (then_ran tree f w.journals) in
-    let end : record { journals = after; known = record { levels = w.known.levels; limits = w.known.limits; txns = slice_set w.known.txns place new } } ≡ (answered (ran_as f (run_line w.journals tree))).after =
+    let f : TxnAnswer → LineAnswer = λ end. record { text = printed_line end.text; known = with_kept w.known number end.kept } in
+    let same : answer w (shell_lines.Txn number line) ≡ answer_of_run (ran_as f (run_line w.journals tree)) =
+    ap (λ o. answer_of_run (run_line w.journals (of_txn w.known number o (line_asked w.known.levels line)))) item ∙ ap answer_of_run (then_ran tree f w.journals) in
+    let end : record { journals = after; known = record { levels = w.known.levels; limits = w.known.limits; txns = slice_set w.known.txns place new } } ≡ (answer_of_run (ran_as f (run_line w.journals tree))).after =
     λ i. record { journals = said.journals i; known = record { levels = w.known.levels; limits = w.known.limits; txns = slice_set w.known.txns (sym minus i) (said.kept i) } } in
     (said.text ∙ ap (λ (a : Answer). before ++ a.text) (sym same), end ∙ ap (λ (a : Answer). a.after) (sym same))
 
 -- the line of the shell says that, and what is known stays
-pub refresh_answered : (journals : JournalsView) (known : Known) → ((run_line journals (refresh_asked journals)).end ≡ (answered (run_line journals (refresh_line journals known))).text)
-    × (record { journals = (run_line journals (refresh_asked journals)).after; known = known } ≡ (answered (run_line journals (refresh_line journals known))).after)
+pub refresh_answered : (journals : JournalsView) (known : Known) → ((run_line journals (refresh_asked journals)).end ≡ (answer_of_run (run_line journals (refresh_line journals known))).text)
+    × (record { journals = (run_line journals (refresh_asked journals)).after; known = known } ≡ (answer_of_run (run_line journals (refresh_line journals known))).after)
 refresh_answered journals known =
-    let ran = then_ran (refresh_asked journals) (shown known) journals in
-    (ap (λ r. (answered r).text) (sym ran), ap (λ r. (answered r).after) (sym ran))
+    let ran = then_ran (refresh_asked journals) (text_answer known) journals in
+    (ap (λ r. (answer_of_run r).text) (sym ran), ap (λ r. (answer_of_run r).after) (sym ran))
 
 -- nothing more was told, and the journals are as they were
 unasked_journals : (old new : RecorderView) → IsReplayed old → IsReplayed new → new.journals.levels ≡ old.journals.levels → new.told ≡ old.told ++ [] → new.journals ≡ old.journals

@@ -5,7 +5,7 @@ use Rattle.tq_world.specs.World.{empty_world}
 use Rattle.tq_txn.specs.declared.asker.Exchange.{Exchange}
 use Rattle.tq_txn.specs.Dialogue.{Dialogue}
 use Rattle.tq_interpreter.specs.Asking.{Ran, run_line}
-use Rattle.tq_interpreter.specs.Asked.{LineAnswer, asked}
+use Rattle.tq_interpreter.specs.Asked.{LineAnswer, line_dialogue}
 use Rattle.tq_interpreter.specs.Recorded.{full_limits}
 use Rattle.tq_interpreter.specs.Known.{Known, nothing_known}
 use Rattle.tq_syntax.specs.declared.line.Line.{Line}
@@ -25,16 +25,16 @@ pub record Answer : Type 0 where
   pub exchanges : List Exchange
   pub after : World
 
-abbrev pub answered : Ran LineAnswer → Answer
-answered ran = record { text = ran.end.text; exchanges = ran.exchanges; after = record { journals = ran.after; known = ran.end.known } }
+abbrev pub answer_of_run : Ran LineAnswer → Answer
+answer_of_run ran = record { text = ran.end.text; exchanges = ran.exchanges; after = record { journals = ran.after; known = ran.end.known } }
 
 -- what a line that asks so gives, by what is known
 abbrev pub given_by : World → (Known → Dialogue LineAnswer) → Answer
-given_by world line = answered (run_line world.journals (line world.known))
+given_by world line = answer_of_run (run_line world.journals (line world.known))
 
 -- the asks of the line, by the journals before it and by what is known, answered by the service
 abbrev pub answer : World → Line → Answer
-answer world line = given_by world (λ known. asked world.journals known line)
+answer world line = given_by world (λ known. line_dialogue world.journals known line)
 
 -- the world stands before the line, or behind it: what was told of its asks stands in it
 abbrev pub IsWhole : World → Line → World → Type 0

@@ -21,7 +21,7 @@ use Rattle.tq_syntax.specs.declared.line.Line.{Line}
 use Rattle.tq_syntax.specs.declared.line.Line.TheVariants as is
 use Rattle.tq_interpreter.specs.Operators.{refresh_asked, board_of}
 use Rattle.tq_interpreter.specs.Known.{Known, with_begun, with_kept}
-use Rattle.tq_text.specs.Print.{printed, choice_text, mark_word}
+use Rattle.tq_text.specs.Print.{printed_line, choice_text, mark_word}
 use Rattle.tq_text.specs.Refusals.{fault_text, desk_refusal_text}
 use Rattle.tq_interpreter.specs.TxnAsked.{TxnAnswer, line_asked, result_text}
 
@@ -30,16 +30,16 @@ pub record LineAnswer : Type 0 where
   pub text : List ℕ
   pub known : Known
 
-abbrev pub said : Known → List ℕ → asks.Dialogue LineAnswer
-said known text = Ends (record { text = printed text; known = known })
+abbrev pub text_line : Known → List ℕ → asks.Dialogue LineAnswer
+text_line known text = Ends (record { text = printed_line text; known = known })
 
 -- ---- the checks before
 
 -- the transaction is one that was begun
 abbrev pub of_txn : Known → ℕ → Option TxnSlot → (ℕ → TxnSlot → asks.Dialogue TxnAnswer) → asks.Dialogue LineAnswer
-of_txn known number None next = said known (codes "no such transaction " ++ decimal number)
+of_txn known number None next = text_line known (codes "no such transaction " ++ decimal number)
 of_txn known number (Some kept) next =
-    then_line (next number kept) (λ end. Ends (record { text = printed end.text; known = with_kept known number end.kept }))
+    then_line (next number kept) (λ end. Ends (record { text = printed_line end.text; known = with_kept known number end.kept }))
 
 abbrev pub txn_asked : Known → ℕ → (ℕ → TxnSlot → asks.Dialogue TxnAnswer) → asks.Dialogue LineAnswer
 txn_asked known number next = of_txn known number (item_at known.txns number) next
@@ -56,59 +56,59 @@ abbrev pub marked_text : ℕ → Bool → ViewTold → List ℕ
 marked_text server up told = mark_word up ++ decimal server
 
 abbrev pub view_end : Known → (ViewTold → List ℕ) → LineEnd ViewTold (Unit {0}) → LineAnswer
-view_end known text end = record { text = printed (result_text [] text end.answer); known = known }
+view_end known text end = record { text = printed_line (result_text [] text end.answer); known = known }
 
 abbrev pub cost_asked : Known → ℕ → ℕ → ℕ → asks.Dialogue LineAnswer
 cost_asked known server read write =
-    then_line (view_line (view_asks.SetCost server read write)) (λ end. Ends (record { text = printed (result_text [] ok_text end.answer); known = known }))
+    then_line (view_line (view_asks.SetCost server read write)) (λ end. Ends (record { text = printed_line (result_text [] ok_text end.answer); known = known }))
 
 abbrev pub mark_asked : Known → ℕ → Bool → asks.Dialogue LineAnswer
 mark_asked known server up =
-    then_line (mark_line server up) (λ end. Ends (record { text = printed (result_text [] (marked_text server up) end.answer); known = known }))
+    then_line (mark_line server up) (λ end. Ends (record { text = printed_line (result_text [] (marked_text server up) end.answer); known = known }))
 
 abbrev pub choose_asked : Known → Purpose → asks.Dialogue LineAnswer
 choose_asked known purpose =
-    then_line (view_line (view_asks.Choose purpose)) (λ end. Ends (record { text = printed (result_text [] chosen_text end.answer); known = known }))
+    then_line (view_line (view_asks.Choose purpose)) (λ end. Ends (record { text = printed_line (result_text [] chosen_text end.answer); known = known }))
 
-abbrev pub begun : Known → DeskReply → LineAnswer
-begun known (desk_replies.Txn number) = record { text = printed (codes "begun " ++ decimal number); known = with_begun known number }
-begun known (desk_replies.Refused refusal) = record { text = printed (desk_refusal_text refusal); known = known }
-begun known other = record { text = printed (codes "bad answer"); known = known }
+abbrev pub begin_reply : Known → DeskReply → LineAnswer
+begin_reply known (desk_replies.Txn number) = record { text = printed_line (codes "begun " ++ decimal number); known = with_begun known number }
+begin_reply known (desk_replies.Refused refusal) = record { text = printed_line (desk_refusal_text refusal); known = known }
+begin_reply known other = record { text = printed_line (codes "bad answer"); known = known }
 
 abbrev pub begin_end : Known → Result DeskTold LineFault → LineAnswer
-begin_end known (Ok told) = begun known told.reply
-begin_end known (Err fault) = record { text = printed (fault_text [] fault); known = known }
+begin_end known (Ok told) = begin_reply known told.reply
+begin_end known (Err fault) = record { text = printed_line (fault_text [] fault); known = known }
 
 abbrev pub begin_asked : Known → asks.Dialogue LineAnswer
 begin_asked known = then_line (desk_line desk_asks.Begin) (λ end. Ends (begin_end known end.answer))
 
 -- ---- the lines of operators: what they ask and show rests on the journals as they stand before the line
 
-abbrev pub shown : Known → List ℕ → LineAnswer
-shown known text = record { text = text; known = known }
+abbrev pub text_answer : Known → List ℕ → LineAnswer
+text_answer known text = record { text = text; known = known }
 
 abbrev pub refresh_line : JournalsView → Known → asks.Dialogue LineAnswer
-refresh_line journals known = then_line (refresh_asked journals) (λ text. Ends (shown known text))
+refresh_line journals known = then_line (refresh_asked journals) (λ text. Ends (text_answer known text))
 
 -- nobody is asked
 abbrev pub board_line : JournalsView → Known → asks.Dialogue LineAnswer
-board_line journals known = Ends (shown known (board_of journals))
+board_line journals known = Ends (text_answer known (board_of journals))
 
 -- ---- all lines: the transaction is looked at first, then the server, then the state, then the rest; of two costs that to
 -- read from first
 
-abbrev pub asked : JournalsView → Known → Line → asks.Dialogue LineAnswer
-asked journals known is.Empty = Ends (record { text = []; known = known })
-asked journals known is.Bad = said known (codes "bad line")
-asked journals known (is.Cost server read write) =
+abbrev pub line_dialogue : JournalsView → Known → Line → asks.Dialogue LineAnswer
+line_dialogue journals known is.Empty = Ends (record { text = []; known = known })
+line_dialogue journals known is.Bad = text_line known (codes "bad line")
+line_dialogue journals known (is.Cost server read write) =
     cond (is_server known.levels server)
     (cond (is_cost read)
-    (cond (is_cost write) (cost_asked known server read write) (said known (codes "bad cost " ++ decimal write)))
-    (said known (codes "bad cost " ++ decimal read)))
-    (said known (codes "no such server " ++ decimal server))
-asked journals known (is.Mark server up) = cond (is_server known.levels server) (mark_asked known server up) (said known (codes "no such server " ++ decimal server))
-asked journals known (is.Choose purpose) = choose_asked known purpose
-asked journals known is.Begin = begin_asked known
-asked journals known is.Refresh = refresh_line journals known
-asked journals known is.Board = board_line journals known
-asked journals known (is.Txn number line) = txn_asked known number (line_asked known.levels line)
+    (cond (is_cost write) (cost_asked known server read write) (text_line known (codes "bad cost " ++ decimal write)))
+    (text_line known (codes "bad cost " ++ decimal read)))
+    (text_line known (codes "no such server " ++ decimal server))
+line_dialogue journals known (is.Mark server up) = cond (is_server known.levels server) (mark_asked known server up) (text_line known (codes "no such server " ++ decimal server))
+line_dialogue journals known (is.Choose purpose) = choose_asked known purpose
+line_dialogue journals known is.Begin = begin_asked known
+line_dialogue journals known is.Refresh = refresh_line journals known
+line_dialogue journals known is.Board = board_line journals known
+line_dialogue journals known (is.Txn number line) = txn_asked known number (line_asked known.levels line)

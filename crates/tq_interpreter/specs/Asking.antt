@@ -27,10 +27,10 @@ untaken_at world part entries unfounded =
     if nat_le world.limits.entries entries then Some (JournalFull part) else option_map (λ citation. Unfounded citation.part citation.number) unfounded
 
 -- why an ask of a part is not taken
-abbrev pub untaken : JournalsView → Step → Option AskFault
-untaken world (steps.Node server ask) = untaken_at world (parts.Server server) (length (server_journal world server)) (unfounded_in_node_ask world ask)
-untaken world (steps.Desk ask) = untaken_at world parts.Desk (length world.desk) (unfounded_in_desk_ask world ask)
-untaken world (steps.View ask) = untaken_at world parts.View (length world.view) None
+abbrev pub step_refusal : JournalsView → Step → Option AskFault
+step_refusal world (steps.Node server ask) = untaken_at world (parts.Server server) (length (server_journal world server)) (unfounded_in_node_ask world ask)
+step_refusal world (steps.Desk ask) = untaken_at world parts.Desk (length world.desk) (unfounded_in_desk_ask world ask)
+step_refusal world (steps.View ask) = untaken_at world parts.View (length world.view) None
 
 -- what is told of an ask: the part's reply with the number of its entry, or why it was not taken
 abbrev pub told_by : {R : Type 0} → Option AskFault → ℕ → R → Told R
@@ -38,13 +38,13 @@ told_by None number reply = Ok (record { number = number; reply = reply })
 told_by (Some fault) number reply = Err fault
 
 abbrev pub node_told : JournalsView → ℕ → NodeAsk → Told NodeReply
-node_told world server ask = told_by (untaken world (steps.Node server ask)) (suc (length (server_journal world server))) (node_entry world server ask).reply
+node_told world server ask = told_by (step_refusal world (steps.Node server ask)) (suc (length (server_journal world server))) (node_entry world server ask).reply
 
 abbrev pub desk_told : JournalsView → DeskAsk → Told DeskReply
-desk_told world ask = told_by (untaken world (steps.Desk ask)) (suc (length world.desk)) (desk_entry world ask).reply
+desk_told world ask = told_by (step_refusal world (steps.Desk ask)) (suc (length world.desk)) (desk_entry world ask).reply
 
 abbrev pub view_told : JournalsView → ViewAsk → Told ViewReply
-view_told world ask = told_by (untaken world (steps.View ask)) (suc (length world.view)) (view_entry world ask).reply
+view_told world ask = told_by (step_refusal world (steps.View ask)) (suc (length world.view)) (view_entry world ask).reply
 
 -- a line that was asked in a world: what was told, how it ended, and the world after it
 pub record Ran (A : Type 0) : Type 0 where

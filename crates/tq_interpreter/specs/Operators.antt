@@ -12,7 +12,7 @@ use Rattle.tq_refresh.specs.declared.job.Job.{Job}
 use Rattle.tq_board_text.specs.Board.{board_text}
 use Rattle.tq_txn.specs.Dialogue as asks
 use Rattle.tq_txn.specs.Dialogue.{Ends, then_line}
-use Rattle.tq_text.specs.Print.{printed}
+use Rattle.tq_text.specs.Print.{printed_line}
 use Rattle.tq_interpreter.specs.Asking.{Ran, run_line}
 use Rattle.tq_interpreter.specs.Recorded.{RecorderView}
 use Rattle.tq_interpreter.specs.declared.operators.Counts.{Counts}
@@ -48,10 +48,10 @@ abbrev pub mended_front : List ℕ → List ℕ
 mended_front file = codes "refreshed " ++ file ++ codes " at "
 
 abbrev pub mended_back : ℕ → List ℕ
-mended_back source = printed (codes " from " ++ decimal source)
+mended_back source = printed_line (codes " from " ++ decimal source)
 
 abbrev pub with_job : Mended → Job → Bool → Mended
-with_job mended job refreshed = record { text = mended.text ++ printed (job_text job refreshed); count = mended.count + cond refreshed 1 0 }
+with_job mended job refreshed = record { text = mended.text ++ printed_line (job_text job refreshed); count = mended.count + cond refreshed 1 0 }
 
 abbrev pub jobs_asked : Mended → List Job → asks.Dialogue Mended
 jobs_asked mended [] = Ends mended
@@ -75,7 +75,7 @@ abbrev pub count_text : ℕ → ℕ → List ℕ
 count_text count jobs = codes "refreshed " ++ decimal count ++ codes " of " ++ decimal jobs
 
 abbrev pub refreshed_text : ℕ → Mended → List ℕ
-refreshed_text jobs mended = mended.text ++ printed (count_text mended.count jobs)
+refreshed_text jobs mended = mended.text ++ printed_line (count_text mended.count jobs)
 
 -- the jobs of the plan, as the journals stand before the first of them
 abbrev pub refresh_jobs : JournalsView → List Job

@@ -3,7 +3,7 @@ use Rattle.std.specs.Prelude.{◌≡◌, ℕ, Bool, List, ◌++◌, codes}
 use Rattle.std.specs.Fmt.{decimal}
 use Rattle.tq_syntax.specs.declared.line.Line.{Line}
 use Rattle.tq_syntax.specs.declared.line.Line.TheVariants as of
-use Rattle.tq_text.specs.Print.{printed, numbers_text, mark_word}
+use Rattle.tq_text.specs.Print.{printed_line, numbers_text, mark_word}
 use Rattle.tq_interpreter.specs.PossibleTxn as client
 
 pub data Saying : Type 0 where
@@ -36,7 +36,7 @@ CanCome saying = Unit {0}
 pub record IsSaid (before after : List ℕ) : Type 0 where
   pub saying : Saying
   pub possible : CanCome saying
-  pub text : after ≡ before ++ printed (saying_text saying)
+  pub text : after ≡ before ++ printed_line (saying_text saying)
   pub fit : client.IsFit (saying_text saying)
 
 -- the lines of operators print texts of their own, which stand for no answer of one part

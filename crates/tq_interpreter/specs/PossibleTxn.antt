@@ -15,7 +15,7 @@ use Rattle.tq_txn.specs.declared.applying.Applied.{Applied}
 use Rattle.tq_txn.specs.declared.fault.LineFault.{LineFault}
 use Rattle.tq_txn.specs.declared.fault.LineFault.TheVariants as faults
 use Rattle.tq_txn.specs.declared.read_answer.ReadAnswer.{ReadAnswer}
-use Rattle.tq_text.specs.Print.{printed, reading_text, writing_text, applied_text, verdict_text}
+use Rattle.tq_text.specs.Print.{printed_line, reading_text, writing_text, applied_text, verdict_text}
 use Rattle.tq_text.specs.Refusals.{fault_text}
 
 -- ---- faults that can come

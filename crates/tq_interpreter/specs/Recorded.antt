@@ -17,9 +17,9 @@ pub record RecorderView : Type 0 where
   pub told : List Exchange
 
 -- what an ask with that answer adds to what was told: nothing where it met want of memory
-abbrev pub noted : {R : Type 0} → Told R → Exchange → List Exchange
-noted (Ok answered) exchange = exchange ∷ []
-noted (Err fault) exchange = unless_memory fault exchange
+abbrev pub told_exchanges : {R : Type 0} → Told R → Exchange → List Exchange
+told_exchanges (Ok answered) exchange = exchange ∷ []
+told_exchanges (Err fault) exchange = unless_memory fault exchange
 
 -- ---- the worlds that the asks lead through
 

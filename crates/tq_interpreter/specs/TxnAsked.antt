@@ -37,7 +37,7 @@ use Rattle.tq_syntax.specs.declared.line.TxnLine.TheVariants as of
 use Rattle.tq_interpreter.specs.Asking.{run_line}
 use Rattle.tq_interpreter.specs.Progress.{Progress}
 use Rattle.tq_interpreter.specs.Known.{in_state, with_told, ending_in}
-use Rattle.tq_text.specs.Print.{printed, reading_text, writing_text, applied_text, verdict_text}
+use Rattle.tq_text.specs.Print.{printed_line, reading_text, writing_text, applied_text, verdict_text}
 use Rattle.tq_text.specs.Refusals.{fault_text, is_memory, txn_fault_text, decided_text, desk_refusal_text}
 
 -- what a line of one transaction says, and what is kept of the transaction then
@@ -62,8 +62,8 @@ is_refused_memory (Err fault) = is_memory fault
 abbrev pub answer_end : {A S : Type 0} → (S → TxnSlot) → (S → List ℕ) → (S → A → List ℕ) → LineEnd A S → TxnAnswer
 answer_end kept servers text end = record { text = result_text (servers end.after) (text end.after) end.answer; kept = kept end.after }
 
-abbrev pub answered : {A S : Type 0} → asks.Dialogue (LineEnd A S) → (S → TxnSlot) → (S → List ℕ) → (S → A → List ℕ) → asks.Dialogue TxnAnswer
-answered line kept servers text = then_line line (λ end. Ends (answer_end kept servers text end))
+abbrev pub answer_line : {A S : Type 0} → asks.Dialogue (LineEnd A S) → (S → TxnSlot) → (S → List ℕ) → (S → A → List ℕ) → asks.Dialogue TxnAnswer
+answer_line line kept servers text = then_line line (λ end. Ends (answer_end kept servers text end))
 
 abbrev pub no_servers : {S : Type 0} → S → List ℕ
 no_servers after = []
@@ -103,14 +103,14 @@ abbrev pub written_text : List ℕ → OpenView → ℕ → List ℕ
 written_text file new version = writing_text file (written new file) version
 
 abbrev pub read_open : TxnSlot → List ℕ → OpenView → asks.Dialogue TxnAnswer
-read_open kept file old = answered (lines.read_line old file) (λ new. in_state kept (states.Open new)) no_servers (read_text file)
+read_open kept file old = answer_line (lines.read_line old file) (λ new. in_state kept (states.Open new)) no_servers (read_text file)
 
 abbrev pub read_asked : List ℕ → ℕ → TxnSlot → asks.Dialogue TxnAnswer
 read_asked file number kept = open_in number kept kept.txn (read_open kept file)
 
 abbrev pub write_open : TxnSlot → List ℕ → List ℕ → OpenView → asks.Dialogue TxnAnswer
 write_open kept file content old =
-    answered (lines.write_line old file content) (λ new. in_state kept (states.Open new)) no_servers (written_text file)
+    answer_line (lines.write_line old file content) (λ new. in_state kept (states.Open new)) no_servers (written_text file)
 
 abbrev pub write_asked : List ℕ → List ℕ → ℕ → TxnSlot → asks.Dialogue TxnAnswer
 write_asked file content number kept = open_in number kept kept.txn (write_open kept file content)
@@ -139,9 +139,9 @@ stopped_text server new there = stop_text server there
 -- the server votes; or it stops in its vote, behind so many of its records
 abbrev pub prepare_voting : Option ℕ → ℕ → TxnSlot → VotingView → asks.Dialogue TxnAnswer
 prepare_voting None server kept old =
-    answered (lines.prepare_line old server) (λ new. in_state kept (states.Voting new)) (λ new. server ∷ []) (voted_text server)
+    answer_line (lines.prepare_line old server) (λ new. in_state kept (states.Voting new)) (λ new. server ∷ []) (voted_text server)
 prepare_voting (Some after) server kept old =
-    answered (lines.prepare_stop_line old server after) (λ new. in_state kept (states.Voting new)) (λ new. server ∷ []) (stopped_text server)
+    answer_line (lines.prepare_stop_line old server after) (λ new. in_state kept (states.Voting new)) (λ new. server ∷ []) (stopped_text server)
 
 abbrev pub prepare_asked : Option ℕ → ℕ → ℕ → TxnSlot → asks.Dialogue TxnAnswer
 prepare_asked stop server number kept = voting_in kept kept.txn (prepare_voting stop server kept)
@@ -155,7 +155,7 @@ committed_text new answer = result_text (missing_in new) (serial_text new) answe
 
 -- a line to the desk's decision, printed
 abbrev pub decision_voting : (VotingView → asks.Dialogue (LineEnd ℕ Txn)) → TxnSlot → VotingView → asks.Dialogue TxnAnswer
-decision_voting line kept old = answered (line old) (in_state kept) missing_in serial_text
+decision_voting line kept old = answer_line (line old) (in_state kept) missing_in serial_text
 
 abbrev pub decision_asked : (VotingView → asks.Dialogue (LineEnd ℕ Txn)) → ℕ → TxnSlot → asks.Dialogue TxnAnswer
 decision_asked line number kept = voting_in kept kept.txn (decision_voting line kept)
@@ -169,7 +169,7 @@ abbrev pub aborted_text : Txn → Unit {0} → List ℕ
 aborted_text new all = codes "aborted"
 
 abbrev pub abort_asked : ℕ → TxnSlot → asks.Dialogue TxnAnswer
-abort_asked number kept = answered (abort_line kept.txn) (in_state kept) no_servers aborted_text
+abort_asked number kept = answer_line (abort_line kept.txn) (in_state kept) no_servers aborted_text
 
 abbrev pub resolved_text : DeskReply → List ℕ
 resolved_text (desk_replies.Verdict verdict) = verdict_text verdict
@@ -196,9 +196,9 @@ apply_stopped_text server none all = down_text server
 -- the server is told the verdict; or it stops there, behind so many of its records
 abbrev pub apply_ending : Option ℕ → ℕ → ℕ → TxnSlot → Ending → asks.Dialogue TxnAnswer
 apply_ending None server number kept ending =
-    answered (lines.apply_line number ending.verdict ending.cite server) (λ none. kept) no_servers (told_text server)
+    answer_line (lines.apply_line number ending.verdict ending.cite server) (λ none. kept) no_servers (told_text server)
 apply_ending (Some after) server number kept ending =
-    answered (lines.stop_line server (Decide number ending.verdict ending.cite) after) (λ none. kept) no_servers (apply_stopped_text server)
+    answer_line (lines.stop_line server (Decide number ending.verdict ending.cite) after) (λ none. kept) no_servers (apply_stopped_text server)
 
 abbrev pub apply_by : Option ℕ → ℕ → ℕ → TxnSlot → Option Ending → asks.Dialogue TxnAnswer
 apply_by stop server number kept None = txn_said kept (codes "not decided " ++ decimal number)
@@ -234,6 +234,6 @@ line_asked levels (of.ApplyCrash server after) = server_asked levels server (app
 
 -- a line of a transaction that was printed so: the text that it adds, the journals and what is kept of the transaction
 pub record IsAnswered (line : asks.Dialogue TxnAnswer) (old new : Progress) (left : TxnSlot) : Type 0 where
-  pub text : new.text ≡ old.text ++ printed (run_line old.journals line).end.text
+  pub text : new.text ≡ old.text ++ printed_line (run_line old.journals line).end.text
   pub journals : new.journals ≡ (run_line old.journals line).after
   pub kept : left ≡ (run_line old.journals line).end.kept

@@ -54,11 +54,11 @@ pub(crate) fn answer_txn(
         TxnLine::Abort => abort_txn(recorder, alloc, kept, text),
         TxnLine::Resolve => resolve(recorder, alloc, number, kept, text),
         TxnLine::PrepareCrash { server, after } => {
-            let errand = ServerLine::stopping(Phase::Prepare, server, after);
+            let errand = ServerLine::with_stop(Phase::Prepare, server, after);
             run_at_server(recorder, alloc, levels, number, kept, errand, text)
         }
         TxnLine::ApplyCrash { server, after } => {
-            let errand = ServerLine::stopping(Phase::Apply, server, after);
+            let errand = ServerLine::with_stop(Phase::Apply, server, after);
             run_at_server(recorder, alloc, levels, number, kept, errand, text)
         }
     }

@@ -2,7 +2,7 @@
 ghost use Rattle.std.specs.Prelude.{◌≡◌, ◌++◌, [], false, codes, IfOk, OnOk, OnErr};
 ghost use Rattle.tq_txn.specs.States.{levels_of};
 ghost use Rattle.tq_interpreter.specs.TxnAsked as spec;
-ghost use Rattle.tq_text.specs.Print.{Extends, printed, Prints};
+ghost use Rattle.tq_text.specs.Print.{Extends, printed_line, Prints};
 ghost use Rattle.tq_interpreter.specs.Progress.{progress_of};
 
 use crate::recorder::Recorder;

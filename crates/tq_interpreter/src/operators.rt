@@ -10,7 +10,7 @@ ghost use Rattle.tq_refresh.specs.declared.job.Job.{Job};
 ghost use Rattle.tq_txn.specs.Dialogue.{fault_of_ask};
 ghost use Rattle.tq_interpreter.specs.Asking.{node_told, run_line};
 ghost use Rattle.tq_interpreter.specs.Operators as spec;
-ghost use Rattle.tq_text.specs.Print.{Extends, printed, Appends, Prints};
+ghost use Rattle.tq_text.specs.Print.{Extends, printed_line, Appends, Prints};
 ghost use Rattle.tq_text.specs.Refusals.{is_memory};
 
 use crate::recorder::{Recorder, copy_of_node_ask};
@@ -70,14 +70,14 @@ pub(crate) fn refresh_all(
     ensures tree { recorder.new.journals.levels ≡ recorder.old.journals.levels }
     ensures kept { OnErr result (Extends text.old.items text.new.items) }
 {
-    let plan = planned(recorder.service(), alloc)?;
+    let plan = current_plan(recorder.service(), alloc)?;
     let counts = mend_all(recorder, alloc, &plan, text)?;
     say_count(text, counts.mended as u64, counts.jobs as u64)?;
     Ok(())
 }
 
 /// The jobs of a refresh by their files, as the service stands now.
-fn planned(service: &Service, alloc: Global) -> Result<PlanByFile, Memory>
+fn current_plan(service: &Service, alloc: Global) -> Result<PlanByFile, Memory>
     ensures jobs { IfOk result (λ plan. jobs_of_plan plan ≡ spec.refresh_jobs service.now) }
     ensures of_tree { IfOk result (λ plan. ArePlanned service.now.levels plan) }
 {

@@ -1,7 +1,9 @@
 ghost use Rattle.std.specs.Prelude.{◌≡◌, IfOk};
 
 use crate::history::History;
-use crate::told::{handed, nothing, with_answer, with_desk, with_fault, with_handed, with_view};
+use crate::told::{
+    handed_ask, nothing, with_answer, with_desk, with_fault, with_handed, with_view,
+};
 use std::alloc::Global;
 use std::marker::Model;
 use tq_asks::{NodeAsk, NodeReply};
@@ -33,7 +35,7 @@ impl Model for Recorder {
 impl Recorder {
     ghost use Rattle.std.specs.Prelude.{◌≡◌, ◌++◌, [], IfOk};
     ghost use Rattle.tq_world.specs.World.{empty_world};
-    ghost use Rattle.tq_interpreter.specs.Recorded.{full_limits, noted, IsReplayed};
+    ghost use Rattle.tq_interpreter.specs.Recorded.{full_limits, told_exchanges, IsReplayed};
     ghost use Rattle.tq_txn.specs.declared.asker.Exchange.TheVariants as exchanges;
 
     /// A service with full limits that was asked nothing.
@@ -62,11 +64,11 @@ impl Recorder {
     ) -> Result<Answered<NodeReply>, AskFault>
         requires { server.levels ≡ self.old.journals.levels }
         ensures exchanges { self.new.told
-            ≡ self.old.told ++ noted result (exchanges.Node server.number ask result) }
+            ≡ self.old.told ++ told_exchanges result (exchanges.Node server.number ask result) }
         ensures tree { self.new.journals.levels ≡ self.old.journals.levels }
     {
         let number = server.number();
-        let given = handed(&ask);
+        let given = handed_ask(&ask);
         let answer = self.service.ask_node(alloc, server, ask);
         self.told = with_handed(&self.told, number, &given, &answer);
         answer

@@ -4,7 +4,7 @@ ghost use Rattle.std.specs.Fmt.{decimal};
 ghost use Rattle.tq_txn.specs.States.{levels_of};
 ghost use Rattle.tq_interpreter.specs.TxnAsked as spec;
 ghost use Rattle.tq_interpreter.specs.Known.{in_state};
-ghost use Rattle.tq_text.specs.Print.{Extends, printed, applied_text, Prints};
+ghost use Rattle.tq_text.specs.Print.{Extends, printed_line, applied_text, Prints};
 ghost use Rattle.tq_interpreter.specs.Progress.{progress_of};
 
 use crate::recorder::Recorder;
@@ -50,7 +50,7 @@ impl ServerLine {
     }
 
     /// To stop in the midst of a duty, behind so many records.
-    pub(crate) fn stopping(duty: Phase, server: u64, after: u32) -> ServerLine
+    pub(crate) fn with_stop(duty: Phase, server: u64, after: u32) -> ServerLine
         ensures { result ≡ record { server = server; duty = duty; stop = Some after } }
     {
         ServerLine {

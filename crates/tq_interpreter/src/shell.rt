@@ -5,7 +5,7 @@ ghost use Rattle.std.specs.Fmt.{decimal};
 ghost use Rattle.tq_interpreter.specs.Asked as asked;
 ghost use Rattle.tq_interpreter.specs.Known as known;
 ghost use Rattle.tq_interpreter.specs.TxnAsked as said;
-ghost use Rattle.tq_text.specs.Print.{Extends, printed, mark_word, Appends, Prints};
+ghost use Rattle.tq_text.specs.Print.{Extends, printed_line, mark_word, Appends, Prints};
 
 use crate::answering::answer_txn;
 use crate::operators::{refresh_all, say_board};
@@ -281,14 +281,14 @@ fn begin_end(
     ensures kept { OnErr result (Extends text.old.items text.new.items) }
 {
     match answer {
-        Ok(told) => begun(txns, alloc, levels, limits, told.reply, text)?,
+        Ok(told) => begin_reply(txns, alloc, levels, limits, told.reply, text)?,
         Err(fault) => say_fault(text, &[], LineFault::from(fault))?,
     }
     Ok(())
 }
 
 /// The same for the desk's answer.
-fn begun(
+fn begin_reply(
     txns: &mut Vec<TxnSlot>,
     alloc: Global,
     levels: Levels,
@@ -298,8 +298,8 @@ fn begun(
 ) -> Result<(), Memory>
     requires { vec_len txns.old < vec_capacity txns.old }
     ensures text { OnOk result (Appends text.old text.new
-        (asked.begun (known.known_of levels limits txns.old) reply).text) }
-    ensures known { (asked.begun (known.known_of levels limits txns.old) reply).known
+        (asked.begin_reply (known.known_of levels limits txns.old) reply).text) }
+    ensures known { (asked.begin_reply (known.known_of levels limits txns.old) reply).known
         ≡ known.known_of levels limits txns.new }
     ensures kept { OnErr result (Extends text.old.items text.new.items) }
 {

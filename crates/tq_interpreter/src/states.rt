@@ -1,7 +1,7 @@
 //! The states of a transaction, as its lines want them.
 ghost use Rattle.std.specs.Prelude.{◌≡◌, ◌++◌, OnOk, OnErr, IfOk};
 ghost use Rattle.std.specs.Option.{option_map};
-ghost use Rattle.tq_text.specs.Print.{Extends, printed, Prints};
+ghost use Rattle.tq_text.specs.Print.{Extends, printed_line, Prints};
 ghost use Rattle.tq_interpreter.specs.Known.{ending_in};
 ghost use Rattle.tq_text.specs.Refusals.{decided_text};
 ghost use Rattle.tq_txn.specs.States.{levels_of};
@@ -72,15 +72,15 @@ pub(crate) fn ending_of(kept: &TxnSlot) -> Result<Option<Ending>, Memory>
     ensures { IfOk result (λ ending. ending ≡ ending_in kept.now) }
 {
     match &kept.txn {
-        Txn::Ended(ended) => Ok(Some(cited(ended.verdict(), ended.cite())?)),
+        Txn::Ended(ended) => Ok(Some(cited_ending(ended.verdict(), ended.cite())?)),
         _ => match &kept.told {
-            Some(ending) => Ok(Some(cited(&ending.verdict, ending.cite)?)),
+            Some(ending) => Ok(Some(cited_ending(&ending.verdict, ending.cite)?)),
             None => Ok(None),
         },
     }
 }
 
-fn cited(verdict: &Verdict, cite: u64) -> Result<Ending, Memory>
+fn cited_ending(verdict: &Verdict, cite: u64) -> Result<Ending, Memory>
     ensures { IfOk result (λ ending. ending ≡ record { verdict = verdict.now; cite = cite }) }
 {
     let verdict = verdict.clone()?;

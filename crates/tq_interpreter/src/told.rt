@@ -2,7 +2,7 @@ ghost use Rattle.std.specs.Prelude.{◌≡◌, ◌++◌, ◌∷◌, [], Ok, Err}
 ghost use Rattle.std.specs.List.{flat_map};
 ghost use Rattle.tq_txn.specs.declared.asker.Exchange.TheVariants as exchanges;
 ghost use Rattle.tq_txn.specs.Dialogue.{unless_memory};
-ghost use Rattle.tq_interpreter.specs.Recorded.{noted};
+ghost use Rattle.tq_interpreter.specs.Recorded.{told_exchanges};
 
 use crate::history::History;
 use tq_asks::{NodeAsk, NodeReply};
@@ -94,7 +94,7 @@ pub(crate) fn with_fault(
 }
 
 /// The ask that is handed to a server, for contracts to see it afterwards.
-pub(crate) fn handed(ask: &NodeAsk) -> History<NodeAsk>
+pub(crate) fn handed_ask(ask: &NodeAsk) -> History<NodeAsk>
     ensures { result.items ≡ ask.now ∷ [] }
 {
     History::of(ask)
@@ -108,7 +108,7 @@ pub(crate) fn with_handed(
     answer: &Result<Answered<NodeReply>, AskFault>,
 ) -> History<Exchange>
     ensures { result.items ≡ before.now.items
-        ++ flat_map (λ ask. noted answer.now (exchanges.Node server ask answer.now))
+        ++ flat_map (λ ask. told_exchanges answer.now (exchanges.Node server ask answer.now))
         ask.now.items }
 {
     History::of(&ServerHanded {
@@ -126,7 +126,7 @@ pub(crate) fn with_desk(
     answer: &Result<Answered<DeskReply>, AskFault>,
 ) -> History<Exchange>
     ensures { result.items ≡ before.now.items
-        ++ noted answer.now (exchanges.Desk ask.now answer.now) }
+        ++ told_exchanges answer.now (exchanges.Desk ask.now answer.now) }
 {
     History::of(&Asked {
         before,
@@ -142,7 +142,7 @@ pub(crate) fn with_view(
     answer: &Result<Answered<ViewReply>, AskFault>,
 ) -> History<Exchange>
     ensures { result.items ≡ before.now.items
-        ++ noted answer.now (exchanges.View ask.now answer.now) }
+        ++ told_exchanges answer.now (exchanges.View ask.now answer.now) }
 {
     History::of(&Asked {
         before,

@@ -5,3 +5,4 @@ pub mod Nexts
 pub mod Turns
 pub mod Listed
 pub mod Contents
+pub mod Behind

@@ -62,17 +62,6 @@ next-begin_array depth ts h = ap (converted of_json) (value-begin_array depth ts
 pub next-begin_object : (depth : ℕ) (ts : List Token) → 0 < depth → next depth (Token.begin_object ∷ ts) ≡ parse_map object (next_members (depth - 1) ts)
 next-begin_object depth ts h = ap (converted of_json) (value-begin_object depth ts h) ∙ converted-object (members (value (depth - 1)) (length ts) ts)
 
--- ---- what is read by way of a part of it
-
-pub found_by : {X D E : Type 0} (P : D → X → Type 0) (Q : E → X → Type 0) (f : D → E) (first : Option (D × List Token)) (whole : Option (E × List Token)) (rest : List Token) (x : X)
-    → whole ≡ parse_map f first → ((d : D) → P d x → Q (f d) x) → Found P first rest x → Found Q whole rest x
-found_by P Q f first whole rest x e held (d, same, h) = (f d, e ∙ ap (parse_map f) same, held d h)
-
-pub all_found_by : {X D E F : Type 0} (r : Result X F) (P : D → X → Type 0) (Q : E → X → Type 0) (f : D → E) (first : Option (D × List Token)) (whole : Option (E × List Token)) (rest : List Token)
-    → whole ≡ parse_map f first → ((d : D) (x : X) → P d x → Q (f d) x) → IfOk r (Found P first rest) → IfOk r (Found Q whole rest)
-all_found_by (Ok x) P Q f first whole rest e held h = found_by P Q f first whole rest x e (λ d. held d x) h
-all_found_by (Err fault) P Q f first whole rest e held h = tt
-
 -- ---- numbers
 
 pub some_number : (o : Option Num) → is_some o ≡ true → (n : Num) × (o ≡ Some n)

@@ -1,4 +1,5 @@
 pub mod Next
+pub mod Behind
 pub mod Format
 pub mod Member
 pub mod Content

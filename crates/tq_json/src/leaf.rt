@@ -1,9 +1,7 @@
 //! Values that hold no others. A value of another kind is taken whole.
 ghost use Rattle.std.specs.Prelude.{◌≡◌, ◌<◌, length, None, Err, IfOk, OnOk};
-ghost use Rattle.std.specs.Option.{option_map, option_and_then};
-ghost use Rattle.serde_json.specs.Find.{as_str, as_bool, as_number, as_u64};
 ghost use Rattle.serde_json.specs.Read.{number_of};
-ghost use Rattle.tq_json.specs.Next.{next, IsWhole, Found};
+ghost use Rattle.tq_json.specs.Next.{next, Found, IsTextOf, IsNumberOf, IsFlagOf, IsWhole};
 
 use crate::fault::NotRead;
 use crate::number::{is_in_range, whole};
@@ -12,7 +10,7 @@ use json::{Reader, Token};
 
 /// Takes the next value: its text, where it is one.
 pub fn take_text<'a>(reader: &mut Reader<'a>, depth: usize) -> Result<Option<&'a str>, NotRead>
-    ensures ok { IfOk result (Found (λ d text. option_map (λ t. t.now) text ≡ as_str d) (next depth reader.old) reader.new) }
+    ensures ok { IfOk result (Found IsTextOf (next depth reader.old) reader.new) }
     ensures err { result ≡ Err NotRead.NotJson → next depth reader.old ≡ None }
     ensures shorter { OnOk result (length reader.new < length reader.old) }
 {
@@ -26,7 +24,7 @@ pub fn take_text<'a>(reader: &mut Reader<'a>, depth: usize) -> Result<Option<&'a
 
 /// Takes the next value: the number of 64 bits that it is, where it is one, written without a point, an exponent or a sign.
 pub fn take_whole(reader: &mut Reader<'_>, depth: usize) -> Result<Option<u64>, NotRead>
-    ensures ok { IfOk result (Found (λ d number. number ≡ option_and_then as_u64 (as_number d)) (next depth reader.old) reader.new) }
+    ensures ok { IfOk result (Found IsNumberOf (next depth reader.old) reader.new) }
     ensures err { result ≡ Err NotRead.NotJson → next depth reader.old ≡ None }
     ensures shorter { OnOk result (length reader.new < length reader.old) }
 {
@@ -40,7 +38,7 @@ pub fn take_whole(reader: &mut Reader<'_>, depth: usize) -> Result<Option<u64>, 
 
 /// Takes the next value: whether it is true or false, where it is one of both.
 pub fn take_flag(reader: &mut Reader<'_>, depth: usize) -> Result<Option<bool>, NotRead>
-    ensures ok { IfOk result (Found (λ d flag. flag ≡ as_bool d) (next depth reader.old) reader.new) }
+    ensures ok { IfOk result (Found IsFlagOf (next depth reader.old) reader.new) }
     ensures err { result ≡ Err NotRead.NotJson → next depth reader.old ≡ None }
     ensures shorter { OnOk result (length reader.new < length reader.old) }
 {

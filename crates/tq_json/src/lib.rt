@@ -3,8 +3,8 @@
 //! Files: `leaf.rt` texts, numbers and flags; `opening.rt` arrays and objects; `passing.rt` values that nobody asks for;
 //! `number.rt` numbers; `fault.rt` why nothing is read; `format.rt` the formats of files; `content.rt` names of files and
 //! contents; `word.rt` words.
-//! Definitions: `specs/Next` (the next value of a reader), `Member` (what stands at a name), `Format` (what differs between
-//! formats), `Content`.
+//! Definitions: `specs/Next` (the next value of a reader), `Behind` (what stands behind what is open), `Member` (what stands
+//! at a name), `Format` (what differs between formats), `Content`.
 #![tactic(auto)]
 
 mod content;

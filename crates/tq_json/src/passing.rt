@@ -1,14 +1,18 @@
 //! Passing over values: nothing is kept, and each number has to be in range.
-ghost use Rattle.std.specs.Prelude.{◌≡◌, ◌≤◌, ◌<◌, ◌∷◌, ⊤, length, None, Err, IfOk, OnOk};
+ghost use Rattle.std.specs.Prelude.{◌≡◌, ◌≤◌, ◌<◌, ⊤, length, Some, None, Err, IfOk, OnOk};
+ghost use Rattle.std.specs.Bool.{MatchBool, OnTrue};
 ghost use Rattle.json.specs.Reads.{token_of};
-ghost use Rattle.tq_json.specs.Next.{next, next_items, next_members, Found};
+ghost use Rattle.tq_json.specs.Next.{next, next_items, Found};
+ghost use Rattle.tq_json.specs.Behind.{next_from, closed, Begins, BeginsNone, Ends, GoesOn, Fails};
 
 use crate::fault::NotRead;
 use crate::number::is_in_range;
 use json::{Reader, Token};
 
+/// The most that are open at once inside of one: a bit for each, and for the one.
+const MOST_INSIDE: usize = 127;
+
 /// Takes the next value.
-#[cycle(pass)]
 pub fn pass_over(reader: &mut Reader<'_>, depth: usize) -> Result<(), NotRead>
     ensures ok { IfOk result (Found (λ d u. ⊤) (next depth reader.old) reader.new) }
     ensures err { result ≡ Err NotRead.NotJson → next depth reader.old ≡ None }
@@ -19,62 +23,102 @@ pub fn pass_over(reader: &mut Reader<'_>, depth: usize) -> Result<(), NotRead>
 }
 
 /// Takes the rest of the value that the token begins.
-#[cycle(pass)]
-pub fn pass_rest(reader: &mut Reader<'_>, token: Token<'_>, depth: usize) -> Result<(), NotRead>
-    ensures ok { IfOk result (Found (λ d u. ⊤) (next depth (token_of token.entry ∷ reader.old)) reader.new) }
-    ensures err { result ≡ Err NotRead.NotJson → next depth (token_of token.entry ∷ reader.old) ≡ None }
+pub(crate) fn pass_rest(
+    reader: &mut Reader<'_>,
+    token: Token<'_>,
+    depth: usize,
+) -> Result<(), NotRead>
+    ensures ok { IfOk result (Found (λ d u. ⊤) (next_from depth token.entry reader.old) reader.new) }
+    ensures err { result ≡ Err NotRead.NotJson → next_from depth token.entry reader.old ≡ None }
     ensures shorter { OnOk result (length reader.new ≤ length reader.old) }
 {
-    match token {
-        Token::String(_) => Ok(()),
-        Token::Bool(_) => Ok(()),
-        Token::Null => Ok(()),
-        Token::Number(text) => {
-            if is_in_range(text) {
-                Ok(())
-            } else {
-                Err(NotRead::NotJson)
-            }
-        }
-        Token::EndObject | Token::EndArray | Token::Key(_) | Token::Bad => Err(NotRead::NotJson),
-        Token::BeginArray => {
-            if depth == 0 {
-                return Err(NotRead::NotJson);
-            }
-            pass_items(reader, depth - 1)
-        }
-        Token::BeginObject => {
-            if depth == 0 {
-                return Err(NotRead::NotJson);
-            }
-            pass_members(reader, depth - 1)
-        }
+    let Some(kind) = opening(token)? else {
+        return Ok(());
+    };
+    if depth == 0 {
+        return Err(NotRead::NotJson);
     }
+    pass_open(reader, kind, depth - 1)
 }
 
 /// Takes the items of an array that are left, with its bracket.
-#[cycle(pass)]
-#[inline(never)]
 pub fn pass_items(reader: &mut Reader<'_>, depth: usize) -> Result<(), NotRead>
     ensures ok { IfOk result (Found (λ d u. ⊤) (next_items depth reader.old) reader.new) }
     ensures err { result ≡ Err NotRead.NotJson → next_items depth reader.old ≡ None }
     ensures shorter { OnOk result (length reader.new ≤ length reader.old) }
 {
-    'items: while !reader.take_end_array() {
-        pass_over(reader, depth)?;
-    }
-    Ok(())
+    pass_open(reader, false, depth)
 }
 
-#[cycle(pass)]
+/// Takes what is left of an array that is open, or of an object (`true`). It calls itself only where more are open in it than
+/// there are bits.
 #[inline(never)]
-fn pass_members(reader: &mut Reader<'_>, depth: usize) -> Result<(), NotRead>
-    ensures ok { IfOk result (Found (λ d u. ⊤) (next_members depth reader.old) reader.new) }
-    ensures err { result ≡ Err NotRead.NotJson → next_members depth reader.old ≡ None }
-    ensures shorter { OnOk result (length reader.new ≤ length reader.old) }
+fn pass_open(reader: &mut Reader<'_>, kind: bool, depth: usize) -> Result<(), NotRead>
+    ensures ok { IfOk result (λ u. closed kind depth reader.old ≡ Some reader.new) }
+    ensures err { result ≡ Err NotRead.NotJson → closed kind depth reader.old ≡ None }
+    ensures shorter { OnOk result (length reader.new < length reader.old) }
 {
-    'members: while let Some(_) = reader.next_key()? {
-        pass_over(reader, depth)?;
+    let mut kinds = u128::from(kind);
+    let mut inside: usize = 0;
+    'tokens: loop {
+        if take_end(reader, kinds % 2 == 1)? {
+            if inside == 0 {
+                return Ok(());
+            }
+            kinds /= 2;
+            inside -= 1;
+            continue;
+        }
+        let token = reader.next().ok_or(NotRead::NotJson)?;
+        let Some(kind) = opening(token)? else {
+            continue;
+        };
+        if inside == depth {
+            return Err(NotRead::NotJson);
+        }
+        if inside == MOST_INSIDE {
+            pass_open(reader, kind, depth - inside - 1)?;
+        } else {
+            kinds = kinds * 2 + u128::from(kind);
+            inside += 1;
+        }
     }
-    Ok(())
+}
+
+/// Takes the end of an array that is open, or of an object (`true`), where that is next, and else the key, if one is wanted.
+#[inline(always)]
+fn take_end(reader: &mut Reader<'_>, kind: bool) -> Result<bool, NotRead>
+    ensures ok { IfOk result
+        (λ over. MatchBool over (Ends kind reader.old reader.new) (GoesOn kind reader.old reader.new)) }
+    ensures err { result ≡ Err NotRead.NotJson → Fails kind reader.old }
+    ensures shorter { OnOk result (length reader.new ≤ length reader.old) }
+    ensures end { IfOk result (λ over. OnTrue over (length reader.new < length reader.old)) }
+{
+    if kind {
+        return Ok(reader.next_key()?.is_none());
+    }
+    Ok(reader.take_end_array())
+}
+
+/// Whether the token opens an object or an array: `None` where it is a value alone.
+#[inline(always)]
+fn opening(token: Token<'_>) -> Result<Option<bool>, NotRead>
+    ensures ok { IfOk result (Begins (token_of token.entry)) }
+    ensures err { result ≡ Err NotRead.NotJson → BeginsNone (token_of token.entry) }
+{
+    match token {
+        Token::String(_) => Ok(None),
+        Token::Bool(_) => Ok(None),
+        Token::Null => Ok(None),
+        Token::Number(text) => {
+            if is_in_range(text) {
+                Ok(None)
+            } else {
+                Err(NotRead::NotJson)
+            }
+        }
+        Token::EndObject | Token::EndArray | Token::Key(_) | Token::Bad => Err(NotRead::NotJson),
+        Token::BeginArray => Ok(Some(false)),
+        Token::BeginObject => Ok(Some(true)),
+    }
 }

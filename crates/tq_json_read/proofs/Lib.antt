@@ -6,3 +6,4 @@ mod Places
 mod Limited
 mod Planned
 mod Nested
+mod Short

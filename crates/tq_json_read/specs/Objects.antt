@@ -39,6 +39,10 @@ filled (suc place) value slots (suc i) = filled place value (λ j. slots (suc j)
 abbrev pub texts : List (Bor (List ℕ)) → List (List ℕ)
 texts names = map (λ name. name.now) names
 
+-- a slot for each of these texts
+abbrev pub slots_for : List (Bor (List ℕ)) → Names → Slots
+slots_for names found = slots_at (texts names) found
+
 -- the name at that place is this one
 abbrev pub IsNameAt : List ℕ → List (List ℕ) → ℕ → Type 0
 IsNameAt name keys place = (place < length keys) × (get_or keys place [] ≡ name)

@@ -1,5 +1,5 @@
 -- Words of the reader's own: what it makes of the values that it found at the names of an object.
-use Rattle.std.specs.Prelude.{◌≡◌, ◌≢◌, ⊤, Result, Ok, Err, ℕ, Bool, ◌&&◌, ◌==◌, nat_le, cond, codes, List, length, Option, Some, None}
+use Rattle.std.specs.Prelude.{◌≡◌, ◌≢◌, ⊤, Result, Ok, Err, ℕ, ◌^◌, Bool, ◌&&◌, ◌==◌, nat_le, cond, codes, List, length, Option, Some, None, option_map}
 use Rattle.std.specs.Option.{option_and_then}
 use Rattle.std.specs.Str.{bytes_eq}
 use Rattle.serde_json.specs.Data.{Data}
@@ -40,7 +40,7 @@ use Rattle.tq_json_read.specs.Entries.{journal, node_entry, desk_entry, view_ent
 use Rattle.tq_json_read.specs.Frame.{limits, one_each, journals_of}
 use Rattle.tq_json_read.specs.NodeReplies.{code_refusal, bare_reply}
 use Rattle.tq_json_read.specs.Views.{member_of}
-use Rattle.tq_json_read.specs.Objects.{Names, names_of}
+use Rattle.tq_json_read.specs.Objects.{Names, names_of, all_of, capped}
 use Rattle.tq_json_read.specs.Plans.{plan_of}
 use Rattle.tq_json_read.specs.declared.fault.ReadFault.{ReadFault}
 use Rattle.tq_json_read.specs.declared.read.Reading.{Reading}
@@ -419,6 +419,10 @@ view_ask_by format kind members =
     cond (bytes_eq kind (codes "setcost")) (set_cost format members)
     (cond (bytes_eq kind (codes "mark")) (mark members.server members.up)
     (cond (bytes_eq kind (codes "choose")) (choose format members.purpose) None))
+
+-- the numbers of servers that stand in a place, no list longer than each set of servers of a tree of those levels
+abbrev pub servers_in : ℕ → Option Data → Option Servers
+servers_in levels place = option_map (λ numbers. record { numbers = numbers }) (capped (Some (2 ^ levels)) (all_of number_of place))
 
 abbrev pub chosen : ℕ → Option ℕ → Option Servers → Option ViewReply
 chosen levels cost servers = do

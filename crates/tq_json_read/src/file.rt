@@ -129,7 +129,8 @@ pub(crate) fn take_file(
     reader: &mut Reader<'_>,
     depth: usize,
 ) -> Result<FileFields, NotRead>
-    ensures ok { IfOk result (Found (λ d fields. fields ≡ slots.file_fields plan.now (names_of d))
+    ensures ok { IfOk result
+        (Found (λ d fields. fields ≡ slots.file_fields plan.now (names_of d))
         (next depth reader.old) reader.new) }
     ensures err { result ≡ Err NotRead.NotJson → next depth reader.old ≡ None }
     ensures shorter { OnOk result (length reader.new < length reader.old) }

@@ -4,7 +4,7 @@
 ghost use Rattle.std.specs.Prelude.{◌≡◌, ◌&&◌, ◌<◌, ◌≤◌, false, drop, length, nat_le, None, Err, IfOk, OnOk, IsTrue, MatchOption};
 ghost use Rattle.serde_json.specs.Find.{get_member};
 ghost use Rattle.tq_json.specs.Next.{next, next_members, Found};
-ghost use Rattle.tq_json_read.specs.Objects.{Names, names_of, with, slots_at, texts, IsNameAt, is_among, are_distinct};
+ghost use Rattle.tq_json_read.specs.Objects.{Names, names_of, with, slots_for, texts, IsNameAt, is_among, are_distinct};
 ghost use Rattle.std.specs.Str.{bytes_eq};
 
 use crate::parts::{FromReader, Taken};
@@ -118,7 +118,7 @@ pub(crate) fn take_object<'a, S: Slots<'a>>(
 ) -> Result<S, NotRead>
     requires { IsTrue (are_distinct (texts names.now)) }
     ensures ok { IfOk result
-        (Found (λ d slots. slots ≡ S.of plan.now (slots_at (texts names.now) (names_of d)))
+        (Found (λ d slots. slots ≡ S.of plan.now (slots_for names.now (names_of d)))
         (next depth reader.old) reader.new) }
     ensures err { result ≡ Err NotRead.NotJson → next depth reader.old ≡ None }
     ensures shorter { OnOk result (length reader.new < length reader.old) }
@@ -141,7 +141,7 @@ fn take_members<'a, S: Slots<'a>>(
     requires { IsTrue (are_distinct (texts names.now)) }
     ensures ok { IfOk result
         (Found (λ ms slots. slots ≡ S.of plan.now
-        (slots_at (texts names.now) (λ name. get_member name ms)))
+        (slots_for names.now (λ name. get_member name ms)))
         (next_members depth reader.old) reader.new) }
     ensures err { result ≡ Err NotRead.NotJson → next_members depth reader.old ≡ None }
     ensures shorter { OnOk result (length reader.new ≤ length reader.old) }
@@ -169,8 +169,8 @@ fn take_member<'a, S: Slots<'a>>(
     depth: usize,
 ) -> Result<usize, NotRead>
     requires { IsTrue (are_distinct (texts names.now)) }
-    ensures ok { (found : Names) → slots.old ≡ S.of plan.now (slots_at (texts names.now) found) → IfOk result
-        (Found (λ d u. slots.new ≡ S.of plan.now (slots_at (texts names.now) (with name.now d found)))
+    ensures ok { (found : Names) → slots.old ≡ S.of plan.now (slots_for names.now found) → IfOk result
+        (Found (λ d u. slots.new ≡ S.of plan.now (slots_for names.now (with name.now d found)))
         (next depth reader.old) reader.new) }
     ensures err { result ≡ Err NotRead.NotJson → next depth reader.old ≡ None }
     ensures shorter { OnOk result (length reader.new < length reader.old) }

@@ -41,7 +41,8 @@ pub(crate) fn take_list<'a, T: FromReader<'a>>(
     reader: &mut Reader<'a>,
     depth: usize,
 ) -> Taken<Seq<T>>
-    ensures ok { IfOk result (Found (λ d list. list ≡ listed (λ value. T.at plan.now (Some value)) most d)
+    ensures ok { IfOk result
+        (Found (λ d list. list ≡ listed (λ value. T.at plan.now (Some value)) most d)
         (next depth reader.old) reader.new) }
     ensures err { result ≡ Err NotRead.NotJson → next depth reader.old ≡ None }
     ensures shorter { OnOk result (length reader.new < length reader.old) }

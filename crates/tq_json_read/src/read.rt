@@ -84,7 +84,8 @@ fn fields_of(
     text: &str,
     scratch: &mut Scratch,
 ) -> Result<FileFields, NotRead>
-    ensures ok { IfOk result (slots.IsOfText (λ d fields. fields ≡ slots.file_fields plan.now (names_of d)) text.now) }
+    ensures ok { IfOk result
+        (slots.IsOfText (λ d fields. fields ≡ slots.file_fields plan.now (names_of d)) text.now) }
     ensures err { result ≡ Err NotRead.NotJson → read text.now ≡ None }
 {
     let mut reader = Reader::new(text, scratch)?;
@@ -102,7 +103,8 @@ fn read_by(
     text: &str,
     scratch: &mut Scratch,
 ) -> Result<Reading, NotRead>
-    ensures ok { IfOk result (slots.IsOfText (λ d reading. slots.IsReading plan.now reading d) text.now) }
+    ensures ok { IfOk result
+        (slots.IsOfText (λ d reading. slots.IsReading plan.now reading d) text.now) }
     ensures err { result ≡ Err NotRead.NotJson → read text.now ≡ None }
 {
     let fields = fields_of(alloc, plan, text, scratch)?;

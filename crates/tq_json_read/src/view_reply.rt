@@ -1,8 +1,5 @@
 ghost use Rattle.std.specs.Prelude.{◌≡◌, Some, refl, IfOk};
-ghost use Rattle.std.specs.Option.{option_and_then, option_map};
-ghost use Rattle.serde_json.specs.Find.{as_array};
-ghost use Rattle.tq_json.specs.Member.{number_of};
-ghost use Rattle.tq_json_read.specs.Objects.{made_by, all_of};
+ghost use Rattle.tq_json_read.specs.Objects.{made_by};
 ghost use Rattle.tq_json_read.specs.Slots as slots;
 ghost use Rattle.tq_json_read.specs.Views as spec;
 
@@ -16,19 +13,20 @@ use tq_json::{NotRead, Reader};
 use tq_live::{ViewRefusal, ViewReply};
 use tq_shape::{Levels, Memory, Seq};
 
-/// The numbers of servers.
+/// The numbers of servers. A list that is longer than each set of servers of the tree takes no memory.
 #[derive(Drop)]
 struct Servers {
     numbers: Seq<u64>,
 }
 
 impl<'a> FromReader<'a> for Servers {
-    ghost at = { λ plan o. option_map (λ numbers. record { numbers = numbers }) (all_of number_of o) };
+    ghost at = { λ plan. slots.servers_in plan.levels };
 
     ghost none = { λ plan. refl };
 
     fn read(alloc: Global, plan: &Plan, reader: &mut Reader<'a>, depth: usize) -> Taken<Servers> {
-        let Some(numbers) = take_list(alloc, plan, None, reader, depth)? else {
+        let most = plan.levels.servers() as usize + 1;
+        let Some(numbers) = take_list(alloc, plan, Some(most), reader, depth)? else {
             return Ok(None);
         };
         Ok(Some(Servers { numbers }))
@@ -65,7 +63,8 @@ fn view_reply_by(
     cost: Option<u64>,
     servers: Option<Servers>,
 ) -> Result<Option<ViewReply>, Memory>
-    ensures { IfOk result (λ reply. reply ≡ slots.view_reply_by levels kind.now code cost servers) }
+    ensures { IfOk result
+        (λ reply. reply ≡ slots.view_reply_by levels kind.now code cost servers) }
 {
     if kind.is("costset") {
         return Ok(Some(ViewReply::CostSet));

@@ -10,7 +10,7 @@ use Rattle.tq_json.specs.declared.format.Format.TheVariants.{Two}
 use Rattle.tq_json.specs.Content.{name_of, content_of, decoded, short_enough}
 use Rattle.tq_json.specs.Member.{◌>>=◌, each, number_of}
 use Rattle.tq_json_read.specs.Entries.{entry, count, journal}
-use Rattle.tq_json_write.specs.Values.{whole, listed, list_value, entry_value}
+use Rattle.tq_json_write.specs.Values.{whole, value_items, list_value, entry_value}
 use Rattle.tq_json_write.specs.Sound.{IsFile, IsContent}
 
 pub name-again : (name : List ℕ) → IsFile name → name_of name ≡ Some name
@@ -22,7 +22,7 @@ content-again bytes h =
     ∙ ap (λ b. cond b (Some bytes) None) (le-leb (length bytes) 4000 h.1)
 
 pub each-again : {A : Type 0} (form : Data → Option A) (value : A → Data) (P : A → Type 0) → ((x : A) → P x → form (value x) ≡ Some x)
-    → (xs : List A) → AllByRecursion P xs → each form (listed value xs) ≡ Some xs
+    → (xs : List A) → AllByRecursion P xs → each form (value_items value xs) ≡ Some xs
 each-again form value P again [] h = refl
 each-again form value P again (x ∷ xs) h = rw (again x h.0, each-again form value P again xs h.1)
 
@@ -34,7 +34,7 @@ pub both : {A : Type 0} (P Q : A → Type 0) (xs : List A) → AllByRecursion P 
 both P Q [] p q = tt
 both P Q (x ∷ xs) p q = ((p.0, q.0), both P Q xs p.1 q.1)
 
-pub numbers-again : (numbers : List ℕ) → each number_of (listed whole numbers) ≡ Some numbers
+pub numbers-again : (numbers : List ℕ) → each number_of (value_items whole numbers) ≡ Some numbers
 numbers-again [] = refl
 numbers-again (n ∷ ns) = rw (numbers-again ns)
 
@@ -42,12 +42,12 @@ pub entry-again : {A R : Type 0} (ask_form : Data → Option A) (reply_form : Da
     → ask_form (ask_value x.ask) ≡ Some x.ask → reply_form (reply_value x.reply) ≡ Some x.reply → entry ask_form reply_form (entry_value ask_value reply_value x) ≡ Some x
 entry-again ask_form reply_form ask_value reply_value x asked replied = rw (asked, replied)
 
-pub count-listed : {A : Type 0} (value : A → Data) (xs : List A) → count (listed value xs) ≡ length xs
-count-listed value [] = refl
-count-listed value (x ∷ xs) = ap suc (count-listed value xs)
+pub count-value_items : {A : Type 0} (value : A → Data) (xs : List A) → count (value_items value xs) ≡ length xs
+count-value_items value [] = refl
+count-value_items value (x ∷ xs) = ap suc (count-value_items value xs)
 
 pub journal-again : {A : Type 0} (form : Data → Option A) (value : A → Data) (P : A → Type 0) → ((x : A) → P x → form (value x) ≡ Some x)
     → (limit : ℕ) (xs : List A) → length xs ≤ limit → AllByRecursion P xs → journal form limit (list_value value xs) ≡ Some xs
 journal-again form value P again limit xs few_enough h =
-    let room : nat_lt limit (count (listed value xs)) ≡ false = ap (λ n. nat_lt limit n) (count-listed value xs) ∙ le-ltb limit (length xs) few_enough in
-    ap (λ b. cond b None (Some (listed value xs)) >>= each form) room ∙ each-again form value P again xs h
+    let room : nat_lt limit (count (value_items value xs)) ≡ false = ap (λ n. nat_lt limit n) (count-value_items value xs) ∙ le-ltb limit (length xs) few_enough in
+    ap (λ b. cond b None (Some (value_items value xs)) >>= each form) room ∙ each-again form value P again xs h

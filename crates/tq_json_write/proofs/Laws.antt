@@ -13,7 +13,7 @@ use Rattle.tq_json.specs.declared.format.Format.TheVariants.{Two}
 use Rattle.tq_json_read.specs.Entries.{count, journal, node_entry, desk_entry, view_entry}
 use Rattle.tq_json_read.specs.Frame as frame
 use Rattle.tq_json.specs.Member.{◌>>=◌, each}
-use Rattle.tq_json_write.specs.Values.{listed, list_value}
+use Rattle.tq_json_write.specs.Values.{value_items, list_value}
 use Rattle.tq_json_write.specs.Nodes.{node_entry_value}
 use Rattle.tq_json_write.specs.Desks.{desk_entry_value}
 use Rattle.tq_json_write.specs.Views.{view_entry_value}
@@ -21,7 +21,7 @@ use Rattle.tq_json_write.specs.Form.{limits_value, journals_value}
 use Rattle.tq_json_write.specs.Fitting.{IsFitting}
 use Rattle.tq_json_write.specs.Sound.{AreSound, HasLimits, IsNodeEntry, IsDeskEntry, IsViewEntry}
 use Rattle.tq_json_write.specs.Text.{IsTextOf}
-use Rattle.tq_json_write.proofs.Again.{both, count-listed, each-again, journal-again}
+use Rattle.tq_json_write.proofs.Again.{both, count-value_items, each-again, journal-again}
 use Rattle.tq_json_write.proofs.Parts.{node-entry-again, desk-entry-again, view-entry-again}
 use Rattle.tq_json_write.proofs.ReadBack.{read-line}
 use Rattle.tq_json_write.proofs.Shapes.{journals-shaped}
@@ -40,9 +40,9 @@ one-each-again : (levels : ℕ) (values : Items) → count values + 1 ≡ 2 ^ le
 one-each-again levels values e = ap (λ b. cond b (Some values) None) (eq-eqb (count values + 1) (2 ^ levels) e)
 
 servers-again : (levels limit : ℕ) (servers : List (List NodeEntry)) → length servers + 1 ≡ 2 ^ levels → AllByRecursion (λ entries. length entries ≤ limit) servers → AllByRecursion (AllByRecursion IsNodeEntry) servers
-    → (frame.one_each levels (listed (list_value node_entry_value) servers) >>= each (journal (node_entry Two) limit)) ≡ Some servers
+    → (frame.one_each levels (value_items (list_value node_entry_value) servers) >>= each (journal (node_entry Two) limit)) ≡ Some servers
 servers-again levels limit servers e few sound =
-    ap (λ o. o >>= each (journal (node_entry Two) limit)) (one-each-again levels (listed (list_value node_entry_value) servers) (ap (λ n. n + 1) (count-listed (list_value node_entry_value) servers) ∙ e))
+    ap (λ o. o >>= each (journal (node_entry Two) limit)) (one-each-again levels (value_items (list_value node_entry_value) servers) (ap (λ n. n + 1) (count-value_items (list_value node_entry_value) servers) ∙ e))
     ∙ each-again (journal (node_entry Two) limit) (list_value node_entry_value) (λ entries. (length entries ≤ limit) × AllByRecursion IsNodeEntry entries)
     (λ entries h. journal-again (node_entry Two) node_entry_value IsNodeEntry node-entry-again limit entries h.0 h.1)
     servers (both (λ entries. length entries ≤ limit) (AllByRecursion IsNodeEntry) servers few sound)

@@ -50,7 +50,7 @@ use Rattle.tq_json_read.specs.Desks as desk_form
 use Rattle.tq_json_read.specs.Views as view_form
 use Rattle.tq_json_read.specs.Entries.{node_entry, desk_entry, view_entry}
 use Rattle.tq_json.specs.Member.{each}
-use Rattle.tq_json_write.specs.Values.{listed}
+use Rattle.tq_json_write.specs.Values.{value_items}
 use Rattle.tq_json_write.specs.Nodes as nodes
 use Rattle.tq_json_write.specs.Desks as desks
 use Rattle.tq_json_write.specs.Views as views
@@ -72,13 +72,13 @@ held-again lock h = rw (name-again lock.file h, mode-again lock.mode)
 cited-again : (vote : CitedVote) → IsAny vote → locking.citation (nodes.cited_value vote) ≡ Some vote
 cited-again vote h = refl
 
-writes-again : (writes : List Write) → AllByRecursion IsWrite writes → each (locking.write Two) (listed nodes.write_value writes) ≡ Some writes
+writes-again : (writes : List Write) → AllByRecursion IsWrite writes → each (locking.write Two) (value_items nodes.write_value writes) ≡ Some writes
 writes-again writes h = each-again (locking.write Two) nodes.write_value IsWrite write-again writes h
 
-locks-again : (held : List HeldLock) → AllByRecursion IsHeldLock held → each locking.held_lock (listed nodes.held_value held) ≡ Some held
+locks-again : (held : List HeldLock) → AllByRecursion IsHeldLock held → each locking.held_lock (value_items nodes.held_value held) ≡ Some held
 locks-again held h = each-again locking.held_lock nodes.held_value IsHeldLock held-again held h
 
-votes-again : (votes : List CitedVote) → each locking.citation (listed nodes.cited_value votes) ≡ Some votes
+votes-again : (votes : List CitedVote) → each locking.citation (value_items nodes.cited_value votes) ≡ Some votes
 votes-again votes = each-again locking.citation nodes.cited_value IsAny cited-again votes (all IsAny (λ vote. tt) votes)
 
 verdict-again : (v : Verdict) → locking.verdict (nodes.verdict_value v) ≡ Some v
@@ -140,7 +140,7 @@ kind-again op_kind.Write = refl
 grant-again : (grant : Grant) → IsGrant grant → commits.grant Two (desks.grant_value grant) ≡ Some grant
 grant-again grant h = rw (mode-again grant.mode, content-again grant.content h)
 
-grants-again : (grants : List Grant) → AllByRecursion IsGrant grants → each (commits.grant Two) (listed desks.grant_value grants) ≡ Some grants
+grants-again : (grants : List Grant) → AllByRecursion IsGrant grants → each (commits.grant Two) (value_items desks.grant_value grants) ≡ Some grants
 grants-again grants h = each-again (commits.grant Two) desks.grant_value IsGrant grant-again grants h
 
 op-again : (op : Op) → IsOp op → commits.op Two (desks.op_value op) ≡ Some op
@@ -149,10 +149,10 @@ op-again op h = rw (name-again op.file h.0, kind-again op.kind, content-again op
 vote-again : (vote : Vote) → IsVote vote → commits.vote Two (desks.vote_value vote) ≡ Some vote
 vote-again vote h = rw (locks-again vote.held h.0, writes-again vote.writes h.1)
 
-ops-again : (ops : List Op) → AllByRecursion IsOp ops → each (commits.op Two) (listed desks.op_value ops) ≡ Some ops
+ops-again : (ops : List Op) → AllByRecursion IsOp ops → each (commits.op Two) (value_items desks.op_value ops) ≡ Some ops
 ops-again ops h = each-again (commits.op Two) desks.op_value IsOp op-again ops h
 
-cast-votes-again : (votes : List Vote) → AllByRecursion IsVote votes → each (commits.vote Two) (listed desks.vote_value votes) ≡ Some votes
+cast-votes-again : (votes : List Vote) → AllByRecursion IsVote votes → each (commits.vote Two) (value_items desks.vote_value votes) ≡ Some votes
 cast-votes-again votes h = each-again (commits.vote Two) desks.vote_value IsVote vote-again votes h
 
 desk-ask-again : (a : DeskAsk) → IsDeskAsk a → desk_form.desk_ask Two (desks.desk_ask_value a) ≡ Some a

@@ -35,19 +35,19 @@ use Rattle.tq_live.specs.declared.view.ViewRefusal.TheVariants as view_refusal
 use Rattle.tq_live.specs.declared.view.ViewReply.{ViewReply}
 use Rattle.tq_live.specs.declared.view.ViewReply.TheVariants as view_reply
 use Rattle.tq_tables.specs.Journals.{ViewEntry, JournalsView}
-use Rattle.tq_json_write.specs.Values.{whole, listed, list_value, kind_value, code_value, entry_value}
+use Rattle.tq_json_write.specs.Values.{whole, value_items, list_value, kind_value, code_value, entry_value}
 use Rattle.tq_json_write.specs.Nodes as nodes
 use Rattle.tq_json_write.specs.Desks as desks
 use Rattle.tq_json_write.specs.Views as views
 use Rattle.tq_json_write.specs.Form.{limits_value, journals_value}
 use Rattle.tq_json_write.proofs.Shape.{IsShaped, AreShaped}
 
-listed-shaped : {A : Type 0} (value : A → Data) (levels : ℕ) → ((x : A) → IsShaped (value x) levels) → (xs : List A) → AreShaped (listed value xs) levels
-listed-shaped value levels h [] = tt
-listed-shaped value levels h (x ∷ xs) = (h x, listed-shaped value levels h xs)
+value_items-shaped : {A : Type 0} (value : A → Data) (levels : ℕ) → ((x : A) → IsShaped (value x) levels) → (xs : List A) → AreShaped (value_items value xs) levels
+value_items-shaped value levels h [] = tt
+value_items-shaped value levels h (x ∷ xs) = (h x, value_items-shaped value levels h xs)
 
 list-shaped : {A : Type 0} (value : A → Data) (levels : ℕ) → 0 < levels → ((x : A) → IsShaped (value x) (levels - 1)) → (xs : List A) → IsShaped (list_value value xs) levels
-list-shaped value levels deep h xs = (deep, listed-shaped value (levels - 1) h xs)
+list-shaped value levels deep h xs = (deep, value_items-shaped value (levels - 1) h xs)
 
 kind-shaped : (levels : ℕ) → 0 < levels → (kind : List ℕ) → IsShaped (kind_value kind) levels
 kind-shaped levels deep kind = (deep, (tt, tt), refl)

@@ -12,13 +12,13 @@ whole n = number (unsigned n)
 abbrev pub content_value : List ℕ → Data
 content_value bytes = string (encode_lower bytes)
 
-abbrev pub listed : {A : Type 0} → (A → Data) → List A → Items
-listed value [] = no_items
-listed value (first ∷ rest) = item (value first) (listed value rest)
+abbrev pub value_items : {A : Type 0} → (A → Data) → List A → Items
+value_items value [] = no_items
+value_items value (first ∷ rest) = item (value first) (value_items value rest)
 
 -- a list of such values, in order
 abbrev pub list_value : {A : Type 0} → (A → Data) → List A → Data
-list_value value list = array (listed value list)
+list_value value list = array (value_items value list)
 
 abbrev pub kind_value : List ℕ → Data
 kind_value kind = object (member (codes "is") (string kind) no_members)

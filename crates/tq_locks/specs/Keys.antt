@@ -2,7 +2,8 @@
 use Rattle.std.specs.Prelude.{◌≡◌, ◌<◌, ℕ, suc, Bool, true, List, [], ◌∷◌, Option, Some, None, if◌then◌else◌, filter_map, slice_get, length, take, drop, min, All, ◌*◌, ◌≤◌, ◌++◌}
 use Rattle.slab.specs.Slab.{Slab, get as in_slab}
 use Rattle.std.specs.List.{insert, remove}
-use Rattle.std.specs.Option.{option_map_or}
+use denote.Ref.{Bor}
+use Rattle.std.specs.Option.{option_copied, option_map_or}
 use Rattle.smallvec.specs.SmallVec.{SmallVec, HasRoomFor}
 use Rattle.indexmap.specs.IndexMap.{IndexMap, get, spare}
 use Rattle.std.specs.Ordering.{is_lt}
@@ -11,6 +12,10 @@ use Rattle.std.specs.declared.cmp.Ordering.{Ordering}
 -- the keys of a list, none where there is no list
 abbrev pub keys_in : Option (SmallVec ℕ) → List ℕ
 keys_in list = option_map_or (λ keys. keys.items) list []
+
+-- the same of a list that is lent
+abbrev pub lent_keys : Option (Bor (SmallVec ℕ)) → List ℕ
+lent_keys list = keys_in (option_copied list)
 
 module _ {K : Type 0} (eq : K → K → Bool) {S : Type 0} where
   -- the keys under a name, in their order
@@ -55,22 +60,22 @@ told slab keys = filter_map (in_slab slab) keys
 abbrev pub turn : ℕ → List ℕ → List ℕ
 turn start block = drop start block ++ take start block
 
--- the keys of blocks of a size in their order, and those behind the blocks
-abbrev pub turned : ℕ → List ℕ → List ℕ → List ℕ
-turned size [] places = places
-turned size (start ∷ starts) places = turn start (take size places) ++ turned size starts (drop size places)
+-- the keys of blocks of 2000 in their order, and those behind the blocks
+abbrev pub turned : List ℕ → List ℕ → List ℕ
+turned [] places = places
+turned (start ∷ starts) places = turn start (take 2000 places) ++ turned starts (drop 2000 places)
 
--- the same of blocks of 1024 keys, with room for as many as one has behind them
-abbrev pub keys_of : List ℕ → SmallVec ℕ → SmallVec ℕ
-keys_of starts places = record { items = turned 1024 starts places.items; capacity = min places.capacity (1024 * suc (length starts)) }
-
--- so many places are blocks of 1024 keys, each with its first in it, and at most as many keys behind them as one has
+-- so many places are blocks, each with its first key in it, and no more keys behind them than one has
 abbrev pub HasBlocks : List ℕ → ℕ → Type 0
-HasBlocks starts len = (1024 * length starts ≤ len) × (len ≤ 1024 * suc (length starts)) × All (λ start. start < 1024) starts
+HasBlocks starts len = (2000 * length starts ≤ len) × (len ≤ 2000 * suc (length starts)) × All (λ start. start < 2000) starts
 
 -- there is room for one more key behind the blocks
 abbrev pub HasRoomBehind : List ℕ → SmallVec ℕ → Type 0
-HasRoomBehind starts places = HasRoomFor places 1 × (length places.items < 1024 * suc (length starts))
+HasRoomBehind starts places = HasRoomFor places 1 × (length places.items < 2000 * suc (length starts))
+
+-- the keys in their order, with the room that there is before one more block
+abbrev pub keys_of : List ℕ → SmallVec ℕ → SmallVec ℕ
+keys_of starts places = record { items = turned starts places.items; capacity = min places.capacity (2000 * suc (length starts)) }
 
 -- the last of the keys has come into this place
 abbrev pub Sinks : List ℕ → List ℕ → ℕ → Type 0

@@ -8,7 +8,7 @@ ghost use Rattle.indexmap.specs.IndexMap.{index_of};
 ghost use Rattle.slab.specs.Slab.{get, slab_len, values, Updates};
 ghost use Rattle.tq_shape.specs.Steps.{state_at};
 ghost use Rattle.tq_locks.specs.Locks.{LockKey, Locks, kept, released, only_stable};
-ghost use Rattle.tq_locks.specs.Keys.{keys_in, keys_under, place, told};
+ghost use Rattle.tq_locks.specs.Keys.{lent_keys, keys_under, place, told};
 ghost use Rattle.tq_locks.specs.Kept.{decided};
 ghost use Rattle.tq_locks.specs.Loose.{IsAsStable, IsLooseAt, steadied};
 
@@ -16,7 +16,7 @@ use crate::index::{
     Spot, end_empty_under, enter_under, list_under, listed_under, make_room_under, put_under,
     take_all_under, take_near, take_under,
 };
-use crate::keys::Keys;
+use crate::keys::{Keys, LentKeys};
 use crate::lists::place;
 use crate::lock_slab::LockSlab;
 use crate::{Lock, LockEntry, Mode};
@@ -100,8 +100,8 @@ impl KeyedLocks {
     // The key at the place of a file in the list of a transaction, if it's that of an entry of the file.
     #[inline(always)]
     fn key_at(&self, list: Option<&Keys>, place: usize, file: &FileName) -> Option<usize>
-        ensures some { FindsOwnAt self.now file.now (keys_in (option_copied list.entry)) place result }
-        ensures none { FindsNoneAt self.now file.now (keys_in (option_copied list.entry)) place result }
+        ensures some { FindsOwnAt self.now file.now (lent_keys list.entry) place result }
+        ensures none { FindsNoneAt self.now file.now (lent_keys list.entry) place result }
     {
         let key = list?.get(place)?;
         let entry = self.entry(key)?;
@@ -300,7 +300,7 @@ fn stabilise_each(entries: &mut LockSlab, keys: &[usize])
 /// The transaction of the first of these entries that is not this one's, where it conflicts with the mode.
 #[inline(always)]
 pub(crate) fn held_by(entries: &LockSlab, list: Option<&Keys>, txn: u64, mode: Mode) -> Option<u64>
-    ensures { result ≡ decided txn mode (told entries.now (keys_in (option_copied list.entry))) }
+    ensures { result ≡ decided txn mode (told entries.now (lent_keys list.entry)) }
 {
     for entry in walk(entries, list) {
         if !(entry.txn == txn) {
@@ -317,11 +317,15 @@ pub(crate) fn held_by(entries: &LockSlab, list: Option<&Keys>, txn: u64, mode: M
 /// A walk of the locks under the keys of a list, in its order.
 #[inline(always)]
 pub(crate) fn walk<'a>(entries: &'a LockSlab, list: Option<&'a Keys>) -> HeldLocks<'a>
-    ensures { result ≡ told entries.now (keys_in (option_copied list.entry)) }
+    ensures { result ≡ told entries.now (lent_keys list.entry) }
 {
+    let keys = match list {
+        Some(keys) => keys.lend(),
+        None => LentKeys::none(),
+    };
     HeldLocks {
         entries,
-        list,
+        keys,
         at: 0,
     }
 }
@@ -330,7 +334,7 @@ pub(crate) fn walk<'a>(entries: &'a LockSlab, list: Option<&'a Keys>) -> HeldLoc
 #[derive(Drop)]
 pub struct HeldLocks<'a> {
     entries: &'a LockSlab,
-    list: Option<&'a Keys>,
+    keys: LentKeys<'a>,
     /// So many keys were passed.
     at: usize,
 }
@@ -341,10 +345,7 @@ impl<'a> HeldLocks<'a> {
     pub fn most(&self) -> usize
         ensures { length self.now ≤ result }
     {
-        match self.list {
-            Some(keys) => keys.len().saturating_sub(self.at),
-            None => 0,
-        }
+        self.keys.len().saturating_sub(self.at)
     }
 }
 
@@ -353,12 +354,11 @@ impl<'a> Model for HeldLocks<'a> {
     ghost use Rattle.tq_locks.specs.Locks.{LockKey};
     ghost use Rattle.tq_locks.specs.declared.mode.Lock.{Lock};
     ghost use Rattle.std.specs.Prelude.{drop};
-    ghost use Rattle.std.specs.Option.{option_copied};
-    ghost use Rattle.tq_locks.specs.Keys.{keys_in, told};
+    ghost use Rattle.tq_locks.specs.Keys.{told};
 
     ghost Value = { List (LockKey × Lock) };
 
-    ghost view = { λ it. told it.entries.now (drop it.at (keys_in (option_copied it.list))) };
+    ghost view = { λ it. told it.entries.now (drop it.at it.keys) };
 }
 
 impl<'a> Iterator for HeldLocks<'a> {
@@ -372,9 +372,8 @@ impl<'a> Iterator for HeldLocks<'a> {
 
     #[inline(always)]
     fn next(&mut self) -> Option<LockEntry> {
-        let keys = self.list?;
-        while self.at < keys.len() {
-            let key = keys.get(self.at)?;
+        while self.at < self.keys.len() {
+            let key = self.keys.get(self.at)?;
             self.at += 1;
             if let Some(entry) = self.entries.get(key) {
                 return Some(*entry);

@@ -14,7 +14,7 @@ use std::marker::Model;
 const FEW: usize = 16;
 
 /// So many keys are a block.
-const BLOCK: usize = 1024;
+const BLOCK: usize = 2000;
 
 /// The keys under one name. Up to six of them need no allocation.
 #[derive(Drop)]
@@ -98,6 +98,17 @@ impl Keys {
         key_at(self.starts.as_slice(), self.places.as_slice(), at)
     }
 
+    /// The keys in their order, lent.
+    #[inline(always)]
+    pub(crate) fn lend(&self) -> LentKeys<'_>
+        ensures { result ≡ self.now.items }
+    {
+        LentKeys {
+            starts: self.starts.as_slice(),
+            places: self.places.as_slice(),
+        }
+    }
+
     /// Makes room for one more key.
     #[inline(always)]
     pub(crate) fn make_room(&mut self) -> Result<(), AllocError>
@@ -147,13 +158,61 @@ impl Keys {
     }
 }
 
+/// The keys of a list in their order, lent.
+#[derive(Drop)]
+pub(crate) struct LentKeys<'a> {
+    starts: &'a [usize],
+    places: &'a [usize],
+}
+
+impl<'a> Model for LentKeys<'a> {
+    ghost use Rattle.std.specs.Prelude.{ℕ, List, length};
+    ghost use Rattle.tq_locks.specs.Keys.{turned, HasBlocks};
+
+    ghost Value = { List ℕ };
+
+    ghost view = { λ k. turned k.starts.now k.places.now };
+
+    ghost invariant = { λ k. HasBlocks k.starts.now (length k.places.now) };
+}
+
+impl<'a> LentKeys<'a> {
+    /// No key.
+    #[inline(always)]
+    pub(crate) fn none() -> LentKeys<'a>
+        ensures { result ≡ [] }
+    {
+        LentKeys {
+            starts: &[],
+            places: &[],
+        }
+    }
+
+    /// The number of keys.
+    #[inline(always)]
+    pub(crate) fn len(&self) -> usize
+        ensures { result ≡ length self.now }
+    {
+        self.places.len()
+    }
+
+    /// The key at a place in their order, where the list goes so far.
+    #[inline(always)]
+    pub(crate) fn get(&self, at: usize) -> Option<usize>
+        ensures { result ≡ slice_get self.now at }
+    {
+        key_at(self.starts, self.places, at)
+    }
+}
+
 /// Makes room for one more key.
 #[inline(always)]
 fn make_room(starts: &mut Vec<usize>, places: &mut SmallVec<usize, 6>) -> Result<(), AllocError>
     requires { HasBlocks starts.old.items (small_vec_len places.old) }
     ensures blocks { HasBlocks starts.new.items (small_vec_len places.new) }
     ensures room { OnOk result (HasRoomBehind starts.new.items places.new) }
-    ensures same { turned 1024 starts.new.items places.new.items ≡ turned 1024 starts.old.items places.old.items }
+    ensures same { turned starts.new.items places.new.items
+        ≡ turned starts.old.items places.old.items }
 {
     let behind = places.len() - starts.len() * BLOCK;
     if places.len() == places.capacity() || behind == BLOCK {
@@ -168,7 +227,8 @@ fn grow(starts: &mut Vec<usize>, places: &mut SmallVec<usize, 6>) -> Result<(), 
     requires { HasBlocks starts.old.items (small_vec_len places.old) }
     ensures blocks { HasBlocks starts.new.items (small_vec_len places.new) }
     ensures room { OnOk result (HasRoomBehind starts.new.items places.new) }
-    ensures same { turned 1024 starts.new.items places.new.items ≡ turned 1024 starts.old.items places.old.items }
+    ensures same { turned starts.new.items places.new.items
+        ≡ turned starts.old.items places.old.items }
 {
     places.reserve(1)?;
     if places.len() - starts.len() * BLOCK == BLOCK {
@@ -185,7 +245,8 @@ fn put(starts: &mut Vec<usize>, places: &mut SmallVec<usize, 6>, place: usize, k
     requires room { HasRoomBehind starts.old.items places.old }
     requires within { place ≤ small_vec_len places.old }
     ensures blocks { HasBlocks starts.new.items (small_vec_len places.new) }
-    ensures put { turned 1024 starts.new.items places.new.items ≡ insert (turned 1024 starts.old.items places.old.items) place key }
+    ensures put { turned starts.new.items places.new.items
+        ≡ insert (turned starts.old.items places.old.items) place key }
 {
     if place / BLOCK >= starts.len() {
         put_plain(places, place, key);
@@ -199,9 +260,10 @@ fn put(starts: &mut Vec<usize>, places: &mut SmallVec<usize, 6>, place: usize, k
 fn put_within(starts: &mut Vec<usize>, places: &mut SmallVec<usize, 6>, place: usize, key: usize)
     requires blocks { HasBlocks starts.old.items (small_vec_len places.old) }
     requires room { HasRoomBehind starts.old.items places.old }
-    requires within { place < 1024 * length starts.old.items }
+    requires within { place < 2000 * length starts.old.items }
     ensures blocks { HasBlocks starts.new.items (small_vec_len places.new) }
-    ensures put { turned 1024 starts.new.items places.new.items ≡ insert (turned 1024 starts.old.items places.old.items) place key }
+    ensures put { turned starts.new.items places.new.items
+        ≡ insert (turned starts.old.items places.old.items) place key }
 {
     let last = push_through(starts.as_mut_slice(), places.as_mut_slice(), place, key);
     put_plain(places, starts.len() * BLOCK, last);
@@ -211,7 +273,8 @@ fn put_within(starts: &mut Vec<usize>, places: &mut SmallVec<usize, 6>, place: u
 fn take_out(starts: &mut Vec<usize>, places: &mut SmallVec<usize, 6>, place: usize)
     requires { HasBlocks starts.old.items (small_vec_len places.old) }
     ensures blocks { HasBlocks starts.new.items (small_vec_len places.new) }
-    ensures taken { turned 1024 starts.new.items places.new.items ≡ remove (turned 1024 starts.old.items places.old.items) place }
+    ensures taken { turned starts.new.items places.new.items
+        ≡ remove (turned starts.old.items places.old.items) place }
 {
     if place >= places.len() {
         return;
@@ -231,8 +294,9 @@ fn take_out(starts: &mut Vec<usize>, places: &mut SmallVec<usize, 6>, place: usi
 fn pop(starts: &mut Vec<usize>, places: &mut SmallVec<usize, 6>) -> Option<usize>
     requires { HasBlocks starts.old.items (small_vec_len places.old) }
     ensures blocks { HasBlocks starts.new.items (small_vec_len places.new) }
-    ensures last { turned 1024 starts.old.items places.old.items ≡ turned 1024 starts.new.items places.new.items ++ option_to_list result }
-    ensures none { IfNone result (turned 1024 starts.old.items places.old.items ≡ []) }
+    ensures last { turned starts.old.items places.old.items
+        ≡ turned starts.new.items places.new.items ++ option_to_list result }
+    ensures none { IfNone result (turned starts.old.items places.old.items ≡ []) }
 {
     settle(starts, places);
     places.pop()
@@ -244,8 +308,10 @@ fn settle(starts: &mut Vec<usize>, places: &mut SmallVec<usize, 6>)
     requires { HasBlocks starts.old.items (small_vec_len places.old) }
     ensures blocks { HasBlocks starts.new.items (small_vec_len places.new) }
     ensures len { small_vec_len places.new ≡ small_vec_len places.old }
-    ensures behind { 0 < small_vec_len places.new → 1024 * length starts.new.items < small_vec_len places.new }
-    ensures same { turned 1024 starts.new.items places.new.items ≡ turned 1024 starts.old.items places.old.items }
+    ensures behind { 0 < small_vec_len places.new
+        → 2000 * length starts.new.items < small_vec_len places.new }
+    ensures same { turned starts.new.items places.new.items
+        ≡ turned starts.old.items places.old.items }
     ensures capacity { places.new.capacity ≡ places.old.capacity }
 {
     if places.len() == starts.len() * BLOCK {
@@ -260,7 +326,7 @@ fn settle(starts: &mut Vec<usize>, places: &mut SmallVec<usize, 6>)
 #[inline(always)]
 fn key_at(starts: &[usize], places: &[usize], at: usize) -> Option<usize>
     requires { HasBlocks starts.now (length places.now) }
-    ensures { result ≡ slice_get (turned 1024 starts.now places.now) at }
+    ensures { result ≡ slice_get (turned starts.now places.now) at }
 {
     if at >= places.len() {
         return None;
@@ -272,46 +338,45 @@ fn key_at(starts: &[usize], places: &[usize], at: usize) -> Option<usize>
     Some(places[block * BLOCK + (starts[block] + at % BLOCK) % BLOCK])
 }
 
-/// Puts a key into its place in the blocks, from each of which the last key goes on to the next, and tells the last of all.
+/// Puts a key into its place in the blocks, and tells the last of all. The last of each block goes on to the next.
 fn push_through(starts: &mut [usize], places: &mut [usize], place: usize, key: usize) -> usize
     requires blocks { HasBlocks starts.old (length places.old) }
-    requires within { place < 1024 * length starts.old }
+    requires within { place < 2000 * length starts.old }
     ensures blocks { HasBlocks starts.new (length places.new) }
-    ensures len { (length starts.new ≡ length starts.old) × (length places.new ≡ length places.old) }
-    ensures put { insert (turned 1024 starts.new places.new) (1024 * length starts.new) result
-        ≡ insert (turned 1024 starts.old places.old) place key }
+    ensures put { insert (turned starts.new places.new) (2000 * length starts.new) result
+        ≡ insert (turned starts.old places.old) place key }
 {
     let mut block = place / BLOCK;
-    let mut carried = open_at(starts, places, block, place % BLOCK, key);
+    let mut carried = put_in_block(starts, places, block, place % BLOCK, key);
     block += 1;
     while block < starts.len() {
-        carried = push_in_front(starts, places, block, carried);
+        carried = put_in_block(starts, places, block, 0, carried);
         block += 1;
     }
     carried
 }
 
-/// Takes the key at a place in the blocks out. Into each block from there on comes the first key of the next, and a key into the last.
+/// Takes the key at a place in the blocks out. A key comes behind them, and the first of each block goes on to the one before.
 fn pull_through(starts: &mut [usize], places: &mut [usize], place: usize, key: usize) -> usize
     requires blocks { HasBlocks starts.old (length places.old) }
-    requires within { place < 1024 * length starts.old }
+    requires within { place < 2000 * length starts.old }
     ensures blocks { HasBlocks starts.new (length places.new) }
-    ensures len { (length starts.new ≡ length starts.old) × (length places.new ≡ length places.old) }
-    ensures taken { insert (turned 1024 starts.new places.new) place result
-        ≡ insert (turned 1024 starts.old places.old) (1024 * length starts.old) key }
+    ensures taken { insert (turned starts.new places.new) place result
+        ≡ insert (turned starts.old places.old) (2000 * length starts.old) key }
 {
     let first = place / BLOCK;
     let mut block = starts.len() - 1;
     let mut carried = key;
     while block > first {
-        carried = pull_from_front(starts, places, block, carried);
+        carried = take_from_block(starts, places, block, 0, carried);
         block -= 1;
     }
-    close_at(starts, places, first, place % BLOCK, carried)
+    take_from_block(starts, places, first, place % BLOCK, carried)
 }
 
 /// Puts a key into a place in a block, and tells the last, which leaves the block.
-fn open_at(
+#[inline(always)]
+fn put_in_block(
     starts: &mut [usize],
     places: &mut [usize],
     block: usize,
@@ -319,14 +384,20 @@ fn open_at(
     key: usize,
 ) -> usize
     requires blocks { HasBlocks starts.old (length places.old) }
-    requires within { (block < length starts.old) × (place < 1024) }
+    requires within { (block < length starts.old) × (place < 2000) }
     ensures blocks { HasBlocks starts.new (length places.new) }
-    ensures len { (length starts.new ≡ length starts.old) × (length places.new ≡ length places.old) }
-    ensures put { insert (turned 1024 starts.new places.new) (1024 * suc block) result
-        ≡ insert (turned 1024 starts.old places.old) (1024 * block + place) key }
+    ensures put { insert (turned starts.new places.new) (2000 * suc block) result
+        ≡ insert (turned starts.old places.old) (2000 * block + place) key }
 {
     let low = block * BLOCK;
     let keys = &mut places[low..low + BLOCK];
+    if place == 0 {
+        let start = (starts[block] + BLOCK - 1) % BLOCK;
+        starts[block] = start;
+        let last = keys[start];
+        keys[start] = key;
+        return last;
+    }
     keys.rotate_left(starts[block]);
     starts[block] = 0;
     open(keys, place, key)
@@ -345,7 +416,8 @@ fn open(keys: &mut [usize], place: usize, key: usize) -> usize
 }
 
 /// Takes the key at a place in a block out. A key comes behind the others.
-fn close_at(
+#[inline(always)]
+fn take_from_block(
     starts: &mut [usize],
     places: &mut [usize],
     block: usize,
@@ -353,15 +425,21 @@ fn close_at(
     key: usize,
 ) -> usize
     requires blocks { HasBlocks starts.old (length places.old) }
-    requires within { (block < length starts.old) × (place < 1024) }
+    requires within { (block < length starts.old) × (place < 2000) }
     ensures blocks { HasBlocks starts.new (length places.new) }
-    ensures len { (length starts.new ≡ length starts.old) × (length places.new ≡ length places.old) }
-    ensures taken { insert (turned 1024 starts.new places.new) (1024 * block + place) result
-        ≡ insert (turned 1024 starts.old places.old) (1024 * suc block) key }
+    ensures taken { insert (turned starts.new places.new) (2000 * block + place) result
+        ≡ insert (turned starts.old places.old) (2000 * suc block) key }
 {
     let low = block * BLOCK;
     let keys = &mut places[low..low + BLOCK];
-    keys.rotate_left(starts[block]);
+    let start = starts[block];
+    if place == 0 {
+        starts[block] = (start + 1) % BLOCK;
+        let first = keys[start];
+        keys[start] = key;
+        return first;
+    }
+    keys.rotate_left(start);
     starts[block] = 0;
     close(keys, place, key)
 }
@@ -376,44 +454,6 @@ fn close(keys: &mut [usize], place: usize, key: usize) -> usize
     keys.copy_within(place + 1..end, place);
     keys[end - 1] = key;
     taken
-}
-
-/// Puts a key before the others of a block, and tells the last, which leaves the block.
-#[inline(always)]
-fn push_in_front(starts: &mut [usize], places: &mut [usize], block: usize, key: usize) -> usize
-    requires blocks { HasBlocks starts.old (length places.old) }
-    requires within { block < length starts.old }
-    ensures blocks { HasBlocks starts.new (length places.new) }
-    ensures len { (length starts.new ≡ length starts.old) × (length places.new ≡ length places.old) }
-    ensures put { insert (turned 1024 starts.new places.new) (1024 * suc block) result
-        ≡ insert (turned 1024 starts.old places.old) (1024 * block) key }
-{
-    let low = block * BLOCK;
-    let keys = &mut places[low..low + BLOCK];
-    let start = (starts[block] + BLOCK - 1) % BLOCK;
-    starts[block] = start;
-    let last = keys[start];
-    keys[start] = key;
-    last
-}
-
-/// Takes the first key out of a block. A key comes behind the others.
-#[inline(always)]
-fn pull_from_front(starts: &mut [usize], places: &mut [usize], block: usize, key: usize) -> usize
-    requires blocks { HasBlocks starts.old (length places.old) }
-    requires within { block < length starts.old }
-    ensures blocks { HasBlocks starts.new (length places.new) }
-    ensures len { (length starts.new ≡ length starts.old) × (length places.new ≡ length places.old) }
-    ensures taken { insert (turned 1024 starts.new places.new) (1024 * block) result
-        ≡ insert (turned 1024 starts.old places.old) (1024 * suc block) key }
-{
-    let low = block * BLOCK;
-    let keys = &mut places[low..low + BLOCK];
-    let start = starts[block];
-    starts[block] = (start + 1) % BLOCK;
-    let first = keys[start];
-    keys[start] = key;
-    first
 }
 
 /// Takes a key out of a list where it is the last, and tells its place.

@@ -2,12 +2,11 @@
 ghost use Rattle.std.specs.Prelude.{◌≡◌, ◌≤◌, length, Some};
 ghost use Rattle.std.specs.List.{remove};
 ghost use Rattle.slab.specs.Slab.{get};
-ghost use Rattle.std.specs.Option.{option_copied};
-ghost use Rattle.tq_locks.specs.Keys.{keys_in};
+ghost use Rattle.tq_locks.specs.Keys.{lent_keys};
 ghost use Rattle.tq_locks.specs.Kept.{is_under, is_under_at, RisesTo};
 
 use crate::LockEntry;
-use crate::keys::Keys;
+use crate::keys::{Keys, LentKeys};
 use crate::lock_slab::LockSlab;
 use std::cmp::Ordering;
 use tq_store::FileName;
@@ -29,8 +28,14 @@ fn is_below(entries: &LockSlab, key: usize, file: &FileName, txn: u64) -> bool
 
 /// Whether the entry under the key at a place of the list comes before the place of this file and transaction.
 #[inline(always)]
-fn is_below_at(entries: &LockSlab, keys: &Keys, at: usize, file: &FileName, txn: u64) -> bool
-    ensures { result ≡ is_under_at entries.now (file.now, txn) keys.now.items at }
+fn is_below_at(
+    entries: &LockSlab,
+    keys: &LentKeys<'_>,
+    at: usize,
+    file: &FileName,
+    txn: u64,
+) -> bool
+    ensures { result ≡ is_under_at entries.now (file.now, txn) keys.now at }
 {
     match keys.get(at) {
         Some(key) => is_below(entries, key, file, txn),
@@ -41,8 +46,8 @@ fn is_below_at(entries: &LockSlab, keys: &Keys, at: usize, file: &FileName, txn:
 /// The place of this file and transaction among keys whose entries rise.
 #[inline(always)]
 pub(crate) fn place(entries: &LockSlab, list: Option<&Keys>, file: &FileName, txn: u64) -> usize
-    ensures within { result ≤ length (keys_in (option_copied list.entry)) }
-    ensures place { RisesTo entries.now (keys_in (option_copied list.entry)) (file.now, txn) result }
+    ensures within { result ≤ length (lent_keys list.entry) }
+    ensures place { RisesTo entries.now (lent_keys list.entry) (file.now, txn) result }
 {
     let Some(keys) = list else {
         return 0;
@@ -50,14 +55,14 @@ pub(crate) fn place(entries: &LockSlab, list: Option<&Keys>, file: &FileName, tx
     if keys.len() == 0 {
         return 0;
     }
-    place_within(entries, keys, file, txn)
+    place_within(entries, &keys.lend(), file, txn)
 }
 
 /// The same, where the list may be long.
 #[inline(never)]
-fn place_within(entries: &LockSlab, keys: &Keys, file: &FileName, txn: u64) -> usize
-    ensures within { result ≤ length keys.now.items }
-    ensures place { RisesTo entries.now keys.now.items (file.now, txn) result }
+fn place_within(entries: &LockSlab, keys: &LentKeys<'_>, file: &FileName, txn: u64) -> usize
+    ensures within { result ≤ length keys.now }
+    ensures place { RisesTo entries.now keys.now (file.now, txn) result }
 {
     let mut low = 0;
     let mut high = keys.len();
@@ -95,7 +100,7 @@ fn leave_within(keys: &mut Keys, entries: &LockSlab, entry: &LockEntry, key: usi
     ensures place { RisesTo entries.now keys.old.items entry.now.0 result }
     ensures after { keys.new.items ≡ remove keys.old.items result }
 {
-    let place = place_within(entries, keys, &entry.file, entry.txn);
+    let place = place_within(entries, &keys.lend(), &entry.file, entry.txn);
     keys.take_out(place);
     place
 }

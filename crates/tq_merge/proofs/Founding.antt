@@ -27,7 +27,7 @@ use Rattle.tq_world.specs.Founded.{is_founded_grant, is_founded_vote, is_founded
 use Rattle.tq_shape.specs.Steps.{or_else}
 use Rattle.tq_world.proofs.Contents.{tested-is}
 use Rattle.tq_merge.specs.Cited.{cited_in, cited_in_ops}
-use Rattle.tq_merge.specs.Order.{firsts, unfounded}
+use Rattle.tq_merge.specs.Order.{firsts, unfounded_citation}
 use Rattle.tq_merge.proofs.Places.{first_item, item_first, item_each}
 
 -- ---- the entries that are cited
@@ -123,7 +123,7 @@ module _ (world other : JournalsView) where
   work_stays (work.Release txn) stay none = refl
   work_stays (work.Peek file) stay none = refl
 
-  pub founded_stays : (step : Step) → ((c : Citation) → Has (cited_in step) c → Stays world other c) → unfounded world step ≡ None → unfounded other step ≡ None
+  pub founded_stays : (step : Step) → ((c : Citation) → Has (cited_in step) c → Stays world other c) → unfounded_citation world step ≡ None → unfounded_citation other step ≡ None
   founded_stays (steps.Node server (node_asks.Work ask)) stay none = work_stays ask stay none
   founded_stays (steps.Node server node_asks.Crash) stay none = refl
   founded_stays (steps.Node server node_asks.Return) stay none = refl
@@ -179,7 +179,7 @@ module _ (world : JournalsView) where
   work_stands (work.Release txn) none c has = absurd has
   work_stands (work.Peek file) none c has = absurd has
 
-  pub cited_stands : (step : Step) → unfounded world step ≡ None → (c : Citation) → Has (cited_in step) c → Stands world c
+  pub cited_stands : (step : Step) → unfounded_citation world step ≡ None → (c : Citation) → Has (cited_in step) c → Stands world c
   cited_stands (steps.Node server (node_asks.Work ask)) none c has = work_stands ask none c has
   cited_stands (steps.Node server node_asks.Crash) none c has = absurd has
   cited_stands (steps.Node server node_asks.Return) none c has = absurd has
@@ -232,7 +232,7 @@ module _ (journals : JournalsView) where
       item_first journals.view (other parts.View) number e there.0 (omega (arith, there.1, less))
 
   -- what is founded in the first entries is founded in more of them
-  pub founded_more : (count other : Part → ℕ) (step : Step) → ((part : Part) → count part ≤ other part) → unfounded (firsts journals count) step ≡ None → unfounded (firsts journals other) step ≡ None
+  pub founded_more : (count other : Part → ℕ) (step : Step) → ((part : Part) → count part ≤ other part) → unfounded_citation (firsts journals count) step ≡ None → unfounded_citation (firsts journals other) step ≡ None
   founded_more count other step less none = founded_stays (firsts journals count) (firsts journals other) step (λ c has. more_stays count other c.part c.number (less c.part)) none
 
   whole_stays : (count : Part → ℕ) (part : Part) (number : ℕ) → StaysAt (firsts journals count) journals part number
@@ -251,11 +251,11 @@ module _ (journals : JournalsView) where
   first_stands count parts.View number stands = absurd stands
 
   -- A step is founded in the first entries exactly where it is founded in all of them and cites these alone.
-  pub founded_whole : (count : Part → ℕ) (step : Step) → unfounded (firsts journals count) step ≡ None → unfounded journals step ≡ None
+  pub founded_whole : (count : Part → ℕ) (step : Step) → unfounded_citation (firsts journals count) step ≡ None → unfounded_citation journals step ≡ None
   founded_whole count step none = founded_stays (firsts journals count) journals step (λ c has. whole_stays count c.part c.number) none
 
-  pub founded_cites : (count : Part → ℕ) (step : Step) → unfounded (firsts journals count) step ≡ None → (c : Citation) → Has (cited_in step) c → c.number ≤ count c.part
+  pub founded_cites : (count : Part → ℕ) (step : Step) → unfounded_citation (firsts journals count) step ≡ None → (c : Citation) → Has (cited_in step) c → c.number ≤ count c.part
   founded_cites count step none c has = first_stands count c.part c.number (cited_stands (firsts journals count) step none c has)
 
-  pub founded_firsts : (count : Part → ℕ) (step : Step) → unfounded journals step ≡ None → ((c : Citation) → Has (cited_in step) c → c.number ≤ count c.part) → unfounded (firsts journals count) step ≡ None
+  pub founded_firsts : (count : Part → ℕ) (step : Step) → unfounded_citation journals step ≡ None → ((c : Citation) → Has (cited_in step) c → c.number ≤ count c.part) → unfounded_citation (firsts journals count) step ≡ None
   founded_firsts count step none most = founded_stays journals (firsts journals count) step (λ c has. first_stays count c.part c.number (most c has)) none

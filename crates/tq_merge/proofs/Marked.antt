@@ -11,7 +11,7 @@ use Rattle.tq_shape.specs.Journal.{Has}
 use Rattle.tq_shape.specs.declared.part.Part.{Part}
 use Rattle.tq_shape.specs.declared.part.Part.TheVariants.{Server, Desk, View}
 use Rattle.tq_merge.specs.declared.name.EntryName.{EntryName}
-use Rattle.tq_merge.specs.EntryNames.{place_of, part_at, is_named, unnamed, unnamed_from, AreDifferent, IsTwice, IsWithin}
+use Rattle.tq_merge.specs.EntryNames.{place_of, part_at, is_named, unnamed_count, unnamed_from, AreDifferent, IsTwice, IsWithin}
 use Rattle.tq_merge.specs.Order.{same_part}
 use Rattle.tq_merge.proofs.LastNumbers.{splits}
 use Rattle.tq_merge.proofs.NamePlaces.{has_push, same_place, counted}
@@ -155,7 +155,7 @@ different_more (n ∷ seen) name different fresh = (
 -- ---- how many are not named
 
 unnamed_so_far : (names : List EntryName) (part : Part) (marks : List Bool) (n : ℕ) → n ≤ length marks
-    → ((index : ℕ) → index < length marks → get_or marks index false ≡ is_named names part (suc index)) → count_by not (take n marks) ≡ unnamed names part n
+    → ((index : ℕ) → index < length marks → get_or marks index false ≡ is_named names part (suc index)) → count_by not (take n marks) ≡ unnamed_count names part n
 unnamed_so_far names part marks zero within marked = refl
 unnamed_so_far names part marks (suc n) within marked =
     let before = unnamed_so_far names part marks n (omega arith) marked in
@@ -163,25 +163,25 @@ unnamed_so_far names part marks (suc n) within marked =
     let at_suc : count_by not (take (suc n) marks) ≡ count_by not (take (n + 1) marks) = ap (λ (k : ℕ). count_by not (take k marks)) (let up : suc n ≡ n + 1 = omega arith in up) in
     elim (cases_Bool (is_named names part (suc n))) [
       | inl named ↦
-          at_suc ∙ count_by_more_no not marks n false (omega arith) (ap not (there ∙ named)) ∙ before ∙ sym (ap (λ (b : Bool). unnamed names part n + cond b 0 1) named ∙ (let none : unnamed names part n + 0 ≡ unnamed names part n = omega arith in none))
+          at_suc ∙ count_by_more_no not marks n false (omega arith) (ap not (there ∙ named)) ∙ before ∙ sym (ap (λ (b : Bool). unnamed_count names part n + cond b 0 1) named ∙ (let none : unnamed_count names part n + 0 ≡ unnamed_count names part n = omega arith in none))
       | inr not_named ↦
-          at_suc ∙ count_by_more_yes not marks n false (omega arith) (ap not (there ∙ not_named)) ∙ ap (λ (k : ℕ). k + 1) before ∙ sym (ap (λ (b : Bool). unnamed names part n + cond b 0 1) not_named)
+          at_suc ∙ count_by_more_yes not marks n false (omega arith) (ap not (there ∙ not_named)) ∙ ap (λ (k : ℕ). k + 1) before ∙ sym (ap (λ (b : Bool). unnamed_count names part n + cond b 0 1) not_named)
     ]
 
 unnamed_at : (names : List EntryName) (part : Part) (marks : List Bool) (count : ℕ) → length marks ≡ count
-    → ((index : ℕ) → index < count → get_or marks index false ≡ is_named names part (suc index)) → count_by not marks ≡ unnamed names part count
+    → ((index : ℕ) → index < count → get_or marks index false ≡ is_named names part (suc index)) → count_by not marks ≡ unnamed_count names part count
 unnamed_at names part marks count many marked =
     ap (count_by not) (sym (take_all count marks (omega (arith, many))))
     ∙ unnamed_so_far names part marks count (omega (arith, many)) (λ index within. marked index (omega (arith, many, within)))
 
 unnamed_sum : (names : List EntryName) (place : ℕ) (counts : List ℕ) (marks : List (List Bool)) → length marks ≡ length counts
-    → ((k : ℕ) → count_by not (get_or marks k []) ≡ unnamed names (part_at (place + k)) (get_or counts k 0)) → sum_by (count_by not) marks ≡ unnamed_from names place counts
+    → ((k : ℕ) → count_by not (get_or marks k []) ≡ unnamed_count names (part_at (place + k)) (get_or counts k 0)) → sum_by (count_by not) marks ≡ unnamed_from names place counts
 unnamed_sum names place [] [] many each = refl
 unnamed_sum names place [] (m ∷ marks) many each = absurd (omega (arith, many))
 unnamed_sum names place (c ∷ counts) [] many each = absurd (omega (arith, many))
 unnamed_sum names place (c ∷ counts) (m ∷ marks) many each =
-    let first : count_by not m ≡ unnamed names (part_at place) c = each 0 ∙ ap (λ (k : ℕ). unnamed names (part_at k) c) (let none : place + 0 ≡ place = omega arith in none) in
-    let rest = unnamed_sum names (suc place) counts marks (omega (arith, many)) (λ k. each (suc k) ∙ ap (λ (n : ℕ). unnamed names (part_at n) (get_or counts k 0)) (let up : place + suc k ≡ suc place + k = omega arith in up)) in
+    let first : count_by not m ≡ unnamed_count names (part_at place) c = each 0 ∙ ap (λ (k : ℕ). unnamed_count names (part_at k) c) (let none : place + 0 ≡ place = omega arith in none) in
+    let rest = unnamed_sum names (suc place) counts marks (omega (arith, many)) (λ k. each (suc k) ∙ ap (λ (n : ℕ). unnamed_count names (part_at n) (get_or counts k 0)) (let up : place + suc k ≡ suc place + k = omega arith in up)) in
     sum_by-cons (count_by not) m marks ∙ (λ i. first i + rest i)
 
 pub unnamed_is : (names : List EntryName) (counts : List ℕ) (marks : List (List Bool)) → KeepsMarks counts marks names → sum_by (count_by not) marks ≡ unnamed_from names 0 counts
@@ -190,7 +190,7 @@ unnamed_is names counts marks keeps =
     (λ k.
     let at = place-part_at k in
     let none : 0 + k ≡ k = omega arith in
-    subst (λ (n : ℕ). count_by not (get_or marks k []) ≡ unnamed names (part_at n) (get_or counts k 0)) (sym none)
+    subst (λ (n : ℕ). count_by not (get_or marks k []) ≡ unnamed_count names (part_at n) (get_or counts k 0)) (sym none)
     (unnamed_at names (part_at k) (get_or marks k []) (get_or counts k 0) (keeps.so_many k)
     (λ index within.
     ap (λ (n : ℕ). get_or (get_or marks n []) index false) (sym at) ∙ keeps.marked (part_at k) index (subst (λ (n : ℕ). index < get_or counts n 0) (sym at) within))))

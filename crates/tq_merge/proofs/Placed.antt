@@ -22,8 +22,8 @@ use Rattle.tq_world.specs.declared.citation.Citation.{Citation}
 use Rattle.tq_world.specs.World.{item_at, server_entry}
 use Rattle.tq_world.specs.Founded.{cited_in_work, unfounded_in_node_ask, unfounded_in_desk_ask}
 use Rattle.tq_merge.specs.Cited.{cited_in, cited_in_node_ask, entry_cited}
-use Rattle.tq_merge.specs.Order.{times, each_from, counts_of, placed, step_at, unfounded, IsNext}
-use Rattle.tq_merge.specs.Placing.{is_placed, is_citation_placed, is_placed_in_node_ask, is_ready, IsWanted, IsNextWanted, IsPlacing, added, left}
+use Rattle.tq_merge.specs.Order.{times, each_from, counts_of, placed_journals, step_at, unfounded_citation, IsNext}
+use Rattle.tq_merge.specs.Placing.{is_placed, is_citation_placed, is_placed_in_node_ask, is_ready, IsWanted, IsNextWanted, IsPlacing, sum_of, entries_left}
 use Rattle.tq_merge.proofs.Places.{times-more, times-same, times-other, item_at-suc, item_each, each_set, each_after, each_same, take_none, take_past}
 use Rattle.tq_world.proofs.Rooms.{item_above}
 use Rattle.tq_merge.proofs.Founding.{cited_stands, entry_of_firsts, founded_whole, founded_cites, founded_firsts}
@@ -60,9 +60,9 @@ module _ (journals : JournalsView) (order : List Part) (servers : List ℕ) (cou
       ∙ le-true entry.number (times order (parts.Server entry.server)) most
 
   -- an entry of a server that is cited by what is founded is placed
-  pub cited_placed : (step : Step) → unfounded (placed journals order) step ≡ None → (entry : CitedVote) → Has (cited_in step) (entry_cited entry) → is_placed servers entry ≡ true
+  pub cited_placed : (step : Step) → unfounded_citation (placed_journals journals order) step ≡ None → (entry : CitedVote) → Has (cited_in step) (entry_cited entry) → is_placed servers entry ≡ true
   cited_placed step none entry has =
-      let stands = cited_stands (placed journals order) step none (entry_cited entry) has in
+      let stands = cited_stands (placed_journals journals order) step none (entry_cited entry) has in
       let there = (entry_of_firsts journals (times order) entry.server entry.number stands.0 stands.1).0 in
       let found = chained (λ (es : List NodeEntry). item_at es entry.number) (item_at journals.servers entry.server) stands.0 there in
       number_placed entry found.0 found.1 (founded_cites journals (times order) step none (entry_cited entry) has)
@@ -86,12 +86,12 @@ module _ (journals : JournalsView) (order : List Part) (servers : List ℕ) (cou
   node_numbers desk is node_asks.Return ready c has = absurd has
   node_numbers desk is (node_asks.CrashIn after ask) ready c has = work_numbers desk is ask ready c has
 
-  pub ready_founded : (desk : ℕ) → desk ≡ times order parts.Desk → (server : ℕ) (ask : NodeAsk) → is_ready journals servers desk ask ≡ true → unfounded (placed journals order) (steps.Node server ask) ≡ None
+  pub ready_founded : (desk : ℕ) → desk ≡ times order parts.Desk → (server : ℕ) (ask : NodeAsk) → is_ready journals servers desk ask ≡ true → unfounded_citation (placed_journals journals order) (steps.Node server ask) ≡ None
   ready_founded desk is server ask ready =
       let halves = and_parts (is_placed_in_node_ask servers desk ask) (is_none (unfounded_in_node_ask journals ask)) ready in
       founded_firsts journals (times order) (steps.Node server ask) (none_true (unfounded_in_node_ask journals ask) halves.1) (node_numbers desk is ask halves.0)
 
-  work_placed : (desk : ℕ) → desk ≡ times order parts.Desk → (server : ℕ) (ask : WorkAsk) → unfounded (placed journals order) (steps.Node server (node_asks.Work ask)) ≡ None → option_map_or (is_citation_placed servers desk) (cited_in_work ask) true ≡ true
+  work_placed : (desk : ℕ) → desk ≡ times order parts.Desk → (server : ℕ) (ask : WorkAsk) → unfounded_citation (placed_journals journals order) (steps.Node server (node_asks.Work ask)) ≡ None → option_map_or (is_citation_placed servers desk) (cited_in_work ask) true ≡ true
   work_placed desk is server (work.Decide txn verdict cite) none =
       let most = founded_cites journals (times order) (steps.Node server (node_asks.Work (work.Decide txn verdict cite))) none (record { part = parts.Desk; number = cite }) (inl refl) in
       le-true cite desk (omega (arith, most, is))
@@ -101,13 +101,13 @@ module _ (journals : JournalsView) (order : List Part) (servers : List ℕ) (cou
   work_placed desk is server (work.Release txn) none = refl
   work_placed desk is server (work.Peek file) none = refl
 
-  node_placed : (desk : ℕ) → desk ≡ times order parts.Desk → (server : ℕ) (ask : NodeAsk) → unfounded (placed journals order) (steps.Node server ask) ≡ None → is_placed_in_node_ask servers desk ask ≡ true
+  node_placed : (desk : ℕ) → desk ≡ times order parts.Desk → (server : ℕ) (ask : NodeAsk) → unfounded_citation (placed_journals journals order) (steps.Node server ask) ≡ None → is_placed_in_node_ask servers desk ask ≡ true
   node_placed desk is server (node_asks.Work ask) none = work_placed desk is server ask none
   node_placed desk is server node_asks.Crash none = refl
   node_placed desk is server node_asks.Return none = refl
   node_placed desk is server (node_asks.CrashIn after ask) none = work_placed desk is server ask none
 
-  pub founded_ready : (desk : ℕ) → desk ≡ times order parts.Desk → (server : ℕ) (ask : NodeAsk) → unfounded (placed journals order) (steps.Node server ask) ≡ None → is_ready journals servers desk ask ≡ true
+  pub founded_ready : (desk : ℕ) → desk ≡ times order parts.Desk → (server : ℕ) (ask : NodeAsk) → unfounded_citation (placed_journals journals order) (steps.Node server ask) ≡ None → is_ready journals servers desk ask ≡ true
   founded_ready desk is server ask none =
       and_from (is_placed_in_node_ask servers desk ask) (is_none (unfounded_in_node_ask journals ask))
       (node_placed desk is server ask none) (ap is_none (founded_whole journals (times order) (steps.Node server ask) none))
@@ -115,17 +115,17 @@ module _ (journals : JournalsView) (order : List Part) (servers : List ℕ) (cou
   -- ---- a desk's ask is founded exactly where all that it cites stands, and is placed
 
   pub wanted_founded : (stands : Bool) (wanted : List CitedVote) (e : DeskEntry) → IsWanted journals stands wanted e → stands ≡ true
-      → ((entry : CitedVote) → Has wanted entry → entry.number ≤ times order (parts.Server entry.server)) → unfounded (placed journals order) (steps.Desk e.ask) ≡ None
+      → ((entry : CitedVote) → Has wanted entry → entry.number ≤ times order (parts.Server entry.server)) → unfounded_citation (placed_journals journals order) (steps.Desk e.ask) ≡ None
   wanted_founded stands wanted e is holds seen =
       founded_firsts journals (times order) (steps.Desk e.ask) (none_true (unfounded_in_desk_ask journals e.ask) (sym is.stand ∙ holds))
       (λ c has.
       let from = Has-map entry_cited wanted c (subst (λ (cs : List Citation). Has cs c) (sym is.cited) has) in
       subst (λ (x : Citation). x.number ≤ times order x.part) from.2 (seen from.0 from.1))
 
-  pub founded_stand : (stands : Bool) (wanted : List CitedVote) (e : DeskEntry) → IsWanted journals stands wanted e → unfounded (placed journals order) (steps.Desk e.ask) ≡ None → stands ≡ true
+  pub founded_stand : (stands : Bool) (wanted : List CitedVote) (e : DeskEntry) → IsWanted journals stands wanted e → unfounded_citation (placed_journals journals order) (steps.Desk e.ask) ≡ None → stands ≡ true
   founded_stand stands wanted e is none = is.stand ∙ ap is_none (founded_whole journals (times order) (steps.Desk e.ask) none)
 
-  pub founded_met : (stands : Bool) (wanted : List CitedVote) (e : DeskEntry) → IsWanted journals stands wanted e → unfounded (placed journals order) (steps.Desk e.ask) ≡ None
+  pub founded_met : (stands : Bool) (wanted : List CitedVote) (e : DeskEntry) → IsWanted journals stands wanted e → unfounded_citation (placed_journals journals order) (steps.Desk e.ask) ≡ None
       → (entry : CitedVote) → Has wanted entry → is_placed servers entry ≡ true
   founded_met stands wanted e is none entry has =
       cited_placed (steps.Desk e.ask) none entry (subst (λ (cs : List Citation). Has cs (entry_cited entry)) is.cited (map-Has entry_cited wanted entry has))
@@ -133,14 +133,14 @@ module _ (journals : JournalsView) (order : List Part) (servers : List ℕ) (cou
 -- ---- what is left
 
 each_sum : {A : Type 0} (f g : ℕ → A → ℕ) (first : ℕ) (items : List A) (place : ℕ) (x : A) → slice_get items place ≡ Some x → suc (g (first + place) x) ≡ f (first + place) x
-    → ((number : ℕ) (y : A) → number ≢ first + place → f number y ≡ g number y) → suc (added (each_from g first items)) ≡ added (each_from f first items)
+    → ((number : ℕ) (y : A) → number ≢ first + place → f number y ≡ g number y) → suc (sum_of (each_from g first items)) ≡ sum_of (each_from f first items)
 each_sum {A} f g first [] place x is less same = absurd (let none : Path (Option A) None (Some x) = is in cc)
 each_sum {A} f g first (y ∷ items) zero x is less same =
     let same_item : x ≡ y = (let some : Path (Option A) (Some y) (Some x) = is in let e : x ≡ y = cc in e) in
     let at : first + 0 ≡ first = omega arith in
     let one : suc (g first y) ≡ f first y = (λ i. suc (g (sym at i) (sym same_item i))) ∙ less ∙ (λ i. f (at i) (same_item i)) in
-    let rest = ap added (each_after f g (first + 0) (first + 1) items (omega arith) same) in
-    sum_step (g first y) (f first y) (added (each_from g (first + 1) items)) (added (each_from f (first + 1) items)) one (sym rest)
+    let rest = ap sum_of (each_after f g (first + 0) (first + 1) items (omega arith) same) in
+    sum_step (g first y) (f first y) (sum_of (each_from g (first + 1) items)) (sum_of (each_from f (first + 1) items)) one (sym rest)
   where
     sum_step : (a b c d : ℕ) → suc a ≡ b → c ≡ d → suc (a + c) ≡ b + d
     sum_step a b c d one rest = omega arith
@@ -153,7 +153,7 @@ each_sum f g first (y ∷ items) (suc place) x is less same =
 less_one : (a t u : ℕ) → u ≡ suc t → suc t ≤ a → suc (a - u) ≡ a - t
 less_one a t u is most = omega (arith, is, most)
 
-pub left_less : (journals : JournalsView) (order : List Part) (part : Part) → part ≢ parts.View → IsNext journals order part → suc (left journals (order ++ part ∷ [])) ≡ left journals order
+pub left_less : (journals : JournalsView) (order : List Part) (part : Part) → part ≢ parts.View → IsNext journals order part → suc (entries_left journals (order ++ part ∷ [])) ≡ entries_left journals order
 left_less journals order (parts.Server server) apart next =
     let split = map-some (λ (e : NodeEntry). steps.Node server e.ask) (server_entry journals server (suc (times order (parts.Server server)))) next.step next.is_there in
     let found = chained (λ (es : List NodeEntry). item_at es (suc (times order (parts.Server server)))) (item_at journals.servers server) split.0 split.1 in
@@ -171,7 +171,7 @@ left_less journals order parts.Desk apart next =
     let split = map-some (λ (e : DeskEntry). steps.Desk e.ask) (item_at journals.desk (suc (times order parts.Desk))) next.step next.is_there in
     let less = (is_entry journals.desk (times order parts.Desk) split.0 split.1).less in
     let one = less_one (length journals.desk) (times order parts.Desk) (times (order ++ parts.Desk ∷ []) parts.Desk) (times-same order parts.Desk) (omega (arith, less)) in
-    let servers = ap added (each_same (λ n (es : List NodeEntry). length es - times (order ++ parts.Desk ∷ []) (parts.Server n)) (λ n (es : List NodeEntry). length es - times order (parts.Server n)) 1 journals.servers
+    let servers = ap sum_of (each_same (λ n (es : List NodeEntry). length es - times (order ++ parts.Desk ∷ []) (parts.Server n)) (λ n (es : List NodeEntry). length es - times order (parts.Server n)) 1 journals.servers
     (λ n es. ap (λ (t : ℕ). length es - t) (times-other order parts.Desk (parts.Server n) (λ e. let h : Path Part (parts.Server n) parts.Desk = e in cc)))) in
     omega (arith, servers, one)
 left_less journals order parts.View apart next = absurd (apart refl)
@@ -265,7 +265,7 @@ module _ (journals : JournalsView) (order : List Part) (servers : List ℕ) (des
       ∙ ap (option_map (λ (x : NodeEntry). steps.Node server x.ask)) (item_at-suc entries (times order (parts.Server server)) ∙ there) in
       let same : Path (Option Step) (Some next.step) (Some (steps.Node server e.ask)) = sym next.is_there ∙ step_is in
       let e_is : next.step ≡ steps.Node server e.ask = cc in
-      let ready = founded_ready journals order servers is.of_servers desk is.of_desk server e.ask (ap (unfounded (placed journals order)) (sym e_is) ∙ next.founded) in
+      let ready = founded_ready journals order servers is.of_servers desk is.of_desk server e.ask (ap (unfounded_citation (placed_journals journals order)) (sym e_is) ∙ next.founded) in
       false≢true (sym waits ∙ ready)
 
   -- the view has no further entry
@@ -289,11 +289,11 @@ module _ (journals : JournalsView) (order : List Part) (servers : List ℕ) (des
         (λ entry has. is.seen entry (subst (λ (xs : List CitedVote). Has xs entry) (sym (take_past wanted met all)) has));
   }
 
-  desk_founded : (e : DeskEntry) → slice_get journals.desk desk ≡ Some e → IsNext journals order parts.Desk → unfounded (placed journals order) (steps.Desk e.ask) ≡ None
+  desk_founded : (e : DeskEntry) → slice_get journals.desk desk ≡ Some e → IsNext journals order parts.Desk → unfounded_citation (placed_journals journals order) (steps.Desk e.ask) ≡ None
   desk_founded e there next =
       let same : Path (Option Step) (Some next.step) (Some (steps.Desk e.ask)) = sym next.is_there ∙ desk_step e there in
       let e_is : next.step ≡ steps.Desk e.ask = cc in
-      ap (unfounded (placed journals order)) (sym e_is) ∙ next.founded
+      ap (unfounded_citation (placed_journals journals order)) (sym e_is) ∙ next.founded
 
   pub desk_never : (e : DeskEntry) → slice_get journals.desk desk ≡ Some e → stands ≡ false → IsNext journals order parts.Desk → ⊥
   desk_never e there fails next =

@@ -8,7 +8,7 @@ use Rattle.tq_node.specs.NodeJournal.{NodeEntry}
 use Rattle.tq_world.specs.declared.answer.Step.TheVariants as steps
 use Rattle.tq_world.specs.World.{item_at, server_entry}
 use Rattle.tq_merge.specs.Order.{times, IsNext}
-use Rattle.tq_merge.specs.Placing.{left, IsDone}
+use Rattle.tq_merge.specs.Placing.{entries_left, IsDone}
 use Rattle.tq_world.proofs.Rooms.{item_above}
 use Rattle.std.proofs.lemmas.Option.{slice_get_within}
 use Rattle.tq_node.proofs.KeptLocks.{map-some}
@@ -19,18 +19,18 @@ abbrev pub AreBlocked : JournalsView → List Part → ℕ → Type 0
 AreBlocked journals order place = (k : ℕ) → k < place → IsNext journals order (parts.Server (suc k)) → ⊥
 
 module _ (first now after : JournalsView) (began order then : List Part) (place : ℕ) (moved placed : Bool)
-    (same : now ≡ first) (fewer : moved ≡ true → left now order < left first began) (still : moved ≡ false → (order ≡ began) × AreBlocked first began place)
-    (kept : after ≡ now) (less : placed ≡ true → left after then < left now order) (none : placed ≡ false → then ≡ order) (blocked : IsNext after then (parts.Server (suc place)) → ⊥) where
+    (same : now ≡ first) (fewer : moved ≡ true → entries_left now order < entries_left first began) (still : moved ≡ false → (order ≡ began) × AreBlocked first began place)
+    (kept : after ≡ now) (less : placed ≡ true → entries_left after then < entries_left now order) (none : placed ≡ false → then ≡ order) (blocked : IsNext after then (parts.Server (suc place)) → ⊥) where
   -- so far no more was left than at first
-  at_most : left now order ≤ left first began
+  at_most : entries_left now order ≤ entries_left first began
   at_most = by (cases_Bool moved)
     where
-      by : (moved ≡ true) ⊎ (moved ≡ false) → left now order ≤ left first began
+      by : (moved ≡ true) ⊎ (moved ≡ false) → entries_left now order ≤ entries_left first began
       by (inl t) = let l = fewer t in omega (arith, l)
-      by (inr f) = let e : left now order ≡ left first began = (λ i. left (same i) ((still f).0 i)) in omega (arith, e)
+      by (inr f) = let e : entries_left now order ≡ entries_left first began = (λ i. entries_left (same i) ((still f).0 i)) in omega (arith, e)
 
   pub turn_placed : placed ≡ true → (newly : Bool) → newly ≡ true
-      → (after ≡ first) × (newly ≡ true → left after then < left first began) × (newly ≡ false → (then ≡ began) × AreBlocked first began (place + 1))
+      → (after ≡ first) × (newly ≡ true → entries_left after then < entries_left first began) × (newly ≡ false → (then ≡ began) × AreBlocked first began (place + 1))
   turn_placed is newly newly_is = (
     kept ∙ same,
     (λ _. let l = less is in let m = at_most in omega (arith, l, m)),
@@ -38,10 +38,10 @@ module _ (first now after : JournalsView) (began order then : List Part) (place 
   )
 
   pub turn_still : placed ≡ false → (newly : Bool) → newly ≡ moved
-      → (after ≡ first) × (newly ≡ true → left after then < left first began) × (newly ≡ false → (then ≡ began) × AreBlocked first began (place + 1))
+      → (after ≡ first) × (newly ≡ true → entries_left after then < entries_left first began) × (newly ≡ false → (then ≡ began) × AreBlocked first began (place + 1))
   turn_still is newly newly_is =
       let order_is = none is in
-      let left_is : left after then ≡ left now order = (λ i. left (kept i) (order_is i)) in (
+      let left_is : entries_left after then ≡ entries_left now order = (λ i. entries_left (kept i) (order_is i)) in (
         kept ∙ same,
         (λ t. let l = fewer (sym newly_is ∙ t) in omega (arith, l, left_is)),
         (λ f. let old = still (sym newly_is ∙ f) in (order_is ∙ old.0, more (order_is ∙ old.0) old.1)),

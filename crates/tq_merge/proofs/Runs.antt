@@ -34,7 +34,7 @@ use Rattle.tq_world.specs.Steps.{refuse_entry, refuse_at, refusal, server_journa
 use Rattle.tq_world.specs.Steps.{IsOfRun}
 use Rattle.tq_world.proofs.Runs.{world_grown}
 use Rattle.tq_node.proofs.KeptLocks.{map-some}
-use Rattle.tq_merge.specs.Order.{times, entries_of, firsts, placed, step_at, unfounded, ArePlaced, Explains, steps_from, asks_of}
+use Rattle.tq_merge.specs.Order.{times, entries_of, firsts, placed_journals, step_at, unfounded_citation, ArePlaced, Explains, steps_from, asks_of}
 use Rattle.tq_merge.proofs.Places.{times-same, times-other, item_at-suc, item_each, take_next, take_none, take_past, each_same, each_set, each_is, each_none}
 use Rattle.tq_world.proofs.Rooms.{item_above}
 use Rattle.std.proofs.lemmas.Option.{slice_get_within}
@@ -146,7 +146,7 @@ module _ (journals : JournalsView) (are : AreJournals journals) (legal : AreLega
       (λ n es apart. ap (λ (c : ℕ). take c es) (sym (same (parts.Server n) (λ e. apart ((let h : Path Part (parts.Server n) (parts.Server server) = e in let k : n ≡ server = cc in k) ∙ sym at)))))
 
   node_more : (server : ℕ) (entries : List NodeEntry) (e : NodeEntry) → item_at journals.servers server ≡ Some entries → IsEntry entries (count (parts.Server server)) e
-      → unfounded (firsts journals count) (steps.Node server e.ask) ≡ None
+      → unfounded_citation (firsts journals count) (steps.Node server e.ask) ≡ None
       → other (parts.Server server) ≡ suc (count (parts.Server server)) → ((q : Part) → q ≢ parts.Server server → other q ≡ count q)
       → world_after (firsts journals count) (steps.Node server e.ask) ≡ firsts journals other
   node_more server entries e here is none more same =
@@ -165,7 +165,7 @@ module _ (journals : JournalsView) (are : AreJournals journals) (legal : AreLega
       (server_free (firsts journals count) server (take (count (parts.Server server)) entries) e.ask there (omega (arith, short, is.less, fits)) none)
       ∙ (λ i. record { levels = journals.levels; limits = journals.limits; servers = servers i; desk = desk i; view = view i })
 
-  desk_more : (e : DeskEntry) → IsEntry journals.desk (count parts.Desk) e → unfounded (firsts journals count) (steps.Desk e.ask) ≡ None
+  desk_more : (e : DeskEntry) → IsEntry journals.desk (count parts.Desk) e → unfounded_citation (firsts journals count) (steps.Desk e.ask) ≡ None
       → other parts.Desk ≡ suc (count parts.Desk) → ((q : Part) → q ≢ parts.Desk → other q ≡ count q)
       → world_after (firsts journals count) (steps.Desk e.ask) ≡ firsts journals other
   desk_more e is none more same =
@@ -211,18 +211,18 @@ module _ (journals : JournalsView) (are : AreJournals journals) (legal : AreLega
       ∙ (λ i. record { levels = journals.levels; limits = journals.limits; servers = servers i; desk = desk i; view = view i })
 
   -- a step that is next
-  step_more : (part : Part) (step : Step) → step_at journals part (suc (count part)) ≡ Some step → unfounded (firsts journals count) step ≡ None
+  step_more : (part : Part) (step : Step) → step_at journals part (suc (count part)) ≡ Some step → unfounded_citation (firsts journals count) step ≡ None
       → other part ≡ suc (count part) → ((q : Part) → q ≢ part → other q ≡ count q)
       → world_after (firsts journals count) step ≡ firsts journals other
   step_more (parts.Server server) step is none more same =
       let made = map-some (λ (e : NodeEntry). steps.Node server e.ask) (server_entry journals server (suc (count (parts.Server server)))) step is in
       let found = chained (λ (es : List NodeEntry). item_at es (suc (count (parts.Server server)))) (item_at journals.servers server) made.0 made.1 in
       ap (world_after (firsts journals count)) (sym made.2)
-      ∙ node_more server found.0 made.0 found.1 (is_entry found.0 (count (parts.Server server)) made.0 found.2) (ap (unfounded (firsts journals count)) made.2 ∙ none) more same
+      ∙ node_more server found.0 made.0 found.1 (is_entry found.0 (count (parts.Server server)) made.0 found.2) (ap (unfounded_citation (firsts journals count)) made.2 ∙ none) more same
   step_more parts.Desk step is none more same =
       let made = map-some (λ (e : DeskEntry). steps.Desk e.ask) (item_at journals.desk (suc (count parts.Desk))) step is in
       ap (world_after (firsts journals count)) (sym made.2)
-      ∙ desk_more made.0 (is_entry journals.desk (count parts.Desk) made.0 made.1) (ap (unfounded (firsts journals count)) made.2 ∙ none) more same
+      ∙ desk_more made.0 (is_entry journals.desk (count parts.Desk) made.0 made.1) (ap (unfounded_citation (firsts journals count)) made.2 ∙ none) more same
   step_more parts.View step is none more same =
       let made = map-some (λ (e : ViewEntry). steps.View e.ask) (item_at journals.view (suc (count parts.View))) step is in
       ap (world_after (firsts journals count)) (sym made.2)
@@ -250,14 +250,14 @@ all_first journals count all =
     λ i. record { levels = journals.levels; limits = journals.limits; servers = servers i; desk = desk i; view = view i }
 
 runs_from : (journals : JournalsView) → AreJournals journals → AreLegal journals → (before order : List Part) → ArePlaced journals before order
-    → run_from (placed journals before) (steps_from journals before order) ≡ placed journals (before ++ order)
-runs_from journals are legal before [] done = ap (placed journals) (sym (append-nil before))
+    → run_from (placed_journals journals before) (steps_from journals before order) ≡ placed_journals journals (before ++ order)
+runs_from journals are legal before [] done = ap (placed_journals journals) (sym (append-nil before))
 runs_from journals are legal before (part ∷ order) done =
-    ap (λ (o : Option Step). run_from (placed journals before) (option_to_list o ++ steps_from journals (before ++ part ∷ []) order)) done.0.is_there
+    ap (λ (o : Option Step). run_from (placed_journals journals before) (option_to_list o ++ steps_from journals (before ++ part ∷ []) order)) done.0.is_there
     ∙ ap (λ (w : JournalsView). run_from w (steps_from journals (before ++ part ∷ []) order))
     (step_more journals are legal (times before) (times (before ++ part ∷ [])) part done.0.step done.0.is_there done.0.founded (times-same before part) (times-other before part))
     ∙ runs_from journals are legal (before ++ part ∷ []) order done.1
-    ∙ ap (placed journals) (append_assoc before (part ∷ []) order)
+    ∙ ap (placed_journals journals) (append_assoc before (part ∷ []) order)
 
 -- the asks in the order of one that explains the journals make these journals
 pub run_is : (journals : JournalsView) → AreJournals journals → (order : List Part) → Explains journals order → run journals.levels journals.limits (asks_of journals order) ≡ journals

@@ -13,7 +13,7 @@ use Rattle.tq_node.specs.NodeJournal.{NodeEntry}
 use Rattle.tq_world.specs.declared.answer.Step.TheVariants as steps
 use Rattle.tq_world.specs.World.{item_at}
 use Rattle.tq_merge.specs.Order.{same_part, times, each_from, IsNext, ArePlaced}
-use Rattle.tq_merge.specs.Placing.{is_placed, is_ready, IsNextWanted, IsPlacing, left}
+use Rattle.tq_merge.specs.Placing.{is_placed, is_ready, IsNextWanted, IsPlacing, entries_left}
 use Rattle.tq_merge.proofs.Places.{times-more, item_at-suc, length_each, get_each, take_none}
 use Rattle.tq_merge.proofs.Greedy.{placed-more}
 use Rattle.std.proofs.lemmas.Option.{slice_get-map}
@@ -111,10 +111,10 @@ module _ (journals : JournalsView) (order : List Part) (servers : List ℕ) (des
     place_waits e within item waits = server_waits journals order servers desk stands wanted met is (suc place) entries e here (there e within item) waits
 
     pub place_less : (e : NodeEntry) → count < length entries → e ≡ get_or entries count e → is_ready journals servers desk e.ask ≡ true → (after : List Part) → after ≡ order ++ parts.Server (place + 1) ∷ []
-        → suc (left journals after) ≡ left journals order
+        → suc (entries_left journals after) ≡ entries_left journals order
     place_less e within item ready after entered =
         let number : place + 1 ≡ suc place = omega arith in
-        ap (λ (o : List Part). suc (left journals o)) (entered ∙ ap (λ (n : ℕ). order ++ parts.Server n ∷ []) number)
+        ap (λ (o : List Part). suc (entries_left journals o)) (entered ∙ ap (λ (n : ℕ). order ++ parts.Server n ∷ []) number)
         ∙ left_less journals order (parts.Server (suc place)) (λ e. let h : Path Part (parts.Server (suc place)) parts.View = e in cc)
         (server_next journals order servers desk stands wanted met is (suc place) entries e here (there e within item) ready)
 
@@ -162,7 +162,7 @@ module _ (journals : JournalsView) (order : List Part) (servers : List ℕ) (des
         (subst (λ (n : ℕ). IsPlacing journals (order ++ parts.Desk ∷ []) servers n newly fresh 0) at
         (desk_more journals order servers desk stands wanted found seen_more newly fresh (desk_ready less there all) (subst (λ (n : ℕ). IsNextWanted journals n newly fresh) (sym at) next)))
 
-    pub desk_less : desk < length journals.desk → stands ≡ true → length cited ≤ found → (after : List Part) → after ≡ order ++ parts.Desk ∷ [] → suc (left journals after) ≡ left journals order
+    pub desk_less : desk < length journals.desk → stands ≡ true → length cited ≤ found → (after : List Part) → after ≡ order ++ parts.Desk ∷ [] → suc (entries_left journals after) ≡ entries_left journals order
     desk_less less there all after entered =
-        ap (λ (o : List Part). suc (left journals o)) entered
+        ap (λ (o : List Part). suc (entries_left journals o)) entered
         ∙ left_less journals order parts.Desk (λ e. let h : Path Part parts.Desk parts.View = e in cc) (desk_ready less there all)

@@ -52,9 +52,9 @@ abbrev pub is_named : List EntryName → Part → ℕ → Bool
 is_named names part number = list_any (λ name. same_part name.part part && name.number == number) names
 
 -- how many of the first entries of the part, so many as are counted, no name names
-abbrev pub unnamed : List EntryName → Part → ℕ → ℕ
-unnamed names part zero = 0
-unnamed names part (suc count) = unnamed names part count + cond (is_named names part (suc count)) 0 1
+abbrev pub unnamed_count : List EntryName → Part → ℕ → ℕ
+unnamed_count names part zero = 0
+unnamed_count names part (suc count) = unnamed_count names part count + cond (is_named names part (suc count)) 0 1
 
 -- ---- all parts in a list: the desk, the view, and the servers upwards from number 0, which no server has
 
@@ -75,4 +75,4 @@ IsWithin counts name = (1 ≤ name.number) × (name.number ≤ get_or counts (pl
 -- how many entries of the parts from that place on no name names
 abbrev pub unnamed_from : List EntryName → ℕ → List ℕ → ℕ
 unnamed_from names place [] = 0
-unnamed_from names place (count ∷ counts) = unnamed names (part_at place) count + unnamed_from names (suc place) counts
+unnamed_from names place (count ∷ counts) = unnamed_count names (part_at place) count + unnamed_from names (suc place) counts

@@ -65,20 +65,20 @@ step_at journals Desk number = option_map (λ entry. steps.Desk entry.ask) (item
 step_at journals View number = option_map (λ entry. steps.View entry.ask) (item_at journals.view number)
 
 -- the first citation of the step that does not stand in the world
-abbrev pub unfounded : JournalsView → Step → Option Citation
-unfounded world (steps.Node server ask) = unfounded_in_node_ask world ask
-unfounded world (steps.Desk ask) = unfounded_in_desk_ask world ask
-unfounded world (steps.View ask) = None
+abbrev pub unfounded_citation : JournalsView → Step → Option Citation
+unfounded_citation world (steps.Node server ask) = unfounded_in_node_ask world ask
+unfounded_citation world (steps.Desk ask) = unfounded_in_desk_ask world ask
+unfounded_citation world (steps.View ask) = None
 
 -- what an order places of the journals: of each part as many first entries as it names it
-abbrev pub placed : JournalsView → List Part → JournalsView
-placed journals order = firsts journals (times order)
+abbrev pub placed_journals : JournalsView → List Part → JournalsView
+placed_journals journals order = firsts journals (times order)
 
 -- the part has an entry after those that are placed, and all that it cites is placed
 pub record IsNext (journals : JournalsView) (before : List Part) (part : Part) : Type 0 where
   pub step : Step
   pub is_there : step_at journals part (suc (times before part)) ≡ Some step
-  pub founded : unfounded (placed journals before) step ≡ None
+  pub founded : unfounded_citation (placed_journals journals before) step ≡ None
 
 -- each part that the order names is next after those before it
 abbrev pub ArePlaced : JournalsView → List Part → List Part → Type 0

@@ -60,14 +60,14 @@ pub record IsPlacing (journals : JournalsView) (order : List Part) (servers : Li
   pub seen : (entry : CitedVote) → Has (take met wanted) entry → entry.number ≤ times order (Server entry.server)
   pub within : met ≤ length wanted
 
-abbrev pub added : List ℕ → ℕ
-added [] = 0
-added (n ∷ ns) = n + added ns
+abbrev pub sum_of : List ℕ → ℕ
+sum_of [] = 0
+sum_of (n ∷ ns) = n + sum_of ns
 
 -- how many entries of the servers and of the desk an order leaves
-abbrev pub left : JournalsView → List Part → ℕ
-left journals order =
-    added (each_from (λ server entries. length entries - times order (Server server)) 1 journals.servers) + (length journals.desk - times order Desk)
+abbrev pub entries_left : JournalsView → List Part → ℕ
+entries_left journals order =
+    sum_of (each_from (λ server entries. length entries - times order (Server server)) 1 journals.servers) + (length journals.desk - times order Desk)
 
 -- no part has an entry that can be placed
 abbrev pub IsDone : JournalsView → List Part → Type 0

@@ -43,7 +43,7 @@ impl Marks {
     }
 
     /// How many entries are not named.
-    fn unnamed(&self) -> u64
+    fn unnamed_count(&self) -> u64
         ensures value { result ≡ count_by not self.now }
         ensures within { result ≤ length self.now }
     {
@@ -70,7 +70,7 @@ pub(crate) fn unnamed_in(marks: &[Marks]) -> u64
 {
     let mut unnamed = 0;
     for named in marks {
-        unnamed += named.unnamed();
+        unnamed += named.unnamed_count();
     }
     unnamed
 }

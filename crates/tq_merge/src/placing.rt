@@ -69,8 +69,9 @@ impl<'a> Placing<'a> {
         ensures journals { IfOk result (λ placed. self.new.journals ≡ self.old.journals) }
         ensures placed { result ≡ Ok true → self.new.order
             ≡ self.old.order ++ parts.Server (suc place) ∷ [] }
-        ensures less { result ≡ Ok true → suc (kept.left self.new.journals self.new.order)
-            ≡ kept.left self.old.journals self.old.order }
+        ensures less { result ≡ Ok true →
+            suc (kept.entries_left self.new.journals self.new.order)
+            ≡ kept.entries_left self.old.journals self.old.order }
         ensures still { result ≡ Ok false → self.new.order ≡ self.old.order }
         ensures blocked { result ≡ Ok false → spec.IsNext self.new.journals self.new.order
             (parts.Server (suc place)) → ⊥ }
@@ -91,8 +92,9 @@ impl<'a> Placing<'a> {
     /// Places the desk's next entry, if there is one that can be placed.
     fn place_desk(&mut self, alloc: Global) -> Result<bool, Memory>
         ensures journals { IfOk result (λ placed. self.new.journals ≡ self.old.journals) }
-        ensures less { result ≡ Ok true → suc (kept.left self.new.journals self.new.order)
-            ≡ kept.left self.old.journals self.old.order }
+        ensures less { result ≡ Ok true →
+            suc (kept.entries_left self.new.journals self.new.order)
+            ≡ kept.entries_left self.old.journals self.old.order }
         ensures still { result ≡ Ok false → self.new.order ≡ self.old.order }
         ensures blocked { result ≡ Ok false
             → spec.IsNext self.new.journals self.new.order parts.Desk → ⊥ }
@@ -122,11 +124,11 @@ impl<'a> Placing<'a> {
     fn run_server(&mut self, place: usize) -> Result<bool, Memory>
         requires { place < length self.old.journals.servers }
         ensures journals { IfOk result (λ moved. self.new.journals ≡ self.old.journals) }
-        ensures moved { result ≡ Ok true → kept.left self.new.journals self.new.order
-            < kept.left self.old.journals self.old.order }
+        ensures moved { result ≡ Ok true → kept.entries_left self.new.journals self.new.order
+            < kept.entries_left self.old.journals self.old.order }
         ensures still { result ≡ Ok false → self.new.order ≡ self.old.order }
-        ensures fewer { OnOk result (kept.left self.new.journals self.new.order
-            ≤ kept.left self.old.journals self.old.order) }
+        ensures fewer { OnOk result (kept.entries_left self.new.journals self.new.order
+            ≤ kept.entries_left self.old.journals self.old.order) }
         ensures blocked { IfOk result (λ moved.
             spec.IsNext self.new.journals self.new.order (parts.Server (suc place)) → ⊥) }
     {
@@ -143,8 +145,8 @@ impl<'a> Placing<'a> {
     /// Places entries of the desk as far as they go.
     fn run_desk(&mut self, alloc: Global) -> Result<(), Memory>
         ensures journals { OnOk result (self.new.journals ≡ self.old.journals) }
-        ensures fewer { OnOk result (kept.left self.new.journals self.new.order
-            ≤ kept.left self.old.journals self.old.order) }
+        ensures fewer { OnOk result (kept.entries_left self.new.journals self.new.order
+            ≤ kept.entries_left self.old.journals self.old.order) }
     {
         'entries: loop {
             let placed = self.place_desk(alloc)?;
@@ -159,8 +161,8 @@ impl<'a> Placing<'a> {
     fn turn_server(&mut self, waiting: &mut Waiting, place: usize) -> Result<(), Memory>
         requires { place < length self.old.journals.servers }
         ensures journals { OnOk result (self.new.journals ≡ self.old.journals) }
-        ensures fewer { OnOk result (kept.left self.new.journals self.new.order
-            ≤ kept.left self.old.journals self.old.order) }
+        ensures fewer { OnOk result (kept.entries_left self.new.journals self.new.order
+            ≤ kept.entries_left self.old.journals self.old.order) }
     {
         let before = self.placed_at(place);
         let _moved = self.run_server(place)?;
@@ -174,8 +176,8 @@ impl<'a> Placing<'a> {
     /// The same for the desk.
     fn turn_desk(&mut self, alloc: Global, waiting: &mut Waiting) -> Result<(), Memory>
         ensures journals { OnOk result (self.new.journals ≡ self.old.journals) }
-        ensures fewer { OnOk result (kept.left self.new.journals self.new.order
-            ≤ kept.left self.old.journals self.old.order) }
+        ensures fewer { OnOk result (kept.entries_left self.new.journals self.new.order
+            ≤ kept.entries_left self.old.journals self.old.order) }
     {
         let place = self.server_count();
         let before = self.desk;
@@ -190,8 +192,8 @@ impl<'a> Placing<'a> {
     /// The same for the part at the place: a server, or else the desk.
     fn turn(&mut self, alloc: Global, waiting: &mut Waiting, place: usize) -> Result<(), Memory>
         ensures journals { OnOk result (self.new.journals ≡ self.old.journals) }
-        ensures fewer { OnOk result (kept.left self.new.journals self.new.order
-            ≤ kept.left self.old.journals self.old.order) }
+        ensures fewer { OnOk result (kept.entries_left self.new.journals self.new.order
+            ≤ kept.entries_left self.old.journals self.old.order) }
     {
         if place < self.server_count() {
             return self.turn_server(waiting, place);
@@ -202,8 +204,8 @@ impl<'a> Placing<'a> {
     /// Places entries of the parts that are woken, until none is.
     fn follow(&mut self, alloc: Global, waiting: &mut Waiting) -> Result<(), Memory>
         ensures journals { OnOk result (self.new.journals ≡ self.old.journals) }
-        ensures fewer { OnOk result (kept.left self.new.journals self.new.order
-            ≤ kept.left self.old.journals self.old.order) }
+        ensures fewer { OnOk result (kept.entries_left self.new.journals self.new.order
+            ≤ kept.entries_left self.old.journals self.old.order) }
     {
         for _ in 0..u64::MAX {
             let Some(place) = waiting.next() else {
@@ -243,8 +245,8 @@ impl<'a> Placing<'a> {
     /// Places entries of each part once, as far as they go. A round that places none leaves none that can be placed.
     fn round(&mut self, alloc: Global) -> Result<bool, Memory>
         ensures journals { IfOk result (λ moved. self.new.journals ≡ self.old.journals) }
-        ensures moved { result ≡ Ok true → kept.left self.new.journals self.new.order
-            < kept.left self.old.journals self.old.order }
+        ensures moved { result ≡ Ok true → kept.entries_left self.new.journals self.new.order
+            < kept.entries_left self.old.journals self.old.order }
         ensures still { result ≡ Ok false → self.new.order ≡ self.old.order }
         ensures blocked { result ≡ Ok false → kept.IsDone self.new.journals self.new.order }
     {

@@ -10,7 +10,7 @@ use Rattle.tq_intents.specs.Kept.{ends_vote, vote_of, opened, open_votes, kept_v
 use Rattle.tq_intents.specs.declared.record.OpenVote.{OpenVote}
 use Rattle.tq_intents.specs.declared.record.Record.{Record}
 use Rattle.tq_intents.specs.declared.record.Record.TheVariants.{Copy, Intent, Keep, Prepared, Gone}
-pub use Rattle.tq_intents.proofs.Above.{above_append}
+pub use Rattle.tq_intents.proofs.Above.{above_append, above_copies, above_greater, above_vote}
 
 number_of : Option OpenVote → ℕ
 number_of None = 0

@@ -11,14 +11,14 @@ use Rattle.tq_interpreter.specs.Answer.{World, opening, answer}
 use Rattle.tq_syntax.specs.Word.{without_return}
 use Rattle.tq_syntax.specs.Text.{last_line, whole_parts, last_part, parts_of}
 use Rattle.tq_shell.specs.Session.{lines_text, text_of, whole_text}
-use Rattle.tq_shell.specs.Stream.{Received, nothing_received, kept, grown, line_answer, received_byte, answer_to_byte, received_all, answers_to, answer_to_rest, answer_to_last}
+use Rattle.tq_shell.specs.Stream.{Received, nothing_received, cut_line, with_piece, line_answer, received_byte, answer_to_byte, received_all, answers_to, answer_to_rest, answer_to_last}
 
 -- what is kept of a line
 
-kept-full : (line bytes : List ℕ) → 4202 ≤ length line → length line ≤ 4202 → kept line bytes ≡ line
-kept-full line bytes many few = take-append-le 4202 line bytes many ∙ take_all 4202 line few
+cut_line-full : (line bytes : List ℕ) → 4202 ≤ length line → length line ≤ 4202 → cut_line line bytes ≡ line
+cut_line-full line bytes many few = take-append-le 4202 line bytes many ∙ take_all 4202 line few
 
-pub received_other : (received : Received) (byte : ℕ) → (byte ≡ 10 → ⊥) → received_byte received byte ≡ grown received (byte ∷ [])
+pub received_other : (received : Received) (byte : ℕ) → (byte ≡ 10 → ⊥) → received_byte received byte ≡ with_piece received (byte ∷ [])
 received_other received byte other = rw (ne_eqb byte 10 other) refl
 
 pub answered_other : (received : Received) (byte : ℕ) → (byte ≡ 10 → ⊥) → answer_to_byte received byte ≡ []
@@ -83,12 +83,12 @@ kept_return line = elim (cases_lt 4202 (length line)) [
 ]
 
 -- what is kept of a line and one byte more
-pub kept_more : (line : List ℕ) (byte : ℕ) → kept (take 4202 line) (byte ∷ []) ≡ take 4202 (line ++ byte ∷ [])
+pub kept_more : (line : List ℕ) (byte : ℕ) → cut_line (take 4202 line) (byte ∷ []) ≡ take 4202 (line ++ byte ∷ [])
 kept_more line byte = elim (cases_lt (length line) 4202) [
   | inl few ↦ ap (λ start. take 4202 (start ++ byte ∷ [])) (take_all 4202 line (omega (arith, few)))
   | inr many ↦
       let full : length (take 4202 line) ≡ 4202 = length-take-le 4202 line many in
-      kept-full (take 4202 line) (byte ∷ []) (omega (arith, full)) (omega (arith, full)) ∙ sym (take-append-le 4202 line (byte ∷ []) many)
+      cut_line-full (take 4202 line) (byte ∷ []) (omega (arith, full)) (omega (arith, full)) ∙ sym (take-append-le 4202 line (byte ∷ []) many)
 ]
 
 -- the first part goes on from what came before it
@@ -101,7 +101,7 @@ ended_line said world one two lines same next =
     rw same (ap (λ text. (answer world two).text ++ text) (next (answer world two).after))
 
 -- one byte of the machine, and what it does to the parts
-received_step : (said : Received → List ℕ) (lines : List (List ℕ) → List (List ℕ)) → ((part next : List ℕ) (parts : List (List ℕ)) → lines (part ∷ next ∷ parts) ≡ without_return part ∷ lines (next ∷ parts)) → (world : World) (start : List ℕ) (byte : ℕ) (feed : Bool) (all : List (List ℕ)) → 0 < length all → ((w : World) → said (record { world = w; line = [] }) ≡ lines_text w (lines (onto_parts [] all))) → said (record { world = world; line = take 4202 (start ++ byte ∷ []) }) ≡ lines_text world (lines (onto_parts (start ++ byte ∷ []) all)) → let ended : Received = record { world = (line_answer world (take 4202 start)).after; line = [] } in let going : Received = record { world = world; line = kept (take 4202 start) (byte ∷ []) } in cond feed (line_answer world (take 4202 start)).text [] ++ said (cond feed ended going) ≡ lines_text world (lines (onto_parts start (cond feed ([] ∷ all) (onto_first byte all))))
+received_step : (said : Received → List ℕ) (lines : List (List ℕ) → List (List ℕ)) → ((part next : List ℕ) (parts : List (List ℕ)) → lines (part ∷ next ∷ parts) ≡ without_return part ∷ lines (next ∷ parts)) → (world : World) (start : List ℕ) (byte : ℕ) (feed : Bool) (all : List (List ℕ)) → 0 < length all → ((w : World) → said (record { world = w; line = [] }) ≡ lines_text w (lines (onto_parts [] all))) → said (record { world = world; line = take 4202 (start ++ byte ∷ []) }) ≡ lines_text world (lines (onto_parts (start ++ byte ∷ []) all)) → let ended : Received = record { world = (line_answer world (take 4202 start)).after; line = [] } in let going : Received = record { world = world; line = cut_line (take 4202 start) (byte ∷ []) } in cond feed (line_answer world (take 4202 start)).text [] ++ said (cond feed ended going) ≡ lines_text world (lines (onto_parts start (cond feed ([] ∷ all) (onto_first byte all))))
 received_step said lines cut world start byte feed [] some next goes = absurd (omega (arith, some))
 received_step said lines cut world start byte true (part ∷ parts) some next goes =
     let line = start ++ [] in

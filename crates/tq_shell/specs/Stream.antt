@@ -16,19 +16,19 @@ abbrev pub nothing_received : ℕ → Received
 nothing_received levels = record { world = opening levels; line = [] }
 
 -- of a line no more bytes are kept than show that it is too long, also if one of them is a carriage return
-abbrev pub kept : List ℕ → List ℕ → List ℕ
-kept line bytes = take KEPT (line ++ bytes)
+abbrev pub cut_line : List ℕ → List ℕ → List ℕ
+cut_line line bytes = take KEPT (line ++ bytes)
 
 -- the line that goes on, with these bytes more
-abbrev pub grown : Received → List ℕ → Received
-grown received bytes = record { world = received.world; line = kept received.line bytes }
+abbrev pub with_piece : Received → List ℕ → Received
+with_piece received bytes = record { world = received.world; line = cut_line received.line bytes }
 
 abbrev pub line_answer : World → List ℕ → Answer
 line_answer world line = answer world (line_of (without_return line))
 
 -- the answer to the line that goes on, where these bytes end it
 abbrev pub ended_answer : Received → List ℕ → Answer
-ended_answer received bytes = line_answer received.world (kept received.line bytes)
+ended_answer received bytes = line_answer received.world (cut_line received.line bytes)
 
 -- what was received then
 abbrev pub line_ended : Received → List ℕ → Received
@@ -38,7 +38,7 @@ abbrev pub received_byte : Received → ℕ → Received
 received_byte received byte =
     cond (byte == 10)
     (record { world = (line_answer received.world received.line).after; line = [] })
-    (grown received (byte ∷ []))
+    (with_piece received (byte ∷ []))
 
 abbrev pub answer_to_byte : Received → ℕ → List ℕ
 answer_to_byte received byte = cond (byte == 10) (line_answer received.world received.line).text []

@@ -1,7 +1,7 @@
 -- The line and the status that tell of what an audit found.
 use Rattle.std.specs.Prelude.{ℕ, List, ◌++◌, codes}
 use Rattle.std.specs.Fmt.{decimal}
-use Rattle.tq_text.specs.Print.{numbers_text, printed}
+use Rattle.tq_text.specs.Print.{numbers_text, printed_line}
 use Rattle.tq_text.specs.Refusals.{part_text}
 use Rattle.tq_shell.specs.declared.audit_finding.AuditFinding.{AuditFinding}
 use Rattle.tq_shell.specs.declared.audit_finding.AuditFinding.TheVariants.{Explained, Wrong, Stuck, Unreadable}
@@ -13,7 +13,7 @@ verdict_text (Stuck placed) = codes "stuck" ++ numbers_text placed.servers ++ co
 verdict_text Unreadable = codes "unreadable"
 
 abbrev pub verdict_line : AuditFinding → List ℕ
-verdict_line verdict = printed (verdict_text verdict)
+verdict_line verdict = printed_line (verdict_text verdict)
 
 abbrev pub status_of : AuditFinding → ℕ
 status_of (Explained entries) = 0

@@ -2,7 +2,7 @@
 use Rattle.std.specs.Prelude.{◌≡◌, ◌⊎◌, ℕ, List, Option, Some, None, Result}
 use Rattle.serde_json.specs.Written.{compact_text}
 use Rattle.tq_devices.specs.declared.fault.RunFault.{RunFault}
-use Rattle.tq_text.specs.Print.{printed}
+use Rattle.tq_text.specs.Print.{printed_line}
 use Rattle.tq_tables.specs.Journals.{JournalsView}
 use Rattle.tq_json_write.specs.Form.{journals_value}
 use Rattle.tq_shell.specs.declared.audit_finding.AuditFinding.TheVariants.{Unreadable}
@@ -13,7 +13,7 @@ use Rattle.tq_shell.specs.Report.{IsReportText}
 -- the journals of the bytes in format 2, as one line, whether a run explains them or not
 abbrev pub IsInTwo : List ℕ → List ℕ → ℕ → Type 0
 IsInTwo bytes line status =
-    (journals : JournalsView) × IsFileOf bytes journals × (line ≡ printed (compact_text (journals_value journals))) × (status ≡ 0)
+    (journals : JournalsView) × IsFileOf bytes journals × (line ≡ printed_line (compact_text (journals_value journals))) × (status ≡ 0)
 
 -- the bytes are no journal file, and the line and the status are those of an audit that finds so
 abbrev pub IsUnread : List ℕ → List ℕ → ℕ → Type 0
@@ -26,7 +26,7 @@ IsFound bytes None = IsVerdict bytes Unreadable
 
 -- what is written where these were found, and the status that goes with it
 abbrev pub found_line : Option JournalsView → List ℕ
-found_line (Some journals) = printed (compact_text (journals_value journals))
+found_line (Some journals) = printed_line (compact_text (journals_value journals))
 found_line None = verdict_line Unreadable
 
 abbrev pub found_status : Option JournalsView → ℕ

@@ -33,7 +33,7 @@ impl Model for Receiver {
 impl Receiver {
     ghost use Rattle.std.specs.Prelude.{◌≡◌, ◌≤◌, ◌++◌, ℕ, length, IfOk, OnOk, OnErr};
     ghost use Rattle.tq_text.specs.Print.{Appends, Extends};
-    ghost use Rattle.tq_shell.specs.Stream.{AnswersFront, IsTakenAtOnce, ReceivesFront, answer_to_last, ended_answer, grown, line_ended, nothing_received};
+    ghost use Rattle.tq_shell.specs.Stream.{AnswersFront, IsTakenAtOnce, ReceivesFront, answer_to_last, ended_answer, with_piece, line_ended, nothing_received};
 
     pub(crate) fn new(alloc: Global, levels: Levels) -> Result<Receiver, Memory>
         ensures { IfOk result (λ receiver. receiver ≡ nothing_received levels) }
@@ -107,7 +107,7 @@ impl Receiver {
 
     /// Keeps more bytes of the line that goes on, as many as are kept of a line.
     fn keep(&mut self, bytes: &[u8]) -> Result<(), Memory>
-        ensures { OnOk result (self.new ≡ grown self.old bytes.now) }
+        ensures { OnOk result (self.new ≡ with_piece self.old bytes.now) }
     {
         let room = KEPT - self.line.len();
         self.line

@@ -21,8 +21,8 @@ abbrev pub Extends : List ℕ → List ℕ → Type 0
 Extends old new = (more : List ℕ) × (new ≡ old ++ more)
 
 -- a printed line
-abbrev pub printed : List ℕ → List ℕ
-printed text = text ++ 10 ∷ []
+abbrev pub printed_line : List ℕ → List ℕ
+printed_line text = text ++ 10 ∷ []
 
 -- these bytes were put behind the text
 abbrev pub Appends : Vec ℕ → Vec ℕ → List ℕ → Type 0
@@ -30,7 +30,7 @@ Appends old new bytes = new.items ≡ old.items ++ bytes
 
 -- these bytes were, as a line
 abbrev pub Prints : Vec ℕ → Vec ℕ → List ℕ → Type 0
-Prints old new line = Appends old new (printed line)
+Prints old new line = Appends old new (printed_line line)
 
 -- numbers, each with a space before it
 abbrev pub numbers_text : List ℕ → List ℕ
@@ -50,8 +50,8 @@ abbrev pub op_servers : Option Op → List ℕ
 op_servers None = []
 op_servers (Some op) = servers_of op
 
-abbrev pub bracketed : List ℕ → List ℕ
-bracketed content = codes " [" ++ content ++ codes "]"
+abbrev pub bracketed_text : List ℕ → List ℕ
+bracketed_text content = codes " [" ++ content ++ codes "]"
 
 abbrev pub version_text : List ℕ → ℕ → List ℕ
 version_text file version = file ++ codes " version " ++ decimal version
@@ -59,7 +59,7 @@ version_text file version = file ++ codes " version " ++ decimal version
 -- a file as the transaction reads it; the operation is its read of the file
 abbrev pub reading_text : List ℕ → Option Op → ReadAnswer → List ℕ
 reading_text file op (Pending content) = file ++ codes " pending [" ++ content ++ codes "]"
-reading_text file op (Copy copy) = version_text file copy.version ++ codes " from" ++ numbers_text (op_servers op) ++ bracketed copy.content
+reading_text file op (Copy copy) = version_text file copy.version ++ codes " from" ++ numbers_text (op_servers op) ++ bracketed_text copy.content
 
 -- the same of a copy that a server has
 abbrev pub copy_text : List ℕ → Option Op → FileCopy → List ℕ

@@ -119,7 +119,7 @@ fn say_copy(
 
 /// Puts a content in brackets behind the text.
 fn push_bracketed(text: &mut Vec<u8>, content: &Content) -> Result<(), Memory>
-    ensures text { OnOk result (Appends text.old text.new (spec.bracketed content.now)) }
+    ensures text { OnOk result (Appends text.old text.new (spec.bracketed_text content.now)) }
     ensures kept { OnErr result (Extends text.old.items text.new.items) }
 {
     text.extend_from_slice(b" [")?;

@@ -11,3 +11,4 @@ pub mod CommitLaws
 pub mod AbortLaws
 pub mod BreakLaws
 pub mod LockBreaks
+pub mod LockingLaws

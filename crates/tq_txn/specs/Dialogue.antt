@@ -113,10 +113,19 @@ abbrev pub IsUnended : {A S : Type 0} → Result A LineFault → S → Dialogue 
 IsUnended {A} (Err faults.Memory) after line old new = (answer : Result A LineFault) × WouldEnd line old new (record { answer = answer; after = after })
 IsUnended result after line old new = Unit {0}
 
+-- a call asked the line, and ended so
+pub record IsAsked {A S : Type 0} (line : Dialogue (LineEnd A S)) (old new : List Exchange) (result : Result A LineFault) (after : S) : Type 0 where
+  pub asks : Follows line old new (ended_by result after)
+  pub memory : IsUnended result after line old new
+
 -- the same of a line that such an ask would end by a fault
 abbrev pub IsUnfailed : {A S : Type 0} → Result A LineFault → S → Dialogue (LineEnd A S) → List Exchange → List Exchange → Type 0
 IsUnfailed (Err faults.Memory) after line old new = (fault : LineFault) × WouldEnd line old new (record { answer = Err fault; after = after })
 IsUnfailed result after line old new = Unit {0}
+
+pub record IsTried {A S : Type 0} (line : Dialogue (LineEnd A S)) (old new : List Exchange) (result : Result A LineFault) (after : S) : Type 0 where
+  pub asks : Follows line old new (ended_by result after)
+  pub memory : IsUnfailed result after line old new
 
 -- ---- faults
 

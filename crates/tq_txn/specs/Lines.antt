@@ -1,5 +1,5 @@
 -- The lines of a client: what each asks, in order, each as the answers before demand, and what it answers of them.
-use Rattle.std.specs.Prelude.{◌≡◌, ◌⊎◌, ◌==◌, ◌+◌, ℕ, Bool, true, false, List, [], ◌∷◌, ◌++◌, Option, Some, None, Result, Ok, Err, if◌then◌else◌}
+use Rattle.std.specs.Prelude.{◌≡◌, ◌⊎◌, ◌==◌, ◌+◌, ℕ, Bool, true, false, List, [], ◌∷◌, ◌++◌, Option, Some, None, OnOk, Result, Ok, Err, if◌then◌else◌}
 use Rattle.std.specs.List.{All}
 use Rattle.tq_shape.specs.declared.part.Part.TheVariants as parts
 use Rattle.tq_store.specs.declared.copies.FileCopy.{FileCopy}
@@ -18,7 +18,7 @@ use Rattle.tq_asks.specs.declared.ask.WorkAsk.TheVariants.{Lock, Decide, Release
 use Rattle.tq_evidence.specs.declared.grant.Grant.{Grant}
 use Rattle.tq_evidence.specs.declared.op.Op.{Op}
 use Rattle.tq_evidence.specs.declared.op.OpKind.TheVariants as kinds
-use Rattle.tq_evidence.specs.Evidence.{greatest}
+use Rattle.tq_evidence.specs.Evidence.{granters, greatest}
 use Rattle.tq_live.specs.declared.purpose.Purpose.{Purpose}
 use Rattle.tq_live.specs.declared.purpose.Purpose.TheVariants as purposes
 use Rattle.tq_live.specs.declared.view.ViewAsk.TheVariants.{Choose, Mark}
@@ -30,13 +30,15 @@ use Rattle.tq_txn_states.specs.declared.fault.TxnFault.TheVariants.{NotAMember, 
 use Rattle.tq_txn_states.specs.declared.told.NodeTold.{NodeTold}
 use Rattle.tq_txn.specs.declared.read_answer.ReadAnswer.{ReadAnswer}
 use Rattle.tq_txn.specs.declared.read_answer.ReadAnswer.TheVariants.{Pending, Copy}
+use Rattle.tq_txn.specs.declared.operations.WantedLock.{WantedLock}
 use Rattle.tq_txn.specs.declared.applying.Applied.{Applied}
 use Rattle.tq_txn.specs.declared.applying.Applied.TheVariants.{Installed, Discarded}
 use Rattle.tq_txn_states.specs.Cited.{answers_of, grant_told}
 use Rattle.tq_txn_states.specs.Ended.{EndedView, decide_ask}
 use Rattle.tq_txn.specs.declared.asker.Exchange.{Exchange}
-use Rattle.tq_txn.specs.Dialogue.{Told, Dialogue, LineEnd, Ends, AsksNode, Follows, IsUnfailed, done, failed, and_then, unless, node_line, view_line}
-use Rattle.tq_txn_states.specs.Granting.{GrantingView, noted}
+use Rattle.tq_txn.specs.Dialogue.{Told, Dialogue, LineEnd, Ends, AsksNode, Follows, IsUnfailed, done, ended_by, failed, and_then, unless, node_line, view_line}
+use Rattle.tq_txn.specs.Told.{AreHeard}
+use Rattle.tq_txn_states.specs.Granting.{GrantingView, IsGrown, noted}
 use Rattle.tq_txn_states.specs.Open.{OpenView, pending, seen, written, has_all_ops, read_fault, read_copy, read_after, write_fault, write_after, grants_of, touched_by, rewritten}
 use Rattle.tq_txn_states.specs.Voting.{VotingView, has_vote, ask_fault, prepare_work, prepare_ask, vote_fault, vote_after}
 
@@ -125,6 +127,16 @@ next_lock file mode server old =
 abbrev pub locks_line : List ℕ → Mode → List ℕ → LocksView → Dialogue (LineEnd (Unit {0}) LocksView)
 locks_line file mode [] old = done tt old
 locks_line file mode (server ∷ servers) old = and_then (next_lock file mode server old) (λ new. new) (λ all new. locks_line file mode servers new)
+
+-- by this line the servers were asked for the lock that is wanted: each that granted it is noted, its answer was told, and
+-- where all did, theirs are the grants that came in
+pub record IsLocking (txn : OpenView) (want : WantedLock) (line : LocksView → Dialogue (LineEnd (Unit {0}) LocksView)) (numbers : List ℕ) (told later : List Exchange) (old new : GrantingView) (result : Result (Unit {0}) LineFault) : Type 0 where
+  pub asks : Follows (line (locks_of want.file txn old)) told later (ended_by result (locks_of want.file txn new))
+  pub memory : IsUnfailed result (locks_of want.file txn new) (line (locks_of want.file txn old)) told later
+  pub grown : IsGrown old new
+  pub heard : AreHeard txn.txn want.file told old.grants → AreHeard txn.txn want.file later new.grants
+  pub servers : OnOk result (granters new.grants ≡ granters old.grants ++ numbers)
+  pub modes : AreOf want.mode old.grants → AreOf want.mode new.grants
 
 -- a quorum from the view for what the locks are for, and a lock at each of its servers: their answers
 abbrev pub quorum_line : List ℕ → Mode → OpenView → Dialogue (LineEnd (List NodeTold) OpenView)

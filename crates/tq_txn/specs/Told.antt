@@ -70,6 +70,10 @@ Knows told (states.Open old) = KeepsOnly (answers_in told) old
 Knows told (states.Voting old) = VotesOnly (answers_in told) old
 Knows told (states.Ended old) = Unit {0}
 
+-- of a transaction in this state all that it keeps is told also afterwards
+abbrev pub IsKnown : {S : Type 0} → (S → Txn) → List Exchange → List Exchange → S → S → Type 0
+IsKnown state told later old new = Knows told (state old) → Knows later (state new)
+
 -- ---- what the desk is asked
 
 -- an ask of the desk cites only what was told

@@ -49,7 +49,8 @@ pub trait Asker {
 
     fn node(&mut self, alloc: Global, server: ServerId, ask: NodeAsk) -> Result<NodeTold, AskFault>
         requires { server.levels ≡ levels self.old }
-        ensures exchanges { told self.new ≡ told self.old ++ node_exchange server.number ask result }
+        ensures exchanges { told self.new
+            ≡ told self.old ++ node_exchange server.number ask result }
         ensures same { IfOk result (λ t. (t.server ≡ server.number) × (t.ask ≡ ask)) }
         ensures tree { levels self.new ≡ levels self.old };
 

@@ -6,7 +6,7 @@ ghost use Rattle.tq_evidence.specs.declared.vote.Vote.{Vote};
 ghost use Rattle.tq_txn.specs.Commits as spec;
 ghost use Rattle.tq_txn.specs.Dialogue as line;
 ghost use Rattle.tq_txn.specs.States as states;
-ghost use Rattle.tq_txn.specs.Told.{CitesSince, EndsAsTold, EndsWhereTold, Knows};
+ghost use Rattle.tq_txn.specs.Told.{CitesSince, EndsAsTold, EndsWhereTold, IsKnown, Knows};
 ghost use Rattle.tq_txn_states.specs.Ended as ending;
 ghost use Rattle.tq_txn_states.specs.Open.{HasVoters};
 ghost use Rattle.tq_txn_states.specs.Voting.{IsVotedOn, evidence_of};
@@ -28,11 +28,10 @@ fn prepare_each<A: Asker>(
     servers: &[ServerId],
 ) -> Result<(), LineFault>
     requires { list_all (λ id. id.levels == A.levels asker.old) servers.now ≡ true }
-    ensures asks { line.Follows (spec.prepares_line (numbers_of servers.now) voting.old) (A.told asker.old) (A.told asker.new) (line.ended_by result voting.new) }
-    ensures memory { line.IsUnfailed result voting.new (spec.prepares_line (numbers_of servers.now) voting.old) (A.told asker.old) (A.told asker.new) }
-    ensures txn { voting.new.txn ≡ voting.old.txn }
+    ensures asked { line.IsTried (spec.prepares_line (numbers_of servers.now) voting.old)
+        (A.told asker.old) (A.told asker.new) result voting.new }
     ensures kept { IsVotedOn voting.old voting.new }
-    ensures knows { Knows (A.told asker.old) (Txn.Voting voting.old) → Knows (A.told asker.new) (Txn.Voting voting.new) }
+    ensures knows { IsKnown Txn.Voting (A.told asker.old) (A.told asker.new) voting.old voting.new }
     ensures tree { A.levels asker.new ≡ A.levels asker.old }
 {
     for server in servers {
@@ -51,7 +50,8 @@ struct Ruling {
 /// What the desk's answer to a commit says, which cites these votes. It takes no memory.
 fn ruling_in(reply: DeskReply, cited: SharedSeq<CitedVote>) -> Ruling
     ensures answer { result.answer ≡ spec.committed reply }
-    ensures verdict { (votes : List Vote) → cited ≡ log.cited votes → result.verdict ≡ ending.commit_verdict votes reply }
+    ensures verdict { (votes : List Vote) → cited ≡ log.cited votes
+        → result.verdict ≡ ending.commit_verdict votes reply }
 {
     match reply {
         DeskReply::Committed { serial } => Ruling {
@@ -68,7 +68,8 @@ fn ruling_in(reply: DeskReply, cited: SharedSeq<CitedVote>) -> Ruling
 
 fn refused(refusal: DeskRefusal) -> Ruling
     ensures answer { result.answer ≡ Err (line.fault_of_desk refusal) }
-    ensures verdict { (votes : List Vote) → result.verdict ≡ ending.commit_verdict votes (DeskReply.Refused refusal) }
+    ensures verdict { (votes : List Vote)
+        → result.verdict ≡ ending.commit_verdict votes (DeskReply.Refused refusal) }
 {
     match refusal {
         DeskRefusal::Decided(verdict) => Ruling {
@@ -104,15 +105,20 @@ fn decided(ready: Ready, told: DeskTold, cited: SharedSeq<CitedVote>) -> Decisio
 /// Asks the desk to commit a transaction whose votes are all there. After a fault the transaction comes back with what
 /// it read and wrote and with its votes, or ended where the desk said how it ended before.
 pub fn decide<A: Asker>(asker: &mut A, alloc: Global, voting: Voting) -> Decision
-    ensures asks { line.Follows (spec.decide_line voting) (A.told asker.old) (A.told asker.new) (line.ended_by result.answer result.txn) }
-    ensures memory { line.IsUnfailed result.answer result.txn (spec.decide_line voting) (A.told asker.old) (A.told asker.new) }
+    ensures asks { line.Follows (spec.decide_line voting)
+        (A.told asker.old) (A.told asker.new) (line.ended_by result.answer result.txn) }
+    ensures memory { line.IsUnfailed result.answer result.txn
+        (spec.decide_line voting) (A.told asker.old) (A.told asker.new) }
     ensures levels { states.levels_of result.txn ≡ voting.txn.levels }
     ensures kept { states.IsGathered voting result.txn }
-    ensures verdict { EndsAsTold (Txn.Voting voting) (A.told asker.old) (A.told asker.new) result.txn }
+    ensures verdict { EndsAsTold (Txn.Voting voting)
+        (A.told asker.old) (A.told asker.new) result.txn }
     ensures unasked { line.IsUnasked result.answer (A.told asker.old) (A.told asker.new) }
     ensures ends { EndsWhereTold voting.txn.txn (A.told asker.old) (A.told asker.new) result.txn }
-    ensures knows { Knows (A.told asker.old) (Txn.Voting voting) → Knows (A.told asker.new) result.txn }
-    ensures cited { Knows (A.told asker.old) (Txn.Voting voting) → CitesSince (A.told asker.old) (A.told asker.new) }
+    ensures knows { Knows (A.told asker.old) (Txn.Voting voting)
+        → Knows (A.told asker.new) result.txn }
+    ensures cited { Knows (A.told asker.old) (Txn.Voting voting)
+        → CitesSince (A.told asker.old) (A.told asker.new) }
     ensures tree { A.levels asker.new ≡ A.levels asker.old }
 {
     let ready = match voting.ready() {
@@ -148,7 +154,8 @@ pub fn decide<A: Asker>(asker: &mut A, alloc: Global, voting: Voting) -> Decisio
 /// The voters, in a list of their own.
 fn voters_of(alloc: Global, voting: &Voting) -> Result<Vec<ServerId>, Memory>
     ensures numbers { IfOk result (λ voters. numbers_of voters.items ≡ voting.now.txn.voters) }
-    ensures tree { IfOk result (λ voters. list_all (λ id. id.levels == voting.now.txn.levels) voters.items ≡ true) }
+    ensures tree { IfOk result (λ voters.
+        list_all (λ id. id.levels == voting.now.txn.levels) voters.items ≡ true) }
     ensures exact { HasVoters voting.now.txn }
 {
     let voters = Vec::from_slice(alloc, voting.voters())?;
@@ -160,14 +167,19 @@ fn voters_of(alloc: Global, voting: &Voting) -> Result<Vec<ServerId>, Memory>
 /// After any fault it comes back with each vote gathered, or ended as the desk told.
 pub fn commit<A: Asker>(asker: &mut A, alloc: Global, voting: Voting) -> Decision
     requires { voting.txn.levels ≡ A.levels asker.old }
-    ensures asks { line.Follows (spec.commit_line voting) (A.told asker.old) (A.told asker.new) (line.ended_by result.answer result.txn) }
-    ensures memory { line.IsUnended result.answer result.txn (spec.commit_line voting) (A.told asker.old) (A.told asker.new) }
+    ensures asks { line.Follows (spec.commit_line voting)
+        (A.told asker.old) (A.told asker.new) (line.ended_by result.answer result.txn) }
+    ensures memory { line.IsUnended result.answer result.txn
+        (spec.commit_line voting) (A.told asker.old) (A.told asker.new) }
     ensures levels { states.levels_of result.txn ≡ voting.txn.levels }
     ensures kept { states.IsGathered voting result.txn }
-    ensures verdict { EndsAsTold (Txn.Voting voting) (A.told asker.old) (A.told asker.new) result.txn }
+    ensures verdict { EndsAsTold (Txn.Voting voting)
+        (A.told asker.old) (A.told asker.new) result.txn }
     ensures ends { EndsWhereTold voting.txn.txn (A.told asker.old) (A.told asker.new) result.txn }
-    ensures knows { Knows (A.told asker.old) (Txn.Voting voting) → Knows (A.told asker.new) result.txn }
-    ensures cited { Knows (A.told asker.old) (Txn.Voting voting) → CitesSince (A.told asker.old) (A.told asker.new) }
+    ensures knows { Knows (A.told asker.old) (Txn.Voting voting)
+        → Knows (A.told asker.new) result.txn }
+    ensures cited { Knows (A.told asker.old) (Txn.Voting voting)
+        → CitesSince (A.told asker.old) (A.told asker.new) }
     ensures tree { A.levels asker.new ≡ A.levels asker.old }
 {
     let mut voting = voting;
@@ -197,8 +209,8 @@ pub fn commit<A: Asker>(asker: &mut A, alloc: Global, voting: Voting) -> Decisio
 /// The ending of a transaction that committed.
 fn end_committed<A: Asker>(asker: &mut A, alloc: Global, serial: u64, txn: Txn) -> Decision
     requires { states.levels_of txn ≡ A.levels asker.old }
-    ensures asks { line.Follows (spec.commit_end serial txn) (A.told asker.old) (A.told asker.new) (line.ended_by result.answer result.txn) }
-    ensures memory { line.IsUnended result.answer result.txn (spec.commit_end serial txn) (A.told asker.old) (A.told asker.new) }
+    ensures asked { line.IsAsked (spec.commit_end serial txn)
+        (A.told asker.old) (A.told asker.new) result.answer result.txn }
     ensures same { result.txn ≡ txn }
     ensures tree { A.levels asker.new ≡ A.levels asker.old }
 {

@@ -1,17 +1,16 @@
-ghost use Rattle.std.specs.Prelude.{◌≡◌, ◌==◌, ◌++◌, ◌≤◌, [], ◌∷◌, true, false, List, Some, None, Ok, IfOk, OnErr};
+ghost use Rattle.std.specs.Prelude.{◌≡◌, ◌==◌, ◌≤◌, true, false, List, Some, None, Ok, IfOk, OnErr};
 ghost use Rattle.std.specs.List.{list_all};
 ghost use Rattle.tq_coterie.specs.Coterie.{numbers_of};
 ghost use Rattle.tq_txn.specs.Dialogue as line;
 ghost use Rattle.tq_txn.specs.Lines as spec;
-ghost use Rattle.tq_txn.specs.Told.{Knows};
+ghost use Rattle.tq_txn.specs.Told.{IsKnown};
 ghost use Rattle.tq_txn.specs.declared.asker.Exchange.{Exchange};
-ghost use Rattle.tq_txn.specs.declared.txn.Txn.TheVariants as states;
 ghost use Rattle.tq_txn_states.specs.Ballots.{with_ballots};
-ghost use Rattle.tq_txn_states.specs.Cited.{VotesOnly};
+ghost use Rattle.tq_txn_states.specs.Cited.{AddsVote};
 ghost use Rattle.tq_txn_states.specs.Ended.{decide_ask};
 ghost use Rattle.tq_txn_states.specs.Voting.{IsVotedOn, IsVoting, has_vote};
 
-use crate::{Applied, AskFault, Asker, Ended, LineFault, NodeTold, Voting};
+use crate::{Applied, AskFault, Asker, Ended, LineFault, NodeTold, Txn, Voting};
 use std::alloc::{AllocError, Global};
 use tq_asks::{NodeAsk, NodeRefusal, NodeReply, Verdict, WorkAsk};
 use tq_shape::{Memory, Part, ServerId, Shared};
@@ -36,12 +35,14 @@ pub fn prepare_at<A: Asker>(
     server: ServerId,
 ) -> Result<(), LineFault>
     requires { server.levels ≡ A.levels asker.old }
-    ensures asks { line.Follows (spec.prepare_line voting.old server.number) (A.told asker.old) (A.told asker.new) (line.ended_by result voting.new) }
+    ensures asks { line.Follows (spec.prepare_line voting.old server.number)
+        (A.told asker.old) (A.told asker.new) (line.ended_by result voting.new) }
     ensures txn { voting.new.txn ≡ voting.old.txn }
     ensures kept { IsVotedOn voting.old voting.new }
-    ensures knows { Knows (A.told asker.old) (states.Voting voting.old) → Knows (A.told asker.new) (states.Voting voting.new) }
+    ensures knows { IsKnown Txn.Voting (A.told asker.old) (A.told asker.new) voting.old voting.new }
     ensures unasked { line.IsUnasked result (A.told asker.old) (A.told asker.new) }
-    ensures memory { line.IsUnfailed result voting.new (spec.prepare_line voting.old server.number) (A.told asker.old) (A.told asker.new) }
+    ensures memory { line.IsUnfailed result voting.new
+        (spec.prepare_line voting.old server.number) (A.told asker.old) (A.told asker.new) }
     ensures err { OnErr result (voting.new ≡ voting.old) }
     ensures tree { A.levels asker.new ≡ A.levels asker.old }
 {
@@ -70,10 +71,13 @@ pub fn prepare_at<A: Asker>(
 fn take_vote(voting: &mut Voting, ballots: Ballots, told: NodeTold) -> Result<(), LineFault>
     requires good { IsVoting (with_ballots voting.old ballots) }
     requires room { 1 ≤ ballots.room }
-    ensures asks { (exchanges : List Exchange) → line.Follows (spec.voted (with_ballots voting.old ballots) told) exchanges exchanges (line.ended_by result voting.new) }
+    ensures asks { (exchanges : List Exchange)
+        → line.Follows (spec.voted (with_ballots voting.old ballots) told)
+        exchanges exchanges (line.ended_by result voting.new) }
     ensures txn { voting.new.txn ≡ voting.old.txn }
-    ensures kept { has_vote ballots.votes told.server ≡ false → IsVotedOn (with_ballots voting.old ballots) voting.new }
-    ensures cited { (before : List NodeTold) → VotesOnly before (with_ballots voting.old ballots) → VotesOnly (before ++ told ∷ []) voting.new }
+    ensures kept { has_vote ballots.votes told.server ≡ false
+        → IsVotedOn (with_ballots voting.old ballots) voting.new }
+    ensures cited { AddsVote told (with_ballots voting.old ballots) voting.new }
     ensures unasked { (before after : List Exchange) → line.IsUnasked result before after }
     ensures err { OnErr result (voting.new ≡ with_ballots voting.old ballots) }
 {
@@ -84,10 +88,10 @@ fn take_vote(voting: &mut Voting, ballots: Ballots, told: NodeTold) -> Result<()
             refusal,
         });
     }
-    if let Err(fault) = voting.vote_in(ballots, told) {
-        return Err(LineFault::from(fault));
+    match voting.vote_in(ballots, told) {
+        Ok(taken) => Ok(taken),
+        Err(fault) => Err(LineFault::from(fault)),
     }
-    Ok(())
 }
 
 /// One ask of a server, of which any answer is taken: its reply, or none where the ask was not taken.
@@ -98,8 +102,10 @@ pub fn ask_any<A: Asker>(
     ask: NodeAsk,
 ) -> Result<Option<NodeReply>, Memory>
     requires { server.levels ≡ A.levels asker.old }
-    ensures asks { IfOk result (λ reply. line.Follows (spec.any_line server.number ask) (A.told asker.old) (A.told asker.new) (Some (record { answer = Ok reply; after = tt }))) }
-    ensures err { OnErr result (line.Follows (spec.any_line server.number ask) (A.told asker.old) (A.told asker.new) None) }
+    ensures asks { IfOk result (λ reply. line.Follows (spec.any_line server.number ask)
+        (A.told asker.old) (A.told asker.new) (Some (record { answer = Ok reply; after = tt }))) }
+    ensures err { OnErr result (line.Follows (spec.any_line server.number ask)
+        (A.told asker.old) (A.told asker.new) None) }
     ensures unasked { OnErr result (A.told asker.new ≡ A.told asker.old) }
     ensures tree { A.levels asker.new ≡ A.levels asker.old }
 {
@@ -129,8 +135,10 @@ fn release_at<A: Asker>(
     wanted: bool,
 ) -> Result<(), LineFault>
     requires { server.levels ≡ A.levels asker.old }
-    ensures asks { line.Follows (spec.release_line txn server.number wanted) (A.told asker.old) (A.told asker.new) (line.ended_by result tt) }
-    ensures memory { line.IsUnended result tt (spec.release_line txn server.number wanted) (A.told asker.old) (A.told asker.new) }
+    ensures asks { line.Follows (spec.release_line txn server.number wanted)
+        (A.told asker.old) (A.told asker.new) (line.ended_by result tt) }
+    ensures memory { line.IsUnended result tt
+        (spec.release_line txn server.number wanted) (A.told asker.old) (A.told asker.new) }
     ensures tree { A.levels asker.new ≡ A.levels asker.old }
 {
     if !wanted {
@@ -162,8 +170,8 @@ fn end_at<A: Asker>(
 ) -> Result<(), LineFault>
     requires of_tree { server.levels ≡ A.levels asker.old }
     requires decide { decide.now ≡ decide_ask ended.now }
-    ensures asks { line.Follows (spec.end_line ended.now server.number) (A.told asker.old) (A.told asker.new) (line.ended_by result tt) }
-    ensures memory { line.IsUnended result tt (spec.end_line ended.now server.number) (A.told asker.old) (A.told asker.new) }
+    ensures asked { line.IsAsked (spec.end_line ended.now server.number)
+        (A.told asker.old) (A.told asker.new) result tt }
     ensures tree { A.levels asker.new ≡ A.levels asker.old }
 {
     let ask = decide_again(ended, decide)?;
@@ -183,8 +191,8 @@ fn end_by<A: Asker>(
 ) -> Result<(), LineFault>
     requires of_tree { list_all (λ id. id.levels == A.levels asker.old) servers.now ≡ true }
     requires decide { decide.now ≡ decide_ask ended.now }
-    ensures asks { line.Follows (spec.ending_line ended.now (numbers_of servers.now)) (A.told asker.old) (A.told asker.new) (line.ended_by result tt) }
-    ensures memory { line.IsUnended result tt (spec.ending_line ended.now (numbers_of servers.now)) (A.told asker.old) (A.told asker.new) }
+    ensures asked { line.IsAsked (spec.ending_line ended.now (numbers_of servers.now))
+        (A.told asker.old) (A.told asker.new) result tt }
     ensures tree { A.levels asker.new ≡ A.levels asker.old }
 {
     for server in servers {
@@ -201,8 +209,8 @@ pub(crate) fn end_at_each<A: Asker>(
     servers: &[ServerId],
 ) -> Result<(), LineFault>
     requires { list_all (λ id. id.levels == A.levels asker.old) servers.now ≡ true }
-    ensures asks { line.Follows (spec.ending_line ended.now (numbers_of servers.now)) (A.told asker.old) (A.told asker.new) (line.ended_by result tt) }
-    ensures memory { line.IsUnended result tt (spec.ending_line ended.now (numbers_of servers.now)) (A.told asker.old) (A.told asker.new) }
+    ensures asked { line.IsAsked (spec.ending_line ended.now (numbers_of servers.now))
+        (A.told asker.old) (A.told asker.new) result tt }
     ensures tree { A.levels asker.new ≡ A.levels asker.old }
 {
     if servers.is_empty() {
@@ -242,8 +250,10 @@ pub fn apply_at<A: Asker>(
     server: ServerId,
 ) -> Result<Applied, LineFault>
     requires { server.levels ≡ A.levels asker.old }
-    ensures asks { line.Follows (spec.apply_line txn verdict cite server.number) (A.told asker.old) (A.told asker.new) (line.ended_by result tt) }
-    ensures memory { line.IsUnfailed result tt (spec.apply_line txn verdict cite server.number) (A.told asker.old) (A.told asker.new) }
+    ensures asks { line.Follows (spec.apply_line txn verdict cite server.number)
+        (A.told asker.old) (A.told asker.new) (line.ended_by result tt) }
+    ensures memory { line.IsUnfailed result tt
+        (spec.apply_line txn verdict cite server.number) (A.told asker.old) (A.told asker.new) }
     ensures tree { A.levels asker.new ≡ A.levels asker.old }
 {
     let decide = WorkAsk::Decide { txn, verdict, cite };

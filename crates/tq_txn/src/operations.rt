@@ -4,13 +4,13 @@ ghost use Rattle.tq_coterie.specs.Coterie.{numbers_of};
 ghost use Rattle.tq_evidence.specs.Evidence.{granters};
 ghost use Rattle.tq_txn.specs.Dialogue as line;
 ghost use Rattle.tq_txn.specs.Lines as spec;
-ghost use Rattle.tq_txn.specs.Told.{AreHeard, Knows, answers_in};
-ghost use Rattle.tq_txn.specs.declared.txn.Txn.TheVariants as states;
+ghost use Rattle.tq_txn.specs.Lines.{IsLocking};
+ghost use Rattle.tq_txn.specs.Told.{AreHeard, IsKnown, answers_in};
 ghost use Rattle.tq_txn_states.specs.Cited.{grant_told};
 ghost use Rattle.tq_txn_states.specs.Granting as handed;
 ghost use Rattle.tq_txn_states.specs.Open as open_spec;
 
-use crate::{Asker, LineFault, NodeTold, Open, ReadAnswer, TxnFault};
+use crate::{Asker, LineFault, NodeTold, Open, ReadAnswer, Txn, TxnFault};
 use std::alloc::Global;
 use tq_asks::{NodeAsk, NodeReply, WorkAsk};
 use tq_coterie::Quorum;
@@ -65,7 +65,8 @@ fn choose<A: Asker>(
     levels: Levels,
     purpose: Purpose,
 ) -> Result<Quorum, LineFault>
-    ensures asks { line.Follows (spec.choose_line levels purpose) (A.told asker.old) (A.told asker.new) (line.ended_by (spec.servers_of result) tt) }
+    ensures asks { line.Follows (spec.choose_line levels purpose)
+        (A.told asker.old) (A.told asker.new) (line.ended_by (spec.servers_of result) tt) }
     ensures unasked { line.IsUnasked result (A.told asker.old) (A.told asker.new) }
     ensures quorum { IfOk result (λ quorum. quorum.levels ≡ levels) }
     ensures tree { A.levels asker.new ≡ A.levels asker.old }
@@ -86,7 +87,8 @@ struct WantedLock {
 /// The lock of this mode that a server's answer grants, with the ask once more.
 #[inline(always)]
 fn granted(mode: Mode, told: NodeTold) -> Result<(Grant, NodeAsk), LineFault>
-    ensures told { (txn : ℕ) (file : List ℕ) → told.ask ≡ spec.lock_ask txn file mode → spec.granted told told.reply ≡ spec.grant_answer txn file result }
+    ensures told { (txn : ℕ) (file : List ℕ) → told.ask ≡ spec.lock_ask txn file mode
+        → spec.granted told told.reply ≡ spec.grant_answer txn file result }
     ensures grant { IfOk result (λ locked. spec.IsLockAt told.server mode locked.0) }
     ensures ask { IfOk result (λ locked. locked.1 ≡ told.ask) }
 {
@@ -128,9 +130,12 @@ fn lock_at<A: Asker>(
 ) -> Result<(Grant, NodeAsk), LineFault>
     requires of_tree { server.levels ≡ A.levels asker.old }
     requires ask { ask ≡ spec.lock_ask txn lock.now.file lock.now.mode }
-    ensures asks { line.Follows (spec.lock_line txn lock.now.file lock.now.mode server.number) (A.told asker.old) (A.told asker.new) (line.ended_by (spec.grant_answer txn lock.now.file result) tt) }
+    ensures asks { line.Follows (spec.lock_line txn lock.now.file lock.now.mode server.number)
+        (A.told asker.old) (A.told asker.new)
+        (line.ended_by (spec.grant_answer txn lock.now.file result) tt) }
     ensures unasked { line.IsUnasked result (A.told asker.old) (A.told asker.new) }
-    ensures heard { IfOk result (λ locked. Contains (answers_in (A.told asker.new)) (grant_told txn lock.now.file locked.0)) }
+    ensures heard { IfOk result (λ locked.
+        Contains (answers_in (A.told asker.new)) (grant_told txn lock.now.file locked.0)) }
     ensures grant { IfOk result (λ locked. spec.IsLockAt server.number lock.now.mode locked.0) }
     ensures ask { IfOk result (λ locked. locked.1 ≡ spec.lock_ask txn lock.now.file lock.now.mode) }
     ensures tree { A.levels asker.new ≡ A.levels asker.old }
@@ -156,22 +161,13 @@ fn lock_next<A: Asker>(
     requires of_tree { server.levels ≡ A.levels asker.old }
     requires ask { ask ≡ spec.lock_ask open.now.txn lock.now.file lock.now.mode }
     requires room { handed.CanGrant open.now.levels granting.old (server.number ∷ []) }
-    ensures asks { line.Follows
-        (spec.next_lock lock.now.file lock.now.mode server.number (spec.locks_of lock.now.file open.now granting.old))
-        (A.told asker.old) (A.told asker.new)
-        (line.ended_by (spec.without_ask result) (spec.locks_of lock.now.file open.now granting.new)) }
-    ensures unasked { line.IsUnasked result (A.told asker.old) (A.told asker.new) }
-    ensures memory { line.IsUnfailed (spec.without_ask result) (spec.locks_of lock.now.file open.now granting.new)
-        (spec.next_lock lock.now.file lock.now.mode server.number (spec.locks_of lock.now.file open.now granting.old))
-        (A.told asker.old) (A.told asker.new) }
-    ensures room { OnOk result ((more : List ℕ) → handed.CanGrant open.now.levels granting.old (server.number ∷ more)
+    ensures locks { IsLocking open.now lock.now
+        (spec.next_lock lock.now.file lock.now.mode server.number) (server.number ∷ [])
+        (A.told asker.old) (A.told asker.new) granting.old granting.new (spec.without_ask result) }
+    ensures room { OnOk result ((more : List ℕ)
+        → handed.CanGrant open.now.levels granting.old (server.number ∷ more)
         → handed.CanGrant open.now.levels granting.new more) }
-    ensures grown { handed.IsGrown granting.old granting.new }
-    ensures heard { AreHeard open.now.txn lock.now.file (A.told asker.old) granting.old.grants
-        → AreHeard open.now.txn lock.now.file (A.told asker.new) granting.new.grants }
-    ensures ask { IfOk result (λ again. again ≡ spec.lock_ask open.now.txn lock.now.file lock.now.mode) }
-    ensures servers { OnOk result (granters granting.new.grants ≡ granters granting.old.grants ++ server.number ∷ []) }
-    ensures modes { spec.AreOf lock.now.mode granting.old.grants → spec.AreOf lock.now.mode granting.new.grants }
+    ensures ask { IfOk result (λ it. it ≡ spec.lock_ask open.now.txn lock.now.file lock.now.mode) }
     ensures tree { A.levels asker.new ≡ A.levels asker.old }
 {
     let locked = match lock_at(asker, alloc, open.txn(), lock, server, ask) {
@@ -198,18 +194,9 @@ fn lock_each<A: Asker>(
     requires of_tree { list_all (λ id. id.levels == A.levels asker.old) servers.now ≡ true }
     requires ask { ask ≡ spec.lock_ask open.now.txn lock.now.file lock.now.mode }
     requires room { handed.CanGrant open.now.levels granting.old (numbers_of servers.now) }
-    ensures asks { line.Follows
-        (spec.locks_line lock.now.file lock.now.mode (numbers_of servers.now) (spec.locks_of lock.now.file open.now granting.old))
-        (A.told asker.old) (A.told asker.new)
-        (line.ended_by result (spec.locks_of lock.now.file open.now granting.new)) }
-    ensures memory { line.IsUnfailed result (spec.locks_of lock.now.file open.now granting.new)
-        (spec.locks_line lock.now.file lock.now.mode (numbers_of servers.now) (spec.locks_of lock.now.file open.now granting.old))
-        (A.told asker.old) (A.told asker.new) }
-    ensures grown { handed.IsGrown granting.old granting.new }
-    ensures heard { AreHeard open.now.txn lock.now.file (A.told asker.old) granting.old.grants
-        → AreHeard open.now.txn lock.now.file (A.told asker.new) granting.new.grants }
-    ensures servers { OnOk result (granters granting.new.grants ≡ granters granting.old.grants ++ numbers_of servers.now) }
-    ensures modes { spec.AreOf lock.now.mode granting.old.grants → spec.AreOf lock.now.mode granting.new.grants }
+    ensures locks { IsLocking open.now lock.now
+        (spec.locks_line lock.now.file lock.now.mode (numbers_of servers.now))
+        (numbers_of servers.now) (A.told asker.old) (A.told asker.new) granting.old granting.new result }
     ensures tree { A.levels asker.new ≡ A.levels asker.old }
 {
     let mut ask = ask;
@@ -244,15 +231,14 @@ fn lock_quorum<A: Asker>(
     mode: Mode,
 ) -> Result<Granting, LineFault>
     requires { open.old.levels ≡ A.levels asker.old }
-    ensures asks { line.Follows (spec.quorum_line file.now mode open.old) (A.told asker.old) (A.told asker.new)
-        (line.ended_by (spec.granting_answer open.old.txn file.now result) (spec.locked open.new result)) }
-    ensures memory { line.IsUnfailed (spec.granting_answer open.old.txn file.now result) (spec.locked open.new result)
-        (spec.quorum_line file.now mode open.old) (A.told asker.old) (A.told asker.new) }
+    ensures asked { line.IsTried (spec.quorum_line file.now mode open.old)
+        (A.told asker.old) (A.told asker.new)
+        (spec.granting_answer open.old.txn file.now result) (spec.locked open.new result) }
     ensures levels { open.new.levels ≡ open.old.levels }
     ensures kept { open_spec.IsTouched open.old (spec.locked open.new result) }
     ensures heard { IfOk result (λ granting.
         AreHeard open.old.txn file.now (A.told asker.new) granting.grants) }
-    ensures member { IfOk result (λ granting. open_spec.is_member open.old.levels granting.grants ≡ true) }
+    ensures member { IfOk result (λ it. open_spec.is_member open.old.levels it.grants ≡ true) }
     ensures modes { IfOk result (λ granting. spec.AreOf mode granting.grants) }
     ensures take { IfOk result (λ granting. handed.CanTake granting (granters granting.grants)) }
     ensures of_tree { IfOk result (λ granting. handed.IsOfTree open.new.levels granting) }
@@ -288,11 +274,13 @@ pub fn read_file<A: Asker>(
     file: &FileName,
 ) -> Result<ReadAnswer, LineFault>
     requires { open.old.levels ≡ A.levels asker.old }
-    ensures asks { line.Follows (spec.read_line open.old file.now) (A.told asker.old) (A.told asker.new) (line.ended_by result open.new) }
-    ensures memory { spec.IsNoted result open.new (spec.quorum_line file.now Mode.Shared open.old) (A.told asker.old) (A.told asker.new) }
+    ensures asks { line.Follows (spec.read_line open.old file.now)
+        (A.told asker.old) (A.told asker.new) (line.ended_by result open.new) }
+    ensures memory { spec.IsNoted result open.new (spec.quorum_line file.now Mode.Shared open.old)
+        (A.told asker.old) (A.told asker.new) }
     ensures levels { open.new.levels ≡ open.old.levels }
     ensures err { OnErr result (open_spec.IsTouched open.old open.new) }
-    ensures knows { Knows (A.told asker.old) (states.Open open.old) → Knows (A.told asker.new) (states.Open open.new) }
+    ensures knows { IsKnown Txn.Open (A.told asker.old) (A.told asker.new) open.old open.new }
     ensures tree { A.levels asker.new ≡ A.levels asker.old }
 {
     if let Some(content) = open.pending(file) {
@@ -320,11 +308,13 @@ fn read_at_quorum<A: Asker>(
     requires tree { open.old.levels ≡ A.levels asker.old }
     requires fresh { open_spec.is_used open.old.ops file.now ≡ false }
     requires few { open_spec.has_all_ops open.old ≡ false }
-    ensures asks { line.Follows (spec.quorum_read open.old file.now) (A.told asker.old) (A.told asker.new) (line.ended_by result open.new) }
-    ensures memory { spec.IsNoted result open.new (spec.quorum_line file.now Mode.Shared open.old) (A.told asker.old) (A.told asker.new) }
+    ensures asks { line.Follows (spec.quorum_read open.old file.now)
+        (A.told asker.old) (A.told asker.new) (line.ended_by result open.new) }
+    ensures memory { spec.IsNoted result open.new (spec.quorum_line file.now Mode.Shared open.old)
+        (A.told asker.old) (A.told asker.new) }
     ensures levels { open.new.levels ≡ open.old.levels }
     ensures err { OnErr result (open_spec.IsTouched open.old open.new) }
-    ensures knows { Knows (A.told asker.old) (states.Open open.old) → Knows (A.told asker.new) (states.Open open.new) }
+    ensures knows { IsKnown Txn.Open (A.told asker.old) (A.told asker.new) open.old open.new }
     ensures tree { A.levels asker.new ≡ A.levels asker.old }
 {
     let granting = match lock_quorum(asker, alloc, open, file, Mode::Shared) {
@@ -347,11 +337,13 @@ pub fn write_file<A: Asker>(
     content: Content,
 ) -> Result<u64, LineFault>
     requires { open.old.levels ≡ A.levels asker.old }
-    ensures asks { line.Follows (spec.write_line open.old file.now content) (A.told asker.old) (A.told asker.new) (line.ended_by result open.new) }
-    ensures memory { line.IsUnfailed result open.new (spec.write_line open.old file.now content) (A.told asker.old) (A.told asker.new) }
+    ensures asks { line.Follows (spec.write_line open.old file.now content)
+        (A.told asker.old) (A.told asker.new) (line.ended_by result open.new) }
+    ensures memory { line.IsUnfailed result open.new
+        (spec.write_line open.old file.now content) (A.told asker.old) (A.told asker.new) }
     ensures levels { open.new.levels ≡ open.old.levels }
     ensures err { OnErr result (open_spec.IsTouched open.old open.new) }
-    ensures knows { Knows (A.told asker.old) (states.Open open.old) → Knows (A.told asker.new) (states.Open open.new) }
+    ensures knows { IsKnown Txn.Open (A.told asker.old) (A.told asker.new) open.old open.new }
     ensures tree { A.levels asker.new ≡ A.levels asker.old }
 {
     if let Some(op) = open.written(file) {
@@ -376,11 +368,13 @@ fn write_at_quorum<A: Asker>(
     requires tree { open.old.levels ≡ A.levels asker.old }
     requires fresh { open_spec.is_written open.old.ops file.now ≡ false }
     requires few { open_spec.has_all_ops open.old ≡ false }
-    ensures asks { line.Follows (spec.quorum_write open.old file.now content) (A.told asker.old) (A.told asker.new) (line.ended_by result open.new) }
-    ensures memory { line.IsUnfailed result open.new (spec.quorum_write open.old file.now content) (A.told asker.old) (A.told asker.new) }
+    ensures asks { line.Follows (spec.quorum_write open.old file.now content)
+        (A.told asker.old) (A.told asker.new) (line.ended_by result open.new) }
+    ensures memory { line.IsUnfailed result open.new
+        (spec.quorum_write open.old file.now content) (A.told asker.old) (A.told asker.new) }
     ensures levels { open.new.levels ≡ open.old.levels }
     ensures err { OnErr result (open_spec.IsTouched open.old open.new) }
-    ensures knows { Knows (A.told asker.old) (states.Open open.old) → Knows (A.told asker.new) (states.Open open.new) }
+    ensures knows { IsKnown Txn.Open (A.told asker.old) (A.told asker.new) open.old open.new }
     ensures tree { A.levels asker.new ≡ A.levels asker.old }
 {
     let granting = match lock_quorum(asker, alloc, open, file, Mode::Exclusive) {

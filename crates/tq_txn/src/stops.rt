@@ -1,11 +1,10 @@
 ghost use Rattle.std.specs.Prelude.{◌≡◌};
 ghost use Rattle.tq_txn.specs.Dialogue as line;
 ghost use Rattle.tq_txn.specs.Lines as spec;
-ghost use Rattle.tq_txn.specs.Told.{Knows};
-ghost use Rattle.tq_txn.specs.declared.txn.Txn.TheVariants as states;
+ghost use Rattle.tq_txn.specs.Told.{IsKnown};
 
 use crate::endings::ask_any;
-use crate::{Asker, LineFault, Voting};
+use crate::{Asker, LineFault, Txn, Voting};
 use std::alloc::Global;
 use tq_asks::{NodeAsk, WorkAsk};
 use tq_live::ViewAsk;
@@ -13,8 +12,8 @@ use tq_shape::{ServerId, Shared};
 
 /// Marks a server down.
 fn mark_down<A: Asker>(asker: &mut A, alloc: Global, server: u64) -> Result<(), LineFault>
-    ensures asks { line.Follows (spec.down_line server) (A.told asker.old) (A.told asker.new) (line.ended_by result tt) }
-    ensures memory { line.IsUnfailed result tt (spec.down_line server) (A.told asker.old) (A.told asker.new) }
+    ensures asked { line.IsTried (spec.down_line server)
+        (A.told asker.old) (A.told asker.new) result tt }
     ensures tree { A.levels asker.new ≡ A.levels asker.old }
 {
     match asker.view(alloc, ViewAsk::Mark { server, up: false }) {
@@ -33,8 +32,10 @@ pub fn stop_at<A: Asker>(
     after: u32,
 ) -> Result<(), LineFault>
     requires { server.levels ≡ A.levels asker.old }
-    ensures asks { line.Follows (spec.stop_line server.number ask after) (A.told asker.old) (A.told asker.new) (line.ended_by result tt) }
-    ensures memory { line.IsUnfailed result tt (spec.stop_line server.number ask after) (A.told asker.old) (A.told asker.new) }
+    ensures asks { line.Follows (spec.stop_line server.number ask after)
+        (A.told asker.old) (A.told asker.new) (line.ended_by result tt) }
+    ensures memory { line.IsUnfailed result tt
+        (spec.stop_line server.number ask after) (A.told asker.old) (A.told asker.new) }
     ensures tree { A.levels asker.new ≡ A.levels asker.old }
 {
     let ask = Shared::new(alloc, ask)?;
@@ -54,9 +55,11 @@ pub fn prepare_stopping<A: Asker>(
     after: u32,
 ) -> Result<bool, LineFault>
     requires { server.levels ≡ A.levels asker.old }
-    ensures asks { line.Follows (spec.prepare_stop_line voting.now server.number after) (A.told asker.old) (A.told asker.new) (line.ended_by result voting.now) }
-    ensures memory { line.IsUnfailed result voting.now (spec.prepare_stop_line voting.now server.number after) (A.told asker.old) (A.told asker.new) }
-    ensures knows { Knows (A.told asker.old) (states.Voting voting.now) → Knows (A.told asker.new) (states.Voting voting.now) }
+    ensures asks { line.Follows (spec.prepare_stop_line voting.now server.number after)
+        (A.told asker.old) (A.told asker.new) (line.ended_by result voting.now) }
+    ensures memory { line.IsUnfailed result voting.now
+        (spec.prepare_stop_line voting.now server.number after) (A.told asker.old) (A.told asker.new) }
+    ensures knows { IsKnown Txn.Voting (A.told asker.old) (A.told asker.new) voting.now voting.now }
     ensures tree { A.levels asker.new ≡ A.levels asker.old }
 {
     if voting.has_vote(server) {

@@ -1,9 +1,8 @@
 -- What is kept stands among what was told, from one answer to the next.
-use Rattle.std.proofs.Common.{◌≡◌, ◌==◌, ℕ, Bool, true, false, ◌&&◌, cond, List, [], ◌∷◌, ◌++◌, nat_lt, Some, None, Result, Ok, Err, refl, sym, ap, ◌∙◌, subst}
+use Rattle.std.proofs.Common.{◌≡◌, ◌==◌, ℕ, Bool, true, false, ◌&&◌, cond, List, [], ◌∷◌, ◌++◌, nat_lt, Some, None, refl, sym, ap, ◌∙◌, subst}
 use Rattle.std.specs.Cmp.Lexicographic.{same_text}
 use Rattle.std.specs.List.{All, Contains, cons_option}
 use Rattle.std.specs.Option.{unwrap_or}
-use Rattle.std.specs.Prelude.{OnOk}
 use Rattle.std.proofs.lemmas.Bool.{and_parts, eqb-true}
 use Rattle.std.proofs.lemmas.List.Elements.{All-cons, All-head, All-nil, All-tail, All-weaker, Contains-append_left, Contains-append_right, Contains-push}
 use Rattle.std.specs.Ordering.{is_lt}
@@ -21,7 +20,7 @@ use Rattle.tq_evidence.specs.declared.op.OpKind.{OpKind}
 use Rattle.tq_evidence.specs.declared.vote.Vote.{Vote}
 use Rattle.tq_store.specs.Names.{same_name}
 use Rattle.tq_txn_states.specs.declared.told.NodeTold.{NodeTold}
-use Rattle.tq_txn_states.specs.Cited.{grant_told, answers_of, vote_told, CitesOnly, IsOpTold, IsVoteTold, KeepsOnly, VotesOnly}
+use Rattle.tq_txn_states.specs.Cited.{grant_told, answers_of, vote_told, AddsOnly, AddsVote, CitesOnly, IsOpTold, IsVoteTold, KeepsOnly, VotesOnly}
 use Rattle.tq_txn_states.specs.Open.{OpenView, fits, granted_by, grant_of, grants_of, taken, rewritten}
 use Rattle.tq_evidence.specs.Evidence.{writes_file}
 use Rattle.tq_txn_states.specs.Sets.{put, changed}
@@ -149,19 +148,14 @@ vote_keeps old answer told is =
 
 -- ---- the same, of what a call leaves
 
-pub taken_cited : (kind : OpKind) (old new : OpenView) (op : Op) (answers : List NodeTold) → new ≡ taken old op → op.grants ≡ grants_of kind old.txn op.file answers → (told : List NodeTold) → KeepsOnly told old → KeepsOnly (told ++ answers) new
+pub taken_cited : (kind : OpKind) (old new : OpenView) (op : Op) (answers : List NodeTold) → new ≡ taken old op → op.grants ≡ grants_of kind old.txn op.file answers → AddsOnly answers old new
 taken_cited kind old new op answers is grants told kept =
     let P : List Grant → Type 0 = λ gs. All (λ grant. Contains (told ++ answers) (grant_told old.txn op.file grant)) gs in
     let here : IsOpTold old.txn (told ++ answers) op = subst P (sym grants) (op_told kind old.txn op.file told answers) in
     subst (KeepsOnly (told ++ answers)) (sym is) (taken_keeps old op told answers here kept)
 
--- the same of a call that may have failed
-pub taken_cited_if : {A E : Type 0} (result : Result A E) (kind : OpKind) (old new : OpenView) (op : Op) (answers : List NodeTold) → OnOk result (new ≡ taken old op) → op.grants ≡ grants_of kind old.txn op.file answers → OnOk result ((told : List NodeTold) → KeepsOnly told old → KeepsOnly (told ++ answers) new)
-taken_cited_if (Ok a) kind old new op answers is grants = taken_cited kind old new op answers is grants
-taken_cited_if (Err fault) kind old new op answers is grants = tt
-
 -- the same, by the answers that told of its grants
-pub granted_cited : (old new : OpenView) (op : Op) (grants : List Grant) → new ≡ taken old op → op.grants ≡ grants → (told : List NodeTold) → KeepsOnly told old → KeepsOnly (told ++ answers_of old.txn op.file grants) new
+pub granted_cited : (old new : OpenView) (op : Op) (grants : List Grant) → new ≡ taken old op → op.grants ≡ grants → AddsOnly (answers_of old.txn op.file grants) old new
 granted_cited old new op grants is same told kept =
     let answers = answers_of old.txn op.file grants in
     let P : List Grant → Type 0 = λ gs. All (λ grant. Contains (told ++ answers) (grant_told old.txn op.file grant)) gs in
@@ -173,7 +167,7 @@ granted_cited old new op grants is same told kept =
 pub close_cited : (old : OpenView) (new : VotingView) → new ≡ closed old → (told : List NodeTold) → KeepsOnly told old → VotesOnly told new
 close_cited old new is told kept = subst (VotesOnly told) (sym is) kept
 
-pub vote_cited : (old new : VotingView) (answer : NodeTold) (txn : ℕ) (vote : Vote) → txn ≡ old.txn.txn → vote_of txn answer ≡ Some vote → new ≡ record old { votes = with_vote vote old.votes } → (told : List NodeTold) → VotesOnly told old → VotesOnly (told ++ answer ∷ []) new
+pub vote_cited : (old new : VotingView) (answer : NodeTold) (txn : ℕ) (vote : Vote) → txn ≡ old.txn.txn → vote_of txn answer ≡ Some vote → new ≡ record old { votes = with_vote vote old.votes } → AddsVote answer old new
 vote_cited old new answer txn vote same found is told kept =
     let P : ℕ → Type 0 = λ number. vote_of number answer ≡ Some vote in
     let by : vote_after old answer ≡ record old { votes = with_vote vote old.votes } = ap (voted old) (subst P same found) in

@@ -10,8 +10,8 @@ use Rattle.tq_evidence.specs.declared.op.Op.{Op}
 use Rattle.tq_evidence.specs.Evidence.{granters, greatest, servers_of}
 use Rattle.tq_txn_states.specs.declared.granting.Kept.{Kept}
 use Rattle.tq_txn_states.specs.declared.fault.TxnFault.TheVariants.{VersionFull}
-use Rattle.tq_txn_states.specs.Open.{OpenView, IsOpen, IsTouched, is_full, keeping, taken, version_after, version_fault, with_op}
-use Rattle.tq_txn_states.specs.Granting.{GrantingView, CanGrant, CanTake, IsGrown, IsKept, IsOfTree, are_noted, noted}
+use Rattle.tq_txn_states.specs.Open.{OpenView, IsGoodOp, IsOpen, IsTouched, is_full, taken, version_after, version_fault, with_op}
+use Rattle.tq_txn_states.specs.Granting.{GrantingView, CanGrant, CanPut, CanTake, Fits, IsGrown, IsKept, IsOfTree, are_noted, keeping, noted}
 use Rattle.tq_txn_states.specs.Sets.{IsReady, IsWithin, RoomySet, with_number, with_numbers}
 use Rattle.tq_txn_states.proofs.NumberSets.{has-with_number, with_numbers-held, within-with_number}
 
@@ -139,16 +139,38 @@ version_refused grants is = by_fault (is_full (greatest grants)) (greatest grant
 -- ---- what is kept
 
 -- the transaction that keeps what was handed out is the one that has taken it back
-pub kept_as : (old : OpenView) (kept : Kept) (granting : GrantingView) → IsKept kept granting → keeping old kept.ops.items kept.voters.servers kept.touched.servers ≡ noted old granting
+pub kept_as : (old : OpenView) (kept : Kept) (granting : GrantingView) → IsKept kept granting → keeping old kept ≡ noted old granting
 kept_as old kept granting is = λ i. record old { ops = is.ops i; voters = (is.voters i).servers; touched = (is.touched i).servers }
+
+-- what was handed out fits as it is taken back
+pub fits_back : (old : OpenView) (kept : Kept) (granting : GrantingView) → IsKept kept granting → IsOfTree old.levels granting → IsOpen (noted old granting) → Fits old kept
+fits_back old kept granting is of good = record {
+  voters = ap (λ (set : RoomySet). set.levels) is.voters ∙ of.voters;
+  touched = ap (λ (set : RoomySet). set.levels) is.touched ∙ of.touched;
+  good = subst IsOpen (sym (kept_as old kept granting is)) good;
+}
 
 pub place_left : (kept : Kept) (granting : GrantingView) → IsKept kept granting → 1 ≤ granting.place → vec_len kept.ops < vec_capacity kept.ops
 place_left kept granting is some =
     let here : 1 ≤ vec_capacity kept.ops - vec_len kept.ops = subst (λ n. 1 ≤ n) (sym is.place) some in
     omega arith
 
+-- an operation by the grants that came in can be taken
+pub can_put : (old : OpenView) (kept : Kept) (granting : GrantingView) (op : Op) → IsKept kept granting → IsOfTree old.levels granting → IsOpen (noted old granting) → CanTake granting (granters granting.grants)
+    → op.grants ≡ granting.grants → are_noted granting.touched.servers granting.grants ≡ true → IsGoodOp (noted old granting) op → CanPut old kept op
+can_put old kept granting op is of opened can grants noted good =
+    let P : RoomySet → List Grant → Type 0 = λ set gs. are_noted set.servers gs ≡ true in
+    let Q : RoomySet → Bool → List Grant → Type 0 = λ set grows gs. IsReady set grows (granters gs) in
+    record {
+      fits = fits_back old kept granting is of opened;
+      good = subst (λ (v : OpenView). IsGoodOp v op) (sym (kept_as old kept granting is)) good;
+      noted = subst (P kept.touched) (sym grants) (subst (λ set. P set granting.grants) (sym is.touched) noted);
+      room = subst (Q kept.voters kept.grows) (sym grants) (subst (λ grows. Q kept.voters grows granting.grants) (sym is.grows) (subst (λ set. Q set granting.grows granting.grants) (sym is.voters) can.voters));
+      place = place_left kept granting is can.place;
+    }
+
 -- an operation that is put there, each of whose servers is noted
 pub taken_by : (old : OpenView) (op : Op) (ops : List Op) (voters touched : List ℕ) → ops ≡ with_op old.ops op → voters ≡ with_numbers old.voters (servers_of op) → touched ≡ old.touched → are_noted old.touched op.grants ≡ true
-    → keeping old ops voters touched ≡ taken old op
+    → record old { ops = ops; voters = voters; touched = touched } ≡ taken old op
 taken_by old op ops voters touched put grown same noted =
     λ i. record old { ops = put i; voters = grown i; touched = (same ∙ sym (with_numbers-held old.touched (granters op.grants) noted)) i }

@@ -1,5 +1,5 @@
 -- What a transaction keeps, and what its commit cites, stands among the answers that it was told.
-use Rattle.std.specs.Prelude.{ℕ, List, [], map}
+use Rattle.std.specs.Prelude.{◌≡◌, ℕ, List, [], ◌∷◌, ◌++◌, None, OnErr, OnOk, Result, map}
 use Rattle.std.specs.List.{All, Contains}
 use Rattle.tq_store.specs.declared.write.Write.{Write}
 use Rattle.tq_asks.specs.declared.ask.NodeAsk.TheVariants.{Work}
@@ -10,9 +10,10 @@ use Rattle.tq_desk.specs.declared.ask.DeskAsk.TheVariants.{Begin, Commit, Resolv
 use Rattle.tq_evidence.specs.declared.grant.Grant.{Grant}
 use Rattle.tq_evidence.specs.declared.op.Op.{Op}
 use Rattle.tq_evidence.specs.declared.vote.Vote.{Vote}
+use Rattle.tq_txn_states.specs.declared.fault.TxnFault.{TxnFault}
 use Rattle.tq_txn_states.specs.declared.told.NodeTold.{NodeTold}
 use Rattle.tq_txn_states.specs.Open.{OpenView}
-use Rattle.tq_txn_states.specs.Voting.{VotingView, evidence_of}
+use Rattle.tq_txn_states.specs.Voting.{KeepsVotes, VotingView, evidence_of, vote_after, vote_fault}
 
 -- the answer of a server that granted the transaction this lock on the file
 abbrev pub grant_told : ℕ → List ℕ → Grant → NodeTold
@@ -48,3 +49,19 @@ KeepsOnly told old = CitesOnly told (Commit old.txn old.ops [])
 
 abbrev pub VotesOnly : List NodeTold → VotingView → Type 0
 VotesOnly told old = CitesOnly told (evidence_of old)
+
+-- afterwards it keeps only what it kept before, and what these answers tell
+abbrev pub AddsOnly : List NodeTold → OpenView → OpenView → Type 0
+AddsOnly answers old new = (told : List NodeTold) → KeepsOnly told old → KeepsOnly (told ++ answers) new
+
+abbrev pub AddsVote : NodeTold → VotingView → VotingView → Type 0
+AddsVote answer old new = (told : List NodeTold) → VotesOnly told old → VotesOnly (told ++ answer ∷ []) new
+
+-- the vote that the answer tells of is taken, or else the transaction is as it was
+pub record TakesVote (old : VotingView) (answer : NodeTold) (new : VotingView) (result : Result (Unit {0}) TxnFault) : Type 0 where
+  pub succeeds : OnOk result (vote_fault old answer ≡ None)
+  pub after : OnOk result (new ≡ vote_after old answer)
+  pub cited : OnOk result (AddsVote answer old new)
+  pub txn : new.txn ≡ old.txn
+  pub kept : OnOk result (KeepsVotes old.votes new.votes)
+  pub err : OnErr result (new ≡ old)

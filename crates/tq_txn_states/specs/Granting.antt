@@ -1,13 +1,13 @@
 -- What a transaction keeps of its operations, handed out while the servers of a quorum grant locks.
-use Rattle.std.specs.Prelude.{◌≡◌, ◌≤◌, ◌-◌, ℕ, Bool, List, length, vec_len, vec_capacity}
+use Rattle.std.specs.Prelude.{◌≡◌, ◌≤◌, ◌<◌, ◌-◌, ℕ, Bool, true, List, length, vec_len, vec_capacity}
 use Rattle.std.specs.List.{list_all}
 use Rattle.tq_coterie.specs.Coterie.{has}
 use Rattle.tq_evidence.specs.declared.grant.Grant.{Grant}
 use Rattle.tq_evidence.specs.declared.op.Op.{Op}
 use Rattle.tq_evidence.specs.Evidence.{granters}
 use Rattle.tq_txn_states.specs.declared.granting.Kept.{Kept}
-use Rattle.tq_txn_states.specs.Open.{OpenView}
-use Rattle.tq_txn_states.specs.Sets.{IsReady, IsWithin, RoomySet}
+use Rattle.tq_txn_states.specs.Open.{OpenView, IsGoodOp, IsOpen}
+use Rattle.tq_txn_states.specs.Sets.{IsReady, IsWithin, RoomySet, with_number}
 
 -- the operations, and how many more have a place; their servers, and whether these are to grow; the servers that granted
 -- a lock, and whether these are to grow; the grants so far, and how many more have room
@@ -42,6 +42,10 @@ pub record CanTake (granting : GrantingView) (numbers : List ℕ) : Type 0 where
   pub voters : IsReady granting.voters granting.grows numbers
   pub place : 1 ≤ granting.place
 
+-- this server is noted from now on, and each that was
+abbrev pub Notes : GrantingView → GrantingView → ℕ → Type 0
+Notes old new number = new.touched.servers ≡ with_number old.touched.servers number
+
 -- there may be more grants, each with its server noted, and all else is as it was
 pub record IsGrown (old new : GrantingView) : Type 0 where
   pub ops : new.ops ≡ old.ops
@@ -62,3 +66,21 @@ pub record IsKept (kept : Kept) (granting : GrantingView) : Type 0 where
   pub voters : kept.voters ≡ granting.voters
   pub grows : kept.grows ≡ granting.grows
   pub touched : kept.touched ≡ granting.touched
+
+-- the transaction once it keeps these operations and servers
+abbrev pub keeping : OpenView → Kept → OpenView
+keeping old kept = record old { ops = kept.ops.items; voters = kept.voters.servers; touched = kept.touched.servers }
+
+-- they fit the transaction: the servers are of its tree, and the operations are good evidence as far as they go
+pub record Fits (old : OpenView) (kept : Kept) : Type 0 where
+  pub voters : kept.voters.levels ≡ old.levels
+  pub touched : kept.touched.levels ≡ old.levels
+  pub good : IsOpen (keeping old kept)
+
+-- with them the transaction can take the operation with no memory
+pub record CanPut (old : OpenView) (kept : Kept) (op : Op) : Type 0 where
+  pub fits : Fits old kept
+  pub good : IsGoodOp (keeping old kept) op
+  pub noted : are_noted kept.touched.servers op.grants ≡ true
+  pub room : IsReady kept.voters kept.grows (granters op.grants)
+  pub place : vec_len kept.ops < vec_capacity kept.ops

@@ -1,6 +1,6 @@
 -- An open transaction: what it has read and written, and what an answer that it is told makes of it.
-use Rattle.std.specs.Prelude.{◌≡◌, ◌==◌, ◌+◌, ◌^◌, ℕ, Bool, true, false, not, ◌&&◌, ◌≤◌, nat_lt, nat_le, List, [], length, Option, Some, None, is_none, if◌then◌else◌}
-use Rattle.std.specs.List.{list_all, list_any, find, filter_map}
+use Rattle.std.specs.Prelude.{◌≡◌, ◌==◌, ◌+◌, ◌^◌, ℕ, Bool, true, false, not, ◌&&◌, nat_lt, nat_le, List, [], length, Option, Some, None, is_none, if◌then◌else◌}
+use Rattle.std.specs.List.{list_any, find, filter_map}
 use Rattle.std.specs.Option.{option_map}
 use Rattle.std.specs.Ordering.{is_lt}
 use Rattle.tq_shape.specs.Limits.{LimitsView}
@@ -62,6 +62,10 @@ has_all_ops old = nat_le old.limits.ops (length old.ops)
 abbrev pub ComesOf : Option TxnFault → TxnFault → Type 0
 ComesOf cause Memory = Unit {0}
 ComesOf cause fault = cause ≡ Some fault
+
+-- a transaction comes back as it was, with a fault of which this is known
+abbrev pub IsBack : {S : Type 0} → S → (TxnFault → Type 0) → S × TxnFault → Type 0
+IsBack old P back = (back.0 ≡ old) × P back.1
 
 -- ---- grants
 
@@ -167,10 +171,6 @@ pub record IsGoodOp (old : OpenView) (op : Op) : Type 0 where
 -- the operations with one more, before those of later files
 abbrev pub with_op : List Op → Op → List Op
 with_op ops op = put (λ other. is_lt (name_cmp op.file other.file)) op ops
-
--- the transaction with other operations and sets of servers
-abbrev pub keeping : OpenView → List Op → List ℕ → List ℕ → OpenView
-keeping old ops voters touched = record old { ops = ops; voters = voters; touched = touched }
 
 -- the transaction after an operation: its servers vote, and have granted a lock
 abbrev pub taken : OpenView → Op → OpenView

@@ -1,5 +1,5 @@
 -- Lists in order: sets of servers as the ascending lists of their numbers, and a value put at its place.
-use Rattle.std.specs.Prelude.{◌≡◌, ◌==◌, ◌≤◌, ℕ, Bool, true, false, List, [], ◌∷◌, length, fold, if◌then◌else◌}
+use Rattle.std.specs.Prelude.{◌≡◌, ◌==◌, ◌≤◌, ℕ, Bool, true, false, List, [], ◌∷◌, length, fold, nat_lt, if◌then◌else◌}
 use Rattle.std.specs.List.{list_all}
 use Rattle.tq_shape.specs.Tree.{Server}
 use Rattle.tq_coterie.specs.Coterie.{has, with_server, numbers_of}
@@ -31,6 +31,10 @@ IsWithin few many = (server : ℕ) → has few server ≡ true → has many serv
 abbrev pub put : {X : Type 0} → (X → Bool) → X → List X → List X
 put later x [] = x ∷ []
 put later x (first ∷ rest) = if later first then x ∷ first ∷ rest else first ∷ put later x rest
+
+-- the servers with one more, before the first above it
+abbrev pub with_id : Server → List Server → List Server
+with_id server ids = put (λ id. nat_lt server.number id.number) server ids
 
 -- the list with the first value that passes the test changed
 abbrev pub changed : {X : Type 0} → (X → Bool) → (X → X) → List X → List X

@@ -17,7 +17,7 @@ use Rattle.tq_evidence.specs.declared.vote.Vote.{Vote}
 use Rattle.tq_evidence.specs.Evidence.{is_write, has_server, is_server_of, covers, rises, servers_of, votes_rise, are_of_servers, has_writes, is_some_op}
 use Rattle.tq_txn_states.specs.declared.told.NodeTold.{NodeTold}
 use Rattle.tq_txn_states.specs.declared.fault.TxnFault.{TxnFault}
-use Rattle.tq_txn_states.specs.declared.fault.TxnFault.TheVariants.{NotAVoter, NotMyVote, LostLock, VotesMissing}
+use Rattle.tq_txn_states.specs.declared.fault.TxnFault.TheVariants.{Memory, NotAVoter, NotMyVote, LostLock, VotesMissing}
 use Rattle.tq_txn_states.specs.Open.{OpenView}
 use Rattle.tq_shape.specs.Steps.{refuse, refuse_for}
 use Rattle.tq_txn_states.specs.Sets.{put, changed}
@@ -61,6 +61,10 @@ HasWhole old (Some ask) = ask ≡ Work (Prepare old.txn (map write_in (writes_in
 
 abbrev pub ask_fault : OpenView → ℕ → Option TxnFault
 ask_fault old server = refuse (not (is_server_of old.ops server)) NotAVoter None
+
+-- where the fault is memory refused, the server is a voter
+abbrev pub IsOfVoter : OpenView → ℕ → TxnFault → Type 0
+IsOfVoter old server fault = fault ≡ Memory → ask_fault old server ≡ None
 
 -- the vote that an answer tells of: a vote for this transaction
 abbrev pub voted_by : ℕ → ℕ → ℕ → NodeAsk → NodeReply → Option Vote

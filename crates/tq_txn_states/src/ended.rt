@@ -2,7 +2,7 @@ ghost use Rattle.std.specs.Prelude.{◌≡◌, IfOk, IfErr, None, Some, MatchRes
 ghost use Rattle.tq_coterie.specs.Coterie.{numbers_of};
 ghost use Rattle.tq_desk.specs.DeskStep as log;
 ghost use Rattle.tq_txn_states.specs.Ended as spec;
-ghost use Rattle.tq_txn_states.specs.Open as open_spec;
+ghost use Rattle.tq_txn_states.specs.Open.{ComesOf};
 ghost use Rattle.tq_txn_states.specs.Sets as sets;
 
 use crate::servers::Servers;
@@ -116,7 +116,7 @@ impl Ended {
 /// The verdict on a transaction that an answer of the desk tells, once more; with none the answer does not end it.
 pub(crate) fn verdict_of(alloc: Global, txn: u64, told: &DeskTold) -> Result<Verdict, TxnFault>
     ensures value { IfOk result (λ verdict. spec.verdict_in txn told.now ≡ Some verdict) }
-    ensures fault { IfErr result (λ fault. open_spec.ComesOf (spec.fault_without (spec.verdict_in txn told.now)) fault) }
+    ensures fault { IfErr result (ComesOf (spec.fault_without (spec.verdict_in txn told.now))) }
 {
     match verdict_in(alloc, txn, told)? {
         Some(verdict) => Ok(verdict),

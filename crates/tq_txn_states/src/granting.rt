@@ -1,6 +1,6 @@
 ghost use Rattle.std.specs.Prelude.{◌≡◌, ◌-◌, ◌++◌, ℕ, List, [], ◌∷◌, true, vec_len, vec_capacity};
 ghost use Rattle.tq_txn_states.specs.Granting as spec;
-ghost use Rattle.tq_txn_states.specs.Sets.{IsReady, with_number};
+ghost use Rattle.tq_txn_states.specs.Sets.{IsReady};
 
 use crate::servers::Servers;
 use std::marker::Model;
@@ -78,7 +78,7 @@ impl Granting {
         requires server { grant.server ≡ server.number }
         requires room { spec.CanGrant server.levels self.old (server.number ∷ []) }
         ensures grants { self.new.grants ≡ self.old.grants ++ grant ∷ [] }
-        ensures touched { self.new.touched.servers ≡ with_number self.old.touched.servers server.number }
+        ensures touched { spec.Notes self.old self.new server.number }
         ensures grown { spec.IsGrown self.old self.new }
         ensures room { (more : List ℕ) → spec.CanGrant server.levels self.old (server.number ∷ more)
             → spec.CanGrant server.levels self.new more }
@@ -92,9 +92,10 @@ impl Granting {
         requires tree { self.old.touched.levels ≡ server.levels }
         requires room { IsReady self.old.touched self.old.notes (server.number ∷ []) }
         ensures same { self.new ≡ record self.old { touched = self.new.touched } }
-        ensures servers { self.new.touched.servers ≡ with_number self.old.touched.servers server.number }
+        ensures servers { spec.Notes self.old self.new server.number }
         ensures levels { self.new.touched.levels ≡ self.old.touched.levels }
-        ensures room { (more : List ℕ) → IsReady self.old.touched self.old.notes (server.number ∷ more)
+        ensures room { (more : List ℕ)
+            → IsReady self.old.touched self.old.notes (server.number ∷ more)
             → IsReady self.new.touched self.old.notes more }
     {
         if !self.notes {

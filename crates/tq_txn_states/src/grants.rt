@@ -1,4 +1,4 @@
-ghost use Rattle.std.specs.Prelude.{◌≡◌, ◌+◌, ◌==◌, IfOk, IfErr, None, Some, map};
+ghost use Rattle.std.specs.Prelude.{◌≡◌, ◌+◌, ◌==◌, IfOk, IfErr, None, OnOk, Some, map};
 ghost use Rattle.tq_shape.specs.Steps.{refuse_for};
 ghost use Rattle.tq_txn_states.specs.Open as spec;
 
@@ -19,9 +19,10 @@ pub(crate) fn grants_of(
     file: &FileName,
     answers: &[NodeTold],
 ) -> Result<Vec<Grant>, TxnFault>
-    ensures granted { IfOk result (λ grants. spec.not_a_grant kind txn file.now answers.now ≡ None) }
-    ensures value { IfOk result (λ grants. grants.items ≡ spec.grants_of kind txn file.now answers.now) }
-    ensures fault { IfErr result (λ fault. spec.ComesOf (refuse_for (spec.not_a_grant kind txn file.now answers.now) TxnFault.NotAGrant None) fault) }
+    ensures granted { OnOk result (spec.not_a_grant kind txn file.now answers.now ≡ None) }
+    ensures value { IfOk result (λ all. all.items ≡ spec.grants_of kind txn file.now answers.now) }
+    ensures fault { IfErr result (spec.ComesOf
+        (refuse_for (spec.not_a_grant kind txn file.now answers.now) TxnFault.NotAGrant None)) }
 {
     let mut grants = Vec::with_capacity(alloc, answers.len())?;
     for told in answers {

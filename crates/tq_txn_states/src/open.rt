@@ -1,4 +1,4 @@
-ghost use Rattle.std.specs.Prelude.{◌≡◌, ◌+◌, ◌<◌, ◌≤◌, ◌++◌, ℕ, List, [], ◌∷◌, None, Some, true, length, position, IfOk, IfErr, IfSome, IsSome, OnOk, OnErr, MatchOption, false, vec_len, vec_capacity};
+ghost use Rattle.std.specs.Prelude.{◌≡◌, ◌+◌, ◌<◌, ◌≤◌, ◌++◌, ℕ, List, [], ◌∷◌, None, Some, true, length, position, IfOk, IfErr, IfSome, IsSome, OnOk, OnErr, OnSome, MatchOption, false, vec_len, vec_capacity};
 ghost use Rattle.std.specs.List.{find};
 ghost use Rattle.std.specs.Option.{option_copied};
 ghost use Rattle.std.specs.Ordering.{is_lt};
@@ -8,11 +8,13 @@ ghost use Rattle.tq_evidence.specs.Evidence as evidence;
 ghost use Rattle.tq_evidence.specs.Evidence.{granters as granters_of};
 ghost use Rattle.tq_txn_states.specs.Places.{place_before};
 ghost use Rattle.tq_txn_states.specs.Sets as sets;
-ghost use Rattle.tq_txn_states.specs.Cited.{KeepsOnly, VotesOnly, answers_of};
+ghost use Rattle.tq_txn_states.specs.Cited.{AddsOnly, KeepsOnly, VotesOnly, answers_of};
 ghost use Rattle.tq_txn_states.specs.Ended as ending;
 ghost use Rattle.tq_txn_states.specs.Granting as handed;
+ghost use Rattle.tq_txn_states.specs.Granting.{CanGrant};
 ghost use Rattle.tq_txn_states.specs.Open as spec;
-ghost use Rattle.tq_txn_states.specs.Voting as voting;
+ghost use Rattle.tq_txn_states.specs.Open.{ComesOf, IsBack, close_fault, grants_fault, taken, write_after, write_op};
+ghost use Rattle.tq_txn_states.specs.Voting.{closed};
 
 use crate::ended::verdict_of;
 use crate::granting::{Granting, Kept};
@@ -182,7 +184,7 @@ impl Open {
     pub fn room_for(&mut self, servers: &[ServerId]) -> Result<Granting, Memory>
         ensures value { IfOk result (λ granting. handed.noted self.new granting ≡ self.old) }
         ensures grants { IfOk result (λ granting. granting.grants ≡ []) }
-        ensures room { IfOk result (λ granting. handed.CanGrant self.new.levels granting (numbers_of servers.now)) }
+        ensures room { IfOk result (λ it. CanGrant self.new.levels it (numbers_of servers.now)) }
         ensures take { IfOk result (λ granting. handed.CanTake granting (numbers_of servers.now)) }
         ensures tree { IfOk result (λ granting. handed.IsOfTree self.new.levels granting) }
         ensures good { IfOk result (λ granting. spec.IsOpen self.old) }
@@ -214,10 +216,8 @@ impl Open {
 
     /// Keeps these operations and servers.
     fn keep(&mut self, kept: Kept)
-        requires voters { kept.voters.levels ≡ self.old.levels }
-        requires touched { kept.touched.levels ≡ self.old.levels }
-        requires good { spec.IsOpen (spec.keeping self.old kept.ops.items kept.voters.servers kept.touched.servers) }
-        ensures { self.new ≡ spec.keeping self.old kept.ops.items kept.voters.servers kept.touched.servers }
+        requires { handed.Fits self.old kept }
+        ensures { self.new ≡ handed.keeping self.old kept }
     {
         let Kept {
             ops,
@@ -232,14 +232,8 @@ impl Open {
 
     /// Takes an operation for which there is room, and each of whose servers is noted. It takes no memory.
     fn put(&mut self, kept: Kept, op: Op)
-        requires voters { kept.voters.levels ≡ self.old.levels }
-        requires touched { kept.touched.levels ≡ self.old.levels }
-        requires open { spec.IsOpen (spec.keeping self.old kept.ops.items kept.voters.servers kept.touched.servers) }
-        requires good { spec.IsGoodOp (spec.keeping self.old kept.ops.items kept.voters.servers kept.touched.servers) op }
-        requires noted { handed.are_noted kept.touched.servers op.grants ≡ true }
-        requires room { sets.IsReady kept.voters kept.grows (granters_of op.grants) }
-        requires place { vec_len kept.ops < vec_capacity kept.ops }
-        ensures { self.new ≡ spec.taken (spec.keeping self.old kept.ops.items kept.voters.servers kept.touched.servers) op }
+        requires { handed.CanPut self.old kept op }
+        ensures { self.new ≡ taken (handed.keeping self.old kept) op }
     {
         let mut kept = kept;
         kept.voters.grow(kept.grows, op.grants.as_slice());
@@ -256,7 +250,8 @@ impl Open {
         requires fresh { spec.is_used granting.ops file.now ≡ false }
         requires member { spec.is_member self.old.levels granting.grants ≡ true }
         ensures value { IfOk result (λ copy. copy ≡ spec.read_copy granting.grants) }
-        ensures after { OnOk result (self.new ≡ spec.taken (handed.noted self.old granting) (spec.read_op file.now granting.grants)) }
+        ensures after { OnOk result (self.new
+            ≡ taken (handed.noted self.old granting) (spec.read_op file.now granting.grants)) }
         ensures err { OnErr result (self.new ≡ handed.noted self.old granting) }
     {
         let given = match read_twice(granting.grants()) {
@@ -297,7 +292,8 @@ impl Open {
         requires member { spec.is_member self.old.levels granting.grants ≡ true }
         requires exclusive { evidence.is_exclusively_granted granting.grants ≡ true }
         ensures value { spec.version_after granting.grants ≡ result }
-        ensures after { IfSome result (λ version. self.new ≡ spec.taken (handed.noted self.old granting) (spec.write_op file.now content granting.grants)) }
+        ensures after { OnSome result (self.new
+            ≡ taken (handed.noted self.old granting) (write_op file.now content granting.grants)) }
         ensures full { result ≡ None → self.new ≡ handed.noted self.old granting }
     {
         let Some(version) = greatest_version(granting.grants()).checked_add(1) else {
@@ -324,31 +320,18 @@ impl Open {
         file: &FileName,
         answers: &[NodeTold],
     ) -> Result<FileCopy, TxnFault>
-        ensures succeeds { IfOk result (λ copy. spec.read_fault self.old file.now answers.now ≡ None) }
-        ensures value { IfOk result (λ copy. copy ≡ spec.read_copy (spec.grants_of OpKind.Read self.old.txn file.now answers.now)) }
+        ensures succeeds { OnOk result (spec.read_fault self.old file.now answers.now ≡ None) }
+        ensures value { IfOk result (λ copy.
+            copy ≡ spec.read_copy (spec.grants_of OpKind.Read self.old.txn file.now answers.now)) }
         ensures after { OnOk result (self.new ≡ spec.read_after self.old file.now answers.now) }
-        ensures cited { OnOk result ((told : List NodeTold) → KeepsOnly told self.old → KeepsOnly (told ++ answers.now) self.new) }
-        ensures fault { IfErr result (λ fault. spec.ComesOf (spec.read_fault self.old file.now answers.now) fault) }
+        ensures cited { OnOk result (AddsOnly answers.now self.old self.new) }
+        ensures fault { IfErr result (ComesOf (spec.read_fault self.old file.now answers.now)) }
         ensures err { OnErr result (self.new ≡ self.old) }
     {
         if self.is_used(file) {
             return Err(TxnFault::AlreadyThere);
         }
         let grants = self.admit(alloc, OpKind::Read, file, answers)?;
-        Ok(self.read_granted(file, grants)?)
-    }
-
-    /// Reads a file by the grants of a quorum, as `read` does by the answers that tell of them. Out of memory leaves the
-    /// transaction as it was.
-    fn read_granted(&mut self, file: &FileName, grants: Seq<Grant>) -> Result<FileCopy, Memory>
-        requires fresh { spec.is_used self.old.ops file.now ≡ false }
-        requires few { spec.has_all_ops self.old ≡ false }
-        requires member { spec.is_member self.old.levels grants ≡ true }
-        ensures value { IfOk result (λ copy. copy ≡ spec.read_copy grants) }
-        ensures after { OnOk result (self.new ≡ spec.taken self.old (spec.read_op file.now grants)) }
-        ensures cited { OnOk result ((told : List NodeTold) → KeepsOnly told self.old → KeepsOnly (told ++ answers_of self.old.txn file.now grants) self.new) }
-        ensures err { OnErr result (self.new ≡ self.old) }
-    {
         let given = read_copy(grants.as_slice())?;
         let kept = given.content.clone()?;
         let op = Op {
@@ -371,39 +354,18 @@ impl Open {
         content: Content,
         answers: &[NodeTold],
     ) -> Result<u64, TxnFault>
-        ensures succeeds { IfOk result (λ version. spec.write_fault self.old file.now answers.now ≡ None) }
-        ensures value { IfOk result (λ version. version ≡ evidence.greatest (spec.grants_of OpKind.Write self.old.txn file.now answers.now) + 1) }
-        ensures after { OnOk result (self.new ≡ spec.write_after self.old file.now content answers.now) }
-        ensures cited { OnOk result ((told : List NodeTold) → KeepsOnly told self.old → KeepsOnly (told ++ answers.now) self.new) }
-        ensures fault { IfErr result (λ fault. spec.ComesOf (spec.write_fault self.old file.now answers.now) fault) }
+        ensures succeeds { OnOk result (spec.write_fault self.old file.now answers.now ≡ None) }
+        ensures value { IfOk result (λ made. made ≡
+            evidence.greatest (spec.grants_of OpKind.Write self.old.txn file.now answers.now) + 1) }
+        ensures after { OnOk result (self.new ≡ write_after self.old file.now content answers.now) }
+        ensures cited { OnOk result (AddsOnly answers.now self.old self.new) }
+        ensures fault { IfErr result (ComesOf (spec.write_fault self.old file.now answers.now)) }
         ensures err { OnErr result (self.new ≡ self.old) }
     {
         if self.is_written(file) {
             return Err(TxnFault::AlreadyThere);
         }
         let grants = self.admit(alloc, OpKind::Write, file, answers)?;
-        self.write_granted(file, content, grants)
-    }
-
-    /// Writes a file by the exclusive grants of a quorum, as `write` does by the answers that tell of them. A fault
-    /// leaves the transaction as it was.
-    fn write_granted(
-        &mut self,
-        file: &FileName,
-        content: Content,
-        grants: Seq<Grant>,
-    ) -> Result<u64, TxnFault>
-        requires fresh { spec.is_written self.old.ops file.now ≡ false }
-        requires few { spec.has_all_ops self.old ≡ false }
-        requires member { spec.is_member self.old.levels grants ≡ true }
-        requires exclusive { evidence.is_exclusively_granted grants ≡ true }
-        ensures succeeds { IfOk result (λ version. spec.version_fault grants ≡ None) }
-        ensures value { IfOk result (λ version. version ≡ evidence.greatest grants + 1) }
-        ensures after { OnOk result (self.new ≡ spec.taken self.old (spec.write_op file.now content grants)) }
-        ensures cited { OnOk result ((told : List NodeTold) → KeepsOnly told self.old → KeepsOnly (told ++ answers_of self.old.txn file.now grants) self.new) }
-        ensures fault { IfErr result (λ fault. spec.ComesOf (spec.version_fault grants) fault) }
-        ensures err { OnErr result (self.new ≡ self.old) }
-    {
         let Some(version) = greatest_version(grants.as_slice()).checked_add(1) else {
             return Err(TxnFault::VersionFull);
         };
@@ -429,9 +391,10 @@ impl Open {
 
     /// Ends the reading and writing, if there was any. It takes no memory.
     pub fn close(self) -> Result<Voting, (Open, TxnFault)>
-        ensures succeeds { IfOk result (λ open_votes. (spec.close_fault self ≡ None) × (open_votes ≡ voting.closed self)) }
-        ensures cited { IfOk result (λ closed. (told : List NodeTold) → KeepsOnly told self → VotesOnly told closed) }
-        ensures fault { IfErr result (λ back. (back.0 ≡ self) × (spec.close_fault self ≡ Some back.1)) }
+        ensures succeeds { IfOk result (λ it. (close_fault self ≡ None) × (it ≡ closed self)) }
+        ensures cited { IfOk result (λ it.
+            (told : List NodeTold) → KeepsOnly told self → VotesOnly told it) }
+        ensures fault { IfErr result (IsBack self (λ fault. close_fault self ≡ Some fault)) }
     {
         if self.ops.is_empty() {
             return Err((self, TxnFault::NoOps));
@@ -442,7 +405,7 @@ impl Open {
     /// Ends the transaction by the desk's verdict on it, and hands it back after a fault.
     pub fn end(self, alloc: Global, told: &DeskTold) -> Result<Ended, (Open, TxnFault)>
         ensures value { IfOk result (λ ended. ending.IsEnd self told.now ended) }
-        ensures fault { IfErr result (λ back. (back.0 ≡ self) × spec.ComesOf (ending.end_fault self told.now) back.1) }
+        ensures fault { IfErr result (IsBack self (ComesOf (ending.end_fault self told.now))) }
     {
         match verdict_of(alloc, self.txn(), told) {
             Ok(verdict) => Ok(self.end_by(verdict, told.number)),
@@ -503,11 +466,12 @@ impl Open {
         file: &FileName,
         answers: &[NodeTold],
     ) -> Result<Seq<Grant>, TxnFault>
-        ensures succeeds { IfOk result (λ grants. spec.grants_fault kind self.now file.now answers.now ≡ None) }
-        ensures grants { IfOk result (λ grants. grants ≡ spec.grants_of kind self.now.txn file.now answers.now) }
+        ensures succeeds { OnOk result (grants_fault kind self.now file.now answers.now ≡ None) }
+        ensures grants { IfOk result (λ grants.
+            grants ≡ spec.grants_of kind self.now.txn file.now answers.now) }
         ensures member { IfOk result (λ grants. spec.is_member self.now.levels grants ≡ true) }
         ensures few { IfOk result (λ grants. length self.now.ops < self.now.limits.ops) }
-        ensures fault { IfErr result (λ fault. spec.ComesOf (spec.grants_fault kind self.now file.now answers.now) fault) }
+        ensures fault { IfErr result (ComesOf (grants_fault kind self.now file.now answers.now)) }
     {
         if self.is_full() {
             return Err(TxnFault::TooManyOps);
@@ -525,11 +489,12 @@ impl Open {
         ensures after { OnOk result (self.new ≡ spec.taken self.old op) }
         ensures err { OnErr result (self.new ≡ self.old) }
     {
-        let voters = self.voters.make_room_for(op.grants.as_slice())?;
-        let touched = self.touched.make_room_for(op.grants.as_slice())?;
+        let more = op.grants.as_slice().len();
+        self.voters.reserve(more)?;
+        self.touched.reserve(more)?;
         self.ops.reserve(1)?;
-        self.voters.grow(voters, op.grants.as_slice());
-        self.touched.grow(touched, op.grants.as_slice());
+        self.voters.grow(true, op.grants.as_slice());
+        self.touched.grow(true, op.grants.as_slice());
         put_in_order(&mut self.ops, op);
         Ok(())
     }

@@ -3,7 +3,7 @@ ghost use Rattle.tq_desk.specs.DeskStep as log;
 ghost use Rattle.tq_evidence.specs.Evidence as evidence;
 ghost use Rattle.tq_txn_states.specs.Cited.{CitesOnly, VotesOnly};
 ghost use Rattle.tq_txn_states.specs.Ended as ending;
-ghost use Rattle.tq_txn_states.specs.Open as open_spec;
+ghost use Rattle.tq_txn_states.specs.Open.{ComesOf, IsBack};
 ghost use Rattle.tq_txn_states.specs.Voting as spec;
 
 use crate::ended::{cited, verdict_of};
@@ -64,7 +64,8 @@ impl Ready {
     /// The commit to ask the desk for: its evidence is good, and cites only what the transaction was told.
     pub fn evidence(&self, _alloc: Global) -> Result<DeskAsk, Memory>
         ensures value { IfOk result (λ ask. ask ≡ spec.evidence_of self.now) }
-        ensures cited { IfOk result (λ ask. (told : List NodeTold) → VotesOnly told self.now → CitesOnly told ask) }
+        ensures cited { IfOk result (λ ask.
+            (told : List NodeTold) → VotesOnly told self.now → CitesOnly told ask) }
         ensures good { evidence.IsGood self.now.txn.levels self.now.txn.ops self.now.votes }
     {
         let txn = self.voting.txn();
@@ -89,7 +90,7 @@ impl Ready {
     /// Ends the transaction by the desk's verdict on it, and hands it back after a fault.
     pub fn end(self, alloc: Global, told: &DeskTold) -> Result<Ended, (Ready, TxnFault)>
         ensures value { IfOk result (λ ended. ending.IsEnd self.txn told.now ended) }
-        ensures fault { IfErr result (λ back. (back.0 ≡ self) × open_spec.ComesOf (ending.end_fault self.txn told.now) back.1) }
+        ensures fault { IfErr result (IsBack self (ComesOf (ending.end_fault self.txn told.now))) }
     {
         match verdict_of(alloc, self.voting.txn().txn(), told) {
             Ok(verdict) => Ok(self.end_by(verdict, told.number)),

@@ -2,7 +2,7 @@ ghost use Rattle.std.specs.Prelude.{◌≡◌, ◌==◌, ◌+◌, ◌<◌, ◌�
 ghost use Rattle.std.specs.List.{insert, list_all, list_any};
 ghost use Rattle.tq_coterie.specs.Coterie.{has, is_quorum, numbers_of};
 ghost use Rattle.tq_evidence.specs.Evidence.{granters, rises};
-ghost use Rattle.tq_txn_states.specs.Sets.{IsReady, IsServerSet, put, with_number, with_numbers};
+ghost use Rattle.tq_txn_states.specs.Sets.{IsReady, IsServerSet, with_id, with_number, with_numbers};
 
 use std::alloc::Global;
 use std::marker::Model;
@@ -72,19 +72,6 @@ impl Servers {
             return Ok(false);
         }
         self.reserve(servers.len())?;
-        Ok(true)
-    }
-
-    /// The same for the servers of the grants.
-    pub(crate) fn make_room_for(&mut self, grants: &[Grant]) -> Result<bool, Memory>
-        ensures ready { IfOk result (λ grows. IsReady self.new grows (granters grants.now)) }
-        ensures servers { self.new.servers ≡ self.old.servers }
-        ensures levels { self.new.levels ≡ self.old.levels }
-    {
-        if have_all(self.ids.as_slice(), grants) {
-            return Ok(false);
-        }
-        self.reserve(grants.len())?;
         Ok(true)
     }
 
@@ -182,30 +169,12 @@ fn has_all(ids: &[ServerId], others: &[ServerId]) -> bool
     }
 }
 
-/// The same for the servers of the grants.
-fn have_all(ids: &[ServerId], grants: &[Grant]) -> bool
-    ensures { IsTrue result → list_all (has (numbers_of ids.now)) (granters grants.now) ≡ true }
-{
-    match grants {
-        [] => true,
-        [grant, ..] => match ids {
-            [] => false,
-            [id, ..] => {
-                if id.number() == grant.server {
-                    return have_all(ids, &grants[1..]);
-                }
-                have_all(&ids[1..], grants)
-            }
-        },
-    }
-}
-
 /// Puts a server that is not there before the first above it, in a list that has room.
 fn put_in_order(ids: &mut ServerIds, server: ServerId)
     requires rise { rises (numbers_of ids.old.items) ≡ true }
     requires absent { list_any (λ id. id.number == server.number) ids.old.items ≡ false }
     requires room { length ids.old.items + 1 ≤ ids.old.capacity }
-    ensures items { ids.new.items ≡ put (λ id. nat_lt server.number id.number) server ids.old.items }
+    ensures items { ids.new.items ≡ with_id server ids.old.items }
     ensures len { length ids.new.items ≡ length ids.old.items + 1 }
     ensures capacity { ids.new.capacity ≡ ids.old.capacity }
 {
@@ -217,7 +186,7 @@ fn put_in_order(ids: &mut ServerIds, server: ServerId)
 fn place_of(ids: &[ServerId], server: ServerId) -> usize
     requires rise { rises (numbers_of ids.now) ≡ true }
     requires absent { list_any (λ id. id.number == server.number) ids.now ≡ false }
-    ensures place { insert ids.now result server ≡ put (λ id. nat_lt server.number id.number) server ids.now }
+    ensures place { insert ids.now result server ≡ with_id server ids.now }
     ensures within { result ≤ length ids.now }
 {
     ids.partition_point(|id| id.number() < server.number())

@@ -6,6 +6,7 @@ ghost use Rattle.tq_evidence.specs.Evidence as evidence;
 ghost use Rattle.tq_txn_states.specs.Ballots as ballots_spec;
 ghost use Rattle.tq_txn_states.specs.Open as open_spec;
 ghost use Rattle.tq_txn_states.specs.Voting as spec;
+ghost use Rattle.tq_txn_states.specs.Voting.{is_of_server};
 
 use crate::NodeTold;
 use std::alloc::Global;
@@ -152,7 +153,8 @@ fn write_in(op: &Op) -> Result<Write, Memory>
 
 /// Whether the ask is the one for the server's vote.
 pub(crate) fn is_ask_at(ask: &NodeAsk, txn: u64, ops: &[Op], server: u64) -> bool
-    ensures { IsTrue result → ask.now ≡ NodeAsk.Work (WorkAsk.Prepare txn (spec.writes_at ops.now server)) }
+    ensures { IsTrue result
+        → ask.now ≡ NodeAsk.Work (WorkAsk.Prepare txn (spec.writes_at ops.now server)) }
 {
     let NodeAsk::Work(work) = ask else {
         return false;
@@ -319,7 +321,8 @@ pub(crate) fn put_vote(votes: &mut Vec<Vote>, vote: Vote)
 /// Where the votes of lesser servers end: the server's vote stands there, or goes there if it is not there.
 fn place_of_vote(votes: &[Vote], server: u64) -> usize
     requires { evidence.votes_rise votes.now ≡ true }
-    ensures place { IsPartitionPoint (λ vote. nat_lt vote.server server ≡ true) (λ vote. nat_lt vote.server server ≡ false) votes.now result }
+    ensures place { IsPartitionPoint (λ vote. nat_lt vote.server server ≡ true)
+        (λ vote. nat_lt vote.server server ≡ false) votes.now result }
     ensures within { result ≤ length votes.now }
 {
     votes.partition_point(|vote| vote.server < server)
@@ -327,7 +330,7 @@ fn place_of_vote(votes: &[Vote], server: u64) -> usize
 
 /// Whether the vote at the place is the server's.
 fn stands_at(votes: &[Vote], server: u64, place: usize) -> bool
-    ensures value { result ≡ option_map_or (spec.is_of_server server) (slice_get votes.now place) false }
+    ensures value { result ≡ option_map_or (is_of_server server) (slice_get votes.now place) false }
     ensures within { IsTrue result → place < length votes.now }
 {
     match votes.get(place) {

@@ -1,12 +1,13 @@
-ghost use Rattle.std.specs.Prelude.{◌≡◌, ◌<◌, ◌≤◌, ◌++◌, List, [], ◌∷◌, true, None, Some, IfOk, IfErr, IfSome, OnOk, OnErr};
+ghost use Rattle.std.specs.Prelude.{◌≡◌, ◌≤◌, true, None, Some, IfOk, IfErr, IfSome, OnOk, OnErr, OnSome};
 ghost use Rattle.tq_coterie.specs.Coterie.{numbers_of};
 ghost use Rattle.tq_evidence.specs.Evidence as evidence;
 ghost use Rattle.tq_txn_states.specs.Ballots.{with_ballots};
-ghost use Rattle.tq_txn_states.specs.Cited.{VotesOnly};
+ghost use Rattle.tq_txn_states.specs.Cited.{TakesVote};
 ghost use Rattle.tq_txn_states.specs.Ended as ending;
-ghost use Rattle.tq_txn_states.specs.Open as open_spec;
+ghost use Rattle.tq_txn_states.specs.Open.{ComesOf, HasVoters, IsBack};
 ghost use Rattle.tq_txn_states.specs.Sets as sets;
 ghost use Rattle.tq_txn_states.specs.Voting as spec;
+ghost use Rattle.tq_txn_states.specs.Voting.{prepare_ask, vote_fault, with_vote};
 
 use crate::ended::verdict_of;
 use crate::open::copy_of;
@@ -85,7 +86,7 @@ impl Voting {
     pub fn voters(&self) -> &[ServerId]
         ensures numbers { numbers_of result.now ≡ self.now.txn.voters }
         ensures set { sets.IsServerSet self.now.txn.levels result.now }
-        ensures exact { open_spec.HasVoters self.now.txn }
+        ensures exact { HasVoters self.now.txn }
     {
         self.txn.voters()
     }
@@ -101,8 +102,8 @@ impl Voting {
     pub fn ask(&self, alloc: Global, server: ServerId) -> Result<NodeAsk, TxnFault>
         ensures succeeds { IfOk result (λ ask. spec.ask_fault self.now.txn server.number ≡ None) }
         ensures value { IfOk result (λ ask. ask ≡ spec.prepare_ask self.now.txn server.number) }
-        ensures fault { IfErr result (λ fault. open_spec.ComesOf (spec.ask_fault self.now.txn server.number) fault) }
-        ensures memory { IfErr result (λ fault. fault ≡ TxnFault.Memory → spec.ask_fault self.now.txn server.number ≡ None) }
+        ensures fault { IfErr result (ComesOf (spec.ask_fault self.now.txn server.number)) }
+        ensures memory { IfErr result (spec.IsOfVoter self.now.txn server.number) }
     {
         if let Some(ask) = self.asked_before(server.number())? {
             return Ok(ask);
@@ -115,8 +116,8 @@ impl Voting {
 
     /// The ask for the server's vote, where it is the one that is kept.
     fn asked_before(&self, server: u64) -> Result<Option<NodeAsk>, Memory>
-        ensures voter { IfOk result (λ found. IfSome found (λ ask. spec.ask_fault self.now.txn server ≡ None)) }
-        ensures ask { IfOk result (λ found. IfSome found (λ ask. ask ≡ spec.prepare_ask self.now.txn server)) }
+        ensures voter { IfOk result (λ it. OnSome it (spec.ask_fault self.now.txn server ≡ None)) }
+        ensures ask { IfOk result (λ it. IfSome it (λ ask. ask ≡ prepare_ask self.now.txn server)) }
         ensures memory { OnErr result (spec.ask_fault self.now.txn server ≡ None) }
     {
         let Some(ask) = &self.asked else {
@@ -136,8 +137,8 @@ impl Voting {
     pub fn work(&self, alloc: Global, server: ServerId) -> Result<WorkAsk, TxnFault>
         ensures succeeds { IfOk result (λ work. spec.ask_fault self.now.txn server.number ≡ None) }
         ensures value { IfOk result (λ work. work ≡ spec.prepare_work self.now.txn server.number) }
-        ensures fault { IfErr result (λ fault. open_spec.ComesOf (spec.ask_fault self.now.txn server.number) fault) }
-        ensures memory { IfErr result (λ fault. fault ≡ TxnFault.Memory → spec.ask_fault self.now.txn server.number ≡ None) }
+        ensures fault { IfErr result (ComesOf (spec.ask_fault self.now.txn server.number)) }
+        ensures memory { IfErr result (spec.IsOfVoter self.now.txn server.number) }
     {
         let ops = self.txn.ops();
         if !is_server_of(ops, server.number()) {
@@ -152,13 +153,8 @@ impl Voting {
 
     /// Takes a vote, in place of one of its server that is there. A fault leaves the transaction as it was.
     pub fn vote(&mut self, _alloc: Global, told: &NodeTold) -> Result<(), TxnFault>
-        ensures succeeds { IfOk result (λ done. spec.vote_fault self.old told.now ≡ None) }
-        ensures after { OnOk result (self.new ≡ spec.vote_after self.old told.now) }
-        ensures cited { OnOk result ((before : List NodeTold) → VotesOnly before self.old → VotesOnly (before ++ told.now ∷ []) self.new) }
-        ensures txn { self.new.txn ≡ self.old.txn }
-        ensures kept { OnOk result (spec.KeepsVotes self.old.votes self.new.votes) }
-        ensures fault { IfErr result (λ fault. open_spec.ComesOf (spec.vote_fault self.old told.now) fault) }
-        ensures err { OnErr result (self.new ≡ self.old) }
+        ensures vote { TakesVote self.old told.now self.new result }
+        ensures fault { IfErr result (ComesOf (vote_fault self.old told.now)) }
     {
         let answer = told_again(told)?;
         let ballots = self.room_for_vote()?;
@@ -204,13 +200,9 @@ impl Voting {
     pub fn vote_in(&mut self, ballots: Ballots, told: NodeTold) -> Result<(), TxnFault>
         requires good { spec.IsVoting (with_ballots self.old ballots) }
         requires room { 1 ≤ ballots.room }
-        ensures succeeds { IfOk result (λ done. spec.vote_fault (with_ballots self.old ballots) told ≡ None) }
-        ensures after { OnOk result (self.new ≡ spec.vote_after (with_ballots self.old ballots) told) }
-        ensures cited { OnOk result ((before : List NodeTold) → VotesOnly before (with_ballots self.old ballots) → VotesOnly (before ++ told ∷ []) self.new) }
-        ensures txn { self.new.txn ≡ self.old.txn }
-        ensures kept { OnOk result (spec.KeepsVotes ballots.votes self.new.votes) }
-        ensures fault { IfErr result (λ fault. spec.vote_fault (with_ballots self.old ballots) told ≡ Some fault) }
-        ensures err { OnErr result (self.new ≡ with_ballots self.old ballots) }
+        ensures vote { TakesVote (with_ballots self.old ballots) told self.new result }
+        ensures fault { IfErr result (λ fault.
+            vote_fault (with_ballots self.old ballots) told ≡ Some fault) }
     {
         match self.cast_by(told) {
             Ok(cast) => {
@@ -259,7 +251,7 @@ impl Voting {
         requires all { spec.IsVoting (with_ballots self.old ballots) }
         requires room { 1 ≤ ballots.room }
         requires good { spec.IsGoodVote self.old.txn.ops cast.vote }
-        ensures after { self.new ≡ record self.old { votes = spec.with_vote cast.vote ballots.votes } }
+        ensures after { self.new ≡ record self.old { votes = with_vote cast.vote ballots.votes } }
         ensures txn { self.new.txn ≡ self.old.txn }
         ensures kept { spec.KeepsVotes ballots.votes self.new.votes }
     {
@@ -290,7 +282,7 @@ impl Voting {
     /// Ends the voting, if each voter's vote is there. It takes no memory.
     pub fn ready(self) -> Result<Ready, (Voting, TxnFault)>
         ensures succeeds { IfOk result (λ ready. (spec.ready_fault self ≡ None) × (ready ≡ self)) }
-        ensures fault { IfErr result (λ back. (back.0 ≡ self) × (spec.ready_fault self ≡ Some back.1)) }
+        ensures fault { IfErr result (IsBack self (λ fault. spec.ready_fault self ≡ Some fault)) }
     {
         if !has_votes(self.votes.as_slice(), self.txn.voters()) {
             return Err((self, TxnFault::VotesMissing));
@@ -301,7 +293,7 @@ impl Voting {
     /// Ends the transaction by the desk's verdict on it, and hands it back after a fault.
     pub fn end(self, alloc: Global, told: &DeskTold) -> Result<Ended, (Voting, TxnFault)>
         ensures value { IfOk result (λ ended. ending.IsEnd self.txn told.now ended) }
-        ensures fault { IfErr result (λ back. (back.0 ≡ self) × open_spec.ComesOf (ending.end_fault self.txn told.now) back.1) }
+        ensures fault { IfErr result (IsBack self (ComesOf (ending.end_fault self.txn told.now))) }
     {
         match verdict_of(alloc, self.txn.txn(), told) {
             Ok(verdict) => Ok(self.end_by(verdict, told.number)),

@@ -7,7 +7,7 @@ use Rattle.tq_shape.specs.Tree.{Server}
 use Rattle.tq_refresh.specs.declared.job.Job.{Job}
 use Rattle.tq_refresh.specs.Plan.{jobs_from, servers_in}
 use Rattle.tq_refresh.proofs.Walked.{left_of_tree, of_one_tree, walks-passed, walks-passes}
-use Rattle.tq_text.specs.Print.{printed}
+use Rattle.tq_text.specs.Print.{printed_line}
 use Rattle.tq_interpreter.specs.Operators.{job_text}
 use Rattle.tq_interpreter.proofs.Operating.{counted_fits, leads_from, longer, one_on}
 use Rattle.tq_text.proofs.Extended.{extends_more}
@@ -59,7 +59,7 @@ loop-server-preserved-then-contains c =
       peek = before.peek;
       front = before.front;
       back = before.back;
-      begun = extends_more _ _ _ before.begun (printed (job_text (job c.in-Some.server) c.in_ok-refreshed.refreshed), said);
+      begun = extends_more _ _ _ before.begun (printed_line (job_text (job c.in-Some.server) c.in_ok-refreshed.refreshed), said);
     }
 
 pub loop-server-preserved : goal.loop-server-preserved

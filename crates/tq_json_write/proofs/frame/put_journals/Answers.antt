@@ -4,7 +4,7 @@ use Rattle.tq_json_write.specs.Nodes.{node_entry_value}
 use Rattle.tq_json_write.specs.Sound.{IsNodeEntry}
 use Rattle.tq_json_write.specs.Values.{list_value}
 use Rattle.tq_json_write.proofs.Chained.{added}
-use Rattle.tq_json_write.proofs.Fused.{all-map, listed-map}
+use Rattle.tq_json_write.proofs.Fused.{all-map, value_items-map}
 use Rattle.tq_json_write.proofs.frame.put_journals.Goals as goal
 
 pub returns-clause-adds : goal.returns-clause-adds
@@ -14,7 +14,7 @@ returns-clause-adds g c =
     let format = rw c.number.ensures at c.in_ok-put_after.ensures.adds in
     let levels = rw (c.count.ensures.value, c.levels.ensures) at c.in_ok-put_after-2.ensures.adds in
     let limits = rw c.limits.ensures at c.in_ok-put_after-3.ensures.adds in
-    let servers = rw (listed-map (list_value node_entry_value) (λ entries. entries.items) c.servers.result.now, c.servers.ensures.value) at c.in_ok-put_list-2.ensures.adds in
+    let servers = rw (value_items-map (list_value node_entry_value) (λ entries. entries.items) c.servers.result.now, c.servers.ensures.value) at c.in_ok-put_list-2.ensures.adds in
     let view = rw c.view.ensures.value at c.in_ok-put_list-3.ensures.adds in
     let last = added c.in_ok-push-3.ensures (added view c.in_ok-push-4.ensures) in
     added c.in_ok-push.ensures (added desk (added format (added levels (added limits (added c.in_ok-push-2.ensures (added servers last))))))
@@ -25,7 +25,7 @@ returns-clause-fits g c =
     let format = rw c.number.ensures at c.in_ok-put_after.ensures.fits in
     let levels = rw (c.count.ensures.value, c.levels.ensures) at c.in_ok-put_after-2.ensures.fits in
     let limits = rw c.limits.ensures at c.in_ok-put_after-3.ensures.fits in
-    let servers = rw (listed-map (list_value node_entry_value) (λ entries. entries.items) c.servers.result.now, c.servers.ensures.value) at c.in_ok-put_list-2.ensures.fits in
+    let servers = rw (value_items-map (list_value node_entry_value) (λ entries. entries.items) c.servers.result.now, c.servers.ensures.value) at c.in_ok-put_list-2.ensures.fits in
     let view = rw c.view.ensures.value at c.in_ok-put_list-3.ensures.fits in
     (desk, (format, (levels, (limits, (servers, (view, tt))))))
 

@@ -1,7 +1,7 @@
 use Rattle.std.proofs.Common.{false, drop}
 use Rattle.std.specs.List.{AllByRecursion}
 use Rattle.serde_json.specs.Written.{items_text}
-use Rattle.tq_json_write.specs.Values.{listed}
+use Rattle.tq_json_write.specs.Values.{value_items}
 use Rattle.tq_json_write.specs.Fitting.{AreFitting}
 use Rattle.tq_json_write.specs.Written.{Added}
 use Rattle.tq_json_write.proofs.to_json.put_list.Given as goal
@@ -10,7 +10,7 @@ use Rattle.tq_json_write.proofs.to_json.put_list.Given as goal
 -- them it keeps of all
 abbrev pub invariant-loop-item : goal.invariant-loop-item
 invariant-loop-item g l = record {
-  put : (end : g.row.O.Denot) → Added g.O.Out.puts l.out end (items_text l.later (listed g.T.ToJson.value (drop l.item-index l.items))) → Added g.O.Out.puts l.initial.out end (items_text false (listed g.T.ToJson.value l.items));
-  fits : AreFitting (listed g.T.ToJson.value (drop l.item-index l.items)) → AreFitting (listed g.T.ToJson.value l.items);
+  put : (end : g.row.O.Denot) → Added g.O.Out.puts l.out end (items_text l.later (value_items g.T.ToJson.value (drop l.item-index l.items))) → Added g.O.Out.puts l.initial.out end (items_text false (value_items g.T.ToJson.value l.items));
+  fits : AreFitting (value_items g.T.ToJson.value (drop l.item-index l.items)) → AreFitting (value_items g.T.ToJson.value l.items);
   kept : AllByRecursion g.T.ToJson.sound (drop l.item-index l.items) → AllByRecursion g.T.ToJson.sound l.items;
 }

@@ -9,7 +9,7 @@ pub returns-then-at-places : goal.returns-then-at-places
 returns-then-at-places c =
     let starts = c.args.starts.now in
     let places = c.args.places.now in
-    sym (slice_get_past (turned 1024 starts places) c.args.at (omega (arith, c.if-at-places.true, length-turned 1024 starts places)))
+    sym (slice_get_past (turned starts places) c.args.at (omega (arith, c.if-at-places.true, length-turned starts places)))
 
 pub returns-then-block-starts : goal.returns-then-block-starts
 returns-then-block-starts c =
@@ -18,15 +18,15 @@ returns-then-block-starts c =
     let at = c.args.at in
     let high : at < length places = omega (arith, c.if-at-places.false) in
     ap (λ k. Some k) (key_behind starts places at (omega (arith, c.if-block-starts.true)) high)
-    ∙ sym (slice_get-get_or (turned 1024 starts places) at 0 (omega (arith, high, length-turned 1024 starts places)))
+    ∙ sym (slice_get-get_or (turned starts places) at 0 (omega (arith, high, length-turned starts places)))
 
 pub returns : goal.returns
 returns c =
     let starts = c.args.starts.now in
     let places = c.args.places.now in
     let at = c.args.at in
-    let block = at / 1024 in
+    let block = at / 2000 in
     let high : at < length places = omega (arith, c.if-at-places.false) in
     let within : block < length starts = omega (arith, c.if-block-starts.false) in
-    ap (λ k. Some k) (key_in_block starts places block (at % 1024) at within c.requires.0 (c.requires.2 block 0 within) (mod-lt at (omega arith)) (omega arith))
-    ∙ sym (slice_get-get_or (turned 1024 starts places) at 0 (omega (arith, high, length-turned 1024 starts places)))
+    ap (λ k. Some k) (key_in_block starts places block (at % 2000) at within c.requires.0 (c.requires.2 block 0 within) (mod-lt at (omega arith)) (omega arith))
+    ∙ sym (slice_get-get_or (turned starts places) at 0 (omega (arith, high, length-turned starts places)))

@@ -14,7 +14,7 @@ loop-low-init c =
       ends = (omega arith, omega (arith, len));
       next = λ more. (omega arith, omega (arith, last, more));
       between = λ entries listed sorted.
-          let most = place_most locks_total (get c.args.entries.now) (c.args.file.now, c.args.txn) c.args.keys.now.items entries listed in
+          let most = place_most locks_total (get c.args.entries.now) (c.args.file.now, c.args.txn) c.args.keys.now entries listed in
           (omega arith, omega (arith, len, most));
     }
 
@@ -22,7 +22,7 @@ pub loop-low-preserved : goal.loop-low-preserved
 loop-low-preserved c =
     let find = get c.args.entries.now in
     let name : LockKey = (c.args.file.now, c.args.txn) in
-    let keys = c.args.keys.now.items in
+    let keys = c.args.keys.now in
     let low = c.if-is_below_at.low in
     let high = c.if-is_below_at.high in
     let ends = c.loop-low.invariant.ends in

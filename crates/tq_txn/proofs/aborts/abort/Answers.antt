@@ -19,7 +19,7 @@ use Rattle.tq_txn.proofs.aborts.abort.Goals as goal
 pub returns-in-Ok-clause-asks : goal.returns-in-Ok-clause-asks
 returns-in-Ok-clause-asks g c =
     abort_on c.args.txn c.number-number.result c.number-number.ensures (g.A.Asker.told c.args.asker.now) (g.A.Asker.told c.resolve_and_end.new.asker) (g.A.Asker.told c.desk.new.self) c.in-Ok.told
-    (ended_by c.resolve_and_end.result.answer c.resolve_and_end.result.txn) c.in-Ok.ensures.exchanges c.in-Ok.ensures.same c.resolve_and_end.ensures.asks
+    (ended_by c.resolve_and_end.result.answer c.resolve_and_end.result.txn) c.in-Ok.ensures.exchanges c.in-Ok.ensures.same c.resolve_and_end.ensures.asked.asks
 
 pub returns-in-Err-clause-asks : goal.returns-in-Err-clause-asks
 returns-in-Err-clause-asks g c =
@@ -47,7 +47,7 @@ returns-in-Ok-clause-ends g c =
     let number = number_of c.args.txn in
     let left = resolved c.args.txn told in
     let ends : is_some (verdict_in number told) ≡ true → is_ended after ≡ true = λ some. ap is_ended c.resolve_and_end.ensures.value ∙ resolved_ends c.args.txn told some in
-    let ending = deskless_untold number (abort_end told.reply left) asked new (ended_by c.resolve_and_end.result.answer after) (deskless_abort_end told.reply left) c.resolve_and_end.ensures.asks in
+    let ending = deskless_untold number (abort_end told.reply left) asked new (ended_by c.resolve_and_end.result.answer after) (deskless_abort_end told.reply left) c.resolve_and_end.ensures.asked.asks in
     ends_before number now asked new after (ends_answered number (Resolve c.number-number.result) told now asked after c.in-Ok.ensures.same c.in-Ok.ensures.exchanges ends) ending
 
 pub returns-in-Err-clause-ends : goal.returns-in-Err-clause-ends
@@ -61,7 +61,7 @@ returns-in-Ok-clause-verdict g c =
     let new = g.A.Asker.told c.resolve_and_end.new.asker in
     let after = c.resolve_and_end.result.txn in
     let answered = subst (IsAnswered c.args.txn c.in-Ok.told) (sym c.resolve_and_end.ensures.value) (resolved_answered c.args.txn c.in-Ok.told) in
-    let more = grown_along (abort_end c.in-Ok.told.reply (resolved c.args.txn c.in-Ok.told)) asked new (ended_by c.resolve_and_end.result.answer after) c.resolve_and_end.ensures.asks in
+    let more = grown_along (abort_end c.in-Ok.told.reply (resolved c.args.txn c.in-Ok.told)) asked new (ended_by c.resolve_and_end.result.answer after) c.resolve_and_end.ensures.asked.asks in
     ends_as_told (Resolve c.number-number.result) c.in-Ok.told c.in-Ok.ensures.same now asked new c.in-Ok.ensures.exchanges more c.args.txn after answered
 
 pub returns-in-Err-clause-verdict : goal.returns-in-Err-clause-verdict
@@ -74,7 +74,7 @@ returns-in-Ok-clause-knows g c =
     let new = g.A.Asker.told c.resolve_and_end.new.asker in
     let after = c.resolve_and_end.result.txn in
     let told = c.in-Ok.told in
-    let more = grown_along (abort_end told.reply (resolved c.args.txn told)) asked new (ended_by c.resolve_and_end.result.answer after) c.resolve_and_end.ensures.asks in
+    let more = grown_along (abort_end told.reply (resolved c.args.txn told)) asked new (ended_by c.resolve_and_end.result.answer after) c.resolve_and_end.ensures.asked.asks in
     let first = knows_grow now asked (desk_exchange (Resolve c.number-number.result) (Ok told), c.in-Ok.ensures.exchanges) c.args.txn in
     let answered = subst (IsAnswered c.args.txn told) (sym c.resolve_and_end.ensures.value) (resolved_answered c.args.txn told) in
     λ is. knows_answered new c.args.txn after told answered (knows_grow asked new more c.args.txn (first is))
@@ -90,4 +90,4 @@ returns-in-Err-clause-memory g c =
 pub returns-in-Ok-clause-memory : goal.returns-in-Ok-clause-memory
 returns-in-Ok-clause-memory g c =
     abort_unended c.args.txn c.number-number.result c.number-number.ensures (g.A.Asker.told c.args.asker.now) (g.A.Asker.told c.resolve_and_end.new.asker) (g.A.Asker.told c.desk.new.self) c.in-Ok.told
-    c.resolve_and_end.result.answer c.resolve_and_end.result.txn c.in-Ok.ensures.exchanges c.in-Ok.ensures.same c.resolve_and_end.ensures.memory
+    c.resolve_and_end.result.answer c.resolve_and_end.result.txn c.in-Ok.ensures.exchanges c.in-Ok.ensures.same c.resolve_and_end.ensures.asked.memory

@@ -25,19 +25,19 @@ returns-in-Err-clause-asks g c = follows_memory (commit_line c.args.voting) (g.A
 pub returns-in-Err-prepare_each-clause-asks : goal.returns-in-Err-prepare_each-clause-asks
 returns-in-Err-prepare_each-clause-asks g c =
     commit_off c.args.voting c.prepare_each.new.voting c.as_slice.result.now (ap numbers_of c.as_slice.ensures.value ∙ c.in-Ok.ensures.numbers) (g.A.Asker.told c.args.asker.now) (g.A.Asker.told c.prepare_each.new.asker)
-    c.in-Err-prepare_each.fault c.in-Err-prepare_each.ensures.asks
+    c.in-Err-prepare_each.fault c.in-Err-prepare_each.ensures.asked.asks
 
 pub returns-in-Ok-answer-clause-asks : goal.returns-in-Ok-answer-clause-asks
 returns-in-Ok-answer-clause-asks g c =
     commit_on c.args.voting c.prepare_each.new.voting c.as_slice.result.now (ap numbers_of c.as_slice.ensures.value ∙ c.in-Ok.ensures.numbers) (g.A.Asker.told c.args.asker.now) (g.A.Asker.told c.prepare_each.new.asker)
-    (g.A.Asker.told c.end_committed.new.asker) (ended_by c.end_committed.result.answer c.end_committed.result.txn) c.in_default.ensures.asks
+    (g.A.Asker.told c.end_committed.new.asker) (ended_by c.end_committed.result.answer c.end_committed.result.txn) c.in_default.ensures.asked.asks
     (decide_on c.prepare_each.new.voting c.decide-answer.result.answer c.decide-answer.result.txn (g.A.Asker.told c.prepare_each.new.asker) (g.A.Asker.told c.decide-answer.new.asker) c.decide-answer.ensures.asks
-    c.in-Ok-answer.serial (g.A.Asker.told c.end_committed.new.asker) (ended_by c.end_committed.result.answer c.end_committed.result.txn) c.in-Ok-answer.is c.end_committed.ensures.asks)
+    c.in-Ok-answer.serial (g.A.Asker.told c.end_committed.new.asker) (ended_by c.end_committed.result.answer c.end_committed.result.txn) c.in-Ok-answer.is c.end_committed.ensures.asked.asks)
 
 pub returns-clause-asks : goal.returns-clause-asks
 returns-clause-asks g c =
     commit_on c.args.voting c.prepare_each.new.voting c.as_slice.result.now (ap numbers_of c.as_slice.ensures.value ∙ c.in-Ok.ensures.numbers) (g.A.Asker.told c.args.asker.now) (g.A.Asker.told c.prepare_each.new.asker)
-    (g.A.Asker.told c.decide-answer.new.asker) (ended_by (Err c.in-Err-answer.fault) c.decide-answer.result.txn) c.in_default.ensures.asks
+    (g.A.Asker.told c.decide-answer.new.asker) (ended_by (Err c.in-Err-answer.fault) c.decide-answer.result.txn) c.in_default.ensures.asked.asks
     (decide_off c.prepare_each.new.voting c.decide-answer.result.answer c.decide-answer.result.txn (g.A.Asker.told c.prepare_each.new.asker) (g.A.Asker.told c.decide-answer.new.asker) c.decide-answer.ensures.asks c.in-Err-answer.fault c.in-Err-answer.is)
 
 pub returns-in-Err-clause-kept : goal.returns-in-Err-clause-kept
@@ -56,7 +56,7 @@ returns-clause-verdict g c =
     let now = g.A.Asker.told c.args.asker.now in
     let mid = g.A.Asker.told c.prepare_each.new.asker in
     let new = g.A.Asker.told c.decide-answer.new.asker in
-    let more = grown_along (prepares_line (numbers_of c.as_slice.result.now) c.args.voting) now mid (ended_by c.prepare_each.result c.prepare_each.new.voting) c.prepare_each.ensures.asks in
+    let more = grown_along (prepares_line (numbers_of c.as_slice.result.now) c.args.voting) now mid (ended_by c.prepare_each.result c.prepare_each.new.voting) c.prepare_each.ensures.asked.asks in
     ends_within c.args.voting c.prepare_each.new.voting c.decide-answer.result.txn now mid new new more ([], sym (append-nil new)) c.decide-answer.ensures.verdict
 
 pub returns-in-Ok-answer-clause-verdict : goal.returns-in-Ok-answer-clause-verdict
@@ -66,8 +66,8 @@ returns-in-Ok-answer-clause-verdict g c =
     let last = g.A.Asker.told c.decide-answer.new.asker in
     let new = g.A.Asker.told c.end_committed.new.asker in
     let txn = c.decide-answer.result.txn in
-    let more = grown_along (prepares_line (numbers_of c.as_slice.result.now) c.args.voting) now mid (ended_by c.prepare_each.result c.prepare_each.new.voting) c.prepare_each.ensures.asks in
-    let later = grown_along (commit_end c.in-Ok-answer.serial txn) last new (ended_by c.end_committed.result.answer c.end_committed.result.txn) c.end_committed.ensures.asks in
+    let more = grown_along (prepares_line (numbers_of c.as_slice.result.now) c.args.voting) now mid (ended_by c.prepare_each.result c.prepare_each.new.voting) c.prepare_each.ensures.asked.asks in
+    let later = grown_along (commit_end c.in-Ok-answer.serial txn) last new (ended_by c.end_committed.result.answer c.end_committed.result.txn) c.end_committed.ensures.asked.asks in
     let P : Txn → Type 0 = λ t. EndsAsTold (states.Voting c.args.voting) now new t in
     subst P (sym c.end_committed.ensures.same) (ends_within c.args.voting c.prepare_each.new.voting txn now mid last new more later c.decide-answer.ensures.verdict)
 
@@ -76,7 +76,7 @@ returns-in-Err-prepare_each-clause-cited g c =
     let now = g.A.Asker.told c.args.asker.now in
     let mid = g.A.Asker.told c.prepare_each.new.asker in
     let numbers = numbers_of c.as_slice.result.now in
-    let votes = deskless_cites (prepares_line numbers c.args.voting) now mid (ended_by c.prepare_each.result c.prepare_each.new.voting) (deskless_prepares numbers c.args.voting) c.prepare_each.ensures.asks in
+    let votes = deskless_cites (prepares_line numbers c.args.voting) now mid (ended_by c.prepare_each.result c.prepare_each.new.voting) (deskless_prepares numbers c.args.voting) c.prepare_each.ensures.asked.asks in
     λ is. votes
 
 pub returns-clause-cited : goal.returns-clause-cited
@@ -84,7 +84,7 @@ returns-clause-cited g c =
     let now = g.A.Asker.told c.args.asker.now in
     let mid = g.A.Asker.told c.prepare_each.new.asker in
     let numbers = numbers_of c.as_slice.result.now in
-    let votes = deskless_cites (prepares_line numbers c.args.voting) now mid (ended_by c.prepare_each.result c.prepare_each.new.voting) (deskless_prepares numbers c.args.voting) c.prepare_each.ensures.asks in
+    let votes = deskless_cites (prepares_line numbers c.args.voting) now mid (ended_by c.prepare_each.result c.prepare_each.new.voting) (deskless_prepares numbers c.args.voting) c.prepare_each.ensures.asked.asks in
     let new = g.A.Asker.told c.decide-answer.new.asker in
     λ is. cites_on now mid new votes (c.decide-answer.ensures.cited (c.prepare_each.ensures.knows is))
 
@@ -93,12 +93,12 @@ returns-in-Ok-answer-clause-cited g c =
     let now = g.A.Asker.told c.args.asker.now in
     let mid = g.A.Asker.told c.prepare_each.new.asker in
     let numbers = numbers_of c.as_slice.result.now in
-    let votes = deskless_cites (prepares_line numbers c.args.voting) now mid (ended_by c.prepare_each.result c.prepare_each.new.voting) (deskless_prepares numbers c.args.voting) c.prepare_each.ensures.asks in
+    let votes = deskless_cites (prepares_line numbers c.args.voting) now mid (ended_by c.prepare_each.result c.prepare_each.new.voting) (deskless_prepares numbers c.args.voting) c.prepare_each.ensures.asked.asks in
     let last = g.A.Asker.told c.decide-answer.new.asker in
     let new = g.A.Asker.told c.end_committed.new.asker in
     let serial = c.in-Ok-answer.serial in
     let txn = c.decide-answer.result.txn in
-    let ending = deskless_cites (commit_end serial txn) last new (ended_by c.end_committed.result.answer c.end_committed.result.txn) (deskless_commit_end serial txn) c.end_committed.ensures.asks in
+    let ending = deskless_cites (commit_end serial txn) last new (ended_by c.end_committed.result.answer c.end_committed.result.txn) (deskless_commit_end serial txn) c.end_committed.ensures.asked.asks in
     λ is. cites_on now mid new votes (cites_on mid last new (c.decide-answer.ensures.cited (c.prepare_each.ensures.knows is)) ending)
 
 pub returns-in-Err-clause-ends : goal.returns-in-Err-clause-ends
@@ -111,7 +111,7 @@ returns-in-Err-prepare_each-clause-ends g c =
     let numbers = numbers_of c.as_slice.result.now in
     let number = c.args.voting.txn.txn in
     let after = states.Voting c.prepare_each.new.voting in
-    let votes = deskless_untold number (prepares_line numbers c.args.voting) now mid (ended_by c.prepare_each.result c.prepare_each.new.voting) (deskless_prepares numbers c.args.voting) c.prepare_each.ensures.asks in
+    let votes = deskless_untold number (prepares_line numbers c.args.voting) now mid (ended_by c.prepare_each.result c.prepare_each.new.voting) (deskless_prepares numbers c.args.voting) c.prepare_each.ensures.asked.asks in
     ends_after number now mid mid after votes (ends_nothing number mid after)
 
 pub returns-clause-ends : goal.returns-clause-ends
@@ -122,8 +122,8 @@ returns-clause-ends g c =
     let numbers = numbers_of c.as_slice.result.now in
     let number = c.args.voting.txn.txn in
     let after = c.decide-answer.result.txn in
-    let votes = deskless_untold number (prepares_line numbers c.args.voting) now mid (ended_by c.prepare_each.result c.prepare_each.new.voting) (deskless_prepares numbers c.args.voting) c.prepare_each.ensures.asks in
-    ends_after number now mid new after votes (subst (λ (txn : OpenView). EndsWhereTold txn.txn mid new after) c.prepare_each.ensures.txn c.decide-answer.ensures.ends)
+    let votes = deskless_untold number (prepares_line numbers c.args.voting) now mid (ended_by c.prepare_each.result c.prepare_each.new.voting) (deskless_prepares numbers c.args.voting) c.prepare_each.ensures.asked.asks in
+    ends_after number now mid new after votes (subst (λ (txn : OpenView). EndsWhereTold txn.txn mid new after) c.prepare_each.ensures.kept.txn c.decide-answer.ensures.ends)
 
 pub returns-in-Ok-answer-clause-ends : goal.returns-in-Ok-answer-clause-ends
 returns-in-Ok-answer-clause-ends g c =
@@ -135,9 +135,9 @@ returns-in-Ok-answer-clause-ends g c =
     let number = c.args.voting.txn.txn in
     let txn = c.decide-answer.result.txn in
     let serial = c.in-Ok-answer.serial in
-    let votes = deskless_untold number (prepares_line numbers c.args.voting) now mid (ended_by c.prepare_each.result c.prepare_each.new.voting) (deskless_prepares numbers c.args.voting) c.prepare_each.ensures.asks in
-    let ending = deskless_untold number (commit_end serial txn) last new (ended_by c.end_committed.result.answer c.end_committed.result.txn) (deskless_commit_end serial txn) c.end_committed.ensures.asks in
-    let ends = subst (λ (t : OpenView). EndsWhereTold t.txn mid last txn) c.prepare_each.ensures.txn c.decide-answer.ensures.ends in
+    let votes = deskless_untold number (prepares_line numbers c.args.voting) now mid (ended_by c.prepare_each.result c.prepare_each.new.voting) (deskless_prepares numbers c.args.voting) c.prepare_each.ensures.asked.asks in
+    let ending = deskless_untold number (commit_end serial txn) last new (ended_by c.end_committed.result.answer c.end_committed.result.txn) (deskless_commit_end serial txn) c.end_committed.ensures.asked.asks in
+    let ends = subst (λ (t : OpenView). EndsWhereTold t.txn mid last txn) c.prepare_each.ensures.kept.txn c.decide-answer.ensures.ends in
     let P : Txn → Type 0 = λ t. EndsWhereTold number now new t in
     subst P (sym c.end_committed.ensures.same) (ends_before number now last new txn (ends_after number now mid last txn votes ends) ending)
 
@@ -147,15 +147,15 @@ returns-in-Err-clause-memory g c = commit_asks c.args.voting (g.A.Asker.told c.a
 pub returns-in-Err-prepare_each-clause-memory : goal.returns-in-Err-prepare_each-clause-memory
 returns-in-Err-prepare_each-clause-memory g c =
     commit_stopped c.args.voting c.prepare_each.new.voting c.as_slice.result.now (ap numbers_of c.as_slice.ensures.value ∙ c.in-Ok.ensures.numbers) (g.A.Asker.told c.args.asker.now) (g.A.Asker.told c.prepare_each.new.asker)
-    c.in-Err-prepare_each.fault c.in-Err-prepare_each.ensures.memory
+    c.in-Err-prepare_each.fault c.in-Err-prepare_each.ensures.asked.memory
 
 pub returns-clause-memory : goal.returns-clause-memory
 returns-clause-memory g c =
     commit_undecided c.args.voting c.prepare_each.new.voting c.as_slice.result.now (ap numbers_of c.as_slice.ensures.value ∙ c.in-Ok.ensures.numbers) (g.A.Asker.told c.args.asker.now) (g.A.Asker.told c.prepare_each.new.asker)
-    c.in_default.ensures.asks c.decide-answer.result.answer c.in-Err-answer.fault c.decide-answer.result.txn (g.A.Asker.told c.decide-answer.new.asker) c.in-Err-answer.is c.decide-answer.ensures.memory
+    c.in_default.ensures.asked.asks c.decide-answer.result.answer c.in-Err-answer.fault c.decide-answer.result.txn (g.A.Asker.told c.decide-answer.new.asker) c.in-Err-answer.is c.decide-answer.ensures.memory
 
 pub returns-in-Ok-answer-clause-memory : goal.returns-in-Ok-answer-clause-memory
 returns-in-Ok-answer-clause-memory g c =
     commit_unended c.args.voting c.prepare_each.new.voting c.as_slice.result.now (ap numbers_of c.as_slice.ensures.value ∙ c.in-Ok.ensures.numbers) (g.A.Asker.told c.args.asker.now) (g.A.Asker.told c.prepare_each.new.asker)
-    c.in_default.ensures.asks c.decide-answer.result.answer c.decide-answer.result.txn c.end_committed.result.txn c.in-Ok-answer.serial c.end_committed.result.answer (g.A.Asker.told c.decide-answer.new.asker) (g.A.Asker.told c.end_committed.new.asker)
-    c.in-Ok-answer.is c.decide-answer.ensures.asks c.end_committed.ensures.memory
+    c.in_default.ensures.asked.asks c.decide-answer.result.answer c.decide-answer.result.txn c.end_committed.result.txn c.in-Ok-answer.serial c.end_committed.result.answer (g.A.Asker.told c.decide-answer.new.asker) (g.A.Asker.told c.end_committed.new.asker)
+    c.in-Ok-answer.is c.decide-answer.ensures.asks c.end_committed.ensures.asked.memory

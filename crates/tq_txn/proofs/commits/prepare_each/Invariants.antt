@@ -1,12 +1,12 @@
 use Rattle.std.proofs.Common.{◌≡◌, ◌==◌, List, true, drop}
 use Rattle.std.specs.List.{list_all}
-use Rattle.std.specs.Prelude.{Option, Result}
+use Rattle.std.specs.Prelude.{Result}
 use Rattle.tq_coterie.specs.Coterie.{numbers_of}
 use Rattle.tq_txn_states.specs.Voting.{IsVotedOn, VotingView}
 use Rattle.tq_txn.specs.declared.fault.LineFault.{LineFault}
-use Rattle.tq_txn.specs.Dialogue.{Follows, IsUnfailed, LineEnd}
+use Rattle.tq_txn.specs.Dialogue.{IsTried}
 use Rattle.tq_txn.specs.Commits.{prepares_line}
-use Rattle.tq_txn.specs.Told.{Knows}
+use Rattle.tq_txn.specs.Told.{IsKnown}
 use Rattle.tq_txn.specs.declared.asker.Exchange.{Exchange}
 use Rattle.tq_txn.specs.declared.txn.Txn.TheVariants as states
 use Rattle.tq_txn.proofs.commits.prepare_each.Given as goal
@@ -16,13 +16,9 @@ abbrev pub invariant-loop-server : goal.invariant-loop-server
 invariant-loop-server g l = record {
   tree : g.A.Asker.levels l.asker ≡ g.A.Asker.levels l.initial.asker;
   of_tree : list_all (λ id. id.levels == g.A.Asker.levels l.asker) (drop l.server-index l.servers) ≡ true;
-  txn : l.voting.txn ≡ l.initial.voting.txn;
   kept : IsVotedOn l.initial.voting l.voting;
-  knows : Knows (g.A.Asker.told l.initial.asker) (states.Voting l.initial.voting) → Knows (g.A.Asker.told l.asker) (states.Voting l.voting);
-  asks : (after : List Exchange) (end : Option (LineEnd (Unit {0}) VotingView))
-      → Follows (prepares_line (numbers_of (drop l.server-index l.servers)) l.voting) (g.A.Asker.told l.asker) after end
-      → Follows (prepares_line (numbers_of l.servers) l.initial.voting) (g.A.Asker.told l.initial.asker) after end;
-  memory : (result : Result (Unit {0}) LineFault) (left : VotingView) (after : List Exchange)
-      → IsUnfailed result left (prepares_line (numbers_of (drop l.server-index l.servers)) l.voting) (g.A.Asker.told l.asker) after
-      → IsUnfailed result left (prepares_line (numbers_of l.servers) l.initial.voting) (g.A.Asker.told l.initial.asker) after;
+  knows : IsKnown states.Voting (g.A.Asker.told l.initial.asker) (g.A.Asker.told l.asker) l.initial.voting l.voting;
+  asked : (result : Result (Unit {0}) LineFault) (left : VotingView) (after : List Exchange)
+      → IsTried (prepares_line (numbers_of (drop l.server-index l.servers)) l.voting) (g.A.Asker.told l.asker) after result left
+      → IsTried (prepares_line (numbers_of l.servers) l.initial.voting) (g.A.Asker.told l.initial.asker) after result left;
 }

@@ -10,7 +10,7 @@ pub returns-in-Err-clause-asks : goal.returns-in-Err-clause-asks
 returns-in-Err-clause-asks c = λ told.
     let old = with_ballots c.args.voting.now c.args.ballots in
     vote_refused old c.vote_in.new.self c.args.told c.in-Err.fault c.from.result told
-    (sym c.refusal_in.ensures ∙ c.in_default.is) (comes_from _ c.in-Err.fault c.in-Err.ensures.fault) c.in-Err.ensures.err c.from.ensures
+    (sym c.refusal_in.ensures ∙ c.in_default.is) (comes_from _ c.in-Err.fault c.in-Err.ensures.fault) c.in-Err.ensures.vote.err c.from.ensures
 
 pub returns-in-Err-clause-unasked : goal.returns-in-Err-clause-unasked
 returns-in-Err-clause-unasked c = λ old new.
@@ -20,13 +20,13 @@ pub returns-in-Some-clause-kept : goal.returns-in-Some-clause-kept
 returns-in-Some-clause-kept c = λ none. voted_on_same (with_ballots c.args.voting.now c.args.ballots) c.put_back.new.self c.put_back.ensures
 
 pub returns-in-Err-clause-kept : goal.returns-in-Err-clause-kept
-returns-in-Err-clause-kept c = λ none. voted_on_same (with_ballots c.args.voting.now c.args.ballots) c.vote_in.new.self c.in-Err.ensures.err
+returns-in-Err-clause-kept c = λ none. voted_on_same (with_ballots c.args.voting.now c.args.ballots) c.vote_in.new.self c.in-Err.ensures.vote.err
 
-pub returns-clause-kept : goal.returns-clause-kept
-returns-clause-kept c = λ none. voted_on_after (with_ballots c.args.voting.now c.args.ballots) c.vote_in.new.self c.args.told c.in_default-vote_in.ensures.after none
+pub returns-in-Ok-clause-kept : goal.returns-in-Ok-clause-kept
+returns-in-Ok-clause-kept c = λ none. voted_on_after (with_ballots c.args.voting.now c.args.ballots) c.vote_in.new.self c.args.told c.in-Ok.ensures.vote.after none
 
 pub returns-in-Some-clause-cited : goal.returns-in-Some-clause-cited
 returns-in-Some-clause-cited c = λ before is. knows_voted before c.args.told (with_ballots c.args.voting.now c.args.ballots) c.put_back.new.self c.put_back.ensures is
 
 pub returns-in-Err-clause-cited : goal.returns-in-Err-clause-cited
-returns-in-Err-clause-cited c = λ before is. knows_voted before c.args.told (with_ballots c.args.voting.now c.args.ballots) c.vote_in.new.self c.in-Err.ensures.err is
+returns-in-Err-clause-cited c = λ before is. knows_voted before c.args.told (with_ballots c.args.voting.now c.args.ballots) c.vote_in.new.self c.in-Err.ensures.vote.err is

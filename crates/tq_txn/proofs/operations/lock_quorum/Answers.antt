@@ -1,6 +1,6 @@
 use Rattle.std.proofs.lemmas.List.Elements.{All-nil}
 use Rattle.std.specs.List.{Contains}
-use Rattle.std.proofs.Common.{◌≡◌, ◌==◌, ◌∙◌, ◌++◌, ℕ, List, [], true, refl, sym, ap, subst, Option, Some, Result, Ok, Err}
+use Rattle.std.proofs.Common.{◌≡◌, ◌==◌, ◌∙◌, ◌++◌, ℕ, List, [], true, refl, sym, ap, subst, Option, Some, Result, Ok, Err, rules}
 use Rattle.std.specs.List.{list_all}
 use Rattle.tq_txn_states.specs.declared.told.NodeTold.{NodeTold}
 use Rattle.tq_txn.specs.declared.fault.LineFault.{LineFault}
@@ -8,7 +8,7 @@ use Rattle.tq_txn.specs.declared.fault.LineFault.TheVariants.{Memory}
 use Rattle.tq_coterie.specs.Coterie.{numbers_of}
 use Rattle.tq_locks.specs.declared.mode.Mode.{Mode}
 use Rattle.tq_txn.specs.declared.asker.Exchange.{Exchange}
-use Rattle.tq_txn.specs.Dialogue.{Follows, IsUnfailed, LineEnd, ended_by}
+use Rattle.tq_txn.specs.Dialogue.{Follows, IsTried, IsUnfailed, LineEnd, ended_by}
 use Rattle.tq_txn.specs.Told.{AreTold, answers_in}
 use Rattle.tq_txn.specs.Lines.{AreOf, LocksView, granting_answer, lock_ask, locked, locks_line, locks_of, quorum_line}
 use Rattle.tq_evidence.specs.declared.grant.Grant.{Grant}
@@ -40,10 +40,6 @@ unasked : (file : List ℕ) (mode : Mode) (old : OpenView) (result : Result Gran
 unasked file mode old (Ok granting) told = tt
 unasked file mode old (Err fault) told = quorum_same file mode old (Err fault) told
 
-pub returns-in-Err-clause-asks : goal.returns-in-Err-clause-asks
-returns-in-Err-clause-asks g c =
-    quorum_off c.args.file.now c.args.mode c.levels.result c.args.open.now c.levels.ensures c.purpose_of.result c.purpose_of.ensures c.in-Err.fault (g.A.Asker.told c.args.asker.now) (g.A.Asker.told c.choose.new.asker) c.in-Err.ensures.asks
-
 pub lock_each-requires-clause-of_tree : goal.lock_each-requires-clause-of_tree
 lock_each-requires-clause-of_tree g c =
     let levels : c.in-Ok.quorum.levels ≡ g.A.Asker.levels c.choose.new.asker = c.in-Ok.ensures.quorum ∙ c.levels.ensures ∙ c.requires ∙ sym c.in-Ok.ensures.tree in
@@ -57,21 +53,92 @@ pub lock_each-requires-clause-ask : goal.lock_each-requires-clause-ask
 lock_each-requires-clause-ask g c = c.in_ok-ask.ensures ∙ ap (λ (v : OpenView). lock_ask v.txn c.args.file.now c.args.mode) (sym c.in-Ok-room_for.ensures.value)
 
 pub take_back-requires-clause-tree : goal.take_back-requires-clause-tree
-take_back-requires-clause-tree g c = of_tree_grown c.room_for.new.self.levels c.in-Ok-room_for.granting c.lock_each.new.granting c.lock_each.ensures.grown c.in-Ok-room_for.ensures.tree
+take_back-requires-clause-tree g c = of_tree_grown c.room_for.new.self.levels c.in-Ok-room_for.granting c.lock_each.new.granting c.lock_each.ensures.locks.grown c.in-Ok-room_for.ensures.tree
 
 pub take_back-requires-clause-good : goal.take_back-requires-clause-good
 take_back-requires-clause-good g c =
-    let touched = kept c.args.open.now c.room_for.new.self c.in-Ok-room_for.granting c.lock_each.new.granting c.in-Ok-room_for.ensures.value c.lock_each.ensures.grown in
+    let touched = kept c.args.open.now c.room_for.new.self c.in-Ok-room_for.granting c.lock_each.new.granting c.in-Ok-room_for.ensures.value c.lock_each.ensures.locks.grown in
     open_touched c.args.open.now (noted c.room_for.new.self c.lock_each.new.granting) touched c.in-Ok-room_for.ensures.good
 
-pub returns-in-Err-room_for-clause-asks : goal.returns-in-Err-room_for-clause-asks
-returns-in-Err-room_for-clause-asks g c =
+pub returns-in-Ok-lock_each-clause-heard : goal.returns-in-Ok-lock_each-clause-heard
+returns-in-Ok-lock_each-clause-heard g c =
+    let file = c.args.file.now in
     let told = g.A.Asker.told c.choose.new.asker in
-    quorum_stopped c.args.file.now c.args.mode c.levels.result c.args.open.now c.levels.ensures c.purpose_of.result c.purpose_of.ensures c.in-Ok.quorum.servers c.servers-servers.result.now [] c.servers-servers.ensures.numbers refl
-    (g.A.Asker.told c.args.asker.now) told c.in-Ok.ensures.asks Memory record { answers = []; txn = c.args.open.now } told (follows_memory _ told)
+    let after = g.A.Asker.told c.lock_each.new.asker in
+    let handed = c.room_for.new.self in
+    let same : handed.txn ≡ c.args.open.now.txn = ap (λ (v : OpenView). v.txn) c.in-Ok-room_for.ensures.value in
+    let empty : answers_of handed.txn file c.in-Ok-room_for.granting.grants ≡ [] = ap (answers_of handed.txn file) c.in-Ok-room_for.ensures.grants in
+    let P : ℕ → Type 0 = λ txn. AreTold after (answers_of txn file c.lock_each.new.granting.grants) in
+    subst P same (c.lock_each.ensures.locks.heard (subst (AreTold told) (sym empty) (All-nil (Contains (answers_in told)))))
 
-pub returns-in-Ok-lock_each-clause-asks : goal.returns-in-Ok-lock_each-clause-asks
-returns-in-Ok-lock_each-clause-asks g c =
+pub returns-in-Ok-lock_each-clause-member : goal.returns-in-Ok-lock_each-clause-member
+returns-in-Ok-lock_each-clause-member g c =
+    let servers = c.servers-servers.result.now in
+    let none : granters c.in-Ok-room_for.granting.grants ≡ [] = ap granters c.in-Ok-room_for.ensures.grants in
+    let all : granters c.lock_each.new.granting.grants ≡ numbers_of servers = c.in-Ok-lock_each.ensures.locks.servers ∙ ap (λ numbers. numbers ++ numbers_of servers) none in
+    member_of c.args.open.now.levels c.in-Ok.quorum.levels servers c.lock_each.new.granting.grants c.servers-servers.ensures.member (c.in-Ok.ensures.quorum ∙ c.levels.ensures) all
+
+pub returns-in-Ok-lock_each-clause-take : goal.returns-in-Ok-lock_each-clause-take
+returns-in-Ok-lock_each-clause-take g c =
+    let servers = c.servers-servers.result.now in
+    let none : granters c.in-Ok-room_for.granting.grants ≡ [] = ap granters c.in-Ok-room_for.ensures.grants in
+    let all : granters c.lock_each.new.granting.grants ≡ numbers_of servers = c.in-Ok-lock_each.ensures.locks.servers ∙ ap (λ numbers. numbers ++ numbers_of servers) none in
+    can_take_grown c.in-Ok-room_for.granting c.lock_each.new.granting (numbers_of servers) (granters c.lock_each.new.granting.grants) c.lock_each.ensures.locks.grown all c.in-Ok-room_for.ensures.take
+
+pub returns-in-Ok-lock_each-clause-modes : goal.returns-in-Ok-lock_each-clause-modes
+returns-in-Ok-lock_each-clause-modes g c =
+    let mode = c.args.mode in
+    c.lock_each.ensures.locks.modes (subst (AreOf mode) (sym c.in-Ok-room_for.ensures.grants) (All-nil (λ (grant : Grant). grant.mode ≡ mode)))
+
+pub returns-in-Ok-lock_each-clause-of_tree : goal.returns-in-Ok-lock_each-clause-of_tree
+returns-in-Ok-lock_each-clause-of_tree g c = of_tree_grown c.room_for.new.self.levels c.in-Ok-room_for.granting c.lock_each.new.granting c.lock_each.ensures.locks.grown c.in-Ok-room_for.ensures.tree
+
+pub returns-in-Ok-lock_each-clause-good : goal.returns-in-Ok-lock_each-clause-good
+returns-in-Ok-lock_each-clause-good g c =
+    let touched = kept c.args.open.now c.room_for.new.self c.in-Ok-room_for.granting c.lock_each.new.granting c.in-Ok-room_for.ensures.value c.lock_each.ensures.locks.grown in
+    open_touched c.args.open.now (noted c.room_for.new.self c.lock_each.new.granting) touched c.in-Ok-room_for.ensures.good
+
+pub returns-in-Ok-lock_each-clause-kept : goal.returns-in-Ok-lock_each-clause-kept
+returns-in-Ok-lock_each-clause-kept g c =
+    kept c.args.open.now c.room_for.new.self c.in-Ok-room_for.granting c.lock_each.new.granting c.in-Ok-room_for.ensures.value c.lock_each.ensures.locks.grown
+
+pub returns-clause-kept : goal.returns-clause-kept
+returns-clause-kept g c =
+    let old = c.args.open.now in
+    let touched = kept old c.room_for.new.self c.in-Ok-room_for.granting c.lock_each.new.granting c.in-Ok-room_for.ensures.value c.lock_each.ensures.locks.grown in
+    subst (IsTouched old) (sym c.take_back.ensures) touched
+
+pub returns-in_err-ask-clause-asked : goal.returns-in_err-ask-clause-asked
+returns-in_err-ask-clause-asked g c = record {
+  asks = search rules;
+  memory = unasked c.args.file.now c.args.mode c.args.open.now c.from_residual.result (g.A.Asker.told c.args.asker.now);
+}
+
+pub returns-in-Err-clause-asked : goal.returns-in-Err-clause-asked
+returns-in-Err-clause-asked g c =
+    let told = g.A.Asker.told c.args.asker.now in
+    let mid = g.A.Asker.told c.choose.new.asker in
+    record {
+      asks = quorum_off c.args.file.now c.args.mode c.levels.result c.args.open.now c.levels.ensures c.purpose_of.result c.purpose_of.ensures c.in-Err.fault told mid c.in-Err.ensures.asks;
+      memory = quorum_unchosen c.args.file.now c.args.mode c.args.open.now c.in-Err.fault told mid c.in-Err.ensures.unasked;
+    }
+
+pub returns-in-Err-room_for-clause-asked : goal.returns-in-Err-room_for-clause-asked
+returns-in-Err-room_for-clause-asked g c =
+    let file = c.args.file.now in
+    let told = g.A.Asker.told c.args.asker.now in
+    let mid = g.A.Asker.told c.choose.new.asker in
+    let old = c.args.open.now in
+    let servers = c.servers-servers.result.now in
+    record {
+      asks = quorum_stopped file c.args.mode c.levels.result old c.levels.ensures c.purpose_of.result c.purpose_of.ensures c.in-Ok.quorum.servers servers [] c.servers-servers.ensures.numbers refl told mid c.in-Ok.ensures.asks
+          Memory record { answers = []; txn = old } mid (follows_memory _ mid);
+      memory = quorum_unlocked file c.args.mode old c.levels.result c.levels.ensures c.purpose_of.result c.purpose_of.ensures c.in-Ok.quorum.servers servers c.servers-servers.ensures.numbers told mid c.in-Ok.ensures.asks
+          c.in-Ok.quorum.levels c.servers-servers.ensures.member c.room_for.new.self c.in-Err-room_for.ensures.err;
+    }
+
+pub returns-in-Ok-lock_each-clause-asked : goal.returns-in-Ok-lock_each-clause-asked
+returns-in-Ok-lock_each-clause-asked g c =
     let file = c.args.file.now in
     let told = g.A.Asker.told c.args.asker.now in
     let mid = g.A.Asker.told c.choose.new.asker in
@@ -83,13 +150,13 @@ returns-in-Ok-lock_each-clause-asks g c =
     let empty : none ≡ [] = ap (answers_of handed.txn file) c.in-Ok-room_for.ensures.grants in
     let same : handed.txn ≡ old.txn = ap (λ (v : OpenView). v.txn) c.in-Ok-room_for.ensures.value in
     let new : LocksView = locks_of file handed c.lock_each.new.granting in
-    let all_locked = started file c.args.mode (numbers_of c.servers-servers.result.now) none (noted handed start) old c.in-Ok-room_for.ensures.value mid after (Some (record { answer = Ok tt; after = new })) c.in-Ok-lock_each.ensures.asks in
+    let all_locked = started file c.args.mode (numbers_of c.servers-servers.result.now) none (noted handed start) old c.in-Ok-room_for.ensures.value mid after (Some (record { answer = Ok tt; after = new })) c.in-Ok-lock_each.ensures.locks.asks in
     let all = quorum_locked file c.args.mode c.levels.result old c.levels.ensures c.purpose_of.result c.purpose_of.ensures c.in-Ok.quorum.servers c.servers-servers.result.now none c.servers-servers.ensures.numbers empty told mid c.in-Ok.ensures.asks new after all_locked in
     let P : ℕ → Type 0 = λ txn. Follows (quorum_line file c.args.mode old) told after (Some (record { answer = Ok (answers_of txn file c.lock_each.new.granting.grants); after = new.txn })) in
-    subst P same all
+    record { asks = subst P same all; memory = tt }
 
-pub returns-clause-asks : goal.returns-clause-asks
-returns-clause-asks g c =
+pub returns-clause-asked : goal.returns-clause-asked
+returns-clause-asked g c =
     let file = c.args.file.now in
     let told = g.A.Asker.told c.args.asker.now in
     let mid = g.A.Asker.told c.choose.new.asker in
@@ -97,87 +164,15 @@ returns-clause-asks g c =
     let old = c.args.open.now in
     let handed = c.room_for.new.self in
     let start = c.in-Ok-room_for.granting in
+    let fault = c.in-Err-lock_each.fault in
     let none = answers_of handed.txn file start.grants in
     let empty : none ≡ [] = ap (answers_of handed.txn file) c.in-Ok-room_for.ensures.grants in
     let new : LocksView = locks_of file handed c.lock_each.new.granting in
-    let all_locked = started file c.args.mode (numbers_of c.servers-servers.result.now) none (noted handed start) old c.in-Ok-room_for.ensures.value mid after (ended_by (Err c.in-Err-lock_each.fault) new) c.in-Err-lock_each.ensures.asks in
-    let all = quorum_stopped file c.args.mode c.levels.result old c.levels.ensures c.purpose_of.result c.purpose_of.ensures c.in-Ok.quorum.servers c.servers-servers.result.now none c.servers-servers.ensures.numbers empty told mid c.in-Ok.ensures.asks c.in-Err-lock_each.fault new after all_locked in
-    let P : OpenView → Type 0 = λ txn. Follows (quorum_line file c.args.mode old) told after (ended_by (Err c.in-Err-lock_each.fault) txn) in
-    subst P (sym c.take_back.ensures) all
-
-pub returns-in-Ok-lock_each-clause-heard : goal.returns-in-Ok-lock_each-clause-heard
-returns-in-Ok-lock_each-clause-heard g c =
-    let file = c.args.file.now in
-    let told = g.A.Asker.told c.choose.new.asker in
-    let after = g.A.Asker.told c.lock_each.new.asker in
-    let handed = c.room_for.new.self in
-    let same : handed.txn ≡ c.args.open.now.txn = ap (λ (v : OpenView). v.txn) c.in-Ok-room_for.ensures.value in
-    let empty : answers_of handed.txn file c.in-Ok-room_for.granting.grants ≡ [] = ap (answers_of handed.txn file) c.in-Ok-room_for.ensures.grants in
-    let P : ℕ → Type 0 = λ txn. AreTold after (answers_of txn file c.lock_each.new.granting.grants) in
-    subst P same (c.lock_each.ensures.heard (subst (AreTold told) (sym empty) (All-nil (Contains (answers_in told)))))
-
-pub returns-in-Ok-lock_each-clause-member : goal.returns-in-Ok-lock_each-clause-member
-returns-in-Ok-lock_each-clause-member g c =
-    let servers = c.servers-servers.result.now in
-    let none : granters c.in-Ok-room_for.granting.grants ≡ [] = ap granters c.in-Ok-room_for.ensures.grants in
-    let all : granters c.lock_each.new.granting.grants ≡ numbers_of servers = c.in-Ok-lock_each.ensures.servers ∙ ap (λ numbers. numbers ++ numbers_of servers) none in
-    member_of c.args.open.now.levels c.in-Ok.quorum.levels servers c.lock_each.new.granting.grants c.servers-servers.ensures.member (c.in-Ok.ensures.quorum ∙ c.levels.ensures) all
-
-pub returns-in-Ok-lock_each-clause-take : goal.returns-in-Ok-lock_each-clause-take
-returns-in-Ok-lock_each-clause-take g c =
-    let servers = c.servers-servers.result.now in
-    let none : granters c.in-Ok-room_for.granting.grants ≡ [] = ap granters c.in-Ok-room_for.ensures.grants in
-    let all : granters c.lock_each.new.granting.grants ≡ numbers_of servers = c.in-Ok-lock_each.ensures.servers ∙ ap (λ numbers. numbers ++ numbers_of servers) none in
-    can_take_grown c.in-Ok-room_for.granting c.lock_each.new.granting (numbers_of servers) (granters c.lock_each.new.granting.grants) c.lock_each.ensures.grown all c.in-Ok-room_for.ensures.take
-
-pub returns-in-Ok-lock_each-clause-modes : goal.returns-in-Ok-lock_each-clause-modes
-returns-in-Ok-lock_each-clause-modes g c =
-    let mode = c.args.mode in
-    c.lock_each.ensures.modes (subst (AreOf mode) (sym c.in-Ok-room_for.ensures.grants) (All-nil (λ (grant : Grant). grant.mode ≡ mode)))
-
-pub returns-in-Ok-lock_each-clause-of_tree : goal.returns-in-Ok-lock_each-clause-of_tree
-returns-in-Ok-lock_each-clause-of_tree g c = of_tree_grown c.room_for.new.self.levels c.in-Ok-room_for.granting c.lock_each.new.granting c.lock_each.ensures.grown c.in-Ok-room_for.ensures.tree
-
-pub returns-in-Ok-lock_each-clause-good : goal.returns-in-Ok-lock_each-clause-good
-returns-in-Ok-lock_each-clause-good g c =
-    let touched = kept c.args.open.now c.room_for.new.self c.in-Ok-room_for.granting c.lock_each.new.granting c.in-Ok-room_for.ensures.value c.lock_each.ensures.grown in
-    open_touched c.args.open.now (noted c.room_for.new.self c.lock_each.new.granting) touched c.in-Ok-room_for.ensures.good
-
-pub returns-in-Ok-lock_each-clause-kept : goal.returns-in-Ok-lock_each-clause-kept
-returns-in-Ok-lock_each-clause-kept g c =
-    kept c.args.open.now c.room_for.new.self c.in-Ok-room_for.granting c.lock_each.new.granting c.in-Ok-room_for.ensures.value c.lock_each.ensures.grown
-
-pub returns-clause-kept : goal.returns-clause-kept
-returns-clause-kept g c =
-    let old = c.args.open.now in
-    let touched = kept old c.room_for.new.self c.in-Ok-room_for.granting c.lock_each.new.granting c.in-Ok-room_for.ensures.value c.lock_each.ensures.grown in
-    subst (IsTouched old) (sym c.take_back.ensures) touched
-
-pub returns-in_err-ask-clause-memory : goal.returns-in_err-ask-clause-memory
-returns-in_err-ask-clause-memory g c = unasked c.args.file.now c.args.mode c.args.open.now c.from_residual.result (g.A.Asker.told c.args.asker.now)
-
-pub returns-in-Err-clause-memory : goal.returns-in-Err-clause-memory
-returns-in-Err-clause-memory g c =
-    quorum_unchosen c.args.file.now c.args.mode c.args.open.now c.in-Err.fault (g.A.Asker.told c.args.asker.now) (g.A.Asker.told c.choose.new.asker) c.in-Err.ensures.unasked
-
-pub returns-in-Err-room_for-clause-memory : goal.returns-in-Err-room_for-clause-memory
-returns-in-Err-room_for-clause-memory g c =
-    quorum_unlocked c.args.file.now c.args.mode c.args.open.now c.levels.result c.levels.ensures c.purpose_of.result c.purpose_of.ensures c.in-Ok.quorum.servers c.servers-servers.result.now c.servers-servers.ensures.numbers
-    (g.A.Asker.told c.args.asker.now) (g.A.Asker.told c.choose.new.asker) c.in-Ok.ensures.asks c.in-Ok.quorum.levels c.servers-servers.ensures.member c.room_for.new.self c.in-Err-room_for.ensures.err
-
-pub returns-clause-memory : goal.returns-clause-memory
-returns-clause-memory g c =
-    let file = c.args.file.now in
-    let told = g.A.Asker.told c.args.asker.now in
-    let mid = g.A.Asker.told c.choose.new.asker in
-    let after = g.A.Asker.told c.lock_each.new.asker in
-    let old = c.args.open.now in
-    let handed = c.room_for.new.self in
-    let start = c.in-Ok-room_for.granting in
-    let none = answers_of handed.txn file start.grants in
-    let empty : none ≡ [] = ap (answers_of handed.txn file) c.in-Ok-room_for.ensures.grants in
-    let new : LocksView = locks_of file handed c.lock_each.new.granting in
-    let P : OpenView → Type 0 = λ v. IsUnfailed {A = List NodeTold} (Err c.in-Err-lock_each.fault) v (quorum_line file c.args.mode old) told after in
-    subst P (sym c.take_back.ensures)
-    (quorum_unfailed file c.args.mode old c.levels.result c.levels.ensures c.purpose_of.result c.purpose_of.ensures c.in-Ok.quorum.servers c.servers-servers.result.now c.servers-servers.ensures.numbers
-    told mid c.in-Ok.ensures.asks none empty (noted handed start) c.in-Ok-room_for.ensures.value c.in-Err-lock_each.fault new after c.in-Err-lock_each.ensures.memory)
+    let all_locked = started file c.args.mode (numbers_of c.servers-servers.result.now) none (noted handed start) old c.in-Ok-room_for.ensures.value mid after (ended_by (Err fault) new) c.in-Err-lock_each.ensures.locks.asks in
+    let P : OpenView → Type 0 = λ v. IsTried {A = List NodeTold} (quorum_line file c.args.mode old) told after (Err fault) v in
+    subst P (sym c.take_back.ensures) record {
+      asks = quorum_stopped file c.args.mode c.levels.result old c.levels.ensures c.purpose_of.result c.purpose_of.ensures c.in-Ok.quorum.servers c.servers-servers.result.now none c.servers-servers.ensures.numbers empty told mid c.in-Ok.ensures.asks
+          fault new after all_locked;
+      memory = quorum_unfailed file c.args.mode old c.levels.result c.levels.ensures c.purpose_of.result c.purpose_of.ensures c.in-Ok.quorum.servers c.servers-servers.result.now c.servers-servers.ensures.numbers told mid c.in-Ok.ensures.asks
+          none empty (noted handed start) c.in-Ok-room_for.ensures.value fault new after c.in-Err-lock_each.ensures.locks.memory;
+    }

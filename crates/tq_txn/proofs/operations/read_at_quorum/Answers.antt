@@ -30,7 +30,7 @@ read_locked-requires-clause-member g c = still_member c.args.open.now (noted c.l
 
 pub returns-in-Err-clause-asks : goal.returns-in-Err-clause-asks
 returns-in-Err-clause-asks g c =
-    follows_off (quorum_line c.args.file.now Shared c.args.open.now) (λ new. new) (λ told new. read_end c.args.file.now told new) c.in-Err.fault c.lock_quorum.new.open c.lock_quorum.new.open (g.A.Asker.told c.args.asker.now) (g.A.Asker.told c.lock_quorum.new.asker) refl c.in-Err.ensures.asks
+    follows_off (quorum_line c.args.file.now Shared c.args.open.now) (λ new. new) (λ told new. read_end c.args.file.now told new) c.in-Err.fault c.lock_quorum.new.open c.lock_quorum.new.open (g.A.Asker.told c.args.asker.now) (g.A.Asker.told c.lock_quorum.new.asker) refl c.in-Err.ensures.asked.asks
 
 pub returns-in-Ok-read_locked-clause-asks : goal.returns-in-Ok-read_locked-clause-asks
 returns-in-Ok-read_locked-clause-asks g c =
@@ -45,7 +45,7 @@ returns-in-Ok-read_locked-clause-asks g c =
     let again = grants_again kinds.Read now.txn file grants (any_fit grants) in
     let none = read_as_told now file grants (still_unused old now kept file c.requires.fresh) (still_few old now kept c.requires.few) (still_member old now kept grants c.in-Ok.ensures.member) in
     follows_on (quorum_line c.args.file.now Shared c.args.open.now) (λ new. new) (λ told new. read_end c.args.file.now told new) answers now (g.A.Asker.told c.args.asker.now) told told
-    (Some (record { answer = Ok (Copy c.in-Ok-read_locked.copy); after = c.read_locked.new.self })) c.in-Ok.ensures.asks
+    (Some (record { answer = Ok (Copy c.in-Ok-read_locked.copy); after = c.read_locked.new.self })) c.in-Ok.ensures.asked.asks
     (read_ended file answers given now c.read_locked.new.self c.in-Ok-read_locked.copy told (same_answers old now kept file grants) none (c.in-Ok-read_locked.ensures.value ∙ sym (ap read_copy again)) (c.in-Ok-read_locked.ensures.after ∙ sym (ap (λ gs. taken now (read_op file gs)) again)))
 
 pub returns-in-Err-read_locked-clause-asks : goal.returns-in-Err-read_locked-clause-asks
@@ -59,14 +59,14 @@ returns-in-Err-read_locked-clause-asks g c =
     let answers = answers_of old.txn file grants in
     let given = answers_of now.txn file grants in
     follows_on (quorum_line c.args.file.now Shared c.args.open.now) (λ new. new) (λ told new. read_end c.args.file.now told new) answers now (g.A.Asker.told c.args.asker.now) told told
-    (ended_by (Err Memory) c.read_locked.new.self) c.in-Ok.ensures.asks
+    (ended_by (Err Memory) c.read_locked.new.self) c.in-Ok.ensures.asked.asks
     (read_refused file answers given now c.read_locked.new.self txn_faults.Memory Memory told (same_answers old now kept file grants) tt c.in-Err-read_locked.ensures.err refl)
 
 pub returns-in-Err-clause-knows : goal.returns-in-Err-clause-knows
 returns-in-Err-clause-knows g c =
     let old = g.A.Asker.told c.args.asker.now in
     let new = g.A.Asker.told c.lock_quorum.new.asker in
-    let more = grown_along (quorum_line c.args.file.now Shared c.args.open.now) old new (ended_by (Err c.in-Err.fault) c.lock_quorum.new.open) c.in-Err.ensures.asks in
+    let more = grown_along (quorum_line c.args.file.now Shared c.args.open.now) old new (ended_by (Err c.in-Err.fault) c.lock_quorum.new.open) c.in-Err.ensures.asked.asks in
     knows_touched old new c.args.open.now c.lock_quorum.new.open more c.in-Err.ensures.kept
 
 pub returns-in-Ok-read_locked-clause-knows : goal.returns-in-Ok-read_locked-clause-knows
@@ -76,7 +76,7 @@ returns-in-Ok-read_locked-clause-knows g c =
     let file = c.args.file.now in
     let grants = c.in-Ok.granting.grants in
     let now = noted c.lock_quorum.new.open c.in-Ok.granting in
-    let more = grown_along (quorum_line file Shared c.args.open.now) old new (Some (record { answer = Ok (answers_of c.args.open.now.txn file grants); after = now })) c.in-Ok.ensures.asks in
+    let more = grown_along (quorum_line file Shared c.args.open.now) old new (Some (record { answer = Ok (answers_of c.args.open.now.txn file grants); after = now })) c.in-Ok.ensures.asked.asks in
     let heard = subst (AreTold new) (sym (same_answers c.args.open.now now c.in-Ok.ensures.kept file grants)) c.in-Ok.ensures.heard in
     let cited = granted_cited now c.read_locked.new.self (read_op file grants) grants c.in-Ok-read_locked.ensures.after refl in
     λ is. knows_taken (answers_in new) (answers_in new) (answers_of now.txn file grants) now c.read_locked.new.self (All-contains_itself (answers_in new)) heard cited (knows_touched old new c.args.open.now now more c.in-Ok.ensures.kept is)
@@ -87,14 +87,14 @@ returns-in-Err-read_locked-clause-knows g c =
     let new = g.A.Asker.told c.lock_quorum.new.asker in
     let grants = c.in-Ok.granting.grants in
     let now = noted c.lock_quorum.new.open c.in-Ok.granting in
-    let more = grown_along (quorum_line c.args.file.now Shared c.args.open.now) old new (Some (record { answer = Ok (answers_of c.args.open.now.txn c.args.file.now grants); after = now })) c.in-Ok.ensures.asks in
+    let more = grown_along (quorum_line c.args.file.now Shared c.args.open.now) old new (Some (record { answer = Ok (answers_of c.args.open.now.txn c.args.file.now grants); after = now })) c.in-Ok.ensures.asked.asks in
     λ is. subst (KeepsOnly (answers_in new)) (sym c.in-Err-read_locked.ensures.err) (knows_touched old new c.args.open.now now more c.in-Ok.ensures.kept is)
 
 pub returns-in-Err-clause-memory : goal.returns-in-Err-clause-memory
 returns-in-Err-clause-memory g c =
-    noted_off (quorum_line c.args.file.now Shared c.args.open.now) c.lock_quorum.new.open (g.A.Asker.told c.args.asker.now) (g.A.Asker.told c.lock_quorum.new.asker) ReadAnswer c.in-Err.fault c.in-Err.ensures.memory
+    noted_off (quorum_line c.args.file.now Shared c.args.open.now) c.lock_quorum.new.open (g.A.Asker.told c.args.asker.now) (g.A.Asker.told c.lock_quorum.new.asker) ReadAnswer c.in-Err.fault c.in-Err.ensures.asked.memory
 
 pub returns-in-Err-read_locked-clause-memory : goal.returns-in-Err-read_locked-clause-memory
 returns-in-Err-read_locked-clause-memory g c =
     noted_last (quorum_line c.args.file.now Shared c.args.open.now) c.read_locked.new.self (g.A.Asker.told c.args.asker.now) (g.A.Asker.told c.lock_quorum.new.asker) ReadAnswer Memory
-    (answers_of c.args.open.now.txn c.args.file.now c.in-Ok.granting.grants) (noted c.lock_quorum.new.open c.in-Ok.granting) c.in-Ok.ensures.asks c.in-Err-read_locked.ensures.err
+    (answers_of c.args.open.now.txn c.args.file.now c.in-Ok.granting.grants) (noted c.lock_quorum.new.open c.in-Ok.granting) c.in-Ok.ensures.asked.asks c.in-Err-read_locked.ensures.err

@@ -1,18 +1,18 @@
 use Rattle.std.proofs.lemmas.List.Elements.{All-contains_itself}
-use Rattle.std.proofs.Common.{ℕ, sym, subst, ap, ◌∙◌, ◌+◌, Some, Ok, Err, refl}
+use Rattle.std.proofs.Common.{sym, subst, ap, ◌∙◌, ◌+◌, Some, Ok, Err, refl}
 use Rattle.tq_evidence.specs.Evidence.{greatest}
 use Rattle.tq_evidence.specs.declared.op.OpKind.TheVariants as kinds
 use Rattle.tq_locks.specs.declared.mode.Mode.TheVariants.{Exclusive}
 use Rattle.tq_txn_states.specs.declared.fault.TxnFault.TheVariants as txn_faults
 use Rattle.tq_txn_states.specs.Cited.{KeepsOnly, answers_of}
 use Rattle.tq_txn_states.specs.Granting.{noted}
-use Rattle.tq_txn_states.specs.Open.{ComesOf, taken, write_op}
+use Rattle.tq_txn_states.specs.Open.{taken, write_op}
 use Rattle.tq_txn_states.proofs.CitedLaws.{granted_cited}
 use Rattle.tq_txn_states.proofs.Granted.{grants_again, write_as_told}
 use Rattle.tq_txn_states.proofs.GrantingLaws.{version_made, version_refused}
 use Rattle.tq_txn.specs.declared.fault.LineFault.TheVariants as faults
 use Rattle.tq_txn.specs.Dialogue.{ended_by}
-use Rattle.tq_txn.specs.Lines.{granting_answer, locked, quorum_line, write_end}
+use Rattle.tq_txn.specs.Lines.{quorum_line, write_end}
 use Rattle.tq_txn.specs.Told.{AreTold, answers_in}
 use Rattle.tq_txn.proofs.BreakLaws.{unfailed_off}
 use Rattle.tq_txn.proofs.GrantLaws.{all_exclusive, same_answers, still_few, still_member, still_unwritten}
@@ -32,7 +32,7 @@ write_locked-requires-clause-exclusive g c = all_exclusive c.in-Ok.granting.gran
 
 pub returns-in-Err-clause-asks : goal.returns-in-Err-clause-asks
 returns-in-Err-clause-asks g c =
-    follows_off (quorum_line c.args.file.now Exclusive c.args.open.now) (λ new. new) (λ told new. write_end c.args.file.now c.args.content told new) c.in-Err.fault c.lock_quorum.new.open c.lock_quorum.new.open (g.A.Asker.told c.args.asker.now) (g.A.Asker.told c.lock_quorum.new.asker) refl c.in-Err.ensures.asks
+    follows_off (quorum_line c.args.file.now Exclusive c.args.open.now) (λ new. new) (λ told new. write_end c.args.file.now c.args.content told new) c.in-Err.fault c.lock_quorum.new.open c.lock_quorum.new.open (g.A.Asker.told c.args.asker.now) (g.A.Asker.told c.lock_quorum.new.asker) refl c.in-Err.ensures.asked.asks
 
 pub returns-in-Some-clause-asks : goal.returns-in-Some-clause-asks
 returns-in-Some-clause-asks g c =
@@ -49,7 +49,7 @@ returns-in-Some-clause-asks g c =
     let fault = write_as_told now file grants (still_unwritten old now kept file c.requires.fresh) (still_few old now kept c.requires.few) (still_member old now kept grants c.in-Ok.ensures.member) exclusive in
     let made = version_made grants c.in-Some.version (c.write_locked.ensures.value ∙ c.in-Some.is) in
     follows_on (quorum_line file Exclusive old) (λ new. new) (λ told new. write_end file c.args.content told new) answers now (g.A.Asker.told c.args.asker.now) told told
-    (Some (record { answer = Ok c.in-Some.version; after = c.write_locked.new.self })) c.in-Ok.ensures.asks
+    (Some (record { answer = Ok c.in-Some.version; after = c.write_locked.new.self })) c.in-Ok.ensures.asked.asks
     (write_ended file c.args.content answers given now c.write_locked.new.self c.in-Some.version told (same_answers old now kept file grants) (fault ∙ made.0) (made.1 ∙ sym (ap (λ gs. greatest gs + 1) again)) (c.in-Some.ensures.after ∙ sym (ap (λ gs. taken now (write_op file c.args.content gs)) again)))
 
 pub returns-in-None-clause-asks : goal.returns-in-None-clause-asks
@@ -66,14 +66,14 @@ returns-in-None-clause-asks g c =
     let fault = write_as_told now file grants (still_unwritten old now kept file c.requires.fresh) (still_few old now kept c.requires.few) (still_member old now kept grants c.in-Ok.ensures.member) exclusive in
     let full = version_refused grants (c.write_locked.ensures.value ∙ c.in-None.is) in
     follows_on (quorum_line file Exclusive old) (λ new. new) (λ told new. write_end file c.args.content told new) answers now (g.A.Asker.told c.args.asker.now) told told
-    (ended_by (Err (faults.Txn txn_faults.VersionFull)) c.write_locked.new.self) c.in-Ok.ensures.asks
+    (ended_by (Err (faults.Txn txn_faults.VersionFull)) c.write_locked.new.self) c.in-Ok.ensures.asked.asks
     (write_refused file c.args.content answers given now c.write_locked.new.self txn_faults.VersionFull (faults.Txn txn_faults.VersionFull) told (same_answers old now kept file grants) (fault ∙ full) (c.write_locked.ensures.full c.in-None.is) refl)
 
 pub returns-in-Err-clause-knows : goal.returns-in-Err-clause-knows
 returns-in-Err-clause-knows g c =
     let old = g.A.Asker.told c.args.asker.now in
     let new = g.A.Asker.told c.lock_quorum.new.asker in
-    let more = grown_along (quorum_line c.args.file.now Exclusive c.args.open.now) old new (ended_by (Err c.in-Err.fault) c.lock_quorum.new.open) c.in-Err.ensures.asks in
+    let more = grown_along (quorum_line c.args.file.now Exclusive c.args.open.now) old new (ended_by (Err c.in-Err.fault) c.lock_quorum.new.open) c.in-Err.ensures.asked.asks in
     knows_touched old new c.args.open.now c.lock_quorum.new.open more c.in-Err.ensures.kept
 
 pub returns-in-Some-clause-knows : goal.returns-in-Some-clause-knows
@@ -83,7 +83,7 @@ returns-in-Some-clause-knows g c =
     let file = c.args.file.now in
     let grants = c.in-Ok.granting.grants in
     let now = noted c.lock_quorum.new.open c.in-Ok.granting in
-    let more = grown_along (quorum_line file Exclusive c.args.open.now) old new (Some (record { answer = Ok (answers_of c.args.open.now.txn file grants); after = now })) c.in-Ok.ensures.asks in
+    let more = grown_along (quorum_line file Exclusive c.args.open.now) old new (Some (record { answer = Ok (answers_of c.args.open.now.txn file grants); after = now })) c.in-Ok.ensures.asked.asks in
     let heard = subst (AreTold new) (sym (same_answers c.args.open.now now c.in-Ok.ensures.kept file grants)) c.in-Ok.ensures.heard in
     let cited = granted_cited now c.write_locked.new.self (write_op file c.args.content grants) grants c.in-Some.ensures.after refl in
     λ is. knows_taken (answers_in new) (answers_in new) (answers_of now.txn file grants) now c.write_locked.new.self (All-contains_itself (answers_in new)) heard cited (knows_touched old new c.args.open.now now more c.in-Ok.ensures.kept is)
@@ -94,9 +94,9 @@ returns-in-None-clause-knows g c =
     let new = g.A.Asker.told c.lock_quorum.new.asker in
     let grants = c.in-Ok.granting.grants in
     let now = noted c.lock_quorum.new.open c.in-Ok.granting in
-    let more = grown_along (quorum_line c.args.file.now Exclusive c.args.open.now) old new (Some (record { answer = Ok (answers_of c.args.open.now.txn c.args.file.now grants); after = now })) c.in-Ok.ensures.asks in
+    let more = grown_along (quorum_line c.args.file.now Exclusive c.args.open.now) old new (Some (record { answer = Ok (answers_of c.args.open.now.txn c.args.file.now grants); after = now })) c.in-Ok.ensures.asked.asks in
     λ is. subst (KeepsOnly (answers_in new)) (sym (c.write_locked.ensures.full c.in-None.is)) (knows_touched old new c.args.open.now now more c.in-Ok.ensures.kept is)
 
 pub returns-in-Err-clause-memory : goal.returns-in-Err-clause-memory
 returns-in-Err-clause-memory g c =
-    unfailed_off (quorum_line c.args.file.now Exclusive c.args.open.now) (λ new. new) (λ told new. write_end c.args.file.now c.args.content told new) c.in-Err.fault c.lock_quorum.new.open (g.A.Asker.told c.args.asker.now) (g.A.Asker.told c.lock_quorum.new.asker) c.in-Err.ensures.memory
+    unfailed_off (quorum_line c.args.file.now Exclusive c.args.open.now) (λ new. new) (λ told new. write_end c.args.file.now c.args.content told new) c.in-Err.fault c.lock_quorum.new.open (g.A.Asker.told c.args.asker.now) (g.A.Asker.told c.lock_quorum.new.asker) c.in-Err.ensures.asked.memory

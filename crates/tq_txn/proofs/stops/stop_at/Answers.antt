@@ -20,7 +20,7 @@ returns-clause-asks g c =
           let P : WorkAsk → Type 0 = λ a. Follows (any_line server (CrashIn c.args.after a)) old mid (Some (record { answer = Ok w.in-Ok.field-0; after = tt })) in
           let Q : ℕ → Type 0 = λ n. Follows (down_line n) mid new (ended_by w.mark_down.result tt) in
           rw (w.asker-is, w.result-is)
-          (stop_on server c.args.ask c.args.after old w.in-Ok.field-0 mid new (ended_by w.mark_down.result tt) (subst P c.in_ok-ask.ensures w.in-Ok.ensures.asks) (subst Q w.number.ensures.value w.mark_down.ensures.asks))
+          (stop_on server c.args.ask c.args.after old w.in-Ok.field-0 mid new (ended_by w.mark_down.result tt) (subst P c.in_ok-ask.ensures w.in-Ok.ensures.asks) (subst Q w.number.ensures.value w.mark_down.ensures.asked.asks))
       | in-Err w ↦
           let P : WorkAsk → Type 0 = λ a. Follows (any_line server (CrashIn c.args.after a)) old mid None in
           rw (w.asker-is, w.result-is) (stop_off server c.args.ask c.args.after old mid (subst P c.in_ok-ask.ensures w.in-Err.ensures.err))
@@ -42,6 +42,6 @@ returns-clause-memory g c =
           let P : WorkAsk → Type 0 = λ a. Follows (any_line server (CrashIn c.args.after a)) old mid (Some (record { answer = Ok w.in-Ok.field-0; after = tt })) in
           let Q : ℕ → Type 0 = λ n. IsUnfailed w.mark_down.result tt (down_line n) mid new in
           rw (w.asker-is, w.result-is)
-          (stop_unended server c.args.ask c.args.after w.in-Ok.field-0 w.mark_down.result old mid new (subst P c.in_ok-ask.ensures w.in-Ok.ensures.asks) (subst Q w.number.ensures.value w.mark_down.ensures.memory))
+          (stop_unended server c.args.ask c.args.after w.in-Ok.field-0 w.mark_down.result old mid new (subst P c.in_ok-ask.ensures w.in-Ok.ensures.asks) (subst Q w.number.ensures.value w.mark_down.ensures.asked.memory))
       | in-Err w ↦ rw (w.asker-is, w.result-is) (unfailed_first (Err Memory) tt (stop_line server c.args.ask c.args.after) old mid (stop_asks server c.args.ask c.args.after old) w.in-Err.ensures.unasked)
     ]

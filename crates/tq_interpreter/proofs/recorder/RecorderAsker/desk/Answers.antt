@@ -1,7 +1,7 @@
 use Rattle.std.proofs.Common.{◌∙◌, ◌++◌, List, ap, sym, subst}
 use Rattle.tq_txn.specs.declared.asker.Exchange.{Exchange}
 use Rattle.tq_txn.specs.declared.asker.Exchange.TheVariants as exchanges
-use Rattle.tq_interpreter.specs.Recorded.{RecorderView, IsReplayed, noted}
+use Rattle.tq_interpreter.specs.Recorded.{RecorderView, IsReplayed, told_exchanges}
 use Rattle.tq_interpreter.proofs.Recording.{asked_desk}
 use Rattle.tq_interpreter.proofs.recorder.RecorderAsker.desk.Goals as goal
 
@@ -11,7 +11,7 @@ invariant_of-self c =
     let told = c.self.inside.told.items in
     let asked = asked_desk c.self.inside.service c.ask_desk-answer.new.self told c.self.invariant c.args.ask answer c.ask_desk-answer.ensures.told c.ask_desk-answer.ensures.after c.ask_desk-answer.ensures.err in
     let P : List Exchange → Type 0 = λ t. IsReplayed (record { journals = c.ask_desk-answer.new.self; told = t }) in
-    subst P (sym (c.with_desk.ensures ∙ ap (λ a. told ++ noted answer (exchanges.Desk a answer)) c.in_ok-copy.ensures)) asked.kept
+    subst P (sym (c.with_desk.ensures ∙ ap (λ a. told ++ told_exchanges answer (exchanges.Desk a answer)) c.in_ok-copy.ensures)) asked.kept
 
 pub returns-clause-tree : goal.returns-clause-tree
 returns-clause-tree c =

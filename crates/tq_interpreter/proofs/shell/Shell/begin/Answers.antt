@@ -4,7 +4,7 @@ use Rattle.tq_desk.specs.declared.ask.DeskAsk.TheVariants.{Begin}
 use Rattle.tq_syntax.specs.declared.line.Line.TheVariants as lines
 use Rattle.tq_txn.specs.Dialogue.{line_result, desk_line}
 use Rattle.tq_txn.proofs.LineLaws.{asked_desk}
-use Rattle.tq_interpreter.specs.Answer.{World, IsWhole, answered}
+use Rattle.tq_interpreter.specs.Answer.{World, IsWhole, answer_of_run}
 use Rattle.tq_interpreter.specs.Asked.{begin_end, begin_asked}
 use Rattle.tq_interpreter.specs.Asking.{run_line}
 use Rattle.tq_interpreter.specs.Known.{Known}
@@ -22,7 +22,7 @@ returns-clause-text c =
     let old : record { journals = c.self.inside.recorder.journals; known = known } ≡ c.args.self.now =
     (λ i. record { journals = c.self.inside.recorder.journals; known = record { levels = c.self.inside.levels; limits = c.self.inside.limits; txns = c.reserve.ensures.items i } }) ∙ c.self.view_is in
     let ran = answered_by (desk_line Begin) (λ end. begin_end known end.answer) c.self.inside.recorder c.desk-answer.new.self (line_result c.desk-answer.result) tt c.show_replayed.ensures c.show_replayed-2.ensures c.desk-answer.ensures.tree (asked_desk Begin c.desk-answer.result c.self.inside.recorder.told c.desk-answer.new.self.told c.desk-answer.ensures.exchanges c.desk-answer.ensures.same) c.in_ok-begin_end.ensures.memory in
-    c.in_ok-begin_end.ensures.text ∙ ap (λ t. c.args.text.now.items ++ t) (ran.0 ∙ ap (λ (w : World). (answered (run_line w.journals (begin_asked w.known))).text) old)
+    c.in_ok-begin_end.ensures.text ∙ ap (λ t. c.args.text.now.items ++ t) (ran.0 ∙ ap (λ (w : World). (answer_of_run (run_line w.journals (begin_asked w.known))).text) old)
 
 pub returns-clause-after : goal.returns-clause-after
 returns-clause-after c =
@@ -33,7 +33,7 @@ returns-clause-after c =
     let is : record { journals = c.desk-answer.new.self.journals; known = record { levels = c.self.inside.levels; limits = c.self.inside.limits; txns = c.begin_end.new.txns.items } }
     ≡ record { journals = c.desk-answer.new.self.journals; known = (begin_end known (line_result c.desk-answer.result)).known } =
     λ i. record { journals = c.desk-answer.new.self.journals; known = sym c.begin_end.ensures.known i } in
-    is ∙ ran.1 ∙ ap (λ (w : World). (answered (run_line w.journals (begin_asked w.known))).after) old
+    is ∙ ran.1 ∙ ap (λ (w : World). (answer_of_run (run_line w.journals (begin_asked w.known))).after) old
 
 pub returns-in_err-begin_end-clause-whole : goal.returns-in_err-begin_end-clause-whole
 returns-in_err-begin_end-clause-whole c =

@@ -3,7 +3,7 @@ use Rattle.tq_live.specs.declared.view.ViewAsk.{ViewAsk}
 use Rattle.tq_live.specs.declared.view.ViewAsk.TheVariants as asks
 use Rattle.tq_txn.specs.Dialogue.{line_result, view_line}
 use Rattle.tq_txn.proofs.LineLaws.{asked_view}
-use Rattle.tq_interpreter.specs.Answer.{World, answered}
+use Rattle.tq_interpreter.specs.Answer.{World, answer_of_run}
 use Rattle.tq_interpreter.specs.Asked.{view_end, ok_text, cost_asked}
 use Rattle.tq_interpreter.specs.Asking.{run_line}
 use Rattle.tq_interpreter.specs.Known.{Known}
@@ -15,11 +15,11 @@ returns-clause-text c =
     let known : Known = record { levels = c.self.inside.levels; limits = c.self.inside.limits; txns = c.self.inside.txns.items } in
     let ask : ViewAsk = asks.SetCost c.args.server c.args.read c.args.write in
     let ran = answered_by (view_line ask) (view_end known ok_text) c.self.inside.recorder c.view-answer.new.self (line_result c.view-answer.result) tt c.show_replayed.ensures c.show_replayed-2.ensures c.view-answer.ensures.tree (asked_view ask c.view-answer.result c.self.inside.recorder.told c.view-answer.new.self.told c.view-answer.ensures.exchanges c.view-answer.ensures.same) c.in_ok-say_ok.ensures.memory in
-    c.in_ok-say_ok.ensures.text ∙ ap (λ t. c.args.text.now.items ++ t) (ran.0 ∙ ap (λ (w : World). (answered (run_line w.journals (cost_asked w.known c.args.server c.args.read c.args.write))).text) c.self.view_is)
+    c.in_ok-say_ok.ensures.text ∙ ap (λ t. c.args.text.now.items ++ t) (ran.0 ∙ ap (λ (w : World). (answer_of_run (run_line w.journals (cost_asked w.known c.args.server c.args.read c.args.write))).text) c.self.view_is)
 
 pub returns-clause-after : goal.returns-clause-after
 returns-clause-after c =
     let known : Known = record { levels = c.self.inside.levels; limits = c.self.inside.limits; txns = c.self.inside.txns.items } in
     let ask : ViewAsk = asks.SetCost c.args.server c.args.read c.args.write in
     let ran = answered_by (view_line ask) (view_end known ok_text) c.self.inside.recorder c.view-answer.new.self (line_result c.view-answer.result) tt c.show_replayed.ensures c.show_replayed-2.ensures c.view-answer.ensures.tree (asked_view ask c.view-answer.result c.self.inside.recorder.told c.view-answer.new.self.told c.view-answer.ensures.exchanges c.view-answer.ensures.same) c.in_ok-say_ok.ensures.memory in
-    ran.1 ∙ ap (λ (w : World). (answered (run_line w.journals (cost_asked w.known c.args.server c.args.read c.args.write))).after) c.self.view_is
+    ran.1 ∙ ap (λ (w : World). (answer_of_run (run_line w.journals (cost_asked w.known c.args.server c.args.read c.args.write))).after) c.self.view_is

@@ -1,7 +1,7 @@
-use Rattle.std.proofs.Common.{◌+◌, ◌∷◌, drop, rules, ap, sym, ◌∙◌}
+use Rattle.std.proofs.Common.{◌+◌, drop, rules, ap, sym, ◌∙◌}
 use Rattle.std.specs.List.{cons_option}
 use Rattle.slab.specs.Slab.{get}
-use Rattle.tq_locks.specs.Keys.{keys_in, told}
+use Rattle.tq_locks.specs.Keys.{told}
 use Rattle.tq_locks.proofs.Listed.{told-at}
 use Rattle.tq_locks.proofs.keyed.HeldLocksIterator.next.Goals as goal
 
@@ -9,11 +9,10 @@ pub returns-in-Some-clause-steps : goal.returns-in-Some-clause-steps
 returns-in-Some-clause-steps c =
     let entries = c.loop-self.self-inside.entries.now in
     let at = c.loop-self.self-inside.at in
-    let keys = c.in_ok-keys.keys.now.items in
-    sym c.loop-self.invariant.left
+    let keys = c.loop-self.self-inside.keys in
+    sym c.loop-self.invariant
     ∙ told-at (get entries) keys at c.in_ok-key.key (sym c.in_ok-key.ensures)
     ∙ ap (λ o. cons_option o (told entries (drop (at + 1) keys))) (sym c.in-Some.ensures)
-    ∙ ap (λ list. c.in-Some.entry.now ∷ told entries (drop (at + 1) (keys_in list))) (sym c.loop-self.invariant.list)
 
 pub returns-in-Some-clause-goes : goal.returns-in-Some-clause-goes
 returns-in-Some-clause-goes c = rw (returns-in-Some-clause-steps c) (search rules)
@@ -22,8 +21,5 @@ pub loop-self-preserved : goal.loop-self-preserved
 loop-self-preserved c =
     let entries = c.loop-self.self-inside.entries.now in
     let at = c.loop-self.self-inside.at in
-    let keys = c.in_ok-keys.keys.now.items in
-    record {
-      list = c.loop-self.invariant.list;
-      left = sym (told-at (get entries) keys at c.in_ok-key.key (sym c.in_ok-key.ensures) ∙ ap (λ o. cons_option o (told entries (drop (at + 1) keys))) (sym c.in_default.ensures)) ∙ c.loop-self.invariant.left;
-    }
+    let keys = c.loop-self.self-inside.keys in
+    sym (told-at (get entries) keys at c.in_ok-key.key (sym c.in_ok-key.ensures) ∙ ap (λ o. cons_option o (told entries (drop (at + 1) keys))) (sym c.in_default.ensures)) ∙ c.loop-self.invariant

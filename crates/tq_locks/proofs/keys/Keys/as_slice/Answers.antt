@@ -8,4 +8,4 @@ pub returns : goal.returns
 returns c =
     let k = c.self.inside in
     let keys : k.places.items ≡ c.as_slice.result.now = sym c.as_slice.ensures in
-    subst (IsPermutation c.args.self.now.items) keys (subst (λ ks. IsPermutation ks k.places.items) (ap (λ (v : SmallVec ℕ). v.items) c.self.view_is) (any_order 1024 k.starts.items k.places.items))
+    subst (IsPermutation c.args.self.now.items) keys (subst (λ ks. IsPermutation ks k.places.items) (ap (λ (v : SmallVec ℕ). v.items) c.self.view_is) (any_order k.starts.items k.places.items))

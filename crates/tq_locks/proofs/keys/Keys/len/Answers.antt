@@ -6,4 +6,4 @@ use Rattle.tq_locks.proofs.keys.Keys.len.Goals as goal
 pub returns : goal.returns
 returns c =
     let k = c.self.inside in
-    c.len.ensures.value ∙ sym (length-turned 1024 k.starts.items k.places.items) ∙ ap (λ (v : SmallVec ℕ). length v.items) c.self.view_is
+    c.len.ensures.value ∙ sym (length-turned k.starts.items k.places.items) ∙ ap (λ (v : SmallVec ℕ). length v.items) c.self.view_is

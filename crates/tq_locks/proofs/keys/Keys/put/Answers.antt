@@ -11,4 +11,4 @@ put-requires-clause-room c =
 pub put-requires-clause-within : goal.put-requires-clause-within
 put-requires-clause-within c =
     let k = c.self.inside in
-    omega (arith, c.requires.within, length-turned 1024 k.starts.items k.places.items, ap (λ (v : SmallVec ℕ). length v.items) c.self.view_is)
+    omega (arith, c.requires.within, length-turned k.starts.items k.places.items, ap (λ (v : SmallVec ℕ). length v.items) c.self.view_is)

@@ -1,7 +1,7 @@
 use Rattle.std.proofs.Common.{◌≡◌, ◌≤◌}
-use Rattle.tq_merge.specs.Placing.{left}
+use Rattle.tq_merge.specs.Placing.{entries_left}
 use Rattle.tq_merge.proofs.placing.Placing.follow.Given as goal
 
 -- no more entries are left than at first
 abbrev pub invariant-loop : goal.invariant-loop
-invariant-loop l = (l.self.journals ≡ l.initial.self.journals) × (left l.self.journals l.self.order ≤ left l.initial.self.journals l.initial.self.order)
+invariant-loop l = (l.self.journals ≡ l.initial.self.journals) × (entries_left l.self.journals l.self.order ≤ entries_left l.initial.self.journals l.initial.self.order)

@@ -1,12 +1,27 @@
 use Rattle.std.proofs.Common.{◌∙◌, refl, sym, ap}
 use Rattle.tq_txn_states.specs.Ballots.{with_ballots}
-use Rattle.tq_txn_states.specs.Voting.{voted}
+use Rattle.tq_txn_states.specs.Voting.{VotingView, voted}
 use Rattle.tq_txn_states.proofs.CitedLaws.{vote_cited}
 use Rattle.tq_txn_states.proofs.voting.Voting.vote_in.Goals as goal
 
-pub returns-in-Ok-clause-after : goal.returns-in-Ok-clause-after
-returns-in-Ok-clause-after c = c.put.ensures.after ∙ sym (ap (voted (with_ballots c.args.self.now c.args.ballots)) c.in-Ok.ensures.vote)
+pub returns-in-Ok-clause-vote : goal.returns-in-Ok-clause-vote
+returns-in-Ok-clause-vote c =
+    let old = with_ballots c.args.self.now c.args.ballots in
+    record {
+      succeeds = c.in-Ok.ensures.succeeds;
+      after = c.put.ensures.after ∙ sym (ap (voted old) c.in-Ok.ensures.vote);
+      cited = vote_cited old c.put.new.self c.args.told old.txn.txn c.in-Ok.cast.vote refl c.in-Ok.ensures.vote c.put.ensures.after;
+      txn = c.put.ensures.txn;
+      kept = c.put.ensures.kept;
+      err = tt;
+    }
 
-pub returns-in-Ok-clause-cited : goal.returns-in-Ok-clause-cited
-returns-in-Ok-clause-cited c =
-    vote_cited (with_ballots c.args.self.now c.args.ballots) c.put.new.self c.args.told c.args.self.now.txn.txn c.in-Ok.cast.vote refl c.in-Ok.ensures.vote c.put.ensures.after
+pub returns-in-Err-clause-vote : goal.returns-in-Err-clause-vote
+returns-in-Err-clause-vote c = record {
+  succeeds = tt;
+  after = tt;
+  cited = tt;
+  txn = ap (λ (v : VotingView). v.txn) c.put_back.ensures;
+  kept = tt;
+  err = c.put_back.ensures;
+}

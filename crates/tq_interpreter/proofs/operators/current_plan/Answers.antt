@@ -3,7 +3,7 @@ use Rattle.std.proofs.Common.{◌≡◌, subst}
 use Rattle.tq_live.specs.Live.{Live}
 use Rattle.tq_refresh.specs.Plan.{ArePlanned, jobs_of_plan, plan_of}
 use Rattle.tq_tables.specs.Tables.{TablesView, tables_of}
-use Rattle.tq_interpreter.proofs.operators.planned.Goals as goal
+use Rattle.tq_interpreter.proofs.operators.current_plan.Goals as goal
 
 pub returns-clause-jobs : goal.returns-clause-jobs
 returns-clause-jobs c =
