@@ -6,7 +6,7 @@ use Rattle.tq_cluster.proofs.Came.{pull-memory, pull-ok, pull-refused}
 use Rattle.tq_cluster.proofs.live_board.pull_desk.Goals as goal
 
 pub returns-in_err-entries : goal.returns-in_err-entries
-returns-in_err-entries g c = pull-memory parts.Desk c.args.prefixes.now c.args.pass.now.seen c.from_residual.result (search rules)
+returns-in_err-entries g c = pull-memory parts.Desk c.args.prefixes.now c.args.pass.now.seen c.from_residual.result c.from_residual.ensures.1
 
 pub returns-in_err-take_desk : goal.returns-in_err-take_desk
 returns-in_err-take_desk g c =
