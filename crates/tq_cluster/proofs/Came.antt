@@ -1,5 +1,6 @@
 -- What came onto a board by pulls, and what its caller was told of it.
 use Rattle.std.proofs.Common.{◌≡◌, ◌≢◌, ◌≤◌, ◌+◌, ◌-◌, ◌^◌, ℕ, zero, suc, List, [], ◌∷◌, length, max, get_or, inl, inr, refl, sym, ap, subst, ◌∙◌, arith, length-append}
+use Rattle.std.specs.Result.{IsErrAnd}
 use Rattle.std.specs.Prelude.{Result, Ok, Err, IfErr, OnOk, OnErr, ⊤}
 use Rattle.std.proofs.Math.Nat.{max-zero, zero-max, max-le, le-max_left, le-max_right}
 use Rattle.std.proofs.lemmas.Bool.{cases_eq}
@@ -11,6 +12,7 @@ use Rattle.tq_tables.specs.Journals.{JournalsView}
 use Rattle.tq_mirror.specs.declared.entries.Entries.{Entries}
 use Rattle.tq_mirror.specs.declared.entries.Entries.TheVariants as entries
 use Rattle.tq_mirror.specs.declared.fault.PullFault.{PullFault}
+use Rattle.tq_mirror.specs.declared.fault.PullFault.TheVariants as faults
 use Rattle.tq_mirror.specs.Prefixes.{IsPullFault, IsTaken, grown, prefix_length}
 use Rattle.tq_cluster.specs.Told.{CallerView, having_seen, seen_of}
 use Rattle.tq_cluster.specs.Pulls.{Continues, EachContinues, EndedAt, HasSeenBefore, HasSeenServers, IsPull, SawWhatCame, seen_then}
@@ -83,22 +85,27 @@ pull-ok part old new more before after fresh known count x grew enough long saw 
       saw = took before after fresh known (prefix_length old part) (prefix_length new part) count saw told at long;
     }
 
-pub took_none : (seen : ℕ) (old new : JournalsView) (part : Part) → new ≡ old → seen ≡ max seen (last_behind (prefix_length old part) (prefix_length new part - prefix_length old part))
+took_none : (seen : ℕ) (old new : JournalsView) (part : Part) → new ≡ old → seen ≡ max seen (last_behind (prefix_length old part) (prefix_length new part - prefix_length old part))
 took_none seen old new part same =
     subst (λ (o : JournalsView). seen ≡ max seen (last_behind (prefix_length old part) (prefix_length o part - prefix_length old part))) (sym same) (stays seen (prefix_length old part))
 
 -- what came was not taken: the fault is passed on, and all is as it was
-pub pull-refused : {T U : Type 0} (part : Part) (old new : JournalsView) (more : Entries) (least seen : ℕ) (fault : PullFault) (out : Result U PullFault) → least ≡ seen → out ≡ Err fault
+pub pull-refused : {T U : Type 0} (part : Part) (old new : JournalsView) (more : Entries) (least seen : ℕ) (fault : PullFault) (out : Result U PullFault) → least ≡ seen → IsErrAnd out (λ (f : PullFault). f ≡ fault)
     → IsTaken {T = T} old new part more least (Err fault) → IsPull part old new seen seen out
-pull-refused {T} {U} part old new more least seen fault out counted is taken =
-    let here : IsTaken {T = T} old new part more seen (Err fault) = subst (λ (n : ℕ). IsTaken {T = T} old new part more n (Err fault)) counted taken in
-    subst (λ (o : Result U PullFault). IsPull part old new seen seen o) (sym is) (record {
+pull-refused part old new more least seen fault (Ok x) counted is taken = absurd is
+pull-refused part old new more least seen fault (Err f) counted is taken =
+    record {
       grows = tt;
       seen = tt;
-      err = here.err;
-      fault = (more, here.fault);
-      saw = took_none seen old new part here.err;
-    })
+      err = taken.err;
+      fault = (more, subst (λ (n : ℕ). IsPullFault old part more n f) counted (subst (λ (o : PullFault). IsPullFault old part more least o) (sym is) taken.fault));
+      saw = took_none seen old new part taken.err;
+    }
+
+-- nothing came, since memory was refused
+pub pull-memory : {U : Type 0} (part : Part) (old : JournalsView) (seen : ℕ) (out : Result U PullFault) → IsErrAnd out (λ (f : PullFault). f ≡ faults.Memory) → IsPull part old old seen seen out
+pull-memory part old seen out is =
+    pull-refused {T = ℕ} part old old (entries.Desk []) seen seen faults.Memory out refl is (record { grown = tt; least = tt; count = tt; err = refl; fault = tt })
 
 pub saw-same : (prefixes : JournalsView) (caller : CallerView) → SawWhatCame prefixes prefixes caller caller
 saw-same prefixes caller part = stays (seen_of caller part) (prefix_length prefixes part)

@@ -11,9 +11,7 @@ use Rattle.tq_asks.specs.declared.ask.NodeReply.{NodeReply}
 use Rattle.tq_txn.specs.declared.asker.Exchange.{Exchange}
 use Rattle.tq_tables.specs.Journals.{JournalsView}
 use Rattle.tq_mirror.specs.declared.entries.Entries.{Entries}
-use Rattle.tq_mirror.specs.declared.entries.Entries.TheVariants as entries
 use Rattle.tq_mirror.specs.declared.fault.PullFault.{PullFault}
-use Rattle.tq_mirror.specs.declared.fault.PullFault.TheVariants as faults
 use Rattle.tq_mirror.specs.Prefixes.{IsPartOf, IsPullFault, grown, prefix_length}
 use Rattle.tq_cluster.specs.Told.{CallerView, SeesOn, seen_of, having_seen}
 use Rattle.tq_cluster.specs.Pulls.{IsPull, last_come, seen_then}
@@ -159,10 +157,3 @@ sees-on-after first old new there before (seen, less, same) part =
     let more = before part in
     let grown = having-grows old there seen less part in
     subst (λ (c : CallerView). seen_of first part ≤ seen_of c part) (sym same) (omega (arith, more, grown))
-
--- ---- what a call answered, said otherwise
-
-pub memory_fault : {T : Type 0} (prefixes : JournalsView) (part : Part) (seen : ℕ) (r : Result T PullFault) → IfErr r (λ f. f ≡ faults.Memory)
-    → IfErr r (λ f. (more : Entries) × IsPullFault prefixes part more seen f)
-memory_fault prefixes part seen (Ok x) is = tt
-memory_fault prefixes part seen (Err f) is = (entries.Desk [], subst (λ (o : PullFault). IsPullFault prefixes part (entries.Desk []) seen o) (sym is) tt)

@@ -167,21 +167,14 @@ impl<G: Gate + Drop> Cluster<G> {
         let place = (number - 1) as usize;
         let cell = &self.servers[place];
         let pass = &mut caller.servers[place];
-        let told = ask_part(
-            rt,
-            alloc,
-            cell,
-            &self.gate,
-            Part::Server(number),
-            pass,
-            &mut caller.told,
-            ask,
-        )?;
+        let told = &mut caller.told;
+        let part = Part::Server(number);
+        let entry = ask_part(rt, alloc, cell, &self.gate, part, pass, told, ask)?;
         Ok(NodeTold {
             server: number,
-            number: told.number,
-            ask: told.ask,
-            reply: told.reply,
+            number: entry.number,
+            ask: entry.ask,
+            reply: entry.reply,
         })
     }
 
@@ -203,17 +196,9 @@ impl<G: Gate + Drop> Cluster<G> {
     {
         let cell = &self.desk;
         let pass = &mut caller.desk;
-        let told = ask_part(
-            rt,
-            alloc,
-            cell,
-            &self.gate,
-            Part::Desk,
-            pass,
-            &mut caller.told,
-            ask,
-        )?;
-        let Numbered { number, ask, reply } = told;
+        let told = &mut caller.told;
+        let entry = ask_part(rt, alloc, cell, &self.gate, Part::Desk, pass, told, ask)?;
+        let Numbered { number, ask, reply } = entry;
         Ok(DeskTold { number, ask, reply })
     }
 
@@ -233,17 +218,9 @@ impl<G: Gate + Drop> Cluster<G> {
     {
         let cell = &self.view;
         let pass = &mut caller.view;
-        let told = ask_part(
-            rt,
-            alloc,
-            cell,
-            &self.gate,
-            Part::View,
-            pass,
-            &mut caller.told,
-            ask,
-        )?;
-        let Numbered { number, ask, reply } = told;
+        let told = &mut caller.told;
+        let entry = ask_part(rt, alloc, cell, &self.gate, Part::View, pass, told, ask)?;
+        let Numbered { number, ask, reply } = entry;
         Ok(ViewTold { number, ask, reply })
     }
 }

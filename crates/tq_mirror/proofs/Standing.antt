@@ -1,6 +1,6 @@
 -- Prefixes that grow by entries of a part, beside the tables over them.
 use Rattle.std.proofs.Common.{◌≡◌, ◌<◌, ◌≤◌, ◌+◌, ◌-◌, ◌^◌, ◌↔◌, ℕ, zero, suc, Option, None, Some, Bool, false, IsTrue, List, [], ◌∷◌, ◌++◌, length, map, set, get_or, take, drop, replicate, refl, sym, ap, inl, subst, ◌∙◌, arith, append_assoc, append-nil}
-use Rattle.std.specs.Prelude.{reverse, IfOk, IfSome, MatchOption, OnErr, OnOk, Result, Ok, Err}
+use Rattle.std.specs.Prelude.{reverse, IfErr, IfOk, IfSome, MatchOption, OnErr, Result, Ok, Err}
 use Rattle.std.specs.Result.{IsErrAnd, result_unwrap_or}
 use Rattle.std.proofs.Math.Seq.{drop-append_seam}
 use Rattle.std.proofs.lemmas.List.{get_or-map, length-map, length-set, length-take-le, length-replicate, length_push, map-set, take_all, set-set, set-get_or, get_or-set_same, length-append}
@@ -32,7 +32,8 @@ use Rattle.tq_tables.specs.Parts.{AreLegal, AreLegalServers, bounds_of, node_aft
 use Rattle.tq_tables.specs.Tables.{TablesView, tables_of}
 use Rattle.tq_mirror.specs.declared.entries.Entries.{Entries}
 use Rattle.tq_mirror.specs.declared.entries.Entries.TheVariants as entries
-use Rattle.tq_mirror.specs.Prefixes.{GivesNext, IsForeign, IsPartOf, count_of, nothing_pulled, prefix_length, server_prefix, grown}
+use Rattle.tq_mirror.specs.declared.fault.PullFault.{PullFault}
+use Rattle.tq_mirror.specs.Prefixes.{GivesNext, IsForeign, IsPartOf, IsPullFault, IsTaken, count_of, nothing_pulled, prefix_length, server_prefix, grown}
 use Rattle.tq_tables.specs.Tabled.{journals_in}
 use Rattle.tq_mirror.specs.Kept.{AreAhead, AreKept, AreLed}
 use Rattle.tq_mirror.proofs.Led.{Grows, Led, legal-joined, state-joined}
@@ -279,53 +280,6 @@ spare_alike {M} {E} P of result spare ahead w part more fresh least same leads l
     by (Ok found) holds = follow_alike of found ahead w part more fresh least same (leads found holds) there
     by (Err fault) holds = tt
 
--- ---- what is kept once a part followed more entries
-
-kept_grown : (tables ahead : TablesView) (w : JournalsView) → AreKept tables w → (part : Part) (more : Entries) (least : ℕ) → IsPartOf w.levels part → AreAhead ahead w part more least → AreKept ahead (grown w part more)
-kept_grown tables ahead w kept (parts.Server number) (entries.Server more) least of_tree led =
-    let long = length-set w.servers (number - 1) (server_prefix w number ++ more) in
-    let was = kept.one_each in
-    record { one_each = omega (arith, long, was); legal = (server_grows w kept.one_each number of_tree kept.legal).legal more led.gives; stand = led.stand }
-kept_grown tables ahead w kept parts.Desk (entries.Desk more) least of_tree led = record { one_each = kept.one_each; legal = (desk_grows w kept.legal).legal more led.gives; stand = led.stand }
-kept_grown tables ahead w kept parts.View (entries.View more) least of_tree led = record { one_each = kept.one_each; legal = (view_grows w kept.legal).legal more led.gives; stand = led.stand }
-kept_grown tables ahead w kept (parts.Server number) (entries.Desk more) least of_tree led = absurd led.gives
-kept_grown tables ahead w kept (parts.Server number) (entries.View more) least of_tree led = absurd led.gives
-kept_grown tables ahead w kept parts.Desk (entries.Server more) least of_tree led = absurd led.gives
-kept_grown tables ahead w kept parts.Desk (entries.View more) least of_tree led = absurd led.gives
-kept_grown tables ahead w kept parts.View (entries.Server more) least of_tree led = absurd led.gives
-kept_grown tables ahead w kept parts.View (entries.Desk more) least of_tree led = absurd led.gives
-
--- there are as many of the part
-enough_grown : (tables ahead : TablesView) (w : JournalsView) → AreKept tables w → (part : Part) (more : Entries) (least : ℕ) → IsPartOf w.levels part → AreAhead ahead w part more least → least ≤ prefix_length (grown w part more) part
-enough_grown tables ahead w kept (parts.Server number) (entries.Server more) least of_tree led =
-    let many = led.enough in
-    let sum = length-append (server_prefix w number) more in
-    let count = ap (λ (es : List NodeEntry). length es) (entries_with w kept.one_each number of_tree more) in
-    omega (arith, many, sum, count)
-enough_grown tables ahead w kept parts.Desk (entries.Desk more) least of_tree led = let many = led.enough in let sum = length-append w.desk more in omega (arith, many, sum)
-enough_grown tables ahead w kept parts.View (entries.View more) least of_tree led = let many = led.enough in let sum = length-append w.view more in omega (arith, many, sum)
-enough_grown tables ahead w kept (parts.Server number) (entries.Desk more) least of_tree led = absurd led.gives
-enough_grown tables ahead w kept (parts.Server number) (entries.View more) least of_tree led = absurd led.gives
-enough_grown tables ahead w kept parts.Desk (entries.Server more) least of_tree led = absurd led.gives
-enough_grown tables ahead w kept parts.Desk (entries.View more) least of_tree led = absurd led.gives
-enough_grown tables ahead w kept parts.View (entries.Server more) least of_tree led = absurd led.gives
-enough_grown tables ahead w kept parts.View (entries.Desk more) least of_tree led = absurd led.gives
-
--- there are so many more of the part
-count_grown : (tables ahead : TablesView) (w : JournalsView) → AreKept tables w → (part : Part) (more : Entries) (least : ℕ) → IsPartOf w.levels part → AreAhead ahead w part more least → prefix_length (grown w part more) part ≡ prefix_length w part + count_of more
-count_grown tables ahead w kept (parts.Server number) (entries.Server more) least of_tree led =
-    let sum = length-append (server_prefix w number) more in
-    let count = ap (λ (es : List NodeEntry). length es) (entries_with w kept.one_each number of_tree more) in
-    omega (arith, sum, count)
-count_grown tables ahead w kept parts.Desk (entries.Desk more) least of_tree led = length-append w.desk more
-count_grown tables ahead w kept parts.View (entries.View more) least of_tree led = length-append w.view more
-count_grown tables ahead w kept (parts.Server number) (entries.Desk more) least of_tree led = absurd led.gives
-count_grown tables ahead w kept (parts.Server number) (entries.View more) least of_tree led = absurd led.gives
-count_grown tables ahead w kept parts.Desk (entries.Server more) least of_tree led = absurd led.gives
-count_grown tables ahead w kept parts.Desk (entries.View more) least of_tree led = absurd led.gives
-count_grown tables ahead w kept parts.View (entries.Server more) least of_tree led = absurd led.gives
-count_grown tables ahead w kept parts.View (entries.Desk more) least of_tree led = absurd led.gives
-
 -- these are kept, and are those prefixes
 pub record Stands (tables : TablesView) (kept prefixes : JournalsView) : Type 0 where
   pub keeps : AreKept tables kept
@@ -341,15 +295,51 @@ pub record Taken (tables : TablesView) (kept old : JournalsView) (part : Part) (
   pub enough : least ≤ prefix_length kept part
   pub count : prefix_length kept part ≡ prefix_length old part + count_of more
 
+-- ---- what is kept once a part followed more entries
+
+grown_taken : (tables ahead : TablesView) (w : JournalsView) → AreKept tables w → (part : Part) (more : Entries) (least : ℕ) → IsPartOf w.levels part → AreAhead ahead w part more least
+    → Taken ahead (grown w part more) w part more least
+grown_taken tables ahead w kept (parts.Server number) (entries.Server more) least of_tree led =
+    let long = length-set w.servers (number - 1) (server_prefix w number ++ more) in
+    let was = kept.one_each in
+    let many = led.enough in
+    let sum = length-append (server_prefix w number) more in
+    let read = ap (λ (es : List NodeEntry). length es) (entries_with w kept.one_each number of_tree more) in
+    record {
+      keeps = record { one_each = omega (arith, long, was); legal = (server_grows w kept.one_each number of_tree kept.legal).legal more led.gives; stand = led.stand };
+      leads = refl;
+      enough = omega (arith, many, sum, read);
+      count = omega (arith, sum, read);
+    }
+grown_taken tables ahead w kept parts.Desk (entries.Desk more) least of_tree led =
+    let many = led.enough in
+    let sum = length-append w.desk more in
+    record {
+      keeps = record { one_each = kept.one_each; legal = (desk_grows w kept.legal).legal more led.gives; stand = led.stand };
+      leads = refl;
+      enough = omega (arith, many, sum);
+      count = sum;
+    }
+grown_taken tables ahead w kept parts.View (entries.View more) least of_tree led =
+    let many = led.enough in
+    let sum = length-append w.view more in
+    record {
+      keeps = record { one_each = kept.one_each; legal = (view_grows w kept.legal).legal more led.gives; stand = led.stand };
+      leads = refl;
+      enough = omega (arith, many, sum);
+      count = sum;
+    }
+grown_taken tables ahead w kept (parts.Server number) (entries.Desk more) least of_tree led = absurd led.gives
+grown_taken tables ahead w kept (parts.Server number) (entries.View more) least of_tree led = absurd led.gives
+grown_taken tables ahead w kept parts.Desk (entries.Server more) least of_tree led = absurd led.gives
+grown_taken tables ahead w kept parts.Desk (entries.View more) least of_tree led = absurd led.gives
+grown_taken tables ahead w kept parts.View (entries.Server more) least of_tree led = absurd led.gives
+grown_taken tables ahead w kept parts.View (entries.Desk more) least of_tree led = absurd led.gives
+
 taken_at : (tables ahead : TablesView) (kept old : JournalsView) → AreKept tables old → (part : Part) (more : Entries) (least : ℕ) → IsPartOf old.levels part → AreAhead ahead old part more least
     → kept ≡ grown old part more → Taken ahead kept old part more least
 taken_at tables ahead kept old was part more least of_tree led leads =
-    record {
-      keeps = subst (λ (w : JournalsView). AreKept ahead w) (sym leads) (kept_grown tables ahead old was part more least of_tree led);
-      leads = leads;
-      enough = subst (λ (w : JournalsView). least ≤ prefix_length w part) (sym leads) (enough_grown tables ahead old was part more least of_tree led);
-      count = subst (λ (w : JournalsView). prefix_length w part ≡ prefix_length old part + count_of more) (sym leads) (count_grown tables ahead old was part more least of_tree led);
-    }
+    subst (λ (w : JournalsView). Taken ahead w old part more least) (sym leads) (grown_taken tables ahead old was part more least of_tree led)
 
 module _ (tables ahead : TablesView) (limits : LimitsView) (servers : List (List NodeEntry)) (now : List DeskEntry) (view : List ViewEntry) (old : JournalsView)
     (same : journals_in tables limits servers now view ≡ old) (kept : AreKept tables (journals_in tables limits servers now view)) where
@@ -393,12 +383,13 @@ found_ahead {E} found ahead w part of lent more least same is matched =
     subst (λ (es : List E). AreAhead ahead w part (of es) least) same
     (subst (λ (f : Option TablesView). MatchOption f (IsForeign w part (of lent) least) (λ (t : TablesView). AreAhead t w part (of lent) least)) is matched)
 
--- nothing is said of Ok where the result is an error
-pub never_on_ok : {T E : Type 0} (Q : E → Type 0) (P : Type 0) (result : Result T E) → IsErrAnd result Q → OnOk result P
-never_on_ok Q P (Ok value) is = absurd is
-never_on_ok Q P (Err fault) is = tt
+-- at a fault nothing is taken
+pub not_taken : {T : Type 0} (Q : PullFault → Type 0) (old new : JournalsView) (part : Part) (more : Entries) (least : ℕ) (result : Result T PullFault) → IsErrAnd result Q
+    → OnErr result (new ≡ old) → IfErr result (IsPullFault old part more least) → IsTaken old new part more least result
+not_taken Q old new part more least (Ok value) refused same why = absurd refused
+not_taken Q old new part more least (Err fault) refused same why = record { grown = tt; least = tt; count = tt; err = same; fault = why }
 
--- and what holds anyway is said of an error
+-- what holds anyway is said of an error
 pub on_error : {T E : Type 0} (P : Type 0) (result : Result T E) → P → OnErr result P
 on_error P (Ok value) holds = tt
 on_error P (Err fault) holds = holds

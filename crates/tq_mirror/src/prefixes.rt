@@ -159,12 +159,8 @@ impl Prefixes {
             });
         };
         let place = (number - 1) as usize;
-        let behind = put_behind(
-            &mut self.tabled.servers[place],
-            &mut self.tabled.tables,
-            entries,
-            ahead,
-        )?;
+        let journal = &mut self.tabled.servers[place];
+        let behind = put_behind(journal, &mut self.tabled.tables, entries, ahead)?;
         let fresh = &self.tabled.servers[place].as_slice()[known..];
         self.spare = follow_server(alloc, behind, number, known, fresh).unwrap_or(None);
         Ok(())

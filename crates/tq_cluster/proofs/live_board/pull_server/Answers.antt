@@ -1,31 +1,17 @@
-use Rattle.std.proofs.Common.{◌≡◌, length, max, refl, ap, ◌∙◌, arith, rules}
-use Rattle.std.proofs.lemmas.Result.{err_from_is_err_and}
-use Rattle.std.specs.Prelude.{Err, IfErr}
+use Rattle.std.proofs.Common.{◌≡◌, length, max, ap, arith, rules}
 use Rattle.tq_cells.specs.Passes.{last_behind}
 use Rattle.tq_shape.specs.declared.part.Part.TheVariants as parts
 use Rattle.tq_mirror.specs.declared.entries.Entries.TheVariants as entries
-use Rattle.tq_mirror.specs.declared.fault.PullFault.{PullFault}
-use Rattle.tq_mirror.specs.declared.fault.PullFault.TheVariants as faults
-use Rattle.tq_cluster.proofs.Seen.{memory_fault}
-use Rattle.tq_cluster.proofs.Came.{pull-ok, pull-refused, took_none}
+use Rattle.tq_cluster.proofs.Came.{pull-memory, pull-ok, pull-refused}
 use Rattle.tq_cluster.proofs.live_board.pull_server.Goals as goal
 
 pub returns-in_err-entries : goal.returns-in_err-entries
-returns-in_err-entries g c =
-    let refused : IfErr c.from_residual.result (λ f. f ≡ faults.Memory) = search rules in
-    record {
-      grows = search rules;
-      seen = search rules;
-      err = search rules;
-      fault = memory_fault c.args.prefixes.now (parts.Server c.args.number) c.args.pass.now.seen c.from_residual.result refused;
-      saw = took_none c.args.pass.now.seen c.args.prefixes.now c.args.prefixes.now (parts.Server c.args.number) refl;
-    }
+returns-in_err-entries g c = pull-memory (parts.Server c.args.number) c.args.prefixes.now c.args.pass.now.seen c.from_residual.result (search rules)
 
 pub returns-in_err-take_server : goal.returns-in_err-take_server
 returns-in_err-take_server g c =
-    let passed = err_from_is_err_and c.from_residual-in_err-take_server.result c.from_residual-in_err-take_server.ensures.1 in
     pull-refused (parts.Server c.args.number) c.args.prefixes.now c.take_server.new.self (entries.Server c.in_ok-entries.entries.items) _ c.args.pass.now.seen c.in_err-take_server.field-0.0 c.from_residual-in_err-take_server.result
-    c.seen.ensures (passed.1 ∙ ap (λ (f : PullFault). Err f) passed.2) c.in_err-take_server.ensures
+    c.seen.ensures c.from_residual-in_err-take_server.ensures.1 c.in_err-take_server.ensures
 
 pub returns : goal.returns
 returns g c =

@@ -1,31 +1,17 @@
-use Rattle.std.proofs.Common.{◌≡◌, length, max, refl, ap, ◌∙◌, arith, rules}
-use Rattle.std.proofs.lemmas.Result.{err_from_is_err_and}
-use Rattle.std.specs.Prelude.{Err, IfErr}
+use Rattle.std.proofs.Common.{◌≡◌, length, max, ap, arith, rules}
 use Rattle.tq_cells.specs.Passes.{last_behind}
 use Rattle.tq_shape.specs.declared.part.Part.TheVariants as parts
 use Rattle.tq_mirror.specs.declared.entries.Entries.TheVariants as entries
-use Rattle.tq_mirror.specs.declared.fault.PullFault.{PullFault}
-use Rattle.tq_mirror.specs.declared.fault.PullFault.TheVariants as faults
-use Rattle.tq_cluster.proofs.Seen.{memory_fault}
-use Rattle.tq_cluster.proofs.Came.{pull-ok, pull-refused, took_none}
+use Rattle.tq_cluster.proofs.Came.{pull-memory, pull-ok, pull-refused}
 use Rattle.tq_cluster.proofs.live_board.pull_view.Goals as goal
 
 pub returns-in_err-entries : goal.returns-in_err-entries
-returns-in_err-entries g c =
-    let refused : IfErr c.from_residual.result (λ f. f ≡ faults.Memory) = search rules in
-    record {
-      grows = search rules;
-      seen = search rules;
-      err = search rules;
-      fault = memory_fault c.args.prefixes.now parts.View c.args.pass.now.seen c.from_residual.result refused;
-      saw = took_none c.args.pass.now.seen c.args.prefixes.now c.args.prefixes.now parts.View refl;
-    }
+returns-in_err-entries g c = pull-memory parts.View c.args.prefixes.now c.args.pass.now.seen c.from_residual.result (search rules)
 
 pub returns-in_err-take_view : goal.returns-in_err-take_view
 returns-in_err-take_view g c =
-    let passed = err_from_is_err_and c.from_residual-in_err-take_view.result c.from_residual-in_err-take_view.ensures.1 in
     pull-refused parts.View c.args.prefixes.now c.take_view.new.self (entries.View c.in_ok-entries.entries.items) _ c.args.pass.now.seen c.in_err-take_view.field-0.0 c.from_residual-in_err-take_view.result
-    c.seen.ensures (passed.1 ∙ ap (λ (f : PullFault). Err f) passed.2) c.in_err-take_view.ensures
+    c.seen.ensures c.from_residual-in_err-take_view.ensures.1 c.in_err-take_view.ensures
 
 pub returns : goal.returns
 returns g c =

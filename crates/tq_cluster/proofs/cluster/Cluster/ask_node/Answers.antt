@@ -5,48 +5,46 @@ use Rattle.tq_cluster.specs.Told.{CallerView}
 use Rattle.tq_txn.specs.declared.asker.Exchange.TheVariants as exchanges
 use Rattle.tq_cluster.specs.Cluster.{ClusterView}
 use Rattle.tq_cluster.proofs.Names.{named_by}
-use Rattle.tq_cluster.proofs.Seen.{asked_none, asked_others, asked_seen, on_err, seeing, server_saw}
+use Rattle.tq_cluster.proofs.Seen.{SawOne, asked_none, asked_others, asked_seen, on_err, seeing, server_saw}
+use Rattle.tq_cluster.proofs.cluster.Cluster.ask_node.Given.{Over}
 use Rattle.tq_cluster.proofs.cluster.Cluster.ask_node.Goals as goal
+use Rattle.tq_cluster.proofs.cluster.Cluster.ask_node.Goals.{After-ask_part}
+
+-- the caller, by the pass of the server, which was asked
+abbrev after : (g : Over) → After-ask_part g → CallerView
+after g c = let own = c.caller.inside in seeing own.levels own.told.items (set own.servers.items (c.number-number.result - 1) c.ask_part.new.pass) own.desk.seen own.view.seen
+
+saw : (g : Over) (c : After-ask_part g) → SawOne c.args.caller.now (after g c) (parts.Server c.args.server.number) c.index_mut-pass.result.now.seen c.ask_part.new.pass.seen
+saw g c =
+    let own = c.caller.inside in
+    let number = c.number-number.result in
+    let of_tree = subst (λ (l : ℕ). IsServer l number) (c.requires.server ∙ sym c.requires.levels ∙ ap (λ (v : CallerView). v.levels) (sym c.caller.view_is)) c.number-number.ensures.within in
+    let least = of_tree.0 in
+    let most = of_tree.1 in
+    let count = c.caller.invariant in
+    let less : number - 1 < length own.servers.items = omega arith in
+    server_saw own.levels own.told.items own.servers.items own.desk.seen own.view.seen number (parts.Server c.args.server.number) c.index_mut-pass.result.now c.ask_part.new.pass c.args.caller.now c.caller.view_is less
+    (ap parts.Server (sym c.number-number.ensures.value)) c.index_mut-pass.ensures.value
 
 pub returns-clause-heard : goal.returns-clause-heard
 returns-clause-heard g c =
-    let own = c.caller.inside in
-    let passes = own.servers.items in
-    let number = c.number-number.result in
-    let of_tree = subst (λ (l : ℕ). IsServer l number) (c.requires.server ∙ sym c.requires.levels ∙ ap (λ (v : CallerView). v.levels) (sym c.caller.view_is)) c.number-number.ensures.within in
-    let least = of_tree.0 in
-    let most = of_tree.1 in
-    let count = c.caller.invariant in
-    let less : number - 1 < length passes = omega arith in
-    let new = seeing own.levels own.told.items (set passes (number - 1) c.ask_part.new.pass) own.desk.seen own.view.seen in
-    let saw = server_saw own.levels own.told.items passes own.desk.seen own.view.seen number (parts.Server c.args.server.number) c.index_mut-pass.result.now c.ask_part.new.pass c.args.caller.now c.caller.view_is less
-    (ap parts.Server (sym c.number-number.ensures.value)) c.index_mut-pass.ensures.value in
+    let asked = (goal.at.returns-clause-heard g c).After-ask_part in
     record {
-      seen = asked_seen c.args.caller.now new (parts.Server c.args.server.number) c.index_mut-pass.result.now.seen c.ask_part.new.pass.seen c.in_ok-told.told.number saw c.in_ok-told.ensures.seen;
+      seen = asked_seen c.args.caller.now (after g asked) (parts.Server c.args.server.number) c.index_mut-pass.result.now.seen c.ask_part.new.pass.seen c.in_ok-entry.entry.number (saw g asked) c.in_ok-entry.ensures.seen;
       not_told = tt;
       fault = tt;
-      others = asked_others c.args.caller.now new (parts.Server c.args.server.number) c.index_mut-pass.result.now.seen c.ask_part.new.pass.seen saw;
+      others = asked_others c.args.caller.now (after g asked) (parts.Server c.args.server.number) c.index_mut-pass.result.now.seen c.ask_part.new.pass.seen (saw g asked);
       tree = ap (λ (v : CallerView). v.levels) c.caller.view_is;
     }
 
-pub returns-in_err-told-clause-heard : goal.returns-in_err-told-clause-heard
-returns-in_err-told-clause-heard g c =
-    let own = c.caller.inside in
-    let passes = own.servers.items in
-    let number = c.number-number.result in
-    let of_tree = subst (λ (l : ℕ). IsServer l number) (c.requires.server ∙ sym c.requires.levels ∙ ap (λ (v : CallerView). v.levels) (sym c.caller.view_is)) c.number-number.ensures.within in
-    let least = of_tree.0 in
-    let most = of_tree.1 in
-    let count = c.caller.invariant in
-    let less : number - 1 < length passes = omega arith in
-    let new = seeing own.levels own.told.items (set passes (number - 1) c.ask_part.new.pass) own.desk.seen own.view.seen in
-    let saw = server_saw own.levels own.told.items passes own.desk.seen own.view.seen number (parts.Server c.args.server.number) c.index_mut-pass.result.now c.ask_part.new.pass c.args.caller.now c.caller.view_is less
-    (ap parts.Server (sym c.number-number.ensures.value)) c.index_mut-pass.ensures.value in
+pub returns-in_err-entry-clause-heard : goal.returns-in_err-entry-clause-heard
+returns-in_err-entry-clause-heard g c =
+    let asked = (goal.at.returns-in_err-entry-clause-heard g c).After-ask_part in
     record {
       seen = search rules;
-      not_told = on_err _ _ (asked_none c.args.caller.now new (parts.Server c.args.server.number) c.index_mut-pass.result.now.seen c.ask_part.new.pass.seen saw c.in_err-told.ensures.not_told);
+      not_told = on_err _ _ (asked_none c.args.caller.now (after g asked) (parts.Server c.args.server.number) c.index_mut-pass.result.now.seen c.ask_part.new.pass.seen (saw g asked) c.in_err-entry.ensures.not_told);
       fault = search rules;
-      others = asked_others c.args.caller.now new (parts.Server c.args.server.number) c.index_mut-pass.result.now.seen c.ask_part.new.pass.seen saw;
+      others = asked_others c.args.caller.now (after g asked) (parts.Server c.args.server.number) c.index_mut-pass.result.now.seen c.ask_part.new.pass.seen (saw g asked);
       tree = ap (λ (v : CallerView). v.levels) c.caller.view_is;
     }
 
@@ -61,6 +59,6 @@ ask_part-requires g c =
 
 pub returns-clause-exchanges : goal.returns-clause-exchanges
 returns-clause-exchanges g c =
-    let told = c.in_ok-told.told in
-    c.in_ok-told.ensures.exchanges
-    ∙ (λ i. (c.caller.view_is i).told ++ exchanges.Node (c.number-number.ensures.value i) c.args.ask (Ok (record { number = told.number; reply = told.reply })) ∷ [])
+    let entry = c.in_ok-entry.entry in
+    c.in_ok-entry.ensures.exchanges
+    ∙ (λ i. (c.caller.view_is i).told ++ exchanges.Node (c.number-number.ensures.value i) c.args.ask (Ok (record { number = entry.number; reply = entry.reply })) ∷ [])

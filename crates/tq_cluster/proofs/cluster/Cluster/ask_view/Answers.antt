@@ -5,6 +5,6 @@ use Rattle.tq_cluster.proofs.cluster.Cluster.ask_view.Goals as goal
 
 pub returns-clause-exchanges : goal.returns-clause-exchanges
 returns-clause-exchanges g c =
-    let told = c.in_ok-told.told in
-    c.in_ok-told.ensures.exchanges
-    ∙ ap (λ (v : CallerView). v.told ++ exchanges.View c.args.ask (Ok (record { number = told.number; reply = told.reply })) ∷ []) c.caller.view_is
+    let entry = c.in_ok-entry.entry in
+    c.in_ok-entry.ensures.exchanges
+    ∙ ap (λ (v : CallerView). v.told ++ exchanges.View c.args.ask (Ok (record { number = entry.number; reply = entry.reply })) ∷ []) c.caller.view_is

@@ -1,37 +1,37 @@
-use Rattle.std.proofs.Common.{Some, rules, ap, arith, map, sym, ◌∙◌}
+use Rattle.std.proofs.Common.{List, Some, rules, ap, arith, map, sym, ◌∙◌}
 use Rattle.tq_shape.specs.declared.part.Part.TheVariants as parts
 use Rattle.tq_mirror.specs.declared.entries.Entries.TheVariants as entries
-use Rattle.tq_mirror.proofs.Standing.{view_taken, found_ahead, from_on, never_on_ok, spare_alike, spare_kept, those_behind}
+use Rattle.tq_node.specs.NodeJournal.{NodeEntry}
+use Rattle.tq_tables.specs.Tabled.{journals_in}
+use Rattle.tq_mirror.specs.Kept.{AreAhead}
+use Rattle.tq_mirror.proofs.Standing.{Taken, view_taken, found_ahead, from_on, not_taken, spare_alike, spare_kept, those_behind}
 use Rattle.tq_mirror.proofs.prefixes.Prefixes.take_view.Goals as goal
+use Rattle.tq_mirror.proofs.prefixes.Prefixes.take_view.Goals.{After-unwrap_or}
+
+-- the view gives the entries next, and there are enough
+ahead : (c : After-unwrap_or) → AreAhead c.put_behind.new.tables c.args.self.now parts.View (entries.View c.args.entries.items) c.args.least
+ahead c = found_ahead c.in_ok-ahead.field-0 c.put_behind.new.tables c.args.self.now parts.View entries.View c.as_slice.result.now c.args.entries.items c.args.least c.as_slice.ensures.value (c.in-Some.is ∙ ap Some (sym c.in_ok-behind.ensures.ahead)) c.in_ok-ahead.ensures.ahead
+
+abbrev servers : After-unwrap_or → List (List NodeEntry)
+servers c = map (λ journal. journal.items) c.self.inside.tabled.servers.items
+
+taken : (c : After-unwrap_or) → Taken c.put_behind.new.tables (journals_in c.put_behind.new.tables c.self.inside.tabled.limits (servers c) c.self.inside.tabled.desk.items c.put_behind.new.journal.items) c.args.self.now parts.View (entries.View c.args.entries.items) c.args.least
+taken c =
+    view_taken c.self.inside.tabled.tables c.put_behind.new.tables c.self.inside.tabled.limits (servers c) c.self.inside.tabled.desk.items c.self.inside.tabled.view.items c.args.self.now
+    (c.self.view_is ∙ c.in_ok-ahead.ensures.same) c.self.invariant.0 c.put_behind.new.journal.items c.args.entries.items c.args.least (ahead c) c.in_ok-behind.ensures.entries
 
 pub invariant_of-self-2 : goal.invariant_of-self-2
 invariant_of-self-2 c =
-    let led = (found_ahead c.in_ok-ahead.field-0 c.put_behind.new.tables c.args.self.now parts.View entries.View c.as_slice.result.now c.args.entries.items c.args.least c.as_slice.ensures.value (c.in-Some.is ∙ ap Some (sym c.in_ok-behind.ensures.ahead)) c.in_ok-ahead.ensures.ahead) in
+    let end = (goal.at.invariant_of-self-2 c).After-unwrap_or in
     let fresh = those_behind c.len-known.result c.self.inside.tabled.view.items c.args.entries.items c.as_slice-2.result.now (let long = c.len-known.ensures in let count = c.self.inside.tabled.view.ok.0 in omega (arith, long, count)) (c.as_slice-2.ensures.value ∙ c.in_ok-behind.ensures.entries) in
     let kept = spare_kept c.in_ok-behind.behind c.self.inside.tabled.tables _ c.args.self.now (c.self.view_is ∙ c.in_ok-ahead.ensures.same) c.self.invariant.0 c.in_ok-behind.ensures.behind in (
-      (view_taken c.self.inside.tabled.tables c.put_behind.new.tables c.self.inside.tabled.limits (map (λ journal. journal.items) c.self.inside.tabled.servers.items) c.self.inside.tabled.desk.items c.self.inside.tabled.view.items c.args.self.now
-          (c.self.view_is ∙ c.in_ok-ahead.ensures.same) c.self.invariant.0 c.put_behind.new.journal.items c.args.entries.items c.args.least
-          (found_ahead c.in_ok-ahead.field-0 c.put_behind.new.tables c.args.self.now parts.View entries.View c.as_slice.result.now c.args.entries.items c.args.least c.as_slice.ensures.value (c.in-Some.is ∙ ap Some (sym c.in_ok-behind.ensures.ahead)) c.in_ok-ahead.ensures.ahead) c.in_ok-behind.ensures.entries).keeps,
+      (taken end).keeps,
       spare_alike _ entries.View c.follow_view.result c.unwrap_or.result c.put_behind.new.tables c.args.self.now parts.View c.args.entries.items (from_on c.len-known.result c.as_slice-2.result.now) c.args.least fresh
-          (λ found leads. leads c.args.self.now kept) c.follow_view.ensures c.unwrap_or.ensures led,
+          (λ found leads. leads c.args.self.now kept) c.follow_view.ensures c.unwrap_or.ensures (ahead end),
     )
 
 pub returns-in_err-behind : goal.returns-in_err-behind
-returns-in_err-behind c =
-    let result = c.from_residual-in_err-behind.result in
-    let refused = c.from_residual-in_err-behind.ensures.1 in
-    record {
-      grown = never_on_ok _ _ result refused;
-      least = never_on_ok _ _ result refused;
-      count = never_on_ok _ _ result refused;
-      err = search rules;
-      fault = search rules;
-    }
+returns-in_err-behind c = not_taken _ _ _ _ _ _ c.from_residual-in_err-behind.result c.from_residual-in_err-behind.ensures.1 (search rules) (search rules)
 
 pub returns : goal.returns
-returns c =
-    let taken =
-    (view_taken c.self.inside.tabled.tables c.put_behind.new.tables c.self.inside.tabled.limits (map (λ journal. journal.items) c.self.inside.tabled.servers.items) c.self.inside.tabled.desk.items c.self.inside.tabled.view.items c.args.self.now
-    (c.self.view_is ∙ c.in_ok-ahead.ensures.same) c.self.invariant.0 c.put_behind.new.journal.items c.args.entries.items c.args.least
-    (found_ahead c.in_ok-ahead.field-0 c.put_behind.new.tables c.args.self.now parts.View entries.View c.as_slice.result.now c.args.entries.items c.args.least c.as_slice.ensures.value (c.in-Some.is ∙ ap Some (sym c.in_ok-behind.ensures.ahead)) c.in_ok-ahead.ensures.ahead) c.in_ok-behind.ensures.entries) in
-    record { grown = taken.leads; least = taken.enough; count = taken.count; err = tt; fault = tt }
+returns c = let done = taken (goal.at.returns c).After-unwrap_or in record { grown = done.leads; least = done.enough; count = done.count; err = tt; fault = tt }
