@@ -80,46 +80,46 @@ one_on block start key within =
     ∙ (λ i. get_or block start 0 ∷ (sym (drop-set-lt (start + 1) block start key (omega arith)) i ++ sym (take_more_set block start key within) i))
 
 -- a key goes behind the others of a ring, in the place of the first
-pub behind_others : (block : List ℕ) (start next key : ℕ) → start < length block → length block ≡ 2000 → next ≡ (start + 1) % 2000
+pub behind_others : (block : List ℕ) (start next key : ℕ) → start < length block → length block ≡ 2048 → next ≡ (start + 1) % 2048
     → turn start block ++ key ∷ [] ≡ get_or block start 0 ∷ turn next (slice_set block start key)
 behind_others block start next key within all is =
     let keys = slice_set block start key in
     let old = get_or block start 0 in
-    elim (cases_lt (start + 1) 2000) [
+    elim (cases_lt (start + 1) 2048) [
       | inl below ↦ one_on block start key within ∙ ap (λ n. old ∷ turn n keys) (sym (is ∙ mod-eq_of_lt below))
       | inr above ↦
-          let end : start + 1 ≡ 2000 = omega (arith, above, within, all) in
+          let end : start + 1 ≡ 2048 = omega (arith, above, within, all) in
           one_on block start key within
           ∙ ap (λ ks. old ∷ ks) (turned_over keys (start + 1) (length-set block start key ∙ all ∙ sym end))
-          ∙ ap (λ n. old ∷ turn n keys) (sym (is ∙ ap (λ n. n % 2000) end))
+          ∙ ap (λ n. old ∷ turn n keys) (sym (is ∙ ap (λ n. n % 2048) end))
     ]
 
 -- a key goes before the others of a ring, in the place of the last
-pub before_others : (block : List ℕ) (start before key : ℕ) → start < length block → length block ≡ 2000 → before ≡ (start + 2000 - 1) % 2000
+pub before_others : (block : List ℕ) (start before key : ℕ) → start < length block → length block ≡ 2048 → before ≡ (start + 2048 - 1) % 2048
     → turn before (slice_set block before key) ++ get_or block before 0 ∷ [] ≡ key ∷ turn start block
 before_others block start before key within all is =
     let last = get_or block before 0 in
     let keys = slice_set block before key in
-    let small : (start + 2000 - 1) % 2000 < 2000 = mod-lt (start + 2000 - 1) (omega arith) in
+    let small : (start + 2048 - 1) % 2048 < 2048 = mod-lt (start + 2048 - 1) (omega arith) in
     let below : before < length block = omega (arith, is, all, small) in
     let size : length keys ≡ length block = length-set block before key in
     behind_others keys before start last (omega (arith, size, below)) (size ∙ all) (omega (arith, is, within, all))
     ∙ (λ i. get_or-set_same block before key 0 below i ∷ turn start ((set-set block before key last ∙ set-get_or block before 0) i))
 
 -- the key at a place in a ring
-pub turned_key : (block : List ℕ) (start place : ℕ) → length block ≡ 2000 → start < 2000 → place < 2000 → get_or (turn start block) place 0 ≡ get_or block ((start + place) % 2000) 0
+pub turned_key : (block : List ℕ) (start place : ℕ) → length block ≡ 2048 → start < 2048 → place < 2048 → get_or (turn start block) place 0 ≡ get_or block ((start + place) % 2048) 0
 turned_key block start place all first within =
     let behind = drop start block in
     let front = take start block in
-    let len : length behind ≡ 2000 - start = length-drop start block ∙ ap (λ n. n - start) all in
-    elim (cases_lt (start + place) 2000) [
+    let len : length behind ≡ 2048 - start = length-drop start block ∙ ap (λ n. n - start) all in
+    elim (cases_lt (start + place) 2048) [
       | inl below ↦
           get_or_append_left behind front 0 place (omega (arith, below, len))
           ∙ get_or-drop start block place 0
           ∙ ap (λ n. get_or block n 0) (sym (mod-eq_of_lt below))
       | inr above ↦
-          let rest : place - (2000 - start) ≡ (start + place) % 2000 = omega (arith, above, first, within) in
-          get_or-append_right behind front (2000 - start) place 0 len (omega (arith, above, first))
-          ∙ get_or-take start block (place - (2000 - start)) 0 (omega (arith, above, first, within))
+          let rest : place - (2048 - start) ≡ (start + place) % 2048 = omega (arith, above, first, within) in
+          get_or-append_right behind front (2048 - start) place 0 len (omega (arith, above, first))
+          ∙ get_or-take start block (place - (2048 - start)) 0 (omega (arith, above, first, within))
           ∙ ap (λ n. get_or block n 0) rest
     ]

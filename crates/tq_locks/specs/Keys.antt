@@ -3,6 +3,7 @@ use Rattle.std.specs.Prelude.{◌≡◌, ◌<◌, ℕ, suc, Bool, true, List, []
 use Rattle.slab.specs.Slab.{Slab, get as in_slab}
 use Rattle.std.specs.List.{insert, remove}
 use denote.Ref.{Bor}
+use Rattle.std.specs.Global.{Box, Vec}
 use Rattle.std.specs.Option.{option_copied, option_map_or}
 use Rattle.smallvec.specs.SmallVec.{SmallVec, HasRoomFor}
 use Rattle.indexmap.specs.IndexMap.{IndexMap, get, spare}
@@ -60,22 +61,26 @@ told slab keys = filter_map (in_slab slab) keys
 abbrev pub turn : ℕ → List ℕ → List ℕ
 turn start block = drop start block ++ take start block
 
--- the keys of blocks of 2000 in their order, and those behind the blocks
+-- the keys of blocks of 2048 in their order, and those behind the blocks
 abbrev pub turned : List ℕ → List ℕ → List ℕ
 turned [] places = places
-turned (start ∷ starts) places = turn start (take 2000 places) ++ turned starts (drop 2000 places)
+turned (start ∷ starts) places = turn start (take 2048 places) ++ turned starts (drop 2048 places)
 
 -- so many places are blocks, each with its first key in it, and no more keys behind them than one has
 abbrev pub HasBlocks : List ℕ → ℕ → Type 0
-HasBlocks starts len = (2000 * length starts ≤ len) × (len ≤ 2000 * suc (length starts)) × All (λ start. start < 2000) starts
+HasBlocks starts len = (2048 * length starts ≤ len) × (len ≤ 2048 * suc (length starts)) × All (λ start. start < 2048) starts
+
+-- where in each block its first key is: nowhere, where a list has no block
+abbrev pub starts_in : Option (Box (Vec ℕ)) → List ℕ
+starts_in starts = option_map_or (λ list. list.value.items) starts []
 
 -- there is room for one more key behind the blocks
 abbrev pub HasRoomBehind : List ℕ → SmallVec ℕ → Type 0
-HasRoomBehind starts places = HasRoomFor places 1 × (length places.items < 2000 * suc (length starts))
+HasRoomBehind starts places = HasRoomFor places 1 × (length places.items < 2048 * suc (length starts))
 
 -- the keys in their order, with the room that there is before one more block
 abbrev pub keys_of : List ℕ → SmallVec ℕ → SmallVec ℕ
-keys_of starts places = record { items = turned starts places.items; capacity = min places.capacity (2000 * suc (length starts)) }
+keys_of starts places = record { items = turned starts places.items; capacity = min places.capacity (2048 * suc (length starts)) }
 
 -- the last of the keys has come into this place
 abbrev pub Sinks : List ℕ → List ℕ → ℕ → Type 0

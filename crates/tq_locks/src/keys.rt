@@ -1,10 +1,10 @@
 //! A list of keys in which a key comes in or leaves by moves of few others, however long it is.
-ghost use Rattle.std.specs.Prelude.{◌≡◌, ◌+◌, ◌-◌, ◌*◌, ◌<◌, ◌≤◌, ◌++◌, OnOk, IfSome, IfNone, length, suc, Some, [], ◌∷◌, option_to_list};
+ghost use Rattle.std.specs.Prelude.{◌≡◌, ◌+◌, ◌-◌, ◌*◌, ◌<◌, ◌≤◌, ◌++◌, OnOk, IfSome, IfNone, length, suc, Some, [], ◌∷◌, option_to_list, IfOk, OnErr};
 ghost use Rattle.std.specs.Bool.{OnTrue};
 ghost use Rattle.std.specs.List.{insert, remove, slice_get};
 ghost use Rattle.std.specs.List.Sorted.{IsPermutation};
 ghost use Rattle.smallvec.specs.SmallVec.{HasRoomFor, small_vec_len};
-ghost use Rattle.tq_locks.specs.Keys.{HasBlocks, HasRoomBehind, Sinks, turned};
+ghost use Rattle.tq_locks.specs.Keys.{HasBlocks, HasRoomBehind, Sinks, starts_in, turned};
 
 use smallvec::SmallVec;
 use std::alloc::{AllocError, Global};
@@ -14,30 +14,30 @@ use std::marker::Model;
 const FEW: usize = 16;
 
 /// So many keys are a block.
-const BLOCK: usize = 2000;
+const BLOCK: usize = 2048;
 
 /// The keys under one name. Up to six of them need no allocation.
 #[derive(Drop)]
 pub(crate) struct Keys {
     /// The blocks, and behind them at most as many keys as one has, in their order.
     places: SmallVec<usize, 6>,
-    /// Where in each block its first key is. Those before that place follow those behind it.
-    starts: Vec<usize>,
+    /// Where in each block its first key is, if there are blocks. Those before that place follow those behind it.
+    starts: Option<Box<Vec<usize>>>,
 }
 
 impl Model for Keys {
     ghost use Rattle.std.specs.Prelude.{◌≤◌, ◌<◌, ◌*◌, ℕ, suc, length, All};
     ghost use Rattle.std.specs.Coded.{coded_ℕ};
     ghost use Rattle.smallvec.specs.SmallVec.{SmallVec as Items, small_vec_code, small_vec_len};
-    ghost use Rattle.tq_locks.specs.Keys.{keys_of, HasBlocks};
+    ghost use Rattle.tq_locks.specs.Keys.{keys_of, starts_in, HasBlocks};
 
     ghost Value = { Items ℕ };
 
     ghost coded = { small_vec_code coded_ℕ };
 
-    ghost view = { λ k. keys_of k.starts.items k.places };
+    ghost view = { λ k. keys_of (starts_in k.starts) k.places };
 
-    ghost invariant = { λ k. HasBlocks k.starts.items (small_vec_len k.places) };
+    ghost invariant = { λ k. HasBlocks (starts_in k.starts) (small_vec_len k.places) };
 }
 
 impl Clone for Keys {
@@ -46,7 +46,7 @@ impl Clone for Keys {
     fn clone(&self) -> Result<Self, AllocError> {
         Ok(Keys {
             places: SmallVec::from_slice(*self.places.allocator(), self.places.as_slice())?,
-            starts: self.starts.clone()?,
+            starts: copy_starts(&self.starts)?,
         })
     }
 }
@@ -58,7 +58,7 @@ impl Keys {
     {
         Keys {
             places: SmallVec::new(alloc),
-            starts: Vec::new(alloc),
+            starts: None,
         }
     }
 
@@ -70,7 +70,7 @@ impl Keys {
         places.push_reserved(key);
         Keys {
             places,
-            starts: Vec::new(alloc),
+            starts: None,
         }
     }
 
@@ -95,7 +95,10 @@ impl Keys {
     pub(crate) fn get(&self, at: usize) -> Option<usize>
         ensures { result ≡ slice_get self.now.items at }
     {
-        key_at(self.starts.as_slice(), self.places.as_slice(), at)
+        match &self.starts {
+            Some(starts) => key_at(starts.as_slice(), self.places.as_slice(), at),
+            None => self.places.as_slice().get(at).copied(),
+        }
     }
 
     /// The keys in their order, lent.
@@ -103,9 +106,16 @@ impl Keys {
     pub(crate) fn lend(&self) -> LentKeys<'_>
         ensures { result ≡ self.now.items }
     {
-        LentKeys {
-            starts: self.starts.as_slice(),
-            places: self.places.as_slice(),
+        let places = self.places.as_slice();
+        match &self.starts {
+            Some(starts) => LentKeys {
+                starts: starts.as_slice(),
+                places,
+            },
+            None => LentKeys {
+                starts: &[],
+                places,
+            },
         }
     }
 
@@ -115,7 +125,16 @@ impl Keys {
         ensures room { OnOk result (HasRoomFor self.new 1) }
         ensures same { self.new.items ≡ self.old.items }
     {
-        make_room(&mut self.starts, &mut self.places)
+        match &mut self.starts {
+            Some(starts) => make_room(starts, &mut self.places),
+            None => {
+                if self.places.len() == BLOCK {
+                    self.starts = Some(begin_blocks(&mut self.places)?);
+                    return Ok(());
+                }
+                make_plain_room(&mut self.places)
+            }
+        }
     }
 
     /// Puts a key into its place in a list that has room.
@@ -125,7 +144,10 @@ impl Keys {
         requires within { place ≤ length self.old.items }
         ensures { self.new.items ≡ insert self.old.items place key }
     {
-        put(&mut self.starts, &mut self.places, place, key);
+        match &mut self.starts {
+            Some(starts) => put(starts, &mut self.places, place, key),
+            None => put_plain(&mut self.places, place, key),
+        }
     }
 
     /// Takes the last key out.
@@ -134,7 +156,10 @@ impl Keys {
         ensures items { self.old.items ≡ self.new.items ++ option_to_list result }
         ensures none { IfNone result (self.old.items ≡ []) }
     {
-        pop(&mut self.starts, &mut self.places)
+        match &mut self.starts {
+            Some(starts) => pop(starts, &mut self.places),
+            None => self.places.pop(),
+        }
     }
 
     /// Takes a key out where it is seen to be the last, and tells its place.
@@ -144,17 +169,68 @@ impl Keys {
         ensures after { IfSome result (λ place. self.new.items ≡ remove self.old.items place) }
         ensures same { IfNone result (self.new.items ≡ self.old.items) }
     {
-        if !self.starts.is_empty() {
-            return None;
+        match &self.starts {
+            Some(_) => None,
+            None => pop_if(&mut self.places, key),
         }
-        pop_if(&mut self.places, key)
     }
 
     /// Takes the key at a place out, where the list goes so far.
     pub(crate) fn take_out(&mut self, place: usize)
         ensures { self.new.items ≡ remove self.old.items place }
     {
-        take_out(&mut self.starts, &mut self.places, place);
+        match &mut self.starts {
+            Some(starts) => take_out(starts, &mut self.places, place),
+            None => take_plain(&mut self.places, place),
+        }
+    }
+}
+
+/// Equal starts, with memory of their own.
+fn copy_starts(starts: &Option<Box<Vec<usize>>>) -> Result<Option<Box<Vec<usize>>>, AllocError>
+    ensures { IfOk result (λ copy. starts_in copy ≡ starts_in starts.now) }
+{
+    match starts {
+        Some(starts) => Ok(Some(starts.clone()?)),
+        None => Ok(None),
+    }
+}
+
+/// Makes room for one more key in a list that has no block.
+#[inline(always)]
+fn make_plain_room(places: &mut SmallVec<usize, 6>) -> Result<(), AllocError>
+    ensures room { OnOk result (HasRoomFor places.new 1) }
+    ensures same { places.new.items ≡ places.old.items }
+{
+    if places.len() == places.capacity() {
+        places.reserve(1)?;
+    }
+    Ok(())
+}
+
+/// Makes the keys of a list, as many as a block has, its first block, with room for one more key behind it.
+#[inline(never)]
+fn begin_blocks(places: &mut SmallVec<usize, 6>) -> Result<Box<Vec<usize>>, AllocError>
+    requires { HasBlocks [] (small_vec_len places.old) }
+    ensures blocks { IfOk result (λ starts. HasBlocks starts.value.items (small_vec_len places.new)) }
+    ensures room { IfOk result (λ starts. HasRoomBehind starts.value.items places.new) }
+    ensures same { IfOk result (λ starts. turned starts.value.items places.new.items
+        ≡ places.old.items) }
+    ensures err { OnErr result (places.new.items ≡ places.old.items) }
+{
+    let alloc = *places.allocator();
+    let mut starts = Vec::new(alloc);
+    grow(&mut starts, places)?;
+    Ok(Box::new(alloc, starts)?)
+}
+
+/// Takes the key at a place out of a list that has no block, where the list goes so far.
+#[inline(always)]
+fn take_plain(places: &mut SmallVec<usize, 6>, place: usize)
+    ensures { places.new.items ≡ remove places.old.items place }
+{
+    if place < places.len() {
+        places.remove(place);
     }
 }
 
@@ -227,6 +303,7 @@ fn grow(starts: &mut Vec<usize>, places: &mut SmallVec<usize, 6>) -> Result<(), 
     requires { HasBlocks starts.old.items (small_vec_len places.old) }
     ensures blocks { HasBlocks starts.new.items (small_vec_len places.new) }
     ensures room { OnOk result (HasRoomBehind starts.new.items places.new) }
+    ensures items { places.new.items ≡ places.old.items }
     ensures same { turned starts.new.items places.new.items
         ≡ turned starts.old.items places.old.items }
 {
@@ -260,7 +337,7 @@ fn put(starts: &mut Vec<usize>, places: &mut SmallVec<usize, 6>, place: usize, k
 fn put_within(starts: &mut Vec<usize>, places: &mut SmallVec<usize, 6>, place: usize, key: usize)
     requires blocks { HasBlocks starts.old.items (small_vec_len places.old) }
     requires room { HasRoomBehind starts.old.items places.old }
-    requires within { place < 2000 * length starts.old.items }
+    requires within { place < 2048 * length starts.old.items }
     ensures blocks { HasBlocks starts.new.items (small_vec_len places.new) }
     ensures put { turned starts.new.items places.new.items
         ≡ insert (turned starts.old.items places.old.items) place key }
@@ -309,7 +386,7 @@ fn settle(starts: &mut Vec<usize>, places: &mut SmallVec<usize, 6>)
     ensures blocks { HasBlocks starts.new.items (small_vec_len places.new) }
     ensures len { small_vec_len places.new ≡ small_vec_len places.old }
     ensures behind { 0 < small_vec_len places.new
-        → 2000 * length starts.new.items < small_vec_len places.new }
+        → 2048 * length starts.new.items < small_vec_len places.new }
     ensures same { turned starts.new.items places.new.items
         ≡ turned starts.old.items places.old.items }
     ensures capacity { places.new.capacity ≡ places.old.capacity }
@@ -341,9 +418,9 @@ fn key_at(starts: &[usize], places: &[usize], at: usize) -> Option<usize>
 /// Puts a key into its place in the blocks, and tells the last of all. The last of each block goes on to the next.
 fn push_through(starts: &mut [usize], places: &mut [usize], place: usize, key: usize) -> usize
     requires blocks { HasBlocks starts.old (length places.old) }
-    requires within { place < 2000 * length starts.old }
+    requires within { place < 2048 * length starts.old }
     ensures blocks { HasBlocks starts.new (length places.new) }
-    ensures put { insert (turned starts.new places.new) (2000 * length starts.new) result
+    ensures put { insert (turned starts.new places.new) (2048 * length starts.new) result
         ≡ insert (turned starts.old places.old) place key }
 {
     let mut block = place / BLOCK;
@@ -359,10 +436,10 @@ fn push_through(starts: &mut [usize], places: &mut [usize], place: usize, key: u
 /// Takes the key at a place in the blocks out. A key comes behind them, and the first of each block goes on to the one before.
 fn pull_through(starts: &mut [usize], places: &mut [usize], place: usize, key: usize) -> usize
     requires blocks { HasBlocks starts.old (length places.old) }
-    requires within { place < 2000 * length starts.old }
+    requires within { place < 2048 * length starts.old }
     ensures blocks { HasBlocks starts.new (length places.new) }
     ensures taken { insert (turned starts.new places.new) place result
-        ≡ insert (turned starts.old places.old) (2000 * length starts.old) key }
+        ≡ insert (turned starts.old places.old) (2048 * length starts.old) key }
 {
     let first = place / BLOCK;
     let mut block = starts.len() - 1;
@@ -384,10 +461,10 @@ fn put_in_block(
     key: usize,
 ) -> usize
     requires blocks { HasBlocks starts.old (length places.old) }
-    requires within { (block < length starts.old) × (place < 2000) }
+    requires within { (block < length starts.old) × (place < 2048) }
     ensures blocks { HasBlocks starts.new (length places.new) }
-    ensures put { insert (turned starts.new places.new) (2000 * suc block) result
-        ≡ insert (turned starts.old places.old) (2000 * block + place) key }
+    ensures put { insert (turned starts.new places.new) (2048 * suc block) result
+        ≡ insert (turned starts.old places.old) (2048 * block + place) key }
 {
     let low = block * BLOCK;
     let keys = &mut places[low..low + BLOCK];
@@ -425,10 +502,10 @@ fn take_from_block(
     key: usize,
 ) -> usize
     requires blocks { HasBlocks starts.old (length places.old) }
-    requires within { (block < length starts.old) × (place < 2000) }
+    requires within { (block < length starts.old) × (place < 2048) }
     ensures blocks { HasBlocks starts.new (length places.new) }
-    ensures taken { insert (turned starts.new places.new) (2000 * block + place) result
-        ≡ insert (turned starts.old places.old) (2000 * suc block) key }
+    ensures taken { insert (turned starts.new places.new) (2048 * block + place) result
+        ≡ insert (turned starts.old places.old) (2048 * suc block) key }
 {
     let low = block * BLOCK;
     let keys = &mut places[low..low + BLOCK];

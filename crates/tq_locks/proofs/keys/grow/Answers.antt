@@ -7,6 +7,6 @@ pub returns-in_ok-reserve-2-clause-same : goal.returns-in_ok-reserve-2-clause-sa
 returns-in_ok-reserve-2-clause-same c =
     let starts = c.args.starts.now.items in
     let places = c.args.places.now.items in
-    let full : length places ≡ 2000 * length starts + 2000 = omega (arith, c.requires, c.if-len-eq-BLOCK.true, c.len.ensures.value, c.len-2.ensures, ap length c.reserve.ensures.items) in
+    let full : length places ≡ 2048 * length starts + 2048 = omega (arith, c.requires, c.if-len-eq-BLOCK.true, c.len.ensures.value, c.len-2.ensures, ap length c.reserve.ensures.items) in
     (λ i. turned ((c.push_reserved.ensures.items ∙ ap (λ ks. ks ++ 0 ∷ []) c.in_ok-reserve-2.ensures.items) i) (c.reserve.ensures.items i))
     ∙ one_block_more starts places full

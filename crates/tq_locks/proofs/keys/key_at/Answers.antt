@@ -25,8 +25,8 @@ returns c =
     let starts = c.args.starts.now in
     let places = c.args.places.now in
     let at = c.args.at in
-    let block = at / 2000 in
+    let block = at / 2048 in
     let high : at < length places = omega (arith, c.if-at-places.false) in
     let within : block < length starts = omega (arith, c.if-block-starts.false) in
-    ap (λ k. Some k) (key_in_block starts places block (at % 2000) at within c.requires.0 (c.requires.2 block 0 within) (mod-lt at (omega arith)) (omega arith))
+    ap (λ k. Some k) (key_in_block starts places block (at % 2048) at within c.requires.0 (c.requires.2 block 0 within) (mod-lt at (omega arith)) (omega arith))
     ∙ sym (slice_get-get_or (turned starts places) at 0 (omega (arith, high, length-turned starts places)))

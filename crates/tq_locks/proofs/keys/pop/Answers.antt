@@ -30,4 +30,4 @@ returns-clause-last c =
     let one_less : length rest ≡ length places - 1 = ap length c.pop.ensures.rest ∙ omega (arith, length-take (length places - 1) places) in
     sym c.settle.ensures.same
     ∙ ap (turned starts) c.pop.ensures.items
-    ∙ behind_blocks starts rest (option_to_list c.pop.result) (behind (2000 * length starts) (length places) (length rest) c.settle.ensures.blocks.0 c.settle.ensures.behind one_less)
+    ∙ behind_blocks starts rest (option_to_list c.pop.result) (behind (2048 * length starts) (length places) (length rest) c.settle.ensures.blocks.0 c.settle.ensures.behind one_less)

@@ -11,7 +11,7 @@ invariant-loop-block l = record {
   places : length l.places ≡ length l.fn.places;
   above : l.first ≤ l.block;
   within : l.block < length l.starts;
-  taken : insert (turned l.starts l.places) (2000 * suc l.block) l.carried ≡ insert (turned l.fn.starts l.fn.places) (2000 * length l.fn.starts) l.fn.key;
+  taken : insert (turned l.starts l.places) (2048 * suc l.block) l.carried ≡ insert (turned l.fn.starts l.fn.places) (2048 * length l.fn.starts) l.fn.key;
 }
 
 abbrev pub decreases-loop-block : goal.decreases-loop-block

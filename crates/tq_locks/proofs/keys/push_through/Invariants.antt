@@ -10,7 +10,7 @@ invariant-loop-block l = record {
   starts : length l.starts ≡ length l.fn.starts;
   places : length l.places ≡ length l.fn.places;
   within : l.block ≤ length l.starts;
-  put : insert (turned l.starts l.places) (2000 * l.block) l.carried ≡ insert (turned l.fn.starts l.fn.places) l.fn.place l.fn.key;
+  put : insert (turned l.starts l.places) (2048 * l.block) l.carried ≡ insert (turned l.fn.starts l.fn.places) l.fn.place l.fn.key;
 }
 
 abbrev pub decreases-loop-block : goal.decreases-loop-block

@@ -15,6 +15,6 @@ returns-clause-put c =
     let places_len : length new_places ≡ length places = c.push_through-last.auto.places ∙ ap length c.as_mut_slice-2.ensures.value in
     let count : c.len.result ≡ length new_starts = omega (arith, c.len.ensures, starts_len) in
     (λ i. turned (refilled starts new_starts c.args.starts.now.len starts_len (omega arith) i) (c.put_plain.ensures i))
-    ∙ (λ i. turned new_starts (insert (refilled places new_places (length places) places_len refl i) (count i * 2000) last))
+    ∙ (λ i. turned new_starts (insert (refilled places new_places (length places) places_len refl i) (count i * 2048) last))
     ∙ put_behind new_starts new_places starts places c.args.place c.args.key last c.push_through-last.ensures.blocks.0
     (c.push_through-last.ensures.put ∙ (λ i. insert (turned (c.as_mut_slice.ensures.value i) (c.as_mut_slice-2.ensures.value i)) c.args.place c.args.key))

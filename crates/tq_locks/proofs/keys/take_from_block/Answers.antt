@@ -11,15 +11,15 @@ returns-then-place-eq0-clause-taken c =
     let b = c.args.block in
     let places = c.args.places.now in
     let key = c.args.key in
-    let block = take (b * 2000 + 2000 - b * 2000) (drop (b * 2000) places) in
+    let block = take (b * 2048 + 2048 - b * 2048) (drop (b * 2048) places) in
     let start = slice_index_or c.args.starts.now b 0 in
-    let next = (start + 1) % 2000 in
+    let next = (start + 1) % 2048 in
     let keys = slice_set block start key in
-    let size : length block ≡ 2000 = length-block places b (length c.args.starts.now) c.requires.within.0 c.requires.blocks.0 in
+    let size : length block ≡ 2048 = length-block places b (length c.args.starts.now) c.requires.within.0 c.requires.blocks.0 in
     let within : start < length block = omega (arith, size, c.requires.blocks.2 b 0 c.requires.within.0) in
-    written_over c.args.starts.now places keys b next 2000 0 key (slice_index_or block start 0) (2000 * suc b) (2000 * b + c.args.place)
+    written_over c.args.starts.now places keys b next 2048 0 key (slice_index_or block start 0) (2048 * suc b) (2048 * b + c.args.place)
     c.requires.within.0 c.requires.blocks.0 (length-set block start key ∙ size) (omega arith) (omega arith) (omega arith) (omega (arith, c.if-place-eq0.true))
-    (sym (behind_others block start next key within size refl) ∙ sym (at_end (turn start block) 2000 key (length-turn start block ∙ size)))
+    (sym (behind_others block start next key within size refl) ∙ sym (at_end (turn start block) 2048 key (length-turn start block ∙ size)))
 
 pub returns-clause-taken : goal.returns-clause-taken
 returns-clause-taken c =
@@ -30,7 +30,7 @@ returns-clause-taken c =
     let taken = c.close.result in
     let before = c.rotate_left.new.self in
     let within = c.requires.within.0 in
-    let old : length before ≡ 2000 = c.rotate_left.ensures.len ∙ length-block c.args.places.now block (length c.args.starts.now) within c.requires.blocks.0 in
-    written_over c.args.starts.now c.args.places.now keys block 0 2000 place key taken (2000 * suc block) (2000 * block + place)
+    let old : length before ≡ 2048 = c.rotate_left.ensures.len ∙ length-block c.args.places.now block (length c.args.starts.now) within c.requires.blocks.0 in
+    written_over c.args.starts.now c.args.places.now keys block 0 2048 place key taken (2048 * suc block) (2048 * block + place)
     within c.requires.blocks.0 (c.close.auto.keys ∙ old) (omega arith) (omega (arith, c.requires.within.1)) (omega arith) (omega arith)
-    (ap (λ ks. insert ks place taken) (not_turned keys) ∙ c.close.ensures ∙ sym (at_end before 2000 key old) ∙ ap (λ ks. insert ks 2000 key) c.rotate_left.ensures.after)
+    (ap (λ ks. insert ks place taken) (not_turned keys) ∙ c.close.ensures ∙ sym (at_end before 2048 key old) ∙ ap (λ ks. insert ks 2048 key) c.rotate_left.ensures.after)

@@ -29,16 +29,16 @@ returns-clause-taken c =
     let new_starts = c.pull_through-taken.new.starts in
     let new_places = c.pull_through-taken.new.places in
     let place = c.args.place in
-    let low = c.len-behind.result * 2000 in
+    let low = c.len-behind.result * 2048 in
     let first = c.remove-first.result in
     let starts_len : length new_starts ≡ length starts = c.pull_through-taken.auto.starts ∙ ap length c.as_mut_slice.ensures.value in
     let places_len : length new_places ≡ length rest = c.pull_through-taken.auto.places ∙ ap length c.as_mut_slice-2.ensures.value in
     let some : 0 < length places = omega (arith, c.if-place-len.false, c.len.ensures.value, c.settle.ensures.len) in
     let behind : low < length places = omega (arith, c.settle.ensures.behind some, c.len-behind.ensures) in
-    let low_is : low ≡ 2000 * length starts = omega (arith, c.len-behind.ensures) in
+    let low_is : low ≡ 2048 * length starts = omega (arith, c.len-behind.ensures) in
     let rest_len : length rest + 1 ≡ length places = ap (λ ks. length ks + 1) c.remove-first.ensures.items ∙ length-remove places low behind in
     (λ i. turned (refilled starts new_starts c.settle.new.starts.len starts_len (omega arith) i) (refilled rest new_places (length rest) places_len refl i))
     ∙ taken_out new_starts new_places starts places place low first c.pull_through-taken.result
     (omega (arith, places_len, rest_len, c.if-place-behind.false, behind)) low_is behind (get_or_read places low first behind c.remove-first.ensures.value 0)
-    (c.pull_through-taken.ensures.taken ∙ (λ i. insert (turned (c.as_mut_slice.ensures.value i) ((c.as_mut_slice-2.ensures.value ∙ c.remove-first.ensures.items) i)) (2000 * length (c.as_mut_slice.ensures.value i)) first))
+    (c.pull_through-taken.ensures.taken ∙ (λ i. insert (turned (c.as_mut_slice.ensures.value i) ((c.as_mut_slice-2.ensures.value ∙ c.remove-first.ensures.items) i)) (2048 * length (c.as_mut_slice.ensures.value i)) first))
     ∙ ap (λ ks. remove ks place) c.settle.ensures.same
