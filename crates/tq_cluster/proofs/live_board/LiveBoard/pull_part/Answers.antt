@@ -6,7 +6,7 @@ use Rattle.tq_cluster.proofs.live_board.LiveBoard.pull_part.Given.{Over}
 use Rattle.tq_cluster.proofs.live_board.LiveBoard.pull_part.Goals as goal
 
 -- a server was pulled
-server_pull : (g : Over) (c : goal.After-pull_server g) → PartPull c.pull_server.result c.args.part c.args.self.now c.pull_server.new.prefixes c.args.caller.now
+server_pull : (g : Over) (c : goal.After-caller-1 g) → PartPull c.pull_server.result c.args.part c.args.self.now c.pull_server.new.prefixes c.args.caller.now
     (seeing c.caller.inside.levels c.caller.inside.told.items (set c.caller.inside.servers.items (c.in-Server.number - 1) c.pull_server.new.pass) c.caller.inside.desk.seen c.caller.inside.view.seen)
 server_pull g c =
     let own = c.caller.inside in
