@@ -17,7 +17,7 @@ listed_words word [] some = absurd (some refl)
 listed_words word (first ∷ rest) some = refl
 
 -- the servers of a set have its numbers
-pub numbers_of-numbered : (levels : ℕ) (numbers : List ℕ) → numbers_of (numbered levels numbers) ≡ numbers
+numbers_of-numbered : (levels : ℕ) (numbers : List ℕ) → numbers_of (numbered levels numbers) ≡ numbers
 numbers_of-numbered levels [] = refl
 numbers_of-numbered levels (first ∷ rest) = ap (λ more. first ∷ more) (numbers_of-numbered levels rest)
 

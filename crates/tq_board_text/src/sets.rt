@@ -1,13 +1,12 @@
 //! The servers of a file's row as text, kept for the rows behind it: neighbours in the list often have the same.
-ghost use Rattle.std.specs.Prelude.{◌≡◌, OnOk, nat_eq};
-ghost use Rattle.std.specs.Cmp.Lexicographic.{pointwise};
+ghost use Rattle.std.specs.Prelude.{◌≡◌, OnOk};
 ghost use Rattle.tq_board_text.specs.Board.{Appends};
 ghost use Rattle.tq_board_text.specs.Sets.{have_same_sets, sets_text};
 
 use crate::word::push_set;
 use std::alloc::Global;
 use std::marker::Model;
-use tq_shape::{Memory, ServerSet};
+use tq_shape::Memory;
 use tq_tables::FileRow;
 
 /// The text of the current and the stale servers of the row that was put last.
@@ -72,24 +71,8 @@ pub(crate) fn push_sets(text: &mut String, row: &FileRow) -> Result<(), Memory>
 fn has_same_sets(one: &FileRow, other: &FileRow) -> bool
     ensures { result ≡ have_same_sets one.now other.now }
 {
-    if !are_same(&one.current, &other.current) {
+    if !one.current.has_numbers_of(&other.current) {
         return false;
     }
-    are_same(&one.stale, &other.stale)
-}
-
-/// Whether both sets have the same servers.
-fn are_same(one: &ServerSet, other: &ServerSet) -> bool
-    ensures { result ≡ pointwise nat_eq one.now.numbers other.now.numbers }
-{
-    let mut left = other.iter();
-    for server in one.iter() {
-        let Some(next) = left.next() else {
-            return false;
-        };
-        if next.number() != server.number() {
-            return false;
-        }
-    }
-    left.next().is_none()
+    one.stale.has_numbers_of(&other.stale)
 }

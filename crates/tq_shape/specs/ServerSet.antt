@@ -1,6 +1,7 @@
 -- A set of servers of one tree.
-use Rattle.std.specs.Prelude.{ℕ, ◌+◌, ◌*◌, ◌/◌, ◌%◌, ◌^◌, ◌<◌, ◌≤◌, ◌==◌, zero, suc, Bool, true, false, not, nat_lt, cond, List, [], ◌∷◌, ◌++◌, length, map, Option, Some, None}
+use Rattle.std.specs.Prelude.{ℕ, ◌+◌, ◌*◌, ◌/◌, ◌%◌, ◌^◌, ◌<◌, ◌≤◌, ◌==◌, zero, suc, Bool, true, false, not, nat_eq, nat_lt, cond, List, [], ◌∷◌, ◌++◌, length, map, Option, Some, None}
 use Rattle.std.specs.List.{All, filter, list_any}
+use Rattle.std.specs.Cmp.Lexicographic.{pointwise}
 use Rattle.tq_shape.specs.Tree.{Server, IsServer}
 
 -- what callers see of a set: the levels of the tree, and the numbers of its servers, ascending, each once
@@ -47,6 +48,10 @@ AreBelow number numbers = All (λ other. other < number) numbers
 -- the servers of a tree of those levels with these numbers
 abbrev pub numbered : ℕ → List ℕ → List Server
 numbered levels numbers = map (λ number. record { number = number; levels = levels }) numbers
+
+-- both lists have servers of the same numbers
+abbrev pub have_same_numbers : List Server → List Server → Bool
+have_same_numbers ones others = pointwise (λ one other. nat_eq one.number other.number) ones others
 
 -- the first of a list, where there is one
 abbrev pub first_of : {A : Type 0} → List A → Option A

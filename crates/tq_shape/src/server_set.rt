@@ -1,6 +1,7 @@
-ghost use Rattle.std.specs.Prelude.{◌≡◌, ◌++◌, ◌<◌, ◌/◌, ◌%◌, ◌^◌, ◌↔◌, not, [], ◌∷◌, All, IfOk, IsTrue};
+ghost use Rattle.std.specs.Prelude.{◌≡◌, ◌++◌, ◌<◌, ◌/◌, ◌%◌, ◌^◌, ◌↔◌, not, nat_eq, [], ◌∷◌, All, IfOk, IsTrue};
+ghost use Rattle.std.specs.Cmp.Lexicographic.{pointwise};
 ghost use Rattle.tq_shape.specs.Tree.{IsServer};
-ghost use Rattle.tq_shape.specs.ServerSet.{AreBelow, Ascends, has_number, numbered, first_of};
+ghost use Rattle.tq_shape.specs.ServerSet.{AreBelow, Ascends, has_number, have_same_numbers, numbered, first_of};
 ghost use Rattle.tq_shape.specs.ServerSet.{set_with, set_with_last, set_without};
 
 use crate::words::Words;
@@ -114,6 +115,19 @@ impl ServerSet {
         self.first().is_none()
     }
 
+    /// Whether both sets have servers of the same numbers.
+    pub fn has_numbers_of(&self, other: &ServerSet) -> bool
+        ensures { result ≡ pointwise nat_eq self.now.numbers other.now.numbers }
+    {
+        // Equal words tell it at once.
+        if self.words.first() == other.words.first() {
+            if self.words.more() == other.words.more() {
+                return true;
+            }
+        }
+        have_same_numbers(self.iter(), other.iter())
+    }
+
     /// The servers, upwards.
     pub fn iter(&self) -> ServerSetIter<'_>
         ensures servers { result ≡ numbered self.now.levels self.now.numbers }
@@ -185,6 +199,22 @@ impl<'a> Iterator for ServerSetIter<'a> {
         let number = base + u64::from(word.trailing_zeros());
         Some(ServerId::new(self.levels, number))
     }
+}
+
+/// Whether both walks come to servers of the same numbers.
+fn have_same_numbers(one: ServerSetIter<'_>, other: ServerSetIter<'_>) -> bool
+    ensures { result ≡ have_same_numbers one.entry other.entry }
+{
+    let mut left = other;
+    for server in one {
+        let Some(next) = left.next() else {
+            return false;
+        };
+        if next.number() != server.number() {
+            return false;
+        }
+    }
+    left.next().is_none()
 }
 
 /// The place of the word that has a server's bit.
