@@ -65,7 +65,8 @@ impl<P: Answers> Cell<P> {
         ask: P::Ask,
     ) -> Result<Receipt<P>, CallFault>
         ensures asked { IfOk result (λ r. (r.part ≡ self.now) × (r.ask ≡ ask)) }
-        ensures reply { IfOk result (λ r. IsToldBy P.reply P.after P.opening r.number r.ask r.reply) }
+        ensures reply { IfOk result
+            (λ r. IsToldBy P.reply P.after P.opening r.number r.ask r.reply) }
         ensures pass { IfOk result (λ r. pass.new.receipts ≡ pass.old.receipts ++ r ∷ []) }
         ensures seen { IfOk result (λ r. pass.new.seen ≡ max pass.old.seen r.number) }
         ensures err { OnErr result (pass.new ≡ pass.old) }
@@ -119,7 +120,8 @@ impl<P: Answers> Cell<P> {
         number: u64,
     ) -> Result<Vec<Entry<P::Ask, P::Reply>>, Memory>
         ensures entries { IfOk result (λ v. (s : P) × (journal : List (Entry P.Ask P.Reply))
-            × IsLegalFrom P.reply P.after (P.opening s) 1 journal × (v.items ≡ drop number journal)) }
+            × IsLegalFrom P.reply P.after (P.opening s) 1 journal
+            × (v.items ≡ drop number journal)) }
         ensures receipts { pass.new.receipts ≡ pass.old.receipts }
         ensures seen { IfOk result (λ v. pass.new.seen
             ≡ max pass.old.seen (last_behind number (vec_len v))) }

@@ -45,7 +45,8 @@ fn push_digits(text: &mut Vec<u8>, number: u64)
 fn push_pair(text: &mut Vec<u8>, number: u64)
     requires few { number < 100 }
     requires room { vec_len text.old + 2 ≤ vec_capacity text.old }
-    ensures items { text.new.items ≡ text.old.items ++ (48 + number / 10) ∷ (48 + number % 10) ∷ [] }
+    ensures items { text.new.items
+        ≡ text.old.items ++ (48 + number / 10) ∷ (48 + number % 10) ∷ [] }
     ensures len { vec_len text.new ≡ vec_len text.old + 2 }
     ensures capacity { vec_capacity text.new ≡ vec_capacity text.old }
 {

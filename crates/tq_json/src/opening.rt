@@ -12,7 +12,8 @@ use json::{Reader, Token};
 /// Takes the bracket of an array, where that is the next value; takes any other value whole.
 pub fn open_array(reader: &mut Reader<'_>, depth: usize) -> Result<bool, NotRead>
     ensures ok { IfOk result (λ opened. MatchBool opened
-        ((0 < depth) × (next depth reader.old ≡ parse_map array (next_items (depth - 1) reader.new)))
+        ((0 < depth)
+        × (next depth reader.old ≡ parse_map array (next_items (depth - 1) reader.new)))
         (Found (λ d b. as_array d ≡ None) (next depth reader.old) reader.new opened)) }
     ensures err { result ≡ Err NotRead.NotJson → next depth reader.old ≡ None }
     ensures shorter { OnOk result (length reader.new < length reader.old) }
@@ -31,7 +32,8 @@ pub fn open_array(reader: &mut Reader<'_>, depth: usize) -> Result<bool, NotRead
 /// Takes the brace of an object, where that is the next value; takes any other value whole.
 pub fn open_object(reader: &mut Reader<'_>, depth: usize) -> Result<bool, NotRead>
     ensures ok { IfOk result (λ opened. MatchBool opened
-        ((0 < depth) × (next depth reader.old ≡ parse_map object (next_members (depth - 1) reader.new)))
+        ((0 < depth)
+        × (next depth reader.old ≡ parse_map object (next_members (depth - 1) reader.new)))
         (Found (λ d b. HasNoNames d) (next depth reader.old) reader.new opened)) }
     ensures err { result ≡ Err NotRead.NotJson → next depth reader.old ≡ None }
     ensures shorter { OnOk result (length reader.new < length reader.old) }

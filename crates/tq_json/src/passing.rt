@@ -28,7 +28,8 @@ pub(crate) fn pass_rest(
     token: Token<'_>,
     depth: usize,
 ) -> Result<(), NotRead>
-    ensures ok { IfOk result (Found (λ d u. ⊤) (next_from depth token.entry reader.old) reader.new) }
+    ensures ok { IfOk result
+        (Found (λ d u. ⊤) (next_from depth token.entry reader.old) reader.new) }
     ensures err { result ≡ Err NotRead.NotJson → next_from depth token.entry reader.old ≡ None }
     ensures shorter { OnOk result (length reader.new ≤ length reader.old) }
 {
@@ -89,7 +90,8 @@ fn pass_open(reader: &mut Reader<'_>, kind: bool, depth: usize) -> Result<(), No
 #[inline(always)]
 fn take_end(reader: &mut Reader<'_>, kind: bool) -> Result<bool, NotRead>
     ensures ok { IfOk result
-        (λ over. MatchBool over (Ends kind reader.old reader.new) (GoesOn kind reader.old reader.new)) }
+        (λ over. MatchBool over
+        (Ends kind reader.old reader.new) (GoesOn kind reader.old reader.new)) }
     ensures err { result ≡ Err NotRead.NotJson → Fails kind reader.old }
     ensures shorter { OnOk result (length reader.new ≤ length reader.old) }
     ensures end { IfOk result (λ over. OnTrue over (length reader.new < length reader.old)) }

@@ -14,7 +14,8 @@ use tq_shape::Entry;
 const ENTRY_NAMES: &[&str] = &["ask", "reply"];
 
 impl<'a, A: FromReader<'a>, R: FromReader<'a>> FromReader<'a> for Entry<A, R> {
-    ghost at = { λ plan. made_by (entry (λ value. A.at plan (Some value)) (λ value. R.at plan (Some value))) };
+    ghost at = { λ plan. made_by
+        (entry (λ value. A.at plan (Some value)) (λ value. R.at plan (Some value))) };
 
     ghost none = { λ plan. refl };
 

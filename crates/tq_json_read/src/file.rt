@@ -72,7 +72,8 @@ struct ServerJournals {
 }
 
 impl<'a> FromReader<'a> for ServerJournals {
-    ghost at = { λ plan o. option_map (λ lists. record { lists = lists }) (slots.server_lists plan o) };
+    ghost at = { λ plan o. option_map
+        (λ lists. record { lists = lists }) (slots.server_lists plan o) };
 
     ghost none = { λ plan. refl };
 

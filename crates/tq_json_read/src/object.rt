@@ -41,7 +41,8 @@ pub(crate) trait Slots<'a>: Sized + Drop {
         depth: usize,
     ) -> Result<(), NotRead>
         ensures ok { (values : Values) → self.old ≡ of plan.now values → IfOk result
-            (Found (λ d u. self.new ≡ of plan.now (filled place d values)) (next depth reader.old) reader.new) }
+            (Found (λ d u. self.new ≡ of plan.now (filled place d values))
+            (next depth reader.old) reader.new) }
         ensures err { result ≡ Err NotRead.NotJson → next depth reader.old ≡ None }
         ensures shorter { OnOk result (length reader.new < length reader.old) };
 }
@@ -74,7 +75,8 @@ impl<'a> Slots<'a> for () {
 impl<'a, T: FromReader<'a>, R: Slots<'a>> Slots<'a> for (Option<T>, R) {
     ghost use Rattle.std.specs.Prelude.{zero, suc};
 
-    ghost of = { λ plan values. (T.at plan (values zero), R.of plan (λ place. values (suc place))) };
+    ghost of = { λ plan values.
+        (T.at plan (values zero), R.of plan (λ place. values (suc place))) };
 
     fn empty(plan: &Plan) -> (Option<T>, R) {
         (None, R::empty(plan))
@@ -169,7 +171,8 @@ fn take_member<'a, S: Slots<'a>>(
     depth: usize,
 ) -> Result<usize, NotRead>
     requires { IsTrue (are_distinct (texts names.now)) }
-    ensures ok { (found : Names) → slots.old ≡ S.of plan.now (slots_for names.now found) → IfOk result
+    ensures ok { (found : Names) → slots.old ≡ S.of plan.now (slots_for names.now found)
+        → IfOk result
         (Found (λ d u. slots.new ≡ S.of plan.now (slots_for names.now (with name.now d found)))
         (next depth reader.old) reader.new) }
     ensures err { result ≡ Err NotRead.NotJson → next depth reader.old ≡ None }

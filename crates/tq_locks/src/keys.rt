@@ -212,7 +212,8 @@ fn make_plain_room(places: &mut SmallVec<usize, 6>) -> Result<(), AllocError>
 #[inline(never)]
 fn begin_blocks(places: &mut SmallVec<usize, 6>) -> Result<Box<Vec<usize>>, AllocError>
     requires { HasBlocks [] (small_vec_len places.old) }
-    ensures blocks { IfOk result (λ starts. HasBlocks starts.value.items (small_vec_len places.new)) }
+    ensures blocks { IfOk result
+        (λ starts. HasBlocks starts.value.items (small_vec_len places.new)) }
     ensures room { IfOk result (λ starts. HasRoomBehind starts.value.items places.new) }
     ensures same { IfOk result (λ starts. turned starts.value.items places.new.items
         ≡ places.old.items) }

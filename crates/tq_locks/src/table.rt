@@ -187,7 +187,8 @@ impl LockTable {
         number: u64,
         version: u64,
     ) -> Result<LockOutcome, AllocError>
-        ensures outcome { IfOk result (λ it. it ≡ outcome (blocker self.old.locks file.now txn mode)) }
+        ensures outcome { IfOk result
+            (λ it. it ≡ outcome (blocker self.old.locks file.now txn mode)) }
         ensures told { IfOk result (IsTold self.old.locks file.now txn mode) }
         ensures after { OnOk result (IsAsked self.old self.new file.now txn mode number version) }
         ensures no_conflict { HasNoConflict self.new.locks }

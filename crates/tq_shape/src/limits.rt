@@ -28,11 +28,19 @@ impl Model for Limits {
 
     ghost Value = { LimitsView };
 
-    ghost view = { λ limits. record { files = limits.files; ops = limits.ops; entries = limits.entries } };
+    ghost view = { λ limits. record {
+      files = limits.files;
+      ops = limits.ops;
+      entries = limits.entries;
+    } };
 
     ghost invariant = { λ limits. AreLimits limits.files limits.ops limits.entries };
 
-    ghost inverse = { λ limits. record { files = limits.files; ops = limits.ops; entries = limits.entries } };
+    ghost inverse = { λ limits. record {
+      files = limits.files;
+      ops = limits.ops;
+      entries = limits.entries;
+    } };
 }
 
 impl Limits {

@@ -105,8 +105,10 @@ impl ServerId {
     pub fn sides(self) -> Option<Sides>
         ensures leaf { IfNone result (height_at self ≡ 0) }
         ensures left_height { IfSome result (λ sides. height_at self ≡ suc (height_at sides.left)) }
-        ensures right_height { IfSome result (λ sides. height_at self ≡ suc (height_at sides.right)) }
-        ensures value { SomeIff result (IsServer self.levels (left_of self.number)) (sides_of self) }
+        ensures right_height { IfSome result
+            (λ sides. height_at self ≡ suc (height_at sides.right)) }
+        ensures value { SomeIff result
+            (IsServer self.levels (left_of self.number)) (sides_of self) }
     {
         let number = self.number();
         if self.is_leaf() {

@@ -72,7 +72,8 @@ impl ServerSet {
         requires { server.levels ≡ self.old.levels }
         ensures new { result ≡ not (has_number self.old.numbers server.number) }
         ensures after { self.new ≡ set_with server.number self.old }
-        ensures last { AreBelow server.number self.old.numbers → self.new ≡ set_with_last server.number self.old }
+        ensures last { AreBelow server.number self.old.numbers
+            → self.new ≡ set_with_last server.number self.old }
     {
         let place = place_of(server);
         let bit = bit_of(server);

@@ -32,7 +32,8 @@ fn are_voted(writes: &[&Op], votes: &[Vote]) -> bool
 
 /// The write ops, ascending by file; those of one file stay in their order.
 fn writes_by_file<'a>(alloc: Global, ops: &'a [Op]) -> Result<Vec<&'a Op>, Memory>
-    ensures { IfOk result (λ writes. map (λ op. op.now) writes.items ≡ spec.writes_by_file ops.now) }
+    ensures { IfOk result
+        (λ writes. map (λ op. op.now) writes.items ≡ spec.writes_by_file ops.now) }
 {
     let mut writes = write_ops(alloc, ops)?;
     writes.sort_by_key(|op| op.file)?;
@@ -41,7 +42,8 @@ fn writes_by_file<'a>(alloc: Global, ops: &'a [Op]) -> Result<Vec<&'a Op>, Memor
 
 /// The write ops, in their order.
 fn write_ops<'a>(alloc: Global, ops: &'a [Op]) -> Result<Vec<&'a Op>, Memory>
-    ensures { IfOk result (λ writes. map (λ op. op.now) writes.items ≡ filter spec.is_write ops.now) }
+    ensures { IfOk result
+        (λ writes. map (λ op. op.now) writes.items ≡ filter spec.is_write ops.now) }
 {
     let mut writes = Vec::new(alloc);
     for op in ops {
