@@ -453,10 +453,11 @@ impl Node {
             return Some(NodeRefusal::NotLocked { file });
         }
         // Where there is a write, it holds the lock of that.
-        if writes.is_empty() {
-            if self.locks.holds_nothing(txn) {
-                return Some(NodeRefusal::NothingHere);
-            }
+        if !writes.is_empty() {
+            return None;
+        }
+        if self.locks.holds_nothing(txn) {
+            return Some(NodeRefusal::NothingHere);
         }
         None
     }
