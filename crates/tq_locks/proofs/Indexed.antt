@@ -1,5 +1,5 @@
 -- The list of a name, where the map has it at an index.
-use Rattle.std.proofs.Common.{◌≡◌, ◌∙◌, ◌<◌, ◌≤◌, ℕ, zero, suc, Bool, true, false, cond, List, [], ◌∷◌, length, Some, None, slice_get, Result, Ok, Err, OnOk, refl, ap, sym, subst, arith}
+use Rattle.std.proofs.Common.{◌≡◌, ◌∙◌, ◌<◌, ◌≤◌, ℕ, zero, suc, Bool, true, false, cond, List, [], ◌∷◌, length, Some, None, slice_get, Result, Ok, Err, OnErr, OnOk, refl, ap, sym, subst, arith}
 use Rattle.std.specs.Bool.{OnTrue}
 use Rattle.std.specs.Cmp.{IsEquivalence}
 use Rattle.std.specs.List.{insert}
@@ -120,3 +120,7 @@ OnTrue-to P false f = tt
 pub OnOk-to : {A E : Type 0} (P Q : Type 0) (r : Result A E) → OnOk r P → (P → Q) → OnOk r Q
 OnOk-to P Q (Ok x) p f = f p
 OnOk-to P Q (Err x) p f = tt
+
+pub OnErr-to : {A E : Type 0} (P Q : Type 0) (r : Result A E) → OnErr r P → (P → Q) → OnErr r Q
+OnErr-to P Q (Ok x) p f = tt
+OnErr-to P Q (Err x) p f = f p

@@ -17,6 +17,7 @@ use std::hash::Hash;
 use tq_store::BoundedIndexMap;
 
 /// The keys under a name, in any order.
+#[inline(always)]
 pub(crate) fn listed_under<'a, K: Ord + Hash>(
     lists: &'a BoundedIndexMap<K, Keys>,
     name: &K,
@@ -98,11 +99,7 @@ pub(crate) fn enter_under<K: Ord + Hash + Copy + Drop>(
 {
     match spot.index {
         Some(index) => match lists.get_index_mut(index) {
-            Some(keys) => {
-                keys.make_room()?;
-                keys.put(spot.place, key);
-                Ok(())
-            }
+            Some(keys) => keys.enter(spot.place, key),
             None => Ok(()),
         },
         None => begin_under(alloc, lists, name, key),

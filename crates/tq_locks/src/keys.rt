@@ -150,6 +150,27 @@ impl Keys {
         }
     }
 
+    /// Puts a key into its place. Without memory the keys stay as they were.
+    #[inline(always)]
+    pub(crate) fn enter(&mut self, place: usize, key: usize) -> Result<(), AllocError>
+        requires { place ≤ length self.old.items }
+        ensures ok { OnOk result (self.new.items ≡ insert self.old.items place key) }
+        ensures err { OnErr result (self.new.items ≡ self.old.items) }
+    {
+        // Most often it goes behind few others, where there is room.
+        if place == self.places.len() {
+            if place < BLOCK {
+                if place < self.places.capacity() {
+                    self.places.push_reserved(key);
+                    return Ok(());
+                }
+            }
+        }
+        self.make_room()?;
+        self.put(place, key);
+        Ok(())
+    }
+
     /// Takes the last key out.
     #[inline(always)]
     pub(crate) fn pop(&mut self) -> Option<usize>

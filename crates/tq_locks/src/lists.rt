@@ -55,21 +55,22 @@ pub(crate) fn place(entries: &LockSlab, list: Option<&Keys>, file: &FileName, tx
     if keys.len() == 0 {
         return 0;
     }
-    place_within(entries, &keys.lend(), file, txn)
+    place_within(entries, keys, file, txn)
 }
 
 /// The same, where the list may be long.
 #[inline(never)]
-fn place_within(entries: &LockSlab, keys: &LentKeys<'_>, file: &FileName, txn: u64) -> usize
-    ensures within { result ≤ length keys.now }
-    ensures place { RisesTo entries.now keys.now (file.now, txn) result }
+fn place_within(entries: &LockSlab, keys: &Keys, file: &FileName, txn: u64) -> usize
+    ensures within { result ≤ length keys.now.items }
+    ensures place { RisesTo entries.now keys.now.items (file.now, txn) result }
 {
+    let lent = keys.lend();
     let mut low = 0;
-    let mut high = keys.len();
+    let mut high = lent.len();
     // Most often a lock goes behind those that are there.
     let mut at = high.saturating_sub(1);
     while low < high {
-        if is_below_at(entries, keys, at, file, txn) {
+        if is_below_at(entries, &lent, at, file, txn) {
             low = at + 1;
         } else {
             high = at;
@@ -100,7 +101,7 @@ fn leave_within(keys: &mut Keys, entries: &LockSlab, entry: &LockEntry, key: usi
     ensures place { RisesTo entries.now keys.old.items entry.now.0 result }
     ensures after { keys.new.items ≡ remove keys.old.items result }
 {
-    let place = place_within(entries, &keys.lend(), &entry.file, entry.txn);
+    let place = place_within(entries, keys, &entry.file, entry.txn);
     keys.take_out(place);
     place
 }

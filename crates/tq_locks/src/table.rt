@@ -212,6 +212,7 @@ impl LockTable {
     }
 
     /// A walk of a transaction's locks, ascending by file.
+    #[inline(always)]
     pub fn locks_of(&self, txn: u64) -> HeldLocks<'_>
         ensures { result ≡ held_of self.now.locks txn }
     {

@@ -1,18 +1,18 @@
 -- Where a walk of a transaction's locks comes to one for each write, it holds them all exclusively.
-use Rattle.std.proofs.Common.{◌≡◌, ◌==◌, ◌&&◌, ℕ, Bool, true, false, cond, not, List, [], ◌∷◌, Option, Some, None, refl, sym, ap, ◌∙◌, inl, inr}
-use Rattle.std.proofs.lemmas.Bool.{eqb-true, false≢true}
+use Rattle.std.proofs.Common.{◌≡◌, ◌==◌, ◌&&◌, ℕ, Bool, true, false, cond, not, List, [], ◌∷◌, length, Option, Some, None, refl, sym, ap, ◌∙◌, inl, inr}
+use Rattle.std.proofs.lemmas.Bool.{eq-eqb, eqb-true, false≢true}
 use Rattle.std.specs.Cmp.Lexicographic.{same_text}
 use Rattle.std.specs.FinMap as fin
 use Rattle.std.specs.List.{find}
 use Rattle.std.specs.Option.{option_map, option_map_or}
-use Rattle.tq_shape.specs.Journal.{Has}
-use Rattle.tq_shape.proofs.Places.{Has-filter}
+use Rattle.tq_shape.specs.Journal.{Has, is_empty}
+use Rattle.tq_shape.proofs.Places.{Has-filter, filter-Has}
 use Rattle.tq_store.specs.Names.{same_name}
 use Rattle.tq_store.specs.declared.write.Write.{Write}
-use Rattle.tq_locks.specs.Locks.{LockKey, is_exclusive, held_of}
+use Rattle.tq_locks.specs.Locks.{LockKey, is_exclusive, held_of, holds_nothing}
 use Rattle.tq_locks.specs.declared.mode.Lock.{Lock}
 use Rattle.tq_locks.proofs.LockMaps.{locks_total, locks_same}
-use Rattle.tq_locks.proofs.Found.{get-entry_of}
+use Rattle.tq_locks.proofs.Found.{entry_of, get-entry_of, none_some}
 use Rattle.tq_node.specs.Records.{Records, holds_exclusively, not_locked}
 use Rattle.tq_node.specs.Walks.{all_held}
 
@@ -42,3 +42,22 @@ module _ (old : Records) (txn : ℕ) where
 
   pub all_locked : (writes : List Write) → all_held (held_of old.locks txn) writes ≡ true → not_locked old txn writes ≡ None
   all_locked writes h = ap (option_map (λ (w : Write). w.file)) (none_free (held_of old.locks txn) writes (λ e m. m) h)
+
+  something_there : (entry : LockKey × Lock) (all : List (LockKey × Lock)) → Has all entry → is_empty all ≡ false
+  something_there entry [] h = absurd h
+  something_there entry (first ∷ rest) h = refl
+
+  held_one : (write : Write) (found : Option Lock) → fin.get old.locks (write.file, txn) ≡ found → option_map_or (λ (lock : Lock). is_exclusive lock.mode) found false ≡ true → holds_nothing old.locks txn ≡ false
+  held_one write None at h = absurd (false≢true h)
+  held_one write (Some lock) at h =
+      something_there ((write.file, txn), lock) (held_of old.locks txn)
+      (filter-Has (λ (e : LockKey × Lock). e.0.1 == txn) (fin.entries old.locks) ((write.file, txn), lock) (entry_of locks_total locks_same old.locks (write.file, txn) lock at) (eq-eqb txn txn refl))
+
+  -- who holds the file of a write exclusively holds something
+  pub holds_some : (writes : List Write) → (length writes == 0) ≡ false → not_locked old txn writes ≡ None → holds_nothing old.locks txn ≡ false
+  holds_some [] some h = absurd (false≢true (sym some))
+  holds_some (write ∷ writes) some h = by_lock (holds_exclusively old txn write.file) refl h
+    where
+      by_lock : (b : Bool) → holds_exclusively old txn write.file ≡ b → option_map (λ (w : Write). w.file) (cond (not b) (Some write) (find free writes)) ≡ None → holds_nothing old.locks txn ≡ false
+      by_lock true e n = held_one write (fin.get old.locks (write.file, txn)) refl e
+      by_lock false e n = absurd (none_some write.file (sym n))

@@ -452,6 +452,10 @@ impl Node {
         if let Some(file) = self.not_locked(txn, writes) {
             return Some(NodeRefusal::NotLocked { file });
         }
+        // Where there is a write, it holds the lock of that.
+        if !writes.is_empty() {
+            return None;
+        }
         if self.locks.holds_nothing(txn) {
             return Some(NodeRefusal::NothingHere);
         }
@@ -579,12 +583,12 @@ impl Node {
         ensures { IfOk result (λ it. it ≡ spec.newer_writes self.now.state.records writes.now) }
     {
         let list = writes.as_slice();
-        let mut newer = Vec::new(alloc);
+        let mut newer = Vec::with_capacity(alloc, list.len())?;
         for place in 0..list.len() {
             let write = &list[place];
             if self.copies.get(&write.file).version < write.version {
                 let write = SharedWrite::at(writes.clone()?, place);
-                newer.push(NewerWrite::of(write)?)?;
+                newer.push_reserved(NewerWrite::of(write)?);
             }
         }
         Ok(Seq::from_vec(newer))

@@ -19,10 +19,11 @@ pub(crate) fn locks_of(
     ensures held { IfOk result (λ locks. locks.0 ≡ spec.held_locks_of table.now.locks txn) }
     ensures kept { IfOk result (λ locks. locks.1 ≡ spec.kept_locks_of table.now.locks txn) }
 {
-    let count = table.keys_of_txn(txn).len();
+    let locks = table.locks_of(txn);
+    let count = locks.most();
     let mut held = Vec::with_capacity(alloc, count)?;
     let mut versions = LockVersions::with_capacity(alloc, count)?;
-    for entry in table.locks_of(txn) {
+    for entry in locks {
         held.push_reserved(HeldLock {
             file: entry.file,
             mode: entry.lock.mode,

@@ -92,6 +92,7 @@ impl Copies {
     }
 
     /// The copy of a file, of version 0 and empty where it was never written.
+    #[inline(always)]
     pub fn get(&self, name: &FileName) -> &FileCopy
         ensures { result.now ≡ copy_of self.now.files name.now }
     {

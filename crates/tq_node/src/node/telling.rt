@@ -110,7 +110,7 @@ impl Node {
             return self.tell_refusal(alloc, number, NodeRefusal::Down);
         }
         match ask.get() {
-            WorkAsk::Lock { txn, file, mode } => self.tell_lock(alloc, number, *txn, *file, *mode),
+            WorkAsk::Lock { txn, file, mode } => self.tell_lock(alloc, number, *txn, file, *mode),
             WorkAsk::Prepare { txn, writes } => self.tell_vote(alloc, number, *txn, writes),
             WorkAsk::Decide { txn, verdict, cite } => {
                 self.tell_end(alloc, number, *txn, verdict, *cite)
@@ -122,7 +122,7 @@ impl Node {
                 version,
                 content,
                 from,
-            } => self.tell_refresh(alloc, number, ask, *file, *version, content, *from),
+            } => self.tell_refresh(alloc, number, ask, file, *version, content, *from),
         }
     }
 
@@ -151,22 +151,22 @@ impl Node {
         alloc: Global,
         number: u64,
         txn: u64,
-        file: FileName,
+        file: &FileName,
         mode: Mode,
     ) -> Result<Telling, Memory>
         requires rises { self.old.last < number }
         requires up { self.old.state.records.down ≡ false }
-        ensures told { IfOk result (IsLockTold self.old self.new number txn file mode) }
+        ensures told { IfOk result (IsLockTold self.old self.new number txn file.now mode) }
         ensures err { OnErr result (self.new ≡ self.old) }
     {
         if self.intents.of(txn).is_some() {
             return self.tell_refusal(alloc, number, NodeRefusal::Prepared);
         }
-        let copy = self.copies.get(&file);
+        let copy = self.copies.get(file);
         let version = copy.version;
         let content = copy.content.clone()?;
         let told = copy.content.clone()?;
-        let outcome = self.locks.ask(alloc, txn, &file, mode, number, version)?;
+        let outcome = self.locks.ask(alloc, txn, file, mode, number, version)?;
         if let LockOutcome::Held { by } = outcome {
             return self.tell_refusal(alloc, number, NodeRefusal::Held { by });
         }
@@ -300,13 +300,13 @@ impl Node {
         alloc: Global,
         number: u64,
         ask: &Shared<WorkAsk>,
-        file: FileName,
+        file: &FileName,
         version: u64,
         content: &Content,
         _from: CitedVote,
     ) -> Result<Telling, Memory>
         requires rises { self.old.last < number }
-        requires ask { ask.now ≡ WorkAsk.Refresh file version content.now _from }
+        requires ask { ask.now ≡ WorkAsk.Refresh file.now version content.now _from }
         requires up { self.old.state.records.down ≡ false }
         ensures told { IfOk result (IsWorkTold self.old self.new number ask.now) }
         ensures err { OnErr result (self.new ≡ self.old) }
@@ -315,7 +315,7 @@ impl Node {
         let written = SharedWrite::told(ask.clone()?);
         self.copies.reserve(alloc, 1)?;
         self.intents.reserve(1)?;
-        if !self.copies.install_newer(file, version, kept) {
+        if !self.copies.install_newer(*file, version, kept) {
             return self.tell_refusal(alloc, number, NodeRefusal::NotNewer);
         }
         self.intents.push_copy(written);

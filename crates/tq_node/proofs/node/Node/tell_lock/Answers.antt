@@ -8,4 +8,4 @@ pub invariant_of-self-in_default : goal.invariant_of-self-in_default
 invariant_of-self-in_default c =
     let inside = c.self.inside in
     subst (λ (table : Locks). IsSound inside.intents.records inside.last inside.copies.files table) (sym c.in_ok-outcome.ensures.after)
-    (sound-asked inside.intents.records inside.last inside.copies.files inside.locks.locks c.self.invariant c.args.file c.args.txn c.args.mode c.args.number _ (search rules))
+    (sound-asked inside.intents.records inside.last inside.copies.files inside.locks.locks c.self.invariant c.args.file.now c.args.txn c.args.mode c.args.number _ (search rules))

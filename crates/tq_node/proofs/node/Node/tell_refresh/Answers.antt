@@ -13,7 +13,7 @@ use Rattle.tq_node.proofs.node.Node.tell_refresh.Goals as goal
 pub invariant_of-self-2 : goal.invariant_of-self-2
 invariant_of-self-2 c =
     let inside = c.self.inside in
-    let write : Write = record { file = c.args.file; version = c.args.version; content = c.args.content.now } in
+    let write : Write = record { file = c.args.file.now; version = c.args.version; content = c.args.content.now } in
     let stored : c.in_ok-kept.kept ≡ c.args.content.now = search rules in
     let shared : c.in_ok-clone.field-0 ≡ c.args.ask.now = search rules in
     let told : c.told-written.result ≡ write = c.told-written.ensures ∙ ap told_write (shared ∙ c.requires.ask) in
