@@ -1,4 +1,4 @@
-use Rattle.std.proofs.Common.{◌≡◌, ◌-◌, length, arith, ap}
+use Rattle.std.proofs.Common.{arith, ap}
 use Rattle.std.specs.Map.{lookup}
 use Rattle.std.specs.BTreeMap.{is_at}
 use Rattle.tq_store.proofs.Placed.{last_there, must_be_ok, placed_last, placed_moved}
