@@ -1,30 +1,21 @@
 -- The bytes of a name are ASCII, so that a name is text.
-use Rattle.std.proofs.Common.{◌≡◌, ℕ, ◌<◌, List, [], ◌∷◌, Bool, true, ◌&&◌, refl, arith, IsTrue}
+use Rattle.std.proofs.Common.{◌≡◌, ℕ, List, [], ◌∷◌, true, refl, IsTrue}
 use Rattle.std.specs.Prelude.{Result, Ok, Err, IsOk, MatchResult}
-use Rattle.std.proofs.lemmas.Bool.Decides.{nat_tests}
 use Rattle.std.proofs.lemmas.Str.Ascii.{IsAscii-cons, IsAscii-nil}
 use Rattle.std.specs.List.{list_all}
 use Rattle.std.specs.Str.{IsAscii, IsUtf8}
 use Rattle.std.proofs.lemmas.Str.{IsUtf8-from_ascii}
-use Rattle.tq_store.specs.Names.{is_name_byte, is_file_name, starts_with_letter}
-use Rattle.std.specs.Prelude.{nat_le, length}
-
-small : (c : ℕ) → is_name_byte c ≡ true → c < 128
-small c h = grind (arith, nat_tests, h)
-
-both : (a b : Bool) → (a && b) ≡ true → (a ≡ true) × (b ≡ true)
-both a b h = grind (arith, nat_tests, h)
+use Rattle.tq_store.specs.Names.{is_name_byte, is_file_name}
+use Rattle.tq_store.proofs.Padded.{both, byte_of_name, bytes_of_name}
 
 ascii_bytes : (name : List ℕ) → list_all is_name_byte name ≡ true → IsAscii name
 ascii_bytes [] h = IsAscii-nil
 ascii_bytes (c ∷ rest) h =
     let parts = both (is_name_byte c) (list_all is_name_byte rest) h in
-    IsAscii-cons c rest (small c parts.0) (ascii_bytes rest parts.1)
+    IsAscii-cons c rest (byte_of_name c parts.0).1 (ascii_bytes rest parts.1)
 
 pub IsUtf8-name : (name : List ℕ) → IsTrue (is_file_name name) → IsUtf8 name
-IsUtf8-name name h =
-    let bytes = (both (starts_with_letter name && list_all is_name_byte name) (nat_le (length name) 32) h).0 in
-    IsUtf8-from_ascii name (ascii_bytes name (both (starts_with_letter name) (list_all is_name_byte name) bytes).1)
+IsUtf8-name name h = IsUtf8-from_ascii name (ascii_bytes name (bytes_of_name name h))
 
 -- a call that fails only where a fact doesn't hold
 pub succeeds : {T E : Type 0} (r : Result T E) (P : T → Type 0) (U : Type 0) (Q : E → Type 0) → MatchResult r P (λ e. (U → ⊥) × Q e) → U → IsOk r

@@ -11,14 +11,14 @@ use Rattle.std.specs.List.{list_all, position_or_len}
 use Rattle.std.specs.Ordering.{nat_cmp, ordering_then}
 use Rattle.tq_store.specs.Names.{is_file_name, is_name_byte, name_in, padded, starts_with_letter}
 
-both : (a b : Bool) → (a && b) ≡ true → (a ≡ true) × (b ≡ true)
+pub both : (a b : Bool) → (a && b) ≡ true → (a ≡ true) × (b ≡ true)
 both a b h = grind (arith, nat_tests, h)
 
 -- a byte of a name is no zero, and small
-byte_of_name : (c : ℕ) → is_name_byte c ≡ true → (0 < c) × (c < 256)
+pub byte_of_name : (c : ℕ) → is_name_byte c ≡ true → (0 < c) × (c < 128)
 byte_of_name c h = grind (arith, nat_tests, h)
 
-bytes_of_name : (name : List ℕ) → IsTrue (is_file_name name) → list_all is_name_byte name ≡ true
+pub bytes_of_name : (name : List ℕ) → IsTrue (is_file_name name) → list_all is_name_byte name ≡ true
 bytes_of_name name h = (both (starts_with_letter name) (list_all is_name_byte name) (both (starts_with_letter name && list_all is_name_byte name) (nat_le (length name) 32) h).0).1
 
 pub fits_name : (name : List ℕ) → IsTrue (is_file_name name) → length name ≤ 32
@@ -64,7 +64,7 @@ small_zeros (suc n) (suc k) = small_zeros n k
 
 small_bytes : (name : List ℕ) (n k : ℕ) → list_all is_name_byte name ≡ true → slice_index (name ++ replicate n 0) k < 256
 small_bytes [] n k h = small_zeros n k
-small_bytes (c ∷ rest) n zero h = (byte_of_name c (both (is_name_byte c) (list_all is_name_byte rest) h).0).1
+small_bytes (c ∷ rest) n zero h = omega (arith, (byte_of_name c (both (is_name_byte c) (list_all is_name_byte rest) h).0).1)
 small_bytes (c ∷ rest) n (suc k) h = small_bytes rest n k (both (is_name_byte c) (list_all is_name_byte rest) h).1
 
 pub byte-padded : (name : List ℕ) → IsTrue (is_file_name name) → (k : ℕ) → slice_index (padded name) k < 256

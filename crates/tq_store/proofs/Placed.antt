@@ -1,13 +1,17 @@
 -- The place of a key in a list of keys, and how an ordered map keeps it.
-use Rattle.std.proofs.Common.{◌≡◌, ◌≢◌, Result, Ok, Err, OnErr, OnOk, IsOk, is_err, drop, take-append-drop, ◌+◌, ◌-◌, ◌<◌, ◌≤◌, ℕ, Bool, true, false, cond, List, [], ◌∷◌, ◌++◌, length, get_or, take, Option, Some, None, position, nat_lt, refl, sym, ap, ◌∙◌, true≢false, is_some, unwrap_or, arith, lt-ltb, le-ltb, ltb-true, ltb-false, take_all, length-take-le, get_or-take, is_eq, length-append}
+use Rattle.std.proofs.Common.{◌≡◌, ◌≢◌, Result, Ok, Err, OnErr, IsOk, drop, take-append-drop, ◌+◌, ◌-◌, ◌<◌, ◌≤◌, ℕ, Bool, true, false, cond, List, [], ◌∷◌, ◌++◌, length, get_or, take, Option, Some, None, position, nat_lt, refl, sym, ap, ◌∙◌, true≢false, is_some, unwrap_or, arith, inl, inr, lt-ltb, le-ltb, ltb-true, ltb-false, take_all, length-take-le, get_or-take, is_eq, length-append}
 use Rattle.indexmap.proofs.MapLemmas.{distinct_from_apart, some_index}
-use Rattle.std.proofs.lemmas.List.{get_or_default, take_more, get_or_push, get_or_append_left, take-append-le}
+use Rattle.std.proofs.lemmas.Bool.Decides.{eqb_tells}
+use Rattle.std.proofs.lemmas.Grind.{get_or-set_at}
+use Rattle.std.proofs.lemmas.List.{get_or_default, take_more, get_or_push, get_or_append_left, get_or-set_other, take-append-le}
+use Rattle.std_collections.proofs.HashLookup.{length-swap_remove}
+use Rattle.tq_store.proofs.Opened.{distinct_removed}
 use Rattle.std.proofs.lemmas.List.Sums.{position_or_len_is, fails_before_first, passes_at_first}
 use Rattle.std.proofs.lemmas.Map.Keys.{apart_from_distinct}
 use Rattle.std.proofs.Math.Decide.{dec_lt}
 use Rattle.std.specs.Cmp.{IsEquivalence}
 use Rattle.std.specs.declared.cmp.Ordering.{Ordering}
-use Rattle.std.specs.List.{IsDistinct, position_or_len}
+use Rattle.std.specs.List.{IsDistinct, position_or_len, swap_remove}
 use Rattle.std.specs.Map.{keys_of, lookup}
 use Rattle.std.specs.BTreeMap as ordered
 use Rattle.std.specs.BTreeMap.{BTreeMap, is_at}
@@ -137,89 +141,82 @@ module _ {K : Type 0} (cmp : K → K → Ordering) (eq : K → K → Bool) where
 
 -- the last key goes to the place of one that is taken out
 module _ {K : Type 0} (cmp : K → K → Ordering) (eq : K → K → Bool) (o : IsEquivalence eq) (matches : (x y : K) → eq x y ≡ is_eq (cmp x y))
-    (old mid : BTreeMap K ℕ) (ks ls : List K) (p : ℕ) (k : K) (distinct : IsDistinct eq ks) (distinct_after : IsDistinct eq ls)
-    (within : p < length ks) (is : k ≡ get_or ks p k) (short : length ls + 1 ≡ length ks)
-    (moved : (d : K) → p + 1 < length ks → get_or ls p d ≡ get_or ks (length ks - 1) d)
-    (kept : (j : ℕ) (d : K) → j ≢ p → j + 1 < length ks → get_or ls j d ≡ get_or ks j d)
-    (placed : ArePlaced cmp eq old (length ks) ks) (removed : (q : K) → ordered.get cmp mid q ≡ cond (is_at (cmp k) q) None (ordered.get cmp old q)) where
+    (old mid : BTreeMap K ℕ) (ks : List K) (n p : ℕ) (k any : K) (distinct : IsDistinct eq ks) (within : p < length ks) (is : k ≡ get_or ks p k)
+    (all : n ≡ length ks) (placed : ArePlaced cmp eq old n ks) (removed : (q : K) → ordered.get cmp mid q ≡ cond (is_at (cmp k) q) None (ordered.get cmp old q)) where
+  -- the keys after it
+  abbrev ls : List K
+  ls = swap_remove ks p any
+
+  short : length ls ≡ n - 1
+  short = omega (arith, length-swap_remove ks p any within, all)
+
+  moved : (d : K) → p < n - 1 → get_or ls p d ≡ get_or ks (n - 1) d
+  moved d more =
+      get_or-take (length ks - 1) _ p d (omega (arith, more, all)) ∙ get_or-set_at ks p p (get_or ks (length ks - 1) any) d refl within
+      ∙ get_or_default ks (length ks - 1) any d (omega (arith, within)) ∙ ap (λ m. get_or ks (m - 1) d) (sym all)
+
+  kept : (j : ℕ) (d : K) → j ≢ p → j < n - 1 → get_or ls j d ≡ get_or ks j d
+  kept j d differ inner = get_or-take (length ks - 1) _ j d (omega (arith, inner, all)) ∙ get_or-set_other ks p j (get_or ks (length ks - 1) any) d differ
+
   mid_at : (q : K) → ordered.get cmp mid q ≡ cond (eq k q) None (position (eq q) ks)
   mid_at q =
       removed q ∙ ap (λ b. cond b None (ordered.get cmp old q)) (sym (matches k q))
-      ∙ ap (cond (eq k q) None) (placed.1 q ∙ ap (position (eq q)) (take_all (length ks) ks (omega arith)))
+      ∙ ap (cond (eq k q) None) (placed.1 q ∙ ap (position (eq q)) (take_all n ks (omega (arith, all))))
+
+  -- the key at p is k
+  is_k : (q : K) (j : ℕ) (d : K) → j ≡ p → eq q (get_or ks j d) ≡ eq k q
+  is_k q j d here = ap (λ i. eq q (get_or ks i d)) here ∙ ap (eq q) (sym (is ∙ get_or_default ks p k d within)) ∙ o.symm q k
 
   -- a key that is another than k has another place than it
   apart : (j : ℕ) (d : K) → j < length ks → j ≢ p → eq k (get_or ks j d) ≡ false
-  apart j d h differ =
-      elim (dec_lt j p) [
-        | yes below ↦ o.symm k (get_or ks j d) ∙ ap (eq (get_or ks j d)) (is ∙ get_or_default ks p k d within) ∙ apart_from_distinct eq ks j p d distinct below within
-        | no above ↦
-            elim (dec_lt p j) [
-              | yes beyond ↦ ap (λ x. eq x (get_or ks j d)) (is ∙ get_or_default ks p k d within) ∙ apart_from_distinct eq ks p j d distinct beyond h
-              | no same ↦ absurd (differ (omega (arith, above, same)))
-            ]
-      ]
+  apart j d h differ = by (eq k (get_or ks j d)) refl
+    where
+      by : (b : Bool) → eq k (get_or ks j d) ≡ b → eq k (get_or ks j d) ≡ false
+      by false e = e
+      by true e = absurd (differ (ap (λ r. unwrap_or r j) (sym (own_place o ks k j d distinct h e) ∙ own_place o ks k p k distinct within (ap (eq k) (sym is) ∙ o.refl k))))
 
   -- k is no more there
   gone : (q : K) → eq k q ≡ true → position (eq q) ls ≡ None
   gone q e =
       position_none (eq q) ls
-      (λ j d h. sym (o.congr k q (get_or ls j d) e) ∙ elim (dec_lt j p) [
-        | yes below ↦
-            let differ : j ≢ p = λ s. absurd (omega (arith, s, below)) in
-            ap (eq k) (kept j d differ (omega (arith, h, short))) ∙ apart j d (omega (arith, h, short)) differ
-        | no above ↦
-            elim (dec_lt p j) [
-              | yes beyond ↦
-                  let differ : j ≢ p = λ s. absurd (omega (arith, s, beyond)) in
-                  ap (eq k) (kept j d differ (omega (arith, h, short))) ∙ apart j d (omega (arith, h, short)) differ
-              | no same ↦
-                  let here : j ≡ p = omega (arith, above, same) in
-                  let more : p + 1 < length ks = omega (arith, here, h, short) in
-                  ap (λ i. eq k (get_or ls i d)) here ∙ ap (eq k) (moved d more) ∙ apart (length ks - 1) d (omega (arith, within)) (λ s. absurd (omega (arith, s, more)))
-            ]
+      (λ j d h. sym (o.congr k q (get_or ls j d) e) ∙ elim (eqb_tells j p) [
+        | inr differ ↦ ap (eq k) (kept j d differ.1 (omega (arith, h, short))) ∙ apart j d (omega (arith, h, short, all)) differ.1
+        | inl here ↦
+            let more : p < n - 1 = omega (arith, here.1, h, short) in
+            ap (λ i. eq k (get_or ls i d)) here.1 ∙ ap (eq k) (moved d more) ∙ apart (n - 1) d (omega (arith, within, all)) (λ s. absurd (omega (arith, s, more)))
       ])
 
   -- a key that is neither k nor the last keeps its place
-  other : (q : K) → eq k q ≡ false → ((d : K) → p < length ls → eq q (get_or ls p d) ≡ false) → position (eq q) ks ≡ position (eq q) ls
+  other : (q : K) → eq k q ≡ false → ((d : K) → p < n - 1 → eq q (get_or ks (n - 1) d) ≡ false) → position (eq q) ks ≡ position (eq q) ls
   other q not_k not_last = by (position (eq q) ls) refl
     where
-      not_here : (j : ℕ) → At (eq q) ls j → j ≢ p
-      not_here j at s =
-          true≢false (sym (at.passes k) ∙ ap (λ i. eq q (get_or ls i k)) s ∙ not_last k (omega (arith, s, at.within)))
-
       by : (r : Option ℕ) → position (eq q) ls ≡ r → position (eq q) ks ≡ r
       by (Some j) found =
           let at = At-position (eq q) ls j found in
-          let differ = not_here j at in
-          own_place o ks q j k distinct (omega (arith, at.within, short)) (ap (eq q) (sym (kept j k differ (omega (arith, at.within, short)))) ∙ at.passes k)
+          let differ : j ≢ p = λ s.
+          let more : p < n - 1 = omega (arith, s, at.within, short) in
+          true≢false (sym (at.passes k) ∙ ap (λ i. eq q (get_or ls i k)) s ∙ ap (eq q) (moved k more) ∙ not_last k more) in
+          own_place o ks q j k distinct (omega (arith, at.within, short, all)) (ap (eq q) (sym (kept j k differ (omega (arith, at.within, short)))) ∙ at.passes k)
       by None none =
           position_none (eq q) ks
-          (λ j d h. elim (dec_lt (j + 1) (length ks)) [
-            | yes inner ↦
-                elim (dec_lt j p) [
-                  | yes below ↦ ap (eq q) (sym (kept j d (λ s. absurd (omega (arith, s, below))) inner)) ∙ none_passes (eq q) ls none j d (omega (arith, inner, short))
-                  | no above ↦
-                      elim (dec_lt p j) [
-                        | yes beyond ↦ ap (eq q) (sym (kept j d (λ s. absurd (omega (arith, s, beyond))) inner)) ∙ none_passes (eq q) ls none j d (omega (arith, inner, short))
-                        | no same ↦
-                            let here : j ≡ p = omega (arith, above, same) in
-                            ap (λ i. eq q (get_or ks i d)) here ∙ ap (eq q) (sym (is ∙ get_or_default ks p k d within)) ∙ o.symm q k ∙ not_k
+          (λ j d h. elim (eqb_tells j p) [
+            | inl here ↦ is_k q j d here.1 ∙ not_k
+            | inr differ ↦
+                elim (dec_lt j (n - 1)) [
+                  | yes inner ↦ ap (eq q) (sym (kept j d differ.1 inner)) ∙ none_passes (eq q) ls none j d (omega (arith, inner, short))
+                  | no outer ↦
+                      let last : j ≡ n - 1 = omega (arith, outer, h, all) in
+                      elim (dec_lt p (n - 1)) [
+                        | yes more ↦ ap (λ i. eq q (get_or ks i d)) last ∙ not_last d more
+                        | no end ↦ absurd (differ.1 (omega (arith, last, end, within, all)))
                       ]
-                ]
-            | no outer ↦
-                let last : j ≡ length ks - 1 = omega (arith, outer, h) in
-                elim (dec_lt (p + 1) (length ks)) [
-                  | yes more ↦ ap (λ i. eq q (get_or ks i d)) last ∙ ap (eq q) (sym (moved d more)) ∙ not_last d (omega (arith, more, short))
-                  | no same ↦
-                      let here : j ≡ p = omega (arith, last, same, within) in
-                      ap (λ i. eq q (get_or ks i d)) here ∙ ap (eq q) (sym (is ∙ get_or_default ks p k d within)) ∙ o.symm q k ∙ not_k
                 ]
           ])
 
-  whole : (q : K) → position (eq q) ls ≡ position (eq q) (take (length ls) ls)
-  whole q = ap (position (eq q)) (sym (take_all (length ls) ls (omega arith)))
+  whole : (q : K) → position (eq q) ls ≡ position (eq q) (take (n - 1) ls)
+  whole q = ap (position (eq q)) (sym (take_all (n - 1) ls (omega (arith, short))))
 
-  mid_or : (q : K) → ((d : K) → p < length ls → eq q (get_or ls p d) ≡ false) → ordered.get cmp mid q ≡ position (eq q) ls
+  mid_or : (q : K) → ((d : K) → p < n - 1 → eq q (get_or ks (n - 1) d) ≡ false) → ordered.get cmp mid q ≡ position (eq q) ls
   mid_or q not_last = mid_at q ∙ by (eq k q) refl
     where
       by : (b : Bool) → eq k q ≡ b → cond (eq k q) None (position (eq q) ks) ≡ position (eq q) ls
@@ -227,28 +224,28 @@ module _ {K : Type 0} (cmp : K → K → Ordering) (eq : K → K → Bool) (o : 
       by false e = ap (λ b. cond b None (position (eq q) ks)) e ∙ other q e not_last
 
   -- the last key itself is taken out
-  pub placed_last : length ls ≤ p → ArePlaced cmp eq mid (length ls) ls
-  placed_last end = (omega arith, λ q. mid_or q (λ d h. absurd (omega (arith, h, end))) ∙ whole q)
+  pub placed_last : n - 1 ≤ p → ArePlaced cmp eq mid (n - 1) ls
+  placed_last end = (omega (arith, short), λ q. mid_or q (λ d h. absurd (omega (arith, h, end))) ∙ whole q)
 
   -- the last key goes to another place
-  pub placed_moved : (new : BTreeMap K ℕ) (l : K) → p < length ls → l ≡ get_or ls p l
-      → ((q : K) → ordered.get cmp new q ≡ cond (is_at (cmp l) q) (Some p) (ordered.get cmp mid q)) → ArePlaced cmp eq new (length ls) ls
-  placed_moved new l inside at updates = (omega arith, λ q. updates q ∙ ap (λ b. cond b (Some p) (ordered.get cmp mid q)) (sym (matches l q)) ∙ by q (eq l q) refl ∙ whole q)
-    where
-      by : (q : K) (b : Bool) → eq l q ≡ b → cond (eq l q) (Some p) (ordered.get cmp mid q) ≡ position (eq q) ls
-      by q true e = ap (λ b. cond b (Some p) (ordered.get cmp mid q)) e ∙ sym (own_place o ls q p l distinct_after inside (ap (eq q) (sym at) ∙ o.symm q l ∙ e))
-      by q false e =
-          ap (λ b. cond b (Some p) (ordered.get cmp mid q)) e
-          ∙ mid_or q (λ d h. ap (eq q) (get_or_default ls p d l h ∙ sym at) ∙ o.symm q l ∙ e)
+  module _ (l : K) (inside : p < n - 1) (at : l ≡ get_or ks (n - 1) l) where
+    pub placed_moved : (new : BTreeMap K ℕ) → ((q : K) → ordered.get cmp new q ≡ cond (is_at (cmp l) q) (Some p) (ordered.get cmp mid q)) → ArePlaced cmp eq new (n - 1) ls
+    placed_moved new updates = (omega (arith, short), λ q. updates q ∙ ap (λ b. cond b (Some p) (ordered.get cmp mid q)) (sym (matches l q)) ∙ by q (eq l q) refl ∙ whole q)
+      where
+        by : (q : K) (b : Bool) → eq l q ≡ b → cond (eq l q) (Some p) (ordered.get cmp mid q) ≡ position (eq q) ls
+        by q true e =
+            ap (λ b. cond b (Some p) (ordered.get cmp mid q)) e
+            ∙ sym (own_place o ls q p l (distinct_removed o ks ks p any any refl within distinct) (omega (arith, inside, short)) (ap (eq q) (moved l inside ∙ sym at) ∙ o.symm q l ∙ e))
+        by q false e =
+            ap (λ b. cond b (Some p) (ordered.get cmp mid q)) e
+            ∙ mid_or q (λ d h. ap (eq q) (get_or_default ks (n - 1) d l (omega (arith, within, all)) ∙ sym at) ∙ o.symm q l ∙ e)
 
-  -- and is in the ordered map
-  pub last_there : (l : K) → p < length ls → l ≡ get_or ls p l → ordered.get cmp mid l ≡ None → ⊥
-  last_there l inside at none =
-      let last : l ≡ get_or ks (length ks - 1) l = at ∙ moved l (omega (arith, inside, short)) in
-      let more : p + 1 < length ks = omega (arith, inside, short) in
-      let differ : eq k l ≡ false = ap (eq k) last ∙ apart (length ks - 1) l (omega (arith, within)) (λ s. absurd (omega (arith, s, more))) in
-      let found : position (eq l) ks ≡ Some (length ks - 1) = own_place o ks l (length ks - 1) l distinct (omega (arith, within)) (ap (eq l) (sym last) ∙ o.refl l) in
-      true≢false (sym (ap is_some (sym none ∙ mid_at l ∙ ap (λ b. cond b None (position (eq l) ks)) differ ∙ found)))
+    -- and is in the ordered map
+    pub last_there : ordered.get cmp mid l ≡ None → ⊥
+    last_there none =
+        let differ : eq k l ≡ false = ap (eq k) at ∙ apart (n - 1) l (omega (arith, within, all)) (λ s. absurd (omega (arith, s, inside))) in
+        let found : position (eq l) ks ≡ Some (n - 1) = own_place o ks l (n - 1) l distinct (omega (arith, within, all)) (ap (eq l) (sym at) ∙ o.refl l) in
+        true≢false (sym (ap is_some (sym none ∙ mid_at l ∙ ap (λ b. cond b None (position (eq l) ks)) differ ∙ found)))
 
 -- a key among the first ones has that place among all
 pub placed_found : {K : Type 0} (t : K → Bool) (n : ℕ) (ks : List K) (i : ℕ) → position t (take n ks) ≡ Some i → position t ks ≡ Some i
@@ -267,16 +264,6 @@ distinct_push {eq = eq} o ks k distinct absent =
           ap (eq (get_or ks i d)) (get_or_push ks k d j (omega (arith, last, within, long)))
           ∙ o.symm (get_or ks i d) k ∙ none_passes (eq k) ks absent i d (omega (arith, less, within, long))
     ])
-
--- what an insert that was refused left
-pub refused : {A E P : Type 0} {b : Bool} (r : Result A E) → b ≡ true → b ≡ is_err r → OnErr r P → P
-refused (Ok x) e is p = absurd (true≢false (sym e ∙ is))
-refused (Err x) e is p = p
-
--- and one that was not
-pub added : {A E P : Type 0} {b : Bool} (r : Result A E) → b ≡ false → b ≡ is_err r → OnOk r P → P
-added (Ok x) e is p = p
-added (Err x) e is p = absurd (true≢false (sym is ∙ e))
 
 -- a result that cannot be refused
 pub must_be_ok : {A E P : Type 0} (r : Result A E) → OnErr r P → (P → ⊥) → IsOk r

@@ -3,7 +3,7 @@ use Rattle.std.proofs.Common.{◌≡◌, ◌≢◌, ℕ, zero, suc, ◌+◌, ◌
 use Rattle.std.proofs.Math.ListN.{drop_of_length-le}
 use Rattle.std.proofs.Math.Nat.{mul-le-mul_right, suc-mul, pow-suc}
 use Rattle.std.proofs.Math.Seq.{drop-cons}
-use Rattle.std.specs.Cmp.{nat_cmp_is, ranks, unsigned_tied}
+use Rattle.std.specs.Cmp.{nat_cmp_is, ranks, tied_then, unsigned_tied}
 use Rattle.std.specs.Cmp.Lexicographic.{pointwise, slice_cmp, texts_ties}
 use Rattle.std.specs.declared.cmp.Ordering.{Ordering}
 use Rattle.std.specs.declared.cmp.Ordering.TheVariants.{Less, Equal, Greater}
@@ -89,18 +89,6 @@ spelled_cmp (suc n) at p q hp hq lp lq =
 abbrev IsSpelled : ℕ → Type 0
 IsSpelled at = (bytes : List ℕ) → spelled bytes at 8 ≡ word_at bytes at
 
-spelled_0 : IsSpelled 0
-spelled_0 bytes = omega arith
-
-spelled_8 : IsSpelled 8
-spelled_8 bytes = omega arith
-
-spelled_16 : IsSpelled 16
-spelled_16 bytes = omega arith
-
-spelled_24 : IsSpelled 24
-spelled_24 bytes = omega arith
-
 -- a word first, and then what follows it
 word_first : (at : ℕ) (p q : List ℕ) → IsSpelled at → Bytes p → Bytes q → at + 8 ≤ length p → at + 8 ≤ length q → slice_cmp nat_cmp (drop at p) (drop at q) ≡ ordering_then (nat_cmp (word_at p at) (word_at q at)) (slice_cmp nat_cmp (drop (at + 8) p) (drop (at + 8) q))
 word_first at p q word hp hq lp lq =
@@ -125,10 +113,10 @@ cmp_words a b ha hb =
     let step = λ (at : ℕ) (word : IsSpelled at) (l : at + 8 ≤ 32). word_first at p q word (byte-padded a ha) (byte-padded b hb) (omega (arith, l, long_p)) (omega (arith, l, long_q)) in
     let end : slice_cmp nat_cmp (drop 32 p) (drop 32 q) ≡ Equal = λ i. slice_cmp nat_cmp (nothing_past p long_p i) (nothing_past q long_q i) in
     sym (sym (padded_cmp a b ha hb)
-    ∙ step 0 spelled_0 (omega arith)
-    ∙ ap (ordering_then (words a b 0)) (step 8 spelled_8 (omega arith)
-    ∙ ap (ordering_then (words a b 8)) (step 16 spelled_16 (omega arith)
-    ∙ ap (ordering_then (words a b 16)) (step 24 spelled_24 (omega arith)
+    ∙ step 0 (λ bytes. omega arith) (omega arith)
+    ∙ ap (ordering_then (words a b 0)) (step 8 (λ bytes. omega arith) (omega arith)
+    ∙ ap (ordering_then (words a b 8)) (step 16 (λ bytes. omega arith) (omega arith)
+    ∙ ap (ordering_then (words a b 16)) (step 24 (λ bytes. omega arith) (omega arith)
     ∙ ap (ordering_then (words a b 24)) end ∙ then_Equal (words a b 24)))))
 
 -- whether the words at a place are the same
@@ -140,31 +128,15 @@ turned true true c d = refl
 turned true false c d = refl
 turned false b c d = refl
 
-is_eq-then : (r s : Ordering) → is_eq (ordering_then r s) ≡ (is_eq r && is_eq s)
-is_eq-then Less s = refl
-is_eq-then Equal s = refl
-is_eq-then Greater s = refl
-
 pub eq_words : (a b : List ℕ) → IsTrue (is_file_name a) → IsTrue (is_file_name b) → (((same_words a b 0 && same_words a b 8) && same_words a b 16) && same_words a b 24) ≡ pointwise nat_eq a b
 eq_words a b ha hb =
     let tied = λ (at : ℕ). unsigned_tied (word_at (padded a) at) (word_at (padded b) at) in
-    let third = is_eq-then (words a b 16) (words a b 24) ∙ (λ i. tied 16 i && tied 24 i) in
-    let second = is_eq-then (words a b 8) (ordering_then (words a b 16) (words a b 24)) ∙ (λ i. tied 8 i && third i) in
-    let first = is_eq-then (words a b 0) (ordering_then (words a b 8) (ordering_then (words a b 16) (words a b 24))) ∙ (λ i. tied 0 i && second i) in
+    let third = sym (tied_then (words a b 16) (words a b 24)) ∙ (λ i. tied 16 i && tied 24 i) in
+    let second = sym (tied_then (words a b 8) (ordering_then (words a b 16) (words a b 24))) ∙ (λ i. tied 8 i && third i) in
+    let first = sym (tied_then (words a b 0) (ordering_then (words a b 8) (ordering_then (words a b 16) (words a b 24)))) ∙ (λ i. tied 0 i && second i) in
     turned (same_words a b 0) (same_words a b 8) (same_words a b 16) (same_words a b 24) ∙ sym (texts_ties a b ∙ ap is_eq (sym (cmp_words a b ha hb)) ∙ first)
 
 -- ---- words that differ decide, and others leave it to those after them
-
-decides : (x y : ℕ) (rest : Ordering) → (x ≢ y) → nat_cmp x y ≡ ordering_then (nat_cmp x y) rest
-decides x y rest other = by (nat_cmp x y) (ranks x y)
-  where
-    by : (o : Ordering) → MatchOrdering o (x < y) (x ≡ y) (y < x) → o ≡ ordering_then o rest
-    by Less h = refl
-    by Equal h = absurd (other h)
-    by Greater h = refl
-
-leaves : (x y : ℕ) (rest : Ordering) → x ≡ y → rest ≡ ordering_then (nat_cmp x y) rest
-leaves x y rest e = ap (λ o. ordering_then o rest) (nat_cmp_is x y Equal e)
 
 -- the words of two names at a place
 abbrev pub Same : List ℕ → List ℕ → ℕ → Type 0
@@ -178,10 +150,15 @@ other x y u v p q n e = n (p ∙ e ∙ sym q)
 
 module _ (a b : List ℕ) (ha : IsTrue (is_file_name a)) (hb : IsTrue (is_file_name b)) where
   leave : (at : ℕ) (rest : Ordering) → Same a b at → rest ≡ ordering_then (words a b at) rest
-  leave at rest e = leaves (word_at (padded a) at) (word_at (padded b) at) rest e
+  leave at rest e = ap (λ o. ordering_then o rest) (nat_cmp_is _ _ Equal e)
 
   decide : (at : ℕ) (rest : Ordering) → (Same a b at → ⊥) → words a b at ≡ ordering_then (words a b at) rest
-  decide at rest n = decides (word_at (padded a) at) (word_at (padded b) at) rest n
+  decide at rest n = by (words a b at) (ranks (word_at (padded a) at) (word_at (padded b) at))
+    where
+      by : (o : Ordering) → MatchOrdering o (word_at (padded a) at < word_at (padded b) at) (Same a b at) (word_at (padded b) at < word_at (padded a) at) → o ≡ ordering_then o rest
+      by Less h = refl
+      by Equal h = absurd (n h)
+      by Greater h = refl
 
   pub first_word : (Same a b 0 → ⊥) → words a b 0 ≡ slice_cmp nat_cmp a b
   first_word n = decide 0 _ n ∙ cmp_words a b ha hb

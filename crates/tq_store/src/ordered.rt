@@ -1,11 +1,11 @@
 //! Entries in a list, with an ordered map from each key to its place.
 ghost use Rattle.std.specs.Prelude.{◌≡◌, ◌+◌, ◌-◌, ◌<◌, ◌≤◌, ◌^◌, [], None, Some, IfNone, IfOk, IfSome, IsOk, OnOk, is_some, length, position, slice_get, take};
 ghost use Rattle.std.specs.Borrow.{sem};
-ghost use Rattle.std.specs.List.{swap_remove};
+ghost use Rattle.std.specs.List.{swap_remove, IsDistinct};
 ghost use Rattle.indexmap.specs.IndexMap.{get, index_map_len, keys, spare, swap_remove_entry, values, with_value_at, IsClone, IsUnchanged, IsUnique, Updates};
 ghost use Rattle.std.specs.Map.Iter.{deref_pair};
 ghost use Rattle.std.specs.Option.{option_copied, option_copied_mut, option_map};
-ghost use Rattle.tq_store.specs.Bounded.{HasEntryAt, HasOneLessIfThere, HasOneMoreIfNew, HasPut};
+ghost use Rattle.tq_store.specs.Bounded.{ArePlaced, HasEntryAt, HasOneLessIfThere, HasOneMoreIfNew, HasPut};
 ghost use Rattle.tq_store.specs.Bounded.{with_last, with_spare};
 ghost use Rattle.tq_store.specs.Lends.{lends_value, ordered_lends_at, ordered_lends_get};
 
@@ -214,17 +214,9 @@ impl<K: Ord + Copy + Drop, V> Ordered<K, V> {
         requires room { 0 < spare self.old }
         ensures { self.new ≡ with_last self.old key value }
     {
-        let place = self.keys.len();
         self.keys.push_reserved(key);
         self.values.push_reserved(value);
-        if self.placed < place {
-            return;
-        }
-        let added: Result<_, _> = self.places.insert(key, place);
-        if added.is_err() {
-            return;
-        }
-        self.placed += 1;
+        let _placed = self.place_next();
     }
 
     /// Puts the entry in, and gives the value that the key had. It takes no memory that must be had.
@@ -247,6 +239,7 @@ impl<K: Ord + Copy + Drop, V> Ordered<K, V> {
     }
 
     /// Puts the next key that the ordered map has not into it, if there is one. The entries stay.
+    #[inline(always)]
     fn place_next(&mut self) -> Result<(), AllocError>
         ensures { self.new ≡ self.old }
     {
@@ -323,22 +316,39 @@ impl<K: Ord + Copy + Drop, V> Ordered<K, V> {
         ensures entries { self.new.entries ≡ swap_remove self.old.entries place result }
         ensures room { spare self.old ≤ spare self.new }
     {
+        self.placed = move_last(&mut self.places, self.placed, self.keys.as_slice(), place);
         let key = self.keys.swap_remove(place);
         let value = self.values.swap_remove(place);
-        if self.placed <= self.keys.len() {
-            self.places.clear();
-            self.placed = 0;
-            return (key, value);
-        }
-        self.placed -= 1;
-        self.places.remove(&key);
-        if place >= self.keys.len() {
-            return (key, value);
-        }
-        let replaced: Result<_, _> = self.places.insert(self.keys[place], place);
-        let _before = replaced.unwrap();
         (key, value)
     }
+}
+
+/// Takes the key at the place out of the ordered map, and gives the last key its place. What it returns is how many of the
+/// first keys the ordered map then has.
+#[inline(always)]
+fn move_last<K: Ord + Copy + Drop>(
+    places: &mut BTreeMap<K, usize>,
+    placed: usize,
+    keys: &[K],
+    place: usize,
+) -> usize
+    requires within { place < length keys.now }
+    requires distinct { IsDistinct K.eq keys.now }
+    requires placed { ArePlaced K.cmp K.eq places.old placed keys.now }
+    ensures { (k : K) → ArePlaced K.cmp K.eq places.new result (swap_remove keys.now place k) }
+{
+    if placed < keys.len() {
+        places.clear();
+        return 0;
+    }
+    places.remove(&keys[place]);
+    let last = placed - 1;
+    if place >= last {
+        return last;
+    }
+    let replaced: Result<_, _> = places.insert(keys[last], place);
+    let _before = replaced.unwrap();
+    last
 }
 
 impl<K: Ord + ExactClone, V: Clone> Clone for Ordered<K, V> {

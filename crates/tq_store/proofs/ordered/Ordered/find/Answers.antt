@@ -13,20 +13,15 @@ find_from-requires-clause-absent g c =
     let o = opened c.self.inside.keys c.self.inside.values c.args.self.now c.self.view_is c.self.invariant.0 in
     ap (λ l. position (g.K.PartialEq.eq c.args.key.now) (take c.self.inside.placed l)) (sym o.keys) ∙ sym (c.self.invariant.2.1 c.args.key.now) ∙ sym c.in-None.ensures.value
 
-pub returns-in-Some-clause-index : goal.returns-in-Some-clause-index
-returns-in-Some-clause-index g c =
+pub returns-in-Some : goal.returns-in-Some
+returns-in-Some g c =
     let o = opened c.self.inside.keys c.self.inside.values c.args.self.now c.self.view_is c.self.invariant.0 in
     let t = g.K.PartialEq.eq c.args.key.now in
-    sym (ap (position t) (sym o.keys) ∙ placed_found t c.self.inside.placed c.self.inside.keys.items c.in-Some.place.now (sym (c.in-Some.ensures.value ∙ c.self.invariant.2.1 c.args.key.now)))
+    let index = sym (ap (position t) (sym o.keys) ∙ placed_found t c.self.inside.placed c.self.inside.keys.items c.in-Some.place.now (sym (c.in-Some.ensures.value ∙ c.self.invariant.2.1 c.args.key.now))) in
+    record { index = index; found = ap is_some index ∙ some_index t c.args.self.now.entries; unique = subst (IsDistinct g.K.PartialEq.eq) o.keys c.self.invariant.1 }
 
-pub returns-in-Some-clause-found : goal.returns-in-Some-clause-found
-returns-in-Some-clause-found g c = ap is_some (returns-in-Some-clause-index g c) ∙ some_index (g.K.PartialEq.eq c.args.key.now) c.args.self.now.entries
-
-pub returns-in-Some-clause-unique : goal.returns-in-Some-clause-unique
-returns-in-Some-clause-unique g c = let o = opened c.self.inside.keys c.self.inside.values c.args.self.now c.self.view_is c.self.invariant.0 in subst (IsDistinct g.K.PartialEq.eq) o.keys c.self.invariant.1
-
-pub returns-in-None-clause-found : goal.returns-in-None-clause-found
-returns-in-None-clause-found g c = ap is_some c.find_from.ensures ∙ some_index (g.K.PartialEq.eq c.args.key.now) c.args.self.now.entries
-
-pub returns-in-None-clause-unique : goal.returns-in-None-clause-unique
-returns-in-None-clause-unique g c = let o = opened c.self.inside.keys c.self.inside.values c.args.self.now c.self.view_is c.self.invariant.0 in subst (IsDistinct g.K.PartialEq.eq) o.keys c.self.invariant.1
+pub returns-in-None : goal.returns-in-None
+returns-in-None g c =
+    let o = opened c.self.inside.keys c.self.inside.values c.args.self.now c.self.view_is c.self.invariant.0 in
+    let index = c.find_from.ensures in
+    record { index = index; found = ap is_some index ∙ some_index (g.K.PartialEq.eq c.args.key.now) c.args.self.now.entries; unique = subst (IsDistinct g.K.PartialEq.eq) o.keys c.self.invariant.1 }

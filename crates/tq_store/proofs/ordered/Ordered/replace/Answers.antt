@@ -8,15 +8,13 @@ use Rattle.tq_store.proofs.ordered.Ordered.replace.Goals as goal
 pub index_mut-requires : goal.index_mut-requires
 index_mut-requires g c = let o = opened c.self.inside.keys c.self.inside.values c.args.self.now c.self.view_is c.self.invariant.0 in omega (arith, o.values_len, c.requires)
 
-pub returns-clause-took : goal.returns-clause-took
-returns-clause-took g c =
-    let o = opened c.self.inside.keys c.self.inside.values c.args.self.now c.self.view_is c.self.invariant.0 in
-    let x = c.index_mut.result.now in
-    ap (λ l. slice_get l c.args.place) (sym o.values) ∙ slice_get_at c.self.inside.values.items c.args.place x (omega (arith, o.values_length, c.requires)) c.index_mut.ensures.value
-    ∙ ap Some (sym c.replace.ensures.value)
-
-pub returns-clause-after : goal.returns-clause-after
-returns-clause-after g c =
+pub returns : goal.returns
+returns g c =
     let o = opened c.self.inside.keys c.self.inside.values c.args.self.now c.self.view_is c.self.invariant.0 in
     let i = c.args.place in
-    λ j. with_spare ((zip-set_value c.self.inside.keys.items c.self.inside.values.items i _ ∙ (λ j'. set_value_at (o.entries j') i (c.replace.ensures.after j'))) j) (o.spare j)
+    let vs = c.self.inside.values.items in
+    record {
+      took = ap (λ l. slice_get l i) (sym o.values) ∙ slice_get_at vs i c.index_mut.result.now (omega (arith, o.values_length, c.requires)) c.index_mut.ensures.value
+          ∙ ap Some (sym c.replace.ensures.value);
+      after = λ j. with_spare ((zip-set_value c.self.inside.keys.items vs i _ ∙ (λ j'. set_value_at (o.entries j') i (c.replace.ensures.after j'))) j) (o.spare j);
+    }
