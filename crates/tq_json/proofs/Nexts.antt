@@ -36,18 +36,6 @@ next-number depth s ts n e = ap (converted of_json) (value_is depth (Token.numbe
 pub next-no_number : (depth : ℕ) (s : List ℕ) (ts : List Token) → number_of s ≡ None → next depth (Token.number s ∷ ts) ≡ None
 next-no_number depth s ts e = ap (converted of_json) (value_is depth (Token.number s ∷ ts)) ∙ ap (λ o. option_map {U = Data × List Token} (λ d. (d, ts)) (option_map number o)) e
 
-pub next-end_object : (depth : ℕ) (ts : List Token) → next depth (Token.end_object ∷ ts) ≡ None
-next-end_object depth ts = ap (converted of_json) (value_is depth (Token.end_object ∷ ts))
-
-pub next-end_array : (depth : ℕ) (ts : List Token) → next depth (Token.end_array ∷ ts) ≡ None
-next-end_array depth ts = ap (converted of_json) (value_is depth (Token.end_array ∷ ts))
-
-pub next-key : (depth : ℕ) (s : List ℕ) (ts : List Token) → next depth (Token.key s ∷ ts) ≡ None
-next-key depth s ts = ap (converted of_json) (value_is depth (Token.key s ∷ ts))
-
-pub next-bad : (depth : ℕ) (ts : List Token) → next depth (Token.bad ∷ ts) ≡ None
-next-bad depth ts = ap (converted of_json) (value_is depth (Token.bad ∷ ts))
-
 pub next-too_deep-array : (depth : ℕ) (ts : List Token) → depth ≡ 0 → next depth (Token.begin_array ∷ ts) ≡ None
 unfolding value
 next-too_deep-array depth ts e = ap (λ d. next d (Token.begin_array ∷ ts)) e
@@ -119,18 +107,18 @@ module _ (Q : Data → Type 0) where
   of_token kinds.BeginObject (suc n) ts r d e all =
       let m = mapped_some object (next_members (suc n - 1) ts) d r (sym (next-begin_object (suc n) ts (omega arith)) ∙ e) in
       subst Q m.1 (all m.0)
-  of_token kinds.EndObject depth ts r d e all = no_next Token.end_object depth ts r d (Q d) (next-end_object depth ts) e
+  of_token kinds.EndObject depth ts r d e all = no_next Token.end_object depth ts r d (Q d) (ap (converted of_json) (value_is depth (Token.end_object ∷ ts))) e
   of_token kinds.BeginArray zero ts r d e all = no_next Token.begin_array zero ts r d (Q d) (next-too_deep-array zero ts refl) e
   of_token kinds.BeginArray (suc n) ts r d e all =
       let m = mapped_some array (next_items (suc n - 1) ts) d r (sym (next-begin_array (suc n) ts (omega arith)) ∙ e) in
       subst Q m.1 (all m.0)
-  of_token kinds.EndArray depth ts r d e all = no_next Token.end_array depth ts r d (Q d) (next-end_array depth ts) e
-  of_token (kinds.Key s) depth ts r d e all = no_next (Token.key s.now) depth ts r d (Q d) (next-key depth s.now ts) e
+  of_token kinds.EndArray depth ts r d e all = no_next Token.end_array depth ts r d (Q d) (ap (converted of_json) (value_is depth (Token.end_array ∷ ts))) e
+  of_token (kinds.Key s) depth ts r d e all = no_next (Token.key s.now) depth ts r d (Q d) (ap (converted of_json) (value_is depth (Token.key s.now ∷ ts))) e
   of_token (kinds.String s) depth ts r d e all = subst Q (ap (value_in null) (sym (next-string depth s.now ts) ∙ e)) all
   of_token (kinds.Number s) depth ts r d e all = of_number (number_of s.now) depth s.now ts r d refl e all
   of_token (kinds.Bool x) depth ts r d e all = subst Q (ap (value_in null) (sym (next-boolean depth x ts) ∙ e)) all
   of_token kinds.Null depth ts r d e all = subst Q (ap (value_in null) (sym (next-null depth ts) ∙ e)) all
-  of_token kinds.Bad depth ts r d e all = no_next Token.bad depth ts r d (Q d) (next-bad depth ts) e
+  of_token kinds.Bad depth ts r d e all = no_next Token.bad depth ts r d (Q d) (ap (converted of_json) (value_is depth (Token.bad ∷ ts))) e
 
 -- a value of another kind, which was passed over
 pub other_value : (P : Data → Type 0) (t : read.Token) (depth : ℕ) (all ts r : List Token) → all ≡ token_of t ∷ ts → OfAll P t → (d : Data) × (next depth (token_of t ∷ ts) ≡ Some (d, r)) × ⊤
