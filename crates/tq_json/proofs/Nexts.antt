@@ -1,5 +1,5 @@
 -- The next value by its first token, and what is refused with a part of it.
-use Rattle.std.proofs.Common.{◌≡◌, ℕ, zero, suc, Bool, ◌-◌, ◌<◌, List, [], ◌∷◌, length, Option, Some, None, Result, Ok, Err, true, false, refl, sym, ap, subst, ◌∙◌, arith}
+use Rattle.std.proofs.Common.{◌≡◌, ℕ, zero, suc, Bool, ◌-◌, ◌<◌, List, [], ◌∷◌, length, Option, Some, None, Result, Ok, Err, true, false, refl, sym, ap, subst, ◌∙◌, arith, rules}
 use Rattle.std.specs.Prelude.{⊤, IfOk}
 use Rattle.std.specs.Option.{is_some, option_map, option_and_then}
 use Rattle.std.specs.Borrow.{Bor}
@@ -35,18 +35,6 @@ next-number depth s ts n e = ap (converted of_json) (value_is depth (Token.numbe
 
 pub next-no_number : (depth : ℕ) (s : List ℕ) (ts : List Token) → number_of s ≡ None → next depth (Token.number s ∷ ts) ≡ None
 next-no_number depth s ts e = ap (converted of_json) (value_is depth (Token.number s ∷ ts)) ∙ ap (λ o. option_map {U = Data × List Token} (λ d. (d, ts)) (option_map number o)) e
-
-pub next-end_object : (depth : ℕ) (ts : List Token) → next depth (Token.end_object ∷ ts) ≡ None
-next-end_object depth ts = ap (converted of_json) (value_is depth (Token.end_object ∷ ts))
-
-pub next-end_array : (depth : ℕ) (ts : List Token) → next depth (Token.end_array ∷ ts) ≡ None
-next-end_array depth ts = ap (converted of_json) (value_is depth (Token.end_array ∷ ts))
-
-pub next-key : (depth : ℕ) (s : List ℕ) (ts : List Token) → next depth (Token.key s ∷ ts) ≡ None
-next-key depth s ts = ap (converted of_json) (value_is depth (Token.key s ∷ ts))
-
-pub next-bad : (depth : ℕ) (ts : List Token) → next depth (Token.bad ∷ ts) ≡ None
-next-bad depth ts = ap (converted of_json) (value_is depth (Token.bad ∷ ts))
 
 pub next-too_deep-array : (depth : ℕ) (ts : List Token) → depth ≡ 0 → next depth (Token.begin_array ∷ ts) ≡ None
 unfolding value
@@ -119,75 +107,40 @@ module _ (Q : Data → Type 0) where
   of_token kinds.BeginObject (suc n) ts r d e all =
       let m = mapped_some object (next_members (suc n - 1) ts) d r (sym (next-begin_object (suc n) ts (omega arith)) ∙ e) in
       subst Q m.1 (all m.0)
-  of_token kinds.EndObject depth ts r d e all = no_next Token.end_object depth ts r d (Q d) (next-end_object depth ts) e
+  of_token kinds.EndObject depth ts r d e all = no_next Token.end_object depth ts r d (Q d) (ap (converted of_json) (value_is depth (Token.end_object ∷ ts))) e
   of_token kinds.BeginArray zero ts r d e all = no_next Token.begin_array zero ts r d (Q d) (next-too_deep-array zero ts refl) e
   of_token kinds.BeginArray (suc n) ts r d e all =
       let m = mapped_some array (next_items (suc n - 1) ts) d r (sym (next-begin_array (suc n) ts (omega arith)) ∙ e) in
       subst Q m.1 (all m.0)
-  of_token kinds.EndArray depth ts r d e all = no_next Token.end_array depth ts r d (Q d) (next-end_array depth ts) e
-  of_token (kinds.Key s) depth ts r d e all = no_next (Token.key s.now) depth ts r d (Q d) (next-key depth s.now ts) e
+  of_token kinds.EndArray depth ts r d e all = no_next Token.end_array depth ts r d (Q d) (ap (converted of_json) (value_is depth (Token.end_array ∷ ts))) e
+  of_token (kinds.Key s) depth ts r d e all = no_next (Token.key s.now) depth ts r d (Q d) (ap (converted of_json) (value_is depth (Token.key s.now ∷ ts))) e
   of_token (kinds.String s) depth ts r d e all = subst Q (ap (value_in null) (sym (next-string depth s.now ts) ∙ e)) all
   of_token (kinds.Number s) depth ts r d e all = of_number (number_of s.now) depth s.now ts r d refl e all
   of_token (kinds.Bool x) depth ts r d e all = subst Q (ap (value_in null) (sym (next-boolean depth x ts) ∙ e)) all
   of_token kinds.Null depth ts r d e all = subst Q (ap (value_in null) (sym (next-null depth ts) ∙ e)) all
-  of_token kinds.Bad depth ts r d e all = no_next Token.bad depth ts r d (Q d) (next-bad depth ts) e
+  of_token kinds.Bad depth ts r d e all = no_next Token.bad depth ts r d (Q d) (ap (converted of_json) (value_is depth (Token.bad ∷ ts))) e
+
+-- a value of another kind, which was passed over
+pub other_value : (P : Data → Type 0) (t : read.Token) (depth : ℕ) (all ts r : List Token) → all ≡ token_of t ∷ ts → OfAll P t → (d : Data) × (next depth (token_of t ∷ ts) ≡ Some (d, r)) × ⊤
+    → (d : Data) × (next depth all ≡ Some (d, r)) × P d
+other_value P t depth all ts r first held (d, is, passed) = (d, ap (next depth) first ∙ is, of_token P t depth ts r d is held)
 
 pub array_alone : (t : read.Token) → (t ≡ kinds.BeginArray → ⊥) → OfAll (λ d. as_array d ≡ None) t
-array_alone kinds.BeginObject a = λ ms. refl
-array_alone kinds.EndObject a = tt
 array_alone kinds.BeginArray a = absurd (a refl)
-array_alone kinds.EndArray a = tt
-array_alone (kinds.Key s) a = tt
-array_alone (kinds.String s) a = refl
-array_alone (kinds.Number s) a = λ n. refl
-array_alone (kinds.Bool x) a = refl
-array_alone kinds.Null a = refl
-array_alone kinds.Bad a = tt
+array_alone _ a = search rules
 
 pub object_alone : (t : read.Token) → (t ≡ kinds.BeginObject → ⊥) → OfAll HasNoNames t
 object_alone kinds.BeginObject a = absurd (a refl)
-object_alone kinds.EndObject a = tt
-object_alone kinds.BeginArray a = λ xs name. refl
-object_alone kinds.EndArray a = tt
-object_alone (kinds.Key s) a = tt
-object_alone (kinds.String s) a = λ name. refl
-object_alone (kinds.Number s) a = λ n name. refl
-object_alone (kinds.Bool x) a = λ name. refl
-object_alone kinds.Null a = λ name. refl
-object_alone kinds.Bad a = tt
+object_alone _ a = search rules
 
 pub text_alone : (t : read.Token) → ((s : Bor (List ℕ)) → t ≡ kinds.String s → ⊥) → OfAll (λ d. None ≡ as_str d) t
-text_alone kinds.BeginObject a = λ ms. refl
-text_alone kinds.EndObject a = tt
-text_alone kinds.BeginArray a = λ xs. refl
-text_alone kinds.EndArray a = tt
-text_alone (kinds.Key s) a = tt
 text_alone (kinds.String s) a = absurd (a s refl)
-text_alone (kinds.Number s) a = λ n. refl
-text_alone (kinds.Bool x) a = refl
-text_alone kinds.Null a = refl
-text_alone kinds.Bad a = tt
+text_alone _ a = search rules
 
 pub flag_alone : (t : read.Token) → ((b : Bool) → t ≡ kinds.Bool b → ⊥) → OfAll (λ d. None ≡ as_bool d) t
-flag_alone kinds.BeginObject a = λ ms. refl
-flag_alone kinds.EndObject a = tt
-flag_alone kinds.BeginArray a = λ xs. refl
-flag_alone kinds.EndArray a = tt
-flag_alone (kinds.Key s) a = tt
-flag_alone (kinds.String s) a = refl
-flag_alone (kinds.Number s) a = λ n. refl
 flag_alone (kinds.Bool x) a = absurd (a x refl)
-flag_alone kinds.Null a = refl
-flag_alone kinds.Bad a = tt
+flag_alone _ a = search rules
 
 pub number_alone : (t : read.Token) → ((s : Bor (List ℕ)) → t ≡ kinds.Number s → ⊥) → OfAll (λ d. None ≡ option_and_then as_u64 (as_number d)) t
-number_alone kinds.BeginObject a = λ ms. refl
-number_alone kinds.EndObject a = tt
-number_alone kinds.BeginArray a = λ xs. refl
-number_alone kinds.EndArray a = tt
-number_alone (kinds.Key s) a = tt
-number_alone (kinds.String s) a = refl
 number_alone (kinds.Number s) a = absurd (a s refl)
-number_alone (kinds.Bool x) a = refl
-number_alone kinds.Null a = refl
-number_alone kinds.Bad a = tt
+number_alone _ a = search rules

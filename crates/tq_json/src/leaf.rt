@@ -5,7 +5,7 @@ ghost use Rattle.tq_json.specs.Next.{next, Found, IsTextOf, IsNumberOf, IsFlagOf
 
 use crate::fault::NotRead;
 use crate::number::{is_in_range, whole};
-use crate::passing::pass_rest;
+use crate::passing::{pass_rest, take_token};
 use json::{Reader, Token};
 
 /// Takes the next value: its text, where it is one.
@@ -14,7 +14,7 @@ pub fn take_text<'a>(reader: &mut Reader<'a>, depth: usize) -> Result<Option<&'a
     ensures err { result ≡ Err NotRead.NotJson → next depth reader.old ≡ None }
     ensures shorter { OnOk result (length reader.new < length reader.old) }
 {
-    let token = reader.next().ok_or(NotRead::NotJson)?;
+    let token = take_token(reader)?;
     let Token::String(text) = token else {
         pass_rest(reader, token, depth)?;
         return Ok(None);
@@ -28,7 +28,7 @@ pub fn take_whole(reader: &mut Reader<'_>, depth: usize) -> Result<Option<u64>, 
     ensures err { result ≡ Err NotRead.NotJson → next depth reader.old ≡ None }
     ensures shorter { OnOk result (length reader.new < length reader.old) }
 {
-    let token = reader.next().ok_or(NotRead::NotJson)?;
+    let token = take_token(reader)?;
     let Token::Number(text) = token else {
         pass_rest(reader, token, depth)?;
         return Ok(None);
@@ -42,7 +42,7 @@ pub fn take_flag(reader: &mut Reader<'_>, depth: usize) -> Result<Option<bool>, 
     ensures err { result ≡ Err NotRead.NotJson → next depth reader.old ≡ None }
     ensures shorter { OnOk result (length reader.new < length reader.old) }
 {
-    let token = reader.next().ok_or(NotRead::NotJson)?;
+    let token = take_token(reader)?;
     let Token::Bool(flag) = token else {
         pass_rest(reader, token, depth)?;
         return Ok(None);

@@ -6,7 +6,7 @@ ghost use Rattle.serde_json.specs.Find.{as_array};
 ghost use Rattle.tq_json.specs.Next.{next, next_items, next_members, Found, HasNoNames};
 
 use crate::fault::NotRead;
-use crate::passing::pass_rest;
+use crate::passing::{pass_rest, take_token};
 use json::{Reader, Token};
 
 /// Takes the bracket of an array, where that is the next value; takes any other value whole.
@@ -18,7 +18,7 @@ pub fn open_array(reader: &mut Reader<'_>, depth: usize) -> Result<bool, NotRead
     ensures err { result ≡ Err NotRead.NotJson → next depth reader.old ≡ None }
     ensures shorter { OnOk result (length reader.new < length reader.old) }
 {
-    let token = reader.next().ok_or(NotRead::NotJson)?;
+    let token = take_token(reader)?;
     let Token::BeginArray = token else {
         pass_rest(reader, token, depth)?;
         return Ok(false);
@@ -38,7 +38,7 @@ pub fn open_object(reader: &mut Reader<'_>, depth: usize) -> Result<bool, NotRea
     ensures err { result ≡ Err NotRead.NotJson → next depth reader.old ≡ None }
     ensures shorter { OnOk result (length reader.new < length reader.old) }
 {
-    let token = reader.next().ok_or(NotRead::NotJson)?;
+    let token = take_token(reader)?;
     let Token::BeginObject = token else {
         pass_rest(reader, token, depth)?;
         return Ok(false);

@@ -1,5 +1,5 @@
 //! Passing over values: nothing is kept, and each number has to be in range.
-ghost use Rattle.std.specs.Prelude.{◌≡◌, ◌≤◌, ◌<◌, ⊤, length, Some, None, Err, IfOk, OnOk};
+ghost use Rattle.std.specs.Prelude.{◌≡◌, ◌≤◌, ◌<◌, ◌∷◌, ℕ, ⊤, length, Some, None, Err, IfOk, OnOk, OnErr};
 ghost use Rattle.std.specs.Bool.{MatchBool, OnTrue};
 ghost use Rattle.json.specs.Reads.{token_of};
 ghost use Rattle.tq_json.specs.Next.{next, next_items, Found};
@@ -18,8 +18,21 @@ pub fn pass_over(reader: &mut Reader<'_>, depth: usize) -> Result<(), NotRead>
     ensures err { result ≡ Err NotRead.NotJson → next depth reader.old ≡ None }
     ensures shorter { OnOk result (length reader.new < length reader.old) }
 {
-    let token = reader.next().ok_or(NotRead::NotJson)?;
+    let token = take_token(reader)?;
     pass_rest(reader, token, depth)
+}
+
+/// Takes the next token.
+#[inline(always)]
+pub(crate) fn take_token<'a>(reader: &mut Reader<'a>) -> Result<Token<'a>, NotRead>
+    ensures ok { IfOk result (λ token. reader.old ≡ token_of token ∷ reader.new) }
+    ensures err { OnErr result ((depth : ℕ) → next depth reader.old ≡ None) }
+    ensures shorter { OnOk result (length reader.new < length reader.old) }
+{
+    let Some(token) = reader.next() else {
+        return Err(NotRead::NotJson);
+    };
+    Ok(token)
 }
 
 /// Takes the rest of the value that the token begins.
@@ -70,7 +83,7 @@ fn pass_open(reader: &mut Reader<'_>, kind: bool, depth: usize) -> Result<(), No
             inside -= 1;
             continue;
         }
-        let token = reader.next().ok_or(NotRead::NotJson)?;
+        let token = take_token(reader)?;
         let Some(kind) = opening(token)? else {
             continue;
         };

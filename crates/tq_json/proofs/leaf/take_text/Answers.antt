@@ -1,24 +1,17 @@
-use Rattle.std.proofs.Common.{◌≡◌, [], ◌∷◌, None, refl, ap, ◌∙◌, arith}
+use Rattle.std.proofs.Common.{◌≡◌, ◌∷◌, None, refl, ap, ◌∙◌}
 use Rattle.json.specs.Reads.{token_of}
 use Rattle.serde_json.specs.Data.{string}
 use Rattle.serde_json.specs.Find.{as_str}
 use Rattle.tq_json.specs.Next.{next}
-use Rattle.tq_json.proofs.Nexts.{next-nil, next-string, of_token, text_alone}
+use Rattle.tq_json.proofs.Nexts.{next-string, other_value, text_alone}
 use Rattle.tq_json.proofs.leaf.take_text.Goals as goal
-
-pub returns-in_err-token-clause-err : goal.returns-in_err-token-clause-err
-returns-in_err-token-clause-err c refused =
-    let empty : c.args.reader.now ≡ [] = grind arith in
-    ap (next c.args.depth) empty ∙ next-nil c.args.depth
 
 pub returns-in_default-clause-ok : goal.returns-in_default-clause-ok
 returns-in_default-clause-ok c =
-    let first : c.args.reader.now ≡ token_of c.in_ok-token.token ∷ c.next.new.self = grind arith in
-    let d = c.in_ok-pass_rest.ensures.ok in
-    (d.0, ap (next c.args.depth) first ∙ d.1, of_token (λ x. None ≡ as_str x) c.in_ok-token.token c.args.depth c.next.new.self c.pass_rest.new.reader d.0 d.1 (text_alone c.in_ok-token.token c.in_default.not-String))
+    other_value (λ x. None ≡ as_str x) c.in_ok-token.token c.args.depth c.args.reader.now c.take_token.new.reader c.pass_rest.new.reader
+    c.in_ok-token.ensures.ok (text_alone c.in_ok-token.token c.in_default.not-String) c.in_ok-pass_rest.ensures.ok
 
 pub returns-clause-ok : goal.returns-clause-ok
 returns-clause-ok c =
-    let first : c.args.reader.now ≡ token_of c.in_ok-token.token ∷ c.next.new.self = grind arith in
-    let is = first ∙ ap (λ k. token_of k ∷ c.next.new.self) c.in-String.is in
-    (string c.in-String.text.now, ap (next c.args.depth) is ∙ next-string c.args.depth c.in-String.text.now c.next.new.self, refl)
+    let is = c.in_ok-token.ensures.ok ∙ ap (λ k. token_of k ∷ c.take_token.new.reader) c.in-String.is in
+    (string c.in-String.text.now, ap (next c.args.depth) is ∙ next-string c.args.depth c.in-String.text.now c.take_token.new.reader, refl)

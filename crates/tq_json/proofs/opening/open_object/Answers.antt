@@ -1,28 +1,20 @@
-use Rattle.std.proofs.Common.{◌≡◌, [], ◌∷◌, ap, ◌∙◌, arith}
+use Rattle.std.proofs.Common.{◌∷◌, ap, ◌∙◌, arith}
 use Rattle.json.specs.Reads.{token_of}
 use Rattle.tq_json.specs.Next.{next, HasNoNames}
-use Rattle.tq_json.proofs.Nexts.{next-nil, next-too_deep-object, next-begin_object, of_token, object_alone}
+use Rattle.tq_json.proofs.Nexts.{next-too_deep-object, next-begin_object, other_value, object_alone}
 use Rattle.tq_json.proofs.opening.open_object.Goals as goal
-
-pub returns-in_err-token-clause-err : goal.returns-in_err-token-clause-err
-returns-in_err-token-clause-err c refused =
-    let empty : c.args.reader.now ≡ [] = grind arith in
-    ap (next c.args.depth) empty ∙ next-nil c.args.depth
 
 pub returns-in_default-clause-ok : goal.returns-in_default-clause-ok
 returns-in_default-clause-ok c =
-    let first : c.args.reader.now ≡ token_of c.in_ok-token.token ∷ c.next.new.self = grind arith in
-    let d = c.in_ok-pass_rest.ensures.ok in
-    (d.0, ap (next c.args.depth) first ∙ d.1, of_token HasNoNames c.in_ok-token.token c.args.depth c.next.new.self c.pass_rest.new.reader d.0 d.1 (object_alone c.in_ok-token.token c.in_default.not-BeginObject))
+    other_value HasNoNames c.in_ok-token.token c.args.depth c.args.reader.now c.take_token.new.reader c.pass_rest.new.reader
+    c.in_ok-token.ensures.ok (object_alone c.in_ok-token.token c.in_default.not-BeginObject) c.in_ok-pass_rest.ensures.ok
 
 pub returns-then-depth-eq0-clause-err : goal.returns-then-depth-eq0-clause-err
 returns-then-depth-eq0-clause-err c refused =
-    let first : c.args.reader.now ≡ token_of c.in_ok-token.token ∷ c.next.new.self = grind arith in
-    let is = first ∙ ap (λ k. token_of k ∷ c.next.new.self) c.in-BeginObject.is in
-    ap (next c.args.depth) is ∙ next-too_deep-object c.args.depth c.next.new.self (omega arith)
+    let is = c.in_ok-token.ensures.ok ∙ ap (λ k. token_of k ∷ c.take_token.new.reader) c.in-BeginObject.is in
+    ap (next c.args.depth) is ∙ next-too_deep-object c.args.depth c.take_token.new.reader (omega arith)
 
 pub returns-clause-ok : goal.returns-clause-ok
 returns-clause-ok c =
-    let first : c.args.reader.now ≡ token_of c.in_ok-token.token ∷ c.next.new.self = grind arith in
-    let is = first ∙ ap (λ k. token_of k ∷ c.next.new.self) c.in-BeginObject.is in
-    (omega arith, ap (next c.args.depth) is ∙ next-begin_object c.args.depth c.next.new.self (omega arith))
+    let is = c.in_ok-token.ensures.ok ∙ ap (λ k. token_of k ∷ c.take_token.new.reader) c.in-BeginObject.is in
+    (omega arith, ap (next c.args.depth) is ∙ next-begin_object c.args.depth c.take_token.new.reader (omega arith))

@@ -1,8 +1,7 @@
-use Rattle.std.proofs.Common.{◌≡◌, ◌-◌, ◌^◌, ◌<◌, [], ◌∷◌, length, Some, ap, subst, ◌∙◌, arith}
+use Rattle.std.proofs.Common.{◌-◌, ◌^◌, ◌<◌, Some, ap, subst, ◌∙◌, arith}
 use Rattle.json.specs.Reads.{token_of}
 use Rattle.tq_json.specs.Next.{next}
 use Rattle.tq_json.specs.Behind.{behind, closed, Begins}
-use Rattle.tq_json.proofs.Nexts.{next-nil}
 use Rattle.tq_json.proofs.Behind.{its_end, its_value, innermost_ends, value_refused, one_more, below_bits, a_bit}
 use Rattle.tq_json.proofs.passing.+pass_open.Goals as goal
 
@@ -20,8 +19,7 @@ returns-in_err-token-clause-err t c refused =
     let whole = closed c.args.kind c.args.depth c.args.reader.now in
     let r = c.take_end.new.reader in
     let goes = its_value whole c.args.depth l.kinds l.inside l.reader l.invariant.0 r c.in_ok-take_end.field-0 c.in_ok-take_end.ensures.ok c.if-branch.false in
-    let empty : r ≡ [] = grind arith in
-    value_refused whole c.args.depth l.kinds l.inside l.reader l.invariant.0 r goes (ap (next (c.args.depth - l.inside)) empty ∙ next-nil (c.args.depth - l.inside))
+    value_refused whole c.args.depth l.kinds l.inside l.reader l.invariant.0 r goes (c.in_err-token.ensures.err (c.args.depth - l.inside))
 
 pub overflow_mul-kinds : goal.overflow_mul-kinds
 overflow_mul-kinds t c =
@@ -42,9 +40,8 @@ tokens-preserved t c =
     let l = c.tokens in
     let whole = closed c.args.kind c.args.depth c.args.reader.now in
     let r = c.take_end.new.reader in
-    let s = c.next.new.self in
+    let s = c.take_token.new.reader in
     let depth = c.args.depth - l.inside in
     let goes = its_value whole c.args.depth l.kinds l.inside l.reader l.invariant.0 r c.in_ok-take_end.field-0 c.in_ok-take_end.ensures.ok c.if-branch.false in
-    let first : r ≡ token_of c.in_ok-token.token ∷ s = grind arith in
     let begins : Begins (token_of c.in_ok-token.token) (Some c.in-Some.kind) = subst (Begins (token_of c.in_ok-token.token)) c.in-Some.is c.in_ok-kind.ensures.ok in
-    (one_more whole c.args.depth l.kinds l.inside l.reader l.invariant.0 r c.in-Some.kind c.from.result s c.from.ensures goes (ap (λ ts. behind (next depth ts)) first ∙ begins depth s) (omega arith), omega (arith, l.invariant.1), omega (arith, l.invariant.2, c.in_ok-take_end.ensures.shorter, ap length first))
+    (one_more whole c.args.depth l.kinds l.inside l.reader l.invariant.0 r c.in-Some.kind c.from.result s c.from.ensures goes (ap (λ ts. behind (next depth ts)) c.in_ok-token.ensures.ok ∙ begins depth s) (omega arith), omega (arith, l.invariant.1), omega (arith, l.invariant.2, c.in_ok-take_end.ensures.shorter, c.in_ok-token.ensures.shorter))
