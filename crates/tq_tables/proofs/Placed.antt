@@ -4,18 +4,15 @@ use Rattle.std.proofs.Common.{◌≡◌, ℕ, zero, suc, Bool, true, false, cond
 use Rattle.std.specs.Bool.{OnTrue}
 use Rattle.std.specs.Option.{unwrap_or}
 use Rattle.std.proofs.lemmas.List.Elements.{All-head, All-tail}
+use Rattle.std.proofs.lemmas.Option.{same_Some}
 use Rattle.indexmap.specs.IndexMap.{set_value_at}
 use Rattle.tq_store.specs.Names.{same_name}
 use Rattle.tq_store.proofs.SameName.{same_name-is, same_name-refl}
 use Rattle.tq_node.specs.Node.{NodeView}
 use Rattle.tq_tables.specs.declared.file_row.FileRow.{FileRow}
-use Rattle.tq_tables.specs.Files.{AreFiles, AreOfLevels, names_in, stood, stood_at}
+use Rattle.tq_tables.specs.Files.{AreFiles, AreOfLevels, names_in, stood, stood_at, IsOfLevels}
 use Rattle.tq_tables.specs.NamesApart.{is_in, Apart}
-use Rattle.tq_tables.proofs.Kept.{HasLevels, by_file, absent-stood, stood-file}
-
-pub on_true : {P : Type 0} (b : Bool) → (b ≡ true → P) → OnTrue b P
-on_true true holds = holds refl
-on_true false holds = tt
+use Rattle.tq_tables.proofs.Kept.{by_file, absent-stood, stood-file}
 
 -- ---- an entry by its place
 
@@ -35,26 +32,22 @@ no-value-at [] (suc place) entry none at = absurd (cc)
 no-value-at (first ∷ entries) zero entry none at = absurd (cc)
 no-value-at (first ∷ entries) (suc place) entry none at = no-value-at entries place entry none at
 
--- the parts of a pair that is known
-pub same_pair : (a b : List ℕ × FileRow) → Some a ≡ Some b → a ≡ b
-same_pair a b h = ap (λ o. unwrap_or o a) h
-
 module _ (file : List ℕ) (row : FileRow) where
   -- it is a row of the file, of the tree
-  pub at-row : (levels : ℕ) (rows : List FileRow) (place : ℕ) → AreOfLevels levels rows → slice_get (by_file rows) place ≡ Some (file, row) → (row.file ≡ file) × HasLevels levels row
+  pub at-row : (levels : ℕ) (rows : List FileRow) (place : ℕ) → AreOfLevels levels rows → slice_get (by_file rows) place ≡ Some (file, row) → (row.file ≡ file) × IsOfLevels levels row
   at-row levels [] zero of_tree at = absurd (cc)
   at-row levels [] (suc place) of_tree at = absurd (cc)
   at-row levels (first ∷ rows) zero of_tree at =
-      let is = same_pair (first.file, first) (file, row) at in
+      let is = same_Some (first.file, first) (file, row) at in
       let same : first ≡ row = ap (λ (p : List ℕ × FileRow). p.1) is in
-      (ap (λ (r : FileRow). r.file) (sym same) ∙ ap (λ (p : List ℕ × FileRow). p.0) is, subst (HasLevels levels) same (All-head (HasLevels levels) first rows of_tree))
-  at-row levels (first ∷ rows) (suc place) of_tree at = at-row levels rows place (All-tail (HasLevels levels) first rows of_tree) at
+      (ap (λ (r : FileRow). r.file) (sym same) ∙ ap (λ (p : List ℕ × FileRow). p.0) is, subst (IsOfLevels levels) same (All-head (IsOfLevels levels) first rows of_tree))
+  at-row levels (first ∷ rows) (suc place) of_tree at = at-row levels rows place (All-tail (IsOfLevels levels) first rows of_tree) at
 
   pub named-at : (rows : List FileRow) (place : ℕ) → slice_get (by_file rows) place ≡ Some (file, row) → is_in file (names_in rows) ≡ true
   named-at [] zero at = absurd (cc)
   named-at [] (suc place) at = absurd (cc)
   named-at (first ∷ rows) zero at =
-      let is = same_pair (first.file, first) (file, row) at in
+      let is = same_Some (first.file, first) (file, row) at in
       let name : first.file ≡ file = ap (λ (p : List ℕ × FileRow). p.0) is in
       ap (λ b. b || is_in file (names_in rows)) (ap (same_name file) name ∙ same_name-refl file)
   named-at (first ∷ rows) (suc place) at = by (same_name file first.file) (named-at rows place at)
@@ -69,7 +62,7 @@ module _ (file : List ℕ) (row : FileRow) where
   stand-placed node [] zero apart at = absurd (cc)
   stand-placed node [] (suc place) apart at = absurd (cc)
   stand-placed node (first ∷ rows) zero apart at =
-      let is = same_pair (first.file, first) (file, row) at in
+      let is = same_Some (first.file, first) (file, row) at in
       let same : first ≡ row = ap (λ (p : List ℕ × FileRow). p.1) is in
       let name : first.file ≡ file = ap (λ (p : List ℕ × FileRow). p.0) is in
       let here : same_name file first.file ≡ true = ap (same_name file) name ∙ same_name-refl file in
@@ -91,7 +84,7 @@ module _ (file : List ℕ) (row : FileRow) where
       by false s rest = λ i. (first.file, first) ∷ rest i
 
 -- the same of entries that are kept under the names of their files
-pub placed : (levels : ℕ) (entries : List (List ℕ × FileRow)) (place : ℕ) (file : List ℕ) (row : FileRow) → AreFiles levels entries → slice_get entries place ≡ Some (file, row) → (row.file ≡ file) × HasLevels levels row
+pub placed : (levels : ℕ) (entries : List (List ℕ × FileRow)) (place : ℕ) (file : List ℕ) (row : FileRow) → AreFiles levels entries → slice_get entries place ≡ Some (file, row) → (row.file ≡ file) × IsOfLevels levels row
 placed levels entries place file row are at = at-row file row levels (map (λ entry. entry.1) entries) place are.of_tree (ap (λ es. slice_get es place) (sym are.named) ∙ at)
 
 pub stand-entries-placed : (levels : ℕ) (node : NodeView) (entries : List (List ℕ × FileRow)) (place : ℕ) (file : List ℕ) (row : FileRow) → AreFiles levels entries → slice_get entries place ≡ Some (file, row)

@@ -1,18 +1,19 @@
 use Rattle.std.specs.Prelude.{slice_get}
 use Rattle.std.proofs.Common.{◌≡◌, ◌≤◌, ◌∙◌, ℕ, List, map, ap, sym, subst}
+use Rattle.std.proofs.lemmas.Option.{same_Some}
 use Rattle.tq_store.specs.Copies.{copy_of}
 use Rattle.tq_tables.specs.Early.{has_row}
 use Rattle.tq_tables.specs.Files as spec
 use Rattle.tq_tables.specs.Files.{FilesView}
 use Rattle.tq_tables.specs.declared.file_row.FileRow.{FileRow}
 use Rattle.tq_tables.proofs.Kept.{are-files, are-rows, by_file, Apart-stood, of_tree-stood}
-use Rattle.tq_tables.proofs.Placed.{named-at, placed, same_pair, stand-entries-placed}
+use Rattle.tq_tables.proofs.Placed.{named-at, placed, stand-entries-placed}
 use Rattle.tq_tables.proofs.file_table.FileTable.stand_again.Goals as goal
 
 pub stand_at-requires-clause-least : goal.stand_at-requires-clause-least
 stand_at-requires-clause-least c = λ name row at.
     let there = c.if-has_row_at.ensures in
-    let names : name ≡ c.args.file.now = ap (λ (p : List ℕ × FileRow). p.0) (same_pair (name, row) (c.args.file.now, there.0) (sym at ∙ there.1)) in
+    let names : name ≡ c.args.file.now = ap (λ (p : List ℕ × FileRow). p.0) (same_Some (name, row) (c.args.file.now, there.0) (sym at ∙ there.1)) in
     let file : row.file ≡ c.args.file.now = (placed c.self.inside.levels c.self.inside.rows.entries c.self.inside.last name row c.self.invariant at).0 ∙ names in
     subst (λ (f : List ℕ). c.args.least ≤ (copy_of c.args.node.now.state.records.copies f).version) (sym file) c.requires.least
 
