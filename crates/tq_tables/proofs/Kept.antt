@@ -1,27 +1,25 @@
 -- Rows that are kept under the names of their files.
 use Rattle.std.specs.Prelude.{◌||◌}
-use Rattle.std.proofs.Common.{◌≡◌, ℕ, ◌+◌, Bool, true, false, cond, List, [], ◌∷◌, ◌++◌, get_or, map, Some, None, refl, ap, sym, subst, ◌∙◌}
+use Rattle.std.proofs.Common.{◌≡◌, ℕ, ◌+◌, Bool, true, false, cond, List, [], ◌∷◌, ◌++◌, get_or, map, Some, None, is_some, refl, ap, sym, subst, ◌∙◌}
 use Rattle.std.specs.List.{All}
-use Rattle.std.specs.Map.{lookup, set_value}
+use Rattle.std.specs.List.{list_any}
+use Rattle.std.specs.Map.{lookup}
 use Rattle.std.specs.Option.{unwrap_or}
 use Rattle.std.proofs.lemmas.List.{append-nil, append_assoc, map-id, map-map}
 use Rattle.std.proofs.lemmas.List.Elements.{All-nil, All-cons, All-head, All-map, All-tail}
-use Rattle.std.proofs.lemmas.Option.{same_Some}
+use Rattle.std.proofs.lemmas.Map.Made.{is_some-lookup}
 use Rattle.indexmap.specs.IndexMap.{insert_entry}
 use Rattle.tq_store.specs.Names.{same_name}
 use Rattle.tq_store.proofs.SameName.{same_name-is, same_name-refl, same_name-sym}
 use Rattle.tq_node.specs.Node.{NodeView}
 use Rattle.tq_tables.specs.declared.file_row.FileRow.{FileRow}
 use Rattle.tq_tables.specs.Counted.{count_in, version_of}
-use Rattle.tq_tables.specs.Files.{AreExact, AreFiles, AreOfLevels, all_stood, moved, names_in, row_in, stood, stood_at, version_in, with_row, with_rows, IsOfLevels}
+use Rattle.tq_tables.specs.Files.{AreExact, AreFiles, AreOfLevels, all_stood, moved, names_in, row_in, stood, stood_at, version_in, with_row, with_rows, IsOfLevels, by_file}
 use Rattle.tq_tables.specs.NamesApart.{is_in, Apart}
 use Rattle.tq_tables.specs.Rows.{has_version, row_at}
 use Rattle.tq_tables.proofs.Names.{differ, or_parts, or-true}
 
 -- ---- rows by their names
-
-abbrev pub by_file : List FileRow → List (List ℕ × FileRow)
-by_file rows = map (λ row. (row.file, row)) rows
 
 rows-by_file : (rows : List FileRow) → map (λ entry. entry.1) (by_file rows) ≡ rows
 rows-by_file rows = map-map (λ (entry : List ℕ × FileRow). entry.1) (λ (row : FileRow). (row.file, row)) rows ∙ map-id rows
@@ -124,39 +122,12 @@ absent-stood node file (row ∷ rows) none =
     let both = or_parts (same_name file row.file) (is_in file (names_in rows)) none in
     λ i. cond (both.0 i) (stood node row) row ∷ absent-stood node file rows both.1 i
 
+-- a file has a row where one is found
+pub has_row-found : (file : List ℕ) (rows : List FileRow) → is_some (lookup (same_name file) (by_file rows)) ≡ is_in file (names_in rows)
+has_row-found file rows = is_some-lookup (same_name file) (by_file rows) ∙ ap (list_any (same_name file)) (map-map (λ (entry : List ℕ × FileRow). entry.0) (λ (row : FileRow). (row.file, row)) rows)
+
 pub no_row : (file : List ℕ) (rows : List FileRow) → lookup (same_name file) (by_file rows) ≡ None → is_in file (names_in rows) ≡ false
-no_row file [] none = refl
-no_row file (row ∷ rows) none = by (same_name file row.file) none (no_row file rows)
-  where
-    by : (b : Bool) → cond b (Some row) (lookup (same_name file) (by_file rows)) ≡ None → (lookup (same_name file) (by_file rows) ≡ None → is_in file (names_in rows) ≡ false) → (b || is_in file (names_in rows)) ≡ false
-    by true h rest = cc
-    by false h rest = rest h
-
-pub a_row : (file : List ℕ) (rows : List FileRow) (row : FileRow) → lookup (same_name file) (by_file rows) ≡ Some row → is_in file (names_in rows) ≡ true
-a_row file [] row found = cc
-a_row file (first ∷ rows) row found = by (same_name file first.file) found (a_row file rows row)
-  where
-    by : (b : Bool) → cond b (Some first) (lookup (same_name file) (by_file rows)) ≡ Some row → (lookup (same_name file) (by_file rows) ≡ Some row → is_in file (names_in rows) ≡ true) → (b || is_in file (names_in rows)) ≡ true
-    by true h rest = refl
-    by false h rest = rest h
-
-pub stand-none : (node : NodeView) (file : List ℕ) (rows : List FileRow) → lookup (same_name file) (by_file rows) ≡ None → map (stood_at node file) rows ≡ rows
-stand-none node file rows none = absent-stood node file rows (no_row file rows none)
-
-pub stand-entries : (node : NodeView) (file : List ℕ) (rows : List FileRow) (row : FileRow) → Apart (names_in rows) → lookup (same_name file) (by_file rows) ≡ Some row
-    → set_value (same_name file) (by_file rows) (stood node row) ≡ by_file (map (stood_at node file) rows)
-stand-entries node file [] row apart found = cc
-stand-entries node file (first ∷ rows) row apart found = by (same_name file first.file) refl found (stand-entries node file rows row apart.1)
-  where
-    by : (b : Bool) → same_name file first.file ≡ b → cond b (Some first) (lookup (same_name file) (by_file rows)) ≡ Some row
-        → (lookup (same_name file) (by_file rows) ≡ Some row → set_value (same_name file) (by_file rows) (stood node row) ≡ by_file (map (stood_at node file) rows))
-        → cond b ((first.file, stood node row) ∷ by_file rows) ((first.file, first) ∷ set_value (same_name file) (by_file rows) (stood node row))
-        ≡ ((cond b (stood node first) first).file, cond b (stood node first) first) ∷ by_file (map (stood_at node file) rows)
-    by true s h rest =
-        let is = same_Some first row h in
-        let none : is_in file (names_in rows) ≡ false = ap (λ (o : List ℕ). is_in o (names_in rows)) (same_name-is file first.file s) ∙ apart.0 in
-        (λ i. (sym (stood-file node first) i, stood node (sym is i)) ∷ by_file (sym (absent-stood node file rows none) i))
-    by false s h rest = λ i. (first.file, first) ∷ rest h i
+no_row file rows none = sym (has_row-found file rows) ∙ ap (λ o. is_some o) none
 
 -- ---- the row that is found
 

@@ -1,7 +1,8 @@
 -- A row that is found by its place.
 use Rattle.std.specs.Prelude.{◌||◌, slice_get}
-use Rattle.std.proofs.Common.{◌≡◌, ℕ, zero, suc, Bool, true, false, cond, List, [], ◌∷◌, map, Some, None, refl, ap, sym, subst, ◌∙◌}
+use Rattle.std.proofs.Common.{◌≡◌, ℕ, zero, suc, Bool, true, false, cond, List, [], ◌∷◌, map, Option, Some, None, is_some, true≢false, refl, ap, sym, subst, ◌∙◌}
 use Rattle.std.specs.Bool.{OnTrue}
+use Rattle.std.specs.Map.{lookup}
 use Rattle.std.specs.Option.{unwrap_or}
 use Rattle.std.proofs.lemmas.List.Elements.{All-head, All-tail}
 use Rattle.std.proofs.lemmas.Option.{same_Some}
@@ -10,9 +11,9 @@ use Rattle.tq_store.specs.Names.{same_name}
 use Rattle.tq_store.proofs.SameName.{same_name-is, same_name-refl}
 use Rattle.tq_node.specs.Node.{NodeView}
 use Rattle.tq_tables.specs.declared.file_row.FileRow.{FileRow}
-use Rattle.tq_tables.specs.Files.{AreFiles, AreOfLevels, names_in, stood, stood_at, IsOfLevels}
+use Rattle.tq_tables.specs.Files.{AreFiles, AreOfLevels, names_in, stood, stood_at, IsOfLevels, by_file, HasRowAt}
 use Rattle.tq_tables.specs.NamesApart.{is_in, Apart}
-use Rattle.tq_tables.proofs.Kept.{by_file, absent-stood, stood-file}
+use Rattle.tq_tables.proofs.Kept.{file-found, absent-stood, stood-file}
 
 -- ---- an entry by its place
 
@@ -92,3 +93,15 @@ pub stand-entries-placed : (levels : ℕ) (node : NodeView) (entries : List (Lis
 stand-entries-placed levels node entries place file row are at =
     ap (λ es. set_value_at es place (stood node row)) are.named
     ∙ stand-placed file row node (map (λ entry. entry.1) entries) place are.apart (ap (λ es. slice_get es place) (sym are.named) ∙ at)
+
+-- where the entry of the file is found at the place, its row stands there
+pub found-there : (levels : ℕ) (file : List ℕ) (rows : List FileRow) (place : ℕ) → AreOfLevels levels rows → slice_get (map (λ entry. entry.1) (by_file rows)) place ≡ lookup (same_name file) (by_file rows)
+    → true ≡ is_some (lookup (same_name file) (by_file rows)) → HasRowAt (by_file rows) place file
+found-there levels file rows place of_tree at some = by (lookup (same_name file) (by_file rows)) refl at some
+  where
+    by : (o : Option FileRow) → lookup (same_name file) (by_file rows) ≡ o → slice_get (map (λ entry. entry.1) (by_file rows)) place ≡ o → true ≡ is_some o → HasRowAt (by_file rows) place file
+    by None found at some = absurd (true≢false some)
+    by (Some row) found at some =
+        let there = value-at (by_file rows) place row at in
+        let name : there.0 ≡ file = sym (at-row there.0 row levels rows place of_tree there.1).0 ∙ file-found file rows row found in
+        (row, there.1 ∙ ap (λ (n : List ℕ). Some (n, row)) name)

@@ -59,6 +59,10 @@ pub record AreFiles (levels : ℕ) (entries : List (List ℕ × FileRow)) : Type
   pub apart : Apart (names_in (map (λ entry. entry.1) entries))
   pub of_tree : AreOfLevels levels (map (λ entry. entry.1) entries)
 
+-- the rows under their names
+abbrev pub by_file : List FileRow → List (List ℕ × FileRow)
+by_file rows = map (λ row. (row.file, row)) rows
+
 -- a row of the file stands at the place
 abbrev pub HasRowAt : List (List ℕ × FileRow) → ℕ → List ℕ → Type 0
 HasRowAt entries place file = (row : FileRow) × (slice_get entries place ≡ Some (file, row))
