@@ -1,7 +1,8 @@
 -- Asks and replies that pass the test of being the same are the same, and the other way round.
-use Rattle.std.proofs.Common.{◌≡◌, ◌==◌, ◌&&◌, Bool, true, List, [], ◌∷◌, Some, refl, sym, ap, ◌∙◌}
-use Rattle.std.specs.Cmp.Lexicographic.{pointwise}
-use Rattle.std.proofs.lemmas.Bool.{and_parts, and_from, eqb-true, eq-eqb, false≢true}
+use Rattle.std.proofs.Common.{◌≡◌, ◌==◌, ◌&&◌, ℕ, Bool, true, List, Some, refl, sym, ap, ◌∙◌}
+use Rattle.std.specs.Bool.{Decides}
+use Rattle.std.specs.Cmp.Lexicographic.{pointwise, pointwise_decides}
+use Rattle.std.proofs.lemmas.Bool.{and_parts, eqb-true, eq-eqb, false≢true}
 use Rattle.tq_store.specs.declared.write.Write.{Write}
 use Rattle.tq_locks.specs.declared.mode.Mode.{Mode}
 use Rattle.tq_locks.specs.declared.mode.Mode.TheVariants.{Shared, Exclusive}
@@ -36,136 +37,121 @@ use Rattle.tq_store.proofs.SameName.{same_name-is, same_name-refl}
 use Rattle.tq_asks.specs.Same.{same_cited, same_verdict}
 use Rattle.tq_equality.specs.Same.{same_mode, same_lock, same_write, same_work, same_node_ask, same_reason, same_node_reply, same_kind, same_grant, same_op, same_vote, same_desk_ask, same_desk_reason, same_desk_reply}
 
+number-self : (a : ℕ) → (a == a) ≡ true
+number-self a = eq-eqb a a refl
+
+module _ {A : Type 0} (test : A → A → Bool) (is : (a b : A) → test a b ≡ true → a ≡ b) (self : (a : A) → test a a ≡ true) where
+  -- a test that only equal values pass, and that each value passes with itself, decides equality
+  pub decides : (a b : A) → Decides (test a b) (a ≡ b)
+  decides a b = (is a b, λ same. ap (test a) (sym same) ∙ self a)
+
+  -- and so it does item by item
+  list-is : (a b : List A) → pointwise test a b ≡ true → a ≡ b
+  list-is a b same = (pointwise_decides decides a b).0 same
+
+  list-self : (a : List A) → pointwise test a a ≡ true
+  list-self a = (pointwise_decides decides a a).1 refl
+
 mode-is : (a b : Mode) → same_mode a b ≡ true → a ≡ b
 mode-is Shared Shared same = refl
 mode-is Exclusive Exclusive same = refl
-mode-is Shared Exclusive same = absurd (false≢true same)
-mode-is Exclusive Shared same = absurd (false≢true same)
+mode-is a b same = absurd (false≢true same)
 
 mode-self : (a : Mode) → same_mode a a ≡ true
 mode-self Shared = refl
 mode-self Exclusive = refl
 
-list-is : {A : Type 0} (test : A → A → Bool) → ((a b : A) → test a b ≡ true → a ≡ b) → (xs ys : List A) → pointwise test xs ys ≡ true → xs ≡ ys
-list-is test same [] [] is = refl
-list-is test same [] (y ∷ ys) is = absurd (false≢true is)
-list-is test same (x ∷ xs) [] is = absurd (false≢true is)
-list-is test same (x ∷ xs) (y ∷ ys) is =
-    let parts = and_parts (test x y) (pointwise test xs ys) is in
-    λ i. same x y parts.0 i ∷ list-is test same xs ys parts.1 i
-
-list-self : {A : Type 0} (test : A → A → Bool) → ((a : A) → test a a ≡ true) → (xs : List A) → pointwise test xs xs ≡ true
-list-self test self [] = refl
-list-self test self (x ∷ xs) = and_from (test x x) (pointwise test xs xs) (self x) (list-self test self xs)
-
 lock-is : (a b : HeldLock) → same_lock a b ≡ true → a ≡ b
 lock-is a b same =
-    let rest = and_parts (same_name a.file b.file && same_mode a.mode b.mode) (a.since == b.since) same in
-    let first = and_parts (same_name a.file b.file) (same_mode a.mode b.mode) rest.0 in
-    let file = same_name-is a.file b.file first.0 in
-    let mode = mode-is a.mode b.mode first.1 in
-    let since = eqb-true a.since b.since rest.1 in
-    λ i. record { file = file i; mode = mode i; since = since i }
+    let rest = and_parts _ _ same in
+    let first = and_parts _ _ rest.0 in
+    λ i. record { file = same_name-is a.file b.file first.0 i; mode = mode-is a.mode b.mode first.1 i; since = eqb-true a.since b.since rest.1 i }
 
 lock-self : (a : HeldLock) → same_lock a a ≡ true
-lock-self a = and_from (same_name a.file a.file && same_mode a.mode a.mode) (a.since == a.since) (and_from (same_name a.file a.file) (same_mode a.mode a.mode) (same_name-refl a.file) (mode-self a.mode)) (eq-eqb a.since a.since refl)
+lock-self a = simp (same_name-refl, mode-self, number-self)
+
+locks-are : (a b : List HeldLock) → pointwise same_lock a b ≡ true → a ≡ b
+locks-are = list-is same_lock lock-is lock-self
+
+locks-self : (a : List HeldLock) → pointwise same_lock a a ≡ true
+locks-self = list-self same_lock lock-is lock-self
 
 write-is : (a b : Write) → same_write a b ≡ true → a ≡ b
 write-is a b same =
-    let rest = and_parts (same_name a.file b.file && a.version == b.version) (same_name a.content b.content) same in
-    let first = and_parts (same_name a.file b.file) (a.version == b.version) rest.0 in
-    let file = same_name-is a.file b.file first.0 in
-    let version = eqb-true a.version b.version first.1 in
-    let content = same_name-is a.content b.content rest.1 in
-    λ i. record { file = file i; version = version i; content = content i }
+    let rest = and_parts _ _ same in
+    let first = and_parts _ _ rest.0 in
+    λ i. record { file = same_name-is a.file b.file first.0 i; version = eqb-true a.version b.version first.1 i; content = same_name-is a.content b.content rest.1 i }
 
 write-self : (a : Write) → same_write a a ≡ true
-write-self a = and_from (same_name a.file a.file && a.version == a.version) (same_name a.content a.content) (and_from (same_name a.file a.file) (a.version == a.version) (same_name-refl a.file) (eq-eqb a.version a.version refl)) (same_name-refl a.content)
+write-self a = simp (same_name-refl, number-self)
+
+writes-are : (a b : List Write) → pointwise same_write a b ≡ true → a ≡ b
+writes-are = list-is same_write write-is write-self
+
+writes-self : (a : List Write) → pointwise same_write a a ≡ true
+writes-self = list-self same_write write-is write-self
 
 cited-is : (a b : CitedVote) → same_cited a b ≡ true → a ≡ b
 cited-is a b same =
-    let parts = and_parts (a.server == b.server) (a.number == b.number) same in
-    let server = eqb-true a.server b.server parts.0 in
-    let number = eqb-true a.number b.number parts.1 in
-    λ i. record { server = server i; number = number i }
+    let parts = and_parts _ _ same in
+    λ i. record { server = eqb-true a.server b.server parts.0 i; number = eqb-true a.number b.number parts.1 i }
 
 cited-self : (a : CitedVote) → same_cited a a ≡ true
-cited-self a = and_from (a.server == a.server) (a.number == a.number) (eq-eqb a.server a.server refl) (eq-eqb a.number a.number refl)
+cited-self a = simp number-self
 
 pub verdict-is : (a b : Verdict) → same_verdict a b ≡ true → a ≡ b
 verdict-is verdicts.Abort verdicts.Abort same = refl
-verdict-is (verdicts.Commit votes) (verdicts.Commit others) same = ap (λ v. verdicts.Commit v) (list-is same_cited cited-is votes others same)
-verdict-is verdicts.Abort (verdicts.Commit others) same = absurd (false≢true same)
-verdict-is (verdicts.Commit votes) verdicts.Abort same = absurd (false≢true same)
+verdict-is (verdicts.Commit votes) (verdicts.Commit others) same = ap (λ v. verdicts.Commit v) (list-is same_cited cited-is cited-self votes others same)
+verdict-is a b same = absurd (false≢true same)
 
 verdict-self : (a : Verdict) → same_verdict a a ≡ true
 verdict-self verdicts.Abort = refl
-verdict-self (verdicts.Commit votes) = list-self same_cited cited-self votes
+verdict-self (verdicts.Commit votes) = list-self same_cited cited-is cited-self votes
 
 -- ---- a server's asks
 
 pub work-is : (a b : WorkAsk) → same_work a b ≡ true → a ≡ b
 work-is (work.Lock t f m) (work.Lock u g n) same =
-    let rest = and_parts (t == u && same_name f g) (same_mode m n) same in
-    let first = and_parts (t == u) (same_name f g) rest.0 in
-    let txn = eqb-true t u first.0 in
-    let file = same_name-is f g first.1 in
-    let mode = mode-is m n rest.1 in
-    λ i. work.Lock (txn i) (file i) (mode i)
+    let rest = and_parts _ _ same in
+    let first = and_parts _ _ rest.0 in
+    λ i. work.Lock (eqb-true t u first.0 i) (same_name-is f g first.1 i) (mode-is m n rest.1 i)
 work-is (work.Prepare t a) (work.Prepare u b) same =
-    let parts = and_parts (t == u) (pointwise same_write a b) same in
-    let txn = eqb-true t u parts.0 in
-    let writes = list-is same_write write-is a b parts.1 in
-    λ i. work.Prepare (txn i) (writes i)
+    let parts = and_parts _ _ same in
+    λ i. work.Prepare (eqb-true t u parts.0 i) (writes-are a b parts.1 i)
 work-is (work.Decide t v c) (work.Decide u w d) same =
-    let rest = and_parts (t == u && same_verdict v w) (c == d) same in
-    let first = and_parts (t == u) (same_verdict v w) rest.0 in
-    let txn = eqb-true t u first.0 in
-    let verdict = verdict-is v w first.1 in
-    let cite = eqb-true c d rest.1 in
-    λ i. work.Decide (txn i) (verdict i) (cite i)
+    let rest = and_parts _ _ same in
+    let first = and_parts _ _ rest.0 in
+    λ i. work.Decide (eqb-true t u first.0 i) (verdict-is v w first.1 i) (eqb-true c d rest.1 i)
 work-is (work.Release t) (work.Release u) same = ap (λ n. work.Release n) (eqb-true t u same)
 work-is (work.Peek f) (work.Peek g) same = ap (λ n. work.Peek n) (same_name-is f g same)
 work-is (work.Refresh f v c s) (work.Refresh g w d r) same =
-    let last = and_parts (same_name f g && v == w && same_name c d) (same_cited s r) same in
-    let rest = and_parts (same_name f g && v == w) (same_name c d) last.0 in
-    let first = and_parts (same_name f g) (v == w) rest.0 in
-    let file = same_name-is f g first.0 in
-    let version = eqb-true v w first.1 in
-    let content = same_name-is c d rest.1 in
-    let from = cited-is s r last.1 in
-    λ i. work.Refresh (file i) (version i) (content i) (from i)
+    let last = and_parts _ _ same in
+    let rest = and_parts _ _ last.0 in
+    let first = and_parts _ _ rest.0 in
+    λ i. work.Refresh (same_name-is f g first.0 i) (eqb-true v w first.1 i) (same_name-is c d rest.1 i) (cited-is s r last.1 i)
 work-is a b same = absurd (false≢true same)
 
 work-self : (a : WorkAsk) → same_work a a ≡ true
-work-self (work.Lock t f m) = and_from (t == t && same_name f f) (same_mode m m) (and_from (t == t) (same_name f f) (eq-eqb t t refl) (same_name-refl f)) (mode-self m)
-work-self (work.Prepare t a) = and_from (t == t) (pointwise same_write a a) (eq-eqb t t refl) (list-self same_write write-self a)
-work-self (work.Decide t v c) = and_from (t == t && same_verdict v v) (c == c) (and_from (t == t) (same_verdict v v) (eq-eqb t t refl) (verdict-self v)) (eq-eqb c c refl)
-work-self (work.Release t) = eq-eqb t t refl
+work-self (work.Lock t f m) = simp (number-self, same_name-refl, mode-self)
+work-self (work.Prepare t a) = simp (number-self, writes-self)
+work-self (work.Decide t v c) = simp (number-self, verdict-self)
+work-self (work.Release t) = number-self t
 work-self (work.Peek f) = same_name-refl f
-work-self (work.Refresh f v c s) =
-    and_from (same_name f f && v == v && same_name c c) (same_cited s s)
-    (and_from (same_name f f && v == v) (same_name c c) (and_from (same_name f f) (v == v) (same_name-refl f) (eq-eqb v v refl)) (same_name-refl c)) (cited-self s)
+work-self (work.Refresh f v c s) = simp (same_name-refl, number-self)
 
 pub node_ask-is : (a b : NodeAsk) → same_node_ask a b ≡ true → a ≡ b
 node_ask-is (node_asks.Work a) (node_asks.Work b) same = ap (λ w. node_asks.Work w) (work-is a b same)
 node_ask-is node_asks.Crash node_asks.Crash same = refl
 node_ask-is node_asks.Return node_asks.Return same = refl
 node_ask-is (node_asks.CrashIn k a) (node_asks.CrashIn l b) same =
-    let parts = and_parts (same_work a b) (k == l) same in
-    let ask = work-is a b parts.0 in
-    let after = eqb-true k l parts.1 in
-    λ i. node_asks.CrashIn (after i) (ask i)
+    let parts = and_parts _ _ same in
+    λ i. node_asks.CrashIn (eqb-true k l parts.1 i) (work-is a b parts.0 i)
 node_ask-is a b same = absurd (false≢true same)
 
-node_ask-self : (a : NodeAsk) → same_node_ask a a ≡ true
+pub node_ask-self : (a : NodeAsk) → same_node_ask a a ≡ true
 node_ask-self (node_asks.Work a) = work-self a
-node_ask-self node_asks.Crash = refl
-node_ask-self node_asks.Return = refl
-node_ask-self (node_asks.CrashIn k a) = and_from (same_work a a) (k == k) (work-self a) (eq-eqb k k refl)
-
-pub is-node_ask : (a b : NodeAsk) → a ≡ b → same_node_ask a b ≡ true
-is-node_ask a b same = ap (λ x. same_node_ask a x) (sym same) ∙ node_ask-self a
+node_ask-self (node_asks.CrashIn k a) = simp (work-self, number-self)
+node_ask-self a = refl
 
 -- ---- a server's replies
 
@@ -182,63 +168,42 @@ reason-is reasons.NothingHere reasons.NothingHere same = refl
 reason-is a b same = absurd (false≢true same)
 
 reason-self : (a : NodeRefusal) → same_reason a a ≡ true
-reason-self (reasons.Held a) = eq-eqb a a refl
+reason-self (reasons.Held a) = number-self a
 reason-self (reasons.NotLocked a) = same_name-refl a
-reason-self reasons.Down = refl
-reason-self reasons.AlreadyUp = refl
-reason-self reasons.AlreadyDown = refl
-reason-self reasons.Prepared = refl
-reason-self reasons.BadWrites = refl
-reason-self reasons.NotNewer = refl
-reason-self reasons.NothingHere = refl
+reason-self a = refl
 
 pub node_reply-is : (a b : NodeReply) → same_node_reply a b ≡ true → a ≡ b
 node_reply-is (replies.Granted v c) (replies.Granted w d) same =
-    let parts = and_parts (v == w) (same_name c d) same in
-    let version = eqb-true v w parts.0 in
-    let content = same_name-is c d parts.1 in
-    λ i. replies.Granted (version i) (content i)
+    let parts = and_parts _ _ same in
+    λ i. replies.Granted (eqb-true v w parts.0 i) (same_name-is c d parts.1 i)
 node_reply-is (replies.Yes a b) (replies.Yes c d) same =
-    let parts = and_parts (pointwise same_lock a c) (pointwise same_write b d) same in
-    let held = list-is same_lock lock-is a c parts.0 in
-    let writes = list-is same_write write-is b d parts.1 in
-    λ i. replies.Yes (held i) (writes i)
+    let parts = and_parts _ _ same in
+    λ i. replies.Yes (locks-are a c parts.0 i) (writes-are b d parts.1 i)
 node_reply-is replies.Installed replies.Installed same = refl
 node_reply-is replies.Discarded replies.Discarded same = refl
 node_reply-is replies.Released replies.Released same = refl
 node_reply-is (replies.Copy v c) (replies.Copy w d) same =
-    let parts = and_parts (v == w) (same_name c d) same in
-    let version = eqb-true v w parts.0 in
-    let content = same_name-is c d parts.1 in
-    λ i. replies.Copy (version i) (content i)
+    let parts = and_parts _ _ same in
+    λ i. replies.Copy (eqb-true v w parts.0 i) (same_name-is c d parts.1 i)
 node_reply-is replies.Refreshed replies.Refreshed same = refl
 node_reply-is replies.Crashed replies.Crashed same = refl
 node_reply-is replies.Returned replies.Returned same = refl
 node_reply-is (replies.Refused a) (replies.Refused b) same = ap (λ r. replies.Refused r) (reason-is a b same)
 node_reply-is a b same = absurd (false≢true same)
 
-node_reply-self : (a : NodeReply) → same_node_reply a a ≡ true
-node_reply-self (replies.Granted v c) = and_from (v == v) (same_name c c) (eq-eqb v v refl) (same_name-refl c)
-node_reply-self (replies.Yes a b) = and_from (pointwise same_lock a a) (pointwise same_write b b) (list-self same_lock lock-self a) (list-self same_write write-self b)
-node_reply-self (replies.Copy v c) = and_from (v == v) (same_name c c) (eq-eqb v v refl) (same_name-refl c)
+pub node_reply-self : (a : NodeReply) → same_node_reply a a ≡ true
+node_reply-self (replies.Granted v c) = simp (number-self, same_name-refl)
+node_reply-self (replies.Yes a b) = simp (locks-self, writes-self)
+node_reply-self (replies.Copy v c) = simp (number-self, same_name-refl)
 node_reply-self (replies.Refused a) = reason-self a
-node_reply-self replies.Installed = refl
-node_reply-self replies.Discarded = refl
-node_reply-self replies.Released = refl
-node_reply-self replies.Refreshed = refl
-node_reply-self replies.Crashed = refl
-node_reply-self replies.Returned = refl
-
-pub is-node_reply : (a b : NodeReply) → a ≡ b → same_node_reply a b ≡ true
-is-node_reply a b same = ap (λ x. same_node_reply a x) (sym same) ∙ node_reply-self a
+node_reply-self a = refl
 
 -- ---- the desk's asks
 
 kind-is : (a b : OpKind) → same_kind a b ≡ true → a ≡ b
 kind-is kinds.Read kinds.Read same = refl
 kind-is kinds.Write kinds.Write same = refl
-kind-is kinds.Read kinds.Write same = absurd (false≢true same)
-kind-is kinds.Write kinds.Read same = absurd (false≢true same)
+kind-is a b same = absurd (false≢true same)
 
 kind-self : (a : OpKind) → same_kind a a ≡ true
 kind-self kinds.Read = refl
@@ -246,84 +211,54 @@ kind-self kinds.Write = refl
 
 grant-is : (a b : Grant) → same_grant a b ≡ true → a ≡ b
 grant-is a b same =
-    let last = and_parts (a.server == b.server && a.number == b.number && same_mode a.mode b.mode && a.version == b.version) (same_name a.content b.content) same in
-    let fourth = and_parts (a.server == b.server && a.number == b.number && same_mode a.mode b.mode) (a.version == b.version) last.0 in
-    let third = and_parts (a.server == b.server && a.number == b.number) (same_mode a.mode b.mode) fourth.0 in
-    let first = and_parts (a.server == b.server) (a.number == b.number) third.0 in
-    let server = eqb-true a.server b.server first.0 in
-    let number = eqb-true a.number b.number first.1 in
+    let last = and_parts _ _ same in
+    let fourth = and_parts _ _ last.0 in
+    let third = and_parts _ _ fourth.0 in
+    let first = and_parts _ _ third.0 in
     let mode = mode-is a.mode b.mode third.1 in
-    let version = eqb-true a.version b.version fourth.1 in
     let content = same_name-is a.content b.content last.1 in
-    λ i. record { server = server i; number = number i; mode = mode i; version = version i; content = content i }
+    λ i. record { server = eqb-true a.server b.server first.0 i; number = eqb-true a.number b.number first.1 i; mode = mode i; version = eqb-true a.version b.version fourth.1 i; content = content i }
 
 grant-self : (a : Grant) → same_grant a a ≡ true
-grant-self a =
-    and_from (a.server == a.server && a.number == a.number && same_mode a.mode a.mode && a.version == a.version) (same_name a.content a.content)
-    (and_from (a.server == a.server && a.number == a.number && same_mode a.mode a.mode) (a.version == a.version)
-    (and_from (a.server == a.server && a.number == a.number) (same_mode a.mode a.mode) (and_from (a.server == a.server) (a.number == a.number) (eq-eqb a.server a.server refl) (eq-eqb a.number a.number refl)) (mode-self a.mode))
-    (eq-eqb a.version a.version refl))
-    (same_name-refl a.content)
+grant-self a = simp (number-self, mode-self, same_name-refl)
 
 op-is : (a b : Op) → same_op a b ≡ true → a ≡ b
 op-is a b same =
-    let last = and_parts (same_name a.file b.file && same_kind a.kind b.kind && a.version == b.version && same_name a.content b.content) (pointwise same_grant a.grants b.grants) same in
-    let fourth = and_parts (same_name a.file b.file && same_kind a.kind b.kind && a.version == b.version) (same_name a.content b.content) last.0 in
-    let third = and_parts (same_name a.file b.file && same_kind a.kind b.kind) (a.version == b.version) fourth.0 in
-    let first = and_parts (same_name a.file b.file) (same_kind a.kind b.kind) third.0 in
-    let file = same_name-is a.file b.file first.0 in
-    let kind = kind-is a.kind b.kind first.1 in
-    let version = eqb-true a.version b.version third.1 in
+    let last = and_parts _ _ same in
+    let fourth = and_parts _ _ last.0 in
+    let third = and_parts _ _ fourth.0 in
+    let first = and_parts _ _ third.0 in
     let content = same_name-is a.content b.content fourth.1 in
-    let grants = list-is same_grant grant-is a.grants b.grants last.1 in
-    λ i. record { file = file i; kind = kind i; version = version i; content = content i; grants = grants i }
+    let grants = list-is same_grant grant-is grant-self a.grants b.grants last.1 in
+    λ i. record { file = same_name-is a.file b.file first.0 i; kind = kind-is a.kind b.kind first.1 i; version = eqb-true a.version b.version third.1 i; content = content i; grants = grants i }
 
 op-self : (a : Op) → same_op a a ≡ true
-op-self a =
-    and_from (same_name a.file a.file && same_kind a.kind a.kind && a.version == a.version && same_name a.content a.content) (pointwise same_grant a.grants a.grants)
-    (and_from (same_name a.file a.file && same_kind a.kind a.kind && a.version == a.version) (same_name a.content a.content)
-    (and_from (same_name a.file a.file && same_kind a.kind a.kind) (a.version == a.version) (and_from (same_name a.file a.file) (same_kind a.kind a.kind) (same_name-refl a.file) (kind-self a.kind)) (eq-eqb a.version a.version refl))
-    (same_name-refl a.content))
-    (list-self same_grant grant-self a.grants)
+op-self a = simp (same_name-refl, kind-self, number-self, list-self same_grant grant-is grant-self)
 
 vote-is : (a b : Vote) → same_vote a b ≡ true → a ≡ b
 vote-is a b same =
-    let last = and_parts (a.server == b.server && a.number == b.number && pointwise same_lock a.held b.held) (pointwise same_write a.writes b.writes) same in
-    let third = and_parts (a.server == b.server && a.number == b.number) (pointwise same_lock a.held b.held) last.0 in
-    let first = and_parts (a.server == b.server) (a.number == b.number) third.0 in
-    let server = eqb-true a.server b.server first.0 in
-    let number = eqb-true a.number b.number first.1 in
-    let held = list-is same_lock lock-is a.held b.held third.1 in
-    let writes = list-is same_write write-is a.writes b.writes last.1 in
-    λ i. record { server = server i; number = number i; held = held i; writes = writes i }
+    let last = and_parts _ _ same in
+    let third = and_parts _ _ last.0 in
+    let first = and_parts _ _ third.0 in
+    let held = locks-are a.held b.held third.1 in
+    λ i. record { server = eqb-true a.server b.server first.0 i; number = eqb-true a.number b.number first.1 i; held = held i; writes = writes-are a.writes b.writes last.1 i }
 
 vote-self : (a : Vote) → same_vote a a ≡ true
-vote-self a =
-    and_from (a.server == a.server && a.number == a.number && pointwise same_lock a.held a.held) (pointwise same_write a.writes a.writes)
-    (and_from (a.server == a.server && a.number == a.number) (pointwise same_lock a.held a.held) (and_from (a.server == a.server) (a.number == a.number) (eq-eqb a.server a.server refl) (eq-eqb a.number a.number refl))
-    (list-self same_lock lock-self a.held))
-    (list-self same_write write-self a.writes)
+vote-self a = simp (number-self, locks-self, writes-self)
 
 pub desk_ask-is : (a b : DeskAsk) → same_desk_ask a b ≡ true → a ≡ b
 desk_ask-is desk_asks.Begin desk_asks.Begin same = refl
 desk_ask-is (desk_asks.Commit t a v) (desk_asks.Commit u b w) same =
-    let rest = and_parts (t == u && pointwise same_op a b) (pointwise same_vote v w) same in
-    let first = and_parts (t == u) (pointwise same_op a b) rest.0 in
-    let txn = eqb-true t u first.0 in
-    let ops = list-is same_op op-is a b first.1 in
-    let votes = list-is same_vote vote-is v w rest.1 in
-    λ i. desk_asks.Commit (txn i) (ops i) (votes i)
+    let rest = and_parts _ _ same in
+    let first = and_parts _ _ rest.0 in
+    λ i. desk_asks.Commit (eqb-true t u first.0 i) (list-is same_op op-is op-self a b first.1 i) (list-is same_vote vote-is vote-self v w rest.1 i)
 desk_ask-is (desk_asks.Resolve t) (desk_asks.Resolve u) same = ap (λ n. desk_asks.Resolve n) (eqb-true t u same)
 desk_ask-is a b same = absurd (false≢true same)
 
-desk_ask-self : (a : DeskAsk) → same_desk_ask a a ≡ true
+pub desk_ask-self : (a : DeskAsk) → same_desk_ask a a ≡ true
 desk_ask-self desk_asks.Begin = refl
-desk_ask-self (desk_asks.Commit t a v) =
-    and_from (t == t && pointwise same_op a a) (pointwise same_vote v v) (and_from (t == t) (pointwise same_op a a) (eq-eqb t t refl) (list-self same_op op-self a)) (list-self same_vote vote-self v)
-desk_ask-self (desk_asks.Resolve t) = eq-eqb t t refl
-
-pub is-desk_ask : (a b : DeskAsk) → a ≡ b → same_desk_ask a b ≡ true
-is-desk_ask a b same = ap (λ x. same_desk_ask a x) (sym same) ∙ desk_ask-self a
+desk_ask-self (desk_asks.Commit t a v) = simp (number-self, list-self same_op op-is op-self, list-self same_vote vote-is vote-self)
+desk_ask-self (desk_asks.Resolve t) = number-self t
 
 -- ---- the desk's replies
 
@@ -349,11 +284,9 @@ desk_reason-is desk_reasons.TooManyFiles desk_reasons.TooManyFiles same = refl
 desk_reason-is a b same = absurd (false≢true same)
 
 desk_reason-self : (a : DeskRefusal) → same_desk_reason a a ≡ true
-desk_reason-self desk_reasons.NoSuchTxn = refl
 desk_reason-self (desk_reasons.Decided a) = verdict-self a
-desk_reason-self desk_reasons.TooManyOps = refl
-desk_reason-self (desk_reasons.BadEvidence a) = eq-eqb (rule_number a) (rule_number a) refl
-desk_reason-self desk_reasons.TooManyFiles = refl
+desk_reason-self (desk_reasons.BadEvidence a) = number-self (rule_number a)
+desk_reason-self a = refl
 
 pub desk_reply-is : (a b : DeskReply) → same_desk_reply a b ≡ true → a ≡ b
 desk_reply-is (desk_replies.Txn a) (desk_replies.Txn b) same = ap (λ n. desk_replies.Txn n) (eqb-true a b same)
@@ -362,11 +295,8 @@ desk_reply-is (desk_replies.Committed a) (desk_replies.Committed b) same = ap (�
 desk_reply-is (desk_replies.Refused a) (desk_replies.Refused b) same = ap (λ r. desk_replies.Refused r) (desk_reason-is a b same)
 desk_reply-is a b same = absurd (false≢true same)
 
-desk_reply-self : (a : DeskReply) → same_desk_reply a a ≡ true
-desk_reply-self (desk_replies.Txn a) = eq-eqb a a refl
+pub desk_reply-self : (a : DeskReply) → same_desk_reply a a ≡ true
+desk_reply-self (desk_replies.Txn a) = number-self a
 desk_reply-self (desk_replies.Verdict a) = verdict-self a
-desk_reply-self (desk_replies.Committed a) = eq-eqb a a refl
+desk_reply-self (desk_replies.Committed a) = number-self a
 desk_reply-self (desk_replies.Refused a) = desk_reason-self a
-
-pub is-desk_reply : (a b : DeskReply) → a ≡ b → same_desk_reply a b ≡ true
-is-desk_reply a b same = ap (λ x. same_desk_reply a x) (sym same) ∙ desk_reply-self a

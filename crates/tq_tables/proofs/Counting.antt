@@ -1,6 +1,6 @@
 -- Commits counted one after another.
 use Rattle.std.specs.Prelude.{◌||◌, ◌&&◌, not}
-use Rattle.std.proofs.Common.{◌≡◌, ℕ, suc, ◌+◌, ◌≤◌, Bool, true, false, cond, List, [], ◌∷◌, ◌++◌, length, map, filter, Option, Some, None, is_some, refl, ap, sym, subst, ◌∙◌, arith}
+use Rattle.std.proofs.Common.{◌≡◌, ℕ, suc, ◌+◌, ◌≤◌, Bool, true, false, cond, List, [], ◌∷◌, ◌++◌, length, map, filter, Option, Some, None, is_some, add-zero, refl, ap, sym, subst, ◌∙◌, arith}
 use mathlib.Core.Bool.{true≢false}
 use Rattle.std.specs.Cmp.Lexicographic.{texts_ties}
 use Rattle.std.specs.FinMap as fin
@@ -25,7 +25,7 @@ use Rattle.tq_store.proofs.SameName.{same_name-is, same_name-refl, same_name-sym
 use Rattle.tq_desk.proofs.WrittenNames.{written-is}
 use Rattle.tq_tables.specs.Rows.{files_in, files_of}
 use Rattle.tq_tables.specs.Counted.{counted, count_in, names_of, with_one, with_each}
-use Rattle.tq_tables.proofs.Names.{is_in, Apart, or_false, or_nothing, either, or_swap, filter-same, without, without-more, is_in-filter, Apart-filter, Apart-append, Apart-keys}
+use Rattle.tq_tables.proofs.Names.{is_in, Apart, or_parts, or-false, either, or_comm, filter_agree, without, without-more, is_in-filter, Apart-filter, Apart-append, Apart-keys}
 
 -- ---- names listed with a number each
 
@@ -66,12 +66,9 @@ count_in-listed n name names absent = ap (λ o. unwrap_or o 0) (lookup-listed n 
 listed-apart : (n : List ℕ → ℕ) (name : List ℕ) (names : List (List ℕ)) → is_in name names ≡ false → listed n names ≡ listed (plus_one n name) names
 listed-apart n name [] apart = refl
 listed-apart n name (other ∷ names) apart =
-    let both = or_false (same_name name other) (is_in name names) apart in
-    let same : n other ≡ plus_one n name other = plain (n other) ∙ ap (λ b. n other + cond b 1 0) (sym both.0) in
+    let both = or_parts (same_name name other) (is_in name names) apart in
+    let same : n other ≡ plus_one n name other = sym (add-zero (n other)) ∙ ap (λ b. n other + cond b 1 0) (sym both.0) in
     λ i. (other, same i) ∷ listed-apart n name names both.1 i
-  where
-    plain : (k : ℕ) → k ≡ k + 0
-    plain k = omega arith
 
 insert-listed : (n : List ℕ → ℕ) (name : List ℕ) (names : List (List ℕ)) → Apart names → (is_in name names ≡ false → n name ≡ 0)
     → insert_entry same_name (listed n names) name (n name + 1) ≡ listed (plus_one n name) (with_name names name)
@@ -81,9 +78,6 @@ insert-listed n name (other ∷ names) apart absent = by (same_name name other) 
     push : (b : Bool) → other ∷ cond b names (names ++ name ∷ []) ≡ cond b (other ∷ names) (other ∷ (names ++ name ∷ []))
     push true = refl
     push false = refl
-
-    plain : (k : ℕ) → k ≡ k + 0
-    plain k = omega arith
 
     by : (b : Bool) → same_name name other ≡ b → ((b || is_in name names) ≡ false → n name ≡ 0)
         → ((is_in name names ≡ false → n name ≡ 0) → insert_entry same_name (listed n names) name (n name + 1) ≡ listed (plus_one n name) (with_name names name))
@@ -95,7 +89,7 @@ insert-listed n name (other ∷ names) apart absent = by (same_name name other) 
         let rest : listed n names ≡ listed (plus_one n name) names = listed-apart n name names (ap (λ (o : List ℕ). is_in o names) same ∙ apart.0) in
         λ i. (other, value i) ∷ rest i
     by false s none ih =
-        let value : n other ≡ plus_one n name other = plain (n other) ∙ ap (λ b. n other + cond b 1 0) (sym s) in
+        let value : n other ≡ plus_one n name other = sym (add-zero (n other)) ∙ ap (λ b. n other + cond b 1 0) (sym s) in
         let rest = ih none in
         (λ i. (other, value i) ∷ rest i) ∙ ap (listed (plus_one n name)) (push (is_in name names))
 
@@ -115,7 +109,7 @@ Apart-with_name names name apart = by (is_in name names) refl
   where
     by : (b : Bool) → is_in name names ≡ b → Apart (cond b names (names ++ name ∷ []))
     by true there = apart
-    by false there = Apart-append names (name ∷ []) apart (refl, tt) (λ other here. or_nothing (same_name other name) ∙ differs other here (same_name other name) refl)
+    by false there = Apart-append names (name ∷ []) apart (refl, tt) (λ other here. or-false (same_name other name) ∙ differs other here (same_name other name) refl)
       where
         differs : (other : List ℕ) → is_in other names ≡ true → (b : Bool) → same_name other name ≡ b → same_name other name ≡ false
         differs other here false s = s
@@ -132,16 +126,13 @@ not_there names name other none = by (is_in name names) refl none
     by : (b : Bool) → is_in name names ≡ b → is_in other (cond b names (names ++ name ∷ [])) ≡ false → (is_in other names ≡ false) × (same_name name other ≡ false)
     by true there h = (h, differs there h (same_name name other) refl)
     by false there h =
-        let both = or_false (is_in other names) (same_name other name || false) (sym (list_any-append (same_name other) names (name ∷ [])) ∙ h) in
-        (both.0, same_name-sym name other ∙ sym (or_nothing (same_name other name)) ∙ both.1)
+        let both = or_parts (is_in other names) (same_name other name || false) (sym (list_any-append (same_name other) names (name ∷ [])) ∙ h) in
+        (both.0, same_name-sym name other ∙ sym (or-false (same_name other name)) ∙ both.1)
 
 each-listed : (more : List (List ℕ)) (n : List ℕ → ℕ) (names : List (List ℕ)) → Apart more → Apart names → ((name : List ℕ) → is_in name names ≡ false → n name ≡ 0)
     → with_each (listed n names) more ≡ listed (plus_each n more) (names ++ without names more)
 each-listed [] n names apart distinct absent =
-    listed-same n (plus_each n []) (λ name. plain (n name)) names ∙ ap (listed (plus_each n [])) (sym (append-nil names))
-  where
-    plain : (k : ℕ) → k ≡ k + 0
-    plain k = omega arith
+    listed-same n (plus_each n []) (λ name. sym (add-zero (n name))) names ∙ ap (listed (plus_each n [])) (sym (append-nil names))
 each-listed (name ∷ more) n names apart distinct absent =
     ap (λ counts. with_each counts more) (one-listed n name names distinct (absent name))
     ∙ each-listed more (plus_one n name) (with_name names name) apart.1 (Apart-with_name names name distinct) gone
@@ -152,13 +143,10 @@ each-listed (name ∷ more) n names apart distinct absent =
     add k true = omega arith
     add k false = omega arith
 
-    none : (k : ℕ) → (k + 0) ≡ k
-    none k = omega arith
-
     gone : (other : List ℕ) → is_in other (with_name names name) ≡ false → plus_one n name other ≡ 0
     gone other h =
         let both = not_there names name other h in
-        ap (λ b. n other + cond b 1 0) both.1 ∙ none (n other) ∙ absent other both.0
+        ap (λ b. n other + cond b 1 0) both.1 ∙ add-zero (n other) ∙ absent other both.0
 
     same : (other : List ℕ) → plus_each (plus_one n name) more other ≡ plus_each n (name ∷ more) other
     same other = at (same_name name other) refl
@@ -210,7 +198,7 @@ is_in-names_of name ops =
     same_any (fin.keys (with_files fin.empty ops))
     ∙ sym (fin.contains_key-keys (with_files fin.empty ops) name)
     ∙ written-is (record { txn = 0; ops = ops; votes = [] } ∷ []) name
-    ∙ or_nothing (list_any (writes_file name) ops)
+    ∙ or-false (list_any (writes_file name) ops)
   where
     same_any : (names : List (List ℕ)) → list_any (same_name name) names ≡ list_any (Rattle.std.specs.Ordering.eq_by_cmp name_cmp name) names
     same_any [] = refl
@@ -224,7 +212,7 @@ is_in-files_in name (commit ∷ earlier) =
     ∙ ap (λ b. is_written earlier name || b) (is_in-filter (λ file. not (is_written earlier file)) name (files_of commit))
     ∙ either (is_written earlier name) (is_in name (files_of commit))
     ∙ ap (λ b. is_written earlier name || b) (is_in-names_of name commit.ops)
-    ∙ or_swap (is_written earlier name) (list_any (writes_file name) commit.ops)
+    ∙ or_comm (is_written earlier name) (list_any (writes_file name) commit.ops)
 
 pub Apart-files_in : (list : List Commit) → Apart (files_in list)
 Apart-files_in [] = tt
@@ -247,7 +235,7 @@ found p (op ∷ ops) = at (p op) (found p ops)
 count-absent : (name : List ℕ) (list : List Commit) → is_written list name ≡ false → count name list ≡ 0
 count-absent name [] none = refl
 count-absent name (commit ∷ earlier) none =
-    let both = or_false (list_any (writes_file name) commit.ops) (is_written earlier name) none in
+    let both = or_parts (list_any (writes_file name) commit.ops) (is_written earlier name) none in
     by (find (writes_file name) commit.ops) (found (writes_file name) commit.ops ∙ both.0) (count-absent name earlier both.1)
   where
     by : (op : Option Op) → is_some op ≡ false → count name earlier ≡ 0 → count_one op (count name earlier) ≡ 0
@@ -271,7 +259,7 @@ counted-more commit earlier =
     (λ name none. count-absent name earlier (sym (is_in-files_in name earlier) ∙ none))
     ∙ listed-same (plus_each n (names_of commit.ops)) (λ name. count name (commit ∷ earlier)) (λ name. count-more name commit earlier) (files_in earlier ++ without (files_in earlier) (names_of commit.ops))
     ∙ ap (λ new. listed (λ name. count name (commit ∷ earlier)) (files_in earlier ++ new))
-    (filter-same (λ name. not (is_in name (files_in earlier))) (λ name. not (is_written earlier name)) (λ name. ap not (is_in-files_in name earlier)) (names_of commit.ops))
+    (filter_agree (λ name. not (is_in name (files_in earlier))) (λ name. not (is_written earlier name)) (λ name. ap not (is_in-files_in name earlier)) (names_of commit.ops))
 
 -- what a file is counted as
 pub count_in-counted : (list : List Commit) (name : List ℕ) → count_in (counted list) name ≡ count name list

@@ -4,7 +4,8 @@ use Rattle.std.proofs.Common.{◌≡◌, ℕ, ◌+◌, ◌<◌, ◌≤◌, Bool,
 use Rattle.std.specs.Bool.{OnTrue}
 use Rattle.std.specs.FinMap.{get-empty}
 use Rattle.std.specs.List.{All}
-use Rattle.std.proofs.lemmas.List.{map-append}
+use Rattle.std.proofs.lemmas.Bool.{eqb-true}
+use Rattle.std.proofs.lemmas.List.{length-set, map-append}
 use Rattle.std.proofs.lemmas.List.Elements.{All-nil, All-cons, All-head, All-tail, All-set, All-push}
 use Rattle.std.proofs.SliceLists.{all_by_recursion_push}
 use Rattle.tq_shape.specs.ServerSet.{Servers, has_number, with_number}
@@ -24,14 +25,11 @@ use Rattle.tq_tables.specs.NamesApart.{is_in}
 use Rattle.tq_tables.specs.Parts.{AreOfTree}
 use Rattle.tq_tables.specs.Rows.{has_version, servers_where}
 use Rattle.tq_tables.proofs.Kept.{names-stood}
-use Rattle.tq_tables.proofs.Names.{or_false}
+use Rattle.tq_tables.proofs.Names.{or_parts}
 use Rattle.tq_tables.proofs.RowLaws.{at-place, take-next}
-use Rattle.tq_tables.proofs.Stood.{eq-above, eq-self, length-set-nodes, same-set, those}
+use Rattle.tq_tables.proofs.Stood.{eq-above, eq-self, same-set, those}
 
 -- ---- numbers in a set
-
-pub same-number : (a b : ℕ) → (a == b) ≡ true → a ≡ b
-same-number a b h = grind (arith, h)
 
 or-twice : (a b : Bool) → (a || b) ≡ (a || (a || b))
 or-twice true b = refl
@@ -52,7 +50,7 @@ has-with more number (first ∷ rest) = by (nat_lt more first) (more == first) r
         → has_number (cond a (more ∷ first ∷ rest) (cond b (first ∷ rest) (first ∷ with_number more rest))) number ≡ ((more == number) || has_number (first ∷ rest) number)
     by true b is after = refl
     by false true is after =
-        let same = same-number more first is in
+        let same = eqb-true more first is in
         or-twice (first == number) (has_number rest number)
         ∙ ap (λ (k : ℕ). (k == number) || has_number (first ∷ rest) number) (sym same)
     by false false is after =
@@ -60,7 +58,7 @@ has-with more number (first ∷ rest) = by (nat_lt more first) (more == first) r
 
 -- one that is not there with one more was not there before
 pub lacks-before : (more number : ℕ) (numbers : List ℕ) → has_number (with_number more numbers) number ≡ false → ((more == number) ≡ false) × (has_number numbers number ≡ false)
-lacks-before more number numbers lacks = or_false (more == number) (has_number numbers number) (sym (has-with more number numbers) ∙ lacks)
+lacks-before more number numbers lacks = or_parts (more == number) (has_number numbers number) (sym (has-with more number numbers) ∙ lacks)
 
 pub has-itself : (number : ℕ) (numbers : List ℕ) → has_number (with_number number numbers) number ≡ true
 has-itself number numbers = has-with number number numbers ∙ ap (λ (b : Bool). b || has_number numbers number) (eq-self number)
@@ -97,7 +95,7 @@ missing-one file (first ∷ rows) row none = by (same_name row.file first.file) 
         → (has_row (with_row rows row) file ≡ false → has_row rows file ≡ false) → has_row (first ∷ rows) file ≡ false
     by true same gone rest = ap (λ (name : List ℕ). same_name file name || has_row rows file) (sym (same_name-is row.file first.file same)) ∙ gone
     by false same gone rest =
-        let both = or_false (same_name file first.file) (has_row (with_row rows row) file) gone in
+        let both = or_parts (same_name file first.file) (has_row (with_row rows row) file) gone in
         λ i. both.0 i || rest both.1 i
 
 missing-before : (file : List ℕ) (more rows : List FileRow) → has_row (with_rows rows more) file ≡ false → has_row rows file ≡ false
@@ -183,7 +181,7 @@ module _ (levels : ℕ) (nodes : List NodeView) (rows : List FileRow) (place : �
   held-asked true have holders are =
       record {
         levels_are = are.levels_are;
-        within = λ k d h. let fits = are.within k d h in let count = length-set-nodes nodes place node in omega (arith, fits, count);
+        within = λ k d h. let fits = are.within k d h in let count = length-set nodes place node in omega (arith, fits, count);
         all = all-then holders are;
         others = λ file none.
             let missing = missing-then file none in
@@ -199,7 +197,7 @@ module _ (levels : ℕ) (nodes : List NodeView) (rows : List FileRow) (place : �
         levels_are = are.levels_are;
         within =
             let number = (at-place levels 1 nodes of_tree place old less at).1 in
-            let count = length-set-nodes nodes place node in
+            let count = length-set nodes place node in
             All-with (λ (k : ℕ). k ≤ length (set nodes place node)) node.server holders.early.numbers (omega (arith, same, number, count, less))
             (λ k d h. let fits = are.within k d h in omega (arith, fits, count));
         all = all-then holders are;

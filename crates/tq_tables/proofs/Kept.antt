@@ -1,33 +1,28 @@
 -- Rows that are kept under the names of their files.
 use Rattle.std.specs.Prelude.{◌||◌}
-use Rattle.std.proofs.Common.{◌≡◌, ℕ, ◌+◌, Bool, true, false, cond, List, [], ◌∷◌, ◌++◌, map, Some, None, refl, ap, sym, subst, ◌∙◌}
+use Rattle.std.proofs.Common.{◌≡◌, ℕ, ◌+◌, Bool, true, false, cond, List, [], ◌∷◌, ◌++◌, get_or, map, Some, None, is_some, refl, ap, sym, subst, ◌∙◌}
 use Rattle.std.specs.List.{All}
-use Rattle.std.specs.Map.{lookup, set_value}
+use Rattle.std.specs.List.{list_any}
+use Rattle.std.specs.Map.{lookup}
 use Rattle.std.specs.Option.{unwrap_or}
-use Rattle.std.proofs.lemmas.List.{append-nil, append_assoc}
-use Rattle.std.proofs.lemmas.List.Elements.{All-nil, All-cons, All-head, All-tail}
+use Rattle.std.proofs.lemmas.List.{append-nil, append_assoc, map-id, map-map}
+use Rattle.std.proofs.lemmas.List.Elements.{All-nil, All-cons, All-head, All-map, All-tail}
+use Rattle.std.proofs.lemmas.Map.Made.{is_some-lookup}
 use Rattle.indexmap.specs.IndexMap.{insert_entry}
 use Rattle.tq_store.specs.Names.{same_name}
 use Rattle.tq_store.proofs.SameName.{same_name-is, same_name-refl, same_name-sym}
 use Rattle.tq_node.specs.Node.{NodeView}
 use Rattle.tq_tables.specs.declared.file_row.FileRow.{FileRow}
 use Rattle.tq_tables.specs.Counted.{count_in, version_of}
-use Rattle.tq_tables.specs.Files.{AreExact, AreFiles, AreOfLevels, all_stood, moved, names_in, row_in, stood, stood_at, version_in, with_row, with_rows}
+use Rattle.tq_tables.specs.Files.{AreExact, AreFiles, AreOfLevels, all_stood, moved, names_in, row_in, stood, stood_at, version_in, with_row, with_rows, IsOfLevels, by_file}
 use Rattle.tq_tables.specs.NamesApart.{is_in, Apart}
 use Rattle.tq_tables.specs.Rows.{has_version, row_at}
-use Rattle.tq_tables.proofs.Names.{differ, or_false, or_true}
+use Rattle.tq_tables.proofs.Names.{differ, or_parts, or-true}
 
 -- ---- rows by their names
 
-abbrev pub by_file : List FileRow → List (List ℕ × FileRow)
-by_file rows = map (λ row. (row.file, row)) rows
-
 rows-by_file : (rows : List FileRow) → map (λ entry. entry.1) (by_file rows) ≡ rows
-rows-by_file [] = refl
-rows-by_file (row ∷ rows) = ap (λ (rest : List FileRow). row ∷ rest) (rows-by_file rows)
-
-abbrev pub HasLevels : ℕ → FileRow → Type 0
-HasLevels levels row = (row.current.levels ≡ levels) × (row.stale.levels ≡ levels)
+rows-by_file rows = map-map (λ (entry : List ℕ × FileRow). entry.1) (λ (row : FileRow). (row.file, row)) rows ∙ map-id rows
 
 pub are-files : (levels : ℕ) (entries : List (List ℕ × FileRow)) (rows : List FileRow) → entries ≡ by_file rows → Apart (names_in rows) → AreOfLevels levels rows → AreFiles levels entries
 are-files levels entries rows is apart of_tree =
@@ -55,7 +50,7 @@ put-entries (first ∷ rows) row = by (same_name row.file first.file) refl (put-
 is_in-with_row : (other : List ℕ) (rows : List FileRow) (row : FileRow) → is_in other (names_in rows) ≡ false → same_name other row.file ≡ false → is_in other (names_in (with_row rows row)) ≡ false
 is_in-with_row other [] row none differs = ap (λ (b : Bool). b || false) differs
 is_in-with_row other (first ∷ rows) row none differs =
-    let both = or_false (same_name other first.file) (is_in other (names_in rows)) none in
+    let both = or_parts (same_name other first.file) (is_in other (names_in rows)) none in
     by (same_name row.file first.file) both.0 both.1 (is_in-with_row other rows row both.1 differs)
   where
     by : (b : Bool) → same_name other first.file ≡ false → is_in other (names_in rows) ≡ false → is_in other (names_in (with_row rows row)) ≡ false
@@ -71,13 +66,13 @@ Apart-with_row (first ∷ rows) row apart = by (same_name row.file first.file) r
     by true s rest = (ap (λ (o : List ℕ). is_in o (names_in rows)) (same_name-is row.file first.file s) ∙ apart.0, apart.1)
     by false s rest = (is_in-with_row first.file rows row apart.0 (same_name-sym first.file row.file ∙ s), rest)
 
-pub of_tree-with_row : (levels : ℕ) (rows : List FileRow) (row : FileRow) → AreOfLevels levels rows → (row.current.levels ≡ levels) × (row.stale.levels ≡ levels) → AreOfLevels levels (with_row rows row)
-of_tree-with_row levels [] row of_tree is = All-cons (HasLevels levels) row [] is (All-nil (HasLevels levels))
-of_tree-with_row levels (first ∷ rows) row of_tree is = by (same_name row.file first.file) (of_tree-with_row levels rows row (All-tail (HasLevels levels) first rows of_tree) is)
+pub of_tree-with_row : (levels : ℕ) (rows : List FileRow) (row : FileRow) → AreOfLevels levels rows → IsOfLevels levels row → AreOfLevels levels (with_row rows row)
+of_tree-with_row levels [] row of_tree is = All-cons (IsOfLevels levels) row [] is (All-nil (IsOfLevels levels))
+of_tree-with_row levels (first ∷ rows) row of_tree is = by (same_name row.file first.file) (of_tree-with_row levels rows row (All-tail (IsOfLevels levels) first rows of_tree) is)
   where
     by : (b : Bool) → AreOfLevels levels (with_row rows row) → AreOfLevels levels (cond b (row ∷ rows) (first ∷ with_row rows row))
-    by true rest = All-cons (HasLevels levels) row rows is (All-tail (HasLevels levels) first rows of_tree)
-    by false rest = All-cons (HasLevels levels) first (with_row rows row) (All-head (HasLevels levels) first rows of_tree) rest
+    by true rest = All-cons (IsOfLevels levels) row rows is (All-tail (IsOfLevels levels) first rows of_tree)
+    by false rest = All-cons (IsOfLevels levels) first (with_row rows row) (All-head (IsOfLevels levels) first rows of_tree) rest
 
 -- ---- a server that stands in a row
 
@@ -88,10 +83,10 @@ stood-file node row = by (has_version row.file row.version node)
     by true = refl
     by false = refl
 
-pub stood-levels : (levels : ℕ) (node : NodeView) (row : FileRow) → HasLevels levels row → HasLevels levels (stood node row)
+pub stood-levels : (levels : ℕ) (node : NodeView) (row : FileRow) → IsOfLevels levels row → IsOfLevels levels (stood node row)
 stood-levels levels node row has = by (has_version row.file row.version node)
   where
-    by : (b : Bool) → HasLevels levels (moved b node.server row)
+    by : (b : Bool) → IsOfLevels levels (moved b node.server row)
     by true = has
     by false = has
 
@@ -102,10 +97,10 @@ stood_at-file node file row = by (same_name file row.file)
     by true = stood-file node row
     by false = refl
 
-stood_at-levels : (levels : ℕ) (node : NodeView) (file : List ℕ) (row : FileRow) → HasLevels levels row → HasLevels levels (stood_at node file row)
+stood_at-levels : (levels : ℕ) (node : NodeView) (file : List ℕ) (row : FileRow) → IsOfLevels levels row → IsOfLevels levels (stood_at node file row)
 stood_at-levels levels node file row has = by (same_name file row.file)
   where
-    by : (b : Bool) → HasLevels levels (cond b (stood node row) row)
+    by : (b : Bool) → IsOfLevels levels (cond b (stood node row) row)
     by true = stood-levels levels node row has
     by false = has
 
@@ -117,54 +112,22 @@ pub Apart-stood : (node : NodeView) (file : List ℕ) (rows : List FileRow) → 
 Apart-stood node file rows apart = subst Apart (sym (names-stood node file rows)) apart
 
 pub of_tree-stood : (levels : ℕ) (node : NodeView) (file : List ℕ) (rows : List FileRow) → AreOfLevels levels rows → AreOfLevels levels (map (stood_at node file) rows)
-of_tree-stood levels node file [] of_tree = All-nil (HasLevels levels)
-of_tree-stood levels node file (row ∷ rows) of_tree =
-    All-cons (HasLevels levels) (stood_at node file row) (map (stood_at node file) rows)
-    (stood_at-levels levels node file row (All-head (HasLevels levels) row rows of_tree)) (of_tree-stood levels node file rows (All-tail (HasLevels levels) row rows of_tree))
+of_tree-stood levels node file rows of_tree =
+    All-map (IsOfLevels levels) (stood_at node file) rows (λ k d h. stood_at-levels levels node file (get_or rows k d) (of_tree k d h))
 
 -- where the file has no row, none changes
 pub absent-stood : (node : NodeView) (file : List ℕ) (rows : List FileRow) → is_in file (names_in rows) ≡ false → map (stood_at node file) rows ≡ rows
 absent-stood node file [] none = refl
 absent-stood node file (row ∷ rows) none =
-    let both = or_false (same_name file row.file) (is_in file (names_in rows)) none in
+    let both = or_parts (same_name file row.file) (is_in file (names_in rows)) none in
     λ i. cond (both.0 i) (stood node row) row ∷ absent-stood node file rows both.1 i
 
+-- a file has a row where one is found
+pub has_row-found : (file : List ℕ) (rows : List FileRow) → is_some (lookup (same_name file) (by_file rows)) ≡ is_in file (names_in rows)
+has_row-found file rows = is_some-lookup (same_name file) (by_file rows) ∙ ap (list_any (same_name file)) (map-map (λ (entry : List ℕ × FileRow). entry.0) (λ (row : FileRow). (row.file, row)) rows)
+
 pub no_row : (file : List ℕ) (rows : List FileRow) → lookup (same_name file) (by_file rows) ≡ None → is_in file (names_in rows) ≡ false
-no_row file [] none = refl
-no_row file (row ∷ rows) none = by (same_name file row.file) none (no_row file rows)
-  where
-    by : (b : Bool) → cond b (Some row) (lookup (same_name file) (by_file rows)) ≡ None → (lookup (same_name file) (by_file rows) ≡ None → is_in file (names_in rows) ≡ false) → (b || is_in file (names_in rows)) ≡ false
-    by true h rest = cc
-    by false h rest = rest h
-
-pub a_row : (file : List ℕ) (rows : List FileRow) (row : FileRow) → lookup (same_name file) (by_file rows) ≡ Some row → is_in file (names_in rows) ≡ true
-a_row file [] row found = cc
-a_row file (first ∷ rows) row found = by (same_name file first.file) found (a_row file rows row)
-  where
-    by : (b : Bool) → cond b (Some first) (lookup (same_name file) (by_file rows)) ≡ Some row → (lookup (same_name file) (by_file rows) ≡ Some row → is_in file (names_in rows) ≡ true) → (b || is_in file (names_in rows)) ≡ true
-    by true h rest = refl
-    by false h rest = rest h
-
-pub stand-none : (node : NodeView) (file : List ℕ) (rows : List FileRow) → lookup (same_name file) (by_file rows) ≡ None → map (stood_at node file) rows ≡ rows
-stand-none node file rows none = absent-stood node file rows (no_row file rows none)
-
-pub stand-entries : (node : NodeView) (file : List ℕ) (rows : List FileRow) (row : FileRow) → Apart (names_in rows) → lookup (same_name file) (by_file rows) ≡ Some row
-    → set_value (same_name file) (by_file rows) (stood node row) ≡ by_file (map (stood_at node file) rows)
-stand-entries node file [] row apart found = cc
-stand-entries node file (first ∷ rows) row apart found = by (same_name file first.file) refl found (stand-entries node file rows row apart.1)
-  where
-    same_row : (a b : FileRow) → Some a ≡ Some b → a ≡ b
-    same_row a b h = ap (λ o. unwrap_or o a) h
-
-    by : (b : Bool) → same_name file first.file ≡ b → cond b (Some first) (lookup (same_name file) (by_file rows)) ≡ Some row
-        → (lookup (same_name file) (by_file rows) ≡ Some row → set_value (same_name file) (by_file rows) (stood node row) ≡ by_file (map (stood_at node file) rows))
-        → cond b ((first.file, stood node row) ∷ by_file rows) ((first.file, first) ∷ set_value (same_name file) (by_file rows) (stood node row))
-        ≡ ((cond b (stood node first) first).file, cond b (stood node first) first) ∷ by_file (map (stood_at node file) rows)
-    by true s h rest =
-        let is = same_row first row h in
-        let none : is_in file (names_in rows) ≡ false = ap (λ (o : List ℕ). is_in o (names_in rows)) (same_name-is file first.file s) ∙ apart.0 in
-        (λ i. (sym (stood-file node first) i, stood node (sym is i)) ∷ by_file (sym (absent-stood node file rows none) i))
-    by false s h rest = λ i. (first.file, first) ∷ rest h i
+no_row file rows none = sym (has_row-found file rows) ∙ ap (λ o. is_some o) none
 
 -- ---- the row that is found
 
@@ -215,13 +178,13 @@ all_stood-append node rows (first ∷ files) file = all_stood-append node (map (
 with_row-new : (rows : List FileRow) (row : FileRow) → is_in row.file (names_in rows) ≡ false → with_row rows row ≡ rows ++ row ∷ []
 with_row-new [] row none = refl
 with_row-new (first ∷ rows) row none =
-    let both = or_false (same_name row.file first.file) (is_in row.file (names_in rows)) none in
+    let both = or_parts (same_name row.file first.file) (is_in row.file (names_in rows)) none in
     ap (λ (b : Bool). cond b (row ∷ rows) (first ∷ with_row rows row)) both.0 ∙ ap (λ (rest : List FileRow). first ∷ rest) (with_row-new rows row both.1)
 
 still-fresh : (other : List ℕ) (done : List FileRow) (row : FileRow) → is_in other (names_in done) ≡ false → same_name other row.file ≡ false → is_in other (names_in (done ++ row ∷ [])) ≡ false
 still-fresh other [] row none differs = ap (λ (b : Bool). b || false) differs
 still-fresh other (first ∷ done) row none differs =
-    let both = or_false (same_name other first.file) (is_in other (names_in done)) none in
+    let both = or_parts (same_name other first.file) (is_in other (names_in done)) none in
     λ i. both.0 i || still-fresh other done row both.1 differs i
 
 with_rows-from : (done rows : List FileRow) → ((name : List ℕ) → is_in name (names_in rows) ≡ true → is_in name (names_in done) ≡ false) → Apart (names_in rows) → with_rows done rows ≡ done ++ rows
@@ -233,7 +196,7 @@ with_rows-from done (row ∷ rows) fresh apart =
   where
     still : (other : List ℕ) → is_in other (names_in rows) ≡ true → is_in other (names_in (done ++ row ∷ [])) ≡ false
     still other there =
-        still-fresh other done row (fresh other (ap (λ (b : Bool). same_name other row.file || b) there ∙ or_true (same_name other row.file)))
+        still-fresh other done row (fresh other (ap (λ (b : Bool). same_name other row.file || b) there ∙ or-true (same_name other row.file)))
         (same_name-sym other row.file ∙ differ (names_in rows) row.file other apart.0 there)
 
 -- rows of files apart stand as they came

@@ -14,28 +14,17 @@ use Rattle.std.proofs.lemmas.List.Folds.{list_any-append}
 use Rattle.tq_store.specs.Copies.{name_cmp}
 use Rattle.tq_store.specs.Names.{same_name}
 use Rattle.tq_store.proofs.SameName.{same_name-is, same_name-refl, same_name-sym}
+use Rattle.std.proofs.Math.Bool.{and-false}
+pub use Rattle.std.proofs.Math.Bool.{or-false, or-true, or_comm}
+pub use Rattle.std.proofs.lemmas.Bool.{or_parts}
+pub use Rattle.std.proofs.lemmas.List.Elements.{filter_agree}
 pub use Rattle.tq_tables.specs.NamesApart.{is_in, Apart}
 
 -- ---- booleans
 
-pub or_false : (a b : Bool) → (a || b) ≡ false → (a ≡ false) × (b ≡ false)
-or_false false false h = (refl, refl)
-or_false false true h = absurd (true≢false h)
-or_false true b h = absurd (true≢false h)
-
-pub or_nothing : (a : Bool) → (a || false) ≡ a
-or_nothing true = refl
-or_nothing false = refl
-
 pub either : (a b : Bool) → (a || (not a && b)) ≡ (a || b)
 either true b = refl
 either false b = refl
-
-pub or_swap : (a b : Bool) → (a || b) ≡ (b || a)
-or_swap true true = refl
-or_swap true false = refl
-or_swap false true = refl
-or_swap false false = refl
 
 -- a name that stands there differs from one that does not
 pub differ : (names : List (List ℕ)) (absent there : List ℕ) → is_in absent names ≡ false → is_in there names ≡ true → same_name absent there ≡ false
@@ -45,15 +34,7 @@ differ names absent there none one = by (same_name absent there) refl
     by false s = s
     by true s = absurd (true≢false (sym one ∙ ap (λ (o : List ℕ). is_in o names) (sym (same_name-is absent there s)) ∙ none))
 
-pub or_true : (c : Bool) → (c || true) ≡ true
-or_true true = refl
-or_true false = refl
-
 -- ---- filters
-
-pub filter-same : {A : Type 0} (p q : A → Bool) → ((x : A) → p x ≡ q x) → (xs : List A) → filter p xs ≡ filter q xs
-filter-same p q same [] = refl
-filter-same p q same (x ∷ xs) = ap (λ b. cond b (x ∷ filter p xs) (filter p xs)) (same x) ∙ ap (λ rest. cond (q x) (x ∷ rest) rest) (filter-same p q same xs)
 
 -- a filter by names that keeps those that are not in a list
 abbrev pub without : List (List ℕ) → List (List ℕ) → List (List ℕ)
@@ -63,27 +44,19 @@ without old names = filter (λ name. not (is_in name old)) names
 pub without-more : (old : List (List ℕ)) (one : List ℕ) (names : List (List ℕ)) → is_in one names ≡ false → without (old ++ one ∷ []) names ≡ without old names
 without-more old one [] apart = refl
 without-more old one (name ∷ names) apart =
-    let both = or_false (same_name one name) (is_in one names) apart in
+    let both = or_parts (same_name one name) (is_in one names) apart in
     let here : is_in name (old ++ one ∷ []) ≡ is_in name old =
     list_any-append (same_name name) old (one ∷ [])
     ∙ ap (λ b. is_in name old || (b || false)) (same_name-sym name one ∙ both.0)
-    ∙ or_nothing (is_in name old) in
+    ∙ or-false (is_in name old) in
     ap (λ b. cond (not b) (name ∷ without (old ++ one ∷ []) names) (without (old ++ one ∷ []) names)) here
     ∙ ap (λ rest. cond (not (is_in name old)) (name ∷ rest) rest) (without-more old one names both.1)
 
 -- a filter by a test of the name
 pub is_in-filter : (p : List ℕ → Bool) (name : List ℕ) (names : List (List ℕ)) → is_in name (filter p names) ≡ (p name && is_in name names)
-is_in-filter p name [] = by (p name)
-  where
-    by : (b : Bool) → false ≡ (b && false)
-    by true = refl
-    by false = refl
+is_in-filter p name [] = sym (and-false (p name))
 is_in-filter p name (other ∷ names) = by (same_name name other) refl (p other) refl (is_in-filter p name names)
   where
-    and_false : (b : Bool) → false ≡ (b && false)
-    and_false true = refl
-    and_false false = refl
-
     by : (s : Bool) → same_name name other ≡ s → (b : Bool) → p other ≡ b → is_in name (filter p names) ≡ (p name && is_in name names)
         → is_in name (cond b (other ∷ filter p names) (filter p names)) ≡ (p name && (same_name name other || is_in name names))
     by true s true b ih =
@@ -112,7 +85,7 @@ Apart-append (name ∷ a) b first second none = (
   list_any-append (same_name name) a b
       ∙ ap (λ c. c || is_in name b) first.0
       ∙ none name (ap (λ c. c || is_in name a) (same_name-refl name)),
-  Apart-append a b first.1 second (λ other there. none other (ap (λ c. same_name other name || c) there ∙ or_true (same_name other name))),
+  Apart-append a b first.1 second (λ other there. none other (ap (λ c. same_name other name || c) there ∙ or-true (same_name other name))),
 )
 
 -- ---- the names of a set

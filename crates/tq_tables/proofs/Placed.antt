@@ -1,21 +1,19 @@
 -- A row that is found by its place.
 use Rattle.std.specs.Prelude.{◌||◌, slice_get}
-use Rattle.std.proofs.Common.{◌≡◌, ℕ, zero, suc, Bool, true, false, cond, List, [], ◌∷◌, map, Some, None, refl, ap, sym, subst, ◌∙◌}
+use Rattle.std.proofs.Common.{◌≡◌, ℕ, zero, suc, Bool, true, false, cond, List, [], ◌∷◌, map, Option, Some, None, is_some, true≢false, refl, ap, sym, subst, ◌∙◌}
 use Rattle.std.specs.Bool.{OnTrue}
+use Rattle.std.specs.Map.{lookup}
 use Rattle.std.specs.Option.{unwrap_or}
 use Rattle.std.proofs.lemmas.List.Elements.{All-head, All-tail}
+use Rattle.std.proofs.lemmas.Option.{same_Some}
 use Rattle.indexmap.specs.IndexMap.{set_value_at}
 use Rattle.tq_store.specs.Names.{same_name}
 use Rattle.tq_store.proofs.SameName.{same_name-is, same_name-refl}
 use Rattle.tq_node.specs.Node.{NodeView}
 use Rattle.tq_tables.specs.declared.file_row.FileRow.{FileRow}
-use Rattle.tq_tables.specs.Files.{AreFiles, AreOfLevels, names_in, stood, stood_at}
+use Rattle.tq_tables.specs.Files.{AreFiles, AreOfLevels, names_in, stood, stood_at, IsOfLevels, by_file, HasRowAt}
 use Rattle.tq_tables.specs.NamesApart.{is_in, Apart}
-use Rattle.tq_tables.proofs.Kept.{HasLevels, by_file, absent-stood, stood-file}
-
-pub on_true : {P : Type 0} (b : Bool) → (b ≡ true → P) → OnTrue b P
-on_true true holds = holds refl
-on_true false holds = tt
+use Rattle.tq_tables.proofs.Kept.{file-found, absent-stood, stood-file}
 
 -- ---- an entry by its place
 
@@ -35,26 +33,22 @@ no-value-at [] (suc place) entry none at = absurd (cc)
 no-value-at (first ∷ entries) zero entry none at = absurd (cc)
 no-value-at (first ∷ entries) (suc place) entry none at = no-value-at entries place entry none at
 
--- the parts of a pair that is known
-pub same_pair : (a b : List ℕ × FileRow) → Some a ≡ Some b → a ≡ b
-same_pair a b h = ap (λ o. unwrap_or o a) h
-
 module _ (file : List ℕ) (row : FileRow) where
   -- it is a row of the file, of the tree
-  pub at-row : (levels : ℕ) (rows : List FileRow) (place : ℕ) → AreOfLevels levels rows → slice_get (by_file rows) place ≡ Some (file, row) → (row.file ≡ file) × HasLevels levels row
+  pub at-row : (levels : ℕ) (rows : List FileRow) (place : ℕ) → AreOfLevels levels rows → slice_get (by_file rows) place ≡ Some (file, row) → (row.file ≡ file) × IsOfLevels levels row
   at-row levels [] zero of_tree at = absurd (cc)
   at-row levels [] (suc place) of_tree at = absurd (cc)
   at-row levels (first ∷ rows) zero of_tree at =
-      let is = same_pair (first.file, first) (file, row) at in
+      let is = same_Some (first.file, first) (file, row) at in
       let same : first ≡ row = ap (λ (p : List ℕ × FileRow). p.1) is in
-      (ap (λ (r : FileRow). r.file) (sym same) ∙ ap (λ (p : List ℕ × FileRow). p.0) is, subst (HasLevels levels) same (All-head (HasLevels levels) first rows of_tree))
-  at-row levels (first ∷ rows) (suc place) of_tree at = at-row levels rows place (All-tail (HasLevels levels) first rows of_tree) at
+      (ap (λ (r : FileRow). r.file) (sym same) ∙ ap (λ (p : List ℕ × FileRow). p.0) is, subst (IsOfLevels levels) same (All-head (IsOfLevels levels) first rows of_tree))
+  at-row levels (first ∷ rows) (suc place) of_tree at = at-row levels rows place (All-tail (IsOfLevels levels) first rows of_tree) at
 
   pub named-at : (rows : List FileRow) (place : ℕ) → slice_get (by_file rows) place ≡ Some (file, row) → is_in file (names_in rows) ≡ true
   named-at [] zero at = absurd (cc)
   named-at [] (suc place) at = absurd (cc)
   named-at (first ∷ rows) zero at =
-      let is = same_pair (first.file, first) (file, row) at in
+      let is = same_Some (first.file, first) (file, row) at in
       let name : first.file ≡ file = ap (λ (p : List ℕ × FileRow). p.0) is in
       ap (λ b. b || is_in file (names_in rows)) (ap (same_name file) name ∙ same_name-refl file)
   named-at (first ∷ rows) (suc place) at = by (same_name file first.file) (named-at rows place at)
@@ -69,7 +63,7 @@ module _ (file : List ℕ) (row : FileRow) where
   stand-placed node [] zero apart at = absurd (cc)
   stand-placed node [] (suc place) apart at = absurd (cc)
   stand-placed node (first ∷ rows) zero apart at =
-      let is = same_pair (first.file, first) (file, row) at in
+      let is = same_Some (first.file, first) (file, row) at in
       let same : first ≡ row = ap (λ (p : List ℕ × FileRow). p.1) is in
       let name : first.file ≡ file = ap (λ (p : List ℕ × FileRow). p.0) is in
       let here : same_name file first.file ≡ true = ap (same_name file) name ∙ same_name-refl file in
@@ -91,7 +85,7 @@ module _ (file : List ℕ) (row : FileRow) where
       by false s rest = λ i. (first.file, first) ∷ rest i
 
 -- the same of entries that are kept under the names of their files
-pub placed : (levels : ℕ) (entries : List (List ℕ × FileRow)) (place : ℕ) (file : List ℕ) (row : FileRow) → AreFiles levels entries → slice_get entries place ≡ Some (file, row) → (row.file ≡ file) × HasLevels levels row
+pub placed : (levels : ℕ) (entries : List (List ℕ × FileRow)) (place : ℕ) (file : List ℕ) (row : FileRow) → AreFiles levels entries → slice_get entries place ≡ Some (file, row) → (row.file ≡ file) × IsOfLevels levels row
 placed levels entries place file row are at = at-row file row levels (map (λ entry. entry.1) entries) place are.of_tree (ap (λ es. slice_get es place) (sym are.named) ∙ at)
 
 pub stand-entries-placed : (levels : ℕ) (node : NodeView) (entries : List (List ℕ × FileRow)) (place : ℕ) (file : List ℕ) (row : FileRow) → AreFiles levels entries → slice_get entries place ≡ Some (file, row)
@@ -99,3 +93,15 @@ pub stand-entries-placed : (levels : ℕ) (node : NodeView) (entries : List (Lis
 stand-entries-placed levels node entries place file row are at =
     ap (λ es. set_value_at es place (stood node row)) are.named
     ∙ stand-placed file row node (map (λ entry. entry.1) entries) place are.apart (ap (λ es. slice_get es place) (sym are.named) ∙ at)
+
+-- where the entry of the file is found at the place, its row stands there
+pub found-there : (levels : ℕ) (file : List ℕ) (rows : List FileRow) (place : ℕ) → AreOfLevels levels rows → slice_get (map (λ entry. entry.1) (by_file rows)) place ≡ lookup (same_name file) (by_file rows)
+    → true ≡ is_some (lookup (same_name file) (by_file rows)) → HasRowAt (by_file rows) place file
+found-there levels file rows place of_tree at some = by (lookup (same_name file) (by_file rows)) refl at some
+  where
+    by : (o : Option FileRow) → lookup (same_name file) (by_file rows) ≡ o → slice_get (map (λ entry. entry.1) (by_file rows)) place ≡ o → true ≡ is_some o → HasRowAt (by_file rows) place file
+    by None found at some = absurd (true≢false some)
+    by (Some row) found at some =
+        let there = value-at (by_file rows) place row at in
+        let name : there.0 ≡ file = sym (at-row there.0 row levels rows place of_tree there.1).0 ∙ file-found file rows row found in
+        (row, there.1 ∙ ap (λ (n : List ℕ). Some (n, row)) name)

@@ -1,6 +1,7 @@
 -- The tables with an entry more of a server.
 use Rattle.std.specs.Prelude.{reverse}
 use Rattle.std.proofs.Common.{◌≡◌, ◌+◌, ◌-◌, ◌<◌, ◌≤◌, ℕ, zero, suc, false, List, [], ◌∷◌, ◌++◌, length, set, get_or, refl, ap, ◌∙◌, arith}
+use Rattle.std.proofs.lemmas.List.{get_or_default}
 use Rattle.tq_desk.specs.DeskJournal.{commits}
 use Rattle.tq_node.specs.Node.{NodeView, answered}
 use Rattle.tq_node.specs.NodeJournal.{NodeEntry}
@@ -45,18 +46,8 @@ nodes_at-set levels first (x ∷ servers) (suc place) entries =
 
 -- ---- what stands at a place
 
-pub get_or-any : (nodes : List NodeView) (place : ℕ) (d e : NodeView) → place < length nodes → get_or nodes place d ≡ get_or nodes place e
-get_or-any [] place d e less = absurd (omega (arith, less))
-get_or-any (n ∷ nodes) zero d e less = refl
-get_or-any (n ∷ nodes) (suc place) d e less = get_or-any nodes place d e (omega (arith, less))
-
 pub node_in-at : (nodes : List NodeView) (server : ℕ) → server - 1 < length nodes → node_in nodes server ≡ get_or nodes (server - 1) (node_in nodes server)
-node_in-at nodes server less = get_or-any nodes (server - 1) (node_after_all 0 0 []) (node_in nodes server) less
-
-pub get_or-put : (nodes : List NodeView) (place : ℕ) (node d : NodeView) → place < length nodes → get_or (set nodes place node) place d ≡ node
-get_or-put [] place node d less = absurd (omega (arith, less))
-get_or-put (n ∷ nodes) zero node d less = refl
-get_or-put (n ∷ nodes) (suc place) node d less = get_or-put nodes place node d (omega (arith, less))
+node_in-at nodes server less = get_or_default nodes (server - 1) (node_after_all 0 0 []) (node_in nodes server) less
 
 -- ---- a server with one entry more
 

@@ -2,8 +2,8 @@
 use Rattle.std.specs.Prelude.{reverse, nat_le}
 use Rattle.std.proofs.Common.{◌≡◌, ℕ, zero, suc, ◌+◌, ◌≤◌, ◌<◌, Bool, true, false, cond, List, [], ◌∷◌, ◌++◌, length, map, filter, take, get_or, refl, ap, sym, subst, ◌∙◌, arith}
 use Rattle.std.specs.List.{All}
-use Rattle.std.proofs.lemmas.List.{append-nil, take_more, map-append}
-use Rattle.std.proofs.lemmas.List.Elements.{All-cons, filter-append}
+use Rattle.std.proofs.lemmas.List.{append-nil, get_or-take, get_or_default, length-take, map-append, map-map, take_more}
+use Rattle.std.proofs.lemmas.List.Elements.{All-filter, All-map, filter-append}
 use Rattle.tq_shape.specs.ServerSet.{Servers}
 use Rattle.tq_shape.specs.Tree.{Server}
 use Rattle.tq_shape.proofs.Joined.{reverse-push}
@@ -49,18 +49,18 @@ at-place levels first (n ∷ nodes) of_tree (suc i) node less is =
 -- those before a place have smaller numbers
 pub below-place : (levels first bound : ℕ) (test : NodeView → Bool) (nodes : List NodeView) → AreOfTree levels first nodes → (i : ℕ) → first + i ≤ bound
     → All (λ number. number < bound) (map (λ node. node.server) (filter test (take i nodes)))
-below-place levels first bound test [] of_tree zero within = λ k d h. absurd (omega (arith, h))
-below-place levels first bound test [] of_tree (suc i) within = λ k d h. absurd (omega (arith, h))
-below-place levels first bound test (n ∷ nodes) of_tree zero within = λ k d h. absurd (omega (arith, h))
-below-place levels first bound test (n ∷ nodes) of_tree (suc i) within = by (test n) (below-place levels (first + 1) bound test nodes of_tree.1 i (omega (arith, within)))
+below-place levels first bound test nodes of_tree i within =
+    All-map (λ (number : ℕ). number < bound) (λ (node : NodeView). node.server) (filter test (take i nodes))
+    (All-filter test (λ (node : NodeView). node.server < bound) (take i nodes) below)
   where
-    here : n.server < bound
-    here = let is = of_tree.0.1 in omega (arith, within, is)
-
-    by : (b : Bool) → All (λ number. number < bound) (map (λ node. node.server) (filter test (take i nodes)))
-        → All (λ number. number < bound) (map (λ node. node.server) (cond b (n ∷ filter test (take i nodes)) (filter test (take i nodes))))
-    by false rest = rest
-    by true rest = All-cons (λ number. number < bound) n.server (map (λ node. node.server) (filter test (take i nodes))) here rest
+    below : All (λ (node : NodeView). node.server < bound) (take i nodes)
+    below k d h =
+        let count = length-take i nodes in
+        let here : k < i = omega (arith, count, h) in
+        let there : k < length nodes = omega (arith, count, h) in
+        let node = get_or (take i nodes) k d in
+        let place = (at-place levels first nodes of_tree k node there (get_or-take i nodes k d here ∙ get_or_default nodes k d node there)).1 in
+        omega (arith, place, here, within)
 
 servers_where-cases : (levels : ℕ) (test : NodeView → Bool) (nodes : List NodeView) (i : ℕ) (node : NodeView) → i < length nodes → node ≡ get_or nodes i node → (b : Bool) → test node ≡ b
     → servers_where levels test (take (i + 1) nodes) ≡ record { levels = levels; numbers = map (λ n. n.server) (filter test (take i nodes)) ++ map (λ n. n.server) (cond b (node ∷ []) []) }
@@ -98,14 +98,7 @@ module _ (levels : ℕ) (test : NodeView → Bool) (nodes : List NodeView) (i : 
   pub none-in : test node ≡ false → new ≡ old → new ≡ servers_where levels test (take (i + 1) nodes)
   none-in fails stays = stays ∙ so_far ∙ sym (servers_where-out levels test nodes i node less is fails)
 
-pub le-true : (a b : ℕ) → a ≤ b → nat_le a b ≡ true
-le-true a b h = grind (arith, h)
-
-pub le-false : (a b : ℕ) → b < a → nat_le a b ≡ false
-le-false a b h = grind (arith, h)
-
 -- the rows of files that are counted
 pub rows-counted : (levels : ℕ) (nodes : List NodeView) (n : List ℕ → ℕ) (files : List (List ℕ))
     → map (λ (entry : List ℕ × ℕ). row_at levels nodes entry.0 entry.1) (map (λ file. (file, n file)) files) ≡ map (λ file. row_at levels nodes file (n file)) files
-rows-counted levels nodes n [] = refl
-rows-counted levels nodes n (file ∷ files) = ap (λ rows. row_at levels nodes file (n file) ∷ rows) (rows-counted levels nodes n files)
+rows-counted levels nodes n files = map-map (λ (entry : List ℕ × ℕ). row_at levels nodes entry.0 entry.1) (λ file. (file, n file)) files

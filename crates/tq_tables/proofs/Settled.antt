@@ -2,20 +2,20 @@
 use Rattle.std.specs.Prelude.{not, nat_le, ◌||◌, ◌==◌}
 use Rattle.std.proofs.Common.{◌≡◌, ℕ, suc, ◌+◌, ◌-◌, ◌<◌, ◌≤◌, Bool, true, false, cond, List, [], ◌∷◌, length, map, filter, get_or, refl, ap, sym, subst, ◌∙◌, arith}
 use Rattle.std.specs.List.{All, fold}
-use Rattle.std.proofs.lemmas.List.Elements.{All-nil, All-cons, All-head, All-tail}
+use Rattle.std.proofs.lemmas.Bool.{eqb-true}
+use Rattle.std.proofs.lemmas.List.{get_or_default}
+use Rattle.std.proofs.lemmas.List.Elements.{All-cons, All-filter, All-head, All-map, All-nil, All-tail}
 use Rattle.tq_shape.specs.ServerSet.{Ascends, has_number, numbered}
 use Rattle.tq_shape.specs.Tree.{Server}
 use Rattle.tq_store.specs.Copies.{copy_of}
 use Rattle.tq_node.specs.Node.{NodeView}
 use Rattle.tq_tables.specs.declared.file_row.FileRow.{FileRow}
 use Rattle.tq_tables.specs.Asked.{node_in}
-use Rattle.tq_tables.specs.Files.{moved, stood}
+use Rattle.tq_tables.specs.Files.{moved, stood, stood_in, IsOfLevels}
 use Rattle.tq_tables.specs.Parts.{AreOfTree, node_after_all}
 use Rattle.tq_tables.specs.Early.{OthersLack}
 use Rattle.tq_tables.specs.Rows.{has_version, row_at, servers_where}
-use Rattle.tq_tables.proofs.Kept.{HasLevels}
-use Rattle.tq_tables.proofs.Restood.{get_or-any}
-use Rattle.tq_tables.proofs.Held.{same-number}
+use Rattle.tq_tables.proofs.RowLaws.{at-place}
 use Rattle.tq_tables.proofs.Stood.{eq-above, eq-below, head-placed, numbers-if, passing, placed, placed-later, those}
 
 -- ---- the numbers, where some servers are placed anew
@@ -101,10 +101,6 @@ stood-each row (n ∷ nodes) = by (has_version row.file row.version n) (λ r. st
 abbrev pub at_next : FileRow → FileRow
 at_next row = record row { version = row.version + 1 }
 
--- the row with each of the servers where its copy says
-abbrev pub stood_in : List NodeView → FileRow → List Server → FileRow
-stood_in nodes row servers = fold (λ (r : FileRow) (server : Server). stood (node_in nodes server.number) r) row servers
-
 below-next : (version copy : ℕ) → nat_le version copy ≡ false → nat_le version copy ≡ nat_le (version + 1) copy
 below-next version copy below = grind (arith, below)
 
@@ -145,7 +141,7 @@ are-passing levels test low (n ∷ nodes) (first ∷ rest) of_tree ascends withi
 
     by : (b : Bool) → (first == n.server) ≡ b → After rest → After (first ∷ rest) → first ∷ rest ≡ passing test (n ∷ nodes)
     by true is here later =
-        let at : first ≡ n.server = same-number first n.server is in
+        let at : first ≡ n.server = eqb-true first n.server is in
         let number : first ≡ low + 1 = at ∙ of_tree.0.1 in
         let passes : test n ≡ true = same n (let s = of_tree.0.1 in omega (arith, s)) ∙ ap (λ (b : Bool). b || has_number rest n.server) is in
         let all : rest ≡ passing test nodes =
@@ -196,7 +192,7 @@ module _ (levels : ℕ) (nodes : List NodeView) (of_tree : AreOfTree levels 1 no
   found-at : (i : ℕ) (d : NodeView) → i < length nodes → node_in nodes (1 + i) ≡ get_or nodes i d
   found-at i d less =
       let place : 1 + i - 1 ≡ i = omega arith in
-      ap (λ (k : ℕ). get_or nodes k (node_after_all 0 0 [])) place ∙ get_or-any nodes i (node_after_all 0 0 []) d less
+      ap (λ (k : ℕ). get_or nodes k (node_after_all 0 0 [])) place ∙ get_or_default nodes i (node_after_all 0 0 []) d less
 
   -- where the current servers stand anew at the next version, the row is exact
   pub next-exact : (row : FileRow) → row ≡ row_at levels nodes row.file row.version → stood_in nodes (at_next row) (numbered levels row.current.numbers) ≡ row_at levels nodes row.file (row.version + 1)
@@ -228,21 +224,14 @@ IsPlace count server = (0 < server.number) × (server.number ≤ count)
 
 -- the server at such a place is the one of that number
 pub node-found : (nodes : List NodeView) (server : Server) (node : NodeView) → IsPlace (length nodes) server → node ≡ get_or nodes (server.number - 1) node → node ≡ node_in nodes server.number
-node-found nodes server node there at = at ∙ sym (get_or-any nodes (server.number - 1) (node_after_all 0 0 []) node (omega (arith, there.0, there.1)))
+node-found nodes server node there at = at ∙ sym (get_or_default nodes (server.number - 1) (node_after_all 0 0 []) node (omega (arith, there.0, there.1)))
 
-pub are-places : (levels count first : ℕ) (some : NodeView → Bool) (nodes : List NodeView) → AreOfTree levels first nodes → 0 < first → first + length nodes ≤ count + 1
-    → All (IsPlace count) (numbered levels (passing some nodes))
-are-places levels count first some [] of_tree positive within = All-nil (IsPlace count)
-are-places levels count first some (n ∷ nodes) of_tree positive within =
-    by (some n) (are-places levels count (first + 1) some nodes of_tree.1 (omega arith) (omega (arith, within)))
-  where
-    here : IsPlace count (record { number = n.server; levels = levels })
-    here = let is = of_tree.0.1 in (omega (arith, is, positive), omega (arith, is, within))
-
-    by : (b : Bool) → All (IsPlace count) (numbered levels (passing some nodes))
-        → All (IsPlace count) (numbered levels (map (λ node. node.server) (cond b (n ∷ filter some nodes) (filter some nodes))))
-    by true rest = All-cons (IsPlace count) (record { number = n.server; levels = levels }) (numbered levels (passing some nodes)) here rest
-    by false rest = rest
+-- those of servers of a tree are no higher than their number
+pub are-within : (levels : ℕ) (some : NodeView → Bool) (nodes : List NodeView) → AreOfTree levels 1 nodes → All (λ number. number ≤ length nodes) (passing some nodes)
+are-within levels some nodes of_tree =
+    All-map (λ (number : ℕ). number ≤ length nodes) (λ (node : NodeView). node.server) (filter some nodes)
+    (All-filter some (λ (node : NodeView). node.server ≤ length nodes) nodes
+    (λ k d h. let place = (at-place levels 1 nodes of_tree k (get_or nodes k d) h (get_or_default nodes k d (get_or nodes k d) h)).1 in omega (arith, place, h)))
 
 pub are-places-of : (levels count low : ℕ) (numbers : List ℕ) → Ascends low numbers → All (λ number. number ≤ count) numbers → All (IsPlace count) (numbered levels numbers)
 are-places-of levels count low [] ascends within = All-nil (IsPlace count)
@@ -253,6 +242,6 @@ are-places-of levels count low (first ∷ rest) ascends within =
 
 -- the servers that are left lead to the same row, and each is there
 pub record LeadsOn (nodes : List NodeView) (levels : ℕ) (start row : FileRow) (all left : List Server) : Type 0 where
-  pub of_tree : HasLevels levels row
+  pub of_tree : IsOfLevels levels row
   pub places : All (IsPlace (length nodes)) left
   pub same : stood_in nodes row left ≡ stood_in nodes start all

@@ -2,10 +2,13 @@
 use Rattle.std.specs.Prelude.{◌||◌, ◌==◌, not, nat_lt, nat_le}
 use Rattle.std.proofs.Common.{◌≡◌, ℕ, zero, suc, ◌+◌, ◌<◌, ◌≤◌, Bool, true, false, cond, List, [], ◌∷◌, length, map, filter, set, get_or, refl, ap, sym, subst, ◌∙◌, arith}
 use Rattle.std.specs.List.{fold}
+use Rattle.std.proofs.Math.Seq.{set-set}
+use Rattle.std.proofs.lemmas.List.{length-set, map-id, map-map}
 use Rattle.tq_shape.specs.ServerSet.{Servers, with_number, without_number}
 use Rattle.tq_store.specs.Copies.{copy_of}
 use Rattle.tq_store.specs.Names.{same_name}
 use Rattle.tq_store.specs.declared.copies.FileCopy.{FileCopy}
+use Rattle.tq_store.proofs.Installed.{lt-false, lt-true}
 use Rattle.tq_store.proofs.SameName.{same_name-sym}
 use Rattle.tq_desk.specs.DeskJournal.{Commit, count}
 use Rattle.tq_node.specs.Node.{NodeView}
@@ -16,12 +19,6 @@ use Rattle.tq_tables.specs.Parts.{AreOfTree}
 use Rattle.tq_tables.specs.Rows.{file_row, file_rows, files_in, has_version, row_at}
 
 -- ---- numbers
-
-lt-yes : (a b : ℕ) → a < b → nat_lt a b ≡ true
-lt-yes a b h = grind (arith, h)
-
-lt-not : (a b : ℕ) → b ≤ a → nat_lt a b ≡ false
-lt-not a b h = grind (arith, h)
 
 pub eq-self : (a : ℕ) → (a == a) ≡ true
 eq-self a = grind arith
@@ -57,7 +54,7 @@ module _ (levels : ℕ) (test : NodeView → Bool) (number : ℕ) where
       by : (b : Bool) → with_number number (passing test nodes) ≡ number ∷ passing test nodes
           → with_number number (map (λ node. node.server) (cond b (n ∷ filter test nodes) (filter test nodes))) ≡ number ∷ map (λ node. node.server) (cond b (n ∷ filter test nodes) (filter test nodes))
       by true rest =
-          ap (λ (c : Bool). cond c (number ∷ n.server ∷ passing test nodes) (cond (number == n.server) (n.server ∷ passing test nodes) (n.server ∷ with_number number (passing test nodes)))) (lt-yes number n.server less)
+          ap (λ (c : Bool). cond c (number ∷ n.server ∷ passing test nodes) (cond (number == n.server) (n.server ∷ passing test nodes) (n.server ∷ with_number number (passing test nodes)))) (lt-true number n.server less)
       by false rest = rest
 
   without-below : (first : ℕ) (nodes : List NodeView) → AreOfTree levels first nodes → number < first → without_number number (passing test nodes) ≡ passing test nodes
@@ -78,7 +75,7 @@ module _ (levels : ℕ) (test : NodeView → Bool) (number : ℕ) where
 pub head-placed : (levels : ℕ) (test : NodeView → Bool) (number : ℕ) (nodes : List NodeView) → AreOfTree levels (number + 1) nodes → (b c : Bool)
     → cond b (number ∷ passing test nodes) (passing test nodes) ≡ placed b number (cond c (number ∷ passing test nodes) (passing test nodes))
 head-placed levels test number nodes of_tree true true =
-    sym (ap (λ (c : Bool). cond c (number ∷ number ∷ passing test nodes) (cond (number == number) (number ∷ passing test nodes) (number ∷ with_number number (passing test nodes)))) (lt-not number number (omega arith))
+    sym (ap (λ (c : Bool). cond c (number ∷ number ∷ passing test nodes) (cond (number == number) (number ∷ passing test nodes) (number ∷ with_number number (passing test nodes)))) (lt-false number number (omega arith))
     ∙ ap (λ (c : Bool). cond c (number ∷ passing test nodes) (number ∷ with_number number (passing test nodes))) (eq-self number))
 head-placed levels test number nodes of_tree true false = sym (with-below levels test number (number + 1) nodes of_tree (omega arith))
 head-placed levels test number nodes of_tree false true =
@@ -100,7 +97,7 @@ module _ (levels : ℕ) (test : NodeView → Bool) (node : NodeView) where
       → cond c (n.server ∷ placed b node.server numbers) (placed b node.server numbers) ≡ placed b node.server (cond c (n.server ∷ numbers) numbers)
   placed-later n numbers less b false = refl
   placed-later n numbers less true true =
-      sym (ap (λ (c : Bool). cond c (node.server ∷ n.server ∷ numbers) (cond (node.server == n.server) (n.server ∷ numbers) (n.server ∷ with_number node.server numbers))) (lt-not node.server n.server (omega (arith, less)))
+      sym (ap (λ (c : Bool). cond c (node.server ∷ n.server ∷ numbers) (cond (node.server == n.server) (n.server ∷ numbers) (n.server ∷ with_number node.server numbers))) (lt-false node.server n.server (omega (arith, less)))
       ∙ ap (λ (c : Bool). cond c (n.server ∷ numbers) (n.server ∷ with_number node.server numbers)) (eq-above n.server node.server less))
   placed-later n numbers less false true =
       sym (ap (λ (c : Bool). cond (not c) (n.server ∷ without_number node.server numbers) (without_number node.server numbers)) (eq-below n.server node.server less))
@@ -134,11 +131,6 @@ same-set test (n ∷ nodes) (suc place) old node less at number passes =
 
 abbrev pub those : ℕ → List ℕ → Servers
 those levels numbers = record { levels = levels; numbers = numbers }
-
-set-set : (xs : List NodeView) (i : ℕ) (y z : NodeView) → set (set xs i y) i z ≡ set xs i z
-set-set [] i y z = refl
-set-set (x ∷ xs) zero y z = refl
-set-set (x ∷ xs) (suc i) y z = ap (λ (rest : List NodeView). x ∷ rest) (set-set xs i y z)
 
 module _ (levels : ℕ) (nodes : List NodeView) (place : ℕ) (node : NodeView) (of_tree : AreOfTree levels 1 nodes) (less : place < length nodes) (number : node.server ≡ 1 + place) where
   -- the row with the server in its place is the row before in which it stands
@@ -176,32 +168,19 @@ AreOfTree-set levels first [] place node of_tree tree number = of_tree
 AreOfTree-set levels first (n ∷ nodes) zero node of_tree tree number = ((tree, number ∙ omega arith), of_tree.1)
 AreOfTree-set levels first (n ∷ nodes) (suc place) node of_tree tree number = (of_tree.0, AreOfTree-set levels (first + 1) nodes place node of_tree.1 tree (number ∙ omega arith))
 
-pub length-set-nodes : (nodes : List NodeView) (place : ℕ) (node : NodeView) → length (set nodes place node) ≡ length nodes
-length-set-nodes [] place node = refl
-length-set-nodes (n ∷ nodes) zero node = refl
-length-set-nodes (n ∷ nodes) (suc place) node = ap (λ (k : ℕ). suc k) (length-set-nodes nodes place node)
-
 -- ---- a row over several files
 
 abbrev steps : NodeView → FileRow → List (List ℕ) → FileRow
 steps node row files = fold (λ (r : FileRow) (file : List ℕ). stood_at node file r) row files
 
-map-same : (rows : List FileRow) → rows ≡ map (λ (row : FileRow). row) rows
-map-same [] = refl
-map-same (row ∷ rows) = ap (λ (rest : List FileRow). row ∷ rest) (map-same rows)
-
-map-twice : (f g : FileRow → FileRow) (rows : List FileRow) → map f (map g rows) ≡ map (λ row. f (g row)) rows
-map-twice f g [] = refl
-map-twice f g (row ∷ rows) = ap (λ (rest : List FileRow). f (g row) ∷ rest) (map-twice f g rows)
-
 all-steps : (node : NodeView) (files : List (List ℕ)) (rows : List FileRow) → all_stood node rows files ≡ map (λ row. steps node row files) rows
-all-steps node [] rows = map-same rows
-all-steps node (file ∷ files) rows = all-steps node files (map (stood_at node file) rows) ∙ map-twice (λ row. steps node row files) (stood_at node file) rows
+all-steps node [] rows = sym (map-id rows)
+all-steps node (file ∷ files) rows = all-steps node files (map (stood_at node file) rows) ∙ map-map (λ (row : FileRow). steps node row files) (stood_at node file) rows
 
 module _ (levels : ℕ) (nodes : List NodeView) (place : ℕ) (node : NodeView) (of_tree : AreOfTree levels 1 nodes) (less : place < length nodes) (tree : node.levels ≡ levels) (number : node.server ≡ 1 + place) where
   row-again : (file : List ℕ) (version : ℕ) → stood node (row_at levels (set nodes place node) file version) ≡ row_at levels (set nodes place node) file version
   row-again file version =
-      let count = length-set-nodes nodes place node in
+      let count = length-set nodes place node in
       row-stood levels (set nodes place node) place node (AreOfTree-set levels 1 nodes place node of_tree tree number) (omega (arith, less, count)) number file version
       ∙ ap (λ (list : List NodeView). row_at levels list file version) (set-set nodes place node node)
 

@@ -3,8 +3,8 @@ use Rattle.std.specs.Prelude.{reverse}
 use Rattle.std.proofs.Common.{◌≡◌, ◌+◌, ◌-◌, ◌^◌, ◌<◌, ℕ, zero, suc, cond, slice_index_or, ◌&&◌, List, [], ◌∷◌, length, map, refl, ap, sym, subst, ◌∙◌, arith, nat_le}
 use Rattle.std.specs.FinMap as fin
 use Rattle.std.specs.List.{All}
-use Rattle.std.proofs.lemmas.List.{length-map}
-use Rattle.std.proofs.lemmas.List.Elements.{All-cons}
+use Rattle.std.proofs.lemmas.List.{length-map, map-id, map-map}
+use Rattle.std.proofs.lemmas.List.Elements.{All-map}
 use Rattle.std.proofs.lemmas.Nat.{pow_pos}
 use Rattle.tq_desk.specs.DeskStep.{DeskView}
 use Rattle.tq_desk.specs.DeskJournal.{Commit, commits, DeskBounds, DeskEntry, IsLegalDesk, desk_state}
@@ -20,7 +20,7 @@ use Rattle.tq_tables.specs.declared.file_row.FileRow.{FileRow}
 use Rattle.tq_tables.specs.DeskStates.{intent_state_at}
 use Rattle.tq_tables.specs.Parts.{PartsView, bounds_of}
 use Rattle.tq_tables.specs.Tables.{tables_at, tables_over}
-use Rattle.tq_tables.specs.Files.{AreExact, names_in}
+use Rattle.tq_tables.specs.Files.{AreExact, AreOfLevels, IsOfLevels, names_in}
 use Rattle.tq_tables.specs.NamesApart.{Apart}
 use Rattle.tq_tables.proofs.Counting.{Apart-files_in}
 use Rattle.tq_tables.specs.Rows.{file_row, file_rows, files_in, intent_rows, intent_state, least_for, least_in, least_row, no_quorums, quorum_row, quorum_rows, row_at, state_by}
@@ -56,21 +56,16 @@ least_in_rows live purpose server first within =
 
 -- the sets of a file's row are of the tree
 pub of_tree-rows : (levels : ℕ) (nodes : List NodeView) (list : List Commit) (files : List (List ℕ))
-    → All (λ row. (row.current.levels ≡ levels) × (row.stale.levels ≡ levels)) (map (file_row levels nodes list) files)
-of_tree-rows levels nodes list [] = λ k d h. absurd (omega (arith, h))
-of_tree-rows levels nodes list (file ∷ files) =
-    All-cons (λ (row : FileRow). (row.current.levels ≡ levels) × (row.stale.levels ≡ levels)) (file_row levels nodes list file) (map (file_row levels nodes list) files) (refl, refl) (of_tree-rows levels nodes list files)
+    → AreOfLevels levels (map (file_row levels nodes list) files)
+of_tree-rows levels nodes list files = All-map (IsOfLevels levels) (file_row levels nodes list) files (λ k d h. (refl, refl))
 
 -- each says what the servers' copies of its file do
 pub exact-rows : (levels : ℕ) (nodes : List NodeView) (list : List Commit) (files : List (List ℕ)) → AreExact levels nodes (map (file_row levels nodes list) files)
-exact-rows levels nodes list [] = λ k d h. absurd (omega (arith, h))
-exact-rows levels nodes list (file ∷ files) =
-    All-cons (λ (row : FileRow). row ≡ row_at levels nodes row.file row.version) (file_row levels nodes list file) (map (file_row levels nodes list) files) refl (exact-rows levels nodes list files)
+exact-rows levels nodes list files = All-map (λ (row : FileRow). row ≡ row_at levels nodes row.file row.version) (file_row levels nodes list) files (λ k d h. refl)
 
 -- each has a row of its own
 names-rows : (levels : ℕ) (nodes : List NodeView) (list : List Commit) (files : List (List ℕ)) → names_in (map (file_row levels nodes list) files) ≡ files
-names-rows levels nodes list [] = refl
-names-rows levels nodes list (file ∷ files) = ap (λ (rest : List (List ℕ)). file ∷ rest) (names-rows levels nodes list files)
+names-rows levels nodes list files = map-map (λ (row : FileRow). row.file) (file_row levels nodes list) files ∙ map-id files
 
 pub apart-rows : (levels : ℕ) (nodes : List NodeView) (list : List Commit) → Apart (names_in (file_rows levels nodes list))
 apart-rows levels nodes list = subst Apart (sym (names-rows levels nodes list (files_in list))) (Apart-files_in list)

@@ -3,7 +3,8 @@ use Rattle.std.specs.Prelude.{◌||◌}
 use Rattle.std.proofs.Common.{◌≡◌, ℕ, ◌+◌, ◌<◌, ◌^◌, Bool, true, false, cond, List, [], ◌∷◌, length, map, refl, ap, sym, subst, ◌∙◌, arith}
 use mathlib.Core.Bool.{true≢false}
 use Rattle.std.specs.FinMap as fin
-use Rattle.std.proofs.lemmas.List.Elements.{All-nil, All-cons}
+use Rattle.std.proofs.lemmas.List.{map-id, map-map}
+use Rattle.std.proofs.lemmas.List.Elements.{All-map}
 use Rattle.indexmap.specs.IndexMap.{insert_entry}
 use Rattle.tq_store.specs.Names.{same_name}
 use Rattle.tq_store.proofs.SameName.{same_name-is, same_name-refl}
@@ -17,11 +18,11 @@ use Rattle.tq_desk.specs.DeskJournal.{Commit, count, with_commit}
 use Rattle.tq_node.specs.Node.{NodeView}
 use Rattle.tq_tables.specs.declared.file_row.FileRow.{FileRow}
 use Rattle.tq_tables.specs.Counted.{count_in, counted, names_of, version_of, with_each, with_one}
-use Rattle.tq_tables.specs.Files.{AreOfLevels, committed_ops, version_in, with_row, with_rows}
+use Rattle.tq_tables.specs.Files.{AreOfLevels, IsOfLevels, committed_ops, version_in, with_row, with_rows}
 use Rattle.tq_tables.specs.NamesApart.{is_in, Apart}
 use Rattle.tq_tables.specs.Rows.{file_rows, files_in, row_at}
 use Rattle.tq_tables.proofs.Counting.{is_in-names_of, count-most, count_in-counted, count_in-other, counted-more}
-use Rattle.tq_tables.proofs.Names.{Apart-keys, differ, or_true}
+use Rattle.tq_tables.proofs.Names.{Apart-keys, differ, or-true}
 use Rattle.tq_tables.proofs.RowLaws.{rows-counted}
 
 -- where no name is, there are none
@@ -52,8 +53,7 @@ module _ (levels : ℕ) (nodes : List NodeView) where
       by false s rest = ap (λ (rows : List FileRow). row_at levels nodes e.0 e.1 ∷ rows) rest
 
   versions-of : (counts : List (List ℕ × ℕ)) → map version_of (rows_of counts) ≡ counts
-  versions-of [] = refl
-  versions-of (e ∷ counts) = ap (λ (rest : List (List ℕ × ℕ)). (e.0, e.1) ∷ rest) (versions-of counts)
+  versions-of counts = map-map version_of (λ (e : List ℕ × ℕ). row_at levels nodes e.0 e.1) counts ∙ map-id counts
 
   put-each : (n : List ℕ → ℕ) (counts : List (List ℕ × ℕ)) (names : List (List ℕ)) → Apart names → ((name : List ℕ) → is_in name names ≡ true → n name ≡ count_in counts name + 1)
       → with_rows (rows_of counts) (map (λ name. row_at levels nodes name (n name)) names) ≡ rows_of (with_each counts names)
@@ -66,7 +66,7 @@ module _ (levels : ℕ) (nodes : List NodeView) where
     where
       still : (other : List ℕ) → is_in other names ≡ true → n other ≡ count_in (with_one counts name) other + 1
       still other there =
-          next other (ap (λ (b : Bool). same_name other name || b) there ∙ or_true (same_name other name))
+          next other (ap (λ (b : Bool). same_name other name || b) there ∙ or-true (same_name other name))
           ∙ ap (λ (k : ℕ). k + 1) (sym (count_in-other counts name other (differ names name other apart.0 there)))
 
   rows-are : (list : List Commit) → file_rows levels nodes list ≡ rows_of (counted list)
@@ -103,9 +103,7 @@ module _ (levels : ℕ) (nodes : List NodeView) where
       subst (λ (k : ℕ). k + 1 < 2 ^ 64) (sym (version-is list file ∙ count_in-counted list file)) (omega (arith, most, few))
 
   pub of_tree-next : (rows : List FileRow) (names : List (List ℕ)) → AreOfLevels levels (rows_next rows names)
-  of_tree-next rows [] = All-nil (λ (row : FileRow). (row.current.levels ≡ levels) × (row.stale.levels ≡ levels))
-  of_tree-next rows (name ∷ names) =
-      All-cons (λ (row : FileRow). (row.current.levels ≡ levels) × (row.stale.levels ≡ levels)) (row_at levels nodes name (version_in rows name + 1)) (rows_next rows names) (refl, refl) (of_tree-next rows names)
+  of_tree-next rows names = All-map (IsOfLevels levels) (λ (file : List ℕ). row_at levels nodes file (version_in rows file + 1)) names (λ k d h. (refl, refl))
 
 -- ---- no ops
 

@@ -4,6 +4,7 @@ use Rattle.std.specs.Coded.{Coded, code_by, coded×, coded_list, coded_ℕ}
 use Rattle.std.specs.List.{All, AllByRecursion}
 use Rattle.std.specs.Map.{lookup}
 use Rattle.indexmap.specs.IndexMap.{set_value_at}
+use Rattle.tq_shape.specs.Tree.{Server}
 use Rattle.tq_shape.specs.ServerSet.{Servers, with_number, without_number}
 use Rattle.tq_store.specs.Copies.{copy_of}
 use Rattle.tq_store.specs.Names.{same_name}
@@ -17,6 +18,7 @@ use Rattle.tq_desk.specs.declared.ask.DeskReply.TheVariants as replies
 use Rattle.tq_node.specs.Node.{NodeView}
 use Rattle.tq_node.specs.Untouched.{offered_files, raised_files}
 use Rattle.tq_node.specs.declared.telling.Raised.{Raised}
+use Rattle.tq_tables.specs.Asked.{node_in}
 use Rattle.tq_tables.specs.NamesApart.{Apart}
 use Rattle.tq_tables.specs.Counted.{count_in, version_of}
 use Rattle.tq_tables.specs.Rows.{has_version, row_at}
@@ -56,6 +58,10 @@ pub record AreFiles (levels : ℕ) (entries : List (List ℕ × FileRow)) : Type
   pub named : entries ≡ map (λ row. (row.file, row)) (map (λ entry. entry.1) entries)
   pub apart : Apart (names_in (map (λ entry. entry.1) entries))
   pub of_tree : AreOfLevels levels (map (λ entry. entry.1) entries)
+
+-- the rows under their names
+abbrev pub by_file : List FileRow → List (List ℕ × FileRow)
+by_file rows = map (λ row. (row.file, row)) rows
 
 -- a row of the file stands at the place
 abbrev pub HasRowAt : List (List ℕ × FileRow) → ℕ → List ℕ → Type 0
@@ -104,6 +110,10 @@ moved false server row = record { file = row.file; version = row.version; curren
 -- the row with a server where its copy of the file says
 abbrev pub stood : NodeView → FileRow → FileRow
 stood node row = moved (has_version row.file row.version node) node.server row
+
+-- the row with each of the servers where its copy says
+abbrev pub stood_in : List NodeView → FileRow → List Server → FileRow
+stood_in nodes row servers = fold (λ (r : FileRow) (server : Server). stood (node_in nodes server.number) r) row servers
 
 -- that for one file alone
 abbrev pub stood_at : NodeView → List ℕ → FileRow → FileRow

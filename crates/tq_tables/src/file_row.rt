@@ -1,6 +1,8 @@
-ghost use Rattle.std.specs.Prelude.{◌≡◌, ◌+◌, ◌<◌, ◌≤◌, ◌^◌, IfOk};
+ghost use Rattle.std.specs.Prelude.{◌≡◌, ◌+◌, ◌<◌, ◌≤◌, ◌^◌, length, IfOk};
+ghost use Rattle.std.specs.List.{All};
+ghost use Rattle.tq_shape.specs.ServerSet.{Ascends, numbered};
 ghost use Rattle.tq_store.specs.Copies.{copy_of};
-ghost use Rattle.tq_tables.specs.Files.{IsExact, next_row, stood};
+ghost use Rattle.tq_tables.specs.Files.{IsExact, next_row, stood, stood_in};
 ghost use Rattle.tq_tables.specs.Parts.{AreOfTree};
 
 use tq_node::Node;
@@ -55,11 +57,24 @@ impl FileRow {
     {
         let mut row = self.copy()?;
         row.version += 1;
-        for server in self.current.iter() {
-            let place = (server.number() - 1) as usize;
-            row.stand(&nodes[place], 0);
-        }
+        row.stand_each(&self.current, nodes);
         Ok(row)
+    }
+
+    /// Each of these servers stands where its copy of the file says. It takes no memory.
+    #[inline(always)]
+    pub(crate) fn stand_each(&mut self, servers: &ServerSet, nodes: &[Node])
+        requires of_tree { AreOfTree self.old.current.levels 1 nodes.now }
+        requires levels { self.old.stale.levels ≡ self.old.current.levels }
+        requires within { All (λ number. number ≤ length nodes.now) servers.now.numbers }
+        ensures stands { self.new
+            ≡ stood_in nodes.now self.old (numbered servers.now.levels servers.now.numbers) }
+        ensures ascending { Ascends 0 servers.now.numbers }
+    {
+        for server in servers.iter() {
+            let place = (server.number() - 1) as usize;
+            self.stand(&nodes[place], 0);
+        }
     }
 
     /// The server, whose copy of the file is at least of that version, stands among the current ones where its copy is of

@@ -124,10 +124,7 @@ fn first_row(
         current,
         stale,
     };
-    for server in holders.early.iter() {
-        let place = (server.number() - 1) as usize;
-        row.stand(&nodes[place], 0);
-    }
+    row.stand_each(&holders.early, nodes);
     Ok(row)
 }
 

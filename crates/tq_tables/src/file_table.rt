@@ -1,12 +1,12 @@
 //! The rows of files, found by the names of the files.
-ghost use Rattle.std.specs.Prelude.{[], ◌≡◌, ◌≤◌, ◌<◌, ◌+◌, length, map, IfOk, OnOk};
+ghost use Rattle.std.specs.Prelude.{[], ◌≡◌, ◌≤◌, ◌<◌, ◌+◌, true, length, map, IfOk, OnOk};
 ghost use Rattle.std.specs.Bool.{OnTrue};
 ghost use Rattle.std.specs.Option.{option_copied};
 ghost use Rattle.tq_node.specs.Untouched.{AreReached, HasOffered, offered_files, raised_files};
 ghost use Rattle.tq_store.specs.Copies.{copy_of};
 ghost use Rattle.tq_tables.specs.NamesApart.{Apart};
 ghost use Rattle.tq_tables.specs.Files as spec;
-ghost use Rattle.tq_tables.specs.Files.{AreOfLevels, HasRowAt};
+ghost use Rattle.tq_tables.specs.Files.{AreOfLevels, HasRowAt, by_file};
 ghost use Rattle.tq_tables.specs.Early.{HaveRows, has_row};
 
 use crate::FileRow;
@@ -149,13 +149,25 @@ impl FileTable {
         ensures rows { self.new.rows ≡ map (spec.stood_at node.now file.now) self.old.rows }
         ensures found { result ≡ has_row self.old.rows file.now }
     {
+        let Some(place) = self.rows.get_index_of(file) else {
+            return false;
+        };
+        self.stand_there(place, node, file, least);
+        true
+    }
+
+    /// The same where the row of the file is the one at that place.
+    #[inline(always)]
+    fn stand_there(&mut self, place: usize, node: &Node, file: &FileName, least: u64)
+        requires there { HasRowAt (by_file self.old.rows) place file.now }
+        requires levels { node.now.levels ≡ self.old.levels }
+        requires least { least ≤ (copy_of node.now.state.records.copies file.now).version }
+        ensures levels { self.new.levels ≡ self.old.levels }
+        ensures rows { self.new.rows ≡ map (spec.stood_at node.now file.now) self.old.rows }
+        ensures found { has_row self.old.rows file.now ≡ true }
+    {
         let _levels = self.levels;
-        let mut found = false;
-        if let Some(row) = self.rows.get_mut(file) {
-            row.stand(node, least);
-            found = true;
-        }
-        found
+        stand_at(&mut self.rows, place, node, least);
     }
 
     /// The same for a file that is likely to be that of the row that was found last, as where a refresh goes from server to
@@ -169,7 +181,7 @@ impl FileTable {
     {
         let _levels = self.levels;
         if has_row_at(&self.rows, self.last, file) {
-            stand_at(&mut self.rows, self.last, node, least);
+            self.stand_there(self.last, node, file, least);
             return true;
         }
         self.stand_elsewhere(node, file, least)

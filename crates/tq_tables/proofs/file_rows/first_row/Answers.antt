@@ -1,77 +1,22 @@
-use Rattle.std.proofs.Common.{◌-◌, ◌<◌, ℕ, List, length, get_or, refl, ap, sym, subst, ◌∙◌, arith}
-use Rattle.std.specs.List.{All}
-use Rattle.std.proofs.lemmas.List.Elements.{All-head, All-rest}
+use Rattle.std.proofs.Common.{ℕ, ap, sym, subst, ◌∙◌}
 use Rattle.tq_shape.specs.ServerSet.{Servers, numbered}
-use Rattle.tq_shape.specs.Tree.{Server}
-use Rattle.tq_node.specs.Node.{NodeView}
-use Rattle.tq_tables.specs.Files.{stood}
-use Rattle.tq_tables.specs.declared.file_row.FileRow.{FileRow}
-use Rattle.tq_tables.proofs.Kept.{HasLevels, stood-levels}
-use Rattle.tq_tables.proofs.RowLaws.{at-place}
-use Rattle.tq_tables.proofs.Settled.{IsPlace, are-places-of, first-exact, node-found, stood_in}
+use Rattle.tq_tables.specs.Files.{stood_in}
+use Rattle.tq_tables.specs.Parts.{AreOfTree}
+use Rattle.tq_tables.proofs.Settled.{first-exact}
 use Rattle.tq_tables.proofs.file_rows.first_row.Goals as goal
 
-pub stand-requires-clause-least : goal.stand-requires-clause-least
-stand-requires-clause-least c = omega arith
+pub stand_each-requires-clause-of_tree : goal.stand_each-requires-clause-of_tree
+stand_each-requires-clause-of_tree c = subst (λ (s : Servers). AreOfTree s.levels 1 c.args.nodes.now) (sym c.in_ok-current.ensures) c.requires.of_tree
 
-pub loop-server-init : goal.loop-server-init
-loop-server-init c =
-    let nodes = c.args.nodes.now in
-    let levels = c.args.levels in
-    let early = c.args.holders.now.early in
-    let all = c.into_iter-server-iterator.ensures.into_iter_gives ∙ c.iter-server-items.ensures.servers ∙ ap (λ (l : ℕ). numbered l early.numbers) c.requires.early in
-    record {
-      of_tree = (ap (λ (s : Servers). s.levels) c.in_ok-current.ensures, ap (λ (s : Servers). s.levels) (c.in_ok-stale.ensures.cases ∙ c.requires.all));
-      places = subst (λ (servers : List Server). All (IsPlace (length nodes)) servers) (sym all)
-          (are-places-of levels (length nodes) 0 early.numbers c.iter-server-items.ensures.ascending c.requires.within);
-      same = refl;
-    }
-
-pub bounds-nodes-place : goal.bounds-nodes-place
-bounds-nodes-place c =
-    let nodes = c.args.nodes.now in
-    let place = All-head (IsPlace (length nodes)) c.in-Some.server c.next.new.self (subst (λ (servers : List Server). All (IsPlace (length nodes)) servers) c.in-Some.ensures.steps c.loop-server.invariant.places) in
-    omega (arith, place.0, place.1, c.number.ensures.value)
-
-pub stand-requires-clause-current : goal.stand-requires-clause-current
-stand-requires-clause-current c =
-    let nodes = c.args.nodes.now in
-    let place = All-head (IsPlace (length nodes)) c.in-Some.server c.next.new.self (subst (λ (servers : List Server). All (IsPlace (length nodes)) servers) c.in-Some.ensures.steps c.loop-server.invariant.places) in
-    let number = c.number.ensures.value in
-    let less : c.number.result - 1 < length nodes = omega (arith, place.0, place.1, number) in
-    (at-place c.args.levels 1 nodes c.requires.of_tree (c.number.result - 1) c.index-nodes-place.result less c.index-nodes-place.is).0 ∙ sym c.loop-server.invariant.of_tree.0
-
-pub stand-requires-clause-stale : goal.stand-requires-clause-stale
-stand-requires-clause-stale c =
-    stand-requires-clause-current c ∙ c.loop-server.invariant.of_tree.0 ∙ sym c.loop-server.invariant.of_tree.1
-
-pub loop-server-preserved : goal.loop-server-preserved
-loop-server-preserved c =
-    let nodes = c.args.nodes.now in
-    let server = c.in-Some.server in
-    let rest = c.next.new.self in
-    let node = c.index-nodes-place.result in
-    let steps = c.in-Some.ensures.steps in
-    let place = All-head (IsPlace (length nodes)) server rest (subst (λ (servers : List Server). All (IsPlace (length nodes)) servers) steps c.loop-server.invariant.places) in
-    let found = node-found nodes server node place (c.index-nodes-place.is ∙ ap (λ (k : ℕ). get_or nodes (k - 1) node) c.number.ensures.value) in
-    record {
-      of_tree = subst (λ (r : FileRow). HasLevels c.args.levels r) (sym c.stand.ensures)
-          (stood-levels c.args.levels node c.loop-server.row c.loop-server.invariant.of_tree);
-      places = All-rest (IsPlace (length nodes)) server rest c.loop-server.server-iterator steps c.loop-server.invariant.places;
-      same = ap (λ (r : FileRow). stood_in nodes r rest) (c.stand.ensures ∙ ap (λ (n : NodeView). stood n c.loop-server.row) found)
-          ∙ sym (ap (stood_in nodes c.loop-server.row) steps)
-          ∙ c.loop-server.invariant.same;
-    }
+pub stand_each-requires-clause-levels : goal.stand_each-requires-clause-levels
+stand_each-requires-clause-levels c = ap (λ (s : Servers). s.levels) (c.in_ok-stale.ensures.cases ∙ c.requires.all) ∙ sym (ap (λ (s : Servers). s.levels) c.in_ok-current.ensures)
 
 pub returns : goal.returns
 returns c =
     let nodes = c.args.nodes.now in
-    let levels = c.args.levels in
     let file = c.args.file in
     let early = c.args.holders.now.early in
-    let all = c.into_iter-server-iterator.ensures.into_iter_gives ∙ c.iter-server-items.ensures.servers ∙ ap (λ (l : ℕ). numbered l early.numbers) c.requires.early in
     let stale = c.in_ok-stale.ensures.cases ∙ c.requires.all in
-    sym (ap (stood_in nodes c.loop-server.row) c.in-None.ensures.steps.0)
-    ∙ c.loop-server.invariant.same
-    ∙ (λ i. stood_in nodes (record { file = file; version = 1; current = c.in_ok-current.ensures i; stale = stale i }) (all i))
-    ∙ first-exact levels nodes c.requires.of_tree file early.numbers c.iter-server-items.ensures.ascending c.requires.within c.requires.others
+    c.stand_each.ensures.stands
+    ∙ (λ i. stood_in nodes (record { file = file; version = 1; current = c.in_ok-current.ensures i; stale = stale i }) (numbered (c.requires.early i) early.numbers))
+    ∙ first-exact c.args.levels nodes c.requires.of_tree file early.numbers c.stand_each.ensures.ascending c.requires.within c.requires.others

@@ -1,8 +1,9 @@
 use Rattle.std.proofs.Common.{◌≡◌, ◌∙◌, List, ℕ, ap, sym}
+use Rattle.std.proofs.lemmas.Option.{same_Some}
 use Rattle.indexmap.specs.IndexMap.{set_value_at}
 use Rattle.tq_tables.specs.Files as spec
 use Rattle.tq_tables.specs.declared.file_row.FileRow.{FileRow}
-use Rattle.tq_tables.proofs.Placed.{no-value-at, same_pair, value-at}
+use Rattle.tq_tables.proofs.Placed.{no-value-at, value-at}
 use Rattle.tq_tables.proofs.file_table.stand_at.Goals as goal
 
 pub stand-requires-clause-least : goal.stand-requires-clause-least
@@ -23,7 +24,7 @@ stand-requires-clause-stale c =
 pub returns-in-Some : goal.returns-in-Some
 returns-in-Some c = λ file row here.
     let at = value-at c.args.rows.now.entries c.args.place c.in-Some.row.now (sym c.in-Some.ensures.value) in
-    let same : c.in-Some.row.now ≡ row = ap (λ (p : List ℕ × FileRow). p.1) (same_pair (at.0, c.in-Some.row.now) (file, row) (sym at.1 ∙ here)) in
+    let same : c.in-Some.row.now ≡ row = ap (λ (p : List ℕ × FileRow). p.1) (same_Some (at.0, c.in-Some.row.now) (file, row) (sym at.1 ∙ here)) in
     ap (set_value_at c.args.rows.now.entries c.args.place) (c.stand.ensures ∙ ap (spec.stood c.args.node.now) same)
 
 pub returns-in_default : goal.returns-in_default

@@ -1,9 +1,7 @@
-use Rattle.std.proofs.Common.{sym, ◌∙◌}
-use Rattle.tq_equality.proofs.Equal.{desk_ask-is, is-desk_ask}
+use Rattle.std.proofs.lemmas.Bool.Decides.{Decides-at}
+use Rattle.tq_equality.specs.Same.{same_desk_ask}
+use Rattle.tq_equality.proofs.Equal.{decides, desk_ask-is, desk_ask-self}
 use Rattle.tq_equality.proofs.desk.OfDeskAlike.is_same_ask.Goals as goal
 
 pub returns : goal.returns
-returns c = (
-  (λ is. desk_ask-is c.args.one.now c.args.other.now (sym c.test_of_ask.ensures ∙ is)),
-  (λ same. c.test_of_ask.ensures ∙ is-desk_ask c.args.one.now c.args.other.now same),
-)
+returns c = Decides-at _ _ c.test_of_ask.ensures (decides same_desk_ask desk_ask-is desk_ask-self c.args.one.now c.args.other.now)

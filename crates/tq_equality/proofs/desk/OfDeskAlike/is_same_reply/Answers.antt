@@ -1,9 +1,7 @@
-use Rattle.std.proofs.Common.{sym, ◌∙◌}
-use Rattle.tq_equality.proofs.Equal.{desk_reply-is, is-desk_reply}
+use Rattle.std.proofs.lemmas.Bool.Decides.{Decides-at}
+use Rattle.tq_equality.specs.Same.{same_desk_reply}
+use Rattle.tq_equality.proofs.Equal.{decides, desk_reply-is, desk_reply-self}
 use Rattle.tq_equality.proofs.desk.OfDeskAlike.is_same_reply.Goals as goal
 
 pub returns : goal.returns
-returns c = (
-  (λ is. desk_reply-is c.args.one.now c.args.other.now (sym c.test_of_reply.ensures ∙ is)),
-  (λ same. c.test_of_reply.ensures ∙ is-desk_reply c.args.one.now c.args.other.now same),
-)
+returns c = Decides-at _ _ c.test_of_reply.ensures (decides same_desk_reply desk_reply-is desk_reply-self c.args.one.now c.args.other.now)

@@ -1,75 +1,30 @@
-use Rattle.std.proofs.Common.{◌-◌, ◌<◌, ℕ, List, length, get_or, refl, ap, sym, subst, ◌∙◌, arith}
+use Rattle.std.proofs.Common.{ℕ, ◌≤◌, length, ap, sym, subst, ◌∙◌}
 use Rattle.std.specs.List.{All}
-use Rattle.std.proofs.lemmas.List.Elements.{All-head, All-rest}
 use Rattle.tq_shape.specs.ServerSet.{numbered}
-use Rattle.tq_shape.specs.Tree.{Server}
-use Rattle.tq_node.specs.Node.{NodeView}
-use Rattle.tq_tables.specs.Files.{stood}
+use Rattle.tq_tables.specs.Files.{stood_in}
+use Rattle.tq_tables.specs.Parts.{AreOfTree}
 use Rattle.tq_tables.specs.Rows.{has_version}
 use Rattle.tq_tables.specs.declared.file_row.FileRow.{FileRow}
-use Rattle.tq_tables.proofs.Kept.{HasLevels, stood-levels}
-use Rattle.tq_tables.proofs.RowLaws.{at-place}
-use Rattle.tq_tables.proofs.Settled.{IsPlace, are-places, at_next, next-exact, node-found, stood_in}
+use Rattle.tq_tables.proofs.Settled.{are-within, at_next, next-exact}
 use Rattle.tq_tables.proofs.file_row.FileRow.of_next_commit.Goals as goal
 
-pub stand-requires-clause-least : goal.stand-requires-clause-least
-stand-requires-clause-least c = omega arith
+pub stand_each-requires-clause-of_tree : goal.stand_each-requires-clause-of_tree
+stand_each-requires-clause-of_tree c = subst (λ (r : FileRow). AreOfTree r.current.levels 1 c.args.nodes.now) (sym c.in_ok-row.ensures) c.requires.of_tree
 
-pub loop-server-init : goal.loop-server-init
-loop-server-init c =
+pub stand_each-requires-clause-levels : goal.stand_each-requires-clause-levels
+stand_each-requires-clause-levels c = ap (λ (r : FileRow). r.stale.levels) (c.in_ok-row.ensures ∙ c.requires.exact) ∙ sym (ap (λ (r : FileRow). r.current.levels) c.in_ok-row.ensures)
+
+pub stand_each-requires-clause-within : goal.stand_each-requires-clause-within
+stand_each-requires-clause-within c =
     let row = c.args.self.now in
     let nodes = c.args.nodes.now in
-    let levels = row.current.levels in
-    let all = c.into_iter-server-iterator.ensures.into_iter_gives ∙ c.iter-server-items.ensures.servers ∙ (λ i. numbered levels (c.requires.exact i).current.numbers) in
-    record {
-      of_tree = (ap (λ (r : FileRow). r.current.levels) c.in_ok-row.ensures, ap (λ (r : FileRow). r.stale.levels) (c.in_ok-row.ensures ∙ c.requires.exact));
-      places = subst (λ (servers : List Server). All (IsPlace (length nodes)) servers) (sym all)
-          (are-places levels (length nodes) 1 (has_version row.file row.version) nodes c.requires.of_tree (omega arith) (omega arith));
-      same = refl;
-    }
-
-pub bounds-nodes-place : goal.bounds-nodes-place
-bounds-nodes-place c =
-    let nodes = c.args.nodes.now in
-    let place = All-head (IsPlace (length nodes)) c.in-Some.server c.next.new.self (subst (λ (servers : List Server). All (IsPlace (length nodes)) servers) c.in-Some.ensures.steps c.loop-server.invariant.places) in
-    omega (arith, place.0, place.1, c.number.ensures.value)
-
-pub stand-requires-clause-current : goal.stand-requires-clause-current
-stand-requires-clause-current c =
-    let nodes = c.args.nodes.now in
-    let place = All-head (IsPlace (length nodes)) c.in-Some.server c.next.new.self (subst (λ (servers : List Server). All (IsPlace (length nodes)) servers) c.in-Some.ensures.steps c.loop-server.invariant.places) in
-    let number = c.number.ensures.value in
-    let less : c.number.result - 1 < length nodes = omega (arith, place.0, place.1, number) in
-    (at-place c.args.self.now.current.levels 1 nodes c.requires.of_tree (c.number.result - 1) c.index-nodes-place.result less c.index-nodes-place.is).0 ∙ sym c.loop-server.invariant.of_tree.0
-
-pub stand-requires-clause-stale : goal.stand-requires-clause-stale
-stand-requires-clause-stale c =
-    stand-requires-clause-current c ∙ c.loop-server.invariant.of_tree.0 ∙ sym c.loop-server.invariant.of_tree.1
-
-pub loop-server-preserved : goal.loop-server-preserved
-loop-server-preserved c =
-    let nodes = c.args.nodes.now in
-    let server = c.in-Some.server in
-    let rest = c.next.new.self in
-    let node = c.index-nodes-place.result in
-    let steps = c.in-Some.ensures.steps in
-    let place = All-head (IsPlace (length nodes)) server rest (subst (λ (servers : List Server). All (IsPlace (length nodes)) servers) steps c.loop-server.invariant.places) in
-    let found = node-found nodes server node place (c.index-nodes-place.is ∙ ap (λ (k : ℕ). get_or nodes (k - 1) node) c.number.ensures.value) in
-    record {
-      of_tree = subst (λ (r : FileRow). HasLevels c.args.self.now.current.levels r) (sym c.stand.ensures)
-          (stood-levels c.args.self.now.current.levels node c.loop-server.row c.loop-server.invariant.of_tree);
-      places = All-rest (IsPlace (length nodes)) server rest c.loop-server.server-iterator steps c.loop-server.invariant.places;
-      same = ap (λ (r : FileRow). stood_in nodes r rest) (c.stand.ensures ∙ ap (λ (n : NodeView). stood n c.loop-server.row) found)
-          ∙ sym (ap (stood_in nodes c.loop-server.row) steps)
-          ∙ c.loop-server.invariant.same;
-    }
+    subst (λ (r : FileRow). All (λ (number : ℕ). number ≤ length nodes) r.current.numbers) (sym c.requires.exact)
+    (are-within row.current.levels (has_version row.file row.version) nodes c.requires.of_tree)
 
 pub returns : goal.returns
 returns c =
     let row = c.args.self.now in
     let nodes = c.args.nodes.now in
-    let all = c.into_iter-server-iterator.ensures.into_iter_gives ∙ c.iter-server-items.ensures.servers in
-    sym (ap (stood_in nodes c.loop-server.row) c.in-None.ensures.steps.0)
-    ∙ c.loop-server.invariant.same
-    ∙ (λ i. stood_in nodes (at_next (c.in_ok-row.ensures i)) (all i))
+    c.stand_each.ensures.stands
+    ∙ (λ i. stood_in nodes (at_next (c.in_ok-row.ensures i)) (numbered row.current.levels row.current.numbers))
     ∙ next-exact row.current.levels nodes c.requires.of_tree row c.requires.exact

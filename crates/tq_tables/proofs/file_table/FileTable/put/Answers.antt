@@ -2,8 +2,8 @@ use Rattle.std.proofs.Common.{◌≡◌, map, ap, sym, ◌∙◌}
 use Rattle.indexmap.specs.IndexMap.{insert_entry}
 use Rattle.tq_store.specs.Names.{same_name}
 use Rattle.tq_tables.specs.Files as spec
-use Rattle.tq_tables.specs.Files.{FilesView}
-use Rattle.tq_tables.proofs.Kept.{by_file, are-files, are-rows, put-entries, Apart-with_row, of_tree-with_row}
+use Rattle.tq_tables.specs.Files.{FilesView, by_file}
+use Rattle.tq_tables.proofs.Kept.{are-files, are-rows, put-entries, Apart-with_row, of_tree-with_row}
 use Rattle.tq_tables.proofs.file_table.FileTable.put.Goals as goal
 
 pub invariant_of-self : goal.invariant_of-self

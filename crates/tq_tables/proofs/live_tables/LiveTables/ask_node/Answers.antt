@@ -1,5 +1,6 @@
 use Rattle.std.specs.Prelude.{reverse}
 use Rattle.std.proofs.Common.{◌≡◌, ℕ, ◌-◌, ◌<◌, ◌≤◌, length, set, get_or, ap, sym, subst, ◌∙◌, refl, arith}
+use Rattle.std.proofs.lemmas.List.{get_or-set_same, length-set}
 use Rattle.tq_desk.specs.DeskJournal.{commits}
 use Rattle.tq_node.specs.Node.{NodeView, answered}
 use Rattle.tq_node.specs.Records.{node_reply}
@@ -16,8 +17,7 @@ use Rattle.tq_tables.specs.Tables.{TablesView, tables_at}
 use Rattle.tq_tables.proofs.Held.{held-asked, held-same}
 use Rattle.tq_tables.proofs.Noted.{rows-at}
 use Rattle.tq_tables.proofs.Replayed.{of_tree-at}
-use Rattle.tq_tables.proofs.Restood.{get_or-put, is_there, next-number, node-noted, node_in-at, rows-stand, with_nodes, with_nodes-at}
-use Rattle.tq_tables.proofs.Stood.{length-set-nodes}
+use Rattle.tq_tables.proofs.Restood.{is_there, next-number, node-noted, node_in-at, rows-stand, with_nodes, with_nodes-at}
 use Rattle.tq_tables.proofs.live_tables.LiveTables.ask_node.Goals as goal
 
 pub ask_node-requires-clause-there : goal.ask_node-requires-clause-there
@@ -42,7 +42,7 @@ node-node-requires c =
     let less : c.args.server - 1 < length parts.nodes = omega (arith, there.0, there.1, many) in
     let old = node_in parts.nodes c.args.server in
     let after = c.in_ok-entered.ensures.after old (node_in-at parts.nodes c.args.server less) in
-    let count = ap (λ (p : PartsView). length p.nodes) after ∙ length-set-nodes parts.nodes (c.args.server - 1) (answered old c.args.number c.args.ask.now) in
+    let count = ap (λ (p : PartsView). length p.nodes) after ∙ length-set parts.nodes (c.args.server - 1) (answered old c.args.number c.args.ask.now) in
     (there.0, omega (arith, there.1, many, count))
 
 pub stand_all-found-requires-clause-levels : goal.stand_all-found-requires-clause-levels
@@ -71,7 +71,7 @@ stand_all-found-requires-clause-reached c =
     let node_is : c.node-node.result.now ≡ node =
     c.node-node.ensures.value
     ∙ ap (λ (p : PartsView). get_or p.nodes (server - 1) c.node-node.result.now) after
-    ∙ get_or-put parts.nodes (server - 1) node c.node-node.result.now less in
+    ∙ get_or-set_same parts.nodes (server - 1) node c.node-node.result.now less in
     subst (λ (n : NodeView). AreReached c.args.ask.now c.in_ok-entered.field-0.raised n.state.records.copies) (sym node_is) (c.in_ok-entered.ensures.reached old at)
 
 pub hold-requires : goal.hold-requires
@@ -111,7 +111,7 @@ invariant_of-self-2 c =
     let node_is : c.node-node.result.now ≡ node =
     c.node-node.ensures.value
     ∙ ap (λ (p : PartsView). get_or p.nodes (server - 1) c.node-node.result.now) after
-    ∙ get_or-put parts.nodes (server - 1) node c.node-node.result.now less in
+    ∙ get_or-set_same parts.nodes (server - 1) node c.node-node.result.now less in
     let whole = view_is ∙ c.requires.stand in
     let of_tree : AreOfTree levels 1 parts.nodes =
     subst (λ (l : ℕ). AreOfTree l 1 parts.nodes) same
@@ -159,7 +159,7 @@ returns-clause-asked c = λ journals reply legal stand.
     let node_is : c.node-node.result.now ≡ node =
     c.node-node.ensures.value
     ∙ ap (λ (p : PartsView). get_or p.nodes (server - 1) c.node-node.result.now) after
-    ∙ get_or-put parts.nodes (server - 1) node c.node-node.result.now less in
+    ∙ get_or-set_same parts.nodes (server - 1) node c.node-node.result.now less in
     let whole = view_is ∙ stand in
     let of_tree = of_tree-at journals.levels journals.servers parts.nodes parts.view.levels (ap (λ (t : TablesView). t.nodes) whole) (ap (λ (t : TablesView). t.view.levels) whole) in
     let stands = rows-stand parts of_tree server there.0 within old node at refl refl (raised_files c.args.ask.now c.in_ok-entered.field-0.raised) (c.in_ok-entered.ensures.raised old at) rows journals

@@ -6,7 +6,7 @@ use Rattle.std.specs.Map.Iter.{deref_pair}
 use Rattle.tq_store.specs.Names.{same_name}
 use Rattle.tq_tables.specs.Counted as spec
 use Rattle.tq_tables.proofs.Counting.{count_in-other}
-use Rattle.tq_tables.proofs.Names.{Apart, Apart-keys, differ, is_in, or_true}
+use Rattle.tq_tables.proofs.Names.{Apart, Apart-keys, differ, is_in, or-true}
 use Rattle.tq_store.proofs.SameName.{same_name-refl}
 use Rattle.tq_tables.proofs.write_counts.WriteCounts.count_all.Goals as goal
 
@@ -37,5 +37,5 @@ loop-name-preserved c =
       fresh = λ name there.
           ap (λ counts. spec.count_in counts name) c.in_ok-count.ensures
           ∙ count_in-other c.loop-name.self c.in-Some.name.now name (differ (map (λ entry. entry.0) c.next.new.self) c.in-Some.name.now name left.0 there)
-          ∙ c.loop-name.invariant.fresh name (ap (λ es. is_in name (map (λ entry. entry.0) es)) more ∙ ap (λ b. same_name name c.in-Some.name.now || b) there ∙ or_true (same_name name c.in-Some.name.now));
+          ∙ c.loop-name.invariant.fresh name (ap (λ es. is_in name (map (λ entry. entry.0) es)) more ∙ ap (λ b. same_name name c.in-Some.name.now || b) there ∙ or-true (same_name name c.in-Some.name.now));
     }
