@@ -36,9 +36,9 @@ returns-in-Some-get_index_mut-clause-ok g c =
     let e = entry_of eq m n c.in-Some.index v (sym c.requires.index ∙ c.in-Some.is) (sym c.in-Some-get_index_mut.ensures.value) in
     let keys : v.items ≡ keys_under eq m n = sym (ap (λ o. option_map_or (λ keys. keys.items) o []) e.3) in
     let after : c.enter.new.self.items ≡ insert v.items c.args.spot.place c.args.key → Enters eq m (with_value_at m c.in-Some.index c.enter.new.self) n c.args.spot.place c.args.key =
-        λ entered t.
-        written eq g.met.K.Eq.laws m n e.0 c.in-Some.index c.get_index_mut.ensures.unique v c.enter.new.self e.1 e.2 t
-        ∙ ap (λ ks. cond (eq n t) ks (keys_under eq m t)) (entered ∙ ap (λ ks. insert ks c.args.spot.place c.args.key) keys) in
+    λ entered t.
+    written eq g.met.K.Eq.laws m n e.0 c.in-Some.index c.get_index_mut.ensures.unique v c.enter.new.self e.1 e.2 t
+    ∙ ap (λ ks. cond (eq n t) ks (keys_under eq m t)) (entered ∙ ap (λ ks. insert ks c.args.spot.place c.args.key) keys) in
     OnOk-to _ _ _ c.enter.ensures.ok after
 
 pub returns-in-None-clause-ok : goal.returns-in-None-clause-ok
