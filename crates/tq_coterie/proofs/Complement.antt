@@ -1,50 +1,31 @@
 -- A set of servers holds no member exactly if its complement holds one.
 use Rattle.std.proofs.Common.{◌≡◌, ℕ, zero, suc, List, [], ◌∷◌, ◌++◌, map, Bool, true, false, ◌||◌, ◌&&◌, not, refl, sym, ap, ◌∙◌, arith}
+use mathlib.Core.Bool.{and-false, and-true, and-or_distrib_left, and-or_distrib_right, not-not, or-false}
 use Rattle.std.specs.List.{list_all}
 use Rattle.std.proofs.lemmas.List.Folds.{list_any-append}
 use Rattle.tq_shape.specs.Tree.{left_of, right_of}
 use Rattle.tq_coterie.specs.Coterie.{joined, joined_pairs, members, holds_member, two_of}
 use Rattle.tq_coterie.proofs.Sets.{list_all-joined}
 
--- `p && (x || y)` and the like, by cases
-share : (p x y : Bool) → ((p && x) || (p && y)) ≡ (p && (x || y))
-share true x y = refl
-share false x y = refl
-
-share' : (p q x : Bool) → ((p && x) || (q && x)) ≡ ((p || q) && x)
-share' true true true = refl
-share' true true false = refl
-share' true false true = refl
-share' true false false = refl
-share' false q x = refl
-
-none : (p : Bool) → false ≡ (p && false)
-none true = refl
-none false = refl
-
 holds-with : (test : ℕ → Bool) (top : ℕ) (sets : List (List ℕ)) → holds_member test (map (λ q. top ∷ q) sets) ≡ (test top && holds_member test sets)
-holds-with test top [] = none (test top)
+holds-with test top [] = sym (and-false (test top))
 holds-with test top (q ∷ sets) =
-    ap (λ b. (test top && list_all test q) || b) (holds-with test top sets) ∙ share (test top) (list_all test q) (holds_member test sets)
+    ap (λ b. (test top && list_all test q) || b) (holds-with test top sets) ∙ sym (and-or_distrib_left (test top) (list_all test q) (holds_member test sets))
 
 holds-joined : (test : ℕ → Bool) (q : List ℕ) (rights : List (List ℕ)) → holds_member test (map (joined q) rights) ≡ (list_all test q && holds_member test rights)
-holds-joined test q [] = none (list_all test q)
+holds-joined test q [] = sym (and-false (list_all test q))
 holds-joined test q (p ∷ rights) =
-    rw (list_all-joined test q p, holds-joined test q rights) (share (list_all test q) (list_all test p) (holds_member test rights))
+    rw (list_all-joined test q p, holds-joined test q rights) (sym (and-or_distrib_left (list_all test q) (list_all test p) (holds_member test rights)))
 
 holds-pairs : (test : ℕ → Bool) (lefts rights : List (List ℕ)) → holds_member test (joined_pairs lefts rights) ≡ (holds_member test lefts && holds_member test rights)
 holds-pairs test [] rights = refl
 holds-pairs test (q ∷ lefts) rights =
     list_any-append (list_all test) (map (joined q) rights) (joined_pairs lefts rights)
-    ∙ (rw (holds-joined test q rights, holds-pairs test lefts rights) (share' (list_all test q) (holds_member test lefts) (holds_member test rights)))
+    ∙ (rw (holds-joined test q rights, holds-pairs test lefts rights) (sym (and-or_distrib_right (list_all test q) (holds_member test lefts) (holds_member test rights))))
 
 pub holds-leaf : (test : ℕ → Bool) (top : ℕ) → holds_member test (members zero top) ≡ test top
 unfolding members
-holds-leaf test top = only (test top)
-  where
-    only : (b : Bool) → ((b && true) || false) ≡ b
-    only true = refl
-    only false = refl
+holds-leaf test top = or-false (test top && true) ∙ and-true (test top)
 
 pub holds-fork : (test : ℕ → Bool) (height top : ℕ) → holds_member test (members (suc height) top) ≡ two_of (test top) (holds_member test (members height (left_of top))) (holds_member test (members height (right_of top)))
 unfolding members
@@ -83,7 +64,3 @@ holds-at_leaf set height top here low chosen = rw (low, ← chosen) (sym (holds-
 -- as exactly one of the two holds a member, each says what the other does not
 pub holds-otherwise : (set : ℕ → Bool) (height top : ℕ) (answer : Bool) → answer ≡ holds_member set (members height top) → answer ≡ not (holds_member (λ s. not (set s)) (members height top))
 holds-otherwise set height top answer is = is ∙ sym (ap not (holds-complement set height top) ∙ not-not (holds_member set (members height top)))
-  where
-    not-not : (b : Bool) → not (not b) ≡ b
-    not-not true = refl
-    not-not false = refl

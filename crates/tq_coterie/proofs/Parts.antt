@@ -1,5 +1,6 @@
 -- The test by parts finds exactly the members.
 use Rattle.std.proofs.Common.{◌≡◌, ℕ, ◌-◌, ◌/◌, ◌^◌, ◌<◌, ◌≤◌, zero, suc, List, [], ◌∷◌, Bool, true, false, ◌||◌, ◌&&◌, cond, eqb, refl, sym, inl, inr, arith, ap, ◌∙◌, subst}
+use mathlib.Core.Bool.{and-false, and-or_distrib_right, or-false}
 use Rattle.std.specs.List.{All, Contains}
 use Rattle.std.proofs.lemmas.Bool.{cases_Bool, eqb-true, eq-eqb, or_cases, or_left, or_right, cases_lt, or_from, false≢true, false_from_ne_true}
 use Rattle.std.proofs.lemmas.List.Elements.{All-nil, All-cons, All-head, All-tail, All-contains}
@@ -113,10 +114,6 @@ IsFound-both height top q p left right = record {
       agree s (stands_in-right height top s under)
       ∙ (has-joined q p s ∙ rw (none_right height top s q positive left.set under) refl)));
 }
-  where
-    or-false : (b : Bool) → (b || false) ≡ b
-    or-false true = refl
-    or-false false = refl
 
 pub part_of-member : (height top : ℕ) (member : List ℕ) → 0 < top → Contains (members height top) member → part_of height top member ≡ Member
 part_of-member height top member positive at =
@@ -215,7 +212,7 @@ here_or servers top s below =
       | inl same ↦
           let one : has servers top ≡ has servers s = ap (has servers) (eqb-true top s same) in
           rw (same, one) (by_here (has servers s) below)
-      | inr other ↦ rw other (by_below (has servers top) (has servers s) below)
+      | inr other ↦ rw (other, and-false (has servers top)) refl
     ]
   where
     by_here : (b c : Bool) → ((b && true) || (c && b)) ≡ b
@@ -223,31 +220,17 @@ here_or servers top s below =
     by_here false true = refl
     by_here false false = refl
 
-    by_below : (a b c : Bool) → ((a && false) || (c && b)) ≡ (c && b)
-    by_below true b c = refl
-    by_below false b c = refl
-
-either : (a b c : Bool) → ((a && c) || (b && c)) ≡ ((a || b) && c)
-either true b true = refl
-either true true false = refl
-either true false false = refl
-either false b c = refl
-
 has-listing : (height top : ℕ) (servers : List ℕ) (s : ℕ) → has (listing height top servers) s ≡ (stands_in height top s && has servers s)
 unfolding stands_in
 has-listing zero top servers s =
     has-cond (has servers top) top s [] ∙ (here_or servers top s false ∙ rw (or-false (eqb top s)) refl)
-  where
-    or-false : (b : Bool) → (b || false) ≡ b
-    or-false true = refl
-    or-false false = refl
 has-listing (suc height) top servers s =
     let q = listing height (left_of top) servers in
     let p = listing height (right_of top) servers in
     let left = stands_in height (left_of top) s in
     let right = stands_in height (right_of top) s in
     has-cond (has servers top) top s (joined q p)
-    ∙ (rw (has-joined q p s, has-listing height (left_of top) servers s, has-listing height (right_of top) servers s, either left right (has servers s))
+    ∙ (rw (has-joined q p s, has-listing height (left_of top) servers s, has-listing height (right_of top) servers s, sym (and-or_distrib_right left right (has servers s)))
     (here_or servers top s (left || right)))
 
 -- a set of servers of the subtree is what it lists there
@@ -259,10 +242,6 @@ listing-is height top servers positive up within =
     stands : (s : ℕ) (at : Bool) → has servers s ≡ at → (stands_in height top s && has servers s) ≡ has servers s
     stands s true e = rw (within s e, e) refl
     stands s false e = rw e (and-false (stands_in height top s))
-      where
-        and-false : (b : Bool) → (b && false) ≡ false
-        and-false true = refl
-        and-false false = refl
 
 pub member-part_of : (height top : ℕ) (servers : List ℕ) → 0 < top → Ascends 0 servers → ((s : ℕ) → has servers s ≡ true → stands_in height top s ≡ true) → part_of height top servers ≡ Member → Contains (members height top) servers
 member-part_of height top servers positive up within is =

@@ -1,30 +1,17 @@
 -- Sets of servers as ascending lists.
 use Rattle.std.proofs.Common.{◌≡◌, ℕ, ◌+◌, ◌<◌, ◌≤◌, List, [], ◌∷◌, Bool, true, false, ◌||◌, ◌&&◌, eqb, refl, sym, inl, inr, arith, ap, ◌∙◌, subst, sum_by}
+use mathlib.Core.Bool.{and_assoc, and_comm, or_assoc, or_comm}
 use Rattle.std.proofs.lemmas.Bool.{cases_lt, cases_order, cases_Bool, lt-ltb, le-ltb, eq-eqb, ne_eqb, eqb-true, eqb-false, false≢true, or_parts, or_left, or_right, or_from}
 use Rattle.std.proofs.lemmas.List.Sums.{sum_by-cons}
 use Rattle.std.specs.List.{list_all}
 use Rattle.tq_coterie.specs.Coterie.{with_server, joined, has}
 use Rattle.tq_shape.specs.ServerSet.{Ascends}
 
-pub or_swap : (a b c : Bool) → (a || (b || c)) ≡ (b || (a || c))
-or_swap true true c = refl
-or_swap true false c = refl
-or_swap false true c = refl
-or_swap false false c = refl
+or_swap : (a b c : Bool) → (a || (b || c)) ≡ (b || (a || c))
+or_swap a b c = sym (or_assoc a b c) ∙ (ap (λ x. x || c) (or_comm a b) ∙ or_assoc b a c)
 
-pub or_assoc : (a b c : Bool) → ((a || b) || c) ≡ (a || (b || c))
-or_assoc true b c = refl
-or_assoc false b c = refl
-
-pub and_swap : (a b c : Bool) → (a && (b && c)) ≡ (b && (a && c))
-and_swap true true c = refl
-and_swap true false c = refl
-and_swap false true c = refl
-and_swap false false c = refl
-
-pub and_assoc : (a b c : Bool) → ((a && b) && c) ≡ (a && (b && c))
-and_assoc true b c = refl
-and_assoc false b c = refl
+and_swap : (a b c : Bool) → (a && (b && c)) ≡ (b && (a && c))
+and_swap a b c = sym (and_assoc a b c) ∙ (ap (λ x. x && c) (and_comm a b) ∙ and_assoc b a c)
 
 pub Ascends-from : (low high : ℕ) (xs : List ℕ) → low ≤ high → Ascends high xs → Ascends low xs
 Ascends-from low high [] le up = tt

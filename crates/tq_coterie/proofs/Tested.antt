@@ -1,11 +1,11 @@
 -- A test of a set of servers, and what it says of the coterie.
 use Rattle.std.proofs.Common.{◌≡◌, ℕ, ◌-◌, ◌≤◌, Bool, true, false, cond, ◌||◌, List, [], ◌∷◌, Option, Some, None, nat_eq, eqb, refl, sym, ap, subst, ◌∙◌, ◌↔◌, arith, inl, inr}
+use Rattle.std.specs.Cmp.{both_ways}
 use Rattle.std.specs.Cmp.Lexicographic.{nat_list_eq_equiv, same_text}
 use Rattle.std.specs.List.{Contains, find, list_any}
 use Rattle.std.specs.Option.{option_map}
-use Rattle.std.proofs.lemmas.Bool.{false≢true, or_right, cases_lt}
+use Rattle.std.proofs.lemmas.Bool.{eqb-true, false≢true, or_right, cases_lt}
 use Rattle.std.proofs.lemmas.Map.Views.{list_any-from_Contains, Contains-from_any}
-use Rattle.std.proofs.lemmas.Bool.Decides.{nat_tests}
 use Rattle.tq_coterie.specs.Coterie.{coterie, has, is_quorum, numbers_of, servers_of, IsLeastOfBoth, IsMemberList}
 use Rattle.tq_shape.specs.ServerSet.{Ascends}
 use Rattle.tq_shape.specs.Tree.{Server}
@@ -13,15 +13,10 @@ use Rattle.tq_coterie.proofs.Intersecting.{members-meet}
 use Rattle.tq_coterie.proofs.Parts.{Ascends-member}
 use Rattle.tq_coterie.proofs.Sets.{has-below, has-head}
 
-same_test : (a b : Bool) → (a ≡ true → b ≡ true) → (b ≡ true → a ≡ true) → a ≡ b
-same_test true b f g = sym (f refl)
-same_test false true f g = g refl
-same_test false false f g = refl
-
 -- an answer that says whether the numbers are a member is the test
 pub tested : (levels : ℕ) (numbers : List ℕ) (answer : Bool) → (answer ≡ true) ↔ Contains (coterie levels) numbers → answer ≡ is_quorum levels numbers
 tested levels numbers answer is =
-    same_test answer (is_quorum levels numbers)
+    both_ways answer (is_quorum levels numbers)
     (λ e. list_any-from_Contains nat_list_eq_equiv numbers (coterie levels) (is.0 e))
     (λ e. is.1 (Contains-from_any (λ x y same. same_text x y (sym same)) numbers (coterie levels) e))
 
@@ -29,9 +24,6 @@ tested levels numbers answer is =
 pub has-numbers_of : (servers : List Server) (number : ℕ) → list_any (λ server. nat_eq server.number number) servers ≡ has (numbers_of servers) number
 has-numbers_of [] number = refl
 has-numbers_of (first ∷ rest) number = ap (λ b. nat_eq first.number number || b) (has-numbers_of rest number)
-
-same_number : (a b : ℕ) → eqb a b ≡ true → a ≡ b
-same_number a b h = grind (arith, nat_tests)
 
 -- no server of an ascending set is below its first
 not_below : (low first : ℕ) (rest : List ℕ) (other : ℕ) → Ascends low (first ∷ rest) → has (first ∷ rest) other ≡ true → first ≤ other
@@ -44,7 +36,7 @@ not_below low first rest other up here =
 later_least : (first : ℕ) (rest others : List ℕ) (server other : ℕ) → has others first ≡ false → IsLeastOfBoth rest others server → has (first ∷ rest) other ≡ true → has others other ≡ true → server ≤ other
 later_least first rest others server other not later here there =
     elim (eqb first other) as (λ b. eqb first other ≡ b → (b || has rest other) ≡ true → server ≤ other) [
-      | true ↦ λ is _. absurd (false≢true (sym not ∙ subst (λ n. has others n ≡ true) (sym (same_number first other is)) there))
+      | true ↦ λ is _. absurd (false≢true (sym not ∙ subst (λ n. has others n ≡ true) (sym (eqb-true first other is)) there))
       | false ↦ λ _ in_rest. later.least other in_rest there
     ] refl here
 
@@ -79,7 +71,7 @@ none-found (first ∷ rest) others server none here there =
       | true ↦ λ at e. cc
       | false ↦ λ not e.
           elim (eqb first server) as (λ b. eqb first server ≡ b → (b || has rest server) ≡ true → ⊥) [
-            | true ↦ λ is _. false≢true (sym not ∙ subst (λ n. has others n ≡ true) (sym (same_number first server is)) there)
+            | true ↦ λ is _. false≢true (sym not ∙ subst (λ n. has others n ≡ true) (sym (eqb-true first server is)) there)
             | false ↦ λ _ in_rest. none-found rest others server e in_rest there
           ] refl here
     ] refl none

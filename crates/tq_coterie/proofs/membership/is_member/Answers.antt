@@ -6,19 +6,14 @@ use Rattle.tq_coterie.specs.declared.overlap.Overlap.TheVariants.{Member}
 use Rattle.tq_coterie.proofs.Parts.{member-tested, tested-member, member-servers}
 use Rattle.tq_coterie.proofs.membership.is_member.Goals as goal
 
-pub returns-then-is_path-clause-member : goal.returns-then-is_path-clause-member
-returns-then-is_path-clause-member c = (
-  λ e. c.is_path.ensures c.if-is_path.true,
-  λ at. refl,
-)
-
-pub returns-then-is_path-clause-servers : goal.returns-then-is_path-clause-servers
-returns-then-is_path-clause-servers c = λ e.
-    member-servers c.args.levels c.args.numbers.now c.root-root.ensures.levels (c.is_path.ensures c.if-is_path.true)
-
-pub returns-then-is_path-clause-ascending : goal.returns-then-is_path-clause-ascending
-returns-then-is_path-clause-ascending c = λ e.
-    (member-tested c.args.levels c.args.numbers.now c.root-root.ensures.levels (c.is_path.ensures c.if-is_path.true)).ascends
+pub returns-then-is_path : goal.returns-then-is_path
+returns-then-is_path c =
+    let at = c.is_path.ensures c.if-is_path.true in
+    record {
+      member = (λ _. at, λ _. refl);
+      servers = λ _. member-servers c.args.levels c.args.numbers.now c.root-root.ensures.levels at;
+      ascending = λ _. (member-tested c.args.levels c.args.numbers.now c.root-root.ensures.levels at).ascends;
+    }
 
 pub returns-then-not-is_ascending-clause-member : goal.returns-then-not-is_ascending-clause-member
 returns-then-not-is_ascending-clause-member c =

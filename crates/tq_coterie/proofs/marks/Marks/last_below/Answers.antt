@@ -23,10 +23,7 @@ loop-word-preserved c = record {
 pub overflow_sub-result : goal.overflow_sub-result
 overflow_sub-result c = omega (arith, (leading_top 64 c.loop-word.word (omega (arith, c.loop-word-test.false)) c.loop-word.invariant.small).1)
 
-pub returns-clause-below : goal.returns-clause-below
-returns-clause-below c =
-    (looked-last c.args.self.now.words c.args.server c.loop-word.place c.loop-word.word c.loop-word.invariant.looked (omega (arith, c.loop-word-test.false)) c.loop-word.invariant.small).below
-
-pub returns-clause-last : goal.returns-clause-last
-returns-clause-last c =
-    (looked-last c.args.self.now.words c.args.server c.loop-word.place c.loop-word.word c.loop-word.invariant.looked (omega (arith, c.loop-word-test.false)) c.loop-word.invariant.small).last
+pub returns : goal.returns
+returns c =
+    let found = looked-last c.args.self.now.words c.args.server c.loop-word.place c.loop-word.word c.loop-word.invariant.looked (omega (arith, c.loop-word-test.false)) c.loop-word.invariant.small in
+    record { below = found.below; last = found.last }
