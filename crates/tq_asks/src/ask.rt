@@ -141,7 +141,7 @@ impl NodeReply {
     /// # Errors
     ///
     /// Refuses where there is no memory for the name of a file.
-    pub fn refused(alloc: Global, reason: NodeRefusal) -> Result<NodeReply, Memory>
+    pub fn of_refusal(alloc: Global, reason: NodeRefusal) -> Result<NodeReply, Memory>
         ensures { IfOk result (λ reply. reply ≡ NodeReply.Refused reason) }
     {
         let reason = Reason::new(alloc, reason)?;

@@ -4,31 +4,31 @@ use Rattle.std.proofs.lemmas.List.{append-nil}
 use Rattle.std.specs.Fmt.{decimal}
 use Rattle.std.specs.List.{flat_map}
 use Rattle.tq_shape.specs.Tree.{Server}
-use Rattle.tq_shape.specs.ServerSet.{numbered}
+use Rattle.tq_shape.specs.ServerSet.{servers_of_numbers}
 use Rattle.tq_coterie.specs.Coterie.{numbers_of}
 use Rattle.tq_live.specs.Live.{Live}
 use Rattle.tq_live.specs.View.{upwards}
 use Rattle.tq_tables.specs.Tables.{TablesView}
-use Rattle.tq_board_text.specs.Board.{spaced, listed, server_line, servers_text}
+use Rattle.tq_board_text.specs.Board.{words_after_spaces, words_or_dash, server_line, servers_text}
 
 -- where there is a word, no `-` is printed
-pub listed_words : {A : Type 0} (word : A → List ℕ) (items : List A) → (items ≡ [] → ⊥) → listed (map word items) ≡ spaced (map word items)
+pub listed_words : {A : Type 0} (word : A → List ℕ) (items : List A) → (items ≡ [] → ⊥) → words_or_dash (map word items) ≡ words_after_spaces (map word items)
 listed_words word [] some = absurd (some refl)
 listed_words word (first ∷ rest) some = refl
 
 -- the servers of a set have its numbers
-numbers_of-numbered : (levels : ℕ) (numbers : List ℕ) → numbers_of (numbered levels numbers) ≡ numbers
+numbers_of-numbered : (levels : ℕ) (numbers : List ℕ) → numbers_of (servers_of_numbers levels numbers) ≡ numbers
 numbers_of-numbered levels [] = refl
 numbers_of-numbered levels (first ∷ rest) = ap (λ more. first ∷ more) (numbers_of-numbered levels rest)
 
 -- a set whose last server was written
-pub set_written : (text old : List ℕ) (left servers : List Server) (levels : ℕ) (numbers : List ℕ) → text ++ spaced (map decimal (numbers_of left)) ≡ old ++ spaced (map decimal (numbers_of servers)) → left ≡ [] → servers ≡ numbered levels numbers → (numbers ≡ [] → ⊥) → text ≡ old ++ servers_text numbers
+pub set_written : (text old : List ℕ) (left servers : List Server) (levels : ℕ) (numbers : List ℕ) → text ++ words_after_spaces (map decimal (numbers_of left)) ≡ old ++ words_after_spaces (map decimal (numbers_of servers)) → left ≡ [] → servers ≡ servers_of_numbers levels numbers → (numbers ≡ [] → ⊥) → text ≡ old ++ servers_text numbers
 set_written text old left servers levels numbers all none are some =
     sym (append-nil text)
-    ∙ ap (λ left. text ++ spaced (map decimal (numbers_of left))) (sym none)
+    ∙ ap (λ left. text ++ words_after_spaces (map decimal (numbers_of left))) (sym none)
     ∙ all
-    ∙ ap (λ servers. old ++ spaced (map decimal (numbers_of servers))) are
-    ∙ ap (λ numbers. old ++ spaced (map decimal numbers)) (numbers_of-numbered levels numbers)
+    ∙ ap (λ servers. old ++ words_after_spaces (map decimal (numbers_of servers))) are
+    ∙ ap (λ numbers. old ++ words_after_spaces (map decimal numbers)) (numbers_of-numbered levels numbers)
     ∙ ap (λ words. old ++ words) (sym (listed_words decimal numbers some))
 
 -- a number, and those behind it

@@ -29,17 +29,17 @@ as_line text = text ++ 10 ∷ []
 -- ---- lists of words
 
 -- each word after a space
-abbrev pub spaced : List (List ℕ) → List ℕ
-spaced words = flat_map (λ word. 32 ∷ word) words
+abbrev pub words_after_spaces : List (List ℕ) → List ℕ
+words_after_spaces words = flat_map (λ word. 32 ∷ word) words
 
 -- the same, and a single `-` where there is no word
-abbrev pub listed : List (List ℕ) → List ℕ
-listed [] = spaced (codes "-" ∷ [])
-listed (first ∷ rest) = spaced (first ∷ rest)
+abbrev pub words_or_dash : List (List ℕ) → List ℕ
+words_or_dash [] = words_after_spaces (codes "-" ∷ [])
+words_or_dash (first ∷ rest) = words_after_spaces (first ∷ rest)
 
 -- servers by their numbers
 abbrev pub servers_text : List ℕ → List ℕ
-servers_text numbers = listed (map decimal numbers)
+servers_text numbers = words_or_dash (map decimal numbers)
 
 -- a file and the version that a write makes of it
 abbrev pub write_text : FileVersion → List ℕ
@@ -107,7 +107,7 @@ intent_text row =
     ++ codes " " ++ decimal row.txn
     ++ codes " number " ++ decimal row.number
     ++ codes " " ++ state_text row.state
-    ++ listed (map write_text row.writes)
+    ++ words_or_dash (map write_text row.writes)
 
 -- ---- the board
 

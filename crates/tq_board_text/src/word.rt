@@ -1,7 +1,7 @@
 ghost use Rattle.std.specs.Prelude.{◌≡◌, ◌+◌, ◌<◌, ◌∷◌, OnOk, map};
 ghost use Rattle.std.specs.Fmt.{decimal};
 ghost use Rattle.tq_tables.specs.Rows.{file_version};
-ghost use Rattle.tq_board_text.specs.Board.{Appends, listed, mark_text, servers_text, state_text, write_text};
+ghost use Rattle.tq_board_text.specs.Board.{Appends, words_or_dash, mark_text, servers_text, state_text, write_text};
 
 use tq_shape::{Memory, ServerSet};
 use tq_store::Write;
@@ -43,7 +43,7 @@ pub(crate) fn push_set(text: &mut String, servers: &ServerSet) -> Result<(), Mem
 /// Puts the files of writes with their versions behind the text, each after a space, or `-` where there is none.
 pub(crate) fn push_writes(text: &mut String, writes: &[Write]) -> Result<(), Memory>
     ensures { OnOk result
-        (Appends text.old text.new (listed (map write_text (map file_version writes.now)))) }
+        (Appends text.old text.new (words_or_dash (map write_text (map file_version writes.now)))) }
 {
     if writes.is_empty() {
         return text.push_str(" -");

@@ -13,8 +13,8 @@ pub record Told (A R : Type 0) : Type 0 where
   pub ask : A
   pub reply : R
 
-abbrev pub told : {A R : Type 0} → Part → ℕ → A → R → Told A R
-told part number ask reply = record { part = part; number = number; ask = ask; reply = reply }
+abbrev pub told_reply : {A R : Type 0} → Part → ℕ → A → R → Told A R
+told_reply part number ask reply = record { part = part; number = number; ask = ask; reply = reply }
 
 -- one caller's receipts at one cell, in the order of its calls, and the greatest number that it was told
 pub record Seen (A R : Type 0) : Type 0 where

@@ -151,7 +151,7 @@ impl<P: Answers> Cell<P> {
             × IsLegalFrom P.reply P.after (P.opening s) 1 r.0.items) }
         ensures receipts { IfOk result (λ r. r.1.items ≡ receipts_of passes.items) }
     {
-        let receipts = joined(alloc, passes)?;
+        let receipts = receipts_in_order(alloc, passes)?;
         let journal = self.into_journaled().into_entries();
         Ok((journal, receipts))
     }
@@ -159,7 +159,10 @@ impl<P: Answers> Cell<P> {
 
 /// The receipts of the passes, pass by pass.
 #[tactic(auto, using(crate::proofs::Joined::receipts_snoc))]
-fn joined<P: Answers>(alloc: Global, passes: Vec<Pass<P>>) -> Result<Vec<Receipt<P>>, Memory>
+fn receipts_in_order<P: Answers>(
+    alloc: Global,
+    passes: Vec<Pass<P>>,
+) -> Result<Vec<Receipt<P>>, Memory>
     ensures { IfOk result (λ v. v.items ≡ receipts_of passes.items) }
 {
     let mut all = Vec::new(alloc);

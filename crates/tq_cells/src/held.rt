@@ -1,7 +1,7 @@
 ghost use Rattle.std.specs.Prelude.{◌≡◌, ◌+◌, ◌∷◌, ◌++◌, [], ◌≤◌, ◌<◌, ◌↔◌, IsTrue, length, drop, max, vec_len, IfOk, IfErr, OnErr, IsErrOf};
 ghost use Rattle.tq_shape.specs.Journal.{IsLegalFrom, entry};
-ghost use Rattle.tq_part.specs.Agrees.{standing};
-ghost use Rattle.tq_cells.specs.Passes.{IsUntaken, last_behind, told};
+ghost use Rattle.tq_part.specs.Agrees.{standing_part};
+ghost use Rattle.tq_cells.specs.Passes.{IsUntaken, last_behind, told_reply};
 
 use crate::pass::Pass;
 use crate::receipt::Receipt;
@@ -35,7 +35,7 @@ impl<P: Answers> Held<P> {
     /// A part that was asked nothing, with an empty journal that may have that many entries.
     pub(crate) fn new(alloc: Global, part: P, limit: u32) -> Held<P>
         requires { part ≡ P.opening part }
-        ensures { result ≡ standing part [] limit }
+        ensures { result ≡ standing_part part [] limit }
     {
         Held {
             journaled: Journaled::new(alloc, part, limit),
@@ -63,7 +63,7 @@ impl<P: Answers> Held<P> {
         ensures number { IfOk result (λ r. r.number ≡ length self.old.journal + 1) }
         ensures told { IfOk result (λ r. r.told ≡ entry ask (P.reply self.old.part r.number ask)) }
         ensures kept { IfOk result (λ r. r.kept ≡ r.told) }
-        ensures after { IfOk result (λ r. self.new ≡ standing
+        ensures after { IfOk result (λ r. self.new ≡ standing_part
             (P.after self.old.part r.number ask) (self.old.journal ++ r.told ∷ []) self.old.limit) }
         ensures legal { IsLegalFrom P.reply P.after (P.opening self.new.part) 1 self.new.journal }
         ensures err { OnErr result (self.new ≡ self.old) }
@@ -101,8 +101,8 @@ impl<P: Answers> Held<P> {
     ) -> Result<Receipt<P>, Fault>
         ensures number { IfOk result (λ r. r.number ≡ length self.old.journal + 1) }
         ensures receipt { IfOk result (λ r. r
-            ≡ told part r.number ask (P.reply self.old.part r.number ask)) }
-        ensures after { IfOk result (λ r. self.new ≡ standing
+            ≡ told_reply part r.number ask (P.reply self.old.part r.number ask)) }
+        ensures after { IfOk result (λ r. self.new ≡ standing_part
             (P.after self.old.part r.number ask) (self.old.journal ++ entry ask r.reply ∷ [])
             self.old.limit) }
         ensures pass { IfOk result (λ r. pass.new.receipts ≡ pass.old.receipts ++ r ∷ []) }
@@ -148,7 +148,7 @@ impl<P: Answers> Held<P> {
         if number >= last {
             return Ok(Vec::new(alloc));
         }
-        let copied = copied::<P>(alloc, &entries[number as usize..])?;
+        let copied = entry_copies::<P>(alloc, &entries[number as usize..])?;
         pass.seen = pass.seen.max(last);
         Ok(copied)
     }
@@ -166,7 +166,7 @@ impl<P: Answers> Held<P> {
 }
 
 /// Equal entries. Answers an error only where memory is refused.
-fn copied<P: Answers>(
+fn entry_copies<P: Answers>(
     alloc: Global,
     entries: &[Entry<P::Ask, P::Reply>],
 ) -> Result<Vec<Entry<P::Ask, P::Reply>>, Memory>

@@ -1,6 +1,6 @@
 ghost use Rattle.std.specs.Prelude.{◌≡◌};
 ghost use Rattle.tq_shape.specs.Journal.{entry};
-ghost use Rattle.tq_cells.specs.Passes.{told};
+ghost use Rattle.tq_cells.specs.Passes.{told_reply};
 
 use std::marker::Model;
 use tq_part::Answers;
@@ -17,17 +17,17 @@ pub struct Receipt<P: Answers> {
 }
 
 impl<P: Answers> Model for Receipt<P> {
-    ghost use Rattle.tq_cells.specs.Passes.{Told, told};
+    ghost use Rattle.tq_cells.specs.Passes.{Told, told_reply};
 
     ghost Value = { Told P.Ask P.Reply };
 
-    ghost view = { λ r. told r.part r.number r.ask r.reply };
+    ghost view = { λ r. told_reply r.part r.number r.ask r.reply };
 }
 
 impl<P: Answers> Receipt<P> {
     /// A receipt of that entry of the part.
     pub(crate) fn new(part: Part, number: u64, entry: Entry<P::Ask, P::Reply>) -> Receipt<P>
-        ensures { result ≡ told part number entry.ask entry.reply }
+        ensures { result ≡ told_reply part number entry.ask entry.reply }
     {
         let Entry { ask, reply } = entry;
         Receipt {

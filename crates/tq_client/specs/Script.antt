@@ -13,8 +13,8 @@ use Rattle.tq_desk.specs.declared.ask.DeskReply.TheVariants as replies
 use Rattle.tq_live.specs.View.{is_server}
 use Rattle.tq_live.specs.declared.view.ViewAsk.{ViewAsk}
 use Rattle.tq_live.specs.declared.view.ViewAsk.TheVariants as view_asks
-use Rattle.tq_txn_states.specs.Open.{OpenView, opening}
-use Rattle.tq_txn_states.specs.Voting.{VotingView, closed}
+use Rattle.tq_txn_states.specs.Open.{OpenView, opening_txn}
+use Rattle.tq_txn_states.specs.Voting.{VotingView, voting_of}
 use Rattle.tq_txn.specs.declared.fault.LineFault.{LineFault}
 use Rattle.tq_txn.specs.declared.fault.LineFault.TheVariants as faults
 use Rattle.tq_txn.specs.declared.txn.Txn.{Txn}
@@ -82,7 +82,7 @@ closing (Some txn) = given_up (states.Open txn)
 
 -- the transaction that the desk's reply begins; none where it refuses
 abbrev pub txn_of_reply : ℕ → LimitsView → DeskReply → Option OpenView
-txn_of_reply levels limits (replies.Txn number) = Some (opening levels limits number)
+txn_of_reply levels limits (replies.Txn number) = Some (opening_txn levels limits number)
 txn_of_reply levels limits reply = None
 
 abbrev pub desk_opened : ℕ → LimitsView → Told DeskReply → Option OpenView
@@ -125,7 +125,7 @@ voting_asked voting = then_line (commit_line voting) (λ end. after_commit (is_a
 
 -- a transaction that read and wrote nothing has nothing to commit: that is refused, too
 abbrev pub commit_asked : OpenView → Dialogue (Unit {0})
-commit_asked txn = cond (is_empty txn.ops) (given_up (states.Open txn)) (voting_asked (closed txn))
+commit_asked txn = cond (is_empty txn.ops) (given_up (states.Open txn)) (voting_asked (voting_of txn))
 
 -- where no transaction is open nothing is asked
 abbrev pub in_open : (OpenView → Dialogue (Option OpenView)) → Option OpenView → Dialogue (Option OpenView)

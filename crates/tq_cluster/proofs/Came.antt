@@ -13,7 +13,7 @@ use Rattle.tq_mirror.specs.declared.entries.Entries.{Entries}
 use Rattle.tq_mirror.specs.declared.entries.Entries.TheVariants as entries
 use Rattle.tq_mirror.specs.declared.fault.PullFault.{PullFault}
 use Rattle.tq_mirror.specs.declared.fault.PullFault.TheVariants as faults
-use Rattle.tq_mirror.specs.Prefixes.{IsPullFault, IsTaken, grown, prefix_length}
+use Rattle.tq_mirror.specs.Prefixes.{IsPullFault, IsTaken, journals_with, prefix_length}
 use Rattle.tq_cluster.specs.Told.{CallerView, having_seen, seen_of}
 use Rattle.tq_cluster.specs.Pulls.{Continues, EachContinues, EndedAt, HasSeenBefore, HasSeenServers, IsPull, SawWhatCame, seen_then}
 use Rattle.tq_cluster.proofs.Pulled.{continues-grown, continues-same, other-prefix, other-seen, servers-desk}
@@ -74,7 +74,7 @@ module _ (old seen fresh known before after count : ℕ) (saw : seen ≡ max old
       subst (λ (n : ℕ). n ≤ after) (sym (saw ∙ ap (max old) (told ∙ zero-max (last_behind known count)))) (max-le enough is)
 
 -- the part was pulled
-pub pull-ok : {T : Type 0} (part : Part) (old new : JournalsView) (more : Entries) (before after fresh known count : ℕ) (x : T) → new ≡ grown old part more → before ≤ prefix_length new part → prefix_length new part ≡ prefix_length old part + count
+pub pull-ok : {T : Type 0} (part : Part) (old new : JournalsView) (more : Entries) (before after fresh known count : ℕ) (x : T) → new ≡ journals_with old part more → before ≤ prefix_length new part → prefix_length new part ≡ prefix_length old part + count
     → after ≡ max before fresh → fresh ≡ max 0 (last_behind known count) → known ≡ prefix_length old part → IsPull part old new before after (Ok x)
 pull-ok part old new more before after fresh known count x grew enough long saw told at =
     record {
@@ -137,7 +137,7 @@ Apart parts.Desk parts.Desk = ⊥
 Apart parts.View parts.View = ⊥
 Apart there part = ⊤
 
-apart-length : (old : JournalsView) (there part : Part) (more : Entries) → Apart there part → prefix_length (grown old there more) part ≡ prefix_length old part
+apart-length : (old : JournalsView) (there part : Part) (more : Entries) → Apart there part → prefix_length (journals_with old there more) part ≡ prefix_length old part
 apart-length old (parts.Server there) (parts.Server number) more apart = other-prefix old there number more apart
 apart-length old parts.Desk parts.Desk more apart = absurd apart
 apart-length old parts.View parts.View more apart = absurd apart
@@ -176,7 +176,7 @@ pub record GoesOn (old new : JournalsView) (there : Part) : Type 0 where
   pub continues : Continues old new
   pub apart : (part : Part) → Apart there part → prefix_length new part ≡ prefix_length old part
 
-pub goes-grown : (old new : JournalsView) (there : Part) (more : Entries) → new ≡ grown old there more → GoesOn old new there
+pub goes-grown : (old new : JournalsView) (there : Part) (more : Entries) → new ≡ journals_with old there more → GoesOn old new there
 goes-grown old new there more grew =
     record {
       continues = subst (λ (o : JournalsView). Continues old o) (sym grew) (continues-grown old old there more (continues-same old));
@@ -190,7 +190,7 @@ goes-same old new there same =
       apart = λ part apart. ap (λ (o : JournalsView). prefix_length o part) same;
     }
 
-pub goes-after : {T : Type 0} (old new : JournalsView) (there : Part) (r : Result T PullFault) → OnOk r ((more : Entries) × (new ≡ grown old there more)) → OnErr r (new ≡ old) → GoesOn old new there
+pub goes-after : {T : Type 0} (old new : JournalsView) (there : Part) (r : Result T PullFault) → OnOk r ((more : Entries) × (new ≡ journals_with old there more)) → OnErr r (new ≡ old) → GoesOn old new there
 goes-after old new there (Ok x) grew same = goes-grown old new there grew.0 grew.1
 goes-after old new there (Err f) grew same = goes-same old new there same
 
@@ -275,14 +275,14 @@ before-view prefixes new caller after levels seen servers desk same saw tree par
 
 -- the servers were pulled and the desk, and then the view was asked
 pub ended-after : {T : Type 0} (start middle new : JournalsView) (first second after : CallerView) (levels : ℕ) (of_desk : Entries) (seen_desk : ℕ) (r : Result T PullFault)
-    → HasSeenServers start first (2 ^ levels - 1) → middle ≡ grown start parts.Desk of_desk → second ≡ having_seen first parts.Desk seen_desk → seen_of second parts.Desk ≤ prefix_length middle parts.Desk
+    → HasSeenServers start first (2 ^ levels - 1) → middle ≡ journals_with start parts.Desk of_desk → second ≡ having_seen first parts.Desk seen_desk → seen_of second parts.Desk ≤ prefix_length middle parts.Desk
     → OnErr r (new ≡ middle) → after ≡ having_seen second parts.View (seen_of after parts.View) → middle.levels ≡ levels
     → IfErr r (λ f. (more : Entries) × IsPullFault middle parts.View more (seen_of after parts.View) f) → IfErr r (λ f. EndedAt new after f)
 ended-after start middle new first second after levels of_desk seen_desk (Ok x) servers grew saw desk same told tree fault = tt
 ended-after start middle new first second after levels of_desk seen_desk (Err f) servers grew saw desk same told tree fault =
     let with_desk : HasSeenServers middle second (2 ^ levels - 1) =
     subst (λ (o : JournalsView). HasSeenServers o second (2 ^ levels - 1)) (sym grew)
-    (subst (λ (c : CallerView). HasSeenServers (grown start parts.Desk of_desk) c (2 ^ levels - 1)) (sym saw) (servers-desk start first (2 ^ levels - 1) seen_desk of_desk servers)) in
+    (subst (λ (c : CallerView). HasSeenServers (journals_with start parts.Desk of_desk) c (2 ^ levels - 1)) (sym saw) (servers-desk start first (2 ^ levels - 1) seen_desk of_desk servers)) in
     record {
       part = parts.View;
       is_part = tt;

@@ -9,12 +9,12 @@ use Rattle.tq_shape.proofs.Joined.{legal-reverse}
 use Rattle.tq_asks.specs.declared.ask.NodeAsk.{NodeAsk}
 use Rattle.tq_node.specs.Records.{NodeState, node_reply, node_after}
 use Rattle.tq_node.specs.Node as node
-use Rattle.tq_node.specs.Node.{NodeView, answered}
+use Rattle.tq_node.specs.Node.{NodeView, server_after}
 use Rattle.tq_node.specs.NodeJournal.{NodeEntry, IsLegalNode, nothing_stored}
 use Rattle.tq_desk.specs.declared.ask.DeskAsk.{DeskAsk}
 use Rattle.tq_desk.specs.DeskStep.{DeskView, desk_reply, desk_after}
 use Rattle.tq_desk.specs.DeskStep as desk
-use Rattle.tq_desk.specs.DeskJournal.{DeskBounds, DeskEntry, IsLegalDesk, step_reply, step_after, opened}
+use Rattle.tq_desk.specs.DeskJournal.{DeskBounds, DeskEntry, IsLegalDesk, step_reply, step_after, opened_desk}
 use Rattle.tq_shape.specs.Limits.{LimitsView}
 use Rattle.tq_tables.specs.Journals.{IsOfTree, ViewEntry, AreJournals}
 use Rattle.tq_tables.specs.Parts.{AreLegalServers, bounds_of}
@@ -22,16 +22,16 @@ use Rattle.tq_tables.specs.Parts.{AreLegalServers, bounds_of}
 -- ---- servers
 
 -- a server's journal says nothing of its tree and of the last number
-from_state : (s : NodeView) (n : ℕ) (entries : List NodeEntry) → IsLegalFrom (λ (v : NodeView) (k : ℕ) (a : NodeAsk). node_reply v.server v.state a) (λ v k a. answered v k a) s n entries
+from_state : (s : NodeView) (n : ℕ) (entries : List NodeEntry) → IsLegalFrom (λ (v : NodeView) (k : ℕ) (a : NodeAsk). node_reply v.server v.state a) (λ v k a. server_after v k a) s n entries
     → IsLegalFrom (λ (old : NodeState) (k : ℕ) (a : NodeAsk). node_reply s.server old a) (node_after s.server) s.state n entries
 from_state s n [] legal = tt
-from_state s n (e ∷ entries) legal = (legal.0, from_state (answered s n e.ask) (n + 1) entries legal.1)
+from_state s n (e ∷ entries) legal = (legal.0, from_state (server_after s n e.ask) (n + 1) entries legal.1)
 
 pub node_legal : (levels there number : ℕ) (entries : List NodeEntry) → there ≡ number
-    → IsLegalFrom (λ (v : NodeView) (k : ℕ) (a : NodeAsk). node_reply v.server v.state a) (λ v k a. answered v k a) (node.opening levels there) 1 entries → IsLegalNode number (reverse entries)
+    → IsLegalFrom (λ (v : NodeView) (k : ℕ) (a : NodeAsk). node_reply v.server v.state a) (λ v k a. server_after v k a) (node.opening_server levels there) 1 entries → IsLegalNode number (reverse entries)
 node_legal levels there number entries same legal =
     subst (λ (n : ℕ). IsLegalNode n (reverse entries)) same
-    (legal-reverse (λ (old : NodeState) (k : ℕ) (a : NodeAsk). node_reply there old a) (node_after there) nothing_stored entries (from_state (node.opening levels there) 1 entries legal))
+    (legal-reverse (λ (old : NodeState) (k : ℕ) (a : NodeAsk). node_reply there old a) (node_after there) nothing_stored entries (from_state (node.opening_server levels there) 1 entries legal))
 
 pub one_server_more : (first number : ℕ) (servers : List (List NodeEntry)) (entries : List NodeEntry) → AreLegalServers first servers → number ≡ first + length servers
     → IsLegalNode number (reverse entries) → AreLegalServers first (servers ++ entries ∷ [])
@@ -42,11 +42,11 @@ one_server_more first number (s ∷ servers) entries legal at one = (legal.0, on
 
 -- the journal of a desk of these levels and limits
 pub desk_legal : (s : DeskView) (levels : ℕ) (limits : LimitsView) (entries : List DeskEntry) → s.levels ≡ levels → s.limits ≡ limits
-    → IsLegalFrom (λ (d : DeskView) (k : ℕ) (a : DeskAsk). desk_reply d a) (λ d k a. desk_after d a) (desk.opening s.levels s.limits) 1 entries
+    → IsLegalFrom (λ (d : DeskView) (k : ℕ) (a : DeskAsk). desk_reply d a) (λ d k a. desk_after d a) (desk.opening_desk s.levels s.limits) 1 entries
     → IsLegalDesk (bounds_of levels limits) (reverse entries)
 desk_legal s levels limits entries same_levels same_limits legal =
     subst (λ (b : DeskBounds). IsLegalDesk b (reverse entries)) (λ i. bounds_of (same_levels i) (same_limits i))
-    (legal-reverse step_reply step_after (opened (bounds_of s.levels s.limits)) entries legal)
+    (legal-reverse step_reply step_after (opened_desk (bounds_of s.levels s.limits)) entries legal)
 
 -- ---- journals put together
 

@@ -10,7 +10,7 @@ use Rattle.tq_tables.specs.Journals.{JournalsView}
 use Rattle.tq_mirror.specs.declared.entries.Entries.{Entries}
 use Rattle.tq_mirror.specs.declared.entries.Entries.TheVariants as entries
 use Rattle.tq_mirror.specs.declared.fault.PullFault.{PullFault}
-use Rattle.tq_mirror.specs.Prefixes.{IsPartOf, prefix_length, server_prefix, grown}
+use Rattle.tq_mirror.specs.Prefixes.{IsPartOf, prefix_length, server_prefix, journals_with}
 use Rattle.tq_cluster.specs.Told.{CallerView, seen_of, having_seen}
 use Rattle.tq_cluster.specs.Pulls.{EachContinues, Continues, HasSeenAll, HasSeenServers}
 
@@ -30,7 +30,7 @@ pub continues-same : (prefixes : JournalsView) → Continues prefixes prefixes
 continues-same prefixes =
     record { levels = refl; limits = refl; servers = each-same prefixes.servers; desk = ([], sym (append-nil prefixes.desk)); view = ([], sym (append-nil prefixes.view)) }
 
-pub continues-grown : (old new : JournalsView) (part : Part) (more : Entries) → Continues old new → Continues old (grown new part more)
+pub continues-grown : (old new : JournalsView) (part : Part) (more : Entries) → Continues old new → Continues old (journals_with new part more)
 continues-grown old new (parts.Server number) (entries.Server more) before =
     record { levels = before.levels; limits = before.limits; servers = each-set old.servers new.servers (number - 1) more before.servers; desk = before.desk; view = before.view }
 continues-grown old new parts.Desk (entries.Desk more) before =
@@ -43,7 +43,7 @@ continues-grown old new part more before = before
 
 -- another server's prefix, and what was seen of it, is as it was
 pub other-prefix : (prefixes : JournalsView) (there number : ℕ) (more : Entries) → number - 1 ≢ there - 1
-    → prefix_length (grown prefixes (parts.Server there) more) (parts.Server number) ≡ prefix_length prefixes (parts.Server number)
+    → prefix_length (journals_with prefixes (parts.Server there) more) (parts.Server number) ≡ prefix_length prefixes (parts.Server number)
 other-prefix prefixes there number (entries.Server more) other =
     ap length (get_or-set_other prefixes.servers (there - 1) (number - 1) (server_prefix prefixes there ++ more) [] other)
 other-prefix prefixes there number (entries.Desk more) other = refl
@@ -54,7 +54,7 @@ other-seen caller there number seen other = get_or-set_other caller.seen.servers
 
 -- the next server was pulled
 pub servers-next : (prefixes : JournalsView) (caller : CallerView) (place seen : ℕ) (more : Entries) → HasSeenServers prefixes caller place
-    → (new : JournalsView) (after : CallerView) → new ≡ grown prefixes (parts.Server (place + 1)) more → after ≡ having_seen caller (parts.Server (place + 1)) seen
+    → (new : JournalsView) (after : CallerView) → new ≡ journals_with prefixes (parts.Server (place + 1)) more → after ≡ having_seen caller (parts.Server (place + 1)) seen
     → seen_of after (parts.Server (place + 1)) ≤ prefix_length new (parts.Server (place + 1)) → HasSeenServers new after (place + 1)
 servers-next prefixes caller place seen more before new after grew sees here number least most = by (cases_eq number (place + 1))
   where
@@ -69,38 +69,38 @@ servers-next prefixes caller place seen more before new after grew sees here num
 
 -- the desk was pulled, and the view
 pub servers-desk : (prefixes : JournalsView) (caller : CallerView) (count seen : ℕ) (more : Entries) → HasSeenServers prefixes caller count
-    → HasSeenServers (grown prefixes parts.Desk more) (having_seen caller parts.Desk seen) count
+    → HasSeenServers (journals_with prefixes parts.Desk more) (having_seen caller parts.Desk seen) count
 servers-desk prefixes caller count seen (entries.Server more) before number least most = before number least most
 servers-desk prefixes caller count seen (entries.Desk more) before number least most = before number least most
 servers-desk prefixes caller count seen (entries.View more) before number least most = before number least most
 
 servers-view : (prefixes : JournalsView) (caller : CallerView) (count seen : ℕ) (more : Entries) → HasSeenServers prefixes caller count
-    → HasSeenServers (grown prefixes parts.View more) (having_seen caller parts.View seen) count
+    → HasSeenServers (journals_with prefixes parts.View more) (having_seen caller parts.View seen) count
 servers-view prefixes caller count seen (entries.Server more) before number least most = before number least most
 servers-view prefixes caller count seen (entries.Desk more) before number least most = before number least most
 servers-view prefixes caller count seen (entries.View more) before number least most = before number least most
 
 desk-view : (prefixes : JournalsView) (caller : CallerView) (seen : ℕ) (more : Entries) → seen_of caller parts.Desk ≤ prefix_length prefixes parts.Desk
-    → seen_of (having_seen caller parts.View seen) parts.Desk ≤ prefix_length (grown prefixes parts.View more) parts.Desk
+    → seen_of (having_seen caller parts.View seen) parts.Desk ≤ prefix_length (journals_with prefixes parts.View more) parts.Desk
 desk-view prefixes caller seen (entries.Server more) before = before
 desk-view prefixes caller seen (entries.Desk more) before = before
 desk-view prefixes caller seen (entries.View more) before = before
 
 -- all parts were pulled
 pub all-seen : (start : JournalsView) (first : CallerView) (levels : ℕ) (of_desk of_view : Entries) (seen_desk seen_view : ℕ) (middle last : JournalsView) (second third : CallerView)
-    → HasSeenServers start first (2 ^ levels - 1) → middle ≡ grown start parts.Desk of_desk → second ≡ having_seen first parts.Desk seen_desk
-    → last ≡ grown middle parts.View of_view → third ≡ having_seen second parts.View seen_view
+    → HasSeenServers start first (2 ^ levels - 1) → middle ≡ journals_with start parts.Desk of_desk → second ≡ having_seen first parts.Desk seen_desk
+    → last ≡ journals_with middle parts.View of_view → third ≡ having_seen second parts.View seen_view
     → seen_of second parts.Desk ≤ prefix_length middle parts.Desk → seen_of third parts.View ≤ prefix_length last parts.View → last.levels ≡ levels → HasSeenAll last third
 all-seen start first levels of_desk of_view seen_desk seen_view middle last second third servers grew saw grew_more saw_more desk view same =
     let with_desk : HasSeenServers middle second (2 ^ levels - 1) =
     subst (λ (o : JournalsView). HasSeenServers o second (2 ^ levels - 1)) (sym grew)
-    (subst (λ (c : CallerView). HasSeenServers (grown start parts.Desk of_desk) c (2 ^ levels - 1)) (sym saw) (servers-desk start first (2 ^ levels - 1) seen_desk of_desk servers)) in
+    (subst (λ (c : CallerView). HasSeenServers (journals_with start parts.Desk of_desk) c (2 ^ levels - 1)) (sym saw) (servers-desk start first (2 ^ levels - 1) seen_desk of_desk servers)) in
     let with_view : HasSeenServers last third (2 ^ levels - 1) =
     subst (λ (o : JournalsView). HasSeenServers o third (2 ^ levels - 1)) (sym grew_more)
-    (subst (λ (c : CallerView). HasSeenServers (grown middle parts.View of_view) c (2 ^ levels - 1)) (sym saw_more) (servers-view middle second (2 ^ levels - 1) seen_view of_view with_desk)) in
+    (subst (λ (c : CallerView). HasSeenServers (journals_with middle parts.View of_view) c (2 ^ levels - 1)) (sym saw_more) (servers-view middle second (2 ^ levels - 1) seen_view of_view with_desk)) in
     let desk_still : seen_of third parts.Desk ≤ prefix_length last parts.Desk =
     subst (λ (o : JournalsView). seen_of third parts.Desk ≤ prefix_length o parts.Desk) (sym grew_more)
-    (subst (λ (c : CallerView). seen_of c parts.Desk ≤ prefix_length (grown middle parts.View of_view) parts.Desk) (sym saw_more) (desk-view middle second seen_view of_view desk)) in
+    (subst (λ (c : CallerView). seen_of c parts.Desk ≤ prefix_length (journals_with middle parts.View of_view) parts.Desk) (sym saw_more) (desk-view middle second seen_view of_view desk)) in
     λ part. by part with_view desk_still view same
   where
     by : (part : Part) → HasSeenServers last third (2 ^ levels - 1) → seen_of third parts.Desk ≤ prefix_length last parts.Desk → seen_of third parts.View ≤ prefix_length last parts.View → last.levels ≡ levels
@@ -114,14 +114,14 @@ all-seen start first levels of_desk of_view seen_desk seen_view middle last seco
 
 -- ---- after one more pull, that was taken or not
 
-pub continues-after : {T : Type 0} (start old new : JournalsView) (part : Part) (r : Result T PullFault) → OnOk r ((more : Entries) × (new ≡ grown old part more)) → OnErr r (new ≡ old)
+pub continues-after : {T : Type 0} (start old new : JournalsView) (part : Part) (r : Result T PullFault) → OnOk r ((more : Entries) × (new ≡ journals_with old part more)) → OnErr r (new ≡ old)
     → Continues start old → Continues start new
 continues-after start old new part (Ok x) grew same before = subst (λ (o : JournalsView). Continues start o) (sym grew.1) (continues-grown start old part grew.0 before)
 continues-after start old new part (Err f) grew same before = subst (λ (o : JournalsView). Continues start o) (sym same) before
 
 pub seen-after : {T : Type 0} (start : JournalsView) (first : CallerView) (levels : ℕ) (of_desk : Entries) (seen_desk seen_view : ℕ) (middle last : JournalsView) (second third : CallerView) (r : Result T PullFault)
-    → HasSeenServers start first (2 ^ levels - 1) → middle ≡ grown start parts.Desk of_desk → second ≡ having_seen first parts.Desk seen_desk
-    → OnOk r ((more : Entries) × (last ≡ grown middle parts.View more)) → third ≡ having_seen second parts.View seen_view
+    → HasSeenServers start first (2 ^ levels - 1) → middle ≡ journals_with start parts.Desk of_desk → second ≡ having_seen first parts.Desk seen_desk
+    → OnOk r ((more : Entries) × (last ≡ journals_with middle parts.View more)) → third ≡ having_seen second parts.View seen_view
     → seen_of second parts.Desk ≤ prefix_length middle parts.Desk → OnOk r (seen_of third parts.View ≤ prefix_length last parts.View) → last.levels ≡ levels → OnOk r (HasSeenAll last third)
 seen-after start first levels of_desk seen_desk seen_view middle last second third (Ok x) servers grew saw grew_more saw_more desk view same =
     all-seen start first levels of_desk grew_more.0 seen_desk seen_view middle last second third servers grew saw grew_more.1 saw_more desk view same

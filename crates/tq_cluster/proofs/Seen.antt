@@ -12,7 +12,7 @@ use Rattle.tq_txn.specs.declared.asker.Exchange.{Exchange}
 use Rattle.tq_tables.specs.Journals.{JournalsView}
 use Rattle.tq_mirror.specs.declared.entries.Entries.{Entries}
 use Rattle.tq_mirror.specs.declared.fault.PullFault.{PullFault}
-use Rattle.tq_mirror.specs.Prefixes.{IsPartOf, IsPullFault, grown, prefix_length}
+use Rattle.tq_mirror.specs.Prefixes.{IsPartOf, IsPullFault, journals_with, prefix_length}
 use Rattle.tq_cluster.specs.Told.{CallerView, SeesOn, seen_of, having_seen}
 use Rattle.tq_cluster.specs.Pulls.{IsPull, last_come, seen_then}
 
@@ -107,7 +107,7 @@ has_pass passes levels number part old within named same count =
 
 -- a part of that name was pulled by its pass: so was the part, by the caller
 pub record PartPull {T : Type 0} (end : Result T PullFault) (part : Part) (old new : JournalsView) (before after : CallerView) : Type 0 where
-  pub grows : OnOk end ((more : Entries) × (new ≡ grown old part more))
+  pub grows : OnOk end ((more : Entries) × (new ≡ journals_with old part more))
   pub seen : OnOk end (seen_of after part ≤ prefix_length new part)
   pub err : OnErr end (new ≡ old)
   pub fault : IfErr end (λ fault. (more : Entries) × IsPullFault old part more (seen_of after part) fault)

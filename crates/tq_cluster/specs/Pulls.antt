@@ -7,7 +7,7 @@ use Rattle.tq_tables.specs.Journals.{JournalsView, ViewEntry}
 use Rattle.tq_cells.specs.Passes.{last_behind}
 use Rattle.tq_mirror.specs.declared.entries.Entries.{Entries}
 use Rattle.tq_mirror.specs.declared.fault.PullFault.{PullFault}
-use Rattle.tq_mirror.specs.Prefixes.{IsPartOf, IsPullFault, grown, prefix_length}
+use Rattle.tq_mirror.specs.Prefixes.{IsPartOf, IsPullFault, journals_with, prefix_length}
 use Rattle.tq_mirror.specs.Astray.{ComesBefore}
 use Rattle.tq_cluster.specs.Told.{CallerView, seen_of}
 
@@ -40,7 +40,7 @@ last_come old new part = last_behind (prefix_length old part) (prefix_length new
 -- a pull of the part onto the prefixes, by one who had seen and then has seen so many of its entries: at Ok the prefix grew, and
 -- has what was seen; at a fault it is as it was, and some entries were not those that come next; one saw just what came
 pub record IsPull {T : Type 0} (part : Part) (old new : JournalsView) (before after : ℕ) (end : Result T PullFault) : Type 0 where
-  pub grows : OnOk end ((more : Entries) × (new ≡ grown old part more))
+  pub grows : OnOk end ((more : Entries) × (new ≡ journals_with old part more))
   pub seen : OnOk end (after ≤ prefix_length new part)
   pub err : OnErr end (new ≡ old)
   pub fault : IfErr end (λ fault. (more : Entries) × IsPullFault old part more after fault)

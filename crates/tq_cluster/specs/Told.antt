@@ -6,7 +6,7 @@ use Rattle.tq_cells.specs.Passes.{IsToldBy}
 use Rattle.tq_asks.specs.declared.ask.NodeAsk.{NodeAsk}
 use Rattle.tq_asks.specs.declared.ask.NodeReply.{NodeReply}
 use Rattle.tq_node.specs.Records.{node_reply}
-use Rattle.tq_node.specs.Node.{NodeView, answered}
+use Rattle.tq_node.specs.Node.{NodeView, server_after}
 use Rattle.tq_node.specs.Node as node
 use Rattle.tq_desk.specs.declared.ask.DeskAsk.{DeskAsk}
 use Rattle.tq_desk.specs.declared.ask.DeskReply.{DeskReply}
@@ -76,10 +76,10 @@ exchanges_of exchange ask (Err fault) = unless_memory fault (exchange ask (Err f
 
 -- a legal journal of some server has this entry at this number; of some desk; of some view
 abbrev pub IsToldByServer : ℕ → NodeAsk → NodeReply → Type 0
-IsToldByServer = IsToldBy (λ (s : NodeView) (n : ℕ) (a : NodeAsk). node_reply s.server s.state a) (λ s n a. answered s n a) (λ s. node.opening s.levels s.server)
+IsToldByServer = IsToldBy (λ (s : NodeView) (n : ℕ) (a : NodeAsk). node_reply s.server s.state a) (λ s n a. server_after s n a) (λ s. node.opening_server s.levels s.server)
 
 abbrev pub IsToldByDesk : ℕ → DeskAsk → DeskReply → Type 0
-IsToldByDesk = IsToldBy (λ (s : DeskView) (n : ℕ) (a : DeskAsk). desk_reply s a) (λ s n a. desk_after s a) (λ s. desk.opening s.levels s.limits)
+IsToldByDesk = IsToldBy (λ (s : DeskView) (n : ℕ) (a : DeskAsk). desk_reply s a) (λ s n a. desk_after s a) (λ s. desk.opening_desk s.levels s.limits)
 
 abbrev pub IsToldByView : ℕ → ViewAsk → ViewReply → Type 0
 IsToldByView = IsToldBy (λ (s : Live) (n : ℕ) (a : ViewAsk). view_reply s a) (λ s n a. view_after s a) (λ s. view_state s.levels [])

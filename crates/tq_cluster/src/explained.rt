@@ -62,7 +62,7 @@ pub(crate) fn settle(
     ensures fault { IfErr result (IsCloseFault journals callers.now) }
 {
     match compare(alloc, &journals, callers)? {
-        Comparison::Kept { unclaimed } => ordered(alloc, journals, unclaimed),
+        Comparison::Kept { unclaimed } => explained_in_order(alloc, journals, unclaimed),
         Comparison::Differs(name) => {
             let found = found(&journals, name)?;
             Err(CloseFault::Receipt {
@@ -75,7 +75,11 @@ pub(crate) fn settle(
 }
 
 /// The journals with an order of their entries.
-fn ordered(alloc: Global, journals: Journals, unclaimed: u64) -> Result<Explained, CloseFault>
+fn explained_in_order(
+    alloc: Global,
+    journals: Journals,
+    unclaimed: u64,
+) -> Result<Explained, CloseFault>
     requires { AreLegal journals }
     ensures journals { IfOk result (λ e. e.journals ≡ journals) }
     ensures unclaimed { IfOk result (λ e. e.unclaimed ≡ unclaimed) }

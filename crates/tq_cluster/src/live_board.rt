@@ -2,7 +2,7 @@ ghost use Rattle.std.specs.Prelude.{◌≡◌, ◌≤◌, ◌-◌, ◌^◌, IfOk
 ghost use Rattle.tq_shape.specs.Tree.{IsServer};
 ghost use Rattle.tq_tables.specs.Parts.{AreLegal};
 ghost use Rattle.tq_tables.specs.Tables.{tables_of};
-ghost use Rattle.tq_mirror.specs.Prefixes.{IsPartOf, IsPullFault, grown, nothing_pulled, prefix_length, server_prefix};
+ghost use Rattle.tq_mirror.specs.Prefixes.{IsPartOf, IsPullFault, journals_with, nothing_pulled, prefix_length, server_prefix};
 ghost use Rattle.tq_cluster.specs.Told.{SeesOn, having_seen, seen_of};
 ghost use Rattle.tq_cluster.specs.Pulls.{Continues, EndedAt, HasSeenAll, HasSeenServers, IsPull, SawWhatCame, seen_then};
 
@@ -111,7 +111,8 @@ impl LiveBoard {
         requires levels { self.old.levels ≡ cluster.now.levels }
         requires limits { self.old.limits ≡ cluster.now.limits }
         requires part { IsPartOf cluster.now.levels part }
-        ensures grown { OnOk result ((more : Entries) × (self.new ≡ grown self.old part more)) }
+        ensures grown { OnOk result
+            ((more : Entries) × (self.new ≡ journals_with self.old part more)) }
         ensures seen { OnOk result (seen_of caller.new part ≤ prefix_length self.new part) }
         ensures err { OnErr result (self.new ≡ self.old) }
         ensures fault { IfErr result (λ fault. (more : Entries)

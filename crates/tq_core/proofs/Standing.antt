@@ -45,7 +45,7 @@ use Rattle.tq_world.specs.declared.citation.Citation.{Citation}
 use Rattle.tq_world.specs.World.{item_at, empty_world, view_at}
 use Rattle.tq_world.specs.Founded.{unfounded_in_node_ask, unfounded_in_desk_ask}
 use Rattle.tq_world.specs.Offered.{OffersBest}
-use Rattle.tq_world.specs.Steps.{refuse_entry, refuse_at, refusal, answer, server_journal, node_entry, desk_entry, view_entry, grown, world_after, run, IsOfRun, IsTold}
+use Rattle.tq_world.specs.Steps.{refuse_entry, refuse_at, refusal, answer, server_journal, node_entry, desk_entry, view_entry, world_with_step, world_after, run, IsOfRun, IsTold}
 use Rattle.tq_world.proofs.Legal.{all_offered, legal_run}
 use Rattle.tq_world.proofs.Rooms.{entry_room, item_above, node_room}
 use Rattle.tq_world.proofs.Runs.{told_answer, told_refusal, world_grown}
@@ -71,7 +71,7 @@ pub record Asked {R : Type 0} (into : R → Reply) (tables : TablesView) (old ne
   pub err : OnErr result (new ≡ old)
 
 ran-push : (world : JournalsView) (step : Step) → refusal world step ≡ None → (done : List Step) → world ≡ run world.levels world.limits done
-    → grown world step ≡ run world.levels world.limits (done ++ step ∷ [])
+    → world_with_step world step ≡ run world.levels world.limits (done ++ step ∷ [])
 ran-push world step none done ran =
     sym (world_grown world step none)
     ∙ ap (λ (w : JournalsView). world_after w step) ran
@@ -86,13 +86,13 @@ same_levels tables world service = λ i. record { levels = (service.stand i).lev
 module _ {A R : Type 0} (into : R → Reply) (with_entry : JournalsView → Entry A R → JournalsView) (tables new : TablesView) (world after : JournalsView) (service : IsService tables world)
     (step : Step) (ask : A) (reply : R) (journal next : List (Entry A R)) where
   entered_here : {M : Type 0} (result : Result (Answered R) M) → refusal world step ≡ None → IsEntered with_entry tables new journal next ask reply result
-      → with_entry world (entry ask reply) ≡ grown world step → AreJournals (grown world step) → IsOfRun (grown world step)
+      → with_entry world (entry ask reply) ≡ world_with_step world step → AreJournals (world_with_step world step) → IsOfRun (world_with_step world step)
       → (let told : Answer = record { number = length journal + 1; reply = into reply } in told ≡ answer world step)
-      → (new ≡ tables_of (grown world step) → next ≡ journal ++ entry ask reply ∷ [] → after ≡ grown world step)
+      → (new ≡ tables_of (world_with_step world step) → next ≡ journal ++ entry ask reply ∷ [] → after ≡ world_with_step world step)
       → (new ≡ tables → next ≡ journal → after ≡ world)
       → Asked into new world after step (told_of result)
   entered_here (Ok told) none entered grows journals ran answers moved stays =
-      let legal = subst (λ (w : JournalsView). AreLegal w) (sym grows) (legal_run (grown world step) ran) in
+      let legal = subst (λ (w : JournalsView). AreLegal w) (sym grows) (legal_run (world_with_step world step) ran) in
       let stand = entered.asked world reply legal service.stand ∙ ap tables_of grows in
       let goes = moved stand entered.entered in
       record {
@@ -121,7 +121,7 @@ asked_at {R} into tables world given new step here result out told asked none =
 -- ---- the desk
 
 module _ (tables new : TablesView) (world given : JournalsView) (here : world ≡ given) (service : IsService tables world) (after : List DeskEntry) (ask : DeskAsk) where
-  desk_journals : refusal world (steps.Desk ask) ≡ None → AreJournals (grown world (steps.Desk ask))
+  desk_journals : refusal world (steps.Desk ask) ≡ None → AreJournals (world_with_step world (steps.Desk ask))
   desk_journals none =
       let room = entry_room world parts.Desk (length world.desk) (unfounded_in_desk_ask world ask) none in
       record {
@@ -168,7 +168,7 @@ reply_of_tree live (Mark server up) = mark_of_tree live.levels (is_server live.l
 reply_of_tree live (Choose purpose) = choice_of_tree live purpose (best live purpose 1)
 
 module _ (tables new : TablesView) (world given : JournalsView) (here : world ≡ given) (service : IsService tables world) (after : List ViewEntry) (ask : ViewAsk) where
-  view_journals : refusal world (steps.View ask) ≡ None → AreJournals (grown world (steps.View ask))
+  view_journals : refusal world (steps.View ask) ≡ None → AreJournals (world_with_step world (steps.View ask))
   view_journals none =
       let e = view_entry world ask in
       let room = entry_room world parts.View (length world.view) None none in
@@ -235,7 +235,7 @@ module _ (tables : TablesView) (world : JournalsView) (service : IsService table
     node_refusal : refusal world (steps.Node server ask) ≡ refuse_entry world (parts.Server server) (length journal) (unfounded_in_node_ask world ask)
     node_refusal = ap (λ (o : Option (List NodeEntry)). refuse_at world server o (unfounded_in_node_ask world ask)) at
 
-    node_journals : refusal world (steps.Node server ask) ≡ None → AreJournals (grown world (steps.Node server ask))
+    node_journals : refusal world (steps.Node server ask) ≡ None → AreJournals (world_with_step world (steps.Node server ask))
     node_journals none =
         let entries = server_journal world server in
         let e = node_entry world server ask in

@@ -283,7 +283,7 @@ impl Service {
     ) -> Result<Vec<Result<Answer, Refusal>>, Memory>
         ensures told { IfOk result (λ results. spec.AreTold self.old steps.items results.items) }
         ensures after { IfOk result (λ results.
-            self.new ≡ spec.run_from self.old (spec.taken steps.items results.items)) }
+            self.new ≡ spec.run_from self.old (spec.taken_steps steps.items results.items)) }
         ensures err { OnErr result (self.new ≡ self.old) }
         ensures offered { IfOk result (λ results. AreOffered self.old steps.items results.items) }
         ensures committed_reads { HasCommittedReads self.new }
@@ -301,7 +301,7 @@ impl Service {
     ) -> Result<Vec<Result<Answer, Refusal>>, Memory>
         ensures told { IfOk result (λ results. spec.AreTold self.old steps.items results.items) }
         ensures after { IfOk result (λ results.
-            self.new ≡ spec.run_from self.old (spec.taken steps.items results.items)) }
+            self.new ≡ spec.run_from self.old (spec.taken_steps steps.items results.items)) }
         ensures err { OnErr result (self.new ≡ self.old) }
         ensures committed_reads { HasCommittedReads self.new }
     {

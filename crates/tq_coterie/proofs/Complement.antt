@@ -4,7 +4,7 @@ use mathlib.Core.Bool.{and-false, and-true, and-or_distrib_left, and-or_distrib_
 use Rattle.std.specs.List.{list_all}
 use Rattle.std.proofs.lemmas.List.Folds.{list_any-append}
 use Rattle.tq_shape.specs.Tree.{left_of, right_of}
-use Rattle.tq_coterie.specs.Coterie.{joined, joined_pairs, members, holds_member, two_of}
+use Rattle.tq_coterie.specs.Coterie.{union_of, joined_pairs, members, holds_member, two_of}
 use Rattle.tq_coterie.proofs.Sets.{list_all-joined}
 
 holds-with : (test : ℕ → Bool) (top : ℕ) (sets : List (List ℕ)) → holds_member test (map (λ q. top ∷ q) sets) ≡ (test top && holds_member test sets)
@@ -12,7 +12,7 @@ holds-with test top [] = sym (and-false (test top))
 holds-with test top (q ∷ sets) =
     ap (λ b. (test top && list_all test q) || b) (holds-with test top sets) ∙ sym (and-or_distrib_left (test top) (list_all test q) (holds_member test sets))
 
-holds-joined : (test : ℕ → Bool) (q : List ℕ) (rights : List (List ℕ)) → holds_member test (map (joined q) rights) ≡ (list_all test q && holds_member test rights)
+holds-joined : (test : ℕ → Bool) (q : List ℕ) (rights : List (List ℕ)) → holds_member test (map (union_of q) rights) ≡ (list_all test q && holds_member test rights)
 holds-joined test q [] = sym (and-false (list_all test q))
 holds-joined test q (p ∷ rights) =
     rw (list_all-joined test q p, holds-joined test q rights) (sym (and-or_distrib_left (list_all test q) (list_all test p) (holds_member test rights)))
@@ -20,7 +20,7 @@ holds-joined test q (p ∷ rights) =
 holds-pairs : (test : ℕ → Bool) (lefts rights : List (List ℕ)) → holds_member test (joined_pairs lefts rights) ≡ (holds_member test lefts && holds_member test rights)
 holds-pairs test [] rights = refl
 holds-pairs test (q ∷ lefts) rights =
-    list_any-append (list_all test) (map (joined q) rights) (joined_pairs lefts rights)
+    list_any-append (list_all test) (map (union_of q) rights) (joined_pairs lefts rights)
     ∙ (rw (holds-joined test q rights, holds-pairs test lefts rights) (sym (and-or_distrib_right (list_all test q) (holds_member test lefts) (holds_member test rights))))
 
 pub holds-leaf : (test : ℕ → Bool) (top : ℕ) → holds_member test (members zero top) ≡ test top

@@ -4,7 +4,7 @@ use Rattle.std.specs.List.{All, Contains}
 use Rattle.std.proofs.lemmas.Bool.{or_left, or_right}
 use Rattle.std.proofs.lemmas.List.Elements.{All-contains}
 use Rattle.tq_shape.specs.Tree.{left_of, right_of}
-use Rattle.tq_coterie.specs.Coterie.{joined, members, has, Meets, AnyTwoMeet}
+use Rattle.tq_coterie.specs.Coterie.{union_of, members, has, Meets, AnyTwoMeet}
 use Rattle.tq_coterie.proofs.Sets.{has-head, has-joined}
 use Rattle.tq_coterie.proofs.Members.{members-all, members-zero, members-suc}
 
@@ -15,10 +15,10 @@ MeetsAll height top q = All (Meets q) (members height top)
 has-tail : (top s : ℕ) (q : List ℕ) → has q s ≡ true → has (top ∷ q) s ≡ true
 has-tail top s q at = or_right (eqb top s) (has q s) at
 
-has-left : (q p : List ℕ) (s : ℕ) → has q s ≡ true → has (joined q p) s ≡ true
+has-left : (q p : List ℕ) (s : ℕ) → has q s ≡ true → has (union_of q p) s ≡ true
 has-left q p s at = has-joined q p s ∙ or_left (has q s) (has p s) at
 
-has-right : (q p : List ℕ) (s : ℕ) → has p s ≡ true → has (joined q p) s ≡ true
+has-right : (q p : List ℕ) (s : ℕ) → has p s ≡ true → has (union_of q p) s ≡ true
 has-right q p s at = has-joined q p s ∙ or_right (has q s) (has p s) at
 
 Meets-top : (top : ℕ) (q p : List ℕ) → Meets (top ∷ q) (top ∷ p)
@@ -39,9 +39,9 @@ MeetsAll-right height top q each =
     (λ l r _ meets. (meets.0, has-tail top meets.0 q meets.1, has-right l r meets.0 meets.2))
     (λ k d within. tt) each
 
-MeetsAll-both : (height top : ℕ) (q p : List ℕ) → MeetsAll height (left_of top) q → MeetsAll height (right_of top) p → MeetsAll (suc height) top (joined q p)
+MeetsAll-both : (height top : ℕ) (q p : List ℕ) → MeetsAll height (left_of top) q → MeetsAll height (right_of top) p → MeetsAll (suc height) top (union_of q p)
 MeetsAll-both height top q p left right =
-    members-suc (Meets (joined q p)) (Meets q) (Meets p) height top
+    members-suc (Meets (union_of q p)) (Meets q) (Meets p) height top
     (λ l meets. (meets.0, has-left q p meets.0 meets.1, has-tail top meets.0 l meets.2))
     (λ r meets. (meets.0, has-right q p meets.0 meets.1, has-tail top meets.0 r meets.2))
     (λ l r meets _. (meets.0, has-left q p meets.0 meets.1, has-left l r meets.0 meets.2))

@@ -6,25 +6,25 @@ use Rattle.std.proofs.lemmas.List.{get_or-map, length-map}
 use Rattle.std.proofs.lemmas.List.Elements.{All-nil, All-cons, All-head, All-tail, All-append, All-map, All-weaker, All-contains, Contains-append_left, Contains-append_right}
 use Rattle.tq_shape.specs.Tree.{left_of, right_of, stands_in}
 use Rattle.tq_shape.proofs.Tree.{sides_apart, stands_in-top, stands_in-left, stands_in-right}
-use Rattle.tq_coterie.specs.Coterie.{joined, joined_pairs, members, has}
+use Rattle.tq_coterie.specs.Coterie.{union_of, joined_pairs, members, has}
 use Rattle.tq_shape.specs.ServerSet.{Ascends}
 use Rattle.tq_coterie.proofs.Sets.{AreApart, Ascends-joined, has-joined}
 
 -- ---- all members
 
-All-pairs_with : (P R : List ℕ → Type 0) (q : List ℕ) (rights : List (List ℕ)) → ((p : List ℕ) → R p → P (joined q p)) → All R rights → All P (map (joined q) rights)
+All-pairs_with : (P R : List ℕ → Type 0) (q : List ℕ) (rights : List (List ℕ)) → ((p : List ℕ) → R p → P (union_of q p)) → All R rights → All P (map (union_of q) rights)
 All-pairs_with P R q rights step each =
-    All-map P (joined q) rights (All-weaker R (λ p. P (joined q p)) step rights each)
+    All-map P (union_of q) rights (All-weaker R (λ p. P (union_of q p)) step rights each)
 
-All-joined_pairs : (P Q R : List ℕ → Type 0) (lefts rights : List (List ℕ)) → ((q p : List ℕ) → Q q → R p → P (joined q p)) → All Q lefts → All R rights → All P (joined_pairs lefts rights)
+All-joined_pairs : (P Q R : List ℕ → Type 0) (lefts rights : List (List ℕ)) → ((q p : List ℕ) → Q q → R p → P (union_of q p)) → All Q lefts → All R rights → All P (joined_pairs lefts rights)
 All-joined_pairs P Q R [] rights step each each' = All-nil P
 All-joined_pairs P Q R (q ∷ lefts) rights step each each' =
-    All-append P (map (joined q) rights) (joined_pairs lefts rights)
+    All-append P (map (union_of q) rights) (joined_pairs lefts rights)
     (All-pairs_with P R q rights (λ p r. step q p (All-head Q q lefts each) r) each')
     (All-joined_pairs P Q R lefts rights step (All-tail Q q lefts each) each')
 
 -- what each of the three forms gives from the members of the sides, all members have
-pub members-suc : (P Q R : List ℕ → Type 0) (height top : ℕ) → ((q : List ℕ) → Q q → P (top ∷ q)) → ((p : List ℕ) → R p → P (top ∷ p)) → ((q p : List ℕ) → Q q → R p → P (joined q p)) → All Q (members height (left_of top)) → All R (members height (right_of top)) → All P (members (suc height) top)
+pub members-suc : (P Q R : List ℕ → Type 0) (height top : ℕ) → ((q : List ℕ) → Q q → P (top ∷ q)) → ((p : List ℕ) → R p → P (top ∷ p)) → ((q p : List ℕ) → Q q → R p → P (union_of q p)) → All Q (members height (left_of top)) → All R (members height (right_of top)) → All P (members (suc height) top)
 unfolding members
 members-suc P Q R height top left right both each_left each_right =
     let lefts = members height (left_of top) in
@@ -40,7 +40,7 @@ unfolding members
 members-zero P top leaf = All-cons P (top ∷ []) [] leaf (All-nil P)
 
 -- induction over the members: what holds of a leaf, and of each of the three forms, holds of all
-pub members-all : (P : ℕ → ℕ → List ℕ → Type 0) → ((top : ℕ) → P zero top (top ∷ [])) → ((height top : ℕ) (q : List ℕ) → P height (left_of top) q → P (suc height) top (top ∷ q)) → ((height top : ℕ) (p : List ℕ) → P height (right_of top) p → P (suc height) top (top ∷ p)) → ((height top : ℕ) (q p : List ℕ) → P height (left_of top) q → P height (right_of top) p → P (suc height) top (joined q p)) → (height top : ℕ) → All (P height top) (members height top)
+pub members-all : (P : ℕ → ℕ → List ℕ → Type 0) → ((top : ℕ) → P zero top (top ∷ [])) → ((height top : ℕ) (q : List ℕ) → P height (left_of top) q → P (suc height) top (top ∷ q)) → ((height top : ℕ) (p : List ℕ) → P height (right_of top) p → P (suc height) top (top ∷ p)) → ((height top : ℕ) (q p : List ℕ) → P height (left_of top) q → P height (right_of top) p → P (suc height) top (union_of q p)) → (height top : ℕ) → All (P height top) (members height top)
 members-all P leaf left right both zero top = members-zero (P zero top) top (leaf top)
 members-all P leaf left right both (suc height) top =
     members-suc (P (suc height) top) (P height (left_of top)) (P height (right_of top)) height top (left height top) (right height top) (both height top)
@@ -53,13 +53,13 @@ Contains-map : {X Y : Type 0} (f : X → Y) (xs : List X) (x : X) → Contains x
 Contains-map f xs x at =
     (at.0, rw (length-map xs f) at.1, get_or-map f xs at.0 x (f x) at.1 ∙ ap f at.2)
 
-Contains-joined_pairs : (lefts rights : List (List ℕ)) (q p : List ℕ) → Contains lefts q → Contains rights p → Contains (joined_pairs lefts rights) (joined q p)
+Contains-joined_pairs : (lefts rights : List (List ℕ)) (q p : List ℕ) → Contains lefts q → Contains rights p → Contains (joined_pairs lefts rights) (union_of q p)
 Contains-joined_pairs [] rights q p at at' = absurd (omega (arith, at.1))
 Contains-joined_pairs (l ∷ lefts) rights q p (zero, within, is) at' =
-    Contains-append_left (map (joined l) rights) (joined_pairs lefts rights) (joined q p)
-    (rw is (Contains-map (joined q) rights p at'))
+    Contains-append_left (map (union_of l) rights) (joined_pairs lefts rights) (union_of q p)
+    (rw is (Contains-map (union_of q) rights p at'))
 Contains-joined_pairs (l ∷ lefts) rights q p (suc k, within, is) at' =
-    Contains-append_right (map (joined l) rights) (joined_pairs lefts rights) (joined q p)
+    Contains-append_right (map (union_of l) rights) (joined_pairs lefts rights) (union_of q p)
     (Contains-joined_pairs lefts rights q p (k, omega arith, is) at')
 
 pub Contains-leaf : (top : ℕ) → Contains (members zero top) (top ∷ [])
@@ -86,12 +86,12 @@ Contains-with_right height top p at =
     Contains-append_left (with_left ++ with_right) (joined_pairs lefts rights) (top ∷ p)
     (Contains-append_right with_left with_right (top ∷ p) (Contains-map (λ p. top ∷ p) rights p at))
 
-pub Contains-both : (height top : ℕ) (q p : List ℕ) → Contains (members height (left_of top)) q → Contains (members height (right_of top)) p → Contains (members (suc height) top) (joined q p)
+pub Contains-both : (height top : ℕ) (q p : List ℕ) → Contains (members height (left_of top)) q → Contains (members height (right_of top)) p → Contains (members (suc height) top) (union_of q p)
 unfolding members
 Contains-both height top q p at at' =
     let lefts = members height (left_of top) in
     let rights = members height (right_of top) in
-    Contains-append_right (map (λ q. top ∷ q) lefts ++ map (λ p. top ∷ p) rights) (joined_pairs lefts rights) (joined q p)
+    Contains-append_right (map (λ q. top ∷ q) lefts ++ map (λ p. top ∷ p) rights) (joined_pairs lefts rights) (union_of q p)
     (Contains-joined_pairs lefts rights q p at at')
 
 -- ---- each member is an ascending list of servers of the subtree
@@ -135,7 +135,7 @@ sides_members_apart height top q p positive left right s at =
     false_from_ne_true (has p s)
     (λ there. false≢true (sym (sides_apart height top s positive (left.within s at)) ∙ right.within s there))
 
-pub IsSetOf-both : (height top : ℕ) (q p : List ℕ) → IsSetOf height (left_of top) q → IsSetOf height (right_of top) p → IsSetOf (suc height) top (joined q p)
+pub IsSetOf-both : (height top : ℕ) (q p : List ℕ) → IsSetOf height (left_of top) q → IsSetOf height (right_of top) p → IsSetOf (suc height) top (union_of q p)
 IsSetOf-both height top q p left right = record {
   ascends = λ positive low below.
       Ascends-joined low q p (left.ascends (omega arith) low (omega arith)) (right.ascends (omega arith) low (omega arith))

@@ -8,7 +8,7 @@ use Rattle.tq_shape.specs.Tree.{left_of, right_of, stands_in, IsServer}
 use Rattle.tq_shape.specs.Depth.{height_of}
 use Rattle.tq_shape.proofs.Depth.{height_of-one}
 use Rattle.tq_shape.proofs.Tree.{stands_in-server, server-stands_in, sides_apart, top_apart, stands_in-top, stands_in-left, stands_in-right}
-use Rattle.tq_coterie.specs.Coterie.{joined, members, coterie, has, numbers_of, servers_of, IsMemberList}
+use Rattle.tq_coterie.specs.Coterie.{union_of, members, coterie, has, numbers_of, servers_of, IsMemberList}
 use Rattle.tq_coterie.specs.Parts.{part_from_sides, part_of}
 use Rattle.tq_coterie.specs.declared.overlap.Overlap.{Overlap}
 use Rattle.tq_coterie.specs.declared.overlap.Overlap.TheVariants.{Empty, Member, Neither}
@@ -96,7 +96,7 @@ none_top : (height top side : ℕ) (q : List ℕ) → 0 < top → side / 2 ≡ t
 none_top height top side q positive is set =
     false_from_ne_true (has q top) (λ at. false≢true (sym (top_apart height top side positive is) ∙ set.within top at))
 
-IsFound-both : (height top : ℕ) (q p : List ℕ) → IsFound height (left_of top) q → IsFound height (right_of top) p → IsFound (suc height) top (joined q p)
+IsFound-both : (height top : ℕ) (q p : List ℕ) → IsFound height (left_of top) q → IsFound height (right_of top) p → IsFound (suc height) top (union_of q p)
 IsFound-both height top q p left right = record {
   set = IsSetOf-both height top q p left.set right.set;
   found = λ positive servers agree.
@@ -127,7 +127,7 @@ part_of-member height top member positive at =
 abbrev listing : ℕ → ℕ → List ℕ → List ℕ
 listing zero top servers = cond (has servers top) (top ∷ []) []
 listing (suc height) top servers =
-    let below = joined (listing height (left_of top) servers) (listing height (right_of top) servers) in
+    let below = union_of (listing height (left_of top) servers) (listing height (right_of top) servers) in
     cond (has servers top) (top ∷ below) below
 
 -- what each part says of the listing
@@ -181,14 +181,14 @@ IsSetOf-cond height top true xs ys set other = set
 IsSetOf-cond height top false xs ys set other = other
 
 -- the top before a set of the two sides
-IsSetOf-top : (height top : ℕ) (q p : List ℕ) → IsSetOf height (left_of top) q → IsSetOf height (right_of top) p → IsSetOf (suc height) top (top ∷ joined q p)
+IsSetOf-top : (height top : ℕ) (q p : List ℕ) → IsSetOf height (left_of top) q → IsSetOf height (right_of top) p → IsSetOf (suc height) top (top ∷ union_of q p)
 IsSetOf-top height top q p left right = record {
   ascends = λ positive low below. (
     below,
     Ascends-joined top q p (left.ascends (omega arith) top (omega arith)) (right.ascends (omega arith) top (omega arith))
         (sides_members_apart height top q p positive left right),
   );
-  within = λ s at. top_or height top s (joined q p) at (λ t there. (IsSetOf-both height top q p left right).within t there);
+  within = λ s at. top_or height top s (union_of q p) at (λ t there. (IsSetOf-both height top q p left right).within t there);
 }
 
 listing-set : (height top : ℕ) (servers : List ℕ) → IsSetOf height top (listing height top servers)
@@ -199,7 +199,7 @@ listing-set (suc height) top servers =
     let right = listing-set height (right_of top) servers in
     let q = listing height (left_of top) servers in
     let p = listing height (right_of top) servers in
-    IsSetOf-cond (suc height) top (has servers top) (top ∷ joined q p) (joined q p) (IsSetOf-top height top q p left right) (IsSetOf-both height top q p left right)
+    IsSetOf-cond (suc height) top (has servers top) (top ∷ union_of q p) (union_of q p) (IsSetOf-top height top q p left right) (IsSetOf-both height top q p left right)
 
 has-cond : (here : Bool) (top s : ℕ) (xs : List ℕ) → has (cond here (top ∷ xs) xs) s ≡ ((here && eqb top s) || has xs s)
 has-cond true top s xs = refl
@@ -229,7 +229,7 @@ has-listing (suc height) top servers s =
     let p = listing height (right_of top) servers in
     let left = stands_in height (left_of top) s in
     let right = stands_in height (right_of top) s in
-    has-cond (has servers top) top s (joined q p)
+    has-cond (has servers top) top s (union_of q p)
     ∙ (rw (has-joined q p s, has-listing height (left_of top) servers s, has-listing height (right_of top) servers s, sym (and-or_distrib_right left right (has servers s)))
     (here_or servers top s (left || right)))
 

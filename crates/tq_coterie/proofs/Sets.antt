@@ -4,7 +4,7 @@ use mathlib.Core.Bool.{and_assoc, and_comm, or_assoc, or_comm}
 use Rattle.std.proofs.lemmas.Bool.{cases_lt, cases_order, cases_Bool, lt-ltb, le-ltb, eq-eqb, ne_eqb, eqb-true, eqb-false, false≢true, or_parts, or_left, or_right, or_from}
 use Rattle.std.proofs.lemmas.List.Sums.{sum_by-cons}
 use Rattle.std.specs.List.{list_all}
-use Rattle.tq_coterie.specs.Coterie.{with_server, joined, has}
+use Rattle.tq_coterie.specs.Coterie.{with_server, union_of, has}
 use Rattle.tq_shape.specs.ServerSet.{Ascends}
 
 or_swap : (a b c : Bool) → (a || (b || c)) ≡ (b || (a || c))
@@ -64,7 +64,7 @@ same_set low (x ∷ xs) (y ∷ ys) up vp same =
           absurd (false≢true (sym there ∙ (same y ∙ here)))
     ]
 
--- joining: what has-joined, Ascends-joined, and so on say of `with_server`, they say of `joined`
+-- joining: what has-joined, Ascends-joined, and so on say of `with_server`, they say of `union_of`
 pub has-with_server : (server s : ℕ) (xs : List ℕ) → has (with_server server xs) s ≡ (eqb server s || has xs s)
 has-with_server server s [] = refl
 has-with_server server s (x ∷ xs) =
@@ -74,10 +74,10 @@ has-with_server server s (x ∷ xs) =
           rw (le-ltb server x more, has-with_server server s xs) (or_swap (eqb x s) (eqb server s) (has xs s))
     ]
 
-pub has-joined : (xs ys : List ℕ) (s : ℕ) → has (joined xs ys) s ≡ (has xs s || has ys s)
+pub has-joined : (xs ys : List ℕ) (s : ℕ) → has (union_of xs ys) s ≡ (has xs s || has ys s)
 has-joined [] ys s = refl
 has-joined (x ∷ xs) ys s =
-    has-with_server x s (joined xs ys) ∙ (ap (λ b. eqb x s || b) (has-joined xs ys s) ∙ sym (or_assoc (eqb x s) (has xs s) (has ys s)))
+    has-with_server x s (union_of xs ys) ∙ (ap (λ b. eqb x s || b) (has-joined xs ys s) ∙ sym (or_assoc (eqb x s) (has xs s) (has ys s)))
 
 Ascends-with_server : (low server : ℕ) (xs : List ℕ) → Ascends low xs → low < server → has xs server ≡ false → Ascends low (with_server server xs)
 Ascends-with_server low server [] up above new = (above, tt)
@@ -94,15 +94,15 @@ Ascends-with_server low server (x ∷ xs) up above new =
 abbrev pub AreApart : List ℕ → List ℕ → Type 0
 AreApart xs ys = (s : ℕ) → has xs s ≡ true → has ys s ≡ false
 
-pub Ascends-joined : (low : ℕ) (xs ys : List ℕ) → Ascends low xs → Ascends low ys → AreApart xs ys → Ascends low (joined xs ys)
+pub Ascends-joined : (low : ℕ) (xs ys : List ℕ) → Ascends low xs → Ascends low ys → AreApart xs ys → Ascends low (union_of xs ys)
 Ascends-joined low [] ys up vp apart = vp
 Ascends-joined low (x ∷ xs) ys up vp apart =
-    let rest : Ascends low (joined xs ys) =
+    let rest : Ascends low (union_of xs ys) =
     Ascends-joined low xs ys (Ascends-from low x xs (omega (arith, up.0)) up.1) vp (λ s h. apart s (or_right (eqb x s) (has xs s) h)) in
     let not_later : has xs x ≡ false = has-below x x xs up.1 (omega arith) in
     let not_there : has ys x ≡ false = apart x (or_left (eqb x x) (has xs x) (eq-eqb x x refl)) in
-    let new : has (joined xs ys) x ≡ false = has-joined xs ys x ∙ or_from (has xs x) (has ys x) not_later not_there in
-    Ascends-with_server low x (joined xs ys) rest up.0 new
+    let new : has (union_of xs ys) x ≡ false = has-joined xs ys x ∙ or_from (has xs x) (has ys x) not_later not_there in
+    Ascends-with_server low x (union_of xs ys) rest up.0 new
 
 -- sums and tests over a joined set
 sum_by-with_server : (f : ℕ → ℕ) (server : ℕ) (xs : List ℕ) → sum_by f (with_server server xs) ≡ f server + sum_by f xs
@@ -117,10 +117,10 @@ sum_by-with_server f server (x ∷ xs) =
           rw (le-ltb server x more) (omega arith)
     ]
 
-pub sum_by-joined : (f : ℕ → ℕ) (xs ys : List ℕ) → sum_by f (joined xs ys) ≡ sum_by f xs + sum_by f ys
+pub sum_by-joined : (f : ℕ → ℕ) (xs ys : List ℕ) → sum_by f (union_of xs ys) ≡ sum_by f xs + sum_by f ys
 sum_by-joined f [] ys = omega arith
 sum_by-joined f (x ∷ xs) ys =
-    let head = sum_by-with_server f x (joined xs ys) in
+    let head = sum_by-with_server f x (union_of xs ys) in
     let tail = sum_by-cons f x xs in
     let rest = sum_by-joined f xs ys in
     omega arith
@@ -134,12 +134,12 @@ list_all-with_server p server (x ∷ xs) =
           rw (le-ltb server x more, list_all-with_server p server xs) (and_swap (p x) (p server) (list_all p xs))
     ]
 
-pub list_all-joined : (p : ℕ → Bool) (xs ys : List ℕ) → list_all p (joined xs ys) ≡ (list_all p xs && list_all p ys)
+pub list_all-joined : (p : ℕ → Bool) (xs ys : List ℕ) → list_all p (union_of xs ys) ≡ (list_all p xs && list_all p ys)
 list_all-joined p [] ys = refl
 list_all-joined p (x ∷ xs) ys =
-    list_all-with_server p x (joined xs ys) ∙ (ap (λ b. p x && b) (list_all-joined p xs ys) ∙ sym (and_assoc (p x) (list_all p xs) (list_all p ys)))
+    list_all-with_server p x (union_of xs ys) ∙ (ap (λ b. p x && b) (list_all-joined p xs ys) ∙ sym (and_assoc (p x) (list_all p xs) (list_all p ys)))
 
-pub joined-nil : (low : ℕ) (xs : List ℕ) → Ascends low xs → joined xs [] ≡ xs
+pub joined-nil : (low : ℕ) (xs : List ℕ) → Ascends low xs → union_of xs [] ≡ xs
 joined-nil low [] up = refl
 joined-nil low (x ∷ xs) up = rw (joined-nil x xs up.1) (with_server-first x xs up.1)
   where

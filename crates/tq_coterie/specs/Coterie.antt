@@ -15,13 +15,13 @@ with_server server (first ∷ rest) =
     cond (nat_lt server first) (server ∷ first ∷ rest) (first ∷ with_server server rest)
 
 -- two sets joined, which have no server in common
-abbrev pub joined : List ℕ → List ℕ → List ℕ
-joined [] others = others
-joined (first ∷ rest) others = with_server first (joined rest others)
+abbrev pub union_of : List ℕ → List ℕ → List ℕ
+union_of [] others = others
+union_of (first ∷ rest) others = with_server first (union_of rest others)
 
 -- each set of the one list joined with each of the other, those of the first outermost
 abbrev pub joined_pairs : List (List ℕ) → List (List ℕ) → List (List ℕ)
-joined_pairs lefts rights = flat_map (λ q. map (joined q) rights) lefts
+joined_pairs lefts rights = flat_map (λ q. map (union_of q) rights) lefts
 
 -- The members of the subtree over `top`, of that height (a leaf's is 0): `top` with each member of the left side,
 -- then `top` with each member of the right side, then each member of the left side with each of the right side.

@@ -15,9 +15,9 @@ use Rattle.tq_desk.specs.declared.ask.DeskRefusal.TheVariants as refusals
 use Rattle.tq_desk.specs.declared.ask.DeskReply.{DeskReply}
 use Rattle.tq_desk.specs.declared.ask.DeskReply.TheVariants as replies
 use Rattle.tq_evidence.specs.Evidence.{failed_rule}
-use Rattle.tq_desk.specs.DeskStep.{DeskView, Finals, cited, desk_after, desk_answer, desk_answered, desk_refusal, desk_reply, final_or_abort, reply_at, resolved, with_files}
+use Rattle.tq_desk.specs.DeskStep.{DeskView, Finals, cited_votes, desk_after, desk_answer, desk_answered, desk_refusal, desk_reply, final_or_abort, reply_at, finals_after_resolve, with_files}
 use Rattle.tq_shape.specs.Steps.{refuse, refuse_for, state_at, or_else}
-use Rattle.tq_desk.specs.DeskJournal.{DeskBounds, DeskEntry, desk_state, ending, final, IsLegalDesk}
+use Rattle.tq_desk.specs.DeskJournal.{DeskBounds, DeskEntry, desk_state, ending_of, final, IsLegalDesk}
 use Rattle.tq_desk.specs.DecisionLog.{AnswersByLog, EndsStay, IsDecisionLog, Keeps, log_reply}
 use Rattle.tq_desk.proofs.Refusals.{commit_open}
 
@@ -48,7 +48,7 @@ kept_final m txn old v t some = by (nat_eq t txn) refl
         is ∙ ap (λ o. or_else o (Some v)) (sym is)
     by false other = or_else-None (fin.get m t)
 
-resolved_final : (m : Finals) (txn t : ℕ) (o : Option Verdict) → fin.get m txn ≡ o → fin.get (resolved o m txn) t ≡ or_else (fin.get m t) (cond (nat_eq t txn) (Some verdicts.Abort) None)
+resolved_final : (m : Finals) (txn t : ℕ) (o : Option Verdict) → fin.get m txn ≡ o → fin.get (finals_after_resolve o m txn) t ≡ or_else (fin.get m t) (cond (nat_eq t txn) (Some verdicts.Abort) None)
 resolved_final m txn t None e = put_final m txn verdicts.Abort t e
 resolved_final m txn t (Some v) e = kept_final m txn v verdicts.Abort t e
 
@@ -85,7 +85,7 @@ module _ (bounds : DeskBounds) (journal : List DeskEntry) (old : DeskView) (keep
         levels = keeps.levels;
         limits = keeps.limits;
         begun = keeps.begun;
-        finals = λ t. put_final old.finals txn (verdicts.Commit (cited votes)) t fresh ∙ ap (λ o. or_else o (cond (nat_eq t txn) (Some (verdicts.Commit (cited votes))) None)) (keeps.finals t);
+        finals = λ t. put_final old.finals txn (verdicts.Commit (cited_votes votes)) t fresh ∙ ap (λ o. or_else o (cond (nat_eq t txn) (Some (verdicts.Commit (cited_votes votes))) None)) (keeps.finals t);
         commits = let same = keeps.commits in omega arith;
         files = ap (λ files. with_files files ops) keeps.files;
       }
@@ -152,4 +152,4 @@ or_else-Some (Some w) p v e = e
 
 pub ends_stay : EndsStay
 ends_stay [] journal txn v e = e
-ends_stay (l ∷ later) journal txn v e = or_else-Some (final (later ++ journal) txn) (ending l.ask l.reply txn) v (ends_stay later journal txn v e)
+ends_stay (l ∷ later) journal txn v e = or_else-Some (final (later ++ journal) txn) (ending_of l.ask l.reply txn) v (ends_stay later journal txn v e)

@@ -21,7 +21,7 @@ use Rattle.tq_desk.specs.declared.ask.DeskReply.TheVariants as replies
 use Rattle.tq_evidence.specs.declared.op.Op.{Op}
 use Rattle.tq_evidence.specs.declared.vote.Vote.{Vote}
 use Rattle.tq_evidence.specs.Evidence.{failed_rule, IsGood}
-use Rattle.tq_desk.specs.DeskStep.{DeskView, Finals, is_begun, cited, resolved, desk_refusal, final_or_abort, desk_answer, desk_answered, reply_at, desk_reply, desk_after}
+use Rattle.tq_desk.specs.DeskStep.{DeskView, Finals, is_begun, cited_votes, finals_after_resolve, desk_refusal, final_or_abort, desk_answer, desk_answered, reply_at, desk_reply, desk_after}
 use Rattle.tq_shape.specs.Steps.{refuse, state_at}
 use Rattle.tq_desk.specs.DeskJournal.{DeskBounds, DeskEntry, desk_state, IsLegalDesk, final, Commit, with_commit, commits, gives_verdict, VerdictAt}
 use Rattle.tq_desk.specs.DecisionLog.{EndsAreTold}
@@ -59,7 +59,7 @@ get_cases m u v t =
 
 -- ---- what is final stays
 
-resolved_stays : (m : Finals) (u t : ℕ) (v : Verdict) (o : Option Verdict) → fin.get m u ≡ o → fin.get m t ≡ Some v → fin.get (resolved o m u) t ≡ Some v
+resolved_stays : (m : Finals) (u t : ℕ) (v : Verdict) (o : Option Verdict) → fin.get m u ≡ o → fin.get m t ≡ Some v → fin.get (finals_after_resolve o m u) t ≡ Some v
 resolved_stays m u t v (Some w) e h = h
 resolved_stays m u t v None e h =
     elim (get_cases m u verdicts.Abort t) [
@@ -71,7 +71,7 @@ answered_stays : (st : DeskView) (a : DeskAsk) (t : ℕ) (v : Verdict) → desk_
 answered_stays st asks.Begin t v o h = h
 answered_stays st (asks.Resolve u) t v o h = resolved_stays st.finals u t v (fin.get st.finals u) refl h
 answered_stays st (asks.Commit u ops votes) t v o h =
-    elim (get_cases st.finals u (verdicts.Commit (cited votes)) t) [
+    elim (get_cases st.finals u (verdicts.Commit (cited_votes votes)) t) [
       | inl p ↦ let n : Path (Option Verdict) None (Some v) = sym (commit_open st u ops votes o).0 ∙ ap (fin.get st.finals) (sym p.0) ∙ h in cc
       | inr q ↦ q ∙ h
     ]
@@ -89,7 +89,7 @@ kept bounds journal t = fin.get (desk_state bounds journal).finals t
 
 -- ---- what is told is final
 
-resolved_told : (m : Finals) (t : ℕ) (v : Verdict) (o : Option Verdict) → fin.get m t ≡ o → v ≡ final_or_abort o → fin.get (resolved o m t) t ≡ Some v
+resolved_told : (m : Finals) (t : ℕ) (v : Verdict) (o : Option Verdict) → fin.get m t ≡ o → v ≡ final_or_abort o → fin.get (finals_after_resolve o m t) t ≡ Some v
 resolved_told m t v (Some w) e same = e ∙ ap (λ (x : Verdict). Some x) (sym same)
 resolved_told m t v None e same = get_same m t verdicts.Abort ∙ ap (λ (x : Verdict). Some x) (sym same)
 
@@ -104,7 +104,7 @@ gives_final st e t v legal (inl g) =
     reply_is = sym (ap (λ (x : DeskEntry). x.reply) g.3) ∙ legal ∙ ap (desk_reply st) ask_is
 
     by : (o : Option DeskRefusal) → replies.Committed g.2 ≡ reply_at o (desk_answer st (asks.Commit t g.0 g.1)) → fin.get (state_at o st (desk_answered st (asks.Commit t g.0 g.1))).finals t ≡ Some v
-    by None p = get_same st.finals t (verdicts.Commit (cited g.1)) ∙ ap (λ (x : Verdict). Some x) (sym g.4)
+    by None p = get_same st.finals t (verdicts.Commit (cited_votes g.1)) ∙ ap (λ (x : Verdict). Some x) (sym g.4)
     by (Some r) p = cc
 gives_final st e t v legal (inr (inl g)) =
     subst (λ (a : DeskAsk). fin.get (desk_after st a).finals t ≡ Some v) (sym ask_is) (by (desk_refusal st (asks.Resolve t)) reply_is)
@@ -143,13 +143,13 @@ told_final bounds (e ∷ D) legal k t v at =
 -- ---- a Commit that is final is of a commit
 
 abbrev IsEnded : List Commit → ℕ → Verdict → Type 0
-IsEnded list t v = (v ≡ verdicts.Abort) ⊎ ((c : Commit) × Has list c × (c.txn ≡ t) × (v ≡ verdicts.Commit (cited c.votes)))
+IsEnded list t v = (v ≡ verdicts.Abort) ⊎ ((c : Commit) × Has list c × (c.txn ≡ t) × (v ≡ verdicts.Commit (cited_votes c.votes)))
 
 ended_later : (a : DeskAsk) (r : DeskReply) (list : List Commit) (t : ℕ) (v : Verdict) → IsEnded list t v → IsEnded (with_commit a r list) t v
 ended_later a r list t v (inl e) = inl e
 ended_later a r list t v (inr c) = inr (c.0, commit-old a r list c.0 c.1, c.2, c.3)
 
-resolved_ended : (m : Finals) (u t : ℕ) (v : Verdict) (o : Option Verdict) (list : List Commit) → fin.get (resolved o m u) t ≡ Some v → (fin.get m t ≡ Some v → IsEnded list t v) → IsEnded list t v
+resolved_ended : (m : Finals) (u t : ℕ) (v : Verdict) (o : Option Verdict) (list : List Commit) → fin.get (finals_after_resolve o m u) t ≡ Some v → (fin.get m t ≡ Some v → IsEnded list t v) → IsEnded list t v
 resolved_ended m u t v (Some w) list h ih = ih h
 resolved_ended m u t v None list h ih =
     elim (get_cases m u verdicts.Abort t) [
@@ -162,7 +162,7 @@ answered_ended : (st : DeskView) (a : DeskAsk) (list : List Commit) (t : ℕ) (v
 answered_ended st asks.Begin list t v h ih = ih h
 answered_ended st (asks.Resolve u) list t v h ih = resolved_ended st.finals u t v (fin.get st.finals u) list h ih
 answered_ended st (asks.Commit u ops votes) list t v h ih =
-    elim (get_cases st.finals u (verdicts.Commit (cited votes)) t) [
+    elim (get_cases st.finals u (verdicts.Commit (cited_votes votes)) t) [
       | inl p ↦ inr (record { txn = u; ops = ops; votes = votes }, inl refl, sym p.0, Some-same (sym h ∙ p.1))
       | inr q ↦ ended_later (asks.Commit u ops votes) (desk_answer st (asks.Commit u ops votes)) list t v (ih (sym q ∙ h))
     ]
@@ -177,16 +177,16 @@ ended bounds (e ∷ D) legal t v h =
     by None k ih = answered_ended (desk_state bounds D) e.ask (commits D) t v k ih
     by (Some r) k ih = ended_later e.ask (replies.Refused r) (commits D) t v (ih k)
 
-committed_of : (list : List Commit) (t : ℕ) (v : Verdict) (s n : ℕ) → IsCited v s n → IsEnded list t v → (c : Commit) × Has list c × (c.txn ≡ t) × (v ≡ verdicts.Commit (cited c.votes))
+committed_of : (list : List Commit) (t : ℕ) (v : Verdict) (s n : ℕ) → IsCited v s n → IsEnded list t v → (c : Commit) × Has list c × (c.txn ≡ t) × (v ≡ verdicts.Commit (cited_votes c.votes))
 committed_of list t v s n h (inl e) = absurd (false≢true (subst (λ (x : Verdict). IsCited x s n) e h))
 committed_of list t v s n h (inr c) = c
 
-stands_at : (D : List DeskEntry) (c : Commit) → Has (commits D) c → (k : ℕ) × VerdictAt D k c.txn (verdicts.Commit (cited c.votes))
+stands_at : (D : List DeskEntry) (c : Commit) → Has (commits D) c → (k : ℕ) × VerdictAt D k c.txn (verdicts.Commit (cited_votes c.votes))
 stands_at [] c h = absurd h
 stands_at (e ∷ D) c h = by (commit-cases e.ask e.reply (commits D) c h) (λ k. stands_at D c k)
   where
     by : ((i : ℕ) × (e.ask ≡ asks.Commit c.txn c.ops c.votes) × (e.reply ≡ replies.Committed i)) ⊎ Has (commits D) c
-        → (Has (commits D) c → (k : ℕ) × VerdictAt D k c.txn (verdicts.Commit (cited c.votes))) → (k : ℕ) × VerdictAt (e ∷ D) k c.txn (verdicts.Commit (cited c.votes))
+        → (Has (commits D) c → (k : ℕ) × VerdictAt D k c.txn (verdicts.Commit (cited_votes c.votes))) → (k : ℕ) × VerdictAt (e ∷ D) k c.txn (verdicts.Commit (cited_votes c.votes))
     by (inl p) ih = (suc (length D), record { entry = e; is_there = at-new e D; gives = inl (c.ops, c.votes, p.0, (λ i. record { ask = p.1 i; reply = p.2 i }), refl) })
     by (inr q) ih = let r = ih q in (r.0, record { entry = (r.1).entry; is_there = at-old e D r.0 (r.1).entry (r.1).is_there; gives = (r.1).gives })
 
@@ -232,7 +232,7 @@ put_begun st u w begun is t v h =
       | inr q ↦ begun t v (sym q ∙ h)
     ]
 
-resolved_begun : (st : DeskView) (u : ℕ) (o : Option Verdict) → AreBegun st → is_begun st u ≡ true → (t : ℕ) (v : Verdict) → fin.get (resolved o st.finals u) t ≡ Some v → is_begun st t ≡ true
+resolved_begun : (st : DeskView) (u : ℕ) (o : Option Verdict) → AreBegun st → is_begun st u ≡ true → (t : ℕ) (v : Verdict) → fin.get (finals_after_resolve o st.finals u) t ≡ Some v → is_begun st t ≡ true
 resolved_begun st u None begun is t v h = put_begun st u verdicts.Abort begun is t v h
 resolved_begun st u (Some w) begun is t v h = begun t v h
 
@@ -241,7 +241,7 @@ answered_begun st asks.Begin o begun t v h = more_begun t st.begun (begun t v h)
 answered_begun st (asks.Resolve u) o begun t v h =
     resolved_begun st u (fin.get st.finals u) begun (not-false (is_begun st u) ((refuse-none (not (is_begun st u)) refusals.NoSuchTxn None o).0)) t v h
 answered_begun st (asks.Commit u ops votes) o begun t v h =
-    put_begun st u (verdicts.Commit (cited votes)) begun (not-false (is_begun st u) ((refuse-none (not (is_begun st u)) refusals.NoSuchTxn _ o).0)) t v h
+    put_begun st u (verdicts.Commit (cited_votes votes)) begun (not-false (is_begun st u) ((refuse-none (not (is_begun st u)) refusals.NoSuchTxn _ o).0)) t v h
 
 after_begun : (st : DeskView) (a : DeskAsk) → AreBegun st → AreBegun (desk_after st a)
 after_begun st a begun = by (desk_refusal st a) refl

@@ -17,7 +17,7 @@ use Rattle.tq_evidence.specs.declared.grant.Grant.{Grant}
 use Rattle.tq_evidence.specs.declared.op.Op.{Op}
 use Rattle.tq_evidence.specs.declared.rule.Rule.{Rule}
 use Rattle.tq_evidence.specs.declared.vote.Vote.{Vote}
-use Rattle.tq_evidence.specs.Evidence.{is_write, servers_of, has_server, rises, are_quorums, are_exclusive, covers, are_covered, place_of, put_op, writes_by_file, is_write_of, are_writes_at, have_writes, greatest, stands_before, ops_rise, reads_copy, has_version, have_versions, failed, IsGood}
+use Rattle.tq_evidence.specs.Evidence.{is_write, servers_of, has_server, rises, are_quorums, are_exclusive, covers, are_covered, place_of, put_op, writes_by_file, is_write_of, are_writes_at, have_writes, greatest, stands_before, ops_rise, reads_copy, has_version, have_versions, rule_unless, IsGood}
 use Rattle.tq_store.specs.Names.{same_name}
 use Rattle.tq_evidence.specs.Evidence as evidence
 use Rattle.tq_desk.specs.Laws.{HasTop, IsCovered, IsShown}
@@ -27,7 +27,7 @@ use Rattle.tq_store.proofs.SameName.{same_name-is}
 
 -- ---- the rules that hold
 
-failed-none : (holds : Bool) (rule : Rule) (next : Option Rule) → failed holds rule next ≡ None → (holds ≡ true) × (next ≡ None)
+failed-none : (holds : Bool) (rule : Rule) (next : Option Rule) → rule_unless holds rule next ≡ None → (holds ≡ true) × (next ≡ None)
 failed-none true rule next h = (refl, h)
 failed-none false rule next h = cc
 

@@ -10,7 +10,7 @@ use Rattle.tq_evidence.specs.declared.op.Op.{Op}
 use Rattle.tq_evidence.specs.Evidence.{is_write, writes_file}
 use Rattle.tq_store.specs.Names.{same_name}
 use Rattle.tq_desk.specs.DeskStep.{FileSet, with_file, with_files}
-use Rattle.tq_desk.specs.DeskJournal.{Commit, written}
+use Rattle.tq_desk.specs.DeskJournal.{Commit, written_files}
 use Rattle.tq_desk.specs.DecisionLog.{is_written}
 
 or_assoc : (a b c : Bool) → ((a || b) || c) ≡ (a || (b || c))
@@ -53,9 +53,9 @@ has-with_files (op ∷ ops) files name = by (is_write op) (has-with_files ops fi
         ∙ or_assoc (is_some (fin.get files name)) (same_name op.file name) (list_any (writes_file name) ops)
 
 -- a file is among those written exactly where some commit has a write of it
-pub written-is : (cs : List Commit) (name : List ℕ) → is_some (fin.get (written cs) name) ≡ is_written cs name
+pub written-is : (cs : List Commit) (name : List ℕ) → is_some (fin.get (written_files cs) name) ≡ is_written cs name
 written-is [] name = ap is_some (fin.get-empty name_cmp name)
 written-is (c ∷ cs) name =
-    has-with_files c.ops (written cs) name
-    ∙ or_swap (is_some (fin.get (written cs) name)) (list_any (writes_file name) c.ops)
+    has-with_files c.ops (written_files cs) name
+    ∙ or_swap (is_some (fin.get (written_files cs) name)) (list_any (writes_file name) c.ops)
     ∙ ap (λ b. list_any (writes_file name) c.ops || b) (written-is cs name)

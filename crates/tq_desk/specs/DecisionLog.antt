@@ -14,7 +14,7 @@ use Rattle.tq_evidence.specs.Evidence.{failed_rule, writes_file}
 use Rattle.tq_desk.specs.DeskStep.{DeskView, final_or_abort, reply_at, with_files}
 use Rattle.tq_shape.specs.Steps.{refuse, refuse_for}
 use Rattle.tq_desk.specs.DeskJournal as log
-use Rattle.tq_desk.specs.DeskJournal.{DeskBounds, DeskEntry, begun, commits, desk_state, final, IsLegalDesk, written}
+use Rattle.tq_desk.specs.DeskJournal.{DeskBounds, DeskEntry, begin_count, commits, desk_state, final, IsLegalDesk, written_files}
 
 -- some commit has a write of the file
 abbrev pub is_written : List log.Commit → List ℕ → Bool
@@ -22,11 +22,11 @@ is_written commits name = list_any (λ commit. list_any (writes_file name) commi
 
 -- the files written are those that some commit writes
 abbrev pub AreWritten : Type 0
-AreWritten = (commits : List log.Commit) (name : List ℕ) → is_some (fin.get (log.written commits) name) ≡ is_written commits name
+AreWritten = (commits : List log.Commit) (name : List ℕ) → is_some (fin.get (log.written_files commits) name) ≡ is_written commits name
 
 -- the number is that of a transaction begun
 abbrev pub is_txn : List DeskEntry → ℕ → Bool
-is_txn journal txn = nat_le 1 txn && nat_le txn (begun journal)
+is_txn journal txn = nat_le 1 txn && nat_le txn (begin_count journal)
 
 -- what an ask is refused for: the first reason that holds
 abbrev pub log_refusal : DeskBounds → List DeskEntry → DeskAsk → Option DeskRefusal
@@ -37,11 +37,11 @@ log_refusal bounds journal (Commit txn ops votes) =
     (refuse_for (final journal txn) Decided
     (refuse (nat_lt bounds.limits.ops (length ops)) TooManyOps
     (refuse_for (failed_rule bounds.levels ops votes) BadEvidence
-    (refuse (nat_lt bounds.limits.files (fin.len (with_files (written (commits journal)) ops))) TooManyFiles None))))
+    (refuse (nat_lt bounds.limits.files (fin.len (with_files (written_files (commits journal)) ops))) TooManyFiles None))))
 
 -- what an ask is answered that is not refused
 abbrev pub log_answer : List DeskEntry → DeskAsk → DeskReply
-log_answer journal Begin = Txn (begun journal + 1)
+log_answer journal Begin = Txn (begin_count journal + 1)
 log_answer journal (Resolve txn) = Verdict (final_or_abort (final journal txn))
 log_answer journal (Commit txn ops votes) = Committed (length (commits journal) + 1)
 
@@ -58,10 +58,10 @@ IsDecisionLog bounds (e ∷ earlier) = (e.reply ≡ log_reply bounds earlier e.a
 pub record Keeps (bounds : DeskBounds) (journal : List DeskEntry) (desk : DeskView) : Type 0 where
   pub levels : desk.levels ≡ bounds.levels
   pub limits : desk.limits ≡ bounds.limits
-  pub begun : desk.begun ≡ log.begun journal
+  pub begun : desk.begun ≡ log.begin_count journal
   pub finals : (txn : ℕ) → fin.get desk.finals txn ≡ log.final journal txn
   pub commits : desk.commits ≡ length (log.commits journal)
-  pub files : desk.files ≡ log.written (log.commits journal)
+  pub files : desk.files ≡ log.written_files (log.commits journal)
 
 -- an answer of a desk that stands where a legal journal leaves it: the log's reply, and the desk stands
 -- where the journal with this entry leaves it, which is legal
@@ -82,7 +82,7 @@ EndsAreTold bounds =
 
 -- where the desk stands where a legal journal leaves it, so many transactions were begun in that journal
 abbrev pub BeginsByLog : DeskView → ℕ → Type 0
-BeginsByLog desk count = (bounds : DeskBounds) (journal : List DeskEntry) → IsLegalDesk bounds journal → desk ≡ desk_state bounds journal → count ≡ begun journal
+BeginsByLog desk count = (bounds : DeskBounds) (journal : List DeskEntry) → IsLegalDesk bounds journal → desk ≡ desk_state bounds journal → count ≡ begin_count journal
 
 -- where the desk stands where a legal journal leaves it, the transaction ended so in that journal
 abbrev pub EndsByLog : DeskView → ℕ → Option Final → Type 0

@@ -13,7 +13,7 @@ use Rattle.tq_evidence.specs.declared.op.Op.{Op}
 use Rattle.tq_desk.specs.declared.change.DeskChange.{DeskChange}
 use Rattle.tq_desk.specs.declared.change.DeskChange.TheVariants.{Nothing, Begin, Abort, Commit}
 use Rattle.tq_evidence.specs.Evidence.{is_write}
-use Rattle.tq_desk.specs.DeskStep.{DeskView, FileSet, aborted, cited, desk_refusal, desk_reply, with_file}
+use Rattle.tq_desk.specs.DeskStep.{DeskView, FileSet, desk_after_abort, cited_votes, desk_refusal, desk_reply, with_file}
 
 -- the files that the ops write, one after another
 abbrev pub names_written : List Op → List (List ℕ)
@@ -31,7 +31,7 @@ abort_unless (Some ended) txn = Nothing
 abbrev pub change_of : DeskView → DeskAsk → DeskChange
 change_of old asks.Begin = Begin (old.begun + 1)
 change_of old (asks.Resolve txn) = abort_unless (fin.get old.finals txn) txn
-change_of old (asks.Commit txn ops votes) = Commit txn (cited votes) (names_written ops)
+change_of old (asks.Commit txn ops votes) = Commit txn (cited_votes votes) (names_written ops)
 
 abbrev pub change_at : Option DeskRefusal → DeskChange → DeskChange
 change_at None change = change
@@ -64,5 +64,5 @@ with_commit old txn votes files =
 abbrev pub desk_changed : DeskView → DeskChange → DeskView
 desk_changed old Nothing = old
 desk_changed old (Begin txn) = record old { begun = txn }
-desk_changed old (Abort txn) = aborted old txn
+desk_changed old (Abort txn) = desk_after_abort old txn
 desk_changed old (Commit txn votes files) = with_commit old txn votes files

@@ -15,7 +15,7 @@ use Rattle.tq_desk.specs.declared.ask.DeskReply.TheVariants as replies
 use Rattle.tq_evidence.specs.declared.op.Op.{Op}
 use Rattle.tq_evidence.specs.declared.vote.Vote.{Vote}
 use Rattle.tq_evidence.specs.Evidence.{is_write, writes_file}
-use Rattle.tq_desk.specs.DeskStep.{DeskView, FileSet, cited, desk_after, desk_reply, opening, with_files}
+use Rattle.tq_desk.specs.DeskStep.{DeskView, FileSet, cited_votes, desk_after, desk_reply, opening_desk, with_files}
 use Rattle.tq_shape.specs.Steps.{or_else}
 
 -- what bounds a desk: the levels of its tree and its limits
@@ -28,8 +28,8 @@ DeskEntry = Entry DeskAsk DeskReply
 
 -- ---- legal journals: each reply is that of the desk's step after the entries before it
 
-abbrev pub opened : DeskBounds → DeskView
-opened bounds = opening bounds.levels bounds.limits
+abbrev pub opened_desk : DeskBounds → DeskView
+opened_desk bounds = opening_desk bounds.levels bounds.limits
 
 -- the step takes no notice of the entry's number
 abbrev pub step_reply : DeskView → ℕ → DeskAsk → DeskReply
@@ -39,10 +39,10 @@ abbrev pub step_after : DeskView → ℕ → DeskAsk → DeskView
 step_after old number ask = desk_after old ask
 
 abbrev pub desk_state : DeskBounds → List DeskEntry → DeskView
-desk_state bounds journal = state_after step_after (opened bounds) journal
+desk_state bounds journal = state_after step_after (opened_desk bounds) journal
 
 abbrev pub IsLegalDesk : DeskBounds → List DeskEntry → Type 0
-IsLegalDesk bounds journal = IsLegal step_reply step_after (opened bounds) journal
+IsLegalDesk bounds journal = IsLegal step_reply step_after (opened_desk bounds) journal
 
 -- ---- the decision log, of the entries alone
 
@@ -51,21 +51,21 @@ begun_with (replies.Txn txn) earlier = earlier + 1
 begun_with reply earlier = earlier
 
 -- how many transactions were begun: the replies to Begin
-abbrev pub begun : List DeskEntry → ℕ
-begun [] = 0
-begun (e ∷ earlier) = begun_with e.reply (begun earlier)
+abbrev pub begin_count : List DeskEntry → ℕ
+begin_count [] = 0
+begin_count (e ∷ earlier) = begun_with e.reply (begin_count earlier)
 
 -- the end that an entry records for the transaction: Commit with the votes of a commit that was answered so,
 -- Abort where a verdict was asked for and told
-abbrev pub ending : DeskAsk → DeskReply → ℕ → Option Verdict
-ending (asks.Commit txn ops votes) (replies.Committed serial) t = if t == txn then Some (verdicts.Commit (cited votes)) else None
-ending (asks.Resolve txn) (replies.Verdict verdict) t = if t == txn then Some verdicts.Abort else None
-ending ask reply t = None
+abbrev pub ending_of : DeskAsk → DeskReply → ℕ → Option Verdict
+ending_of (asks.Commit txn ops votes) (replies.Committed serial) t = if t == txn then Some (verdicts.Commit (cited_votes votes)) else None
+ending_of (asks.Resolve txn) (replies.Verdict verdict) t = if t == txn then Some verdicts.Abort else None
+ending_of ask reply t = None
 
 -- how the transaction ended, if it has: the first end that is recorded for it
 abbrev pub final : List DeskEntry → ℕ → Option Verdict
 final [] t = None
-final (e ∷ earlier) t = or_else (final earlier t) (ending e.ask e.reply t)
+final (e ∷ earlier) t = or_else (final earlier t) (ending_of e.ask e.reply t)
 
 -- a commit as it was asked
 pub record Commit : Type 0 where
@@ -83,16 +83,16 @@ commits [] = []
 commits (e ∷ earlier) = with_commit e.ask e.reply (commits earlier)
 
 -- the files that the commits wrote
-abbrev pub written : List Commit → FileSet
-written [] = fin.empty
-written (c ∷ earlier) = with_files (written earlier) c.ops
+abbrev pub written_files : List Commit → FileSet
+written_files [] = fin.empty
+written_files (c ∷ earlier) = with_files (written_files earlier) c.ops
 
 -- ---- what an entry tells
 
 -- what an entry says of a transaction's end
 abbrev pub gives_verdict : DeskEntry → ℕ → Verdict → Type 0
 gives_verdict entry txn verdict =
-    ((ops : List Op) × (votes : List Vote) × (serial : ℕ) × (entry ≡ record { ask = asks.Commit txn ops votes; reply = replies.Committed serial }) × (verdict ≡ verdicts.Commit (cited votes)))
+    ((ops : List Op) × (votes : List Vote) × (serial : ℕ) × (entry ≡ record { ask = asks.Commit txn ops votes; reply = replies.Committed serial }) × (verdict ≡ verdicts.Commit (cited_votes votes)))
     ⊎ ((entry ≡ record { ask = asks.Resolve txn; reply = replies.Verdict verdict })
     ⊎ ((ops : List Op) × (votes : List Vote) × (entry ≡ record { ask = asks.Commit txn ops votes; reply = replies.Refused (refusals.Decided verdict) })))
 

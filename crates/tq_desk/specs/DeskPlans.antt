@@ -12,7 +12,7 @@ use Rattle.tq_evidence.specs.declared.op.Op.{Op}
 use Rattle.tq_evidence.specs.declared.vote.Vote.{Vote}
 use Rattle.tq_desk.specs.declared.change.DeskChange.{DeskChange}
 use Rattle.tq_evidence.specs.Evidence.{is_write}
-use Rattle.tq_desk.specs.DeskStep.{DeskView, FileSet, committed, desk_after, desk_answered, desk_refusal, is_begun, opening, resolved, with_file, with_files}
+use Rattle.tq_desk.specs.DeskStep.{DeskView, FileSet, desk_after_commit, desk_after, desk_answered, desk_refusal, is_begun, opening_desk, finals_after_resolve, with_file, with_files}
 use Rattle.tq_shape.specs.Steps.{state_at}
 use Rattle.tq_desk.specs.DeskChanges.{abort_unless, change_at, change_of, desk_change, desk_changed, names_written, with_names, DeskFits}
 use Rattle.tq_shape.specs.Unrefused.{refuse-none, refuse_for-none}
@@ -46,14 +46,14 @@ names_same files ops = fused files (filter is_write ops)
     fused files [] = refl
     fused files (op ∷ ops) = fused (with_file files op.file) ops
 
-abort_leads : (old : DeskView) (txn : ℕ) (ended : Option Verdict) → desk_changed old (abort_unless ended txn) ≡ record old { finals = resolved ended old.finals txn }
+abort_leads : (old : DeskView) (txn : ℕ) (ended : Option Verdict) → desk_changed old (abort_unless ended txn) ≡ record old { finals = finals_after_resolve ended old.finals txn }
 abort_leads old txn None = refl
 abort_leads old txn (Some verdict) = refl
 
 leads_of : (old : DeskView) (ask : DeskAsk) → desk_changed old (change_of old ask) ≡ desk_answered old ask
 leads_of old asks.Begin = refl
 leads_of old (asks.Resolve txn) = abort_leads old txn (fin.get old.finals txn)
-leads_of old (asks.Commit txn ops votes) = ap (λ files. record (committed old txn ops votes) { files = files }) (names_same old.files ops)
+leads_of old (asks.Commit txn ops votes) = ap (λ files. record (desk_after_commit old txn ops votes) { files = files }) (names_same old.files ops)
 
 leads_at : (old new : DeskView) (change : DeskChange) (reason : Option DeskRefusal) → desk_changed old change ≡ new → desk_changed old (change_at reason change) ≡ state_at reason old new
 leads_at old new change None h = h
@@ -64,16 +64,16 @@ change_leads old ask = leads_at old (desk_answered old ask) (change_of old ask) 
 
 -- ---- what stays
 
-opens_same : (old new : DeskView) (reason : Option DeskRefusal) → opening new.levels new.limits ≡ opening old.levels old.limits → opening (state_at reason old new).levels (state_at reason old new).limits ≡ opening old.levels old.limits
+opens_same : (old new : DeskView) (reason : Option DeskRefusal) → opening_desk new.levels new.limits ≡ opening_desk old.levels old.limits → opening_desk (state_at reason old new).levels (state_at reason old new).limits ≡ opening_desk old.levels old.limits
 opens_same old new None h = h
 opens_same old new (Some reason) h = refl
 
-answered_opens : (old : DeskView) (ask : DeskAsk) → opening (desk_answered old ask).levels (desk_answered old ask).limits ≡ opening old.levels old.limits
+answered_opens : (old : DeskView) (ask : DeskAsk) → opening_desk (desk_answered old ask).levels (desk_answered old ask).limits ≡ opening_desk old.levels old.limits
 answered_opens old asks.Begin = refl
 answered_opens old (asks.Resolve txn) = refl
 answered_opens old (asks.Commit txn ops votes) = refl
 
-pub keeps_settings : (old : DeskView) (ask : DeskAsk) → opening (desk_after old ask).levels (desk_after old ask).limits ≡ opening old.levels old.limits
+pub keeps_settings : (old : DeskView) (ask : DeskAsk) → opening_desk (desk_after old ask).levels (desk_after old ask).limits ≡ opening_desk old.levels old.limits
 keeps_settings old ask = opens_same old (desk_answered old ask) (desk_refusal old ask) (answered_opens old ask)
 
 one_at : (old new : DeskView) (n : ℕ) (reason : Option DeskRefusal) → old.begun < n → new.begun ≤ old.begun + 1 → (state_at reason old new).begun < n + 1
@@ -88,5 +88,5 @@ one_more old (asks.Commit txn ops votes) = omega arith
 pub stays_ready : (old : DeskView) (n : ℕ) (ask : DeskAsk) → old.begun < n → (desk_after old ask).begun < n + 1
 stays_ready old n ask less = one_at old (desk_answered old ask) n (desk_refusal old ask) less (one_more old ask)
 
-pub opens_ready : (levels : ℕ) (limits : LimitsView) → (opening levels limits).begun < 1
+pub opens_ready : (levels : ℕ) (limits : LimitsView) → (opening_desk levels limits).begun < 1
 opens_ready levels limits = omega arith

@@ -43,8 +43,8 @@ is_begun old txn = nat_le 1 txn && nat_le txn old.begun
 abbrev pub citation : Vote → CitedVote
 citation vote = record { server = vote.server; number = vote.number }
 
-abbrev pub cited : List Vote → List CitedVote
-cited votes = map citation votes
+abbrev pub cited_votes : List Vote → List CitedVote
+cited_votes votes = map citation votes
 
 abbrev pub with_file : FileSet → List ℕ → FileSet
 with_file files name = fin.insert files name tt
@@ -88,25 +88,25 @@ desk_answer old (Resolve txn) = Verdict (final_or_abort (fin.get old.finals txn)
 desk_answer old (Commit txn ops votes) = Committed (old.commits + 1)
 
 -- what is recorded stays, and where nothing is the transaction aborts
-abbrev pub resolved : Option verdict.Verdict → Finals → ℕ → Finals
-resolved None finals txn = fin.insert finals txn verdicts.Abort
-resolved (Some final) finals txn = finals
+abbrev pub finals_after_resolve : Option verdict.Verdict → Finals → ℕ → Finals
+finals_after_resolve None finals txn = fin.insert finals txn verdicts.Abort
+finals_after_resolve (Some final) finals txn = finals
 
-abbrev pub aborted : DeskView → ℕ → DeskView
-aborted old txn = record old { finals = fin.insert old.finals txn verdicts.Abort }
+abbrev pub desk_after_abort : DeskView → ℕ → DeskView
+desk_after_abort old txn = record old { finals = fin.insert old.finals txn verdicts.Abort }
 
-abbrev pub committed : DeskView → ℕ → List Op → List Vote → DeskView
-committed old txn ops votes =
+abbrev pub desk_after_commit : DeskView → ℕ → List Op → List Vote → DeskView
+desk_after_commit old txn ops votes =
     record old {
-      finals = fin.insert old.finals txn (verdicts.Commit (cited votes));
+      finals = fin.insert old.finals txn (verdicts.Commit (cited_votes votes));
       commits = old.commits + 1;
       files = with_files old.files ops;
     }
 
 abbrev pub desk_answered : DeskView → DeskAsk → DeskView
 desk_answered old Begin = record old { begun = old.begun + 1 }
-desk_answered old (Resolve txn) = record old { finals = resolved (fin.get old.finals txn) old.finals txn }
-desk_answered old (Commit txn ops votes) = committed old txn ops votes
+desk_answered old (Resolve txn) = record old { finals = finals_after_resolve (fin.get old.finals txn) old.finals txn }
+desk_answered old (Commit txn ops votes) = desk_after_commit old txn ops votes
 
 abbrev pub reply_at : Option DeskRefusal → DeskReply → DeskReply
 reply_at None reply = reply
@@ -120,5 +120,5 @@ abbrev pub desk_after : DeskView → DeskAsk → DeskView
 desk_after old ask = state_at (desk_refusal old ask) old (desk_answered old ask)
 
 -- the desk that was asked nothing
-abbrev pub opening : ℕ → LimitsView → DeskView
-opening levels limits = record { levels = levels; limits = limits; begun = 0; finals = fin.empty; commits = 0; files = fin.empty }
+abbrev pub opening_desk : ℕ → LimitsView → DeskView
+opening_desk levels limits = record { levels = levels; limits = limits; begun = 0; finals = fin.empty; commits = 0; files = fin.empty }

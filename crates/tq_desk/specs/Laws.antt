@@ -13,7 +13,7 @@ use Rattle.tq_evidence.specs.declared.grant.Grant.{Grant}
 use Rattle.tq_evidence.specs.declared.op.Op.{Op}
 use Rattle.tq_evidence.specs.declared.vote.Vote.{Vote}
 use Rattle.tq_evidence.specs.Evidence.{is_write, servers_of}
-use Rattle.tq_desk.specs.DeskStep.{cited}
+use Rattle.tq_desk.specs.DeskStep.{cited_votes}
 use Rattle.tq_desk.specs.DeskJournal.{Commit, commits, DeskBounds, DeskEntry, final, IsLegalDesk, VerdictAt}
 
 -- the verdict is Commit and cites the vote
@@ -57,9 +57,9 @@ pub record DeskLaws (bounds : DeskBounds) : Type 0 where
   -- a final Commit that cites something is that of a commit
   pub committed : (journal : List DeskEntry) → IsLegalDesk bounds journal → (txn : ℕ) (verdict : Verdict) → final journal txn ≡ Some verdict
       → (server number : ℕ) → IsCited verdict server number
-      → (c : Commit) × Has (commits journal) c × (c.txn ≡ txn) × (verdict ≡ verdicts.Commit (cited c.votes))
+      → (c : Commit) × Has (commits journal) c × (c.txn ≡ txn) × (verdict ≡ verdicts.Commit (cited_votes c.votes))
   -- a commit's verdict is told by its entry
-  pub stands : (journal : List DeskEntry) (c : Commit) → Has (commits journal) c → (k : ℕ) × VerdictAt journal k c.txn (verdicts.Commit (cited c.votes))
+  pub stands : (journal : List DeskEntry) (c : Commit) → Has (commits journal) c → (k : ℕ) × VerdictAt journal k c.txn (verdicts.Commit (cited_votes c.votes))
   -- a commit is of a transaction that had not ended, with good evidence
   pub fresh : (journal : List DeskEntry) (txn : ℕ) (ops : List Op) (votes : List Vote) (serial : ℕ)
       → IsLegalDesk bounds (record { ask = asks.Commit txn ops votes; reply = replies.Committed serial } ∷ journal)

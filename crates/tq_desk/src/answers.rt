@@ -5,7 +5,7 @@ use tq_shape::Memory;
 
 impl Answers for Desk {
     ghost use Rattle.std.specs.Prelude.{◌<◌};
-    ghost use Rattle.tq_desk.specs.DeskStep.{desk_reply, desk_after, opening as opened};
+    ghost use Rattle.tq_desk.specs.DeskStep.{desk_reply, desk_after, opening_desk as opened};
     ghost use Rattle.tq_desk.specs.DeskChanges.{desk_change, desk_changed, DeskFits};
     ghost use Rattle.tq_desk.specs.DeskPlans as step;
 

@@ -69,7 +69,7 @@ impl Drop for Desk {
 impl Desk {
     /// A desk that was asked nothing. It takes no memory yet.
     pub fn new(alloc: Global, levels: Levels, limits: Limits) -> Desk
-        ensures value { result ≡ spec.opening levels limits }
+        ensures value { result ≡ spec.opening_desk levels limits }
         ensures journal { result ≡ desk_state (record { levels = levels; limits = limits }) [] }
     {
         Desk {
@@ -201,9 +201,9 @@ impl Desk {
         ensures { IfOk result (IsDeskPlan self.now (DeskAsk.Resolve txn)) }
     {
         if !self.is_begun(txn) {
-            return Ok(refused(DeskRefusal::NoSuchTxn));
+            return Ok(refusal_plan(DeskRefusal::NoSuchTxn));
         }
-        match self.ended(txn)? {
+        match self.end_of(txn)? {
             None => Ok(Plan {
                 reply: DeskReply::Verdict(Verdict::Abort),
                 change: DeskChange::Abort { txn },
@@ -226,10 +226,10 @@ impl Desk {
         ensures { IfOk result (IsDeskPlan self.now (DeskAsk.Commit txn ops.now votes.now)) }
     {
         match self.commit_refusal(alloc, txn, ops, votes)? {
-            Some(reason) => Ok(refused(reason)),
+            Some(reason) => Ok(refusal_plan(reason)),
             None => {
                 let _ended = self.finals.len();
-                let votes = cited(alloc, votes)?;
+                let votes = cited_votes(alloc, votes)?;
                 let files = written_names(alloc, ops)?;
                 Ok(Plan {
                     reply: DeskReply::Committed {
@@ -249,7 +249,7 @@ impl Desk {
     }
 
     /// How a transaction ended, if it has.
-    fn ended(&self, txn: u64) -> Result<Option<Verdict>, Memory>
+    fn end_of(&self, txn: u64) -> Result<Option<Verdict>, Memory>
         ensures { IfOk result (λ verdict. verdict ≡ fin.get self.now.finals txn) }
     {
         match self.verdict(txn) {
@@ -261,7 +261,7 @@ impl Desk {
     /// Records that a transaction aborted that had not ended.
     fn abort(&mut self, txn: u64) -> Result<(), Memory>
         requires { fin.get self.old.finals txn ≡ None }
-        ensures after { OnOk result (self.new ≡ spec.aborted self.old txn) }
+        ensures after { OnOk result (self.new ≡ spec.desk_after_abort self.old txn) }
         ensures err { OnErr result (self.new ≡ self.old) }
     {
         self.finals.reserve(1)?;
@@ -282,7 +282,7 @@ impl Desk {
         if !self.is_begun(txn) {
             return Ok(Some(DeskRefusal::NoSuchTxn));
         }
-        if let Some(verdict) = self.ended(txn)? {
+        if let Some(verdict) = self.end_of(txn)? {
             return Ok(Some(DeskRefusal::Decided(verdict)));
         }
         if ops.len() > self.limits.ops() as usize {
@@ -327,7 +327,7 @@ impl Desk {
 }
 
 /// The plan that refuses, and changes nothing.
-fn refused(reason: DeskRefusal) -> Plan<DeskReply, DeskChange>
+fn refusal_plan(reason: DeskRefusal) -> Plan<DeskReply, DeskChange>
     ensures reply { result.reply ≡ DeskReply.Refused reason }
     ensures change { result.change ≡ DeskChange.Nothing }
 {
@@ -338,14 +338,14 @@ fn refused(reason: DeskRefusal) -> Plan<DeskReply, DeskChange>
 }
 
 /// The votes as a commit's record cites them.
-fn cited(alloc: Global, votes: &[Vote]) -> Result<SharedSeq<CitedVote>, Memory>
-    ensures { IfOk result (λ list. list ≡ spec.cited votes.now) }
+fn cited_votes(alloc: Global, votes: &[Vote]) -> Result<SharedSeq<CitedVote>, Memory>
+    ensures { IfOk result (λ list. list ≡ spec.cited_votes votes.now) }
 {
     Ok(SharedSeq::from_vec(citations(alloc, votes)?)?)
 }
 
 fn citations(alloc: Global, votes: &[Vote]) -> Result<Vec<CitedVote>, Memory>
-    ensures { IfOk result (λ list. list.items ≡ spec.cited votes.now) }
+    ensures { IfOk result (λ list. list.items ≡ spec.cited_votes votes.now) }
 {
     votes.iter().map(|vote| citation(vote)).collect(alloc)
 }

@@ -103,10 +103,10 @@ impl WrittenFiles {
 pub(crate) fn written_names(alloc: Global, ops: &[Op]) -> Result<Seq<FileName>, Memory>
     ensures { IfOk result (λ names. names ≡ names_written ops.now) }
 {
-    Ok(Seq::from_vec(written(alloc, ops)?))
+    Ok(Seq::from_vec(written_list(alloc, ops)?))
 }
 
-fn written(alloc: Global, ops: &[Op]) -> Result<Vec<FileName>, Memory>
+fn written_list(alloc: Global, ops: &[Op]) -> Result<Vec<FileName>, Memory>
     ensures { IfOk result (λ names. names.items ≡ names_written ops.now) }
 {
     let mut names = Vec::new(alloc);

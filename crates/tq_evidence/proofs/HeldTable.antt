@@ -9,7 +9,7 @@ use Rattle.std.proofs.lemmas.Bool.Decides.{nat_tests}
 use Rattle.tq_store.specs.Copies.{name_cmp}
 use Rattle.tq_asks.specs.declared.ask.HeldLock.{HeldLock}
 use Rattle.tq_store.specs.Names.{same_name}
-use Rattle.tq_evidence.specs.Held.{LeastSince, is_since, least_since, lesser, noted, noted_all}
+use Rattle.tq_evidence.specs.Held.{LeastSince, is_since, least_since, lesser, with_since, noted_all}
 use Rattle.tq_store.proofs.SameName.{same_name-is}
 
 min-le : (known since number : ℕ) → nat_le (min since known) number ≡ (nat_le known number || nat_le since number)
@@ -25,7 +25,7 @@ or_false false b = refl
 
 -- one lock more
 is_since-noted : (least : LeastSince) (lock : HeldLock) (file : List ℕ) (number : ℕ)
-    → is_since (fin.get (noted least lock.file lock.since) file) number ≡ (is_since (fin.get least file) number || (same_name lock.file file && nat_le lock.since number))
+    → is_since (fin.get (with_since least lock.file lock.since) file) number ≡ (is_since (fin.get least file) number || (same_name lock.file file && nat_le lock.since number))
 is_since-noted least lock file number =
     ap (λ o. is_since o number) (fin.get-insert nat_list_cmp_total least lock.file (lesser (fin.get least lock.file) lock.since) file)
     ∙ ap (λ b. is_since (cond b (Some (lesser (fin.get least lock.file) lock.since)) (fin.get least file)) number)
@@ -52,7 +52,7 @@ is_since-noted_all [] least file number = or_nothing (is_since (fin.get least fi
     or_nothing false = refl
 is_since-noted_all (lock ∷ held) least file number =
     let rest = list_any (λ (l : HeldLock). same_name l.file file && nat_le l.since number) held in
-    is_since-noted_all held (noted least lock.file lock.since) file number
+    is_since-noted_all held (with_since least lock.file lock.since) file number
     ∙ ap (λ b. b || rest) (is_since-noted least lock file number)
     ∙ or_assoc (is_since (fin.get least file) number) (same_name lock.file file && nat_le lock.since number) rest
 

@@ -158,18 +158,18 @@ abbrev pub is_some_op : List Op → Bool
 is_some_op [] = false
 is_some_op (op ∷ ops) = true
 
-abbrev pub failed : Bool → Rule → Option Rule → Option Rule
-failed holds rule next = if holds then next else Some rule
+abbrev pub rule_unless : Bool → Rule → Option Rule → Option Rule
+rule_unless holds rule next = if holds then next else Some rule
 
 -- the first rule that fails
 abbrev pub failed_rule : ℕ → List Op → List Vote → Option Rule
 failed_rule levels ops votes =
-    failed (are_quorums levels ops) rules.Quorum
-    (failed (are_exclusive ops) rules.Exclusive
-    (failed (are_covered ops votes) rules.Covered
-    (failed (have_writes ops votes) rules.Writes
-    (failed (have_versions ops) rules.Versions
-    (failed (is_some_op ops) rules.SomeOp None)))))
+    rule_unless (are_quorums levels ops) rules.Quorum
+    (rule_unless (are_exclusive ops) rules.Exclusive
+    (rule_unless (are_covered ops votes) rules.Covered
+    (rule_unless (have_writes ops votes) rules.Writes
+    (rule_unless (have_versions ops) rules.Versions
+    (rule_unless (is_some_op ops) rules.SomeOp None)))))
 
 -- the evidence is good
 abbrev pub IsGood : ℕ → List Op → List Vote → Type 0

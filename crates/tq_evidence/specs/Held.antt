@@ -16,11 +16,11 @@ abbrev pub lesser : Option ℕ → ℕ → ℕ
 lesser None since = since
 lesser (Some known) since = min since known
 
-abbrev pub noted : LeastSince → List ℕ → ℕ → LeastSince
-noted least file since = fin.insert least file (lesser (fin.get least file) since)
+abbrev pub with_since : LeastSince → List ℕ → ℕ → LeastSince
+with_since least file since = fin.insert least file (lesser (fin.get least file) since)
 
 abbrev pub noted_all : LeastSince → List HeldLock → LeastSince
-noted_all least held = fold (λ sofar lock. noted sofar lock.file lock.since) least held
+noted_all least held = fold (λ sofar lock. with_since sofar lock.file lock.since) least held
 
 abbrev pub least_since : List HeldLock → LeastSince
 least_since held = noted_all fin.empty held

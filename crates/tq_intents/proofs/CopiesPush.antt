@@ -8,7 +8,7 @@ use Rattle.std.specs.FinMap.{nat_cmp-IsAntisymmetric, slice_cmp-IsAntisymmetric,
 use Rattle.std.specs.Ordering.{eq_by_cmp}
 use Rattle.tq_store.specs.declared.copies.FileCopy.{FileCopy}
 use Rattle.tq_store.specs.declared.write.Write.{Write}
-use Rattle.tq_store.specs.Copies.{Files, OnlyRises, name_cmp, copy_at, copy_of, copy_in, installed, installed_all, is_newer}
+use Rattle.tq_store.specs.Copies.{Files, OnlyRises, name_cmp, copy_at, copy_of, copy_in, copies_after_install, installed_all, is_newer}
 use Rattle.tq_store.proofs.Installed.{arrives, at_name, get-installed, put_where, rises-installed, rises_then}
 use Rattle.tq_intents.specs.Kept.{kept_copies, with_copy, with_record, vote_records}
 use Rattle.tq_intents.specs.declared.record.KeptLock.{KeptLock}
@@ -35,9 +35,9 @@ both_ways true false first copy had = refl
 both_ways false true first copy had = refl
 both_ways false false first copy had = refl
 
-with_copy-installed : (write : Write) (files : Files) (name : List ℕ) (copy : FileCopy) → with_copy write (installed files name copy) ≡ installed (with_copy write files) name copy
+with_copy-installed : (write : Write) (files : Files) (name : List ℕ) (copy : FileCopy) → with_copy write (copies_after_install files name copy) ≡ copies_after_install (with_copy write files) name copy
 with_copy-installed write files name copy = same_map nat_list_cmp_total (slice_cmp-IsAntisymmetric nat_cmp-IsAntisymmetric) _ _ (λ q.
-    get-with_copy write (installed files name copy) q
+    get-with_copy write (copies_after_install files name copy) q
     ∙ ap (λ had. cond (eq_by_cmp name_cmp q write.file) (fronted (copy_in write) had) had) (get-installed files name copy q)
     ∙ both_ways (eq_by_cmp name_cmp q write.file) (eq_by_cmp name_cmp q name) (copy_in write) copy (fin.get files q)
     ∙ ap (λ had. cond (eq_by_cmp name_cmp q name) (arrives had copy) had) (sym (get-with_copy write files q))
@@ -46,14 +46,14 @@ with_copy-installed write files name copy = same_map nat_list_cmp_total (slice_c
 first_copy : (version : ℕ) → (nat_lt 0 version && nat_le 0 version) ≡ nat_lt 0 version
 first_copy version = grind (arith, nat_tests)
 
-first_installed : (write : Write) → with_copy write fin.empty ≡ installed fin.empty write.file (copy_in write)
+first_installed : (write : Write) → with_copy write fin.empty ≡ copies_after_install fin.empty write.file (copy_in write)
 first_installed write =
     ap (λ had. cond (nat_lt 0 write.version && nat_le (copy_at had).version write.version) (fin.insert fin.empty write.file (copy_in write)) fin.empty) (fin.get-empty name_cmp write.file)
     ∙ ap (λ b. cond b (fin.insert fin.empty write.file (copy_in write)) fin.empty) (first_copy write.version)
     ∙ ap (λ had. cond (nat_lt (copy_at had).version write.version) (fin.insert fin.empty write.file (copy_in write)) fin.empty) (sym (fin.get-empty name_cmp write.file))
 
 -- a copy that is written last is installed
-pub kept_copies-push_copy : (list : List Record) (write : Write) → kept_copies (list ++ Copy write ∷ []) ≡ installed (kept_copies list) write.file (copy_in write)
+pub kept_copies-push_copy : (list : List Record) (write : Write) → kept_copies (list ++ Copy write ∷ []) ≡ copies_after_install (kept_copies list) write.file (copy_in write)
 kept_copies-push_copy [] write = first_installed write
 kept_copies-push_copy (Copy first ∷ rest) write = ap (with_copy first) (kept_copies-push_copy rest write) ∙ with_copy-installed first (kept_copies rest) write.file (copy_in write)
 kept_copies-push_copy (Intent t n first ∷ rest) write = kept_copies-push_copy rest write
@@ -103,11 +103,11 @@ kept_copies-vote t n (write ∷ writes) locks = kept_copies-vote t n writes lock
 older : (a b c : ℕ) → nat_lt a c ≡ false → a ≤ b → nat_lt b c ≡ false
 older a b c h k = grind (arith, nat_tests, h, k)
 
-skipped : (start now : Files) (write : Write) → OnlyRises start now → is_newer start write ≡ false → now ≡ installed now write.file (copy_in write)
+skipped : (start now : Files) (write : Write) → OnlyRises start now → is_newer start write ≡ false → now ≡ copies_after_install now write.file (copy_in write)
 skipped start now write r h = sym (ap (λ b. cond b (fin.insert now write.file (copy_in write)) now) (older _ _ write.version h (r write.file)))
 
-newer_step : (start now : Files) (write : Write) (rest : List Write) (b : Bool) → is_newer start write ≡ b → OnlyRises start now → installed_all (installed now write.file (copy_in write)) (filter (is_newer start) rest) ≡ installed_all (installed now write.file (copy_in write)) rest
-    → installed_all now (cond b (write ∷ filter (is_newer start) rest) (filter (is_newer start) rest)) ≡ installed_all (installed now write.file (copy_in write)) rest
+newer_step : (start now : Files) (write : Write) (rest : List Write) (b : Bool) → is_newer start write ≡ b → OnlyRises start now → installed_all (copies_after_install now write.file (copy_in write)) (filter (is_newer start) rest) ≡ installed_all (copies_after_install now write.file (copy_in write)) rest
+    → installed_all now (cond b (write ∷ filter (is_newer start) rest) (filter (is_newer start) rest)) ≡ installed_all (copies_after_install now write.file (copy_in write)) rest
 newer_step start now write rest true h r f = f
 newer_step start now write rest false h r f = ap (λ files. installed_all files (filter (is_newer start) rest)) (skipped start now write r h) ∙ f
 
@@ -115,7 +115,7 @@ newer_from : (start now : Files) (writes : List Write) → OnlyRises start now �
 newer_from start now [] r = refl
 newer_from start now (write ∷ rest) r =
     newer_step start now write rest (is_newer start write) refl r
-    (newer_from start (installed now write.file (copy_in write)) rest (λ q. rises_then _ _ _ (r q) (rises-installed now write.file (copy_in write) q)))
+    (newer_from start (copies_after_install now write.file (copy_in write)) rest (λ q. rises_then _ _ _ (r q) (rises-installed now write.file (copy_in write) q)))
 
 pub installed_all-newer : (files : Files) (writes : List Write) → installed_all files (filter (is_newer files) writes) ≡ installed_all files writes
 installed_all-newer files writes = newer_from files files writes (λ q. omega arith)

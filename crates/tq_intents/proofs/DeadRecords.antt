@@ -5,7 +5,7 @@ use Rattle.std.proofs.lemmas.Bool.{cond-false, false≢true, and_right, eqb-true
 use Rattle.std.specs.FinMap as fin
 use Rattle.std.specs.List.{list_any, filter_map, cons_option}
 use Rattle.tq_shape.specs.Journal.{Has}
-use Rattle.tq_intents.specs.Kept.{Votes, IsAbove, IsUnfinished, is_dead, AreDead, ends_vote, write_of, lock_of, vote_of, opened, open_votes, kept_votes, kept_copies}
+use Rattle.tq_intents.specs.Kept.{Votes, IsAbove, IsUnfinished, is_dead, AreDead, ends_vote, write_of, lock_of, vote_of, opened_vote, open_votes, kept_votes, kept_copies}
 use Rattle.tq_intents.specs.declared.record.OpenVote.{OpenVote}
 use Rattle.tq_intents.specs.declared.record.Record.{Record}
 use Rattle.tq_intents.specs.declared.record.Record.TheVariants.{Copy, Intent, Keep, Prepared, Gone}
@@ -47,7 +47,7 @@ dead-end n t m (Keep u k l) d = refl
 dead-end n t m (Prepared u k) d = refl
 dead-end n t m (Gone u k) d = absurd (false≢true d)
 
-dead-opened : (n : ℕ) (list : List Record) (r : Record) → is_dead n r ≡ true → opened list r ≡ None
+dead-opened : (n : ℕ) (list : List Record) (r : Record) → is_dead n r ≡ true → opened_vote list r ≡ None
 dead-opened n list (Copy w) d = refl
 dead-opened n list (Intent u k w) d = refl
 dead-opened n list (Keep u k l) d = refl
@@ -80,7 +80,7 @@ module _ (n : ℕ) (list dead : List Record) (d : AreDead n dead) where
       let b = none-behind (lock_of t m) list dead (λ r k. dead-lock n t m r (d r k) less) in
       λ i. record { number = m; writes = a i; locks = b i }
 
-  opened-all : (rest : List Record) → IsAbove n rest → filter_map (opened (list ++ dead)) rest ≡ filter_map (opened list) rest
+  opened-all : (rest : List Record) → IsAbove n rest → filter_map (opened_vote (list ++ dead)) rest ≡ filter_map (opened_vote list) rest
   opened-all [] above = refl
   opened-all (Copy w ∷ rest) above = opened-all rest above.1
   opened-all (Intent t m w ∷ rest) above = opened-all rest above.1
@@ -94,7 +94,7 @@ module _ (n : ℕ) (list dead : List Record) (d : AreDead n dead) where
 
   pub open_votes-dead : IsAbove n list → open_votes (list ++ dead) ≡ open_votes list
   open_votes-dead above =
-      none-behind (opened (list ++ dead)) list dead (λ r k. dead-opened n (list ++ dead) r (d r k))
+      none-behind (opened_vote (list ++ dead)) list dead (λ r k. dead-opened n (list ++ dead) r (d r k))
       ∙ opened-all list above
 
 pub kept_votes-dead : (list dead : List Record) (n : ℕ) → IsAbove n list → AreDead n dead → kept_votes (list ++ dead) ≡ kept_votes list

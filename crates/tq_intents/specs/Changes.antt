@@ -5,7 +5,7 @@ use Rattle.std.specs.FinMap as fin
 use Rattle.std.specs.Global.{Vec}
 use Rattle.std.specs.Map.{lookup}
 use Rattle.std.specs.Ordering.{nat_cmp}
-use Rattle.tq_store.specs.Copies.{copy_in, installed, installed_all}
+use Rattle.tq_store.specs.Copies.{copy_in, copies_after_install, installed_all}
 use Rattle.tq_store.specs.declared.write.Write.{Write}
 use Rattle.tq_intents.specs.Index.{LogView}
 use Rattle.tq_intents.specs.Kept.{kept_copies, kept_votes, vote_at, vote_records}
@@ -16,7 +16,7 @@ use Rattle.tq_intents.specs.declared.record.Record.TheVariants.{Gone}
 
 -- the copies that the records keep are those from before with this write installed
 abbrev pub KeepsCopy : LogView → LogView → Write → Type 0
-KeepsCopy old new write = kept_copies new.records ≡ installed (kept_copies old.records) write.file (copy_in write)
+KeepsCopy old new write = kept_copies new.records ≡ copies_after_install (kept_copies old.records) write.file (copy_in write)
 
 -- the copies that the records keep are those from before with these writes installed
 abbrev pub KeepsCopies : LogView → LogView → List Write → Type 0

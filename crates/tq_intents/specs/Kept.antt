@@ -4,7 +4,7 @@ use Rattle.std.specs.FinMap as fin
 use Rattle.std.specs.List.{AllByRecursion, find, list_any, filter_map, flat_map}
 use Rattle.std.specs.Option.{option_and_then, option_map, option_map_or}
 use Rattle.std.specs.Ordering.{nat_cmp}
-use Rattle.tq_store.specs.Copies.{Files, copy_at, copy_in, copy_of, installed}
+use Rattle.tq_store.specs.Copies.{Files, copy_at, copy_in, copy_of, copies_after_install}
 use Rattle.tq_store.specs.declared.write.Write.{Write}
 use Rattle.tq_locks.specs.Locks.{Locks, LockKey}
 use Rattle.tq_locks.specs.declared.mode.Lock.{Lock}
@@ -37,12 +37,12 @@ abbrev pub vote_of : List Record → ℕ → ℕ → OpenVote
 vote_of list txn number = record { number = number; writes = filter_map (write_of txn number) list; locks = filter_map (lock_of txn number) list }
 
 -- a vote is open where its `Prepared` is in the list and its `Gone` isn't
-abbrev pub opened : List Record → Record → Option (ℕ × OpenVote)
-opened list (Prepared txn number) = if list_any (ends_vote txn number) list then None else Some (txn, vote_of list txn number)
-opened list other = None
+abbrev pub opened_vote : List Record → Record → Option (ℕ × OpenVote)
+opened_vote list (Prepared txn number) = if list_any (ends_vote txn number) list then None else Some (txn, vote_of list txn number)
+opened_vote list other = None
 
 abbrev pub open_votes : List Record → List (ℕ × OpenVote)
-open_votes list = filter_map (opened list) list
+open_votes list = filter_map (opened_vote list) list
 
 abbrev pub kept_votes : List Record → Votes
 kept_votes list = fin.from_entries (open_votes list)
@@ -142,5 +142,5 @@ HoldsVotesLocks list = (file : List ℕ) (txn : ℕ) → fin.get (kept_locks lis
 
 -- the copies after one more record: a `Copy` record's copy is installed
 abbrev pub with_record : Files → Record → Files
-with_record files (Copy write) = installed files write.file (copy_in write)
+with_record files (Copy write) = copies_after_install files write.file (copy_in write)
 with_record files other = files

@@ -43,15 +43,15 @@ abbrev pub no_lock : HeldLock
 no_lock = record { file = []; mode = Shared; since = 0 }
 
 -- a lock as a vote keeps it: with the version of its file's copy
-abbrev pub kept : HeldLock → ℕ → KeptLock
-kept held version = record { file = held.file; mode = held.mode; since = held.since; version = version }
+abbrev pub lock_of_vote : HeldLock → ℕ → KeptLock
+lock_of_vote held version = record { file = held.file; mode = held.mode; since = held.since; version = version }
 
 -- the lock at a place of a list, with its version
 abbrev pub lock_at : List HeldLock → ℕ → ℕ → KeptLock
-lock_at held place version = kept (get_or held place no_lock) version
+lock_at held place version = lock_of_vote (get_or held place no_lock) version
 
 -- locks, each with its version
 abbrev pub kept_each : List HeldLock → List ℕ → List KeptLock
 kept_each [] versions = []
 kept_each (lock ∷ held) [] = []
-kept_each (lock ∷ held) (version ∷ versions) = kept lock version ∷ kept_each held versions
+kept_each (lock ∷ held) (version ∷ versions) = lock_of_vote lock version ∷ kept_each held versions

@@ -8,7 +8,7 @@ ghost use Rattle.tq_intents.specs.Changes.{with_end, AddsOpenVote, AddsVote, Ind
 ghost use Rattle.tq_intents.specs.Changes.{KeepsCopies, KeepsCopy, OpensVote, WritesVote};
 ghost use Rattle.tq_intents.specs.Index.{HasEachVote};
 ghost use Rattle.tq_intents.specs.Kept as spec;
-ghost use Rattle.tq_intents.specs.Sharing.{kept};
+ghost use Rattle.tq_intents.specs.Sharing.{lock_of_vote};
 ghost use Rattle.tq_intents.specs.Kept.{kept_copies, kept_votes, vote_records, HasOneVoteEach};
 ghost use Rattle.tq_intents.specs.Kept.{HoldsVotesLocks, IsAbove, IsUnfinished, KeepsNewest};
 
@@ -321,7 +321,7 @@ fn index(alloc: Global, records: &[Record]) -> Result<BTreeMap<u64, OpenVote>, A
     let mut left = records.len();
     while left > 0 {
         left -= 1;
-        if let Some(entry) = opened(alloc, records, &records[left])? {
+        if let Some(entry) = opened_vote(alloc, records, &records[left])? {
             index.insert(entry.0, entry.1)?;
         }
     }
@@ -329,12 +329,12 @@ fn index(alloc: Global, records: &[Record]) -> Result<BTreeMap<u64, OpenVote>, A
 }
 
 /// The vote that a record opens, where it has not ended.
-fn opened(
+fn opened_vote(
     alloc: Global,
     records: &[Record],
     written: &Record,
 ) -> Result<Option<(u64, OpenVote)>, AllocError>
-    ensures { IfOk result (λ entry. entry ≡ spec.opened records.now written.now) }
+    ensures { IfOk result (λ entry. entry ≡ spec.opened_vote records.now written.now) }
 {
     match written {
         Record::Prepared { txn, number } => {
@@ -446,7 +446,7 @@ fn locks_of(
 
 /// A lock of a vote, as the vote lists it.
 fn held_of(lock: &KeptLock) -> HeldLock
-    ensures { kept result lock.now.version ≡ lock.now }
+    ensures { lock_of_vote result lock.now.version ≡ lock.now }
 {
     HeldLock {
         file: lock.file,

@@ -58,7 +58,7 @@ impl SharedWrite {
     }
 
     /// The write that an ask to refresh tells. It takes no memory.
-    pub fn told(ask: Shared<WorkAsk>) -> SharedWrite
+    pub fn of_refresh(ask: Shared<WorkAsk>) -> SharedWrite
         requires { IsRefresh ask }
         ensures { result ≡ told_write ask }
     {
@@ -87,7 +87,7 @@ impl SharedWrite {
     {
         match &self.source {
             Source::Listed { writes, place } => writes.as_slice()[*place].file,
-            Source::Told(ask) => refreshed(ask.get()).0,
+            Source::Told(ask) => refresh_parts(ask.get()).0,
             Source::Alone(write) => write.get().file,
         }
     }
@@ -98,7 +98,7 @@ impl SharedWrite {
     {
         match &self.source {
             Source::Listed { writes, place } => writes.as_slice()[*place].version,
-            Source::Told(ask) => refreshed(ask.get()).1,
+            Source::Told(ask) => refresh_parts(ask.get()).1,
             Source::Alone(write) => write.get().version,
         }
     }
@@ -109,7 +109,7 @@ impl SharedWrite {
     {
         match &self.source {
             Source::Listed { writes, place } => &writes.as_slice()[*place].content,
-            Source::Told(ask) => refreshed(ask.get()).2,
+            Source::Told(ask) => refresh_parts(ask.get()).2,
             Source::Alone(write) => &write.get().content,
         }
     }
@@ -127,7 +127,7 @@ impl SharedWrite {
 }
 
 /// The file, the version and the content that an ask to refresh tells.
-fn refreshed(ask: &WorkAsk) -> (FileName, u64, &Content)
+fn refresh_parts(ask: &WorkAsk) -> (FileName, u64, &Content)
     requires { IsRefresh ask.now }
     ensures file { result.0 ≡ (told_write ask.now).file }
     ensures version { result.1 ≡ (told_write ask.now).version }

@@ -42,18 +42,18 @@ use Rattle.tq_live.specs.declared.view.ViewRefusal.TheVariants as view_refusals
 use Rattle.tq_txn_states.specs.declared.fault.TxnFault.TheVariants as txn_faults
 use Rattle.tq_txn_states.specs.declared.told.NodeTold.{NodeTold}
 use Rattle.tq_txn_states.specs.Ended.{EndedView, decide_ask}
-use Rattle.tq_txn_states.specs.Open.{OpenView, fits, grant_of, grants_of, not_a_grant, is_member, is_used, is_read_of, is_written, seen, written, pending, has_all_ops, grants_fault, read_fault, write_fault, read_after, write_after, rewritten, is_full, touched_by, read_copy}
-use Rattle.tq_txn_states.specs.Voting.{VotingView, writes_in, write_in, writes_at, prepare_work, prepare_ask, ask_fault, vote_of, vote_refusal, vote_fault, vote_after, lost, has_vote, has_votes, evidence_of}
+use Rattle.tq_txn_states.specs.Open.{OpenView, fits, grant_of, grants_of, not_a_grant, is_member, is_used, is_read_of, is_written, op_read, op_written, pending_content, has_all_ops, grants_fault, read_fault, write_fault, read_after, write_after, txn_after_rewrite, is_full, touched_by, read_copy}
+use Rattle.tq_txn_states.specs.Voting.{VotingView, writes_in, write_in, writes_at, prepare_work, prepare_ask, ask_fault, vote_of, vote_refusal, vote_fault, vote_after, lost_file, has_vote, has_votes, evidence_of}
 use Rattle.tq_txn_states.proofs.NumberSets.{rises_from, rises-from}
 use Rattle.tq_txn_states.proofs.Tested.{a_member}
 use Rattle.tq_txn.specs.declared.fault.LineFault.TheVariants as faults
 use Rattle.tq_txn.specs.declared.read_answer.ReadAnswer.TheVariants.{Copy}
 use Rattle.tq_txn.specs.declared.txn.Txn.{Txn}
 use Rattle.tq_txn.specs.declared.txn.Txn.TheVariants as states
-use Rattle.tq_txn.specs.Dialogue.{done, failed, and_then, node_line, fault_of_desk}
-use Rattle.tq_txn.specs.Lines.{LocksView, answers, chosen, choose_line, purpose_of, lock_ask, granted, lock_line, next_lock, locks_line, quorum_line, read_end, quorum_read, first_read, read_again, read_line, write_end, quorum_write, first_write, written_again, write_line, voted, first_prepare, prepare_line, any_line, is_nothing_here, release_line, end_line, ending_line, applied, apply_line, down_line, stop_line, first_prepare_stop, prepare_stop_line}
-use Rattle.tq_txn.specs.Commits.{prepares_line, committed, decided, ready_line, decide_line, commit_end, decide_and_end_line, commit_line}
-use Rattle.tq_txn.specs.Aborts.{resolved, end_aborted, abort_end, abort_line}
+use Rattle.tq_txn.specs.Dialogue.{line_done, line_failed, and_then, node_line, fault_of_desk}
+use Rattle.tq_txn.specs.Lines.{LocksView, answers, quorum_answer, choose_line, purpose_of, lock_ask, lock_answer, lock_line, next_lock, locks_line, quorum_line, read_end, quorum_read, first_read, read_again, read_line, write_end, quorum_write, first_write, written_again, write_line, vote_answer, first_prepare, prepare_line, any_line, is_nothing_here, release_line, end_line, ending_line, apply_answer, apply_line, down_line, stop_line, first_prepare_stop, prepare_stop_line}
+use Rattle.tq_txn.specs.Commits.{prepares_line, commit_answer, txn_after_answer, ready_line, decide_line, commit_end, decide_and_end_line, commit_line}
+use Rattle.tq_txn.specs.Aborts.{txn_after_resolve, end_aborted, abort_end, abort_line}
 use Rattle.tq_txn.specs.States.{number_of}
 use Rattle.tq_interpreter.specs.PossibleTxn.{IsOfOwn, IsPossible}
 use Rattle.tq_interpreter.proofs.Replies.{IsWorkReply, IsDeskReply, IsViewReply, refuse_all, refuse_for_all, or_else_all}
@@ -65,7 +65,7 @@ use Rattle.tq_txn.proofs.GrantLaws.{none_found}
 abbrev IsChosen : ℕ → List ℕ → Unit {0} → Type 0
 IsChosen levels servers none = Contains (coterie levels) servers
 
-chosen_well : (levels : ℕ) (purpose : Purpose) (reply : ViewReply) → IsViewReply levels reply (view_asks.Choose purpose) → Answers (IsChosen levels) (chosen levels reply) tt
+chosen_well : (levels : ℕ) (purpose : Purpose) (reply : ViewReply) → IsViewReply levels reply (view_asks.Choose purpose) → Answers (IsChosen levels) (quorum_answer levels reply) tt
 chosen_well levels purpose (view_replies.Chosen quorum cost) is = rw (eq-eqb quorum.levels levels is.0) is.1
 chosen_well levels purpose (view_replies.Refused (view_refusals.Blocked blocker)) is = tt
 chosen_well levels purpose (view_replies.Refused view_refusals.NoSuchServer) is = is
@@ -75,7 +75,7 @@ chosen_well levels purpose view_replies.Marked is = absurd is
 
 choose_ends : (levels : ℕ) (purpose : Purpose) → EndsIn levels (IsWell (IsChosen levels)) (choose_line levels purpose)
 choose_ends levels purpose =
-    ends_view levels (IsChosen levels) (view_asks.Choose purpose) (λ none. none) (λ told none. answers (chosen levels told.reply) none)
+    ends_view levels (IsChosen levels) (view_asks.Choose purpose) (λ none. none) (λ told none. answers (quorum_answer levels told.reply) none)
     (λ number reply is. chosen_well levels purpose reply is)
 
 -- ---- locks
@@ -87,7 +87,7 @@ IsLock txn file mode server told =
 
 granted_well : (txn : ℕ) (file : List ℕ) (mode : Mode) (server number : ℕ) (reply : NodeReply) → IsWorkReply reply (work.Lock txn file mode)
     → let told : NodeTold = record { server = server; number = number; ask = lock_ask txn file mode; reply = reply } in
-    Answers {S = Unit {0}} (λ told none. IsLock txn file mode server told) (granted told reply) tt
+    Answers {S = Unit {0}} (λ told none. IsLock txn file mode server told) (lock_answer told reply) tt
 granted_well txn file mode server number (replies.Granted version content) is = (number, version, content, refl)
 granted_well txn file mode server number (replies.Refused refusal) is = is
 granted_well txn file mode server number (replies.Yes held writes) is = absurd is
@@ -101,7 +101,7 @@ granted_well txn file mode server number replies.Returned is = absurd is
 
 lock_ends : (levels txn : ℕ) (file : List ℕ) (mode : Mode) (server : ℕ) → EndsIn levels (IsWell (λ told none. IsLock txn file mode server told)) (lock_line txn file mode server)
 lock_ends levels txn file mode server =
-    ends_node levels (λ told none. IsLock txn file mode server told) server (lock_ask txn file mode) (λ none. none) (λ told none. answers (granted told told.reply) none)
+    ends_node levels (λ told none. IsLock txn file mode server told) server (lock_ask txn file mode) (λ none. none) (λ told none. answers (lock_answer told told.reply) none)
     (λ number reply is. granted_well txn file mode server number reply is)
 
 -- the answers are those of these servers, in their order
@@ -132,7 +132,7 @@ next_ends : (levels : ℕ) (start : OpenView) (file : List ℕ) (mode : Mode) (b
     → EndsIn levels (IsWell (λ none new. IsLocked start file mode (before ++ server ∷ []) new)) (next_lock file mode server old)
 next_ends levels start file mode before server old is =
     ends_and levels (λ told none. IsLock old.txn.txn file mode server told) (λ none new. IsLocked start file mode (before ++ server ∷ []) new)
-    (lock_line old.txn.txn file mode server) (λ none. old) (λ told none. done tt (record { answers = old.answers ++ told ∷ []; txn = touched_by old.txn server }))
+    (lock_line old.txn.txn file mode server) (λ none. old) (λ told none. line_done tt (record { answers = old.answers ++ told ∷ []; txn = touched_by old.txn server }))
     (lock_ends levels old.txn.txn file mode server)
     (λ told none lock. record {
       one = record { levels = is.one.levels; txn = is.one.txn; ops = is.one.ops };
@@ -155,10 +155,10 @@ IsQuorumTold start file mode told now = (servers : List ℕ) × Contains (coteri
 quorum_ends : (old : OpenView) (file : List ℕ) (mode : Mode) → EndsIn old.levels (IsWell (IsQuorumTold old file mode)) (quorum_line file mode old)
 quorum_ends old file mode =
     ends_and old.levels (IsChosen old.levels) (IsQuorumTold old file mode) (choose_line old.levels (purpose_of mode)) (λ none. old)
-    (λ servers none. and_then (locks_line file mode servers (record { answers = []; txn = old })) (λ new. new.txn) (λ all new. done new.answers new.txn))
+    (λ servers none. and_then (locks_line file mode servers (record { answers = []; txn = old })) (λ new. new.txn) (λ all new. line_done new.answers new.txn))
     (choose_ends old.levels (purpose_of mode))
     (λ servers none member.
-    ends_and old.levels (λ none new. IsLocked old file mode servers new) (IsQuorumTold old file mode) (locks_line file mode servers (record { answers = []; txn = old })) (λ new. new.txn) (λ all new. done new.answers new.txn)
+    ends_and old.levels (λ none new. IsLocked old file mode servers new) (IsQuorumTold old file mode) (locks_line file mode servers (record { answers = []; txn = old })) (λ new. new.txn) (λ all new. line_done new.answers new.txn)
     (locks_ends old.levels old file mode servers [] servers (record { answers = []; txn = old }) refl (record { one = record { levels = refl; txn = refl; ops = refl }; locks = tt }))
     (λ none new locked. (servers, member, locked)))
 
@@ -217,26 +217,26 @@ unused (op ∷ ops) file w r =
 read_ends : (levels : ℕ) (file : List ℕ) (told : List NodeTold) (old now : OpenView) → IsQuorumTold old file Shared told now → is_used old.ops file ≡ false → EndsIn levels (IsWell Any) (read_end file told now)
 read_ends levels file told old now is free =
     let used : is_used now.ops file ≡ false = ap (λ (ops : List Op). is_used ops file) is.2.one.ops ∙ free in
-    ends_unless levels Any (read_fault now file told) now (done (Copy (read_copy (grants_of kinds.Read now.txn file told))) (read_after now file told))
+    ends_unless levels Any (read_fault now file told) now (line_done (Copy (read_copy (grants_of kinds.Read now.txn file told))) (read_after now file told))
     (rw used (grants_well kinds.Read Shared refl old now file told is)) tt
 
-free_of : (old : OpenView) (file : List ℕ) → pending old file ≡ None → seen old file ≡ None → is_used old.ops file ≡ false
+free_of : (old : OpenView) (file : List ℕ) → pending_content old file ≡ None → op_read old file ≡ None → is_used old.ops file ≡ false
 free_of old file unwritten unread =
-    unused old.ops file (none_found (writes_file file) old.ops (map-none (λ (op : Op). op.content) (written old file) unwritten)) (none_found (is_read_of file) old.ops unread)
+    unused old.ops file (none_found (writes_file file) old.ops (map-none (λ (op : Op). op.content) (op_written old file) unwritten)) (none_found (is_read_of file) old.ops unread)
 
 first_read_ends : (old : OpenView) (file : List ℕ) → is_used old.ops file ≡ false → EndsIn old.levels (IsWell Any) (first_read old file)
 first_read_ends old file free = by (has_all_ops old)
   where
-    by : (all : Bool) → EndsIn old.levels (IsWell Any) (cond all (failed (faults.Txn txn_faults.TooManyOps) old) (quorum_read old file))
+    by : (all : Bool) → EndsIn old.levels (IsWell Any) (cond all (line_failed (faults.Txn txn_faults.TooManyOps) old) (quorum_read old file))
     by true = tt
     by false =
         ends_and old.levels (IsQuorumTold old file Shared) Any (quorum_line file Shared old) (λ new. new) (λ told new. read_end file told new)
         (quorum_ends old file Shared) (λ told now is. read_ends old.levels file told old now is free)
 
 pub read_well : (old : OpenView) (file : List ℕ) → EndsIn old.levels (IsWell Any) (read_line old file)
-read_well old file = by (pending old file) (seen old file) refl refl
+read_well old file = by (pending_content old file) (op_read old file) refl refl
   where
-    by : (content : Option (List ℕ)) (op : Option Op) → pending old file ≡ content → seen old file ≡ op → EndsIn old.levels (IsWell Any) (read_again content op old (first_read old file))
+    by : (content : Option (List ℕ)) (op : Option Op) → pending_content old file ≡ content → op_read old file ≡ op → EndsIn old.levels (IsWell Any) (read_again content op old (first_read old file))
     by (Some content) op p q = tt
     by None (Some op) p q = tt
     by None None p q = first_read_ends old file (free_of old file p q)
@@ -245,22 +245,22 @@ write_ends : (levels : ℕ) (file content : List ℕ) (told : List NodeTold) (ol
 write_ends levels file content told old now is free =
     let used : is_written now.ops file ≡ false = ap (λ (ops : List Op). is_written ops file) is.2.one.ops ∙ free in
     let most = greatest (grants_of kinds.Write now.txn file told) in
-    ends_unless levels Any (write_fault now file told) now (done (most + 1) (write_after now file content told))
+    ends_unless levels Any (write_fault now file told) now (line_done (most + 1) (write_after now file content told))
     (rw used (or_else_all IsOfOwn (grants_fault kinds.Write now file told) (refuse (is_full most) txn_faults.VersionFull None) (grants_well kinds.Write Exclusive refl old now file told is) (refuse_all IsOfOwn (is_full most) txn_faults.VersionFull None tt tt))) tt
 
 first_write_ends : (old : OpenView) (file content : List ℕ) → is_written old.ops file ≡ false → EndsIn old.levels (IsWell Any) (first_write old file content)
 first_write_ends old file content free = by (has_all_ops old)
   where
-    by : (all : Bool) → EndsIn old.levels (IsWell Any) (cond all (failed (faults.Txn txn_faults.TooManyOps) old) (quorum_write old file content))
+    by : (all : Bool) → EndsIn old.levels (IsWell Any) (cond all (line_failed (faults.Txn txn_faults.TooManyOps) old) (quorum_write old file content))
     by true = tt
     by false =
         ends_and old.levels (IsQuorumTold old file Exclusive) Any (quorum_line file Exclusive old) (λ new. new) (λ told new. write_end file content told new)
         (quorum_ends old file Exclusive) (λ told now is. write_ends old.levels file content told old now is free)
 
 pub write_well : (old : OpenView) (file content : List ℕ) → EndsIn old.levels (IsWell Any) (write_line old file content)
-write_well old file content = by (written old file) refl
+write_well old file content = by (op_written old file) refl
   where
-    by : (op : Option Op) → written old file ≡ op → EndsIn old.levels (IsWell Any) (written_again op (rewritten old file content) (first_write old file content))
+    by : (op : Option Op) → op_written old file ≡ op → EndsIn old.levels (IsWell Any) (written_again op (txn_after_rewrite old file content) (first_write old file content))
     by (Some op) p = tt
     by None p = first_write_ends old file content (none_found (writes_file file) old.ops p)
 
@@ -274,7 +274,7 @@ same_writes (op ∷ ops) =
 
 -- a vote that has the writes that were asked for
 vote_well : (old : VotingView) (server number : ℕ) (reply : NodeReply) → IsWorkReply reply (work.Prepare old.txn.txn (writes_at old.txn.ops server)) → (levels : ℕ)
-    → EndsIn levels (IsWell Any) (voted old (record { server = server; number = number; ask = prepare_ask old.txn server; reply = reply }))
+    → EndsIn levels (IsWell Any) (vote_answer old (record { server = server; number = number; ask = prepare_ask old.txn server; reply = reply }))
 vote_well old server number (replies.Refused refusal) is levels = is
 vote_well old server number (replies.Yes held writes) is levels =
     let told : NodeTold = record { server = server; number = number; ask = prepare_ask old.txn server; reply = replies.Yes held writes } in
@@ -283,9 +283,9 @@ vote_well old server number (replies.Yes held writes) is levels =
     let asked : has_writes (writes_in old.txn.ops) vote ≡ true =
     ap (λ (ws : List Write). pointwise is_write_of ws (filter (λ op. has_server op server) (writes_in old.txn.ops))) is
     ∙ same_writes (filter (λ op. has_server op server) (writes_in old.txn.ops)) in
-    ends_unless levels Any (vote_fault old told) old (done tt (vote_after old told))
+    ends_unless levels Any (vote_fault old told) old (line_done tt (vote_after old told))
     (refuse_all IsOfOwn (not (is_server_of old.txn.ops server)) txn_faults.NotAVoter (vote_refusal old.txn.ops (vote_of old.txn.txn told)) tt
-    (rw (mine, asked) (refuse_for_all IsOfOwn (lost old.txn.ops vote) txn_faults.LostLock None (λ file. tt) tt))) tt
+    (rw (mine, asked) (refuse_for_all IsOfOwn (lost_file old.txn.ops vote) txn_faults.LostLock None (λ file. tt) tt))) tt
 vote_well old server number (replies.Granted version content) is levels = absurd is
 vote_well old server number replies.Installed is levels = absurd is
 vote_well old server number replies.Discarded is levels = absurd is
@@ -300,11 +300,11 @@ prepare_well levels old server = by (has_vote old.votes server)
   where
     first : EndsIn levels (IsWell Any) (first_prepare old server)
     first =
-        ends_unless levels Any (ask_fault old.txn server) old (and_then (node_line server (prepare_ask old.txn server)) (λ none. old) (λ told none. voted old told))
+        ends_unless levels Any (ask_fault old.txn server) old (and_then (node_line server (prepare_ask old.txn server)) (λ none. old) (λ told none. vote_answer old told))
         (refuse_all IsOfOwn (not (is_server_of old.txn.ops server)) txn_faults.NotAVoter None tt tt)
-        (ends_node levels Any server (prepare_ask old.txn server) (λ none. old) (λ told none. voted old told) (λ number reply is. vote_well old server number reply is levels))
+        (ends_node levels Any server (prepare_ask old.txn server) (λ none. old) (λ told none. vote_answer old told) (λ number reply is. vote_well old server number reply is levels))
 
-    by : (there : Bool) → EndsIn levels (IsWell Any) (cond there (done tt old) (first_prepare old server))
+    by : (there : Bool) → EndsIn levels (IsWell Any) (cond there (line_done tt old) (first_prepare old server))
     by true = tt
     by false = first
 
@@ -312,7 +312,7 @@ prepare_well levels old server = by (has_vote old.votes server)
 
 release_ends : (levels txn server : ℕ) (nothing : Bool) → EndsIn levels (IsWell Any) (release_line txn server nothing)
 release_ends levels txn server true =
-    ends_and {B = Unit {0}} {T = Unit {0}} levels Any Any (any_line server (asks.Work (work.Release txn))) (λ none. none) (λ reply none. done tt none) (any_ends levels server (asks.Work (work.Release txn))) (λ reply none so. tt)
+    ends_and {B = Unit {0}} {T = Unit {0}} levels Any Any (any_line server (asks.Work (work.Release txn))) (λ none. none) (λ reply none. line_done tt none) (any_ends levels server (asks.Work (work.Release txn))) (λ reply none so. tt)
 release_ends levels txn server false = tt
 
 end_ends : (levels : ℕ) (old : EndedView) (server : ℕ) → EndsIn levels (IsWell Any) (end_line old server)
@@ -331,7 +331,7 @@ desk_possible : (refusal : DeskRefusal) → IsPossible (fault_of_desk refusal)
 desk_possible (desk_refusals.Decided verdict) = tt
 desk_possible refusal = tt
 
-committed_well : (reply : DeskReply) (txn : ℕ) (ops : List Op) (votes : List Vote) (after : Txn) → IsDeskReply reply (desk_asks.Commit txn ops votes) → Answers Any (committed reply) after
+committed_well : (reply : DeskReply) (txn : ℕ) (ops : List Op) (votes : List Vote) (after : Txn) → IsDeskReply reply (desk_asks.Commit txn ops votes) → Answers Any (commit_answer reply) after
 committed_well (desk_replies.Committed serial) txn ops votes after is = tt
 committed_well (desk_replies.Refused refusal) txn ops votes after is = desk_possible refusal
 committed_well (desk_replies.Txn number) txn ops votes after is = absurd is
@@ -340,15 +340,15 @@ committed_well (desk_replies.Verdict verdict) txn ops votes after is = absurd is
 pub decide_well : (levels : ℕ) (old : VotingView) → EndsIn levels (IsWell Any) (decide_line old)
 decide_well levels old = by (has_votes old)
   where
-    by : (all : Bool) → EndsIn levels (IsWell Any) (cond all (ready_line old) (failed (faults.Txn txn_faults.VotesMissing) (states.Voting old)))
+    by : (all : Bool) → EndsIn levels (IsWell Any) (cond all (ready_line old) (line_failed (faults.Txn txn_faults.VotesMissing) (states.Voting old)))
     by true =
-        ends_desk levels Any (evidence_of old) (λ none. states.Voting old) (λ told none. answers (committed told.reply) (decided old told))
-        (λ number reply is. committed_well reply old.txn.txn old.txn.ops old.votes (decided old (record { number = number; ask = evidence_of old; reply = reply })) is)
+        ends_desk levels Any (evidence_of old) (λ none. states.Voting old) (λ told none. answers (commit_answer told.reply) (txn_after_answer old told))
+        (λ number reply is. committed_well reply old.txn.txn old.txn.ops old.votes (txn_after_answer old (record { number = number; ask = evidence_of old; reply = reply })) is)
     by false = tt
 
 commit_ends : (levels serial : ℕ) (txn : Txn) → EndsIn levels (IsWell Any) (commit_end serial txn)
 commit_ends levels serial (states.Ended ended) =
-    ends_and levels Any Any (ending_line ended ended.servers) (λ none. states.Ended ended) (λ all none. done serial (states.Ended ended)) (ending_ends levels ended ended.servers) (λ all none so. tt)
+    ends_and levels Any Any (ending_line ended ended.servers) (λ none. states.Ended ended) (λ all none. line_done serial (states.Ended ended)) (ending_ends levels ended ended.servers) (λ all none so. tt)
 commit_ends levels serial (states.Open open_txn) = tt
 commit_ends levels serial (states.Voting voting) = tt
 
@@ -367,7 +367,7 @@ commit_well levels old =
 
 ended_by_abort : (levels : ℕ) (txn : Txn) → EndsIn levels (IsWell Any) (end_aborted (desk_replies.Verdict verdicts.Abort) txn)
 ended_by_abort levels (states.Ended ended) =
-    ends_and levels Any Any (ending_line ended ended.servers) (λ none. states.Ended ended) (λ all none. done tt (states.Ended ended)) (ending_ends levels ended ended.servers) (λ all none so. tt)
+    ends_and levels Any Any (ending_line ended ended.servers) (λ none. states.Ended ended) (λ all none. line_done tt (states.Ended ended)) (ending_ends levels ended ended.servers) (λ all none so. tt)
 ended_by_abort levels (states.Open open_txn) = tt
 ended_by_abort levels (states.Voting voting) = tt
 
@@ -380,12 +380,12 @@ abort_ends levels number (desk_replies.Committed serial) txn is = absurd is
 
 pub abort_well : (levels : ℕ) (old : Txn) → EndsIn levels (IsWell Any) (abort_line old)
 abort_well levels old =
-    ends_desk levels Any (desk_asks.Resolve (number_of old)) (λ none. old) (λ told none. abort_end told.reply (resolved old told))
-    (λ number reply is. abort_ends levels (number_of old) reply (resolved old (record { number = number; ask = desk_asks.Resolve (number_of old); reply = reply })) is)
+    ends_desk levels Any (desk_asks.Resolve (number_of old)) (λ none. old) (λ told none. abort_end told.reply (txn_after_resolve old told))
+    (λ number reply is. abort_ends levels (number_of old) reply (txn_after_resolve old (record { number = number; ask = desk_asks.Resolve (number_of old); reply = reply })) is)
 
 -- ---- apply
 
-applied_well : (server txn : ℕ) (verdict : Verdict) (cite : ℕ) (reply : NodeReply) → IsWorkReply reply (work.Decide txn verdict cite) → Answers {S = Unit {0}} Any (applied server reply) tt
+applied_well : (server txn : ℕ) (verdict : Verdict) (cite : ℕ) (reply : NodeReply) → IsWorkReply reply (work.Decide txn verdict cite) → Answers {S = Unit {0}} Any (apply_answer server reply) tt
 applied_well server txn verdict cite replies.Installed is = tt
 applied_well server txn verdict cite replies.Discarded is = tt
 applied_well server txn verdict cite (replies.Refused refusal) is = is
@@ -399,13 +399,13 @@ applied_well server txn verdict cite replies.Returned is = absurd is
 
 pub apply_well : (levels txn : ℕ) (verdict : Verdict) (cite server : ℕ) → EndsIn levels (IsWell Any) (apply_line txn verdict cite server)
 apply_well levels txn verdict cite server =
-    ends_node levels Any server (asks.Work (work.Decide txn verdict cite)) (λ none. none) (λ told none. answers (applied told.server told.reply) none)
+    ends_node levels Any server (asks.Work (work.Decide txn verdict cite)) (λ none. none) (λ told none. answers (apply_answer told.server told.reply) none)
     (λ number reply is. applied_well server txn verdict cite reply is)
 
 -- ---- a stop in the midst of an ask
 
 down_ends : (levels server : ℕ) → EndsIn levels (IsWell Any) (down_line server)
-down_ends levels server = ends_view {B = Unit {0}} {T = Unit {0}} levels Any (view_asks.Mark server false) (λ none. none) (λ told none. done tt none) (λ number reply is. tt)
+down_ends levels server = ends_view {B = Unit {0}} {T = Unit {0}} levels Any (view_asks.Mark server false) (λ none. none) (λ told none. line_done tt none) (λ number reply is. tt)
 
 pub stop_well : (levels server : ℕ) (ask : WorkAsk) (after : ℕ) → EndsIn levels (IsWell Any) (stop_line server ask after)
 stop_well levels server ask after =
@@ -417,11 +417,11 @@ prepare_stop_well levels old server after = by (has_vote old.votes server)
   where
     first : EndsIn levels (IsWell Any) (first_prepare_stop old server after)
     first =
-        ends_unless levels Any (ask_fault old.txn server) old (and_then (stop_line server (prepare_work old.txn server) after) (λ none. old) (λ all none. done false old))
+        ends_unless levels Any (ask_fault old.txn server) old (and_then (stop_line server (prepare_work old.txn server) after) (λ none. old) (λ all none. line_done false old))
         (refuse_all IsOfOwn (not (is_server_of old.txn.ops server)) txn_faults.NotAVoter None tt tt)
-        (ends_and levels Any Any (stop_line server (prepare_work old.txn server) after) (λ none. old) (λ all none. done false old)
+        (ends_and levels Any Any (stop_line server (prepare_work old.txn server) after) (λ none. old) (λ all none. line_done false old)
         (stop_well levels server (prepare_work old.txn server) after) (λ all none so. tt))
 
-    by : (there : Bool) → EndsIn levels (IsWell Any) (cond there (done true old) (first_prepare_stop old server after))
+    by : (there : Bool) → EndsIn levels (IsWell Any) (cond there (line_done true old) (first_prepare_stop old server after))
     by true = tt
     by false = first

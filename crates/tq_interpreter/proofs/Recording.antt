@@ -16,7 +16,7 @@ use Rattle.tq_world.specs.declared.answer.Step.TheVariants as steps
 use Rattle.tq_world.specs.declared.citation.Citation.{Citation}
 use Rattle.tq_world.specs.Founded.{unfounded_in_node_ask, unfounded_in_desk_ask}
 use Rattle.tq_world.specs.World.{item_at, empty_world}
-use Rattle.tq_world.specs.Steps.{IsTold, told_at, refuse_unfounded, refuse_entry, refuse_at, refusal, answer, grown, server_journal, node_entry, desk_entry, view_entry, world_after}
+use Rattle.tq_world.specs.Steps.{IsTold, told_at, refuse_unfounded, refuse_entry, refuse_at, refusal, answer, world_with_step, server_journal, node_entry, desk_entry, view_entry, world_after}
 use Rattle.tq_shape.specs.Steps.{state_at}
 use Rattle.tq_shape.specs.declared.part.Part.{Part}
 use Rattle.tq_shape.specs.declared.part.Part.TheVariants as parts
@@ -35,7 +35,7 @@ use Rattle.tq_interpreter.proofs.Leading.{replays_push}
 
 -- ---- the tree stays
 
-levels_grown : (world : JournalsView) (step : Step) → (grown world step).levels ≡ world.levels
+levels_grown : (world : JournalsView) (step : Step) → (world_with_step world step).levels ≡ world.levels
 levels_grown world (steps.Node server ask) = refl
 levels_grown world (steps.Desk ask) = refl
 levels_grown world (steps.View ask) = refl
@@ -43,7 +43,7 @@ levels_grown world (steps.View ask) = refl
 pub levels_after : (world : JournalsView) (step : Step) → (world_after world step).levels ≡ world.levels
 levels_after world step = by (refusal world step)
   where
-    by : (r : Option Refusal) → (state_at r world (grown world step)).levels ≡ world.levels
+    by : (r : Option Refusal) → (state_at r world (world_with_step world step)).levels ≡ world.levels
     by None = levels_grown world step
     by (Some reason) = refl
 
@@ -133,7 +133,7 @@ module _ (old new : JournalsView) (told : List Exchange) (kept : IsReplayed (rec
   -- an ask that was not taken
   refused : (step : Step) (fault : AskFault) (h : Exchange) → step_of h ≡ step → refusal old step ≡ Some (refusal_of fault) → Matches old h → new ≡ old → IsAsked old new (told ++ h ∷ [])
   refused step fault h steps_are refuses matches same =
-      asked h (same ∙ sym (ap (λ (r : Option Refusal). state_at r old (grown old step)) refuses) ∙ ap (λ (s : Step). world_after old s) (sym steps_are)) matches
+      asked h (same ∙ sym (ap (λ (r : Option Refusal). state_at r old (world_with_step old step)) refuses) ∙ ap (λ (s : Step). world_after old s) (sym steps_are)) matches
 
   unasked : (step : Step) (fault : AskFault) (h : Exchange) → step_of h ≡ step → (step_refusal old step ≡ Some fault → Matches old h) → IsTold old step (Err (refusal_of fault)) → new ≡ old
       → IsAsked old new (told ++ unless_memory fault h)

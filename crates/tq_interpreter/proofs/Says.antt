@@ -12,8 +12,8 @@ use Rattle.tq_asks.specs.declared.ask.WorkAsk.TheVariants.{Decide}
 use Rattle.tq_txn_states.specs.declared.fault.TxnFault.{TxnFault}
 use Rattle.tq_txn_states.specs.declared.fault.TxnFault.TheVariants as txn_faults
 use Rattle.tq_txn_states.specs.declared.told.DeskTold.{DeskTold}
-use Rattle.tq_txn_states.specs.Open.{OpenView, seen, written, close_fault}
-use Rattle.tq_txn_states.specs.Voting.{VotingView, closed}
+use Rattle.tq_txn_states.specs.Open.{OpenView, op_read, op_written, close_fault}
+use Rattle.tq_txn_states.specs.Voting.{VotingView, voting_of}
 use Rattle.tq_txn.specs.declared.fault.LineFault.{LineFault}
 use Rattle.tq_txn.specs.declared.fault.LineFault.TheVariants as faults
 use Rattle.tq_txn.specs.declared.txn.Txn.{Txn}
@@ -58,13 +58,13 @@ open_says levels number kept (states.Open old) next same step = step old same
 open_says levels number kept (states.Voting old) next same step = (Closed number, tt, refl)
 open_says levels number kept (states.Ended old) next same step = (Fails [] (faults.Desk (Decided old.verdict)), tt, refl)
 
-closing_says : (levels : ℕ) (kept : TxnSlot) (old : OpenView) (fault : Option TxnFault) (next : VotingView → Dialogue TxnAnswer) → IfSome fault IsOfOwn → EndsIn levels Says (next (closed old)) → EndsIn levels Says (closing kept old fault next)
+closing_says : (levels : ℕ) (kept : TxnSlot) (old : OpenView) (fault : Option TxnFault) (next : VotingView → Dialogue TxnAnswer) → IfSome fault IsOfOwn → EndsIn levels Says (next (voting_of old)) → EndsIn levels Says (closing kept old fault next)
 closing_says levels kept old None next own is = is
 closing_says levels kept old (Some fault) next own is = (Fails [] (faults.Txn fault), own, refl)
 
 voting_says : (levels : ℕ) (kept : TxnSlot) (txn : Txn) (next : VotingView → Dialogue TxnAnswer) → ((old : VotingView) → EndsIn levels Says (next old)) → EndsIn levels Says (voting_in kept txn next)
 voting_says levels kept (states.Open old) next step =
-    closing_says levels kept old (close_fault old) next (refuse_all IsOfOwn (is_empty old.ops) txn_faults.NoOps None tt tt) (step (closed old))
+    closing_says levels kept old (close_fault old) next (refuse_all IsOfOwn (is_empty old.ops) txn_faults.NoOps None tt tt) (step (voting_of old))
 voting_says levels kept (states.Voting old) next step = step old
 voting_says levels kept (states.Ended old) next step = (Fails [] (faults.Desk (Decided old.verdict)), tt, refl)
 
@@ -73,12 +73,12 @@ voting_says levels kept (states.Ended old) next step = (Fails [] (faults.Desk (D
 read_says : (levels : ℕ) (file : List ℕ) (kept : TxnSlot) (old : OpenView) → old.levels ≡ levels → EndsIn levels Says (read_open kept file old)
 read_says levels file kept old same =
     answered_says levels Any (read_line old file) (λ new. in_state kept (states.Open new)) no_servers (read_text file)
-    (subst (λ (l : ℕ). EndsIn l (IsWell Any) (read_line old file)) same (read_well old file)) (λ reading new any. (Reads file (seen new file) reading, tt, refl))
+    (subst (λ (l : ℕ). EndsIn l (IsWell Any) (read_line old file)) same (read_well old file)) (λ reading new any. (Reads file (op_read new file) reading, tt, refl))
 
 write_says : (levels : ℕ) (file content : List ℕ) (kept : TxnSlot) (old : OpenView) → old.levels ≡ levels → EndsIn levels Says (write_open kept file content old)
 write_says levels file content kept old same =
     answered_says levels Any (write_line old file content) (λ new. in_state kept (states.Open new)) no_servers (written_text file)
-    (subst (λ (l : ℕ). EndsIn l (IsWell Any) (write_line old file content)) same (write_well old file content)) (λ version new any. (Writes file (written new file) version, tt, refl))
+    (subst (λ (l : ℕ). EndsIn l (IsWell Any) (write_line old file content)) same (write_well old file content)) (λ version new any. (Writes file (op_written new file) version, tt, refl))
 
 stopped_says : (server : ℕ) (new : VotingView) (there : Bool) → IsSayable (stopped_text server new there)
 stopped_says server new true = (Votes server, tt, refl)

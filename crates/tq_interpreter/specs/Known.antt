@@ -31,7 +31,7 @@ AreOfTree levels txns = All (λ kept. levels_of kept.txn ≡ levels) txns
 
 -- a transaction that did nothing yet, and of which no verdict was told
 abbrev pub fresh : ℕ → LimitsView → ℕ → TxnSlot
-fresh levels limits number = record { txn = states.Open (first.opening levels limits number); told = None }
+fresh levels limits number = record { txn = states.Open (first.opening_txn levels limits number); told = None }
 
 abbrev pub with_begun : Known → ℕ → Known
 with_begun known number = record { levels = known.levels; limits = known.limits; txns = known.txns ++ fresh known.levels known.limits number ∷ [] }

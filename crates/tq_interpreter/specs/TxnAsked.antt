@@ -19,8 +19,8 @@ use Rattle.tq_txn.specs.Dialogue.{LineEnd, Ends, then_line, desk_line}
 use Rattle.tq_txn.specs.Lines as lines
 use Rattle.tq_txn.specs.Commits.{decide_line, commit_line}
 use Rattle.tq_txn.specs.Aborts.{abort_line}
-use Rattle.tq_txn_states.specs.Open.{OpenView, seen, written}
-use Rattle.tq_txn_states.specs.Voting.{VotingView, closed, has_vote}
+use Rattle.tq_txn_states.specs.Open.{OpenView, op_read, op_written}
+use Rattle.tq_txn_states.specs.Voting.{VotingView, voting_of, has_vote}
 use Rattle.tq_txn_states.specs.Open.{close_fault}
 use Rattle.tq_txn_states.specs.declared.fault.TxnFault.{TxnFault}
 use Rattle.tq_interpreter.specs.declared.txn_slot.TxnSlot.{TxnSlot}
@@ -77,7 +77,7 @@ open_in number kept (states.Voting old) next = txn_said kept (codes "voting " ++
 open_in number kept (states.Ended old) next = txn_said kept (decided_text old.verdict)
 
 abbrev pub closing : TxnSlot → OpenView → Option TxnFault → (VotingView → asks.Dialogue TxnAnswer) → asks.Dialogue TxnAnswer
-closing kept old None next = next (closed old)
+closing kept old None next = next (voting_of old)
 closing kept old (Some fault) next = txn_said kept (txn_fault_text [] fault)
 
 -- one that gathers votes may be open still, if it has an operation
@@ -97,10 +97,10 @@ missing_in txn = []
 -- ---- the lines of a transaction
 
 abbrev pub read_text : List ℕ → OpenView → ReadAnswer → List ℕ
-read_text file new reading = reading_text file (seen new file) reading
+read_text file new reading = reading_text file (op_read new file) reading
 
 abbrev pub written_text : List ℕ → OpenView → ℕ → List ℕ
-written_text file new version = writing_text file (written new file) version
+written_text file new version = writing_text file (op_written new file) version
 
 abbrev pub read_open : TxnSlot → List ℕ → OpenView → asks.Dialogue TxnAnswer
 read_open kept file old = answer_line (lines.read_line old file) (λ new. in_state kept (states.Open new)) no_servers (read_text file)

@@ -115,7 +115,7 @@ fn say_written(
     ensures kept { OnErr result (Extends text.old.items text.new.items) }
 {
     match answer {
-        Ok(version) => say_writing(text, file, writer.written(file), version)?,
+        Ok(version) => say_writing(text, file, writer.op_written(file), version)?,
         Err(fault) => say_fault(text, &[], fault)?,
     }
     Ok(())

@@ -15,7 +15,7 @@ use Rattle.json.proofs.Grammar.{left-parse_map}
 use Rattle.serde_json.specs.Data.{Data, array, object, Members, no_members, item, put}
 use Rattle.serde_json.specs.Read.{of_json, of_members, converted}
 use Rattle.tq_json.specs.Next.{next, next_items, next_members}
-use Rattle.tq_json.specs.Behind.{behind, closed, opened, Begins, Ends, GoesOn, Fails}
+use Rattle.tq_json.specs.Behind.{behind, tokens_behind, tokens_behind_next, Begins, Ends, GoesOn, Fails}
 use Rattle.tq_json.proofs.Nexts.{next-too_deep-array, next-too_deep-object, next-begin_array, next-begin_object}
 use Rattle.tq_json.proofs.Turns.{items_go, items_stop, items_end, members_go, members_stop, members_no_key_left, members_end}
 
@@ -43,14 +43,14 @@ array_ends ts r e = λ depth. ap behind (items_end depth ts r e)
 object_ends : (ts r : List Token) → read_key ts ≡ Some (None, r) → Ends true ts r
 object_ends ts r e = λ depth. ap behind (members_end no_members depth ts r e)
 
-by_item : (depth : ℕ) (ts : List Token) (o : Option (Data × List Token)) → after_end_array ts ≡ None → next depth ts ≡ o → closed false depth ts ≡ option_and_then (closed false depth) (behind o)
+by_item : (depth : ℕ) (ts : List Token) (o : Option (Data × List Token)) → after_end_array ts ≡ None → next depth ts ≡ o → tokens_behind false depth ts ≡ option_and_then (tokens_behind false depth) (behind o)
 by_item depth ts None going e = ap behind (items_stop depth ts going e)
 by_item depth ts (Some (d, r)) going e = ap behind (items_go depth ts r d going e) ∙ left-parse_map (item d) (next_items depth r)
 
 array_goes_on : (ts : List Token) → after_end_array ts ≡ None → GoesOn false ts ts
 array_goes_on ts going = λ depth. by_item depth ts (next depth ts) going refl
 
-by_member : (depth : ℕ) (k : List ℕ) (ts s : List Token) (o : Option (Data × List Token)) → read_key ts ≡ Some (Some k, s) → next depth s ≡ o → closed true depth ts ≡ option_and_then (closed true depth) (behind o)
+by_member : (depth : ℕ) (k : List ℕ) (ts s : List Token) (o : Option (Data × List Token)) → read_key ts ≡ Some (Some k, s) → next depth s ≡ o → tokens_behind true depth ts ≡ option_and_then (tokens_behind true depth) (behind o)
 by_member depth k ts s None key e = ap behind (members_stop no_members depth k ts s key e)
 by_member depth k ts s (Some (d, r)) key e =
     ap behind (members_go no_members depth k ts s r d key e) ∙ any_read (members (value depth) (length r) r) (put k d no_members) no_members
@@ -86,9 +86,9 @@ object_begins (suc depth) ts =
     let same : suc depth - 1 ≡ depth = omega arith in
     ap behind (next-begin_object (suc depth) ts (omega arith)) ∙ left-parse_map object (next_members (suc depth - 1) ts) ∙ ap (λ d. behind (next_members d ts)) same
 
-opened_at : (kind : Bool) (depth : ℕ) (ts : List Token) → 0 < depth → opened kind depth ts ≡ closed kind (depth - 1) ts
+opened_at : (kind : Bool) (depth : ℕ) (ts : List Token) → 0 < depth → tokens_behind_next kind depth ts ≡ tokens_behind kind (depth - 1) ts
 opened_at kind zero ts h = let never : ⊥ = omega arith in absurd never
-opened_at kind (suc depth) ts h = let same : depth ≡ suc depth - 1 = omega arith in ap (λ d. closed kind d ts) same
+opened_at kind (suc depth) ts h = let same : depth ≡ suc depth - 1 = omega arith in ap (λ d. tokens_behind kind d ts) same
 
 pub alone : (t : Token) (kind : Option Bool) → Begins t kind → ((b : Bool) → kind ≡ Some b → ⊥) → Begins t None
 alone t None begins never = begins
@@ -99,7 +99,7 @@ alone t (Some kind) begins never = absurd (never kind refl)
 -- the tokens behind all of them, the innermost first, where the outermost has that depth inside
 abbrev pub all_closed : ℕ → List Bool → List Token → Option (List Token)
 all_closed depth [] ts = Some ts
-all_closed depth (kind ∷ kinds) ts = option_and_then (all_closed depth kinds) (closed kind (depth - length kinds) ts)
+all_closed depth (kind ∷ kinds) ts = option_and_then (all_closed depth kinds) (tokens_behind kind (depth - length kinds) ts)
 
 -- the number has the kinds of all that are open, so many of them inside of the outermost, which ends where they do
 abbrev pub AreOpen : Option (List Token) → ℕ → ℕ → ℕ → List Token → Type 0
@@ -141,11 +141,11 @@ module _ (whole : Option (List Token)) (depth number inside : ℕ) (ts : List To
   lowest_bit = ap (λ n. n % 2 == 1) are.2 ∙ lowest are.0 (mask_l are.1)
 
   -- what stands behind all, by what stands behind the innermost
-  then_others : (o : Option (List Token)) → closed are.0 (depth - inside) ts ≡ o → whole ≡ option_and_then (all_closed depth are.1) o
+  then_others : (o : Option (List Token)) → tokens_behind are.0 (depth - inside) ts ≡ o → whole ≡ option_and_then (all_closed depth are.1) o
   then_others o e =
-      are.5 ∙ ap (λ n. option_and_then (all_closed depth are.1) (closed are.0 (depth - n) ts)) (sym are.3) ∙ ap (option_and_then (all_closed depth are.1)) e
+      are.5 ∙ ap (λ n. option_and_then (all_closed depth are.1) (tokens_behind are.0 (depth - n) ts)) (sym are.3) ∙ ap (option_and_then (all_closed depth are.1)) e
 
-  pub refused : closed are.0 (depth - inside) ts ≡ None → whole ≡ None
+  pub refused : tokens_behind are.0 (depth - inside) ts ≡ None → whole ≡ None
   refused e = then_others None e
 
   module _ (r : List Token) where
@@ -163,25 +163,25 @@ module _ (whole : Option (List Token)) (depth number inside : ℕ) (ts : List To
     innermost_ends some ends = one_less whole depth number inside are.0 are.1 r are.2 are.3 are.4 some (then_others (Some r) (ends (depth - inside)))
 
     pub value_refused : GoesOn are.0 ts r → next (depth - inside) r ≡ None → whole ≡ None
-    value_refused goes e = refused (goes (depth - inside) ∙ ap (λ o. option_and_then (closed are.0 (depth - inside)) (behind o)) e)
+    value_refused goes e = refused (goes (depth - inside) ∙ ap (λ o. option_and_then (tokens_behind are.0 (depth - inside)) (behind o)) e)
 
     at_value : (o : Option (List Token)) → GoesOn are.0 ts r → behind (next (depth - inside) r) ≡ o
-        → whole ≡ option_and_then (λ s. option_and_then (all_closed depth are.1) (closed are.0 (depth - length are.1) s)) o
+        → whole ≡ option_and_then (λ s. option_and_then (all_closed depth are.1) (tokens_behind are.0 (depth - length are.1) s)) o
     at_value o goes e =
-        then_others (option_and_then (closed are.0 (depth - inside)) o) (goes (depth - inside) ∙ ap (option_and_then (closed are.0 (depth - inside))) e)
-        ∙ ap (λ n. option_and_then (all_closed depth are.1) (option_and_then (closed are.0 (depth - n)) o)) are.3
-        ∙ in_turn (all_closed depth are.1) (closed are.0 (depth - length are.1)) o
+        then_others (option_and_then (tokens_behind are.0 (depth - inside)) o) (goes (depth - inside) ∙ ap (option_and_then (tokens_behind are.0 (depth - inside))) e)
+        ∙ ap (λ n. option_and_then (all_closed depth are.1) (option_and_then (tokens_behind are.0 (depth - n)) o)) are.3
+        ∙ in_turn (all_closed depth are.1) (tokens_behind are.0 (depth - length are.1)) o
 
     pub value_passed : (s : List Token) → GoesOn are.0 ts r → behind (next (depth - inside) r) ≡ Some s → AreOpen whole depth number inside s
     value_passed s goes e = (are.0, are.1, are.2, are.3, are.4, at_value (Some s) goes e)
 
-    pub one_more : (kind : Bool) (bit : ℕ) (s : List Token) → bit ≡ bool_byte kind → GoesOn are.0 ts r → behind (next (depth - inside) r) ≡ opened kind (depth - inside) s → inside < depth
+    pub one_more : (kind : Bool) (bit : ℕ) (s : List Token) → bit ≡ bool_byte kind → GoesOn are.0 ts r → behind (next (depth - inside) r) ≡ tokens_behind_next kind (depth - inside) s → inside < depth
         → AreOpen whole depth (number * 2 + bit) (inside + 1) s
     one_more kind bit s lowest goes e less =
         let same : depth - inside - 1 ≡ depth - length (are.0 ∷ are.1) = omega (arith, are.3, less) in
-        let is : opened kind (depth - inside) s ≡ closed kind (depth - length (are.0 ∷ are.1)) s =
-        opened_at kind (depth - inside) s (omega (arith, less)) ∙ ap (λ d. closed kind d s) same in
-        (kind, are.0 ∷ are.1, omega (arith, are.2, lowest, its_bit kind), omega (arith, are.3), omega (arith, less), at_value (closed kind (depth - length (are.0 ∷ are.1)) s) goes (e ∙ is))
+        let is : tokens_behind_next kind (depth - inside) s ≡ tokens_behind kind (depth - length (are.0 ∷ are.1)) s =
+        opened_at kind (depth - inside) s (omega (arith, less)) ∙ ap (λ d. tokens_behind kind d s) same in
+        (kind, are.0 ∷ are.1, omega (arith, are.2, lowest, its_bit kind), omega (arith, are.3), omega (arith, less), at_value (tokens_behind kind (depth - length (are.0 ∷ are.1)) s) goes (e ∙ is))
 
 pub below_bits : (whole : Option (List Token)) (depth number inside most : ℕ) (ts : List Token) → AreOpen whole depth number inside ts → inside < most → number < 2 ^ most
 below_bits whole depth number inside most ts are few =

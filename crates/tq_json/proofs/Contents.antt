@@ -8,10 +8,10 @@ use Rattle.hex.proofs.HexLemmas.{decode_of-ok}
 use Rattle.tq_json.specs.declared.format.Format.{Format}
 use Rattle.tq_json.specs.declared.format.Format.TheVariants.{One, Two}
 use Rattle.tq_json.specs.Format.{most_content}
-use Rattle.tq_json.specs.Content.{content_of, decoded, short_enough}
+use Rattle.tq_json.specs.Content.{content_of, content_read, short_enough}
 use Rattle.tq_json.specs.Member.{◌>>=◌}
 
-by_decoding : (format : Format) (text : List ℕ) (r : Result (List ℕ) FromHexError) → 2 * most_content format < length text → decode_of text ≡ r → None ≡ (decoded r >>= short_enough format)
+by_decoding : (format : Format) (text : List ℕ) (r : Result (List ℕ) FromHexError) → 2 * most_content format < length text → decode_of text ≡ r → None ≡ (content_read r >>= short_enough format)
 by_decoding format text (Ok bytes) long e =
     let twice : length text ≡ 2 * length bytes = (decode_of-ok text bytes e).2 in
     let over : most_content format < length bytes = omega (arith, long, twice) in
@@ -50,6 +50,6 @@ nothing = refl
 
 -- the empty text is the empty content, in each format
 pub no_digits : (format : Format) (text : List ℕ) → length text ≡ 0 → Some [] ≡ content_of format text
-no_digits One [] e = ap (λ r. decoded r >>= short_enough One) (sym nothing)
-no_digits Two [] e = ap (λ r. decoded r >>= short_enough Two) (sym nothing)
+no_digits One [] e = ap (λ r. content_read r >>= short_enough One) (sym nothing)
+no_digits Two [] e = ap (λ r. content_read r >>= short_enough Two) (sym nothing)
 no_digits format (t ∷ ts) e = absurd (omega (arith, e))

@@ -15,19 +15,19 @@ abbrev pub behind : {A : Type 0} → Option (A × List Token) → Option (List T
 behind read = option_map (λ p. p.1) read
 
 -- the tokens behind a list that is open, or an object (`true`)
-abbrev pub closed : Bool → ℕ → List Token → Option (List Token)
-closed false depth ts = behind (next_items depth ts)
-closed true depth ts = behind (next_members depth ts)
+abbrev pub tokens_behind : Bool → ℕ → List Token → Option (List Token)
+tokens_behind false depth ts = behind (next_items depth ts)
+tokens_behind true depth ts = behind (next_members depth ts)
 
 -- the tokens behind one that is opened here, at that depth
-abbrev pub opened : Bool → ℕ → List Token → Option (List Token)
-opened kind zero ts = None
-opened kind (suc depth) ts = closed kind depth ts
+abbrev pub tokens_behind_next : Bool → ℕ → List Token → Option (List Token)
+tokens_behind_next kind zero ts = None
+tokens_behind_next kind (suc depth) ts = tokens_behind kind depth ts
 
 -- a value begins with the token: it is the token alone, or a list or an object
 abbrev pub Begins : Token → Option Bool → Type 0
 Begins t None = (depth : ℕ) (ts : List Token) → behind (next depth (t ∷ ts)) ≡ Some ts
-Begins t (Some kind) = (depth : ℕ) (ts : List Token) → behind (next depth (t ∷ ts)) ≡ opened kind depth ts
+Begins t (Some kind) = (depth : ℕ) (ts : List Token) → behind (next depth (t ∷ ts)) ≡ tokens_behind_next kind depth ts
 
 -- no value begins with the token
 abbrev pub BeginsNone : Token → Type 0
@@ -35,12 +35,12 @@ BeginsNone t = (depth : ℕ) (ts : List Token) → next depth (t ∷ ts) ≡ Non
 
 -- what is open ends between the tokens
 abbrev pub Ends : Bool → List Token → List Token → Type 0
-Ends kind ts rest = (depth : ℕ) → closed kind depth ts ≡ Some rest
+Ends kind ts rest = (depth : ℕ) → tokens_behind kind depth ts ≡ Some rest
 
 -- what is open goes on with a value, which the later tokens begin with
 abbrev pub GoesOn : Bool → List Token → List Token → Type 0
-GoesOn kind ts rest = (depth : ℕ) → closed kind depth ts ≡ option_and_then (closed kind depth) (behind (next depth rest))
+GoesOn kind ts rest = (depth : ℕ) → tokens_behind kind depth ts ≡ option_and_then (tokens_behind kind depth) (behind (next depth rest))
 
 -- what is open does neither
 abbrev pub Fails : Bool → List Token → Type 0
-Fails kind ts = (depth : ℕ) → closed kind depth ts ≡ None
+Fails kind ts = (depth : ℕ) → tokens_behind kind depth ts ≡ None

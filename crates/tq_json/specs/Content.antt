@@ -22,9 +22,9 @@ file_at name value = do
   name_of text
 
 -- what was read, where it was
-abbrev pub decoded : {E : Type 0} → Result (List ℕ) E → Option (List ℕ)
-decoded (Ok bytes) = Some bytes
-decoded (Err fault) = None
+abbrev pub content_read : {E : Type 0} → Result (List ℕ) E → Option (List ℕ)
+content_read (Ok bytes) = Some bytes
+content_read (Err fault) = None
 
 abbrev pub short_enough : Format → List ℕ → Option (List ℕ)
 short_enough format bytes = cond (nat_le (length bytes) (most_content format)) (Some bytes) None
@@ -32,7 +32,7 @@ short_enough format bytes = cond (nat_le (length bytes) (most_content format)) (
 -- the content that a text is: pairs of hexadecimal digits of either case, not too many
 abbrev pub content_of : Format → List ℕ → Option (List ℕ)
 content_of format text = do
-  bytes ← decoded (decode_of text)
+  bytes ← content_read (decode_of text)
   short_enough format bytes
 
 abbrev pub content_at : Format → List ℕ → Data → Option (List ℕ)

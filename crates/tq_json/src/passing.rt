@@ -3,7 +3,7 @@ ghost use Rattle.std.specs.Prelude.{◌≡◌, ◌≤◌, ◌<◌, ◌∷◌, �
 ghost use Rattle.std.specs.Bool.{MatchBool, OnTrue};
 ghost use Rattle.json.specs.Reads.{token_of};
 ghost use Rattle.tq_json.specs.Next.{next, next_items, Found};
-ghost use Rattle.tq_json.specs.Behind.{next_from, closed, Begins, BeginsNone, Ends, GoesOn, Fails};
+ghost use Rattle.tq_json.specs.Behind.{next_from, tokens_behind, Begins, BeginsNone, Ends, GoesOn, Fails};
 
 use crate::fault::NotRead;
 use crate::number::is_in_range;
@@ -46,7 +46,7 @@ pub(crate) fn pass_rest(
     ensures err { result ≡ Err NotRead.NotJson → next_from depth token.entry reader.old ≡ None }
     ensures shorter { OnOk result (length reader.new ≤ length reader.old) }
 {
-    let Some(kind) = opening(token)? else {
+    let Some(kind) = opening_kind(token)? else {
         return Ok(());
     };
     if depth == 0 {
@@ -68,8 +68,8 @@ pub fn pass_items(reader: &mut Reader<'_>, depth: usize) -> Result<(), NotRead>
 /// there are bits.
 #[inline(never)]
 fn pass_open(reader: &mut Reader<'_>, kind: bool, depth: usize) -> Result<(), NotRead>
-    ensures ok { IfOk result (λ u. closed kind depth reader.old ≡ Some reader.new) }
-    ensures err { result ≡ Err NotRead.NotJson → closed kind depth reader.old ≡ None }
+    ensures ok { IfOk result (λ u. tokens_behind kind depth reader.old ≡ Some reader.new) }
+    ensures err { result ≡ Err NotRead.NotJson → tokens_behind kind depth reader.old ≡ None }
     ensures shorter { OnOk result (length reader.new < length reader.old) }
 {
     let mut kinds = u128::from(kind);
@@ -84,7 +84,7 @@ fn pass_open(reader: &mut Reader<'_>, kind: bool, depth: usize) -> Result<(), No
             continue;
         }
         let token = take_token(reader)?;
-        let Some(kind) = opening(token)? else {
+        let Some(kind) = opening_kind(token)? else {
             continue;
         };
         if inside == depth {
@@ -117,7 +117,7 @@ fn take_end(reader: &mut Reader<'_>, kind: bool) -> Result<bool, NotRead>
 
 /// Whether the token opens an object or an array: `None` where it is a value alone.
 #[inline(always)]
-fn opening(token: Token<'_>) -> Result<Option<bool>, NotRead>
+fn opening_kind(token: Token<'_>) -> Result<Option<bool>, NotRead>
     ensures ok { IfOk result (Begins (token_of token.entry)) }
     ensures err { result ≡ Err NotRead.NotJson → BeginsNone (token_of token.entry) }
 {

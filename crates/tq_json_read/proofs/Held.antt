@@ -85,12 +85,12 @@ member-of-tree levels value =
     next-gives P (views.servers_at value) (λ numbers. views.member_of levels numbers) (λ numbers.
     cond-gives P (is_quorum levels numbers) (Some (record { servers = numbers; levels = levels })) None refl tt)
 
-chosen-of-tree : (levels : ℕ) (value : Data) → Gives (views.chosen levels value) (IsOfTree levels)
+chosen-of-tree : (levels : ℕ) (value : Data) → Gives (views.chosen_reply levels value) (IsOfTree levels)
 chosen-of-tree levels value =
     next-gives (IsOfTree levels) (number_at (codes "cost") value) (λ cost. views.member_at levels value >>= λ quorum. Some (Chosen quorum cost)) (λ cost.
     then-gives (λ (list : ServerList). list.levels ≡ levels) (IsOfTree levels) (views.member_at levels value) (λ quorum. Some (Chosen quorum cost)) (member-of-tree levels value) (λ quorum e. e))
 
-blocked-of-tree : (levels : ℕ) (value : Data) → Gives (views.blocked levels value) (IsOfTree levels)
+blocked-of-tree : (levels : ℕ) (value : Data) → Gives (views.blocked_reply levels value) (IsOfTree levels)
 blocked-of-tree levels value =
     then-gives (λ (list : ServerList). list.levels ≡ levels) (IsOfTree levels) (views.member_at levels value) (λ blocker. Some (Refused (Blocked blocker))) (member-of-tree levels value) (λ blocker e. e)
 

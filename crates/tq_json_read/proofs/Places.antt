@@ -9,7 +9,7 @@ use Rattle.std.proofs.lemmas.Slice.Eq.{bytes_eq-Decides}
 use Rattle.json.specs.Token.{Token}
 use Rattle.serde_json.specs.Data.{Data}
 use Rattle.tq_json.specs.Next.{Found}
-use Rattle.tq_json_read.specs.Objects.{Names, with, Slots, slots_at, filled, texts, IsNameAt, is_among, are_distinct}
+use Rattle.tq_json_read.specs.Objects.{Names, with, Slots, slots_at, with_slot, texts, IsNameAt, is_among, are_distinct}
 
 -- the same value by another word for it
 pub found_as : {X D F : Type 0} (r : Result X F) (P Q : D → X → Type 0) (first : Option (D × List Token)) (rest : List Token) → ((d : D) (x : X) → P d x → Q d x) → IfOk r (Found P first rest) → IfOk r (Found Q first rest)
@@ -21,14 +21,14 @@ both a b r s p q = λ i. (p i, q i)
 
 module _ {A R : Type 0} (at : Option Data → A) (of : Slots → R) (d : Data) (values : Slots) (a : A) (r : R) where
   pub filled_first : (place : ℕ) → place ≤ 0 → a ≡ at (Some d) → r ≡ of (λ i. values (suc i))
-      → ◌≡◌ {A = A × R} (a, r) (at (filled place d values zero), of (λ i. filled place d values (suc i)))
+      → ◌≡◌ {A = A × R} (a, r) (at (with_slot place d values zero), of (λ i. with_slot place d values (suc i)))
   filled_first zero h p q = both _ _ _ _ p q
   filled_first (suc n) h p q = absurd (omega (arith, h))
 
-  pub filled_later : (place : ℕ) → 0 < place → a ≡ at (values zero) → r ≡ of (filled (place - 1) d (λ i. values (suc i)))
-      → ◌≡◌ {A = A × R} (a, r) (at (filled place d values zero), of (λ i. filled place d values (suc i)))
+  pub filled_later : (place : ℕ) → 0 < place → a ≡ at (values zero) → r ≡ of (with_slot (place - 1) d (λ i. values (suc i)))
+      → ◌≡◌ {A = A × R} (a, r) (at (with_slot place d values zero), of (λ i. with_slot place d values (suc i)))
   filled_later zero h p q = absurd (omega (arith, h))
-  filled_later (suc n) h p q = let e : suc n - 1 ≡ n = omega arith in both _ _ _ _ p (q ∙ ap (λ m. of (filled m d (λ i. values (suc i)))) e)
+  filled_later (suc n) h p q = let e : suc n - 1 ≡ n = omega arith in both _ _ _ _ p (q ∙ ap (λ m. of (with_slot m d (λ i. values (suc i)))) e)
 
 same_name : (key : List ℕ) → bytes_eq key key ≡ true
 same_name key = (bytes_eq-Decides key key).1 refl
@@ -48,14 +48,14 @@ module _ (key : List ℕ) (d : Data) (names : Names) where
   apart (k ∷ ks) e zero = sym (ap (λ b. cond b (Some d) (names k)) (or_parts _ _ e).0)
   apart (k ∷ ks) e (suc i) = apart ks (or_parts _ _ e).1 i
 
-  pub filled_at : (keys : List (List ℕ)) → are_distinct keys ≡ true → (place : ℕ) → place < length keys → get_or keys place [] ≡ key → (i : ℕ) → filled place d (slots_at keys names) i ≡ slots_at keys (with key d names) i
+  pub filled_at : (keys : List (List ℕ)) → are_distinct keys ≡ true → (place : ℕ) → place < length keys → get_or keys place [] ≡ key → (i : ℕ) → with_slot place d (slots_at keys names) i ≡ slots_at keys (with key d names) i
   filled_at [] each place h at i = absurd (omega (arith, h))
   filled_at (k ∷ ks) each zero h at zero = sym (ap (λ b. cond b (Some d) (names k)) (ap (bytes_eq key) at ∙ same_name key))
   filled_at (k ∷ ks) each zero h at (suc i) = apart ks (ap (λ n. is_among n ks) (sym at) ∙ not-true _ (and_parts _ _ each).0) i
   filled_at (k ∷ ks) each (suc p) h at zero = sym (ap (λ b. cond b (Some d) (names k)) (unlike k key ks p (not-true _ (and_parts _ _ each).0) (omega (arith, h)) at))
   filled_at (k ∷ ks) each (suc p) h at (suc i) = filled_at ks (and_parts _ _ each).1 p (omega (arith, h)) at i
 
-  pub all_filled : (keys : List (List ℕ)) (place : ℕ) → are_distinct keys ≡ true → place < length keys → get_or keys place [] ≡ key → filled place d (slots_at keys names) ≡ slots_at keys (with key d names)
+  pub all_filled : (keys : List (List ℕ)) (place : ℕ) → are_distinct keys ≡ true → place < length keys → get_or keys place [] ≡ key → with_slot place d (slots_at keys names) ≡ slots_at keys (with key d names)
   all_filled keys place each h at = λ j i. filled_at keys each place h at i j
 
   pub none_filled : (keys : List (List ℕ)) → is_among key keys ≡ false → slots_at keys names ≡ slots_at keys (with key d names)

@@ -13,7 +13,7 @@ use Rattle.std.proofs.lemmas.Slice.Eq.{bytes_eq-Decides}
 use Rattle.tq_json.specs.Next.{HasNoNames}
 use Rattle.tq_json.specs.Member.{◌>>=◌, each}
 use Rattle.tq_json.proofs.Listed.{with_front, no_front}
-use Rattle.tq_json_read.specs.Objects.{names_of, with, capped}
+use Rattle.tq_json_read.specs.Objects.{names_of, with, within_cap}
 
 -- ---- items
 
@@ -55,41 +55,41 @@ goes_on form front xs new d a so_far is pushed rest =
     ∙ ap (λ o. with_front xs (o >>= λ first. each form rest >>= λ others. Some (first ∷ others))) (sym is)
     ∙ moved xs a (each form rest) ∙ ap (λ ys. with_front ys (each form rest)) (sym pushed)
 
-pub all_read : {A : Type 0} (form : Data → Option A) (most : Option ℕ) (front : List Data) (xs : List A) → Goes form front xs → capped most (Some xs) ≡ Some xs → Some xs ≡ capped most (each form (before front no_items))
-all_read form most front xs so_far fits = sym (ap (capped most) (so_far no_items ∙ ap Some (append-nil xs)) ∙ fits)
+pub all_read : {A : Type 0} (form : Data → Option A) (most : Option ℕ) (front : List Data) (xs : List A) → Goes form front xs → within_cap most (Some xs) ≡ Some xs → Some xs ≡ within_cap most (each form (before front no_items))
+all_read form most front xs so_far fits = sym (ap (within_cap most) (so_far no_items ∙ ap Some (append-nil xs)) ∙ fits)
 
-pub one_is_none : {A : Type 0} (form : Data → Option A) (most : Option ℕ) (front : List Data) (xs : List A) (d : Data) (rest : Items) → Goes form front xs → None ≡ form d → None ≡ capped most (each form (before front (item d rest)))
+pub one_is_none : {A : Type 0} (form : Data → Option A) (most : Option ℕ) (front : List Data) (xs : List A) (d : Data) (rest : Items) → Goes form front xs → None ≡ form d → None ≡ within_cap most (each form (before front (item d rest)))
 one_is_none form most front xs d rest so_far is =
-    sym (ap (capped most) (so_far (item d rest) ∙ ap (λ o. with_front xs (o >>= λ first. each form rest >>= λ others. Some (first ∷ others))) (sym is)))
+    sym (ap (within_cap most) (so_far (item d rest) ∙ ap (λ o. with_front xs (o >>= λ first. each form rest >>= λ others. Some (first ∷ others))) (sym is)))
 
-over : {A : Type 0} (most : ℕ) (xs : List A) (a : A) (o : Option (List A)) → most ≤ length xs → None ≡ capped (Some most) (with_front xs (o >>= λ others. Some (a ∷ others)))
+over : {A : Type 0} (most : ℕ) (xs : List A) (a : A) (o : Option (List A)) → most ≤ length xs → None ≡ within_cap (Some most) (with_front xs (o >>= λ others. Some (a ∷ others)))
 over most xs a None full = refl
 over most xs a (Some rest) full =
     let long : most < length (xs ++ a ∷ rest) = omega (arith, length-append xs (a ∷ rest)) in
     ap (λ b. cond b (Some (xs ++ a ∷ rest)) None) (sym (lt-leb (length (xs ++ a ∷ rest)) most long))
 
 pub one_too_many : {A : Type 0} (form : Data → Option A) (most : ℕ) (front : List Data) (xs : List A) (d : Data) (a : A) (rest : Items) → Goes form front xs → Some a ≡ form d → most ≤ length xs
-    → None ≡ capped (Some most) (each form (before front (item d rest)))
+    → None ≡ within_cap (Some most) (each form (before front (item d rest)))
 one_too_many form most front xs d a rest so_far is full =
     over most xs a (each form rest) full
-    ∙ sym (ap (capped (Some most)) (so_far (item d rest) ∙ ap (λ o. with_front xs (o >>= λ first. each form rest >>= λ others. Some (first ∷ others))) (sym is)))
+    ∙ sym (ap (within_cap (Some most)) (so_far (item d rest) ∙ ap (λ o. with_front xs (o >>= λ first. each form rest >>= λ others. Some (first ∷ others))) (sym is)))
 
-pub fits_limit : {A : Type 0} (most : ℕ) (xs : List A) → length xs ≤ most → capped (Some most) (Some xs) ≡ Some xs
+pub fits_limit : {A : Type 0} (most : ℕ) (xs : List A) → length xs ≤ most → within_cap (Some most) (Some xs) ≡ Some xs
 fits_limit most xs e = ap (λ b. cond b (Some xs) None) (le-leb (length xs) most e)
 
-pub empty_fits : {A : Type 0} (most : Option ℕ) (xs : List A) → xs ≡ [] → capped most (Some xs) ≡ Some xs
+pub empty_fits : {A : Type 0} (most : Option ℕ) (xs : List A) → xs ≡ [] → within_cap most (Some xs) ≡ Some xs
 empty_fits None xs e = refl
 empty_fits (Some most) xs e = fits_limit most xs (omega (arith, ap length e))
 
 -- a list is full, or not
 pub full_is_none : {A : Type 0} (form : Data → Option A) (most : Option ℕ) (front : List Data) (xs : List A) (d : Data) (a : A) (rest : Items) (n : ℕ) (full : Bool)
     → Goes form front xs → Some a ≡ form d → n ≡ length xs → MatchOption most (full ≡ false) (λ m. IsTrue full ↔ (m ≤ n)) → full ≡ true
-    → None ≡ capped most (each form (before front (item d rest)))
+    → None ≡ within_cap most (each form (before front (item d rest)))
 full_is_none form None front xs d a rest n full so_far is count h e = absurd (false≢true (sym h ∙ e))
 full_is_none form (Some most) front xs d a rest n full so_far is count h e = one_too_many form most front xs d a rest so_far is (omega (arith, h.0 e, count))
 
 pub still_fits : {A : Type 0} (most : Option ℕ) (xs new : List A) (a : A) (n : ℕ) (full : Bool) → n ≡ length xs → MatchOption most (full ≡ false) (λ m. IsTrue full ↔ (m ≤ n)) → full ≡ false
-    → new ≡ xs ++ a ∷ [] → capped most (Some new) ≡ Some new
+    → new ≡ xs ++ a ∷ [] → within_cap most (Some new) ≡ Some new
 still_fits None xs new a n full count h e pushed = refl
 still_fits (Some most) xs new a n full count h e pushed =
     let less : n < most = lt_of_not-le (λ le. false≢true (sym e ∙ h.1 le)) in

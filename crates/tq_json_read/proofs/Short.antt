@@ -13,10 +13,10 @@ use Rattle.serde_json.specs.Data.{Data}
 use Rattle.serde_json.specs.Find.{get}
 use Rattle.tq_live.specs.declared.view.ViewReply.TheVariants.{CostSet, Marked, Chosen, Refused}
 use Rattle.tq_live.specs.declared.view.ViewRefusal.TheVariants.{NoSuchServer, BadCost, Blocked}
-use Rattle.tq_coterie.specs.Coterie.{ServerList, coterie, joined, members, with_server, is_quorum}
+use Rattle.tq_coterie.specs.Coterie.{ServerList, coterie, union_of, members, with_server, is_quorum}
 use Rattle.tq_coterie.proofs.Members.{members-all}
 use Rattle.tq_json.specs.Member.{◌>>=◌, number_of, number_at, text_at}
-use Rattle.tq_json_read.specs.Objects.{all_of, capped}
+use Rattle.tq_json_read.specs.Objects.{all_of, within_cap}
 use Rattle.tq_json_read.specs.Slots as slots
 use Rattle.tq_json_read.specs.Views as views
 use Rattle.tq_json_read.specs.declared.view_reply.Servers.{Servers}
@@ -29,9 +29,9 @@ length-with_server : (server : ℕ) (xs : List ℕ) → length (with_server serv
 length-with_server server [] = refl
 length-with_server server (first ∷ rest) = length-placed server first rest (with_server server rest) (nat_lt server first) (length-with_server server rest)
 
-length-joined : (xs ys : List ℕ) → length (joined xs ys) ≡ length xs + length ys
+length-joined : (xs ys : List ℕ) → length (union_of xs ys) ≡ length xs + length ys
 length-joined [] ys = omega arith
-length-joined (x ∷ xs) ys = let one = length-with_server x (joined xs ys) in omega (arith, one, length-joined xs ys)
+length-joined (x ∷ xs) ys = let one = length-with_server x (union_of xs ys) in omega (arith, one, length-joined xs ys)
 
 -- no more servers than the leaves of the subtree
 abbrev IsShort : ℕ → ℕ → List ℕ → Type 0
@@ -40,7 +40,7 @@ IsShort height top servers = length servers ≤ 2 ^ height
 more_on_top : (height top : ℕ) (xs : List ℕ) → length xs ≤ 2 ^ height → length (top ∷ xs) ≤ 2 ^ suc height
 more_on_top height top xs h = omega (arith, h, two-pow-succ height, pow_pos height)
 
-from_both : (height : ℕ) (xs ys : List ℕ) → length xs ≤ 2 ^ height → length ys ≤ 2 ^ height → length (joined xs ys) ≤ 2 ^ suc height
+from_both : (height : ℕ) (xs ys : List ℕ) → length xs ≤ 2 ^ height → length ys ≤ 2 ^ height → length (union_of xs ys) ≤ 2 ^ suc height
 from_both height xs ys h k = omega (arith, h, k, two-pow-succ height, length-joined xs ys)
 
 one_leaf : (top : ℕ) → IsShort zero top (top ∷ [])
@@ -65,16 +65,16 @@ module _ {B : Type 0} (levels : ℕ) (f : ServerList → Option B) where
   by_length numbers false e = ap (λ b. cond b (Some (record { servers = numbers; levels = levels })) None >>= f) (sym (no_quorum levels numbers e))
 
   -- a list that is too long is left out, and is none of the members
-  by_list : (o : Option (List ℕ)) → (option_map {U = Servers} (λ xs. record { numbers = xs }) (capped (Some (2 ^ levels)) o) >>= λ s. views.member_of levels s.numbers >>= f) ≡ ((o >>= views.member_of levels) >>= f)
+  by_list : (o : Option (List ℕ)) → (option_map {U = Servers} (λ xs. record { numbers = xs }) (within_cap (Some (2 ^ levels)) o) >>= λ s. views.member_of levels s.numbers >>= f) ≡ ((o >>= views.member_of levels) >>= f)
   by_list None = refl
   by_list (Some numbers) = by_length numbers (nat_le (length numbers) (2 ^ levels)) refl
 
 module _ (levels : ℕ) (d : Data) where
-  chosen_by : (cost : Option ℕ) → slots.chosen levels cost (slots.servers_in levels (get (codes "servers") d)) ≡ (cost >>= λ cost. views.member_at levels d >>= λ quorum. Some (Chosen quorum cost))
+  chosen_by : (cost : Option ℕ) → slots.chosen_slots levels cost (slots.servers_in levels (get (codes "servers") d)) ≡ (cost >>= λ cost. views.member_at levels d >>= λ quorum. Some (Chosen quorum cost))
   chosen_by None = refl
   chosen_by (Some cost) = by_list levels (λ quorum. Some (Chosen quorum cost)) (all_of number_of (get (codes "servers") d))
 
-  blocked_by : slots.blocked levels (slots.servers_in levels (get (codes "servers") d)) ≡ views.blocked levels d
+  blocked_by : slots.blocked_slots levels (slots.servers_in levels (get (codes "servers") d)) ≡ views.blocked_reply levels d
   blocked_by = by_list levels (λ blocker. Some (Refused (Blocked blocker))) (all_of number_of (get (codes "servers") d))
 
   refused_by : (code : Option ℕ) → slots.view_refused levels code (slots.servers_in levels (get (codes "servers") d)) ≡ (code >>= λ code. views.view_refused_by levels code d)

@@ -42,8 +42,8 @@ desk_ask format value = do
 
 -- ---- refusals
 
-abbrev pub decided : Data → Option DeskRefusal
-decided value = do
+abbrev pub decided_refusal : Data → Option DeskRefusal
+decided_refusal value = do
   verdict ← verdict_at value
   Some (Decided verdict)
 
@@ -57,7 +57,7 @@ bad_evidence value = do
 abbrev pub desk_refusal_by : ℕ → Data → Option DeskRefusal
 desk_refusal_by code value =
     cond (code == 21) (Some NoSuchTxn)
-    (cond (code == 22) (decided value)
+    (cond (code == 22) (decided_refusal value)
     (cond (code == 23) (bad_evidence value)
     (cond (code == 24) (Some TooManyOps)
     (cond (code == 25) (Some TooManyFiles) None))))
@@ -69,18 +69,18 @@ desk_refusal value = do
 
 -- ---- replies
 
-abbrev pub begun : Data → Option DeskReply
-begun value = do
+abbrev pub begun_reply : Data → Option DeskReply
+begun_reply value = do
   txn ← number_at (codes "txn") value
   Some (Txn txn)
 
-abbrev pub committed : Data → Option DeskReply
-committed value = do
+abbrev pub committed_reply : Data → Option DeskReply
+committed_reply value = do
   serial ← number_at (codes "serial") value
   Some (Committed serial)
 
-abbrev pub told : Data → Option DeskReply
-told value = do
+abbrev pub verdict_reply : Data → Option DeskReply
+verdict_reply value = do
   verdict ← verdict_at value
   Some (Verdict verdict)
 
@@ -91,9 +91,9 @@ desk_refused value = do
 
 abbrev pub desk_reply_by : List ℕ → Data → Option DeskReply
 desk_reply_by kind value =
-    cond (bytes_eq kind (codes "txn")) (begun value)
-    (cond (bytes_eq kind (codes "committed")) (committed value)
-    (cond (bytes_eq kind (codes "verdict")) (told value)
+    cond (bytes_eq kind (codes "txn")) (begun_reply value)
+    (cond (bytes_eq kind (codes "committed_reply")) (committed_reply value)
+    (cond (bytes_eq kind (codes "verdict")) (verdict_reply value)
     (cond (bytes_eq kind (codes "refused")) (desk_refused value) None)))
 
 -- the reply of the desk that a value of the form is

@@ -11,8 +11,8 @@ use Rattle.tq_json.specs.Content.{file_at, content_at}
 use Rattle.tq_json_read.specs.Locking.{held_at, writes_at}
 use Rattle.tq_json.specs.Member.{◌>>=◌, text_at, number_at}
 
-abbrev pub granted : Format → Data → Option NodeReply
-granted format value = do
+abbrev pub granted_reply : Format → Data → Option NodeReply
+granted_reply format value = do
   version ← number_at (codes "version") value
   content ← content_at format (codes "content") value
   Some (Granted version content)
@@ -81,7 +81,7 @@ bare_reply kind =
 
 abbrev pub node_reply_by : Format → List ℕ → Data → Option NodeReply
 node_reply_by format kind value =
-    cond (bytes_eq kind (codes "granted")) (granted format value)
+    cond (bytes_eq kind (codes "granted_reply")) (granted_reply format value)
     (cond (bytes_eq kind (codes "yes")) (yes_vote format value)
     (cond (bytes_eq kind (codes "copy")) (copy format value)
     (cond (bytes_eq kind (codes "refused")) (node_refused value) (bare_reply kind))))

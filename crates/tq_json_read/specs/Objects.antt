@@ -29,11 +29,11 @@ slots_at (key ∷ keys) names zero = names key
 slots_at (key ∷ keys) names (suc i) = slots_at keys names i
 
 -- the same slots, with a value in one of them
-abbrev pub filled : ℕ → Data → Slots → Slots
-filled zero value slots zero = Some value
-filled zero value slots (suc i) = slots (suc i)
-filled (suc place) value slots zero = slots zero
-filled (suc place) value slots (suc i) = filled place value (λ j. slots (suc j)) i
+abbrev pub with_slot : ℕ → Data → Slots → Slots
+with_slot zero value slots zero = Some value
+with_slot zero value slots (suc i) = slots (suc i)
+with_slot (suc place) value slots zero = slots zero
+with_slot (suc place) value slots (suc i) = with_slot place value (λ j. slots (suc j)) i
 
 -- the texts that these are
 abbrev pub texts : List (Bor (List ℕ)) → List (List ℕ)
@@ -70,13 +70,13 @@ abbrev pub all_of : {A : Type 0} → (Data → Option A) → Option Data → Opt
 all_of form place = option_and_then as_array place >>= each form
 
 -- no list of more values than that, where there is a limit
-abbrev pub capped : {A : Type 0} → Option ℕ → Option (List A) → Option (List A)
-capped most None = None
-capped None (Some xs) = Some xs
-capped (Some most) (Some xs) = cond (nat_le (length xs) most) (Some xs) None
+abbrev pub within_cap : {A : Type 0} → Option ℕ → Option (List A) → Option (List A)
+within_cap most None = None
+within_cap None (Some xs) = Some xs
+within_cap (Some most) (Some xs) = cond (nat_le (length xs) most) (Some xs) None
 
 -- the list that a value is, of values of one form
-abbrev pub listed : {A : Type 0} → (Data → Option A) → Option ℕ → Data → Option (List A)
-listed form most value = do
+abbrev pub list_of : {A : Type 0} → (Data → Option A) → Option ℕ → Data → Option (List A)
+list_of form most value = do
   values ← as_array value
-  capped most (each form values)
+  within_cap most (each form values)

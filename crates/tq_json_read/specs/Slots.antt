@@ -40,7 +40,7 @@ use Rattle.tq_json_read.specs.Entries.{journal, node_entry, desk_entry, view_ent
 use Rattle.tq_json_read.specs.Frame.{limits, one_each, journals_of}
 use Rattle.tq_json_read.specs.NodeReplies.{code_refusal, bare_reply}
 use Rattle.tq_json_read.specs.Views.{member_of}
-use Rattle.tq_json_read.specs.Objects.{Names, names_of, all_of, capped}
+use Rattle.tq_json_read.specs.Objects.{Names, names_of, all_of, within_cap}
 use Rattle.tq_json_read.specs.Plans.{plan_of}
 use Rattle.tq_json_read.specs.declared.fault.ReadFault.{ReadFault}
 use Rattle.tq_json_read.specs.declared.read.Reading.{Reading}
@@ -74,8 +74,8 @@ limits_from entries files ops = do
   Some (record { files = files; ops = ops; entries = entries })
 
 -- a list of as many values
-abbrev pub counted : {A : Type 0} → ℕ → Option (List A) → Option (List A)
-counted n lists = do
+abbrev pub of_count : {A : Type 0} → ℕ → Option (List A) → Option (List A)
+of_count n lists = do
   xs ← lists
   cond (length xs == n) (Some xs) None
 
@@ -127,10 +127,10 @@ abbrev pub fault_of : NotRead → ReadFault
 fault_of NotRead.Memory = ReadFault.Memory
 fault_of NotRead.NotJson = ReadFault.NotJson
 
-abbrev pub told : Reading → Result JournalsView ReadFault
-told (Journals journals) = Ok journals
-told NoJournals = Err ReadFault.NotJournals
-told (OtherPlan other) = Err ReadFault.NotJournals
+abbrev pub file_answer : Reading → Result JournalsView ReadFault
+file_answer (Journals journals) = Ok journals
+file_answer NoJournals = Err ReadFault.NotJournals
+file_answer (OtherPlan other) = Err ReadFault.NotJournals
 
 -- what is answered of a text
 abbrev pub AnswersText : Result JournalsView ReadFault → List ℕ → Type 0
@@ -217,13 +217,13 @@ desk_ask_by kind ops txn votes =
     (cond (bytes_eq kind (codes "commit")) (commit_ask txn ops votes)
     (cond (bytes_eq kind (codes "resolve")) (resolve txn) None))
 
-abbrev pub begun : Option ℕ → Option DeskReply
-begun txn = do
+abbrev pub begun_slots : Option ℕ → Option DeskReply
+begun_slots txn = do
   txn ← txn
   Some (DeskReply.Txn txn)
 
-abbrev pub committed : Option ℕ → Option DeskReply
-committed serial = do
+abbrev pub committed_slots : Option ℕ → Option DeskReply
+committed_slots serial = do
   serial ← serial
   Some (DeskReply.Committed serial)
 
@@ -232,8 +232,8 @@ told_verdict verdict = do
   verdict ← verdict
   Some (DeskReply.Verdict verdict)
 
-abbrev pub decided : Option Verdict → Option DeskRefusal
-decided verdict = do
+abbrev pub decided_slots : Option Verdict → Option DeskRefusal
+decided_slots verdict = do
   verdict ← verdict
   Some (DeskRefusal.Decided verdict)
 
@@ -247,7 +247,7 @@ abbrev pub desk_refusal : Option ℕ → Option ℕ → Option Verdict → Optio
 desk_refusal code rule verdict = do
   code ← code
   cond (code == 21) (Some DeskRefusal.NoSuchTxn)
-      (cond (code == 22) (decided verdict)
+      (cond (code == 22) (decided_slots verdict)
       (cond (code == 23) (bad_evidence rule)
       (cond (code == 24) (Some DeskRefusal.TooManyOps)
       (cond (code == 25) (Some DeskRefusal.TooManyFiles) None))))
@@ -259,10 +259,10 @@ desk_refused code rule verdict = do
 
 abbrev pub desk_reply_by : List ℕ → Option ℕ → Option ℕ → Option ℕ → Option ℕ → Option Verdict → Option DeskReply
 desk_reply_by kind code rule serial txn verdict =
-    cond (bytes_eq kind (codes "txn")) (begun txn)
-    (cond (bytes_eq kind (codes "committed")) (committed serial)
+    cond (bytes_eq kind (codes "txn")) (begun_slots txn)
+    (cond (bytes_eq kind (codes "committed_slots")) (committed_slots serial)
     (cond (bytes_eq kind (codes "verdict")) (told_verdict verdict)
-    (cond (bytes_eq kind (codes "refused")) (desk_refused code rule verdict) None)))
+    (cond (bytes_eq kind (codes "refused_slots")) (desk_refused code rule verdict) None)))
 
 -- ---- what servers are asked, and what they reply
 
@@ -335,8 +335,8 @@ node_by kind after inside members =
     (cond (bytes_eq kind (codes "return")) (Some NodeAsk.Return)
     (cond (bytes_eq kind (codes "crashin")) (stop after inside) (work kind members)))
 
-abbrev pub granted : Option ℕ → Option (List ℕ) → Option NodeReply
-granted version content = do
+abbrev pub granted_slots : Option ℕ → Option (List ℕ) → Option NodeReply
+granted_slots version content = do
   version ← version
   content ← content
   Some (NodeReply.Granted version content)
@@ -368,17 +368,17 @@ refusal code by file = do
   code ← code
   cond (code == 14) (held_by by) (cond (code == 16) (not_locked file) (code_refusal code))
 
-abbrev pub refused : Option ℕ → Option ℕ → Option (List ℕ) → Option NodeReply
-refused code by file = do
+abbrev pub refused_slots : Option ℕ → Option ℕ → Option (List ℕ) → Option NodeReply
+refused_slots code by file = do
   refusal ← refusal code by file
   Some (NodeReply.Refused refusal)
 
 abbrev pub reply_by : List ℕ → ReplyMembers → Option NodeReply
 reply_by kind members =
-    cond (bytes_eq kind (codes "granted")) (granted members.version members.content)
+    cond (bytes_eq kind (codes "granted_slots")) (granted_slots members.version members.content)
     (cond (bytes_eq kind (codes "yes")) (yes_vote members.held members.writes)
     (cond (bytes_eq kind (codes "copy")) (copy members.version members.content)
-    (cond (bytes_eq kind (codes "refused")) (refused members.code members.by members.file) (bare_reply kind))))
+    (cond (bytes_eq kind (codes "refused_slots")) (refused_slots members.code members.by members.file) (bare_reply kind))))
 
 -- ---- what the view is asked, and what it replies
 
@@ -422,17 +422,17 @@ view_ask_by format kind members =
 
 -- the numbers of servers that stand in a place, no list longer than each set of servers of a tree of those levels
 abbrev pub servers_in : ℕ → Option Data → Option Servers
-servers_in levels place = option_map (λ numbers. record { numbers = numbers }) (capped (Some (2 ^ levels)) (all_of number_of place))
+servers_in levels place = option_map (λ numbers. record { numbers = numbers }) (within_cap (Some (2 ^ levels)) (all_of number_of place))
 
-abbrev pub chosen : ℕ → Option ℕ → Option Servers → Option ViewReply
-chosen levels cost servers = do
+abbrev pub chosen_slots : ℕ → Option ℕ → Option Servers → Option ViewReply
+chosen_slots levels cost servers = do
   cost ← cost
   servers ← servers
   quorum ← member_of levels servers.numbers
   Some (ViewReply.Chosen quorum cost)
 
-abbrev pub blocked : ℕ → Option Servers → Option ViewReply
-blocked levels servers = do
+abbrev pub blocked_slots : ℕ → Option Servers → Option ViewReply
+blocked_slots levels servers = do
   servers ← servers
   blocker ← member_of levels servers.numbers
   Some (ViewReply.Refused (Blocked blocker))
@@ -441,7 +441,7 @@ abbrev pub view_refused_by : ℕ → ℕ → Option Servers → Option ViewReply
 view_refused_by levels code servers =
     cond (code == 31) (Some (ViewReply.Refused NoSuchServer))
     (cond (code == 32) (Some (ViewReply.Refused BadCost))
-    (cond (code == 33) (blocked levels servers) None))
+    (cond (code == 33) (blocked_slots levels servers) None))
 
 abbrev pub view_refused : ℕ → Option ℕ → Option Servers → Option ViewReply
 view_refused levels code servers = do
@@ -452,5 +452,5 @@ abbrev pub view_reply_by : ℕ → List ℕ → Option ℕ → Option ℕ → Op
 view_reply_by levels kind code cost servers =
     cond (bytes_eq kind (codes "costset")) (Some ViewReply.CostSet)
     (cond (bytes_eq kind (codes "marked")) (Some ViewReply.Marked)
-    (cond (bytes_eq kind (codes "chosen")) (chosen levels cost servers)
-    (cond (bytes_eq kind (codes "refused")) (view_refused levels code servers) None)))
+    (cond (bytes_eq kind (codes "chosen_slots")) (chosen_slots levels cost servers)
+    (cond (bytes_eq kind (codes "refused_slots")) (view_refused levels code servers) None)))

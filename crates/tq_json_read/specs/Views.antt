@@ -85,14 +85,14 @@ member_at levels value = do
   numbers ← servers_at value
   member_of levels numbers
 
-abbrev pub chosen : ℕ → Data → Option ViewReply
-chosen levels value = do
+abbrev pub chosen_reply : ℕ → Data → Option ViewReply
+chosen_reply levels value = do
   cost ← number_at (codes "cost") value
   quorum ← member_at levels value
   Some (Chosen quorum cost)
 
-abbrev pub blocked : ℕ → Data → Option ViewReply
-blocked levels value = do
+abbrev pub blocked_reply : ℕ → Data → Option ViewReply
+blocked_reply levels value = do
   blocker ← member_at levels value
   Some (Refused (Blocked blocker))
 
@@ -100,7 +100,7 @@ abbrev pub view_refused_by : ℕ → ℕ → Data → Option ViewReply
 view_refused_by levels code value =
     cond (code == 31) (Some (Refused NoSuchServer))
     (cond (code == 32) (Some (Refused BadCost))
-    (cond (code == 33) (blocked levels value) None))
+    (cond (code == 33) (blocked_reply levels value) None))
 
 abbrev pub view_refused : ℕ → Data → Option ViewReply
 view_refused levels value = do
@@ -111,7 +111,7 @@ abbrev pub view_reply_by : ℕ → List ℕ → Data → Option ViewReply
 view_reply_by levels kind value =
     cond (bytes_eq kind (codes "costset")) (Some CostSet)
     (cond (bytes_eq kind (codes "marked")) (Some Marked)
-    (cond (bytes_eq kind (codes "chosen")) (chosen levels value)
+    (cond (bytes_eq kind (codes "chosen_reply")) (chosen_reply levels value)
     (cond (bytes_eq kind (codes "refused")) (view_refused levels value) None)))
 
 -- the reply that a value of the form is

@@ -46,42 +46,46 @@ fn desk_reply_by(
     ensures { result ≡ slots.desk_reply_by kind.now code rule serial txn verdict }
 {
     if kind.is("txn") {
-        return begun(txn);
+        return begun_reply(txn);
     }
     if kind.is("committed") {
-        return committed(serial);
+        return committed_reply(serial);
     }
     if kind.is("verdict") {
-        return told(verdict);
+        return verdict_reply(verdict);
     }
     if kind.is("refused") {
-        return refused(code, rule, verdict);
+        return refused_reply(code, rule, verdict);
     }
     None
 }
 
-fn begun(txn: Option<u64>) -> Option<DeskReply>
-    ensures { result ≡ slots.begun txn }
+fn begun_reply(txn: Option<u64>) -> Option<DeskReply>
+    ensures { result ≡ slots.begun_slots txn }
 {
     let txn = txn?;
     Some(DeskReply::Txn(txn))
 }
 
-fn committed(serial: Option<u64>) -> Option<DeskReply>
-    ensures { result ≡ slots.committed serial }
+fn committed_reply(serial: Option<u64>) -> Option<DeskReply>
+    ensures { result ≡ slots.committed_slots serial }
 {
     let serial = serial?;
     Some(DeskReply::Committed { serial })
 }
 
-fn told(verdict: Option<Verdict>) -> Option<DeskReply>
+fn verdict_reply(verdict: Option<Verdict>) -> Option<DeskReply>
     ensures { result ≡ slots.told_verdict verdict }
 {
     let verdict = verdict?;
     Some(DeskReply::Verdict(verdict))
 }
 
-fn refused(code: Option<u64>, rule: Option<u64>, verdict: Option<Verdict>) -> Option<DeskReply>
+fn refused_reply(
+    code: Option<u64>,
+    rule: Option<u64>,
+    verdict: Option<Verdict>,
+) -> Option<DeskReply>
     ensures { result ≡ slots.desk_refused code rule verdict }
 {
     let refusal = refusal(code, rule, verdict)?;
@@ -96,7 +100,7 @@ fn refusal(code: Option<u64>, rule: Option<u64>, verdict: Option<Verdict>) -> Op
         return Some(DeskRefusal::NoSuchTxn);
     }
     if code == 22 {
-        return decided(verdict);
+        return decided_refusal(verdict);
     }
     if code == 23 {
         return bad_evidence(rule);
@@ -110,8 +114,8 @@ fn refusal(code: Option<u64>, rule: Option<u64>, verdict: Option<Verdict>) -> Op
     None
 }
 
-fn decided(verdict: Option<Verdict>) -> Option<DeskRefusal>
-    ensures { result ≡ slots.decided verdict }
+fn decided_refusal(verdict: Option<Verdict>) -> Option<DeskRefusal>
+    ensures { result ≡ slots.decided_slots verdict }
 {
     let verdict = verdict?;
     Some(DeskRefusal::Decided(verdict))

@@ -94,7 +94,7 @@ impl<'a> FromReader<'a> for ServerJournals {
 
 /// The lists, where they are so many.
 fn one_each<T: Drop>(servers: usize, lists: Option<Seq<T>>) -> Option<Seq<T>>
-    ensures { result ≡ slots.counted servers lists }
+    ensures { result ≡ slots.of_count servers lists }
 {
     let lists = lists?;
     if lists.len() == servers {

@@ -66,7 +66,7 @@ fn reply_by(
     ensures { IfOk result (λ reply. reply ≡ slots.reply_by kind.now members) }
 {
     if kind.is("granted") {
-        return Ok(granted(members.version, members.content));
+        return Ok(granted_reply(members.version, members.content));
     }
     if kind.is("yes") {
         return Ok(yes_vote(members.held, members.writes));
@@ -75,7 +75,7 @@ fn reply_by(
         return Ok(copy(members.version, members.content));
     }
     if kind.is("refused") {
-        return refused(alloc, members.code, members.by, members.file);
+        return refused_reply(alloc, members.code, members.by, members.file);
     }
     Ok(bare_reply(kind))
 }
@@ -105,8 +105,8 @@ fn bare_reply(kind: &Word<'_>) -> Option<NodeReply>
     None
 }
 
-fn granted(version: Option<u64>, content: Option<Content>) -> Option<NodeReply>
-    ensures { result ≡ slots.granted version content }
+fn granted_reply(version: Option<u64>, content: Option<Content>) -> Option<NodeReply>
+    ensures { result ≡ slots.granted_slots version content }
 {
     let version = version?;
     let content = content?;
@@ -132,18 +132,18 @@ fn yes_vote(
     Some(NodeReply::Yes { held, writes })
 }
 
-fn refused(
+fn refused_reply(
     alloc: Global,
     code: Option<u64>,
     by: Option<u64>,
     file: Option<FileName>,
 ) -> Result<Option<NodeReply>, Memory>
-    ensures { IfOk result (λ reply. reply ≡ slots.refused code by file) }
+    ensures { IfOk result (λ reply. reply ≡ slots.refused_slots code by file) }
 {
     let Some(refusal) = refusal(code, by, file) else {
         return Ok(None);
     };
-    let refused = NodeReply::refused(alloc, refusal)?;
+    let refused = NodeReply::of_refusal(alloc, refusal)?;
     Ok(Some(refused))
 }
 

@@ -16,7 +16,7 @@ use tq_json::{NotRead, Reader, is_text, open_object, pass_over};
 pub(crate) trait Slots<'a>: Sized + Drop {
     ghost use Rattle.std.specs.Prelude.{◌≡◌, ◌<◌, ◌≤◌, false, drop, length, None, Err, IfOk, OnOk, MatchOption};
     ghost use Rattle.tq_json_read.specs.declared.plan.Plan.{Plan};
-    ghost use Rattle.tq_json_read.specs.Objects.{Slots as Values, filled, texts, is_among, IsNameAt};
+    ghost use Rattle.tq_json_read.specs.Objects.{Slots as Values, with_slot, texts, is_among, IsNameAt};
     ghost use Rattle.tq_json.specs.Next.{next, Found};
 
     /// What they are, by a plan, of the values in them.
@@ -41,7 +41,7 @@ pub(crate) trait Slots<'a>: Sized + Drop {
         depth: usize,
     ) -> Result<(), NotRead>
         ensures ok { (values : Values) → self.old ≡ of plan.now values → IfOk result
-            (Found (λ d u. self.new ≡ of plan.now (filled place d values))
+            (Found (λ d u. self.new ≡ of plan.now (with_slot place d values))
             (next depth reader.old) reader.new) }
         ensures err { result ≡ Err NotRead.NotJson → next depth reader.old ≡ None }
         ensures shorter { OnOk result (length reader.new < length reader.old) };

@@ -2,7 +2,7 @@
 ghost use Rattle.std.specs.Prelude.{◌≡◌, ◌<◌, ◌≤◌, ◌↔◌, false, length, Some, None, Err, IfOk, OnOk, IsTrue, MatchOption};
 ghost use Rattle.tq_json.specs.Next.{next, next_items, Found};
 ghost use Rattle.tq_json.specs.Member.{each};
-ghost use Rattle.tq_json_read.specs.Objects.{capped, listed};
+ghost use Rattle.tq_json_read.specs.Objects.{within_cap, list_of};
 
 use crate::plan::Plan;
 use std::alloc::Global;
@@ -42,7 +42,7 @@ pub(crate) fn take_list<'a, T: FromReader<'a>>(
     depth: usize,
 ) -> Taken<Seq<T>>
     ensures ok { IfOk result
-        (Found (λ d list. list ≡ listed (λ value. T.at plan.now (Some value)) most d)
+        (Found (λ d list. list ≡ list_of (λ value. T.at plan.now (Some value)) most d)
         (next depth reader.old) reader.new) }
     ensures err { result ≡ Err NotRead.NotJson → next depth reader.old ≡ None }
     ensures shorter { OnOk result (length reader.new < length reader.old) }
@@ -62,7 +62,7 @@ fn take_items<'a, T: FromReader<'a>>(
     depth: usize,
 ) -> Taken<Seq<T>>
     ensures ok { IfOk result
-        (Found (λ ds list. list ≡ capped most (each (λ value. T.at plan.now (Some value)) ds))
+        (Found (λ ds list. list ≡ within_cap most (each (λ value. T.at plan.now (Some value)) ds))
         (next_items depth reader.old) reader.new) }
     ensures err { result ≡ Err NotRead.NotJson → next_items depth reader.old ≡ None }
     ensures shorter { OnOk result (length reader.new ≤ length reader.old) }

@@ -50,10 +50,10 @@ fn journals_of_text(alloc: Global, text: &str) -> Result<Journals, ReadFault>
         Err(fault) => return Err(fault_of(fault)),
     };
     let Reading::OtherPlan(plan) = first else {
-        return told(first);
+        return file_answer(first);
     };
     match read_by(alloc, &plan, text, &mut scratch) {
-        Ok(second) => told(second),
+        Ok(second) => file_answer(second),
         Err(fault) => Err(fault_of(fault)),
     }
 }
@@ -68,8 +68,8 @@ fn fault_of(fault: NotRead) -> ReadFault
 }
 
 /// What is answered of a file that was read by its own plan.
-fn told(reading: Reading) -> Result<Journals, ReadFault>
-    ensures { result ≡ slots.told reading }
+fn file_answer(reading: Reading) -> Result<Journals, ReadFault>
+    ensures { result ≡ slots.file_answer reading }
 {
     match reading {
         Reading::Journals(journals) => Ok(journals),

@@ -73,21 +73,21 @@ fn view_reply_by(
         return Ok(Some(ViewReply::Marked));
     }
     if kind.is("chosen") {
-        return chosen(alloc, levels, cost, servers);
+        return chosen_reply(alloc, levels, cost, servers);
     }
     if kind.is("refused") {
-        return refused(alloc, levels, code, servers);
+        return refused_reply(alloc, levels, code, servers);
     }
     Ok(None)
 }
 
-fn chosen(
+fn chosen_reply(
     alloc: Global,
     levels: Levels,
     cost: Option<u64>,
     servers: Option<Servers>,
 ) -> Result<Option<ViewReply>, Memory>
-    ensures { IfOk result (λ reply. reply ≡ slots.chosen levels cost servers) }
+    ensures { IfOk result (λ reply. reply ≡ slots.chosen_slots levels cost servers) }
 {
     let Some(cost) = cost else {
         return Ok(None);
@@ -101,7 +101,7 @@ fn chosen(
     Ok(Some(ViewReply::Chosen { quorum, cost }))
 }
 
-fn refused(
+fn refused_reply(
     alloc: Global,
     levels: Levels,
     code: Option<u64>,
@@ -119,17 +119,17 @@ fn refused(
         return Ok(Some(ViewReply::Refused(ViewRefusal::BadCost)));
     }
     if code == 33 {
-        return blocked(alloc, levels, servers);
+        return blocked_reply(alloc, levels, servers);
     }
     Ok(None)
 }
 
-fn blocked(
+fn blocked_reply(
     alloc: Global,
     levels: Levels,
     servers: Option<Servers>,
 ) -> Result<Option<ViewReply>, Memory>
-    ensures { IfOk result (λ reply. reply ≡ slots.blocked levels servers) }
+    ensures { IfOk result (λ reply. reply ≡ slots.blocked_slots levels servers) }
 {
     let Some(servers) = servers else {
         return Ok(None);

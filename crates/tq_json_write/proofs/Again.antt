@@ -7,7 +7,7 @@ use Rattle.hex.proofs.HexLemmas.{decode_of-encode_lower}
 use Rattle.serde_json.specs.Data.{Data}
 use Rattle.tq_shape.specs.declared.entry.Entry.{Entry}
 use Rattle.tq_json.specs.declared.format.Format.TheVariants.{Two}
-use Rattle.tq_json.specs.Content.{name_of, content_of, decoded, short_enough}
+use Rattle.tq_json.specs.Content.{name_of, content_of, content_read, short_enough}
 use Rattle.tq_json.specs.Member.{◌>>=◌, each, number_of}
 use Rattle.tq_json_read.specs.Entries.{entry, count, journal}
 use Rattle.tq_json_write.specs.Values.{whole, value_items, list_value, entry_value}
@@ -18,7 +18,7 @@ name-again name h = ap (λ b. cond b (Some name) None) h
 
 pub content-again : (bytes : List ℕ) → IsContent bytes → content_of Two (encode_lower bytes) ≡ Some bytes
 content-again bytes h =
-    ap (λ r. decoded r >>= short_enough Two) (decode_of-encode_lower bytes h.0)
+    ap (λ r. content_read r >>= short_enough Two) (decode_of-encode_lower bytes h.0)
     ∙ ap (λ b. cond b (Some bytes) None) (le-leb (length bytes) 4000 h.1)
 
 pub each-again : {A : Type 0} (form : Data → Option A) (value : A → Data) (P : A → Type 0) → ((x : A) → P x → form (value x) ≡ Some x)

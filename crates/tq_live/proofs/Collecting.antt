@@ -2,7 +2,7 @@
 use Rattle.std.proofs.Common.{◌≡◌, ℕ, ◌<◌, List, [], ◌∷◌, Bool, true, false, cond, nat_lt, refl, sym, ap, ◌∙◌, arith, inl, inr}
 use Rattle.std.proofs.lemmas.Bool.{cases_lt, cases_eq, lt-ltb, le-ltb, eq-eqb, ne_eqb}
 use Rattle.tq_shape.specs.ServerSet.{Ascends, with_number}
-use Rattle.tq_coterie.specs.Coterie.{joined, with_server}
+use Rattle.tq_coterie.specs.Coterie.{union_of, with_server}
 use Rattle.tq_live.specs.Collected.{with_all}
 
 with-below : (number first : ℕ) (rest : List ℕ) → number < first → with_number number (first ∷ rest) ≡ number ∷ first ∷ rest
@@ -85,9 +85,9 @@ with_all-with_server server (first ∷ rest) set =
     by_order false later = later
 
 -- those of both lists are those of one put in to those of the other
-pub with_all-joined : (servers others set : List ℕ) → with_all (joined servers others) set ≡ with_all servers (with_all others set)
+pub with_all-joined : (servers others set : List ℕ) → with_all (union_of servers others) set ≡ with_all servers (with_all others set)
 with_all-joined [] others set = refl
-with_all-joined (first ∷ rest) others set = with_all-with_server first (joined rest others) set ∙ ap (with_number first) (with_all-joined rest others set)
+with_all-joined (first ∷ rest) others set = with_all-with_server first (union_of rest others) set ∙ ap (with_number first) (with_all-joined rest others set)
 
 with-first : (number : ℕ) (rest : List ℕ) → Ascends number rest → with_number number rest ≡ number ∷ rest
 with-first number [] up = refl

@@ -3,7 +3,7 @@ use Rattle.std.proofs.Common.{◌≡◌, ℕ, ◌+◌, ◌≤◌, zero, suc, Lis
 use Rattle.std.proofs.lemmas.List.Sums.{sum_by-cons}
 use Rattle.tq_shape.specs.Tree.{left_of, right_of}
 use Rattle.tq_coterie.proofs.Sets.{sum_by-joined}
-use Rattle.tq_live.specs.Least.{least_member, changed, pair}
+use Rattle.tq_live.specs.Least.{least_member, changed_set, pair}
 use Rattle.tq_live.specs.Weights.{is_less, weight_by, plus, lesser}
 use Rattle.tq_live.proofs.Pick.{pick}
 use Rattle.tq_live.proofs.LeastMembers.{with_top, ltb-add, least_member-leaf, least_member-fork}
@@ -37,7 +37,7 @@ weight_by-pair cost (Some q) (Some p) = ap Some (sum_by-joined cost q p)
 pub weight_by-with_top : (cost : ℕ → ℕ) (allowed : ℕ → Bool) (top : ℕ) (found : Option (List ℕ)) → weight_by (sum_by cost) (with_top allowed top found) ≡ plus (top_weight cost allowed top) (weight_by (sum_by cost) found)
 weight_by-with_top cost allowed top found = by_top (allowed top) found
   where
-    by_top : (here : Bool) (found : Option (List ℕ)) → weight_by (sum_by cost) (cond here (changed (λ q. top ∷ q) found) None) ≡ plus (cond here (Some (cost top)) None) (weight_by (sum_by cost) found)
+    by_top : (here : Bool) (found : Option (List ℕ)) → weight_by (sum_by cost) (cond here (changed_set (λ q. top ∷ q) found) None) ≡ plus (cond here (Some (cost top)) None) (weight_by (sum_by cost) found)
     by_top true None = refl
     by_top true (Some q) = ap Some (sum_by-cons cost top q)
     by_top false found = refl

@@ -8,9 +8,9 @@ use Rattle.std.proofs.lemmas.List.FromFn.{get_or-map-range_with_len}
 use Rattle.tq_shape.specs.Tree.{IsServer, left_of, right_of}
 use Rattle.tq_shape.specs.Depth.{depth_of, height_of}
 use Rattle.tq_shape.proofs.Depth.{depth_of-bounds, depth_of-side}
-use Rattle.tq_live.specs.Least.{least_member, changed, pair}
+use Rattle.tq_live.specs.Least.{least_member, changed_set, pair}
 use Rattle.tq_live.specs.Live.{Live, costs_of, is_up}
-use Rattle.tq_live.specs.SearchFor.{cost_for, allowed_for, found, found_weight}
+use Rattle.tq_live.specs.SearchFor.{cost_for, allowed_for, found_set, found_weight}
 use Rattle.tq_live.specs.Subtree.{Subtree, Alone, Over}
 use Rattle.tq_live.specs.Form.{form_of, by_form}
 use Rattle.tq_live.specs.Costs.{even_costs, no_costs}
@@ -133,7 +133,7 @@ top_found : (live : Live) (sought : SearchFor) (top : ℕ) (up : Bool) (set : Op
 top_found live (Quorum purpose) top up set f = ap (λ b. cond b set None) (sym f)
 top_found live Blocker top up set f = ap (λ b. cond (not b) set None) (sym f)
 
-pub found_in-IsAt : (live : Live) (sought : SearchFor) (top : ℕ) (tree : Subtree) → IsAt live top tree → found_in sought top tree ≡ found live sought top
+pub found_in-IsAt : (live : Live) (sought : SearchFor) (top : ℕ) (tree : Subtree) → IsAt live top tree → found_in sought top tree ≡ found_set live sought top
 found_in-IsAt live sought top (Alone costs up) at =
     top_found live sought top up (Some (top ∷ [])) at.3
     ∙ (sym (least_member-leaf (cost_for live sought) (allowed_for live sought) top)
@@ -154,8 +154,8 @@ found_in-IsAt live sought top (Over costs up left right) at =
     let fork : IsFork weigh allowed height top below (left_of top) other (right_of top) = record { left_height = at.1; right_height = at.2; left_is = refl; right_is = refl } in
     let form_is : form ≡ form_of (top_weight weigh allowed top) (least_weight weigh allowed below (left_of top)) (least_weight weigh allowed other (right_of top)) =
     rw (same_here live sought top costs up at.3 at.4, weight_of-IsAt live sought (left_of top) left at.5, weight_of-IsAt live sought (right_of top) right at.6) refl in
-    let one : with_here sought up top in_left ≡ with_top allowed top found_left = top_found live sought top up (changed (λ set. top ∷ set) in_left) at.4 ∙ ap (with_top allowed top) lefts in
-    let two : with_here sought up top in_right ≡ with_top allowed top found_right = top_found live sought top up (changed (λ set. top ∷ set) in_right) at.4 ∙ ap (with_top allowed top) rights in
+    let one : with_here sought up top in_left ≡ with_top allowed top found_left = top_found live sought top up (changed_set (λ set. top ∷ set) in_left) at.4 ∙ ap (with_top allowed top) lefts in
+    let two : with_here sought up top in_right ≡ with_top allowed top found_right = top_found live sought top up (changed_set (λ set. top ∷ set) in_right) at.4 ∙ ap (with_top allowed top) rights in
     ap (λ a. by_form form a (with_here sought up top in_right) (pair in_left in_right)) one
     ∙ (ap (λ b. by_form form (with_top allowed top found_left) b (pair in_left in_right)) two
     ∙ (ap (λ l. by_form form (with_top allowed top found_left) (with_top allowed top found_right) (pair l in_right)) lefts

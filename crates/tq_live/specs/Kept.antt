@@ -3,7 +3,7 @@ use Rattle.std.specs.Prelude.{ℕ, zero, suc, ◌+◌, ◌-◌, ◌*◌, ◌/◌
 use Rattle.tq_live.specs.Weights.{plus, lesser}
 use Rattle.tq_live.specs.Costs.{cost_to, even_costs}
 use Rattle.tq_shape.specs.Tree.{IsServer, left_of, right_of}
-use Rattle.tq_live.specs.Least.{changed, pair}
+use Rattle.tq_live.specs.Least.{changed_set, pair}
 use Rattle.tq_live.specs.Form.{form_of, by_form}
 use Rattle.tq_live.specs.Subtree.{Subtree, Alone, Over, leaves}
 use Rattle.tq_live.specs.declared.search_for.SearchFor.{SearchFor}
@@ -119,7 +119,7 @@ allowed_here Blocker up = not up
 
 -- a set found below with the top, if that may be taken
 abbrev pub with_here : SearchFor → Bool → ℕ → Option (List ℕ) → Option (List ℕ)
-with_here sought up top found = cond (allowed_here sought up) (changed (λ set. top ∷ set) found) None
+with_here sought up top found = cond (allowed_here sought up) (changed_set (λ set. top ∷ set) found) None
 
 -- the first least member of the subtree of the server of that number
 abbrev pub found_in : SearchFor → ℕ → Subtree → Option (List ℕ)

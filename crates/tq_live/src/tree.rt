@@ -56,7 +56,7 @@ impl LiveTree {
     ghost use Rattle.tq_live.specs.LiveOf.{IsAt, changed_live};
     ghost use Rattle.tq_live.specs.Kept.{costs_after};
     ghost use Rattle.tq_live.specs.Costs.{AreCosts, AreLow, no_costs};
-    ghost use Rattle.tq_live.specs.SearchFor.{found};
+    ghost use Rattle.tq_live.specs.SearchFor.{found_set};
     ghost use Rattle.tq_live.specs.Choice.{IsChoice, IsFirstChoice};
     ghost use Rattle.tq_live.specs.BestOf.{IsBestOf, IsFirstOf};
 
@@ -188,8 +188,8 @@ impl LiveTree {
     fn gather_into(&self, sought: SearchFor, server: ServerId, set: &mut ServerSet)
         requires tree { server.levels ≡ self.now.levels }
         requires empty { set.old ≡ record { levels = self.now.levels; numbers = [] } }
-        requires there { IsSome (found self.now sought server.number) }
-        ensures found { found self.now sought server.number ≡ Some set.new.numbers }
+        requires there { IsSome (found_set self.now sought server.number) }
+        ensures found { found_set self.now sought server.number ≡ Some set.new.numbers }
         ensures levels { set.new.levels ≡ self.now.levels }
     {
         let number = server.number();
@@ -204,8 +204,9 @@ impl LiveTree {
         server: ServerId,
     ) -> Result<ServerIds, Memory>
         requires tree { server.levels ≡ self.now.levels }
-        requires there { IsSome (found self.now sought server.number) }
-        ensures set { IfOk result (λ ids. IsFound (found self.now sought server.number) ids.items) }
+        requires there { IsSome (found_set self.now sought server.number) }
+        ensures set { IfOk result
+            (λ ids. IsFound (found_set self.now sought server.number) ids.items) }
         ensures tree { IfOk result (λ ids. AreServersOf self.now.levels ids.items) }
     {
         let mut servers = ServerSet::new(alloc, self.levels)?;

@@ -22,8 +22,8 @@ use Rattle.tq_locks.specs.declared.keyed.KeyedLocks.{KeyedLocks}
 use Rattle.tq_locks.specs.declared.mode.Mode.{Mode}
 use Rattle.tq_locks.specs.declared.mode.Lock.{Lock}
 use Rattle.tq_locks.specs.Locks.{LockKey, Locks, lock_cmp, held_of}
-use Rattle.tq_locks.specs.Keys.{place, keys_under, told}
-use Rattle.tq_locks.specs.Kept.{decided, on_file, lock_found, AreKeysOf, ListsKeysOf, HasOneKeyEach, Agrees, IsOf, RisesTo}
+use Rattle.tq_locks.specs.Keys.{place, keys_under, entries_of}
+use Rattle.tq_locks.specs.Kept.{first_blocker, on_file, lock_found, AreKeysOf, ListsKeysOf, HasOneKeyEach, Agrees, IsOf, RisesTo}
 use Rattle.tq_locks.proofs.LockMaps.{locks_total, locks_same}
 use Rattle.tq_locks.proofs.Found.{none_some, some_same, first, second, less, below_each, Has-looked_up}
 use Rattle.tq_locks.proofs.Placed.{turned}
@@ -210,8 +210,8 @@ told-listed f (k ∷ keys) [] e = absurd (nil_cons (f k) (map f keys) (sym e))
 told-listed f (k ∷ keys) (x ∷ xs) e = λ i. cons_option (head_of (f k) (Some x) (map f keys) (map Some xs) e i) (told-listed f keys xs (tail_of (f k) (Some x) (map f keys) (map Some xs) e) i)
 
 -- the entries under the keys of a file say what the locks on it do
-pub decided_on_file : (kept : KeyedLocks) (locks : Locks) → Agrees kept locks → (file : List ℕ) (txn : ℕ) (mode : Mode) → decided txn mode (told kept.entries (keys_under same_name kept.by_file file)) ≡ decided txn mode (on_file locks file)
-decided_on_file kept locks a file txn mode = ap (decided txn mode) (told-listed (get kept.entries) (keys_under same_name kept.by_file file) (on_file locks file) (a.of_file file))
+pub decided_on_file : (kept : KeyedLocks) (locks : Locks) → Agrees kept locks → (file : List ℕ) (txn : ℕ) (mode : Mode) → first_blocker txn mode (entries_of kept.entries (keys_under same_name kept.by_file file)) ≡ first_blocker txn mode (on_file locks file)
+decided_on_file kept locks a file txn mode = ap (first_blocker txn mode) (told-listed (get kept.entries) (keys_under same_name kept.by_file file) (on_file locks file) (a.of_file file))
 
 -- the entry under a key of a transaction's list
 pub entry_of_key : (kept : KeyedLocks) (locks : Locks) → Agrees kept locks → (txn : ℕ) (keys : List ℕ) (i k : ℕ) → keys ≡ keys_under nat_eq kept.by_txn txn → slice_get keys i ≡ Some k → (e : Entry) × (e.0.1 ≡ txn) × (get kept.entries k ≡ Some e)

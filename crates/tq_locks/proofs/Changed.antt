@@ -15,7 +15,7 @@ use Rattle.tq_store.specs.Names.{same_name}
 use Rattle.tq_shape.specs.Journal.{Has}
 use Rattle.tq_locks.specs.declared.keyed.KeyedLocks.{KeyedLocks}
 use Rattle.tq_locks.specs.declared.mode.Lock.{Lock}
-use Rattle.tq_locks.specs.Locks.{LockKey, Locks, lock_cmp, held_of, released, only_stable, kept, HasNoConflict}
+use Rattle.tq_locks.specs.Locks.{LockKey, Locks, lock_cmp, held_of, locks_after_release, only_stable, locks_after_keep, HasNoConflict}
 use Rattle.tq_locks.specs.Keys.{place, keys_under}
 use Rattle.tq_locks.specs.Kept.{locks_in, on_file, Agrees}
 use Rattle.tq_locks.proofs.LockMaps.{locks_total, locks_same}
@@ -231,7 +231,7 @@ cut_same true false o h = refl
 cut_same false c o h = refl
 
 -- one of the locks that are to go may go first
-pub released-remove : (locks : Locks) (q : LockKey) → released (fin.remove locks q) q.1 ≡ released locks q.1
+pub released-remove : (locks : Locks) (q : LockKey) → locks_after_release (fin.remove locks q) q.1 ≡ locks_after_release locks q.1
 released-remove locks q = same_sets _ _ (λ r.
     get-released (fin.remove locks q) q.1 r
     ∙ ap (λ o. cond (not (r.1 == q.1)) o None) (fin.get-remove locks_total locks q r)
@@ -245,7 +245,7 @@ nothing_held : (locks : Locks) (txn : ℕ) → held_of locks txn ≡ [] → (q :
 nothing_held locks txn e q l t f = subst (λ es. Has es (q, l)) e (filter-Has (λ (x : Entry). x.0.1 == txn) (fin.entries locks) (q, l) (entry_of locks_total locks_same locks q l f) t)
 
 -- where a transaction holds nothing there is nothing to release
-pub released-none : (locks : Locks) (txn : ℕ) → held_of locks txn ≡ [] → released locks txn ≡ locks
+pub released-none : (locks : Locks) (txn : ℕ) → held_of locks txn ≡ [] → locks_after_release locks txn ≡ locks
 released-none locks txn e = same_sets _ _ (λ q. get-released locks txn q ∙ by_look q (q.1 == txn) refl (fin.get locks q) refl)
   where
     by_look : (q : LockKey) (b : Bool) → (q.1 == txn) ≡ b → (o : Option Lock) → fin.get locks q ≡ o → cond (not b) o None ≡ o

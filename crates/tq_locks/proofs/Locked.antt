@@ -12,8 +12,8 @@ use Rattle.std.specs.Option.{option_map, option_map_or}
 use Rattle.std.specs.Ordering.{nat_cmp, is_lt, eq_by_cmp, ordering_then}
 use Rattle.std.specs.declared.cmp.Ordering.{Ordering}
 use Rattle.std.specs.declared.cmp.Ordering.TheVariants.{Less}
-use Rattle.tq_locks.specs.Kept.{decided}
-use Rattle.tq_locks.specs.Locks.{LockKey, Locks, lock_cmp, conflicts, stronger, blocks, Blocks, IsFree, IsLeastBlocker, blocker, lock_after, granted, released, only_stable, stabilised, kept, HasNoConflict}
+use Rattle.tq_locks.specs.Kept.{first_blocker}
+use Rattle.tq_locks.specs.Locks.{LockKey, Locks, lock_cmp, conflicts, stronger, blocks, Blocks, IsFree, IsLeastBlocker, blocker, lock_after, locks_after_grant, locks_after_release, only_stable, entry_after_keep, locks_after_keep, HasNoConflict}
 use Rattle.tq_locks.specs.declared.mode.Mode.{Mode}
 use Rattle.tq_locks.specs.declared.mode.Mode.TheVariants.{Shared, Exclusive}
 use Rattle.tq_locks.specs.declared.mode.Lock.{Lock}
@@ -32,30 +32,30 @@ same_key a b h = locks_same a b (is_eq-Equal (lock_cmp a b) h)
 
 -- ---- what the table has after each change
 
-pub get-granted : (locks : Locks) (file : List ℕ) (txn : ℕ) (mode : Mode) (number version : ℕ) (q : LockKey) → fin.get (granted locks file txn mode number version) q ≡ cond (eq_by_cmp lock_cmp q (file, txn)) (Some (lock_after (fin.get locks (file, txn)) mode number version)) (fin.get locks q)
+pub get-granted : (locks : Locks) (file : List ℕ) (txn : ℕ) (mode : Mode) (number version : ℕ) (q : LockKey) → fin.get (locks_after_grant locks file txn mode number version) q ≡ cond (eq_by_cmp lock_cmp q (file, txn)) (Some (lock_after (fin.get locks (file, txn)) mode number version)) (fin.get locks q)
 get-granted locks file txn mode number version q = fin.get-insert locks_total locks (file, txn) (lock_after (fin.get locks (file, txn)) mode number version) q
 
-pub get-released : (locks : Locks) (txn : ℕ) (q : LockKey) → fin.get (released locks txn) q ≡ cond (not (q.1 == txn)) (fin.get locks q) None
+pub get-released : (locks : Locks) (txn : ℕ) (q : LockKey) → fin.get (locks_after_release locks txn) q ≡ cond (not (q.1 == txn)) (fin.get locks q) None
 get-released locks txn q = fin.get-retain_keys locks (λ key. not (key.1 == txn)) q (λ k t. ap (λ (key : LockKey). not (key.1 == txn)) (sym (locks_same q k t)))
 
 pub get-only_stable : (locks : Locks) (q : LockKey) → fin.get (only_stable locks) q ≡ cond (option_map_or (λ lock. lock.stable) (fin.get locks q) false) (fin.get locks q) None
 get-only_stable locks q = fin.get-retain_keys locks (λ key. option_map_or (λ lock. lock.stable) (fin.get locks key) false) q (λ k t. ap (λ (key : LockKey). option_map_or (λ lock. lock.stable) (fin.get locks key) false) (sym (locks_same q k t)))
 
 kept_step : (txn : ℕ) (q : LockKey) (e : LockKey × Lock) (rest : List (LockKey × Lock)) (b : Bool) → eq_by_cmp lock_cmp q e.0 ≡ b
-    → fin.find lock_cmp q (map (stabilised txn) rest) ≡ option_map (λ lock. (stabilised txn (q, lock)).1) (fin.find lock_cmp q rest)
-    → cond b (Some (stabilised txn e).1) (fin.find lock_cmp q (map (stabilised txn) rest)) ≡ option_map (λ lock. (stabilised txn (q, lock)).1) (cond b (Some e.1) (fin.find lock_cmp q rest))
-kept_step txn q e rest true t next = ap (λ (key : LockKey). Some (stabilised txn (key, e.1)).1) (sym (same_key q e.0 t))
+    → fin.find lock_cmp q (map (entry_after_keep txn) rest) ≡ option_map (λ lock. (entry_after_keep txn (q, lock)).1) (fin.find lock_cmp q rest)
+    → cond b (Some (entry_after_keep txn e).1) (fin.find lock_cmp q (map (entry_after_keep txn) rest)) ≡ option_map (λ lock. (entry_after_keep txn (q, lock)).1) (cond b (Some e.1) (fin.find lock_cmp q rest))
+kept_step txn q e rest true t next = ap (λ (key : LockKey). Some (entry_after_keep txn (key, e.1)).1) (sym (same_key q e.0 t))
 kept_step txn q e rest false t next = next
 
-find-stabilised : (txn : ℕ) (q : LockKey) (es : List (LockKey × Lock)) → fin.find lock_cmp q (map (stabilised txn) es) ≡ option_map (λ lock. (stabilised txn (q, lock)).1) (fin.find lock_cmp q es)
+find-stabilised : (txn : ℕ) (q : LockKey) (es : List (LockKey × Lock)) → fin.find lock_cmp q (map (entry_after_keep txn) es) ≡ option_map (λ lock. (entry_after_keep txn (q, lock)).1) (fin.find lock_cmp q es)
 find-stabilised txn q [] = refl
 find-stabilised txn q (e ∷ es) = kept_step txn q e es (eq_by_cmp lock_cmp q e.0) refl (find-stabilised txn q es)
 
-pub get-kept : (locks : Locks) (txn : ℕ) (q : LockKey) → fin.get (kept locks txn) q ≡ option_map (λ lock. (stabilised txn (q, lock)).1) (fin.get locks q)
+pub get-kept : (locks : Locks) (txn : ℕ) (q : LockKey) → fin.get (locks_after_keep locks txn) q ≡ option_map (λ lock. (entry_after_keep txn (q, lock)).1) (fin.get locks q)
 get-kept locks txn q =
-    fin.get-from_entries locks_total (map (stabilised txn) (fin.entries locks)) q
+    fin.get-from_entries locks_total (map (entry_after_keep txn) (fin.entries locks)) q
     ∙ find-stabilised txn q (fin.entries locks)
-    ∙ ap (option_map (λ lock. (stabilised txn (q, lock)).1)) (sym (fin.get-entries locks q))
+    ∙ ap (option_map (λ lock. (entry_after_keep txn (q, lock)).1)) (sym (fin.get-entries locks q))
 
 -- ---- what blocks a request
 
@@ -162,18 +162,18 @@ left_over : (b : Bool) (o : Option Lock) (a : Lock) → cond b o None ≡ Some a
 left_over true o a h = h
 left_over false o a h = absurd (none_some a h)
 
-pub HasNoConflict-released : (locks : Locks) (txn : ℕ) → HasNoConflict locks → HasNoConflict (released locks txn)
-HasNoConflict-released locks txn = HasNoConflict-fewer locks (released locks txn) (λ q a f. (a, left_over (not (q.1 == txn)) (fin.get locks q) a (sym (get-released locks txn q) ∙ f), refl))
+pub HasNoConflict-released : (locks : Locks) (txn : ℕ) → HasNoConflict locks → HasNoConflict (locks_after_release locks txn)
+HasNoConflict-released locks txn = HasNoConflict-fewer locks (locks_after_release locks txn) (λ q a f. (a, left_over (not (q.1 == txn)) (fin.get locks q) a (sym (get-released locks txn q) ∙ f), refl))
 
 pub HasNoConflict-only_stable : (locks : Locks) → HasNoConflict locks → HasNoConflict (only_stable locks)
 HasNoConflict-only_stable locks = HasNoConflict-fewer locks (only_stable locks) (λ q a f. (a, left_over (option_map_or (λ lock. lock.stable) (fin.get locks q) false) (fin.get locks q) a (sym (get-only_stable locks q) ∙ f), refl))
 
-marked : (txn : ℕ) (q : LockKey) (o : Option Lock) (a : Lock) → option_map (λ lock. (stabilised txn (q, lock)).1) o ≡ Some a → (lock : Lock) × (o ≡ Some lock) × (lock.mode ≡ a.mode)
+marked : (txn : ℕ) (q : LockKey) (o : Option Lock) (a : Lock) → option_map (λ lock. (entry_after_keep txn (q, lock)).1) o ≡ Some a → (lock : Lock) × (o ≡ Some lock) × (lock.mode ≡ a.mode)
 marked txn q None a h = absurd (none_some a h)
-marked txn q (Some lock) a h = (lock, refl, ap (λ (l : Lock). l.mode) (some_same (stabilised txn (q, lock)).1 a h))
+marked txn q (Some lock) a h = (lock, refl, ap (λ (l : Lock). l.mode) (some_same (entry_after_keep txn (q, lock)).1 a h))
 
-pub HasNoConflict-kept : (locks : Locks) (txn : ℕ) → HasNoConflict locks → HasNoConflict (kept locks txn)
-HasNoConflict-kept locks txn = HasNoConflict-fewer locks (kept locks txn) (λ q a f. marked txn q (fin.get locks q) a (sym (get-kept locks txn q) ∙ f))
+pub HasNoConflict-kept : (locks : Locks) (txn : ℕ) → HasNoConflict locks → HasNoConflict (locks_after_keep locks txn)
+HasNoConflict-kept locks txn = HasNoConflict-fewer locks (locks_after_keep locks txn) (λ q a f. marked txn q (fin.get locks q) a (sym (get-kept locks txn q) ∙ f))
 
 module _ (locks : Locks) (file : List ℕ) (txn : ℕ) (mode : Mode) (number version : ℕ) (free : IsFree locks file txn mode) (h : HasNoConflict locks) where
   agrees : (by : ℕ) (b : Lock) → by ≢ txn → fin.get locks (file, by) ≡ Some b → conflicts mode b.mode ≡ false
@@ -191,7 +191,7 @@ module _ (locks : Locks) (file : List ℕ) (txn : ℕ) (mode : Mode) (number ver
   abbrev IsAt : LockKey → Lock → Type 0
   IsAt q a = ((q ≡ key file txn) × (lock_after (fin.get locks (file, txn)) mode number version ≡ a)) ⊎ (fin.get locks q ≡ Some a)
 
-  at : (q : LockKey) (a : Lock) → fin.get (granted locks file txn mode number version) q ≡ Some a → IsAt q a
+  at : (q : LockKey) (a : Lock) → fin.get (locks_after_grant locks file txn mode number version) q ≡ Some a → IsAt q a
   at q a f = by_test (eq_by_cmp lock_cmp q (file, txn)) refl (sym (get-granted locks file txn mode number version q) ∙ f)
     where
       by_test : (b : Bool) → eq_by_cmp lock_cmp q (file, txn) ≡ b → cond b (Some (lock_after (fin.get locks (file, txn)) mode number version)) (fin.get locks q) ≡ Some a → IsAt q a
@@ -209,7 +209,7 @@ module _ (locks : Locks) (file : List ℕ) (txn : ℕ) (mode : Mode) (number ver
   both_at f s t a b other (inr x) (inl y) = conflicts-swapped a.mode b.mode ∙ one_new f t s b a (λ e. other (sym e)) y.0 y.1 x
   both_at f s t a b other (inr x) (inr y) = h f s t a b other x y
 
-  pub HasNoConflict-granted : HasNoConflict (granted locks file txn mode number version)
+  pub HasNoConflict-granted : HasNoConflict (locks_after_grant locks file txn mode number version)
   HasNoConflict-granted f s t a b other x y = both_at f s t a b other (at (f, s) a x) (at (f, t) b y)
 
 pub HasNoConflict-empty : HasNoConflict fin.empty
@@ -248,12 +248,12 @@ turned_number s t = by_tests (s == t) (t == s) refl refl
     by_tests false true e f = absurd (grind (arith, nat_tests))
 
 decided_step : (file : List ℕ) (txn : ℕ) (mode : Mode) (e : LockKey × Lock) (es : List (LockKey × Lock)) → pointwise nat_eq file e.0.0 ≡ true → ((x : LockKey × Lock) → Has es x → conflicts e.1.mode x.1.mode ≡ false)
-    → decided txn mode es ≡ first_of (lists.find (blocks file txn mode) es) → decided txn mode (e ∷ es) ≡ first_of (lists.find (blocks file txn mode) (e ∷ es))
+    → first_blocker txn mode es ≡ first_of (lists.find (blocks file txn mode) es) → first_blocker txn mode (e ∷ es) ≡ first_of (lists.find (blocks file txn mode) (e ∷ es))
 decided_step file txn mode e es on agree next =
     by_tests (e.0.1 == txn) (conflicts mode e.1.mode) refl refl
     ∙ ap (λ b. first_of (cond b (Some e) (lists.find (blocks file txn mode) es))) (λ i. sym on i && not (turned_number e.0.1 txn i) && conflicts mode e.1.mode)
   where
-    by_tests : (b c : Bool) → (e.0.1 == txn) ≡ b → conflicts mode e.1.mode ≡ c → cond b (decided txn mode es) (cond c (Some e.0.1) None) ≡ first_of (cond (true && not b && c) (Some e) (lists.find (blocks file txn mode) es))
+    by_tests : (b c : Bool) → (e.0.1 == txn) ≡ b → conflicts mode e.1.mode ≡ c → cond b (first_blocker txn mode es) (cond c (Some e.0.1) None) ≡ first_of (cond (true && not b && c) (Some e) (lists.find (blocks file txn mode) es))
     by_tests true c s t = next
     by_tests false true s t = refl
     by_tests false false s t = sym (ap first_of (none_blocks file txn mode es (λ x h n. both_shared mode e.1.mode x.1.mode t (agree x h))))
@@ -263,7 +263,7 @@ abbrev pub AllAgree : List (LockKey × Lock) → Type 0
 AllAgree [] = Unit {0}
 AllAgree (e ∷ es) = ((x : LockKey × Lock) → Has es x → conflicts e.1.mode x.1.mode ≡ false) × AllAgree es
 
-decided-blocks : (file : List ℕ) (txn : ℕ) (mode : Mode) (es : List (LockKey × Lock)) → ((e : LockKey × Lock) → Has es e → pointwise nat_eq file e.0.0 ≡ true) → AllAgree es → decided txn mode es ≡ first_of (lists.find (blocks file txn mode) es)
+decided-blocks : (file : List ℕ) (txn : ℕ) (mode : Mode) (es : List (LockKey × Lock)) → ((e : LockKey × Lock) → Has es e → pointwise nat_eq file e.0.0 ≡ true) → AllAgree es → first_blocker txn mode es ≡ first_of (lists.find (blocks file txn mode) es)
 decided-blocks file txn mode [] on agree = refl
 decided-blocks file txn mode (e ∷ es) on agree = decided_step file txn mode e es (on e (inl refl)) agree.0 (decided-blocks file txn mode es (λ x h. on x (inr h)) agree.1)
 
@@ -305,7 +305,7 @@ agree_all locks file h (e ∷ es) t from = (
         (ap (λ f. fin.get locks (f, x.0.1)) other ∙ get-entry_of locks_total locks_same locks x b.0)
 
 -- the first lock of another transaction on the file decides
-pub decided-blocker : (locks : Locks) (file : List ℕ) (txn : ℕ) (mode : Mode) → HasNoConflict locks → decided txn mode (filter (λ e. pointwise nat_eq file e.0.0) (fin.entries locks)) ≡ blocker locks file txn mode
+pub decided-blocker : (locks : Locks) (file : List ℕ) (txn : ℕ) (mode : Mode) → HasNoConflict locks → first_blocker txn mode (filter (λ e. pointwise nat_eq file e.0.0) (fin.entries locks)) ≡ blocker locks file txn mode
 decided-blocker locks file txn mode h =
     let es = filter (λ (e : LockKey × Lock). pointwise nat_eq file e.0.0) (fin.entries locks) in
     let from = Has-kept (λ e. pointwise nat_eq file e.0.0) (fin.entries locks) in

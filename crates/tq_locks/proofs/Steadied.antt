@@ -14,10 +14,10 @@ use Rattle.tq_store.specs.Names.{same_name}
 use Rattle.tq_shape.specs.Journal.{Has}
 use Rattle.tq_locks.specs.declared.keyed.KeyedLocks.{KeyedLocks}
 use Rattle.tq_locks.specs.declared.mode.Lock.{Lock}
-use Rattle.tq_locks.specs.Locks.{LockKey, Locks, lock_cmp, held_of, kept, stabilised}
+use Rattle.tq_locks.specs.Locks.{LockKey, Locks, lock_cmp, held_of, locks_after_keep, entry_after_keep}
 use Rattle.tq_locks.specs.Keys.{keys_under}
 use Rattle.tq_locks.specs.Kept.{AreKeysOf, Agrees}
-use Rattle.tq_locks.specs.Loose.{steady_entry, steadied}
+use Rattle.tq_locks.specs.Loose.{steady_entry, entry_after_steady}
 use Rattle.tq_locks.proofs.LockMaps.{locks_total, locks_same}
 use Rattle.tq_locks.proofs.Found.{none_some, some_same}
 use Rattle.tq_locks.proofs.Locked.{get-kept}
@@ -29,7 +29,7 @@ abbrev Entry : Type 0
 Entry = LockKey × Lock
 
 -- the first of the keys may go first
-pub steadied-more : (old new : Slab Entry) (k : ℕ) (keys : List ℕ) → ((j : ℕ) → get new j ≡ steadied old (k ∷ []) j) → (j : ℕ) → steadied new keys j ≡ steadied old (k ∷ keys) j
+pub steadied-more : (old new : Slab Entry) (k : ℕ) (keys : List ℕ) → ((j : ℕ) → get new j ≡ entry_after_steady old (k ∷ []) j) → (j : ℕ) → entry_after_steady new keys j ≡ entry_after_steady old (k ∷ keys) j
 steadied-more old new k keys changed j = by_test (j == k) keys (changed j)
   where
     same : (b : Bool) (o : Option Entry) → cond b (option_map steady_entry (option_map steady_entry o)) (option_map steady_entry o) ≡ option_map steady_entry o
@@ -37,22 +37,22 @@ steadied-more old new k keys changed j = by_test (j == k) keys (changed j)
     same true (Some x) = refl
     same false o = refl
 
-    by_test : (b : Bool) (keys : List ℕ) → get new j ≡ cond b (option_map steady_entry (get old j)) (get old j) → steadied new keys j ≡ cond b (option_map steady_entry (get old j)) (steadied old keys j)
+    by_test : (b : Bool) (keys : List ℕ) → get new j ≡ cond b (option_map steady_entry (get old j)) (get old j) → entry_after_steady new keys j ≡ cond b (option_map steady_entry (get old j)) (entry_after_steady old keys j)
     by_test true [] e = e
     by_test false [] e = e
     by_test true (i ∷ keys) e = (λ n. cond (j == i) (option_map steady_entry (e n)) (by_test true keys e n)) ∙ same (j == i) (get old j)
     by_test false (i ∷ keys) e = λ n. cond (j == i) (option_map steady_entry (e n)) (by_test false keys e n)
 
 -- whatever order the keys have
-steadied-any : (slab : Slab Entry) (keys : List ℕ) (k : ℕ) → steadied slab keys k ≡ cond (list_any (λ j. k == j) keys) (option_map steady_entry (get slab k)) (get slab k)
+steadied-any : (slab : Slab Entry) (keys : List ℕ) (k : ℕ) → entry_after_steady slab keys k ≡ cond (list_any (λ j. k == j) keys) (option_map steady_entry (get slab k)) (get slab k)
 steadied-any slab [] k = refl
 steadied-any slab (j ∷ keys) k = by_test (k == j) (steadied-any slab keys k)
   where
-    by_test : (b : Bool) → steadied slab keys k ≡ cond (list_any (λ j. k == j) keys) (option_map steady_entry (get slab k)) (get slab k) → cond b (option_map steady_entry (get slab k)) (steadied slab keys k) ≡ cond (b || list_any (λ j. k == j) keys) (option_map steady_entry (get slab k)) (get slab k)
+    by_test : (b : Bool) → entry_after_steady slab keys k ≡ cond (list_any (λ j. k == j) keys) (option_map steady_entry (get slab k)) (get slab k) → cond b (option_map steady_entry (get slab k)) (entry_after_steady slab keys k) ≡ cond (b || list_any (λ j. k == j) keys) (option_map steady_entry (get slab k)) (get slab k)
     by_test true next = refl
     by_test false next = next
 
-pub steadied-moved : (slab : Slab Entry) (keys moved : List ℕ) → IsPermutation keys moved → (k : ℕ) → steadied slab moved k ≡ steadied slab keys k
+pub steadied-moved : (slab : Slab Entry) (keys moved : List ℕ) → IsPermutation keys moved → (k : ℕ) → entry_after_steady slab moved k ≡ entry_after_steady slab keys k
 steadied-moved slab keys moved p k =
     steadied-any slab moved k
     ∙ ap (λ b. cond b (option_map steady_entry (get slab k)) (get slab k)) (sym (list_any-IsPermutation (λ j. k == j) keys moved p))
@@ -69,7 +69,7 @@ marked e b = by_test e.1.stable b
     by_test false false = refl
 
 -- the lock under a key, which is among the keys where it's the transaction's
-is_steadied : (slab : Slab Entry) (txn k : ℕ) (e : Entry) (keys : List ℕ) → get slab k ≡ Some e → (Has keys k → (e.0.1 == txn) ≡ true) → ((e.0.1 == txn) ≡ true → Has keys k) → steadied slab keys k ≡ Some (stabilised txn e)
+is_steadied : (slab : Slab Entry) (txn k : ℕ) (e : Entry) (keys : List ℕ) → get slab k ≡ Some e → (Has keys k → (e.0.1 == txn) ≡ true) → ((e.0.1 == txn) ≡ true → Has keys k) → entry_after_steady slab keys k ≡ Some (entry_after_keep txn e)
 is_steadied slab txn k e [] f own all = f ∙ by_test (e.0.1 == txn) all ∙ sym (marked e (e.0.1 == txn))
   where
     by_test : (b : Bool) → (b ≡ true → ⊥) → Some e ≡ cond b (Some (steady_entry e)) (Some e)
@@ -77,7 +77,7 @@ is_steadied slab txn k e [] f own all = f ∙ by_test (e.0.1 == txn) all ∙ sym
     by_test false h = refl
 is_steadied slab txn k e (j ∷ keys) f own all = by_test (k == j) refl (is_steadied slab txn k e keys f (λ h. own (inr h)))
   where
-    by_test : (b : Bool) → (k == j) ≡ b → (((e.0.1 == txn) ≡ true → Has keys k) → steadied slab keys k ≡ Some (stabilised txn e)) → cond b (option_map steady_entry (get slab k)) (steadied slab keys k) ≡ Some (stabilised txn e)
+    by_test : (b : Bool) → (k == j) ≡ b → (((e.0.1 == txn) ≡ true → Has keys k) → entry_after_steady slab keys k ≡ Some (entry_after_keep txn e)) → cond b (option_map steady_entry (get slab k)) (entry_after_steady slab keys k) ≡ Some (entry_after_keep txn e)
     by_test true t next =
         let one : j ≡ k = grind (arith, nat_tests) in
         ap (option_map steady_entry) f ∙ sym (marked e (e.0.1 == txn) ∙ ap (λ b. cond b (Some (steady_entry e)) (Some e)) (own (inl one)))
@@ -86,23 +86,23 @@ is_steadied slab txn k e (j ∷ keys) f own all = by_test (k == j) refl (is_stea
         itself : (n : ℕ) → (n == n) ≡ true
         itself n = grind (arith, nat_tests)
 
-none_steadied : (slab : Slab Entry) (k : ℕ) (keys : List ℕ) → get slab k ≡ None → steadied slab keys k ≡ None
+none_steadied : (slab : Slab Entry) (k : ℕ) (keys : List ℕ) → get slab k ≡ None → entry_after_steady slab keys k ≡ None
 none_steadied slab k [] h = h
 none_steadied slab k (j ∷ keys) h = by_test (k == j) (none_steadied slab k keys h)
   where
-    by_test : (b : Bool) → steadied slab keys k ≡ None → cond b (option_map steady_entry (get slab k)) (steadied slab keys k) ≡ None
+    by_test : (b : Bool) → entry_after_steady slab keys k ≡ None → cond b (option_map steady_entry (get slab k)) (entry_after_steady slab keys k) ≡ None
     by_test true next = ap (option_map steady_entry) h
     by_test false next = next
 
-entries-kept : (locks : Locks) (txn : ℕ) → fin.entries (kept locks txn) ≡ map (stabilised txn) (fin.entries locks)
+entries-kept : (locks : Locks) (txn : ℕ) → fin.entries (locks_after_keep locks txn) ≡ map (entry_after_keep txn) (fin.entries locks)
 entries-kept locks txn =
-    let es = map (stabilised txn) (fin.entries locks) in
-    same_entries lock_cmp locks_total locks_same (fin.entries (kept locks txn)) es (fin.entries_sorted (kept locks txn))
-    (subst T (sym (sorted-valued locks_total locks_same (λ e. (stabilised txn e).1) (fin.entries locks))) (fin.entries_sorted locks))
-    (λ q. sym (fin.get-entries (kept locks txn) q) ∙ fin.get-from_entries locks_total es q)
+    let es = map (entry_after_keep txn) (fin.entries locks) in
+    same_entries lock_cmp locks_total locks_same (fin.entries (locks_after_keep locks txn)) es (fin.entries_sorted (locks_after_keep locks txn))
+    (subst T (sym (sorted-valued locks_total locks_same (λ e. (entry_after_keep txn e).1) (fin.entries locks))) (fin.entries_sorted locks))
+    (λ q. sym (fin.get-entries (locks_after_keep locks txn) q) ∙ fin.get-from_entries locks_total es q)
 
-module _ (old new : KeyedLocks) (locks : Locks) (txn : ℕ) (a : Agrees old locks) (steady_now : (k : ℕ) → get new.entries k ≡ steadied old.entries (keys_under nat_eq old.by_txn txn) k) where
-  each : (k : ℕ) (e : Entry) → get old.entries k ≡ Some e → get new.entries k ≡ Some (stabilised txn e)
+module _ (old new : KeyedLocks) (locks : Locks) (txn : ℕ) (a : Agrees old locks) (steady_now : (k : ℕ) → get new.entries k ≡ entry_after_steady old.entries (keys_under nat_eq old.by_txn txn) k) where
+  each : (k : ℕ) (e : Entry) → get old.entries k ≡ Some e → get new.entries k ≡ Some (entry_after_keep txn e)
   each k e f =
       steady_now k
       ∙ is_steadied old.entries txn k e (keys_under nat_eq old.by_txn txn) f
@@ -115,22 +115,22 @@ module _ (old new : KeyedLocks) (locks : Locks) (txn : ℕ) (a : Agrees old lock
       same_number : (n : ℕ) → (n == txn) ≡ true → n ≡ txn
       same_number n h = grind (arith, nat_tests)
 
-  was_there : (k : ℕ) (e : Entry) → get new.entries k ≡ Some e → (x : Entry) × (get old.entries k ≡ Some x) × (stabilised txn x ≡ e)
+  was_there : (k : ℕ) (e : Entry) → get new.entries k ≡ Some e → (x : Entry) × (get old.entries k ≡ Some x) × (entry_after_keep txn x ≡ e)
   was_there k e f = by_look (get old.entries k) refl
     where
-      by_look : (o : Option Entry) → get old.entries k ≡ o → (x : Entry) × (get old.entries k ≡ Some x) × (stabilised txn x ≡ e)
+      by_look : (o : Option Entry) → get old.entries k ≡ o → (x : Entry) × (get old.entries k ≡ Some x) × (entry_after_keep txn x ≡ e)
       by_look None h = absurd (none_some e (sym (steady_now k ∙ none_steadied old.entries k (keys_under nat_eq old.by_txn txn) h) ∙ f))
-      by_look (Some x) h = (x, h, some_same (stabilised txn x) e (sym (each k x h) ∙ f))
+      by_look (Some x) h = (x, h, some_same (entry_after_keep txn x) e (sym (each k x h) ∙ f))
 
-  listed : (p : LockKey → Bool) (keys : List ℕ) → AreKeysOf old.entries keys (where_key lock_cmp p (fin.entries locks)) → AreKeysOf new.entries keys (where_key lock_cmp p (fin.entries (kept locks txn)))
+  listed : (p : LockKey → Bool) (keys : List ℕ) → AreKeysOf old.entries keys (where_key lock_cmp p (fin.entries locks)) → AreKeysOf new.entries keys (where_key lock_cmp p (fin.entries (locks_after_keep locks txn)))
   listed p keys h =
-      found_changed (get old.entries) (get new.entries) (stabilised txn) keys (where_key lock_cmp p (fin.entries locks)) h (λ k x m f. each k x f)
-      ∙ ap (map Some) (sym (ap (where_key lock_cmp p) (entries-kept locks txn) ∙ filter-valued p (λ e. (stabilised txn e).1) (fin.entries locks)))
+      found_changed (get old.entries) (get new.entries) (entry_after_keep txn) keys (where_key lock_cmp p (fin.entries locks)) h (λ k x m f. each k x f)
+      ∙ ap (map Some) (sym (ap (where_key lock_cmp p) (entries-kept locks txn) ∙ filter-valued p (λ e. (entry_after_keep txn e).1) (fin.entries locks)))
 
-  pub Agrees-kept : new.by_file ≡ old.by_file → new.by_txn ≡ old.by_txn → Agrees new (kept locks txn)
+  pub Agrees-kept : new.by_file ≡ old.by_file → new.by_txn ≡ old.by_txn → Agrees new (locks_after_keep locks txn)
   Agrees-kept files txns = record {
-    sound = λ k e f. let x = was_there k e f in subst (λ (y : Entry). fin.get (kept locks txn) y.0 ≡ Some y.1) x.2 (get-kept locks txn x.0.0 ∙ ap (option_map (λ lock. (stabilised txn (x.0.0, lock)).1)) (a.sound k x.0 x.1));
+    sound = λ k e f. let x = was_there k e f in subst (λ (y : Entry). fin.get (locks_after_keep locks txn) y.0 ≡ Some y.1) x.2 (get-kept locks txn x.0.0 ∙ ap (option_map (λ lock. (entry_after_keep txn (x.0.0, lock)).1)) (a.sound k x.0 x.1));
     once = λ j k e f g h s. let x = was_there j e g in let y = was_there k f h in a.once j k x.0 y.0 x.1 y.1 (ap (λ (z : Entry). z.0) x.2 ∙ s ∙ sym (ap (λ (z : Entry). z.0) y.2));
-    of_file = λ f. subst (λ lists. AreKeysOf new.entries (keys_under same_name lists f) (where_key lock_cmp (λ q. same_name f q.0) (fin.entries (kept locks txn)))) (sym files) (listed (λ q. same_name f q.0) (keys_under same_name old.by_file f) (a.of_file f));
-    of_txn = λ t. subst (λ lists. AreKeysOf new.entries (keys_under nat_eq lists t) (where_key lock_cmp (λ q. q.1 == t) (fin.entries (kept locks txn)))) (sym txns) (listed (λ q. q.1 == t) (keys_under nat_eq old.by_txn t) (a.of_txn t));
+    of_file = λ f. subst (λ lists. AreKeysOf new.entries (keys_under same_name lists f) (where_key lock_cmp (λ q. same_name f q.0) (fin.entries (locks_after_keep locks txn)))) (sym files) (listed (λ q. same_name f q.0) (keys_under same_name old.by_file f) (a.of_file f));
+    of_txn = λ t. subst (λ lists. AreKeysOf new.entries (keys_under nat_eq lists t) (where_key lock_cmp (λ q. q.1 == t) (fin.entries (locks_after_keep locks txn)))) (sym txns) (listed (λ q. q.1 == t) (keys_under nat_eq old.by_txn t) (a.of_txn t));
   }

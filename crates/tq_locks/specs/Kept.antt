@@ -14,7 +14,7 @@ use Rattle.tq_locks.specs.declared.mode.Mode.{Mode}
 use Rattle.tq_locks.specs.declared.mode.Lock.{Lock}
 use Rattle.tq_locks.specs.declared.index.Spot.{Spot}
 use Rattle.tq_locks.specs.Locks.{LockKey, Locks, lock_cmp, conflicts, held_of}
-use Rattle.tq_locks.specs.Keys.{keys_under, place, told}
+use Rattle.tq_locks.specs.Keys.{keys_under, place, entries_of}
 
 -- the entries that are kept, as a set of locks
 abbrev pub locks_in : KeyedLocks → Locks
@@ -25,9 +25,9 @@ abbrev pub on_file : Locks → List ℕ → List (LockKey × Lock)
 on_file locks file = filter (λ entry. same_name file entry.0.0) (fin.entries locks)
 
 -- what the first lock of another transaction says: its transaction blocks, or none does
-abbrev pub decided : ℕ → Mode → List (LockKey × Lock) → Option ℕ
-decided txn mode [] = None
-decided txn mode (e ∷ es) = if e.0.1 == txn then decided txn mode es else (if conflicts mode e.1.mode then Some e.0.1 else None)
+abbrev pub first_blocker : ℕ → Mode → List (LockKey × Lock) → Option ℕ
+first_blocker txn mode [] = None
+first_blocker txn mode (e ∷ es) = if e.0.1 == txn then first_blocker txn mode es else (if conflicts mode e.1.mode then Some e.0.1 else None)
 
 -- the lock under a key, where one was found
 abbrev pub lock_found : Slab (LockKey × Lock) → Option ℕ → Option Lock
@@ -43,11 +43,11 @@ file_index kept file = index_of same_name kept.by_file file
 
 -- the locks on a file, by its keys
 abbrev pub told_on : KeyedLocks → List ℕ → List (LockKey × Lock)
-told_on kept file = told kept.entries (file_keys kept file)
+told_on kept file = entries_of kept.entries (file_keys kept file)
 
 -- the transaction that blocks a request for the lock on this file, by the first lock there of another one
 abbrev pub decided_on : KeyedLocks → LockKey → Mode → Option ℕ
-decided_on kept name mode = decided name.1 mode (on_file (locks_in kept) name.0)
+decided_on kept name mode = first_blocker name.1 mode (on_file (locks_in kept) name.0)
 
 -- the keys are those of these entries, in this order
 abbrev pub AreKeysOf : Slab (LockKey × Lock) → List ℕ → List (LockKey × Lock) → Type 0

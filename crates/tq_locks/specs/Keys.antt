@@ -54,17 +54,17 @@ place cmp key [] = 0
 place cmp key (entry ∷ rest) = if is_lt (cmp entry.0 key) then suc (place cmp key rest) else 0
 
 -- the entries under these keys
-abbrev pub told : {X : Type 0} → Slab X → List ℕ → List X
-told slab keys = filter_map (in_slab slab) keys
+abbrev pub entries_of : {X : Type 0} → Slab X → List ℕ → List X
+entries_of slab keys = filter_map (in_slab slab) keys
 
 -- a block's keys in their order, where its first is at a place
 abbrev pub turn : ℕ → List ℕ → List ℕ
 turn start block = drop start block ++ take start block
 
 -- the keys of blocks of 2048 in their order, and those behind the blocks
-abbrev pub turned : List ℕ → List ℕ → List ℕ
-turned [] places = places
-turned (start ∷ starts) places = turn start (take 2048 places) ++ turned starts (drop 2048 places)
+abbrev pub turned_keys : List ℕ → List ℕ → List ℕ
+turned_keys [] places = places
+turned_keys (start ∷ starts) places = turn start (take 2048 places) ++ turned_keys starts (drop 2048 places)
 
 -- so many places are blocks, each with its first key in it, and no more keys behind them than one has
 abbrev pub HasBlocks : List ℕ → ℕ → Type 0
@@ -80,7 +80,7 @@ HasRoomBehind starts places = HasRoomFor places 1 × (length places.items < 2048
 
 -- the keys in their order, with the room that there is before one more block
 abbrev pub keys_of : List ℕ → SmallVec ℕ → SmallVec ℕ
-keys_of starts places = record { items = turned starts places.items; capacity = min places.capacity (2048 * suc (length starts)) }
+keys_of starts places = record { items = turned_keys starts places.items; capacity = min places.capacity (2048 * suc (length starts)) }
 
 -- the last of the keys has come into this place
 abbrev pub Sinks : List ℕ → List ℕ → ℕ → Type 0

@@ -77,8 +77,8 @@ abbrev pub lock_after : Option Lock → Mode → ℕ → ℕ → Lock
 lock_after None mode number version = record { mode = mode; since = number; version = version; stable = false }
 lock_after (Some lock) mode number version = record { mode = stronger lock.mode mode; since = lock.since; version = lock.version; stable = lock.stable }
 
-abbrev pub granted : Locks → List ℕ → ℕ → Mode → ℕ → ℕ → Locks
-granted locks file txn mode number version = fin.insert locks (file, txn) (lock_after (fin.get locks (file, txn)) mode number version)
+abbrev pub locks_after_grant : Locks → List ℕ → ℕ → Mode → ℕ → ℕ → Locks
+locks_after_grant locks file txn mode number version = fin.insert locks (file, txn) (lock_after (fin.get locks (file, txn)) mode number version)
 
 -- what a request for a lock gets, by the transaction that blocks it
 abbrev pub outcome : Option ℕ → LockOutcome
@@ -91,8 +91,8 @@ IsTold locks file txn mode Granted = IsFree locks file txn mode
 IsTold locks file txn mode (Held by) = IsLeastBlocker locks file txn mode by
 
 -- the locks after a request: one that is blocked leaves them as they were
-abbrev pub asked : Locks → List ℕ → ℕ → Mode → ℕ → ℕ → Locks
-asked locks file txn mode number version = state_at (blocker locks file txn mode) locks (granted locks file txn mode number version)
+abbrev pub locks_after_ask : Locks → List ℕ → ℕ → Mode → ℕ → ℕ → Locks
+locks_after_ask locks file txn mode number version = state_at (blocker locks file txn mode) locks (locks_after_grant locks file txn mode number version)
 
 -- the locks of a transaction, ascending by file
 abbrev pub held_of : Locks → ℕ → List (LockKey × Lock)
@@ -103,20 +103,20 @@ abbrev pub holds_nothing : Locks → ℕ → Bool
 holds_nothing locks txn = is_empty (held_of locks txn)
 
 -- without the locks of a transaction
-abbrev pub released : Locks → ℕ → Locks
-released locks txn = fin.retain_keys locks (λ key. not (key.1 == txn))
+abbrev pub locks_after_release : Locks → ℕ → Locks
+locks_after_release locks txn = fin.retain_keys locks (λ key. not (key.1 == txn))
 
 -- without the locks that aren't stable
 abbrev pub only_stable : Locks → Locks
 only_stable locks = fin.retain_keys locks (λ key. option_map_or (λ lock. lock.stable) (fin.get locks key) false)
 
 -- stable from now on, where it is the transaction's
-abbrev pub stabilised : ℕ → LockKey × Lock → LockKey × Lock
-stabilised txn entry = (entry.0, record { mode = entry.1.mode; since = entry.1.since; version = entry.1.version; stable = entry.1.stable || entry.0.1 == txn })
+abbrev pub entry_after_keep : ℕ → LockKey × Lock → LockKey × Lock
+entry_after_keep txn entry = (entry.0, record { mode = entry.1.mode; since = entry.1.since; version = entry.1.version; stable = entry.1.stable || entry.0.1 == txn })
 
 -- with the locks of a transaction stable
-abbrev pub kept : Locks → ℕ → Locks
-kept locks txn = fin.from_entries (map (stabilised txn) (fin.entries locks))
+abbrev pub locks_after_keep : Locks → ℕ → Locks
+locks_after_keep locks txn = fin.from_entries (map (entry_after_keep txn) (fin.entries locks))
 
 -- no two locks of the set are in conflict
 abbrev pub HasNoConflict : Locks → Type 0
@@ -149,8 +149,8 @@ IsAmong locks entry = fin.get locks entry.0 ≡ Some entry.1
 
 -- the lock is granted, and no other has changed
 abbrev pub IsGranted : LocksView → LocksView → List ℕ → ℕ → Mode → ℕ → ℕ → Type 0
-IsGranted old new file txn mode number version = new.locks ≡ granted old.locks file txn mode number version
+IsGranted old new file txn mode number version = new.locks ≡ locks_after_grant old.locks file txn mode number version
 
 -- the lock is granted unless a transaction blocks it, and no other has changed
 abbrev pub IsAsked : LocksView → LocksView → List ℕ → ℕ → Mode → ℕ → ℕ → Type 0
-IsAsked old new file txn mode number version = new.locks ≡ asked old.locks file txn mode number version
+IsAsked old new file txn mode number version = new.locks ≡ locks_after_ask old.locks file txn mode number version

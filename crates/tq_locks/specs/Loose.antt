@@ -48,9 +48,9 @@ abbrev pub steady_entry : LockKey × Lock → LockKey × Lock
 steady_entry entry = (entry.0, steady entry.1)
 
 -- the entry under a key, where the locks under these keys become stable
-abbrev pub steadied : Slab (LockKey × Lock) → List ℕ → ℕ → Option (LockKey × Lock)
-steadied slab [] key = get slab key
-steadied slab (k ∷ keys) key = if key == k then option_map steady_entry (get slab key) else steadied slab keys key
+abbrev pub entry_after_steady : Slab (LockKey × Lock) → List ℕ → ℕ → Option (LockKey × Lock)
+entry_after_steady slab [] key = get slab key
+entry_after_steady slab (k ∷ keys) key = if key == k then option_map steady_entry (get slab key) else entry_after_steady slab keys key
 
 -- the entry under a key, where another lock comes into one of them
 abbrev pub with_lock : Slab (LockKey × Lock) → ℕ → Lock → ℕ → Option (LockKey × Lock)

@@ -7,10 +7,10 @@ ghost use Rattle.tq_store.specs.Names.{same_name};
 ghost use Rattle.indexmap.specs.IndexMap.{index_of};
 ghost use Rattle.slab.specs.Slab.{get, slab_len, values, Updates};
 ghost use Rattle.tq_shape.specs.Steps.{state_at};
-ghost use Rattle.tq_locks.specs.Locks.{LockKey, Locks, kept, released, only_stable};
-ghost use Rattle.tq_locks.specs.Keys.{lent_keys, keys_under, place, told};
-ghost use Rattle.tq_locks.specs.Kept.{decided};
-ghost use Rattle.tq_locks.specs.Loose.{IsAsStable, IsLooseAt, steadied};
+ghost use Rattle.tq_locks.specs.Locks.{LockKey, Locks, locks_after_keep, locks_after_release, only_stable};
+ghost use Rattle.tq_locks.specs.Keys.{lent_keys, keys_under, place, entries_of};
+ghost use Rattle.tq_locks.specs.Kept.{first_blocker};
+ghost use Rattle.tq_locks.specs.Loose.{IsAsStable, IsLooseAt, entry_after_steady};
 
 use crate::index::{
     Spot, end_empty_under, enter_under, list_under, listed_under, make_room_under, put_under,
@@ -69,7 +69,7 @@ impl KeyedLocks {
     }
 
     /// The entries, in the order of their keys.
-    pub(crate) fn unsorted(&self, alloc: Global) -> Result<Vec<LockEntry>, AllocError>
+    pub(crate) fn entries_by_key(&self, alloc: Global) -> Result<Vec<LockEntry>, AllocError>
         ensures { IfOk result (λ all. all.items ≡ values self.now.entries) }
     {
         let mut all = Vec::with_capacity(alloc, self.entries.len())?;
@@ -153,7 +153,7 @@ impl KeyedLocks {
     // Where the key of a new entry goes among the keys of its file, or the transaction whose lock there blocks it.
     #[inline(always)]
     fn spot_in_file(&self, file: &FileName, txn: u64, mode: Mode) -> Result<Spot, u64>
-        ensures told { result_err result ≡ decided txn mode (told_on self.now file.now) }
+        ensures told { result_err result ≡ first_blocker txn mode (told_on self.now file.now) }
         ensures index { IfOk result (λ spot. spot.index ≡ file_index self.now file.now) }
         ensures within { IfOk result (λ spot. spot.place ≤ length (file_keys self.now file.now)) }
         ensures place { IfOk result (λ spot. IsPlaceInFile self.now (file.now, txn) spot.place) }
@@ -234,7 +234,7 @@ impl KeyedLocks {
     /// Makes the locks of a transaction stable.
     pub(crate) fn keep(&mut self, txn: u64)
         requires { Agrees self.old (locks_in self.old) }
-        ensures { Agrees self.new (kept (locks_in self.old) txn) }
+        ensures { Agrees self.new (locks_after_keep (locks_in self.old) txn) }
     {
         stabilise_each(&mut self.entries, listed_under(&self.by_txn, &txn));
     }
@@ -242,7 +242,7 @@ impl KeyedLocks {
     /// Ends the locks of a transaction.
     pub(crate) fn release(&mut self, txn: u64)
         requires { Agrees self.old (locks_in self.old) }
-        ensures { Agrees self.new (released (locks_in self.old) txn) }
+        ensures { Agrees self.new (locks_after_release (locks_in self.old) txn) }
     {
         let mut keys = take_all_under(self.alloc, &mut self.by_txn, &txn);
         while let Some(key) = keys.pop() {
@@ -290,7 +290,7 @@ fn note_home(homes: &mut Vec<usize>, key: usize, home: usize) {
 
 /// Makes the locks under these keys stable.
 fn stabilise_each(entries: &mut LockSlab, keys: &[usize])
-    ensures { (key : ℕ) → get entries.new key ≡ steadied entries.old keys.now key }
+    ensures { (key : ℕ) → get entries.new key ≡ entry_after_steady entries.old keys.now key }
 {
     for key in keys {
         entries.stabilise(*key);
@@ -300,7 +300,7 @@ fn stabilise_each(entries: &mut LockSlab, keys: &[usize])
 /// The transaction of the first of these entries that is not this one's, where it conflicts with the mode.
 #[inline(always)]
 pub(crate) fn held_by(entries: &LockSlab, list: Option<&Keys>, txn: u64, mode: Mode) -> Option<u64>
-    ensures { result ≡ decided txn mode (told entries.now (lent_keys list.entry)) }
+    ensures { result ≡ first_blocker txn mode (entries_of entries.now (lent_keys list.entry)) }
 {
     for entry in walk(entries, list) {
         if !(entry.txn == txn) {
@@ -317,7 +317,7 @@ pub(crate) fn held_by(entries: &LockSlab, list: Option<&Keys>, txn: u64, mode: M
 /// A walk of the locks under the keys of a list, in its order.
 #[inline(always)]
 pub(crate) fn walk<'a>(entries: &'a LockSlab, list: Option<&'a Keys>) -> HeldLocks<'a>
-    ensures { result ≡ told entries.now (lent_keys list.entry) }
+    ensures { result ≡ entries_of entries.now (lent_keys list.entry) }
 {
     let keys = match list {
         Some(keys) => keys.lend(),
@@ -354,11 +354,11 @@ impl<'a> Model for HeldLocks<'a> {
     ghost use Rattle.tq_locks.specs.Locks.{LockKey};
     ghost use Rattle.tq_locks.specs.declared.mode.Lock.{Lock};
     ghost use Rattle.std.specs.Prelude.{drop};
-    ghost use Rattle.tq_locks.specs.Keys.{told};
+    ghost use Rattle.tq_locks.specs.Keys.{entries_of};
 
     ghost Value = { List (LockKey × Lock) };
 
-    ghost view = { λ it. told it.entries.now (drop it.at it.keys) };
+    ghost view = { λ it. entries_of it.entries.now (drop it.at it.keys) };
 }
 
 impl<'a> Iterator for HeldLocks<'a> {

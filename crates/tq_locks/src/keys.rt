@@ -4,7 +4,7 @@ ghost use Rattle.std.specs.Bool.{OnTrue};
 ghost use Rattle.std.specs.List.{insert, remove, slice_get};
 ghost use Rattle.std.specs.List.Sorted.{IsPermutation};
 ghost use Rattle.smallvec.specs.SmallVec.{HasRoomFor, small_vec_len};
-ghost use Rattle.tq_locks.specs.Keys.{HasBlocks, HasRoomBehind, Sinks, starts_in, turned};
+ghost use Rattle.tq_locks.specs.Keys.{HasBlocks, HasRoomBehind, Sinks, starts_in, turned_keys};
 
 use smallvec::SmallVec;
 use std::alloc::{AllocError, Global};
@@ -236,7 +236,7 @@ fn begin_blocks(places: &mut SmallVec<usize, 6>) -> Result<Box<Vec<usize>>, Allo
     ensures blocks { IfOk result
         (λ starts. HasBlocks starts.value.items (small_vec_len places.new)) }
     ensures room { IfOk result (λ starts. HasRoomBehind starts.value.items places.new) }
-    ensures same { IfOk result (λ starts. turned starts.value.items places.new.items
+    ensures same { IfOk result (λ starts. turned_keys starts.value.items places.new.items
         ≡ places.old.items) }
     ensures err { OnErr result (places.new.items ≡ places.old.items) }
 {
@@ -265,11 +265,11 @@ pub(crate) struct LentKeys<'a> {
 
 impl<'a> Model for LentKeys<'a> {
     ghost use Rattle.std.specs.Prelude.{ℕ, List, length};
-    ghost use Rattle.tq_locks.specs.Keys.{turned, HasBlocks};
+    ghost use Rattle.tq_locks.specs.Keys.{turned_keys, HasBlocks};
 
     ghost Value = { List ℕ };
 
-    ghost view = { λ k. turned k.starts.now k.places.now };
+    ghost view = { λ k. turned_keys k.starts.now k.places.now };
 
     ghost invariant = { λ k. HasBlocks k.starts.now (length k.places.now) };
 }
@@ -309,8 +309,8 @@ fn make_room(starts: &mut Vec<usize>, places: &mut SmallVec<usize, 6>) -> Result
     requires { HasBlocks starts.old.items (small_vec_len places.old) }
     ensures blocks { HasBlocks starts.new.items (small_vec_len places.new) }
     ensures room { OnOk result (HasRoomBehind starts.new.items places.new) }
-    ensures same { turned starts.new.items places.new.items
-        ≡ turned starts.old.items places.old.items }
+    ensures same { turned_keys starts.new.items places.new.items
+        ≡ turned_keys starts.old.items places.old.items }
 {
     let behind = places.len() - starts.len() * BLOCK;
     if places.len() == places.capacity() || behind == BLOCK {
@@ -326,8 +326,8 @@ fn grow(starts: &mut Vec<usize>, places: &mut SmallVec<usize, 6>) -> Result<(), 
     ensures blocks { HasBlocks starts.new.items (small_vec_len places.new) }
     ensures room { OnOk result (HasRoomBehind starts.new.items places.new) }
     ensures items { places.new.items ≡ places.old.items }
-    ensures same { turned starts.new.items places.new.items
-        ≡ turned starts.old.items places.old.items }
+    ensures same { turned_keys starts.new.items places.new.items
+        ≡ turned_keys starts.old.items places.old.items }
 {
     places.reserve(1)?;
     if places.len() - starts.len() * BLOCK == BLOCK {
@@ -344,8 +344,8 @@ fn put(starts: &mut Vec<usize>, places: &mut SmallVec<usize, 6>, place: usize, k
     requires room { HasRoomBehind starts.old.items places.old }
     requires within { place ≤ small_vec_len places.old }
     ensures blocks { HasBlocks starts.new.items (small_vec_len places.new) }
-    ensures put { turned starts.new.items places.new.items
-        ≡ insert (turned starts.old.items places.old.items) place key }
+    ensures put { turned_keys starts.new.items places.new.items
+        ≡ insert (turned_keys starts.old.items places.old.items) place key }
 {
     if place / BLOCK >= starts.len() {
         put_plain(places, place, key);
@@ -361,8 +361,8 @@ fn put_within(starts: &mut Vec<usize>, places: &mut SmallVec<usize, 6>, place: u
     requires room { HasRoomBehind starts.old.items places.old }
     requires within { place < 2048 * length starts.old.items }
     ensures blocks { HasBlocks starts.new.items (small_vec_len places.new) }
-    ensures put { turned starts.new.items places.new.items
-        ≡ insert (turned starts.old.items places.old.items) place key }
+    ensures put { turned_keys starts.new.items places.new.items
+        ≡ insert (turned_keys starts.old.items places.old.items) place key }
 {
     let last = push_through(starts.as_mut_slice(), places.as_mut_slice(), place, key);
     put_plain(places, starts.len() * BLOCK, last);
@@ -372,8 +372,8 @@ fn put_within(starts: &mut Vec<usize>, places: &mut SmallVec<usize, 6>, place: u
 fn take_out(starts: &mut Vec<usize>, places: &mut SmallVec<usize, 6>, place: usize)
     requires { HasBlocks starts.old.items (small_vec_len places.old) }
     ensures blocks { HasBlocks starts.new.items (small_vec_len places.new) }
-    ensures taken { turned starts.new.items places.new.items
-        ≡ remove (turned starts.old.items places.old.items) place }
+    ensures taken { turned_keys starts.new.items places.new.items
+        ≡ remove (turned_keys starts.old.items places.old.items) place }
 {
     if place >= places.len() {
         return;
@@ -393,9 +393,9 @@ fn take_out(starts: &mut Vec<usize>, places: &mut SmallVec<usize, 6>, place: usi
 fn pop(starts: &mut Vec<usize>, places: &mut SmallVec<usize, 6>) -> Option<usize>
     requires { HasBlocks starts.old.items (small_vec_len places.old) }
     ensures blocks { HasBlocks starts.new.items (small_vec_len places.new) }
-    ensures last { turned starts.old.items places.old.items
-        ≡ turned starts.new.items places.new.items ++ option_to_list result }
-    ensures none { IfNone result (turned starts.old.items places.old.items ≡ []) }
+    ensures last { turned_keys starts.old.items places.old.items
+        ≡ turned_keys starts.new.items places.new.items ++ option_to_list result }
+    ensures none { IfNone result (turned_keys starts.old.items places.old.items ≡ []) }
 {
     settle(starts, places);
     places.pop()
@@ -409,8 +409,8 @@ fn settle(starts: &mut Vec<usize>, places: &mut SmallVec<usize, 6>)
     ensures len { small_vec_len places.new ≡ small_vec_len places.old }
     ensures behind { 0 < small_vec_len places.new
         → 2048 * length starts.new.items < small_vec_len places.new }
-    ensures same { turned starts.new.items places.new.items
-        ≡ turned starts.old.items places.old.items }
+    ensures same { turned_keys starts.new.items places.new.items
+        ≡ turned_keys starts.old.items places.old.items }
     ensures capacity { places.new.capacity ≡ places.old.capacity }
 {
     if places.len() == starts.len() * BLOCK {
@@ -425,7 +425,7 @@ fn settle(starts: &mut Vec<usize>, places: &mut SmallVec<usize, 6>)
 #[inline(always)]
 fn key_at(starts: &[usize], places: &[usize], at: usize) -> Option<usize>
     requires { HasBlocks starts.now (length places.now) }
-    ensures { result ≡ slice_get (turned starts.now places.now) at }
+    ensures { result ≡ slice_get (turned_keys starts.now places.now) at }
 {
     if at >= places.len() {
         return None;
@@ -442,8 +442,8 @@ fn push_through(starts: &mut [usize], places: &mut [usize], place: usize, key: u
     requires blocks { HasBlocks starts.old (length places.old) }
     requires within { place < 2048 * length starts.old }
     ensures blocks { HasBlocks starts.new (length places.new) }
-    ensures put { insert (turned starts.new places.new) (2048 * length starts.new) result
-        ≡ insert (turned starts.old places.old) place key }
+    ensures put { insert (turned_keys starts.new places.new) (2048 * length starts.new) result
+        ≡ insert (turned_keys starts.old places.old) place key }
 {
     let mut block = place / BLOCK;
     let mut carried = put_in_block(starts, places, block, place % BLOCK, key);
@@ -460,8 +460,8 @@ fn pull_through(starts: &mut [usize], places: &mut [usize], place: usize, key: u
     requires blocks { HasBlocks starts.old (length places.old) }
     requires within { place < 2048 * length starts.old }
     ensures blocks { HasBlocks starts.new (length places.new) }
-    ensures taken { insert (turned starts.new places.new) place result
-        ≡ insert (turned starts.old places.old) (2048 * length starts.old) key }
+    ensures taken { insert (turned_keys starts.new places.new) place result
+        ≡ insert (turned_keys starts.old places.old) (2048 * length starts.old) key }
 {
     let first = place / BLOCK;
     let mut block = starts.len() - 1;
@@ -485,8 +485,8 @@ fn put_in_block(
     requires blocks { HasBlocks starts.old (length places.old) }
     requires within { (block < length starts.old) × (place < 2048) }
     ensures blocks { HasBlocks starts.new (length places.new) }
-    ensures put { insert (turned starts.new places.new) (2048 * suc block) result
-        ≡ insert (turned starts.old places.old) (2048 * block + place) key }
+    ensures put { insert (turned_keys starts.new places.new) (2048 * suc block) result
+        ≡ insert (turned_keys starts.old places.old) (2048 * block + place) key }
 {
     let low = block * BLOCK;
     let keys = &mut places[low..low + BLOCK];
@@ -526,8 +526,8 @@ fn take_from_block(
     requires blocks { HasBlocks starts.old (length places.old) }
     requires within { (block < length starts.old) × (place < 2048) }
     ensures blocks { HasBlocks starts.new (length places.new) }
-    ensures taken { insert (turned starts.new places.new) (2048 * block + place) result
-        ≡ insert (turned starts.old places.old) (2048 * suc block) key }
+    ensures taken { insert (turned_keys starts.new places.new) (2048 * block + place) result
+        ≡ insert (turned_keys starts.old places.old) (2048 * suc block) key }
 {
     let low = block * BLOCK;
     let keys = &mut places[low..low + BLOCK];

@@ -6,7 +6,7 @@ ghost use Rattle.slab.specs.Slab.{get, entries, slab_len, HasRoomFor, ContainsKe
 ghost use Rattle.tq_shape.specs.Journal.{Has};
 ghost use Rattle.tq_locks.specs.declared.mode.Lock.{Lock};
 ghost use Rattle.tq_locks.specs.Locks.{LockKey};
-ghost use Rattle.tq_locks.specs.Loose.{steadied, with_lock, AreStable, IsAsStable, IsLooseAt, IsStableAt, ListsLoose, PutsLock};
+ghost use Rattle.tq_locks.specs.Loose.{entry_after_steady, with_lock, AreStable, IsAsStable, IsLooseAt, IsStableAt, ListsLoose, PutsLock};
 
 use crate::{Lock, LockEntry};
 use slab::{Iter, Slab};
@@ -143,7 +143,7 @@ impl LockSlab {
     /// Makes the lock under a key stable.
     #[inline(always)]
     pub(crate) fn stabilise(&mut self, key: usize)
-        ensures { (other : ℕ) → get self.new other ≡ steadied self.old (key ∷ []) other }
+        ensures { (other : ℕ) → get self.new other ≡ entry_after_steady self.old (key ∷ []) other }
     {
         stabilise_in(&mut self.slab, key);
     }
@@ -201,7 +201,7 @@ fn put_lock(slab: &mut Slab<LockEntry>, key: usize, lock: Lock)
 
 /// Makes the lock under a key stable.
 fn stabilise_in(slab: &mut Slab<LockEntry>, key: usize)
-    ensures { (other : ℕ) → get slab.new other ≡ steadied slab.old (key ∷ []) other }
+    ensures { (other : ℕ) → get slab.new other ≡ entry_after_steady slab.old (key ∷ []) other }
 {
     if let Some(entry) = slab.get_mut(key) {
         entry.lock.stable = true;

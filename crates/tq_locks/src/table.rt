@@ -77,7 +77,7 @@ impl Model for LockTable {
 }
 
 impl LockTable {
-    ghost use Rattle.tq_locks.specs.Locks.{blocker, held_of, holds_nothing, kept, only_stable, outcome, released};
+    ghost use Rattle.tq_locks.specs.Locks.{blocker, held_of, holds_nothing, locks_after_keep, only_stable, outcome, locks_after_release};
     ghost use Rattle.tq_locks.specs.Locks.{HasNoConflict, IsAmong, IsAsked, IsFree, IsGranted, IsLeastBlocker, IsTold};
     ghost use Rattle.slab.specs.Slab.{get};
     ghost use Rattle.std.specs.Option.{option_copied};
@@ -104,7 +104,7 @@ impl LockTable {
     pub fn entries(&self, alloc: Global) -> Result<Vec<LockEntry>, AllocError>
         ensures { IfOk result (λ all. all.items ≡ fin.entries self.now.locks) }
     {
-        let mut all = self.kept.unsorted(alloc)?;
+        let mut all = self.kept.entries_by_key(alloc)?;
         all.sort_unstable_by_key(|entry| (entry.file, entry.txn));
         Ok(all)
     }
@@ -233,7 +233,7 @@ impl LockTable {
 
     /// Makes the locks of a transaction stable.
     pub fn keep(&mut self, txn: u64)
-        ensures { self.new.locks ≡ kept self.old.locks txn }
+        ensures { self.new.locks ≡ locks_after_keep self.old.locks txn }
     {
         self.kept.keep(txn);
     }
@@ -247,7 +247,7 @@ impl LockTable {
 
     /// Ends the locks of a transaction.
     pub fn release(&mut self, txn: u64)
-        ensures { self.new.locks ≡ released self.old.locks txn }
+        ensures { self.new.locks ≡ locks_after_release self.old.locks txn }
     {
         self.kept.release(txn);
     }

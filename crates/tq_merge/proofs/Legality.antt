@@ -11,7 +11,7 @@ use Rattle.tq_node.specs.Node.{NodeView}
 use Rattle.tq_node.specs.NodeJournal.{nothing_stored, IsLegalNode}
 use Rattle.tq_asks.specs.declared.ask.NodeReply.{NodeReply}
 use Rattle.tq_desk.specs.declared.ask.DeskReply.{DeskReply}
-use Rattle.tq_desk.specs.DeskJournal.{DeskBounds, step_reply, step_after, opened}
+use Rattle.tq_desk.specs.DeskJournal.{DeskBounds, step_reply, step_after, opened_desk}
 use Rattle.tq_desk.specs.DeskStep.{DeskView, desk_reply}
 use Rattle.tq_live.specs.Live.{Live}
 use Rattle.tq_live.specs.declared.view.ViewReply.{ViewReply}
@@ -75,12 +75,12 @@ module _ (bounds : DeskBounds) (entries : List DeskEntry) (i : ℕ) (e : DeskEnt
   desk_told = told_is ∙ ap (λ (d : DeskView). desk_reply d e.ask) stands
 
   pub desk_legal : told ≡ e.reply → IsLegalDeskFrom bounds (take (i + 1) entries)
-  desk_legal same = legal_next step_reply step_after (opened bounds) entries i e less is legal (sym same ∙ desk_told)
+  desk_legal same = legal_next step_reply step_after (opened_desk bounds) entries i e less is legal (sym same ∙ desk_told)
 
   pub desk_wrong : (told ≡ e.reply → ⊥) → (number : ℕ) → number ≡ i + 1 → IsWrongOfDesk bounds entries number
   desk_wrong apart number at =
       subst (λ (n : ℕ). IsWrongOfDesk bounds entries n) (sym at)
-      (wrong_next step_reply step_after (opened bounds) entries i e less is legal (λ same. apart (desk_told ∙ sym same)))
+      (wrong_next step_reply step_after (opened_desk bounds) entries i e less is legal (λ same. apart (desk_told ∙ sym same)))
 
 -- ---- the view
 

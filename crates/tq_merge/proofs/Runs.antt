@@ -15,7 +15,7 @@ use Rattle.tq_node.specs.Records.{node_reply, node_after}
 use Rattle.tq_node.specs.NodeJournal.{IsLegalNode, nothing_stored}
 use Rattle.tq_desk.specs.declared.ask.DeskReply.{DeskReply}
 use Rattle.tq_desk.specs.DeskStep.{desk_reply}
-use Rattle.tq_desk.specs.DeskJournal.{step_reply, step_after, opened}
+use Rattle.tq_desk.specs.DeskJournal.{step_reply, step_after, opened_desk}
 use Rattle.tq_live.specs.Live.{Live}
 use Rattle.tq_live.specs.declared.view.ViewReply.{ViewReply}
 use Rattle.tq_live.specs.View.{view_reply, view_reply_at, view_after_at, view_state}
@@ -30,7 +30,7 @@ use Rattle.tq_world.specs.declared.answer.Step.TheVariants as steps
 use Rattle.tq_world.specs.declared.citation.Citation.{Citation}
 use Rattle.tq_world.specs.World.{item_at, server_entry, empty_world, node_at, desk_at, view_at}
 use Rattle.tq_world.specs.Founded.{unfounded_in_node_ask, unfounded_in_desk_ask}
-use Rattle.tq_world.specs.Steps.{refuse_entry, refuse_at, refusal, server_journal, node_entry, desk_entry, view_entry, grown, world_after, run_from, run}
+use Rattle.tq_world.specs.Steps.{refuse_entry, refuse_at, refusal, server_journal, node_entry, desk_entry, view_entry, world_with_step, world_after, run_from, run}
 use Rattle.tq_world.specs.Steps.{IsOfRun}
 use Rattle.tq_world.proofs.Runs.{world_grown}
 use Rattle.tq_node.proofs.KeptLocks.{map-some}
@@ -171,8 +171,8 @@ module _ (journals : JournalsView) (are : AreJournals journals) (legal : AreLega
   desk_more e is none more same =
       let short = length-take-le (count parts.Desk) journals.desk (omega (arith, is.less)) in
       let gives : e.reply ≡ desk_reply (desk_at journals.levels journals.limits (take (count parts.Desk) journals.desk)) e.ask =
-      legal_at step_reply step_after (opened (bounds_of journals.levels journals.limits)) 1 journals.desk (count parts.Desk) e
-      (reverse-legal step_reply step_after (opened (bounds_of journals.levels journals.limits)) journals.desk legal.desk) is.is_there in
+      legal_at step_reply step_after (opened_desk (bounds_of journals.levels journals.limits)) 1 journals.desk (count parts.Desk) e
+      (reverse-legal step_reply step_after (opened_desk (bounds_of journals.levels journals.limits)) journals.desk legal.desk) is.is_there in
       let desk : take (count parts.Desk) journals.desk ++ desk_entry (firsts journals count) e.ask ∷ [] ≡ take (other parts.Desk) journals.desk =
       ap (λ (r : DeskReply). take (count parts.Desk) journals.desk ++ entry e.ask r ∷ []) (sym gives)
       ∙ sym (take_next journals.desk (count parts.Desk) e is.is_there)

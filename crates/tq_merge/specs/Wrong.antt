@@ -6,7 +6,7 @@ use Rattle.tq_shape.specs.declared.part.Part.{Part}
 use Rattle.tq_shape.specs.declared.part.Part.TheVariants.{Server, Desk, View}
 use Rattle.tq_node.specs.Records.{node_reply, node_after}
 use Rattle.tq_node.specs.NodeJournal.{nothing_stored}
-use Rattle.tq_desk.specs.DeskJournal.{DeskBounds, IsLegalDesk, opened, step_reply, step_after}
+use Rattle.tq_desk.specs.DeskJournal.{DeskBounds, IsLegalDesk, opened_desk, step_reply, step_after}
 use Rattle.tq_live.specs.View.{view_reply_at, view_after_at, view_state}
 use Rattle.tq_tables.specs.Journals.{JournalsView, ViewEntry}
 use Rattle.tq_node.specs.NodeJournal.{NodeEntry}
@@ -30,10 +30,10 @@ abbrev pub IsWrongOfServer : ℕ → List NodeEntry → ℕ → Type 0
 IsWrongOfServer server entries number = IsFirstWrong (λ old n ask. node_reply server old ask) (node_after server) nothing_stored entries number
 
 abbrev pub IsLegalDeskFrom : DeskBounds → List DeskEntry → Type 0
-IsLegalDeskFrom bounds entries = IsLegalFrom step_reply step_after (opened bounds) 1 entries
+IsLegalDeskFrom bounds entries = IsLegalFrom step_reply step_after (opened_desk bounds) 1 entries
 
 abbrev pub IsWrongOfDesk : DeskBounds → List DeskEntry → ℕ → Type 0
-IsWrongOfDesk bounds entries number = IsFirstWrong step_reply step_after (opened bounds) entries number
+IsWrongOfDesk bounds entries number = IsFirstWrong step_reply step_after (opened_desk bounds) entries number
 
 abbrev pub IsWrongOfView : ℕ → List ViewEntry → ℕ → Type 0
 IsWrongOfView levels entries number = IsFirstWrong view_reply_at view_after_at (view_state levels []) entries number

@@ -15,11 +15,11 @@ use Rattle.tq_shape.specs.declared.part.Part.TheVariants as parts
 use Rattle.tq_asks.specs.declared.ask.NodeAsk.{NodeAsk}
 use Rattle.tq_asks.specs.declared.ask.NodeReply.{NodeReply}
 use Rattle.tq_node.specs.Records.{NodeState, node_reply, node_after}
-use Rattle.tq_node.specs.Node.{NodeView, answered}
+use Rattle.tq_node.specs.Node.{NodeView, server_after}
 use Rattle.tq_node.specs.NodeJournal.{NodeEntry, IsLegalNode, nothing_stored}
 use Rattle.tq_desk.specs.DeskStep.{desk_reply}
 use Rattle.tq_desk.specs.DeskStep as desk
-use Rattle.tq_desk.specs.DeskJournal.{DeskEntry, IsLegalDesk, step_reply, step_after, opened}
+use Rattle.tq_desk.specs.DeskJournal.{DeskEntry, IsLegalDesk, step_reply, step_after, opened_desk}
 use Rattle.tq_live.specs.Live.{Live}
 use Rattle.tq_live.specs.View.{IsLegalView, view_state, view_reply, view_reply_at, view_after_at}
 use Rattle.tq_live.proofs.Journal.{replays}
@@ -33,7 +33,7 @@ use Rattle.tq_tables.specs.Tables.{TablesView, tables_of}
 use Rattle.tq_mirror.specs.declared.entries.Entries.{Entries}
 use Rattle.tq_mirror.specs.declared.entries.Entries.TheVariants as entries
 use Rattle.tq_mirror.specs.declared.fault.PullFault.{PullFault}
-use Rattle.tq_mirror.specs.Prefixes.{GivesNext, IsForeign, IsPartOf, IsPullFault, IsTaken, count_of, nothing_pulled, prefix_length, server_prefix, grown}
+use Rattle.tq_mirror.specs.Prefixes.{GivesNext, IsForeign, IsPartOf, IsPullFault, IsTaken, count_of, nothing_pulled, prefix_length, server_prefix, journals_with}
 use Rattle.tq_tables.specs.Tabled.{journals_in}
 use Rattle.tq_mirror.specs.Kept.{AreAhead, AreKept, AreLed}
 use Rattle.tq_mirror.proofs.Led.{Grows, Led, legal-joined, state-joined}
@@ -55,26 +55,26 @@ legal-set first (x ∷ servers) (suc place) es legal one =
 -- ---- one part after more entries
 
 server-led : (levels number : ℕ) (es more : List NodeEntry)
-    → state_from (λ (s : NodeView) (n : ℕ) (a : NodeAsk). answered s n a) (node_after_all levels number es) (length es + 1) more ≡ node_after_all levels number (es ++ more)
+    → state_from (λ (s : NodeView) (n : ℕ) (a : NodeAsk). server_after s n a) (node_after_all levels number es) (length es + 1) more ≡ node_after_all levels number (es ++ more)
 server-led levels number es [] = ap (node_after_all levels number) (sym (append-nil es))
 server-led levels number es (e ∷ more) =
     let next = es ++ e ∷ [] in
-    let step : answered (node_after_all levels number es) (length es + 1) e.ask ≡ node_after_all levels number next =
-    ap (λ (k : ℕ). answered (node_after_all levels number es) k e.ask) (omega arith) ∙ answered-push levels number es e in
+    let step : server_after (node_after_all levels number es) (length es + 1) e.ask ≡ node_after_all levels number next =
+    ap (λ (k : ℕ). server_after (node_after_all levels number es) k e.ask) (omega arith) ∙ answered-push levels number es e in
     let longer = length_push es e in
     let count : length es + 1 + 1 ≡ length next + 1 = omega (arith, longer) in
-    (λ i. state_from (λ (s : NodeView) (n : ℕ) (a : NodeAsk). answered s n a) (step i) (count i) more)
+    (λ i. state_from (λ (s : NodeView) (n : ℕ) (a : NodeAsk). server_after s n a) (step i) (count i) more)
     ∙ server-led levels number next more
     ∙ ap (node_after_all levels number) (append_assoc es (e ∷ []) more)
 
 -- what a server gives says nothing of its tree and of the last number
-from_state : (s : NodeView) (n : ℕ) (es : List NodeEntry) → IsLegalFrom (λ (v : NodeView) (k : ℕ) (a : NodeAsk). node_reply v.server v.state a) (λ v k a. answered v k a) s n es
+from_state : (s : NodeView) (n : ℕ) (es : List NodeEntry) → IsLegalFrom (λ (v : NodeView) (k : ℕ) (a : NodeAsk). node_reply v.server v.state a) (λ v k a. server_after v k a) s n es
     → IsLegalFrom (λ (old : NodeState) (k : ℕ) (a : NodeAsk). node_reply s.server old a) (node_after s.server) s.state n es
 from_state s n [] legal = tt
-from_state s n (e ∷ es) legal = (legal.0, from_state (answered s n e.ask) (n + 1) es legal.1)
+from_state s n (e ∷ es) legal = (legal.0, from_state (server_after s n e.ask) (n + 1) es legal.1)
 
 server-legal : (levels number : ℕ) (es more : List NodeEntry) → IsLegalNode number (reverse es)
-    → IsLegalFrom (λ (v : NodeView) (k : ℕ) (a : NodeAsk). node_reply v.server v.state a) (λ v k a. answered v k a) (node_after_all levels number es) (length es + 1) more
+    → IsLegalFrom (λ (v : NodeView) (k : ℕ) (a : NodeAsk). node_reply v.server v.state a) (λ v k a. server_after v k a) (node_after_all levels number es) (length es + 1) more
     → IsLegalNode number (reverse (es ++ more))
 server-legal levels number es more legal gives =
     let reply : NodeState → ℕ → NodeAsk → NodeReply = λ old k a. node_reply number old a in
@@ -83,12 +83,12 @@ server-legal levels number es more legal gives =
     (from_state (node_after_all levels number es) (length es + 1) more gives))
 
 desk-led : (levels : ℕ) (limits : LimitsView) (es more : List DeskEntry) → state_from step_after (desk_at levels limits es) (length es + 1) more ≡ desk_at levels limits (es ++ more)
-desk-led levels limits es more = sym (state-joined step_reply step_after (desk.opening levels limits) 1 es more)
+desk-led levels limits es more = sym (state-joined step_reply step_after (desk.opening_desk levels limits) 1 es more)
 
 desk-legal : (levels : ℕ) (limits : LimitsView) (es more : List DeskEntry) → IsLegalDesk (bounds_of levels limits) (reverse es)
     → IsLegalFrom step_reply step_after (desk_at levels limits es) (length es + 1) more → IsLegalDesk (bounds_of levels limits) (reverse (es ++ more))
 desk-legal levels limits es more legal gives =
-    let o = opened (bounds_of levels limits) in
+    let o = opened_desk (bounds_of levels limits) in
     legal-reverse step_reply step_after o (es ++ more) (legal-joined step_reply step_after o 1 es more (reverse-legal step_reply step_after o es legal) gives)
 
 view-legal : (levels : ℕ) (es more : List ViewEntry) → IsLegalView levels es → IsLegalFrom view_reply_at view_after_at (view_at levels es) (length es + 1) more → IsLegalView levels (es ++ more)
@@ -106,7 +106,7 @@ view-led levels es more legal all =
 -- ---- prefixes that grow
 
 pub desk_grows : (w : JournalsView) → AreLegal w
-    → Grows desk_reply step_after (desk_at w.levels w.limits w.desk) (length w.desk + 1) (λ (more : List DeskEntry). grown w parts.Desk (entries.Desk more)) with_desk (λ (t : TablesView). t.desk)
+    → Grows desk_reply step_after (desk_at w.levels w.limits w.desk) (length w.desk + 1) (λ (more : List DeskEntry). journals_with w parts.Desk (entries.Desk more)) with_desk (λ (t : TablesView). t.desk)
 desk_grows w legal =
     record {
       legal = λ more gives. record { servers = legal.servers; desk = desk-legal w.levels w.limits w.desk more legal.desk gives; view = legal.view };
@@ -115,7 +115,7 @@ desk_grows w legal =
     }
 
 pub view_grows : (w : JournalsView) → AreLegal w
-    → Grows view_reply view_after_at (view_at w.levels w.view) (length w.view + 1) (λ (more : List ViewEntry). grown w parts.View (entries.View more)) with_view (λ (t : TablesView). t.view)
+    → Grows view_reply view_after_at (view_at w.levels w.view) (length w.view + 1) (λ (more : List ViewEntry). journals_with w parts.View (entries.View more)) with_view (λ (t : TablesView). t.view)
 view_grows w legal =
     record {
       legal = λ more gives. record { servers = legal.servers; desk = legal.desk; view = view-legal w.levels w.view more legal.view gives };
@@ -128,7 +128,7 @@ abbrev pub said_by : NodeView → NodeAsk → NodeReply
 said_by s a = node_reply s.server s.state a
 
 abbrev pub after_of : NodeView → ℕ → NodeAsk → NodeView
-after_of s n a = answered s n a
+after_of s n a = server_after s n a
 
 module _ (w : JournalsView) (one_each : length w.servers + 1 ≡ 2 ^ w.levels) (number : ℕ) (of_tree : IsServer w.levels number) where
   numbered : 1 + (number - 1) ≡ number
@@ -138,7 +138,7 @@ module _ (w : JournalsView) (one_each : length w.servers + 1 ≡ 2 ^ w.levels) (
   within = let least = of_tree.0 in let most = of_tree.1 in omega (arith, one_each)
 
   abbrev with_more : List NodeEntry → JournalsView
-  with_more more = grown w (parts.Server number) (entries.Server more)
+  with_more more = journals_with w (parts.Server number) (entries.Server more)
 
   pub entries_with : (more : List NodeEntry) → entries_of (with_more more) number ≡ server_prefix w number ++ more
   entries_with more = get_or-set_same w.servers (number - 1) (server_prefix w number ++ more) [] within
@@ -188,7 +188,7 @@ module _ (w : JournalsView) (one_each : length w.servers + 1 ≡ 2 ^ w.levels) (
       ∙ ap (set w.servers place) (ap (λ (es : List NodeEntry). es ++ e ∷ []) (entries_with more) ∙ append_assoc (server_prefix w number) more (e ∷ [])))
 
   pub server_grows : AreLegal w
-      → Grows said_by after_of (node_after_all w.levels number (server_prefix w number)) (length (server_prefix w number) + 1) (λ (more : List NodeEntry). grown w (parts.Server number) (entries.Server more))
+      → Grows said_by after_of (node_after_all w.levels number (server_prefix w number)) (length (server_prefix w number) + 1) (λ (more : List NodeEntry). journals_with w (parts.Server number) (entries.Server more))
       (λ (o : JournalsView) (e : NodeEntry). with_node o number e) (λ (t : TablesView). node_in t.nodes number)
   server_grows legal =
       record {
@@ -198,13 +198,13 @@ module _ (w : JournalsView) (one_each : length w.servers + 1 ≡ 2 ^ w.levels) (
       }
 
 -- nothing more
-pub desk_none : (w : JournalsView) → grown w parts.Desk (entries.Desk []) ≡ w
+pub desk_none : (w : JournalsView) → journals_with w parts.Desk (entries.Desk []) ≡ w
 desk_none w = ap (λ (all : List DeskEntry). let o : JournalsView = record w { desk = all } in o) (append-nil w.desk)
 
-pub view_none : (w : JournalsView) → grown w parts.View (entries.View []) ≡ w
+pub view_none : (w : JournalsView) → journals_with w parts.View (entries.View []) ≡ w
 view_none w = ap (λ (all : List ViewEntry). let o : JournalsView = record w { view = all } in o) (append-nil w.view)
 
-pub server_none : (w : JournalsView) (number : ℕ) → grown w (parts.Server number) (entries.Server []) ≡ w
+pub server_none : (w : JournalsView) (number : ℕ) → journals_with w (parts.Server number) (entries.Server []) ≡ w
 server_none w number =
     ap (λ (all : List (List NodeEntry)). let o : JournalsView = record w { servers = all } in o)
     (ap (set w.servers (number - 1)) (append-nil (server_prefix w number)) ∙ set-get_or w.servers (number - 1) [])
@@ -212,22 +212,22 @@ server_none w number =
 -- ---- tables that are led on
 
 abbrev pub DeskLed : JournalsView → TablesView → List DeskEntry → Type 0
-DeskLed w tables more = Led desk_reply step_after (desk_at w.levels w.limits w.desk) (length w.desk + 1) (λ (all : List DeskEntry). grown w parts.Desk (entries.Desk all)) tables more
+DeskLed w tables more = Led desk_reply step_after (desk_at w.levels w.limits w.desk) (length w.desk + 1) (λ (all : List DeskEntry). journals_with w parts.Desk (entries.Desk all)) tables more
 
 abbrev pub ViewLed : JournalsView → TablesView → List ViewEntry → Type 0
-ViewLed w tables more = Led view_reply view_after_at (view_at w.levels w.view) (length w.view + 1) (λ (all : List ViewEntry). grown w parts.View (entries.View all)) tables more
+ViewLed w tables more = Led view_reply view_after_at (view_at w.levels w.view) (length w.view + 1) (λ (all : List ViewEntry). journals_with w parts.View (entries.View all)) tables more
 
 abbrev pub ServerLed : JournalsView → ℕ → TablesView → List NodeEntry → Type 0
 ServerLed w number tables more =
     Led said_by after_of (node_after_all w.levels number (server_prefix w number)) (length (server_prefix w number) + 1)
-    (λ (all : List NodeEntry). grown w (parts.Server number) (entries.Server all)) tables more
+    (λ (all : List NodeEntry). journals_with w (parts.Server number) (entries.Server all)) tables more
 
 -- of the tables of these journals the desk may be asked
 pub may_ask_desk : (w : JournalsView) (xs : List DeskEntry) (i : ℕ) → i < length xs → length w.desk + length xs < 2 ^ 64 → (tables : TablesView) → DeskLed w tables (take i xs) → MayAskDesk tables
 may_ask_desk w xs i less few tables led =
     let sum = length-append w.desk (take i xs) in
     let count = length-take-le i xs (omega (arith, less)) in
-    record { journals = grown w parts.Desk (entries.Desk (take i xs)); stand = led.stand; few = omega (arith, sum, count, few, less) }
+    record { journals = journals_with w parts.Desk (entries.Desk (take i xs)); stand = led.stand; few = omega (arith, sum, count, few, less) }
 
 -- those that are not fewer are as many
 pub enough : {E : Type 0} (few : Bool) (read kept : List E) (more least : ℕ) → read ≡ kept → IsTrue few ↔ (length read + more < least) → few ≡ false → least ≤ length kept + more
@@ -237,7 +237,7 @@ enough few read kept more least same is plenty =
     grind (arith, never, count)
 
 -- with no least number there are always enough
-pub led_ahead : (tables : TablesView) (w : JournalsView) (part : Part) (more : Entries) → GivesNext w part more → tables ≡ tables_of (grown w part more) → AreAhead tables w part more 0
+pub led_ahead : (tables : TablesView) (w : JournalsView) (part : Part) (more : Entries) → GivesNext w part more → tables ≡ tables_of (journals_with w part more) → AreAhead tables w part more 0
 led_ahead tables w part more gives stand = record { gives = gives; enough = omega arith; stand = stand }
 
 -- and where there are, what came of the entries is what was looked for
@@ -269,7 +269,7 @@ those_behind known now more all count is =
 pub follow_alike : {E : Type 0} (of : List E → Entries) (found : Option TablesView) (ahead : TablesView) (w : JournalsView) (part : Part) (more fresh : List E) (least : ℕ) → fresh ≡ more
     → AreLed found w part (of fresh) → AreAhead ahead w part (of more) least → IfSome found (λ (spare : TablesView). spare ≡ ahead)
 follow_alike of None ahead w part more fresh least same led there = tt
-follow_alike of (Some spare) ahead w part more fresh least same led there = led.stand ∙ ap (λ es. tables_of (grown w part (of es))) same ∙ sym there.stand
+follow_alike of (Some spare) ahead w part more fresh least same led there = led.stand ∙ ap (λ es. tables_of (journals_with w part (of es))) same ∙ sym there.stand
 
 pub spare_alike : {M E : Type 0} (P : Option TablesView → Type 0) (of : List E → Entries) (result : Result (Option TablesView) M) (spare : Option TablesView) (ahead : TablesView) (w : JournalsView) (part : Part) (more fresh : List E) (least : ℕ) → fresh ≡ more
     → ((found : Option TablesView) → P found → AreLed found w part (of fresh)) → IfOk result P → spare ≡ result_unwrap_or result None → AreAhead ahead w part (of more) least
@@ -291,14 +291,14 @@ stands_at tables kept prefixes leads keeps = record { keeps = subst (λ (w : Jou
 -- and are those with more of the part, and as many as were to be there
 pub record Taken (tables : TablesView) (kept old : JournalsView) (part : Part) (more : Entries) (least : ℕ) : Type 0 where
   pub keeps : AreKept tables kept
-  pub leads : kept ≡ grown old part more
+  pub leads : kept ≡ journals_with old part more
   pub enough : least ≤ prefix_length kept part
   pub count : prefix_length kept part ≡ prefix_length old part + count_of more
 
 -- ---- what is kept once a part followed more entries
 
 grown_taken : (tables ahead : TablesView) (w : JournalsView) → AreKept tables w → (part : Part) (more : Entries) (least : ℕ) → IsPartOf w.levels part → AreAhead ahead w part more least
-    → Taken ahead (grown w part more) w part more least
+    → Taken ahead (journals_with w part more) w part more least
 grown_taken tables ahead w kept (parts.Server number) (entries.Server more) least of_tree led =
     let long = length-set w.servers (number - 1) (server_prefix w number ++ more) in
     let was = kept.one_each in
@@ -337,7 +337,7 @@ grown_taken tables ahead w kept parts.View (entries.Server more) least of_tree l
 grown_taken tables ahead w kept parts.View (entries.Desk more) least of_tree led = absurd led.gives
 
 taken_at : (tables ahead : TablesView) (kept old : JournalsView) → AreKept tables old → (part : Part) (more : Entries) (least : ℕ) → IsPartOf old.levels part → AreAhead ahead old part more least
-    → kept ≡ grown old part more → Taken ahead kept old part more least
+    → kept ≡ journals_with old part more → Taken ahead kept old part more least
 taken_at tables ahead kept old was part more least of_tree led leads =
     subst (λ (w : JournalsView). Taken ahead w old part more least) (sym leads) (grown_taken tables ahead old was part more least of_tree led)
 

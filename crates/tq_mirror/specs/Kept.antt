@@ -6,7 +6,7 @@ use Rattle.tq_tables.specs.Journals.{JournalsView}
 use Rattle.tq_tables.specs.Parts.{AreLegal}
 use Rattle.tq_tables.specs.Tables.{TablesView, tables_of}
 use Rattle.tq_mirror.specs.declared.entries.Entries.{Entries}
-use Rattle.tq_mirror.specs.Prefixes.{GivesNext, count_of, grown, prefix_length, server_prefix}
+use Rattle.tq_mirror.specs.Prefixes.{GivesNext, count_of, journals_with, prefix_length, server_prefix}
 
 -- there are entries for each server of the tree, the journals that have them alone are legal, and the tables are theirs
 pub record AreKept (tables : TablesView) (prefixes : JournalsView) : Type 0 where
@@ -18,7 +18,7 @@ pub record AreKept (tables : TablesView) (prefixes : JournalsView) : Type 0 wher
 pub record AreAhead (tables : TablesView) (prefixes : JournalsView) (part : Part) (more : Entries) (least : ℕ) : Type 0 where
   pub gives : GivesNext prefixes part more
   pub enough : least ≤ prefix_length prefixes part + count_of more
-  pub stand : tables ≡ tables_of (grown prefixes part more)
+  pub stand : tables ≡ tables_of (journals_with prefixes part more)
 
 -- these tables came of the entries that the part gives next; or none, where it gives others
 abbrev pub AreLed : Option TablesView → JournalsView → Part → Entries → Type 0

@@ -7,7 +7,7 @@ use Rattle.tq_shape.specs.declared.part.Part.{Part}
 use Rattle.tq_shape.specs.declared.part.Part.TheVariants as parts
 use Rattle.tq_asks.specs.declared.ask.NodeAsk.{NodeAsk}
 use Rattle.tq_node.specs.Records.{node_reply}
-use Rattle.tq_node.specs.Node.{NodeView, answered}
+use Rattle.tq_node.specs.Node.{NodeView, server_after}
 use Rattle.tq_node.specs.NodeJournal.{NodeEntry}
 use Rattle.tq_desk.specs.DeskJournal.{step_reply, step_after}
 use Rattle.tq_live.specs.View.{view_reply_at, view_after_at}
@@ -44,16 +44,16 @@ count_of (entries.Desk given) = length given
 count_of (entries.View given) = length given
 
 -- these entries stand behind those of the part; those of the other parts are as they were
-abbrev pub grown : JournalsView → Part → Entries → JournalsView
-grown prefixes (parts.Server number) (entries.Server more) = record prefixes { servers = set prefixes.servers (number - 1) (server_prefix prefixes number ++ more) }
-grown prefixes parts.Desk (entries.Desk more) = record prefixes { desk = prefixes.desk ++ more }
-grown prefixes parts.View (entries.View more) = record prefixes { view = prefixes.view ++ more }
-grown prefixes part more = prefixes
+abbrev pub journals_with : JournalsView → Part → Entries → JournalsView
+journals_with prefixes (parts.Server number) (entries.Server more) = record prefixes { servers = set prefixes.servers (number - 1) (server_prefix prefixes number ++ more) }
+journals_with prefixes parts.Desk (entries.Desk more) = record prefixes { desk = prefixes.desk ++ more }
+journals_with prefixes parts.View (entries.View more) = record prefixes { view = prefixes.view ++ more }
+journals_with prefixes part more = prefixes
 
 -- the part, standing where its prefix leaves it, gives these entries next
 abbrev pub GivesNext : JournalsView → Part → Entries → Type 0
 GivesNext prefixes (parts.Server number) (entries.Server more) =
-    IsLegalFrom (λ (s : NodeView) (n : ℕ) (a : NodeAsk). node_reply s.server s.state a) (λ s n a. answered s n a)
+    IsLegalFrom (λ (s : NodeView) (n : ℕ) (a : NodeAsk). node_reply s.server s.state a) (λ s n a. server_after s n a)
     (node_after_all prefixes.levels number (server_prefix prefixes number)) (length (server_prefix prefixes number) + 1) more
 GivesNext prefixes parts.Desk (entries.Desk more) = IsLegalFrom step_reply step_after (desk_at prefixes.levels prefixes.limits prefixes.desk) (length prefixes.desk + 1) more
 GivesNext prefixes parts.View (entries.View more) = IsLegalFrom view_reply_at view_after_at (view_at prefixes.levels prefixes.view) (length prefixes.view + 1) more

@@ -80,11 +80,11 @@ impl Prefixes {
         ensures value { result.now ≡ tables_of self.now }
         ensures legal { AreLegal self.now }
     {
-        self.kept()
+        self.kept_tables()
     }
 
     /// The tables, and what holds of them and of the entries.
-    pub(crate) fn kept(&self) -> &Tables
+    pub(crate) fn kept_tables(&self) -> &Tables
         ensures { AreKept result.now self.now }
     {
         let _ = &self.tabled.limits;

@@ -16,7 +16,7 @@ use Rattle.std.specs.declared.cmp.Ordering.TheVariants.{Less, Equal, Greater}
 use Rattle.tq_shape.specs.Journal.{Has, is_empty}
 use Rattle.tq_store.specs.Copies.{name_cmp, copy_of, installed_all}
 use Rattle.tq_store.specs.declared.write.Write.{Write}
-use Rattle.tq_locks.specs.Locks.{LockKey, lock_cmp, conflicts, is_exclusive, blocks, blocker, held_of, holds_nothing, released, only_stable}
+use Rattle.tq_locks.specs.Locks.{LockKey, lock_cmp, conflicts, is_exclusive, blocks, blocker, held_of, holds_nothing, locks_after_release, only_stable}
 use Rattle.tq_locks.specs.declared.mode.Lock.{Lock}
 use Rattle.tq_locks.specs.declared.mode.Mode.{Mode}
 use Rattle.tq_locks.specs.declared.mode.Mode.TheVariants.{Shared, Exclusive}
@@ -40,7 +40,7 @@ use Rattle.tq_shape.specs.Steps.{refuse, refuse_for, state_at}
 use Rattle.tq_node.specs.Cases.{IsStep, IsUp, Holds, Blocks, Cites}
 use Rattle.tq_shape.proofs.Places.{Some-same, find-Has, none-Has, any-Has, Has-any}
 use Rattle.tq_locks.proofs.Found.{entry_of, first_passes, get-entry_of}
-use Rattle.tq_node.specs.Node.{IsKept, NodeView, answered}
+use Rattle.tq_node.specs.Node.{IsKept, NodeView, server_after}
 use Rattle.tq_node.proofs.KeptLocks.{kept_locks-stable, map-some, only_stable-twice}
 use Rattle.tq_store.proofs.SameName.{same_name-refl}
 use Rattle.tq_store.specs.Names.{same_name}
@@ -258,7 +258,7 @@ step_decide server list old number txn verdict cite =
   where
     by : IsUp old → fin.get old.votes txn ≡ Some (open_vote old txn) → (b : Bool) → installs server old txn verdict ≡ b
         → IsStep server list old number (Work (work.Decide txn verdict cite)) (cond b replies.Installed replies.Discarded)
-        (record { copies = cond b (installed_all old.copies (open_vote old txn).writes) old.copies; locks = released old.locks txn; votes = fin.remove old.votes txn; down = old.down })
+        (record { copies = cond b (installed_all old.copies (open_vote old txn).writes) old.copies; locks = locks_after_release old.locks txn; votes = fin.remove old.votes txn; down = old.down })
     by up is_open true e = (up, (open_vote old txn, is_open, cites_is verdict server (open_vote old txn).number e, refl))
     by up is_open false e = (up, (open_vote old txn, is_open, cites_not verdict server (open_vote old txn).number e, refl))
 
@@ -305,7 +305,7 @@ node_step server old number ask =
     (step server old.stable old.records number ask)
 
 -- the same of a call's result, by what it told
-pub told_step : (old new : NodeView) (number : ℕ) (ask : NodeAsk) (told : Result NodeReply AllocError) → IfOk told (λ reply. reply ≡ node_reply old.server old.state ask) → OnOk told (new ≡ answered old number ask)
+pub told_step : (old new : NodeView) (number : ℕ) (ask : NodeAsk) (told : Result NodeReply AllocError) → IfOk told (λ reply. reply ≡ node_reply old.server old.state ask) → OnOk told (new ≡ server_after old number ask)
     → IfOk told (λ reply. IsStep old.server old.state.stable old.state.records number ask reply new.state.records)
 told_step old new number ask (Err e) r s = tt
 told_step old new number ask (Ok reply) r s =

@@ -11,7 +11,7 @@ use Rattle.std.specs.Ordering.{eq_by_cmp}
 use Rattle.std.specs.declared.cmp.Ordering.{Ordering}
 use Rattle.tq_shape.specs.Journal.{Has}
 use Rattle.tq_store.specs.declared.write.Write.{Write}
-use Rattle.tq_locks.specs.Locks.{Locks, LockKey, lock_after, held_of, granted, released, only_stable, stabilised, kept}
+use Rattle.tq_locks.specs.Locks.{Locks, LockKey, lock_after, held_of, locks_after_grant, locks_after_release, only_stable, entry_after_keep, locks_after_keep}
 use Rattle.tq_locks.specs.declared.mode.Lock.{Lock}
 use Rattle.tq_locks.specs.declared.mode.Mode.{Mode}
 use Rattle.tq_locks.proofs.LockMaps.{locks_total, locks_same}
@@ -112,16 +112,16 @@ stabled-other lock own e =
     let p = ap (λ (b : Bool). lock.stable || b) e ∙ or-false lock.stable in
     λ i. record { mode = lock.mode; since = lock.since; version = lock.version; stable = p i }
 
-pub get-stabled : (m : Locks) (t : ℕ) (f : List ℕ) (u : ℕ) (lock : Lock) → fin.get m (f, u) ≡ Some lock → fin.get (kept m t) (f, u) ≡ Some (stabled lock (u == t))
-get-stabled m t f u lock h = get-kept m t (f, u) ∙ ap (option_map (λ (lock : Lock). (stabilised t ((f, u), lock)).1)) h
+pub get-stabled : (m : Locks) (t : ℕ) (f : List ℕ) (u : ℕ) (lock : Lock) → fin.get m (f, u) ≡ Some lock → fin.get (locks_after_keep m t) (f, u) ≡ Some (stabled lock (u == t))
+get-stabled m t f u lock h = get-kept m t (f, u) ∙ ap (option_map (λ (lock : Lock). (entry_after_keep t ((f, u), lock)).1)) h
 
-pub get-own : (m : Locks) (t : ℕ) (f : List ℕ) (lock : Lock) → fin.get m (f, t) ≡ Some lock → fin.get (kept m t) (f, t) ≡ Some (record { mode = lock.mode; since = lock.since; version = lock.version; stable = true })
+pub get-own : (m : Locks) (t : ℕ) (f : List ℕ) (lock : Lock) → fin.get m (f, t) ≡ Some lock → fin.get (locks_after_keep m t) (f, t) ≡ Some (record { mode = lock.mode; since = lock.since; version = lock.version; stable = true })
 get-own m t f lock h = get-stabled m t f t lock h ∙ ap (λ (l : Lock). Some l) (stabled-own lock (t == t) (eq-eqb t t refl))
 
-pub get-others : (m : Locks) (t : ℕ) (f : List ℕ) (u : ℕ) (lock : Lock) → u ≢ t → fin.get m (f, u) ≡ Some lock → fin.get (kept m t) (f, u) ≡ Some lock
+pub get-others : (m : Locks) (t : ℕ) (f : List ℕ) (u : ℕ) (lock : Lock) → u ≢ t → fin.get m (f, u) ≡ Some lock → fin.get (locks_after_keep m t) (f, u) ≡ Some lock
 get-others m t f u lock ne h = get-stabled m t f u lock h ∙ ap (λ (l : Lock). Some l) (stabled-other lock (u == t) (ne_eqb u t ne))
 
-pub released-is : (locks : Locks) (t : ℕ) (f : List ℕ) (u : ℕ) (lock : Lock) → fin.get (released locks t) (f, u) ≡ Some lock → (u ≢ t) × (fin.get locks (f, u) ≡ Some lock)
+pub released-is : (locks : Locks) (t : ℕ) (f : List ℕ) (u : ℕ) (lock : Lock) → fin.get (locks_after_release locks t) (f, u) ≡ Some lock → (u ≢ t) × (fin.get locks (f, u) ≡ Some lock)
 released-is locks t f u lock h = (
   λ e.
       let gone = fin.get-retain_keys locks (λ (key : LockKey). not (key.1 == t)) (f, u) (λ x q. ap (λ (key : LockKey). not (key.1 == t)) (sym (locks_same (f, u) x q))) in
@@ -130,7 +130,7 @@ released-is locks t f u lock h = (
   retain-from locks_total locks_same locks (λ (key : LockKey). not (key.1 == t)) (f, u) lock h,
 )
 
-pub released-other : (m : Locks) (t : ℕ) (f : List ℕ) (u : ℕ) → u ≢ t → fin.get (released m t) (f, u) ≡ fin.get m (f, u)
+pub released-other : (m : Locks) (t : ℕ) (f : List ℕ) (u : ℕ) → u ≢ t → fin.get (locks_after_release m t) (f, u) ≡ fin.get m (f, u)
 released-other m t f u ne = retain-in locks_total locks_same m (λ (key : LockKey). not (key.1 == t)) (f, u) (ap not (ne_eqb u t ne))
 
 pub only_stable-in : (m : Locks) (q : LockKey) (lock : Lock) → fin.get m q ≡ Some lock → lock.stable ≡ true → fin.get (only_stable m) q ≡ Some lock
@@ -164,7 +164,7 @@ locks-none =
       of_vote = λ t vote g k has. let n : Path (Option OpenVote) None (Some vote) = sym (fin.get-empty _ t) ∙ g in absurd cc;
     }
 
-pub locks-granted : (locks : Locks) (votes : Votes) (f : List ℕ) (t : ℕ) (m : Mode) (n v : ℕ) → fin.get votes t ≡ None → LocksIn locks votes → LocksIn (granted locks f t m n v) votes
+pub locks-granted : (locks : Locks) (votes : Votes) (f : List ℕ) (t : ℕ) (m : Mode) (n v : ℕ) → fin.get votes t ≡ None → LocksIn locks votes → LocksIn (locks_after_grant locks f t m n v) votes
 locks-granted locks votes f t m n v none h =
     record {
       stable_of = λ g u lock k s.
@@ -183,7 +183,7 @@ locks-granted locks votes f t m n v none h =
     was (Some lock) e s = let x = h.stable_of f t lock e s in let y : Path (Option OpenVote) None (Some x.0) = sym none ∙ x.1 in absurd cc
 
 pub locks-prepared : (locks : Locks) (votes : Votes) (t n : ℕ) (w : List Write) → fin.get votes t ≡ None → LocksIn locks votes
-    → LocksIn (kept locks t) (fin.insert votes t (record { number = n; writes = w; locks = map kept_lock (held_of locks t) }))
+    → LocksIn (locks_after_keep locks t) (fin.insert votes t (record { number = n; writes = w; locks = map kept_lock (held_of locks t) }))
 locks-prepared locks votes t n w none h =
     record {
       stable_of = λ g u lock k s.
@@ -194,7 +194,7 @@ locks-prepared locks votes t n w none h =
       of_vote = λ u vote g k has.
           elim (insert-cases nat_cmp_total nat_cmp-IsAntisymmetric votes t new_vote u vote g) [
             | inl p ↦
-                subst (λ (x : ℕ). fin.get (kept locks t) (k.file, x) ≡ Some (stable_lock x k).1) (sym p.0)
+                subst (λ (x : ℕ). fin.get (locks_after_keep locks t) (k.file, x) ≡ Some (stable_lock x k).1) (sym p.0)
                 (entry k (Has-map kept_lock (held_of locks t) k (subst (λ (x : OpenVote). Has x.locks k) (sym p.1) has)))
             | inr p ↦ get-others locks t k.file u (stable_lock u k).1 p.0 (h.of_vote u vote p.1 k has)
           ];
@@ -203,18 +203,18 @@ locks-prepared locks votes t n w none h =
     new_vote : OpenVote
     new_vote = record { number = n; writes = w; locks = map kept_lock (held_of locks t) }
 
-    entry : (k : KeptLock) → (e : LockKey × Lock) × Has (held_of locks t) e × (kept_lock e ≡ k) → fin.get (kept locks t) (k.file, t) ≡ Some (stable_lock t k).1
+    entry : (k : KeptLock) → (e : LockKey × Lock) × Has (held_of locks t) e × (kept_lock e ≡ k) → fin.get (locks_after_keep locks t) (k.file, t) ≡ Some (stable_lock t k).1
     entry k x =
         let e = x.0 in
         let y = Has-filter (λ (entry : LockKey × Lock). entry.0.1 == t) (fin.entries locks) e x.1 in
         let g = get-entry_of locks_total locks_same locks e y.0 in
         let at_t : fin.get locks (e.0.0, t) ≡ Some e.1 = ap (λ (z : ℕ). fin.get locks (e.0.0, z)) (sym (eqb-true e.0.1 t y.1)) ∙ g in
-        subst (λ (z : KeptLock). fin.get (kept locks t) (z.file, t) ≡ Some (stable_lock t z).1) x.2 (get-own locks t e.0.0 e.1 at_t)
+        subst (λ (z : KeptLock). fin.get (locks_after_keep locks t) (z.file, t) ≡ Some (stable_lock t z).1) x.2 (get-own locks t e.0.0 e.1 at_t)
 
-    own : (g : List ℕ) (u : ℕ) (lock : Lock) → u ≡ t → fin.get (kept locks t) (g, u) ≡ Some lock
+    own : (g : List ℕ) (u : ℕ) (lock : Lock) → u ≡ t → fin.get (locks_after_keep locks t) (g, u) ≡ Some lock
         → (vote : OpenVote) × (fin.get (fin.insert votes t new_vote) u ≡ Some vote) × ((k : KeptLock) × Has vote.locks k × (stable_lock u k ≡ ((g, u), lock)))
     own g u lock e k =
-        let x = map-some (λ (lock : Lock). (stabilised t ((g, u), lock)).1) (fin.get locks (g, u)) lock (sym (get-kept locks t (g, u)) ∙ k) in
+        let x = map-some (λ (lock : Lock). (entry_after_keep t ((g, u), lock)).1) (fin.get locks (g, u)) lock (sym (get-kept locks t (g, u)) ∙ k) in
         let was = x.0 in
         let is : record { mode = was.mode; since = was.since; version = was.version; stable = true } ≡ lock = sym (stabled-own was (u == t) (eq-eqb u t e)) ∙ x.2 in
         let has = filter-Has (λ (entry : LockKey × Lock). entry.0.1 == t) (fin.entries locks) ((g, u), was) (entry_of locks_total locks_same locks (g, u) was x.1) (eq-eqb u t e) in (
@@ -223,16 +223,16 @@ locks-prepared locks votes t n w none h =
           (kept_lock ((g, u), was), map-Has kept_lock (held_of locks t) ((g, u), was) has, λ i. ((g, u), is i)),
         )
 
-    other : (g : List ℕ) (u : ℕ) (lock : Lock) → u ≢ t → fin.get (kept locks t) (g, u) ≡ Some lock → lock.stable ≡ true
+    other : (g : List ℕ) (u : ℕ) (lock : Lock) → u ≢ t → fin.get (locks_after_keep locks t) (g, u) ≡ Some lock → lock.stable ≡ true
         → (vote : OpenVote) × (fin.get (fin.insert votes t new_vote) u ≡ Some vote) × ((k : KeptLock) × Has vote.locks k × (stable_lock u k ≡ ((g, u), lock)))
     other g u lock ne k s =
-        let x = map-some (λ (lock : Lock). (stabilised t ((g, u), lock)).1) (fin.get locks (g, u)) lock (sym (get-kept locks t (g, u)) ∙ k) in
+        let x = map-some (λ (lock : Lock). (entry_after_keep t ((g, u), lock)).1) (fin.get locks (g, u)) lock (sym (get-kept locks t (g, u)) ∙ k) in
         let was = x.0 in
         let is : was ≡ lock = sym (stabled-other was (u == t) (ne_eqb u t ne)) ∙ x.2 in
         let y = h.stable_of g u lock (x.1 ∙ ap (λ (l : Lock). Some l) is) s in
         (y.0, insert-other nat_cmp_total nat_cmp-IsAntisymmetric votes t new_vote u ne ∙ y.1, y.2)
 
-pub locks-decided : (locks : Locks) (votes : Votes) (t : ℕ) → LocksIn locks votes → LocksIn (released locks t) (fin.remove votes t)
+pub locks-decided : (locks : Locks) (votes : Votes) (t : ℕ) → LocksIn locks votes → LocksIn (locks_after_release locks t) (fin.remove votes t)
 locks-decided locks votes t h =
     record {
       stable_of = λ g u lock k s.
@@ -244,7 +244,7 @@ locks-decided locks votes t h =
           released-other locks t k.file u r.0 ∙ h.of_vote u vote r.1 k has;
     }
 
-pub locks-released : (locks : Locks) (votes : Votes) (t : ℕ) → fin.get votes t ≡ None → LocksIn locks votes → LocksIn (released locks t) votes
+pub locks-released : (locks : Locks) (votes : Votes) (t : ℕ) → fin.get votes t ≡ None → LocksIn locks votes → LocksIn (locks_after_release locks t) votes
 locks-released locks votes t none h =
     record {
       stable_of = λ g u lock k s. h.stable_of g u lock (released-is locks t g u lock k).1 s;

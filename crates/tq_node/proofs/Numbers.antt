@@ -6,7 +6,7 @@ use Rattle.std.specs.Cmp.{nat_cmp_total}
 use Rattle.std.specs.List.{list_any, filter_map, cons_option}
 use Rattle.std.specs.Option.{is_none, option_map_or}
 use Rattle.std.specs.Ordering.{nat_cmp, eq_by_cmp}
-use Rattle.tq_intents.specs.Kept.{ends_vote, vote_of, opened, open_votes, kept_votes, IsAbove, vote_at}
+use Rattle.tq_intents.specs.Kept.{ends_vote, vote_of, opened_vote, open_votes, kept_votes, IsAbove, vote_at}
 use Rattle.tq_intents.specs.declared.record.OpenVote.{OpenVote}
 use Rattle.tq_intents.specs.declared.record.Record.{Record}
 use Rattle.tq_intents.specs.declared.record.Record.TheVariants.{Copy, Intent, Keep, Prepared, Gone}
@@ -31,13 +31,13 @@ found_opened : (t k s : ℕ) (v w : OpenVote) (b : Bool) (es : List (ℕ × Open
 found_opened t k s v w true es f less e = f e
 found_opened t k s v w false es f less e = found_entry t k s v w (eq_by_cmp nat_cmp t s) (fin.find nat_cmp t es) f less e
 
-vote_found : (whole : List Record) (t k : ℕ) (v : OpenVote) (rest : List Record) → IsAbove k rest → fin.find nat_cmp t (filter_map (opened whole) rest) ≡ Some v → v.number < k
+vote_found : (whole : List Record) (t k : ℕ) (v : OpenVote) (rest : List Record) → IsAbove k rest → fin.find nat_cmp t (filter_map (opened_vote whole) rest) ≡ Some v → v.number < k
 vote_found whole t k v [] h e = absurd (none_some e)
 vote_found whole t k v (Copy write ∷ rest) h e = vote_found whole t k v rest h.1 e
 vote_found whole t k v (Intent s m write ∷ rest) h e = vote_found whole t k v rest h.1 e
 vote_found whole t k v (Keep s m lock ∷ rest) h e = vote_found whole t k v rest h.1 e
 vote_found whole t k v (Gone s m ∷ rest) h e = vote_found whole t k v rest h.1 e
-vote_found whole t k v (Prepared s m ∷ rest) h e = found_opened t k s v (vote_of whole s m) (list_any (ends_vote s m) whole) (filter_map (opened whole) rest) (vote_found whole t k v rest h.1) h.0 e
+vote_found whole t k v (Prepared s m ∷ rest) h e = found_opened t k s v (vote_of whole s m) (list_any (ends_vote s m) whole) (filter_map (opened_vote whole) rest) (vote_found whole t k v rest h.1) h.0 e
 
 pub vote_below : (list : List Record) (t k : ℕ) (v : OpenVote) → IsAbove k list → fin.get (kept_votes list) t ≡ Some v → v.number < k
 vote_below list t k v h e = vote_found list t k v list h (sym (fin.get-from_entries nat_cmp_total (open_votes list) t) ∙ e)

@@ -9,7 +9,7 @@ use Rattle.std.specs.declared.alloc.AllocError.{AllocError}
 use Rattle.tq_store.specs.Copies.{copy_of, installed_all}
 use Rattle.tq_store.specs.declared.copies.FileCopy.{FileCopy}
 use Rattle.tq_store.specs.declared.write.Write.{Write}
-use Rattle.tq_locks.specs.Locks.{is_exclusive, blocker, granted, held_of, holds_nothing, released}
+use Rattle.tq_locks.specs.Locks.{is_exclusive, blocker, locks_after_grant, held_of, holds_nothing, locks_after_release}
 use Rattle.tq_shape.specs.Journal.{is_empty}
 use Rattle.tq_locks.specs.declared.mode.Lock.{Lock}
 use Rattle.tq_locks.specs.declared.mode.Mode.{Mode}
@@ -26,7 +26,7 @@ use Rattle.tq_asks.specs.declared.ask.NodeReply.TheVariants.{Granted, Yes, Insta
 use Rattle.tq_asks.specs.declared.ask.Verdict.{Verdict}
 use Rattle.tq_asks.specs.declared.ask.WorkAsk.TheVariants as work
 use Rattle.tq_node.specs.Cases.{IsOnlyStep, IsStep, Holds, Blocks, Cites}
-use Rattle.tq_node.specs.Node.{NodeView, answered}
+use Rattle.tq_node.specs.Node.{NodeView, server_after}
 use Rattle.tq_asks.specs.Citing.{cites_vote}
 use Rattle.tq_node.specs.Records.{Records, has_vote, holds_exclusively, not_locked, are_good_writes, refusal, open_vote, installs, reply_of, records_after, writes_of, answer_at, node_reply}
 use Rattle.tq_shape.specs.Steps.{refuse, refuse_for, state_at}
@@ -154,7 +154,7 @@ only_lock server list old number txn file mode (Granted version content) new h =
     own-answered server list old number (Work (work.Lock txn file mode)) (Granted version content) new
     (test-false old.down refusals.Down _ h.0 ∙ test-false (has_vote old txn) refusals.Prepared _ (ap is_some h.1) ∙ value-none (blocker old.locks file txn mode) refusals.Held None (nobody old txn file mode h.2))
     (ap (λ (copy : FileCopy). Granted copy.version copy.content) (sym h.3))
-    (h.4 ∙ ap (λ (copy : FileCopy). record { copies = old.copies; locks = granted old.locks file txn mode number copy.version; votes = old.votes; down = old.down }) (sym h.3))
+    (h.4 ∙ ap (λ (copy : FileCopy). record { copies = old.copies; locks = locks_after_grant old.locks file txn mode number copy.version; votes = old.votes; down = old.down }) (sym h.3))
 only_lock server list old number txn file mode reply new h = absurd h
 
 only_prepare : (server : ℕ) (list : List Record) (old : Records) (number txn : ℕ) (writes : List Write) (reply : NodeReply) (new : Records) → IsStep server list old number (Work (work.Prepare txn writes)) reply new → IsOwn server list old number (Work (work.Prepare txn writes)) reply new
@@ -198,8 +198,8 @@ only_decide server list old number txn verdict cite Installed new h =
     (test-false old.down refusals.Down _ h.0 ∙ test-false (not (has_vote old txn)) refusals.NothingHere None (ap (λ (o : Option OpenVote). not (is_some o)) is))
     (sym (cond-true (installs server old txn verdict) Installed Discarded b))
     (h.1.3
-    ∙ ap (λ (v : OpenVote). record { copies = installed_all old.copies v.writes; locks = released old.locks txn; votes = fin.remove old.votes txn; down = old.down }) (sym (open_vote-is old txn vote is))
-    ∙ ap (λ (t : Bool). record { copies = cond t (installed_all old.copies (open_vote old txn).writes) old.copies; locks = released old.locks txn; votes = fin.remove old.votes txn; down = old.down }) (sym b))
+    ∙ ap (λ (v : OpenVote). record { copies = installed_all old.copies v.writes; locks = locks_after_release old.locks txn; votes = fin.remove old.votes txn; down = old.down }) (sym (open_vote-is old txn vote is))
+    ∙ ap (λ (t : Bool). record { copies = cond t (installed_all old.copies (open_vote old txn).writes) old.copies; locks = locks_after_release old.locks txn; votes = fin.remove old.votes txn; down = old.down }) (sym b))
 only_decide server list old number txn verdict cite Discarded new h =
     let vote = h.1.0 in
     let is = h.1.1 in
@@ -208,7 +208,7 @@ only_decide server list old number txn verdict cite Discarded new h =
     (test-false old.down refusals.Down _ h.0 ∙ test-false (not (has_vote old txn)) refusals.NothingHere None (ap (λ (o : Option OpenVote). not (is_some o)) is))
     (sym (cond-false (installs server old txn verdict) Installed Discarded b))
     (h.1.3
-    ∙ ap (λ (t : Bool). record { copies = cond t (installed_all old.copies (open_vote old txn).writes) old.copies; locks = released old.locks txn; votes = fin.remove old.votes txn; down = old.down }) (sym b))
+    ∙ ap (λ (t : Bool). record { copies = cond t (installed_all old.copies (open_vote old txn).writes) old.copies; locks = locks_after_release old.locks txn; votes = fin.remove old.votes txn; down = old.down }) (sym b))
 only_decide server list old number txn verdict cite reply new h = absurd h
 
 only_release : (server : ℕ) (list : List Record) (old : Records) (number txn : ℕ) (reply : NodeReply) (new : Records) → IsStep server list old number (Work (work.Release txn)) reply new → IsOwn server list old number (Work (work.Release txn)) reply new
@@ -269,7 +269,7 @@ only_step server list old number (CrashIn after ask) Crashed new h = own-answere
 only_step server list old number (CrashIn after ask) reply new h = absurd h
 
 -- a call's result, by what it told: no other reply and no other records are a step
-pub told_only : (old new : NodeView) (number : ℕ) (ask : NodeAsk) (told : Result NodeReply AllocError) → IfOk told (λ reply. reply ≡ node_reply old.server old.state ask) → OnOk told (new ≡ answered old number ask)
+pub told_only : (old new : NodeView) (number : ℕ) (ask : NodeAsk) (told : Result NodeReply AllocError) → IfOk told (λ reply. reply ≡ node_reply old.server old.state ask) → OnOk told (new ≡ server_after old number ask)
     → IfOk told (λ reply. IsOnlyStep old.server old.state.stable old.state.records number ask reply new.state.records)
 told_only old new number ask (Err e) r s = tt
 told_only old new number ask (Ok reply) r s = λ other after h.

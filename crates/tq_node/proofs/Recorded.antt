@@ -6,7 +6,7 @@ use Rattle.std.specs.FinMap as fin
 use Rattle.std.specs.Option.{is_some}
 use Rattle.tq_store.specs.Copies.{Files, installed_all, is_newer}
 use Rattle.tq_store.specs.declared.write.Write.{Write}
-use Rattle.tq_locks.specs.Locks.{Locks, held_of, released, only_stable}
+use Rattle.tq_locks.specs.Locks.{Locks, held_of, locks_after_release, only_stable}
 use Rattle.tq_intents.specs.Kept.{Votes, kept_votes, vote_at}
 use Rattle.tq_intents.specs.declared.record.KeptLock.{KeptLock}
 use Rattle.tq_intents.specs.declared.record.OpenVote.{OpenVote}
@@ -76,13 +76,13 @@ recorded_vote s last st t writes h none =
     }
 
 recorded_end : (last : ℕ) (old : Records) (t : ℕ) (mid : List Record) (files : Files) → fin.get old.votes t ≡ Some (open_vote old t) → IsSound mid last files old.locks → old.votes ≡ kept_votes mid
-    → IsRecorded (suc last) (record { records = record { copies = files; locks = released old.locks t; votes = fin.remove old.votes t; down = old.down }; stable = mid ++ Gone t (open_vote old t).number ∷ [] })
+    → IsRecorded (suc last) (record { records = record { copies = files; locks = locks_after_release old.locks t; votes = fin.remove old.votes t; down = old.down }; stable = mid ++ Gone t (open_vote old t).number ∷ [] })
 recorded_end last old t mid files is_open sound votes =
     let there : fin.get (kept_votes mid) t ≡ Some (open_vote old t) = ap (λ (m : Votes). fin.get m t) (sym votes) ∙ is_open in
     let named : mid ++ Gone t (open_vote old t).number ∷ [] ≡ mid ++ Gone t (vote_at (kept_votes mid) t).number ∷ [] = ap (λ (m : Votes). mid ++ Gone t (vote_at m t).number ∷ []) votes in
     let ended = sound-ended mid last files old.locks sound t (ap is_some there) in
     record {
-      sound = sound-as (sound-later (mid ++ Gone t (vote_at (kept_votes mid) t).number ∷ []) last files (released old.locks t) ended (suc last) (omega arith)) named refl refl;
+      sound = sound-as (sound-later (mid ++ Gone t (vote_at (kept_votes mid) t).number ∷ []) last files (locks_after_release old.locks t) ended (suc last) (omega arith)) named refl refl;
       votes = ap (λ (m : Votes). fin.remove m t) votes ∙ sym (kept_votes-ended mid t (open_vote old t) there sound.one_each);
     }
 
@@ -98,7 +98,7 @@ the_vote old t none =
 
 recorded_decide : (last : ℕ) (st : NodeState) (t : ℕ) (b : Bool) → IsRecorded last st → fin.get st.records.votes t ≡ Some (open_vote st.records t)
     → IsRecorded (suc last) (record {
-      records = record { copies = cond b (installed_all st.records.copies (open_vote st.records t).writes) st.records.copies; locks = released st.records.locks t; votes = fin.remove st.records.votes t; down = st.records.down };
+      records = record { copies = cond b (installed_all st.records.copies (open_vote st.records t).writes) st.records.copies; locks = locks_after_release st.records.locks t; votes = fin.remove st.records.votes t; down = st.records.down };
       stable = st.stable ++ (cond b (map Copy (filter (is_newer st.records.copies) (open_vote st.records t).writes)) [] ++ Gone t (open_vote st.records t).number ∷ []);
     })
 recorded_decide last st t false h is_open = recorded_end last st.records t st.stable st.records.copies is_open h.sound h.votes
@@ -107,7 +107,7 @@ recorded_decide last st t true h is_open =
     let newer = filter (is_newer st.records.copies) writes in
     let files = installed_all st.records.copies writes in
     let more = Gone t (open_vote st.records t).number ∷ [] in
-    subst (λ (list : List Record). IsRecorded (suc last) (record { records = record { copies = installed_all st.records.copies (open_vote st.records t).writes; locks = released st.records.locks t; votes = fin.remove st.records.votes t; down = st.records.down }; stable = list }))
+    subst (λ (list : List Record). IsRecorded (suc last) (record { records = record { copies = installed_all st.records.copies (open_vote st.records t).writes; locks = locks_after_release st.records.locks t; votes = fin.remove st.records.votes t; down = st.records.down }; stable = list }))
     (append_assoc st.stable (map Copy newer) more)
     (recorded_end last st.records t (st.stable ++ map Copy newer) files is_open (sound-newer st.stable last st.records.copies st.records.locks h.sound writes) (h.votes ∙ sym (kept_votes-copies newer st.stable)))
 

@@ -8,7 +8,7 @@ use Rattle.std.specs.Ordering.{nat_cmp}
 use Rattle.std.specs.Option.{option_map_or}
 use Rattle.tq_store.specs.Copies.{Files, installed_all, is_newer}
 use Rattle.tq_store.specs.declared.write.Write.{Write}
-use Rattle.tq_locks.specs.Locks.{Locks, asked, blocker, held_of, granted, released, only_stable, kept}
+use Rattle.tq_locks.specs.Locks.{Locks, locks_after_ask, blocker, held_of, locks_after_grant, locks_after_release, only_stable, locks_after_keep}
 use Rattle.tq_shape.specs.Steps.{state_at}
 use Rattle.tq_locks.specs.declared.mode.Mode.{Mode}
 use Rattle.tq_intents.specs.Kept.{AreDead, HasOneVoteEach, IsAbove, IsUnfinished, Votes, kept_votes, open_votes, vote_at, vote_records}
@@ -20,7 +20,7 @@ use Rattle.tq_intents.proofs.CopyPush.{open_votes-push_copies}
 use Rattle.tq_intents.proofs.DeadRecords.{dead_above, dead_copies, open_votes-dead}
 use Rattle.tq_intents.proofs.Votes.{HasOneVoteEach-ended, HasOneVoteEach-given, kept_votes-ended, kept_votes-given}
 use Rattle.tq_node.specs.Node.{IsKept, IsSound, LocksIn, NodeView}
-use Rattle.tq_node.specs.NodeChanges.{left, unnoted}
+use Rattle.tq_node.specs.NodeChanges.{server_at_stop, server_after_step}
 use Rattle.tq_node.specs.declared.change.NodeStep.TheVariants.{Crash}
 use Rattle.tq_node.specs.Records.{kept_lock}
 use Rattle.tq_node.proofs.KeptLocks.{kept_locks-is, locks-crashed, locks-decided, locks-granted, locks-none, locks-prepared, locks-released}
@@ -53,18 +53,18 @@ module _ (list : List Record) (last : ℕ) (files : Files) (locks : Locks) (soun
   pub sound-table : (table : Locks) → LocksIn table (kept_votes list) → IsSound list last files table
   sound-table table h = record { numbers = sound.numbers; one_each = sound.one_each; copies = sound.copies; locks = h }
 
-  pub sound-granted : (f : List ℕ) (t : ℕ) (m : Mode) (n v : ℕ) → fin.get (kept_votes list) t ≡ None → IsSound list last files (granted locks f t m n v)
-  sound-granted f t m n v none = sound-table (granted locks f t m n v) (locks-granted locks (kept_votes list) f t m n v none sound.locks)
+  pub sound-granted : (f : List ℕ) (t : ℕ) (m : Mode) (n v : ℕ) → fin.get (kept_votes list) t ≡ None → IsSound list last files (locks_after_grant locks f t m n v)
+  sound-granted f t m n v none = sound-table (locks_after_grant locks f t m n v) (locks-granted locks (kept_votes list) f t m n v none sound.locks)
 
   sound-unless : (by : Option ℕ) (table : Locks) → IsSound list last files table → IsSound list last files (state_at by locks table)
   sound-unless None table h = h
   sound-unless (Some by) table h = sound
 
-  pub sound-asked : (f : List ℕ) (t : ℕ) (m : Mode) (n v : ℕ) → fin.get (kept_votes list) t ≡ None → IsSound list last files (asked locks f t m n v)
-  sound-asked f t m n v none = sound-unless (blocker locks f t m) (granted locks f t m n v) (sound-granted f t m n v none)
+  pub sound-asked : (f : List ℕ) (t : ℕ) (m : Mode) (n v : ℕ) → fin.get (kept_votes list) t ≡ None → IsSound list last files (locks_after_ask locks f t m n v)
+  sound-asked f t m n v none = sound-unless (blocker locks f t m) (locks_after_grant locks f t m n v) (sound-granted f t m n v none)
 
-  pub sound-released : (t : ℕ) → fin.get (kept_votes list) t ≡ None → IsSound list last files (released locks t)
-  sound-released t none = sound-table (released locks t) (locks-released locks (kept_votes list) t none sound.locks)
+  pub sound-released : (t : ℕ) → fin.get (kept_votes list) t ≡ None → IsSound list last files (locks_after_release locks t)
+  sound-released t none = sound-table (locks_after_release locks t) (locks-released locks (kept_votes list) t none sound.locks)
 
   pub sound-crashed : IsSound list last files (only_stable locks)
   sound-crashed = sound-table (only_stable locks) (locks-crashed locks (kept_votes list) sound.locks)
@@ -83,7 +83,7 @@ module _ (list : List Record) (last : ℕ) (files : Files) (locks : Locks) (soun
   sound-newer writes =
       subst (λ (f : Files). IsSound (list ++ map Copy (filter (is_newer files) writes)) last f locks) (installed_all-newer files writes) (sound-copies (filter (is_newer files) writes))
 
-  pub sound-prepared : (t n : ℕ) (writes : List Write) → last < n → fin.get (kept_votes list) t ≡ None → IsSound (list ++ vote_records t n writes (map kept_lock (held_of locks t))) n files (kept locks t)
+  pub sound-prepared : (t n : ℕ) (writes : List Write) → last < n → fin.get (kept_votes list) t ≡ None → IsSound (list ++ vote_records t n writes (map kept_lock (held_of locks t))) n files (locks_after_keep locks t)
   sound-prepared t n writes rises none =
       let kept_there = map kept_lock (held_of locks t) in
       let below : IsAbove n list = above_greater (last + 1) n list (omega (arith, rises)) sound.numbers in
@@ -91,7 +91,7 @@ module _ (list : List Record) (last : ℕ) (files : Files) (locks : Locks) (soun
         numbers = above_append (n + 1) list (vote_records t n writes kept_there) (above_greater n (n + 1) list (omega arith) below) (above_vote t n writes kept_there);
         one_each = HasOneVoteEach-given list t n writes kept_there below none sound.one_each;
         copies = kept_copies-others list (vote_records t n writes kept_there) (kept_copies-vote t n writes kept_there) ∙ sound.copies;
-        locks = subst (λ (votes : Votes). LocksIn (kept locks t) votes) (sym (kept_votes-given list t n writes kept_there below none sound.one_each)) (locks-prepared locks (kept_votes list) t n writes none sound.locks);
+        locks = subst (λ (votes : Votes). LocksIn (locks_after_keep locks t) votes) (sym (kept_votes-given list t n writes kept_there below none sound.one_each)) (locks-prepared locks (kept_votes list) t n writes none sound.locks);
       }
 
   pub sound-unfinished : (dead : List Record) (n : ℕ) → last < n → AreDead n dead → IsUnfinished list dead
@@ -108,7 +108,7 @@ module _ (list : List Record) (last : ℕ) (files : Files) (locks : Locks) (soun
         locks = subst (λ (es : List (ℕ × OpenVote)). LocksIn locks (fin.from_entries es)) (sym same) sound.locks;
       }
 
-  sound-ended_vote : (t : ℕ) (vote : OpenVote) → fin.get (kept_votes list) t ≡ Some vote → IsSound (list ++ Gone t (vote_at (kept_votes list) t).number ∷ []) last files (released locks t)
+  sound-ended_vote : (t : ℕ) (vote : OpenVote) → fin.get (kept_votes list) t ≡ Some vote → IsSound (list ++ Gone t (vote_at (kept_votes list) t).number ∷ []) last files (locks_after_release locks t)
   sound-ended_vote t vote g =
       let is = vote_at-is (kept_votes list) t vote g in
       let named : list ++ Gone t vote.number ∷ [] ≡ list ++ Gone t (vote_at (kept_votes list) t).number ∷ [] = ap (λ (v : OpenVote). list ++ Gone t v.number ∷ []) (sym is) in
@@ -116,10 +116,10 @@ module _ (list : List Record) (last : ℕ) (files : Files) (locks : Locks) (soun
         numbers = above_ended list t last sound.numbers;
         one_each = subst HasOneVoteEach named (HasOneVoteEach-ended list t vote g sound.one_each);
         copies = kept_copies-others list (Gone t (vote_at (kept_votes list) t).number ∷ []) refl ∙ sound.copies;
-        locks = subst (λ (votes : Votes). LocksIn (released locks t) votes) (sym (kept_votes-ended list t vote g sound.one_each) ∙ ap kept_votes named) (locks-decided locks (kept_votes list) t sound.locks);
+        locks = subst (λ (votes : Votes). LocksIn (locks_after_release locks t) votes) (sym (kept_votes-ended list t vote g sound.one_each) ∙ ap kept_votes named) (locks-decided locks (kept_votes list) t sound.locks);
       }
 
-  pub sound-ended : (t : ℕ) → IsSome (fin.get (kept_votes list) t) → IsSound (list ++ Gone t (vote_at (kept_votes list) t).number ∷ []) last files (released locks t)
+  pub sound-ended : (t : ℕ) → IsSome (fin.get (kept_votes list) t) → IsSound (list ++ Gone t (vote_at (kept_votes list) t).number ∷ []) last files (locks_after_release locks t)
   sound-ended t some = let v = some_is (fin.get (kept_votes list) t) some in sound-ended_vote t v.0 v.1
 
   -- ---- what the records keep
@@ -131,7 +131,7 @@ module _ (list : List Record) (last : ℕ) (files : Files) (locks : Locks) (soun
       λ i. record { copies = c i; locks = l i; votes = kept_votes list; down = true }
 
 -- a crash leaves what the stable list keeps
-pub left_is : (old : NodeView) (number : ℕ) → IsKept old.state → unnoted old number Crash ≡ left true old
+pub left_is : (old : NodeView) (number : ℕ) → IsKept old.state → server_after_step old number Crash ≡ server_at_stop true old
 left_is old number h =
     let records = sym h in
     let list = append-nil old.state.stable in
@@ -148,7 +148,7 @@ sound-as {list = list} {more = more} {last = last} {files = files} {found = foun
     (subst (λ (x : Locks). IsSound list last files x) (sym t) h))
 
 pub sound-installed : (list : List Record) (last : ℕ) (files : Files) (locks : Locks) → IsSound list last files locks → (t : ℕ) (writes : List Write) → IsSome (fin.get (kept_votes list) t)
-    → IsSound ((list ++ map Copy (filter (is_newer files) writes)) ++ Gone t (vote_at (kept_votes (list ++ map Copy (filter (is_newer files) writes))) t).number ∷ []) last (installed_all files writes) (released locks t)
+    → IsSound ((list ++ map Copy (filter (is_newer files) writes)) ++ Gone t (vote_at (kept_votes (list ++ map Copy (filter (is_newer files) writes))) t).number ∷ []) last (installed_all files writes) (locks_after_release locks t)
 sound-installed list last files locks sound t writes some =
     let newer = filter (is_newer files) writes in
     sound-ended (list ++ map Copy newer) last (installed_all files writes) locks (sound-newer list last files locks sound writes) t

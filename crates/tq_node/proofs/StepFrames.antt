@@ -10,7 +10,7 @@ use Rattle.std.specs.Option.{option_map, option_map_or}
 use Rattle.tq_store.specs.Copies.{Files, copy_of, installed_all}
 use Rattle.tq_store.specs.declared.copies.FileCopy.{FileCopy}
 use Rattle.tq_store.specs.declared.write.Write.{Write}
-use Rattle.tq_locks.specs.Locks.{Locks, LockKey, conflicts, is_exclusive, lock_after, blocks, blocker, granted, held_of, holds_nothing, released, stabilised, kept}
+use Rattle.tq_locks.specs.Locks.{Locks, LockKey, conflicts, is_exclusive, lock_after, blocks, blocker, locks_after_grant, held_of, holds_nothing, locks_after_release, entry_after_keep, locks_after_keep}
 use Rattle.tq_locks.specs.declared.mode.Lock.{Lock}
 use Rattle.tq_locks.specs.declared.mode.Mode.{Mode}
 use Rattle.tq_locks.specs.declared.mode.Mode.TheVariants.{Shared, Exclusive}
@@ -18,7 +18,7 @@ use Rattle.tq_locks.proofs.LockMaps.{locks_total, locks_same}
 use Rattle.tq_intents.specs.Kept.{Votes, stable_lock}
 use Rattle.tq_intents.specs.declared.record.KeptLock.{KeptLock}
 use Rattle.tq_intents.specs.declared.record.OpenVote.{OpenVote}
-use Rattle.tq_node.specs.Records.{Records, has_vote, holds_exclusively, not_locked, are_good_writes, work_refusal, open_vote, installs, held_lock, kept_lock, work_reply, work_after, crashed, answer_at}
+use Rattle.tq_node.specs.Records.{Records, has_vote, holds_exclusively, not_locked, are_good_writes, work_refusal, open_vote, installs, held_lock, kept_lock, work_reply, work_after, records_after_crash, answer_at}
 use Rattle.tq_shape.specs.Steps.{refuse, refuse_for}
 use Rattle.tq_asks.specs.declared.ask.CitedVote.{CitedVote}
 use Rattle.tq_asks.specs.declared.ask.HeldLock.{HeldLock}
@@ -146,7 +146,7 @@ lock_frame s n old t f m r none reply =
       went = λ u vote h. inl h;
       yes_of = no_yes s n _ old _ plain;
       owns = λ h u vote v.
-          owner_same old.locks (granted old.locks f t m n (copy_of old.copies f).version) u vote
+          owner_same old.locks (locks_after_grant old.locks f t m n (copy_of old.copies f).version) u vote
           (λ g.
           insert-other locks_total locks_same old.locks (f, t) (lock_after (fin.get old.locks (f, t)) m n (copy_of old.copies f).version) (g, u)
           (λ e. let x : Path (Option OpenVote) None (Some vote) = sym no_vote ∙ ap (fin.get old.votes) (sym (ap (λ (key : LockKey). key.1) e)) ∙ v in cc))
@@ -175,7 +175,7 @@ lock_frame s n old t f m r none reply =
           | inr c ↦ c
         ]
 
-    each : (g : List ℕ) (u : ℕ) (lock : Lock) → fin.get (granted old.locks f t m n (copy_of old.copies f).version) (g, u) ≡ Some lock
+    each : (g : List ℕ) (u : ℕ) (lock : Lock) → fin.get (locks_after_grant old.locks f t m n (copy_of old.copies f).version) (g, u) ≡ Some lock
         → (fin.get old.locks (g, u) ≡ Some lock) ⊎ ((g ≡ f) × (u ≡ t) × (lock ≡ lock_after (fin.get old.locks (g, u)) m n (copy_of old.copies g).version))
     each g u lock h =
         elim (insert-cases locks_total locks_same old.locks (f, t) (lock_after (fin.get old.locks (f, t)) m n (copy_of old.copies f).version) (g, u) lock h) [
@@ -198,16 +198,16 @@ lock_frame s n old t f m r none reply =
 -- ---- Prepare
 
 -- the locks of other transactions stay
-pub kept-other : (m : Locks) (t : ℕ) (f : List ℕ) (u : ℕ) → u ≢ t → fin.get (kept m t) (f, u) ≡ fin.get m (f, u)
+pub kept-other : (m : Locks) (t : ℕ) (f : List ℕ) (u : ℕ) → u ≢ t → fin.get (locks_after_keep m t) (f, u) ≡ fin.get m (f, u)
 kept-other m t f u ne = get-kept m t (f, u) ∙ by (fin.get m (f, u))
   where
-    by : (o : Option Lock) → option_map (λ (lock : Lock). (stabilised t ((f, u), lock)).1) o ≡ o
+    by : (o : Option Lock) → option_map (λ (lock : Lock). (entry_after_keep t ((f, u), lock)).1) o ≡ o
     by None = refl
     by (Some lock) = ap (λ (l : Lock). Some l) (stabled-other lock (u == t) (ne_eqb u t ne))
 
-among_kept : (m : Locks) (t : ℕ) → AreAmong (kept m t) m
+among_kept : (m : Locks) (t : ℕ) → AreAmong (locks_after_keep m t) m
 among_kept m t = λ f u lock h.
-    let k = map-some (λ (lock : Lock). (stabilised t ((f, u), lock)).1) (fin.get m (f, u)) lock (sym (get-kept m t (f, u)) ∙ h) in
+    let k = map-some (λ (lock : Lock). (entry_after_keep t ((f, u), lock)).1) (fin.get m (f, u)) lock (sym (get-kept m t (f, u)) ∙ h) in
     let is : stabled k.0 (u == t) ≡ lock = k.2 in
     (k.0, k.1, ap (λ (l : Lock). l.mode) is, ap (λ (l : Lock). l.since) is, ap (λ (l : Lock). l.version) is)
 
@@ -235,8 +235,8 @@ prepare_frame s n old t w r none reply =
       yes_of = said;
       owns = λ h u vote v.
           elim (insert-cases nat_cmp_total nat_cmp-IsAntisymmetric old.votes t new_vote u vote v) [
-            | inl p ↦ subst (λ (x : OpenVote). IsOwner (kept old.locks t) u x) p.1 (subst (λ (x : ℕ). IsOwner (kept old.locks t) x new_vote) (sym p.0) owned)
-            | inr p ↦ owner_same old.locks (kept old.locks t) u vote (λ f. kept-other old.locks t f u p.0) (h u vote p.1)
+            | inl p ↦ subst (λ (x : OpenVote). IsOwner (locks_after_keep old.locks t) u x) p.1 (subst (λ (x : ℕ). IsOwner (locks_after_keep old.locks t) x new_vote) (sym p.0) owned)
+            | inr p ↦ owner_same old.locks (locks_after_keep old.locks t) u vote (λ f. kept-other old.locks t f u p.0) (h u vote p.1)
           ];
       copies = λ f. inl refl;
       tells = no_tell _ old plain;
@@ -286,7 +286,7 @@ prepare_frame s n old t w r none reply =
               (x.0, ap (λ (z : ℕ). fin.get old.locks (f, z)) (sym te) ∙ x.1, x.2);
         }
 
-    own_entry : (entry : LockKey × Lock) → Has (held_of old.locks t) entry → fin.get (kept old.locks t) ((kept_lock entry).file, t) ≡ Some (stable_lock t (kept_lock entry)).1
+    own_entry : (entry : LockKey × Lock) → Has (held_of old.locks t) entry → fin.get (locks_after_keep old.locks t) ((kept_lock entry).file, t) ≡ Some (stable_lock t (kept_lock entry)).1
     own_entry entry has =
         let x = Has-filter (λ (entry : LockKey × Lock). entry.0.1 == t) (fin.entries old.locks) entry has in
         let g = get-entry_of locks_total locks_same old.locks entry x.0 in
@@ -294,19 +294,19 @@ prepare_frame s n old t w r none reply =
         let at_t : fin.get old.locks (entry.0.0, t) ≡ Some entry.1 = ap (λ (z : ℕ). fin.get old.locks (entry.0.0, z)) (sym of_t) ∙ g in
         get-own old.locks t entry.0.0 entry.1 at_t
 
-    own_only : (f : List ℕ) (lock : Lock) → fin.get (kept old.locks t) (f, t) ≡ Some lock → (k : KeptLock) × Has (map kept_lock (held_of old.locks t)) k × (stable_lock t k ≡ ((f, t), lock))
+    own_only : (f : List ℕ) (lock : Lock) → fin.get (locks_after_keep old.locks t) (f, t) ≡ Some lock → (k : KeptLock) × Has (map kept_lock (held_of old.locks t)) k × (stable_lock t k ≡ ((f, t), lock))
     own_only f lock g =
-        let x = map-some (λ (lock : Lock). (stabilised t ((f, t), lock)).1) (fin.get old.locks (f, t)) lock (sym (get-kept old.locks t (f, t)) ∙ g) in
+        let x = map-some (λ (lock : Lock). (entry_after_keep t ((f, t), lock)).1) (fin.get old.locks (f, t)) lock (sym (get-kept old.locks t (f, t)) ∙ g) in
         let is = sym (stabled-own x.0 (t == t) (eq-eqb t t refl)) ∙ x.2 in
         let has = filter-Has (λ (entry : LockKey × Lock). entry.0.1 == t) (fin.entries old.locks) ((f, t), x.0) (entry_of locks_total locks_same old.locks (f, t) x.0 x.1) (eq-eqb t t refl) in
         (kept_lock ((f, t), x.0), map-Has kept_lock (held_of old.locks t) ((f, t), x.0) has, λ i. ((f, t), is i))
 
-    owned : IsOwner (kept old.locks t) t new_vote
+    owned : IsOwner (locks_after_keep old.locks t) t new_vote
     owned =
         record {
           held = λ k has.
               let x = Has-map kept_lock (held_of old.locks t) k has in
-              subst (λ (z : KeptLock). fin.get (kept old.locks t) (z.file, t) ≡ Some (stable_lock t z).1) x.2 (own_entry x.0 x.1);
+              subst (λ (z : KeptLock). fin.get (locks_after_keep old.locks t) (z.file, t) ≡ Some (stable_lock t z).1) x.2 (own_entry x.0 x.1);
           only = own_only;
           exclusive = λ f v c has.
               let x = exclusive f v c has in
@@ -339,7 +339,7 @@ decide_frame s n old t verdict k r none reply =
       yes_of = no_yes s n _ old _ plain;
       owns = λ h u vote v.
           let was = remove-cases nat_cmp_total nat_cmp-IsAntisymmetric old.votes t u vote v in
-          owner_same old.locks (released old.locks t) u vote (λ f. released-other old.locks t f u was.0) (h u vote was.1);
+          owner_same old.locks (locks_after_release old.locks t) u vote (λ f. released-other old.locks t f u was.0) (h u vote was.1);
       copies = λ f. raised f (installs s old t verdict) refl;
       tells = no_tell _ old quiet;
     }
@@ -450,7 +450,7 @@ refresh_frame s n old f v c from r =
 
 -- ---- Crash and Return
 
-pub crash_frame : (s n : ℕ) (old : Records) (r : NodeReply) → Frame s n (record { ask = Crash; reply = r }) old (crashed old)
+pub crash_frame : (s n : ℕ) (old : Records) (r : NodeReply) → Frame s n (record { ask = Crash; reply = r }) old (records_after_crash old)
 crash_frame s n old r =
     calm_frame s n _ old _ plain quiet (left_retained old.locks test) refl refl
     (λ u vote v f lock g stable. only_stable-in old.locks (f, u) lock g stable)

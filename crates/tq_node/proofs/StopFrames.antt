@@ -23,7 +23,7 @@ use Rattle.tq_asks.specs.declared.ask.Verdict.{Verdict}
 use Rattle.tq_asks.specs.declared.ask.WorkAsk.{WorkAsk}
 use Rattle.tq_asks.specs.declared.ask.WorkAsk.TheVariants as work
 use Rattle.tq_node.specs.NodeJournal.{NodeEntry, inner, IsCited}
-use Rattle.tq_node.specs.Records.{Records, NodeState, work_refusal, open_vote, installs, kept_lock, work_reply, work_after, work_writes, crashed, records_after, stop_writes}
+use Rattle.tq_node.specs.Records.{Records, NodeState, work_refusal, open_vote, installs, kept_lock, work_reply, work_after, work_writes, records_after_crash, records_after, stop_writes}
 use Rattle.tq_shape.specs.Steps.{state_at}
 use Rattle.tq_node.proofs.Maps.{retain-from}
 use Rattle.tq_node.proofs.KeptLocks.{only_stable-in}
@@ -56,9 +56,9 @@ pub record IsPart (s : ℕ) (old : Records) (ask : WorkAsk) (part : List Write) 
 -- what a stop inside an ask leaves: as a crash before it, as a crash behind it, or a Decide's first copies
 abbrev pub IsStopped : ℕ → ℕ → Records → WorkAsk → Records → Type 0
 IsStopped s n old ask new =
-    (new ≡ crashed old)
-    ⊎ (((work_refusal old ask ≡ None) × (is_lock ask ≡ false) × (new ≡ crashed (work_after s old n ask)))
-    ⊎ ((part : List Write) × IsPart s old ask part × (new ≡ crashed (record old { copies = installed_all old.copies part }))))
+    (new ≡ records_after_crash old)
+    ⊎ (((work_refusal old ask ≡ None) × (is_lock ask ≡ false) × (new ≡ records_after_crash (work_after s old n ask)))
+    ⊎ ((part : List Write) × IsPart s old ask part × (new ≡ records_after_crash (record old { copies = installed_all old.copies part }))))
 
 -- the locks that a crash leaves
 abbrev stable_key : Locks → LockKey → Bool
@@ -69,13 +69,13 @@ pub stop_frame : (s n : ℕ) (old new : Records) (ask : WorkAsk) (e : NodeEntry)
     → IsStopped s n old ask new → Frame s n e old new
 stop_frame s n old new ask e at plain quiet taken (inl is) =
     subst (λ (x : Records). Frame s n e old x) (sym is)
-    (calm_frame s n e old (crashed old) plain quiet (left_retained old.locks (stable_key old.locks)) refl refl
+    (calm_frame s n e old (records_after_crash old) plain quiet (left_retained old.locks (stable_key old.locks)) refl refl
     (λ u vote v f lock g stable. only_stable-in old.locks (f, u) lock g stable))
 stop_frame s n old new ask e at plain quiet taken (inr (inl is)) =
     subst (λ (x : Records). Frame s n e old x) (sym is.2) (behind (work_frame s n old ask (work_reply s old ask) is.0 refl))
   where
     behind : Frame s n (record { ask = Work ask; reply = work_reply s old ask }) old (work_after s old n ask)
-        → Frame s n e old (crashed (work_after s old n ask))
+        → Frame s n e old (records_after_crash (work_after s old n ask))
     behind h =
         record {
           locks =
@@ -93,7 +93,7 @@ stop_frame s n old new ask e at plain quiet taken (inr (inl is)) =
                 | inl stays ↦ inl stays
                 | inr ends ↦ inr (ends.0, ends.1, at ∙ ends.2, ends.3, taken)
               ];
-          yes_of = no_yes s n e old (crashed (work_after s old n ask)) plain;
+          yes_of = no_yes s n e old (records_after_crash (work_after s old n ask)) plain;
           owns = λ o t vote v.
               owner_stays (work_after s old n ask).locks (only_stable (work_after s old n ask).locks) t vote
               (λ f lock g stable. only_stable-in (work_after s old n ask).locks (f, t) lock g stable)
@@ -119,7 +119,7 @@ stop_frame s n old new ask e at plain quiet taken (inr (inl is)) =
 stop_frame s n old new ask e at plain quiet taken (inr (inr is)) =
     subst (λ (x : Records). Frame s n e old x) (sym is.2) (halfway is.0 is.1)
   where
-    halfway : (part : List Write) → IsPart s old ask part → Frame s n e old (crashed (record old { copies = installed_all old.copies part }))
+    halfway : (part : List Write) → IsPart s old ask part → Frame s n e old (records_after_crash (record old { copies = installed_all old.copies part }))
     halfway part p =
         record {
           locks = inl (among_retained old.locks (stable_key old.locks));
@@ -259,11 +259,11 @@ stop_is s last st a k h =
     let m = mid_of s last st a k h in
     let is = recorded_kept (suc last) _ m.recorded in
     elim m.outcome [
-      | inl e ↦ inl (is ∙ ap crashed e)
+      | inl e ↦ inl (is ∙ ap records_after_crash e)
       | inr o ↦
           elim o [
-            | inl e ↦ inr (inl (e.0, e.1, is ∙ ap crashed e.2))
-            | inr e ↦ inr (inr (e.0, e.1, is ∙ ap crashed e.2))
+            | inl e ↦ inr (inl (e.0, e.1, is ∙ ap records_after_crash e.2))
+            | inr e ↦ inr (inr (e.0, e.1, is ∙ ap records_after_crash e.2))
           ]
     ]
 

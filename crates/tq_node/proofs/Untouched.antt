@@ -3,21 +3,21 @@ use Rattle.std.proofs.Common.{◌≡◌, ◌≤◌, ℕ, nat_lt, Bool, true, fal
 use Rattle.std.specs.List.{AllByRecursion, list_any}
 use mathlib.Core.Bool.{true≢false}
 use Rattle.std.proofs.lemmas.Bool.{ltb-false, ltb-true, or_parts}
-use Rattle.tq_store.specs.Copies.{Files, copy_in, copy_of, installed, installed_all}
+use Rattle.tq_store.specs.Copies.{Files, copy_in, copy_of, copies_after_install, installed_all}
 use Rattle.tq_store.specs.Names.{same_name}
 use Rattle.tq_store.specs.declared.copies.FileCopy.{FileCopy}
 use Rattle.tq_store.specs.declared.write.Write.{Write}
 use Rattle.tq_store.proofs.Installed.{Installs-installed, rises-installed_all, rises_then}
 use Rattle.tq_store.proofs.SameName.{same_name-refl}
 use Rattle.tq_asks.specs.declared.ask.NodeAsk.{NodeAsk}
-use Rattle.tq_node.specs.NodeChanges.{stepped}
+use Rattle.tq_node.specs.NodeChanges.{records_after_step}
 use Rattle.tq_node.specs.Untouched.{AreReached, KeepsOthers, raised_files, step_raises}
 use Rattle.tq_node.specs.Records.{Records}
 use Rattle.tq_node.specs.declared.change.NodeStep.{NodeStep}
 use Rattle.tq_node.specs.declared.change.NodeStep.TheVariants as steps
 use Rattle.tq_node.proofs.Installed.{installed-low}
 
-other-installed : (files : Files) (name : List ℕ) (copy : FileCopy) (other : List ℕ) → same_name other name ≡ false → copy_of (installed files name copy) other ≡ copy_of files other
+other-installed : (files : Files) (name : List ℕ) (copy : FileCopy) (other : List ℕ) → same_name other name ≡ false → copy_of (copies_after_install files name copy) other ≡ copy_of files other
 other-installed files name copy other differs =
     (Installs-installed files name copy).others other (λ same. true≢false (sym (same_name-refl other) ∙ ap (same_name other) same ∙ differs))
 
@@ -25,11 +25,11 @@ other-installed_all : (files : Files) (writes : List Write) → KeepsOthers (map
 other-installed_all files [] other none = refl
 other-installed_all files (write ∷ writes) other none =
     let both = or_parts (same_name other write.file) (list_any (same_name other) (map (λ w. w.file) writes)) none in
-    other-installed_all (installed files write.file (copy_in write)) writes other both.1
+    other-installed_all (copies_after_install files write.file (copy_in write)) writes other both.1
     ∙ other-installed files write.file (copy_in write) other both.0
 
 -- the copies of other files stay under a step
-pub step-keeps : (ask : NodeAsk) (old : Records) (number : ℕ) (step : NodeStep) → KeepsOthers (raised_files ask (step_raises step)) old.copies (stepped old number step).copies
+pub step-keeps : (ask : NodeAsk) (old : Records) (number : ℕ) (step : NodeStep) → KeepsOthers (raised_files ask (step_raises step)) old.copies (records_after_step old number step).copies
 step-keeps ask old number steps.Nothing file none = refl
 step-keeps ask old number (steps.Lock txn name mode version) file none = refl
 step-keeps ask old number (steps.Vote txn vote) file none = refl
@@ -48,10 +48,10 @@ step-keeps ask old number steps.Return file none = refl
 own-installed_all : (files : Files) (writes : List Write) → AllByRecursion (λ write. write.version ≤ (copy_of (installed_all files writes) write.file).version) writes
 own-installed_all files [] = tt
 own-installed_all files (write ∷ writes) =
-    let first = installed files write.file (copy_in write) in
+    let first = copies_after_install files write.file (copy_in write) in
     (rises_then _ _ _ (installed-low files write.file (copy_in write)) (rises-installed_all first writes write.file), own-installed_all first writes)
 
-pub step-reaches : (ask : NodeAsk) (old : Records) (number : ℕ) (step : NodeStep) → AreReached ask (step_raises step) (stepped old number step).copies
+pub step-reaches : (ask : NodeAsk) (old : Records) (number : ℕ) (step : NodeStep) → AreReached ask (step_raises step) (records_after_step old number step).copies
 step-reaches ask old number steps.Nothing = tt
 step-reaches ask old number (steps.Lock txn name mode version) = tt
 step-reaches ask old number (steps.Vote txn vote) = tt

@@ -3,9 +3,9 @@ use Rattle.std.specs.Prelude.{◌≡◌, ◌≢◌, ◌≤◌, ◌<◌, ℕ, tru
 use Rattle.std.specs.FinMap as fin
 use Rattle.std.specs.List.{AllByRecursion}
 use Rattle.tq_shape.specs.Journal.{Has}
-use Rattle.tq_store.specs.Copies.{copy_of, installed, installed_all}
+use Rattle.tq_store.specs.Copies.{copy_of, copies_after_install, installed_all}
 use Rattle.tq_store.specs.declared.write.Write.{Write}
-use Rattle.tq_locks.specs.Locks.{conflicts, granted, held_of, released, only_stable, kept}
+use Rattle.tq_locks.specs.Locks.{conflicts, locks_after_grant, held_of, locks_after_release, only_stable, locks_after_keep}
 use Rattle.tq_locks.specs.declared.mode.Lock.{Lock}
 use Rattle.tq_locks.specs.declared.mode.Mode.{Mode}
 use Rattle.tq_locks.specs.declared.mode.Mode.TheVariants.{Exclusive}
@@ -74,21 +74,21 @@ IsStep server list old number ask (Refused reason) new = IsRefused old ask reaso
 IsStep server list old number (Work (LockAsk txn file mode)) (Granted version content) new =
     IsUp old × HasNoVote old txn × ((t : ℕ) → ¬ Blocks old txn file mode t)
     × (copy_of old.copies file ≡ record { version = version; content = content })
-    × (new ≡ record old { locks = granted old.locks file txn mode number version })
+    × (new ≡ record old { locks = locks_after_grant old.locks file txn mode number version })
 IsStep server list old number (Work (Prepare txn writes)) (Yes held answered) new =
     IsUp old × HasNoVote old txn × (are_good_writes writes ≡ true) × AllByRecursion (λ w. Holds old txn w.file Exclusive) writes × ¬ HoldsNothing old txn
     × (held ≡ map held_lock (held_of old.locks txn)) × (answered ≡ writes)
-    × (new ≡ record old { locks = kept old.locks txn; votes = fin.insert old.votes txn (record { number = number; writes = writes; locks = map kept_lock (held_of old.locks txn) }) })
+    × (new ≡ record old { locks = locks_after_keep old.locks txn; votes = fin.insert old.votes txn (record { number = number; writes = writes; locks = map kept_lock (held_of old.locks txn) }) })
 IsStep server list old number (Work (Decide txn verdict cite)) Installed new =
     IsUp old × ((vote : OpenVote) × (fin.get old.votes txn ≡ Some vote) × Cites verdict server vote.number
-    × (new ≡ record old { copies = installed_all old.copies vote.writes; locks = released old.locks txn; votes = fin.remove old.votes txn }))
+    × (new ≡ record old { copies = installed_all old.copies vote.writes; locks = locks_after_release old.locks txn; votes = fin.remove old.votes txn }))
 IsStep server list old number (Work (Decide txn verdict cite)) Discarded new =
     IsUp old × ((vote : OpenVote) × (fin.get old.votes txn ≡ Some vote) × ¬ Cites verdict server vote.number
-    × (new ≡ record old { locks = released old.locks txn; votes = fin.remove old.votes txn }))
-IsStep server list old number (Work (Release txn)) Released new = IsUp old × HasNoVote old txn × ¬ HoldsNothing old txn × (new ≡ record old { locks = released old.locks txn })
+    × (new ≡ record old { locks = locks_after_release old.locks txn; votes = fin.remove old.votes txn }))
+IsStep server list old number (Work (Release txn)) Released new = IsUp old × HasNoVote old txn × ¬ HoldsNothing old txn × (new ≡ record old { locks = locks_after_release old.locks txn })
 IsStep server list old number (Work (Peek file)) (Copy version content) new = IsUp old × (copy_of old.copies file ≡ record { version = version; content = content }) × (new ≡ old)
 IsStep server list old number (Work (Refresh file version content from)) Refreshed new =
-    IsUp old × ((copy_of old.copies file).version < version) × (new ≡ record old { copies = installed old.copies file (record { version = version; content = content }) })
+    IsUp old × ((copy_of old.copies file).version < version) × (new ≡ record old { copies = copies_after_install old.copies file (record { version = version; content = content }) })
 IsStep server list old number Crash Crashed new = IsUp old × (new ≡ record old { locks = only_stable old.locks; down = true })
 IsStep server list old number Return Returned new = (old.down ≡ true) × (new ≡ record old { down = false })
 -- a stop: what the stable list keeps, with the first records of the ask behind it

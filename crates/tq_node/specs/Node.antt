@@ -34,20 +34,20 @@ abbrev pub node_code : Coded Record → Coded OpenVote → Coded NodeView
 node_code record_code vote_code = code_by (ℕ × (ℕ × (NodeState × ℕ))) (coded× coded_ℕ (coded× coded_ℕ (coded× (state_code record_code vote_code) coded_ℕ))) (λ n. (n.levels, (n.server, (n.state, n.last)))) (λ p. record { levels = p.0; server = p.1.0; state = p.1.1.0; last = p.1.1.1 }) (λ _. refl)
 
 -- the same server, where the last ask answered has this number
-abbrev pub numbered : ℕ → NodeView → NodeView
-numbered number old = record { levels = old.levels; server = old.server; state = old.state; last = number }
+abbrev pub with_last : ℕ → NodeView → NodeView
+with_last number old = record { levels = old.levels; server = old.server; state = old.state; last = number }
 
 -- a server that is up and has stored nothing
-abbrev pub opening : ℕ → ℕ → NodeView
-opening levels server = record { levels = levels; server = server; state = record { records = record { copies = fin.empty; locks = fin.empty; votes = fin.empty; down = false }; stable = [] }; last = 0 }
+abbrev pub opening_server : ℕ → ℕ → NodeView
+opening_server levels server = record { levels = levels; server = server; state = record { records = record { copies = fin.empty; locks = fin.empty; votes = fin.empty; down = false }; stable = [] }; last = 0 }
 
 -- the reply to an ask
-abbrev pub replied : NodeView → NodeAsk → NodeReply
-replied old ask = node_reply old.server old.state ask
+abbrev pub reply_to_ask : NodeView → NodeAsk → NodeReply
+reply_to_ask old ask = node_reply old.server old.state ask
 
 -- the server after an ask
-abbrev pub answered : NodeView → ℕ → NodeAsk → NodeView
-answered old number ask = record { levels = old.levels; server = old.server; state = node_after old.server old.state number ask; last = number }
+abbrev pub server_after : NodeView → ℕ → NodeAsk → NodeView
+server_after old number ask = record { levels = old.levels; server = old.server; state = node_after old.server old.state number ask; last = number }
 
 -- the stable list stands for the copies, the open votes and their locks
 abbrev pub IsKept : NodeState → Type 0

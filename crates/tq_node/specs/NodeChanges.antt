@@ -3,8 +3,8 @@ use Rattle.std.specs.Prelude.{◌≡◌, ◌<◌, ℕ, Bool, true, false, List, 
 use Rattle.std.specs.FinMap as fin
 use Rattle.tq_store.specs.declared.write.Write.{Write}
 use Rattle.tq_locks.specs.declared.mode.Mode.{Mode}
-use Rattle.tq_store.specs.Copies.{copy_of, installed, installed_all, is_newer}
-use Rattle.tq_locks.specs.Locks.{blocker, granted, held_of, released, kept as stabilised_locks}
+use Rattle.tq_store.specs.Copies.{copy_of, copies_after_install, installed_all, is_newer}
+use Rattle.tq_locks.specs.Locks.{blocker, locks_after_grant, held_of, locks_after_release, locks_after_keep as stabilised_locks}
 use Rattle.tq_intents.specs.Kept.{AreDead, vote_records}
 use Rattle.tq_intents.specs.declared.record.KeptLock.{KeptLock}
 use Rattle.tq_intents.specs.declared.record.Record.{Record}
@@ -16,9 +16,9 @@ use Rattle.tq_asks.specs.declared.ask.WorkAsk.TheVariants as work
 use Rattle.tq_node.specs.declared.change.NodeChange.{NodeChange}
 use Rattle.tq_node.specs.declared.change.NodeStep.{NodeStep}
 use Rattle.tq_node.specs.declared.change.NodeStep.TheVariants.{Nothing, Lock, Vote, Discard, Install, Release, Refresh, Unfinished, Copies, Crash, Return}
-use Rattle.tq_node.specs.Records.{Records, NodeState, crashed, kept_lock, kept_records, open_vote, installs, refusal, work_refusal}
+use Rattle.tq_node.specs.Records.{Records, NodeState, records_after_crash, kept_lock, kept_records, open_vote, installs, refusal, work_refusal}
 use Rattle.tq_shape.specs.Steps.{state_at}
-use Rattle.tq_node.specs.Node.{NodeView, numbered}
+use Rattle.tq_node.specs.Node.{NodeView, with_last}
 
 -- ---- the stable records that a step writes, in order
 
@@ -51,18 +51,18 @@ work_step server old number (work.Peek file) = Nothing
 work_step server old number (work.Refresh file version content from) = Refresh (record { file = file; version = version; content = content })
 
 -- what is left of a step where the server stops behind the first so many of its records
-abbrev pub cut : ℕ → NodeStep → NodeStep
-cut after (Vote txn vote) =
+abbrev pub cut_step : ℕ → NodeStep → NodeStep
+cut_step after (Vote txn vote) =
     if nat_lt after (length (vote_records txn vote.number vote.writes vote.locks))
     then Unfinished (take after (vote_records txn vote.number vote.writes vote.locks))
     else Vote txn vote
-cut after (Install txn number writes newer) = if nat_le after (length newer) then Copies (take after newer) else Install txn number writes newer
-cut after (Discard txn number) = if after == 0 then Nothing else Discard txn number
-cut after (Refresh write) = if after == 0 then Nothing else Refresh write
-cut after other = Nothing
+cut_step after (Install txn number writes newer) = if nat_le after (length newer) then Copies (take after newer) else Install txn number writes newer
+cut_step after (Discard txn number) = if after == 0 then Nothing else Discard txn number
+cut_step after (Refresh write) = if after == 0 then Nothing else Refresh write
+cut_step after other = Nothing
 
 abbrev pub stop_step : ℕ → Records → ℕ → WorkAsk → ℕ → NodeStep
-stop_step server old number ask after = state_at (work_refusal old ask) Nothing (cut after (work_step server old number ask))
+stop_step server old number ask after = state_at (work_refusal old ask) Nothing (cut_step after (work_step server old number ask))
 
 abbrev pub step_of : ℕ → Records → ℕ → NodeAsk → NodeStep
 step_of server old number (asks.Work ask) = work_step server old number ask
@@ -80,33 +80,33 @@ node_change old number ask = record { number = number; step = state_at (refusal 
 
 -- ---- what a step writes, and what it leaves
 
-abbrev pub stepped : Records → ℕ → NodeStep → Records
-stepped old number Nothing = old
-stepped old number (Lock txn file mode version) = record old { locks = granted old.locks file txn mode number version }
-stepped old number (Vote txn vote) = record old { locks = stabilised_locks old.locks txn; votes = fin.insert old.votes txn vote }
-stepped old number (Discard txn vote) = record old { locks = released old.locks txn; votes = fin.remove old.votes txn }
-stepped old number (Install txn vote writes newer) =
-    record old { copies = installed_all old.copies writes; locks = released old.locks txn; votes = fin.remove old.votes txn }
-stepped old number (Release txn) = record old { locks = released old.locks txn }
-stepped old number (Refresh write) = record old { copies = installed old.copies write.file (record { version = write.version; content = write.content }) }
-stepped old number (Unfinished records) = old
-stepped old number (Copies newer) = record old { copies = installed_all old.copies newer }
-stepped old number Crash = crashed old
-stepped old number Return = record old { down = false }
+abbrev pub records_after_step : Records → ℕ → NodeStep → Records
+records_after_step old number Nothing = old
+records_after_step old number (Lock txn file mode version) = record old { locks = locks_after_grant old.locks file txn mode number version }
+records_after_step old number (Vote txn vote) = record old { locks = stabilised_locks old.locks txn; votes = fin.insert old.votes txn vote }
+records_after_step old number (Discard txn vote) = record old { locks = locks_after_release old.locks txn; votes = fin.remove old.votes txn }
+records_after_step old number (Install txn vote writes newer) =
+    record old { copies = installed_all old.copies writes; locks = locks_after_release old.locks txn; votes = fin.remove old.votes txn }
+records_after_step old number (Release txn) = record old { locks = locks_after_release old.locks txn }
+records_after_step old number (Refresh write) = record old { copies = copies_after_install old.copies write.file (record { version = write.version; content = write.content }) }
+records_after_step old number (Unfinished records) = old
+records_after_step old number (Copies newer) = record old { copies = installed_all old.copies newer }
+records_after_step old number Crash = records_after_crash old
+records_after_step old number Return = record old { down = false }
 
 -- the server after a step, its number not noted yet
-abbrev pub unnoted : NodeView → ℕ → NodeStep → NodeView
-unnoted old number step =
+abbrev pub server_after_step : NodeView → ℕ → NodeStep → NodeView
+server_after_step old number step =
     record {
       levels = old.levels;
       server = old.server;
-      state = record { records = stepped old.state.records number step; stable = old.state.stable ++ records_of step };
+      state = record { records = records_after_step old.state.records number step; stable = old.state.stable ++ records_of step };
       last = old.last;
     }
 
 -- the server is what a step leaves, its number not noted yet
 abbrev pub Takes : NodeView → NodeView → ℕ → NodeStep → Type 0
-Takes old new number step = new ≡ unnoted old number step
+Takes old new number step = new ≡ server_after_step old number step
 
 -- the step is that of a lock
 abbrev pub Locks : NodeView → NodeView → ℕ → ℕ → List ℕ → Mode → ℕ → Type 0
@@ -118,30 +118,30 @@ Installs old new number txn vote writes newer = Takes old new number (Install tx
 
 -- the server is what a step leaves, whether its number is noted or not
 abbrev pub TakesOrNotes : NodeView → NodeView → ℕ → NodeStep → Type 0
-TakesOrNotes old new number step = numbered number new ≡ numbered number (unnoted old number step)
+TakesOrNotes old new number step = with_last number new ≡ with_last number (server_after_step old number step)
 
 -- the server after a vote of this number was given
-abbrev pub voted : NodeView → ℕ → ℕ → List Write → List KeptLock → NodeView
-voted old number txn writes locks = numbered number (unnoted old number (Vote txn (record { number = number; writes = writes; locks = locks })))
+abbrev pub server_after_vote : NodeView → ℕ → ℕ → List Write → List KeptLock → NodeView
+server_after_vote old number txn writes locks = with_last number (server_after_step old number (Vote txn (record { number = number; writes = writes; locks = locks })))
 
 -- the server after the first records of a vote of this number were written
-abbrev pub unfinished : NodeView → ℕ → List Record → NodeView
-unfinished old number records = numbered number (unnoted old number (Unfinished records))
+abbrev pub server_in_vote : NodeView → ℕ → List Record → NodeView
+server_in_vote old number records = with_last number (server_after_step old number (Unfinished records))
 
 -- behind a step where the server stops: what the stable list keeps
 abbrev pub state_left : Bool → NodeState → NodeState
 state_left true old = record { records = kept_records old.stable; stable = old.stable }
 state_left false old = old
 
-abbrev pub left : Bool → NodeView → NodeView
-left stops old = record { levels = old.levels; server = old.server; state = state_left stops old.state; last = old.last }
+abbrev pub server_at_stop : Bool → NodeView → NodeView
+server_at_stop stops old = record { levels = old.levels; server = old.server; state = state_left stops old.state; last = old.last }
 
 abbrev pub node_changed : NodeView → NodeChange → NodeView
-node_changed old change = numbered change.number (left change.stops (unnoted old change.number change.step))
+node_changed old change = with_last change.number (server_at_stop change.stops (server_after_step old change.number change.step))
 
 -- the server's copies are those that the step of a change leaves
 abbrev pub StepsCopies : NodeView → NodeView → NodeChange → Type 0
-StepsCopies old new change = new.state.records.copies ≡ (stepped old.state.records change.number change.step).copies
+StepsCopies old new change = new.state.records.copies ≡ (records_after_step old.state.records change.number change.step).copies
 
 -- ---- when a step may be taken
 

@@ -5,7 +5,7 @@ use Rattle.std.proofs.lemmas.Bool.{eq-eqb, eqb-true, false≢true, leb-false, le
 use Rattle.std.proofs.lemmas.List.{append-nil, take-append-le, take_all}
 use Rattle.std.specs.FinMap as fin
 use Rattle.tq_store.specs.Copies.{installed_all, is_newer}
-use Rattle.tq_locks.specs.Locks.{blocker, released}
+use Rattle.tq_locks.specs.Locks.{blocker, locks_after_release}
 use Rattle.tq_store.specs.declared.write.Write.{Write}
 use Rattle.tq_intents.specs.Kept.{AreDead, is_dead, vote_records}
 use Rattle.tq_intents.specs.declared.record.KeptLock.{KeptLock}
@@ -22,8 +22,8 @@ use Rattle.tq_node.specs.declared.change.NodeStep.{NodeStep}
 use Rattle.tq_node.specs.declared.change.NodeStep.TheVariants as steps
 use Rattle.tq_node.specs.Records.{Records, NodeState, has_vote, installs, refusal, open_vote, work_refusal, kept_records, records_after, work_after, work_writes, writes_of}
 use Rattle.tq_shape.specs.Steps.{state_at}
-use Rattle.tq_node.specs.Node.{NodeView, answered, opening}
-use Rattle.tq_node.specs.NodeChanges.{cut, end_step, is_stop, work_step, state_left, step_of, node_change, node_changed, records_of, stepped, NodeFits, StepFits}
+use Rattle.tq_node.specs.Node.{NodeView, server_after, opening_server}
+use Rattle.tq_node.specs.NodeChanges.{cut_step, end_step, is_stop, work_step, state_left, step_of, node_change, node_changed, records_of, records_after_step, NodeFits, StepFits}
 use Rattle.tq_shape.specs.Unrefused.{refuse-none, refuse_for-none}
 
 -- ---- a plan may be made
@@ -85,7 +85,7 @@ part_fits : (old : Records) (number : ℕ) (part whole : NodeStep) (b : Bool) �
 part_fits old number part whole true p w = p
 part_fits old number part whole false p w = w
 
-cut_fits : (old : Records) (number after : ℕ) (step : NodeStep) → StepFits old number step → StepFits old number (cut after step)
+cut_fits : (old : Records) (number after : ℕ) (step : NodeStep) → StepFits old number step → StepFits old number (cut_step after step)
 cut_fits old number after (steps.Vote txn vote) h = vote_fits old number txn vote after (nat_lt after (length (vote_records txn vote.number vote.writes vote.locks))) refl h
 cut_fits old number after (steps.Install txn vote writes newer) h = part_fits old number (steps.Copies (take after newer)) (steps.Install txn vote writes newer) (nat_le after (length newer)) tt h
 cut_fits old number after (steps.Discard txn vote) h = part_fits old number steps.Nothing (steps.Discard txn vote) (after == 0) tt h
@@ -99,7 +99,7 @@ cut_fits old number after steps.Crash h = tt
 cut_fits old number after steps.Return h = tt
 
 stop_fits : (server : ℕ) (old : Records) (number : ℕ) (ask : WorkAsk) (after : ℕ) (reason : Option NodeRefusal) → work_refusal old ask ≡ reason
-    → StepFits old number (state_at reason steps.Nothing (cut after (work_step server old number ask)))
+    → StepFits old number (state_at reason steps.Nothing (cut_step after (work_step server old number ask)))
 stop_fits server old number ask after None e = cut_fits old number after (work_step server old number ask) (work_fits server old number ask e)
 stop_fits server old number ask after (Some reason) e = tt
 
@@ -120,10 +120,10 @@ change_fits old number ask less =
 -- ---- a plan leads where its ask does
 
 end_records : (old : Records) (number txn : ℕ) (comes : Bool)
-    → stepped old number (end_step old txn comes)
+    → records_after_step old number (end_step old txn comes)
     ≡ record old {
       copies = if comes then installed_all old.copies (open_vote old txn).writes else old.copies;
-      locks = released old.locks txn;
+      locks = locks_after_release old.locks txn;
       votes = fin.remove old.votes txn;
     }
 end_records old number txn true = refl
@@ -135,7 +135,7 @@ end_writes : (old : Records) (txn : ℕ) (comes : Bool)
 end_writes old txn true = refl
 end_writes old txn false = refl
 
-work_lead : (server : ℕ) (old : Records) (number : ℕ) (ask : WorkAsk) → stepped old number (work_step server old number ask) ≡ work_after server old number ask
+work_lead : (server : ℕ) (old : Records) (number : ℕ) (ask : WorkAsk) → records_after_step old number (work_step server old number ask) ≡ work_after server old number ask
 work_lead server old number (work.Lock txn file mode) = refl
 work_lead server old number (work.Prepare txn writes) = refl
 work_lead server old number (work.Decide txn verdict cite) = end_records old number txn (installs server old txn verdict)
@@ -196,13 +196,13 @@ cut_install txn number writes newer after false e =
     let many = with_end newer (stable.Gone txn number) in
     sym (take_all after (map stable.Copy newer ++ stable.Gone txn number ∷ []) (omega arith))
 
-cut_end : (old : Records) (txn after : ℕ) (comes : Bool) → records_of (cut after (end_step old txn comes)) ≡ take after (records_of (end_step old txn comes))
+cut_end : (old : Records) (txn after : ℕ) (comes : Bool) → records_of (cut_step after (end_step old txn comes)) ≡ take after (records_of (end_step old txn comes))
 cut_end old txn after true =
     let newer = filter (is_newer old.copies) (open_vote old txn).writes in
     cut_install txn (open_vote old txn).number (open_vote old txn).writes newer after (nat_le after (length newer)) refl
 cut_end old txn after false = cut_one after (steps.Discard txn (open_vote old txn).number) (stable.Gone txn (open_vote old txn).number) (after == 0) refl refl
 
-cut_work : (server : ℕ) (old : Records) (number : ℕ) (ask : WorkAsk) (after : ℕ) → records_of (cut after (work_step server old number ask)) ≡ take after (records_of (work_step server old number ask))
+cut_work : (server : ℕ) (old : Records) (number : ℕ) (ask : WorkAsk) (after : ℕ) → records_of (cut_step after (work_step server old number ask)) ≡ take after (records_of (work_step server old number ask))
 cut_work server old number (work.Lock txn file mode) after = none_of_none after
 cut_work server old number (work.Prepare txn writes) after = cut_vote txn _ after _ refl
 cut_work server old number (work.Decide txn verdict cite) after = cut_end old txn after (installs server old txn verdict)
@@ -211,7 +211,7 @@ cut_work server old number (work.Peek file) after = none_of_none after
 cut_work server old number (work.Refresh file version content from) after = cut_one after (steps.Refresh (record { file = file; version = version; content = content })) _ (after == 0) refl refl
 
 stop_lead : (server : ℕ) (old : Records) (number : ℕ) (ask : WorkAsk) (after : ℕ) (reason : Option NodeRefusal)
-    → records_of (state_at reason steps.Nothing (cut after (work_step server old number ask))) ≡ take after (state_at reason [] (work_writes server old number ask))
+    → records_of (state_at reason steps.Nothing (cut_step after (work_step server old number ask))) ≡ take after (state_at reason [] (work_writes server old number ask))
 stop_lead server old number ask after None = cut_work server old number ask after ∙ ap (take after) (work_writes_lead server old number ask)
 stop_lead server old number ask after (Some reason) = none_of_none after
 
@@ -224,7 +224,7 @@ writes_lead server old number (asks.CrashIn after ask) = stop_lead server old nu
 
 -- the raw records with their stable list, after a step
 abbrev pub state_stepped : NodeState → ℕ → NodeStep → NodeState
-state_stepped old number step = record { records = stepped old.records number step; stable = old.stable ++ records_of step }
+state_stepped old number step = record { records = records_after_step old.records number step; stable = old.stable ++ records_of step }
 
 leads_at : (old new : NodeState) (number : ℕ) (step : NodeStep) (stops : Bool) (reason : Option NodeRefusal) → state_left stops (state_stepped old number step) ≡ new
     → state_left (state_at reason false stops) (state_stepped old number (state_at reason steps.Nothing step)) ≡ state_at reason old new
@@ -245,14 +245,14 @@ leads_of server old number (asks.CrashIn after ask) =
     let behind : List Record → NodeState = λ list. record { records = kept_records (old.stable ++ list); stable = old.stable ++ list } in
     ap behind (writes_lead server old.records number (asks.CrashIn after ask))
 
-pub change_leads : (old : NodeView) (number : ℕ) (ask : NodeAsk) → node_changed old (node_change old number ask) ≡ answered old number ask
+pub change_leads : (old : NodeView) (number : ℕ) (ask : NodeAsk) → node_changed old (node_change old number ask) ≡ server_after old number ask
 change_leads old number ask =
     let step = step_of old.server old.state.records number ask in
     let state = leads_at old.state _ number step (is_stop ask) (refusal old.state.records ask) (leads_of old.server old.state number ask) in
     λ i. record { levels = old.levels; server = old.server; state = state i; last = number }
 
-pub opens_ready : (levels server : ℕ) → (opening levels server).last < 1
+pub opens_ready : (levels server : ℕ) → (opening_server levels server).last < 1
 opens_ready levels server = omega arith
 
-pub stays_ready : (old : NodeView) (number : ℕ) (ask : NodeAsk) → (answered old number ask).last < number + 1
+pub stays_ready : (old : NodeView) (number : ℕ) (ask : NodeAsk) → (server_after old number ask).last < number + 1
 stays_ready old number ask = omega arith

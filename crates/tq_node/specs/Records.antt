@@ -4,9 +4,9 @@ use Rattle.std.specs.FinMap as fin
 use Rattle.std.specs.List.{find}
 use Rattle.std.specs.Option.{option_map, option_map_or}
 use Rattle.std.specs.Ordering.{is_lt}
-use Rattle.tq_store.specs.Copies.{Files, name_cmp, copy_of, installed, installed_all, is_newer}
+use Rattle.tq_store.specs.Copies.{Files, name_cmp, copy_of, copies_after_install, installed_all, is_newer}
 use Rattle.tq_store.specs.declared.write.Write.{Write}
-use Rattle.tq_locks.specs.Locks.{Locks, LockKey, is_exclusive, blocker, granted, held_of, holds_nothing, released, only_stable, kept as stabilised_locks}
+use Rattle.tq_locks.specs.Locks.{Locks, LockKey, is_exclusive, blocker, locks_after_grant, held_of, holds_nothing, locks_after_release, only_stable, locks_after_keep as stabilised_locks}
 use Rattle.tq_locks.specs.declared.mode.Lock.{Lock}
 use Rattle.tq_locks.specs.declared.mode.Mode.{Mode}
 use Rattle.tq_intents.specs.Kept.{Votes, kept_copies, kept_votes, kept_locks, vote_at, vote_records}
@@ -131,7 +131,7 @@ reply_of server old (CrashIn after ask) = Crashed
 -- ---- the records after
 
 abbrev pub work_after : ℕ → Records → ℕ → WorkAsk → Records
-work_after server old number (LockAsk txn file mode) = record old { locks = granted old.locks file txn mode number (copy_of old.copies file).version }
+work_after server old number (LockAsk txn file mode) = record old { locks = locks_after_grant old.locks file txn mode number (copy_of old.copies file).version }
 work_after server old number (Prepare txn writes) =
     record old {
       locks = stabilised_locks old.locks txn;
@@ -140,12 +140,12 @@ work_after server old number (Prepare txn writes) =
 work_after server old number (Decide txn verdict cite) =
     record old {
       copies = if installs server old txn verdict then installed_all old.copies (open_vote old txn).writes else old.copies;
-      locks = released old.locks txn;
+      locks = locks_after_release old.locks txn;
       votes = fin.remove old.votes txn;
     }
-work_after server old number (Release txn) = record old { locks = released old.locks txn }
+work_after server old number (Release txn) = record old { locks = locks_after_release old.locks txn }
 work_after server old number (Peek file) = old
-work_after server old number (Refresh file version content from) = record old { copies = installed old.copies file (record { version = version; content = content }) }
+work_after server old number (Refresh file version content from) = record old { copies = copies_after_install old.copies file (record { version = version; content = content }) }
 
 -- ---- the stable records that an ask writes, in order
 
@@ -174,13 +174,13 @@ pub record NodeState : Type 0 where
   pub records : Records
   pub stable : List Record
 
-abbrev pub crashed : Records → Records
-crashed old = record old { locks = only_stable old.locks; down = true }
+abbrev pub records_after_crash : Records → Records
+records_after_crash old = record old { locks = only_stable old.locks; down = true }
 
 -- a stop leaves what the stable list keeps, with the records behind it that were written before the stop
 abbrev pub records_after : ℕ → NodeState → ℕ → NodeAsk → Records
 records_after server old number (Work ask) = work_after server old.records number ask
-records_after server old number Crash = crashed old.records
+records_after server old number Crash = records_after_crash old.records
 records_after server old number Return = record old.records { down = false }
 records_after server old number (CrashIn after ask) = kept_records (old.stable ++ stop_writes server old.records number ask after)
 

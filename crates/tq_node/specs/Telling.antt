@@ -7,7 +7,7 @@ use Rattle.tq_asks.specs.declared.ask.WorkAsk.{WorkAsk}
 use Rattle.tq_asks.specs.declared.ask.WorkAsk.TheVariants as work
 use Rattle.tq_locks.specs.declared.mode.Mode.{Mode}
 use Rattle.tq_store.specs.declared.write.Write.{Write}
-use Rattle.tq_node.specs.Node.{NodeView, answered, replied}
+use Rattle.tq_node.specs.Node.{NodeView, server_after, reply_to_ask}
 use Rattle.tq_node.specs.Untouched.{AreReached, KeepsOthers, raised_files}
 use Rattle.tq_node.specs.declared.telling.Telling.{Telling}
 
@@ -22,10 +22,10 @@ ReachesTold new ask telling = AreReached ask telling.raised new.state.records.co
 -- the ask of this number is answered, and this is told of it
 pub record IsTold (old new : NodeView) (number : ℕ) (ask : NodeAsk) (telling : Telling) : Type 0 where
   -- the reply is entered, and the same is told
-  pub entered : telling.entered ≡ replied old ask
-  pub told : telling.told ≡ replied old ask
+  pub entered : telling.entered ≡ reply_to_ask old ask
+  pub told : telling.told ≡ reply_to_ask old ask
   -- the server is what the answer leaves
-  pub after : new ≡ answered old number ask
+  pub after : new ≡ server_after old number ask
   -- no copies have changed but those of the files told, which come to the versions told
   pub raised : KeepsUntold old new ask telling
   pub reached : ReachesTold new ask telling

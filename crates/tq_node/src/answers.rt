@@ -6,7 +6,7 @@ use tq_shape::Memory;
 impl Answers for Node {
     ghost use Rattle.std.specs.Prelude.{◌<◌, refl};
     ghost use Rattle.tq_node.specs.Records.{node_reply};
-    ghost use Rattle.tq_node.specs.Node.{answered, opening as opened};
+    ghost use Rattle.tq_node.specs.Node.{server_after, opening_server as opened};
     ghost use Rattle.tq_node.specs.NodeChanges.{node_change, node_changed, NodeFits};
     ghost use Rattle.tq_node.specs.NodePlans as plans;
 
@@ -22,7 +22,7 @@ impl Answers for Node {
 
     ghost reply = { λ s n a. node_reply s.server s.state a };
 
-    ghost after = { λ s n a. answered s n a };
+    ghost after = { λ s n a. server_after s n a };
 
     ghost change = { λ s n a. node_change s n a };
 

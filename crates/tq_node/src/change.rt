@@ -1,6 +1,6 @@
 ghost use Rattle.std.specs.Prelude.{◌≡◌, map, IfOk};
 ghost use Rattle.tq_node.specs.declared.change.NodeStep.{NodeStep};
-ghost use Rattle.tq_node.specs.NodeChanges.{cut, end_records, records_of};
+ghost use Rattle.tq_node.specs.NodeChanges.{cut_step, end_records, records_of};
 
 use std::alloc::Global;
 use tq_intents::{NewerWrite, OpenVote, Record, SharedWrite, vote_records};
@@ -82,7 +82,7 @@ impl NodeStep {
                 Ok(records)
             }
             NodeStep::Discard { txn, number } => {
-                let records = ending(alloc, *txn, *number, &[])?;
+                let records = records_of_end(alloc, *txn, *number, &[])?;
                 Ok(records)
             }
             NodeStep::Install {
@@ -91,7 +91,7 @@ impl NodeStep {
                 newer,
                 ..
             } => {
-                let records = ending(alloc, *txn, *number, newer.as_slice())?;
+                let records = records_of_end(alloc, *txn, *number, newer.as_slice())?;
                 Ok(records)
             }
             NodeStep::Refresh { write } => {
@@ -114,7 +114,7 @@ impl NodeStep {
 
     /// What is left of an ask's step where the server stops behind the first so many of its stable records.
     pub(crate) fn cut(self, alloc: Global, after: usize) -> Result<NodeStep, Memory>
-        ensures { IfOk result (λ step. step ≡ cut after self) }
+        ensures { IfOk result (λ step. step ≡ cut_step after self) }
     {
         match self {
             NodeStep::Vote { txn, vote } => cut_vote(alloc, after, txn, vote),
@@ -145,7 +145,7 @@ impl NodeStep {
 
 /// What is left of a vote.
 fn cut_vote(alloc: Global, after: usize, txn: u64, vote: OpenVote) -> Result<NodeStep, Memory>
-    ensures { IfOk result (λ step. step ≡ cut after (NodeStep.Vote txn vote)) }
+    ensures { IfOk result (λ step. step ≡ cut_step after (NodeStep.Vote txn vote)) }
 {
     let mut records = vote_records(alloc, txn, vote.number, &vote.writes, &vote.locks)?;
     if after < records.len() {
@@ -164,7 +164,7 @@ fn cut_install(
     writes: SharedSeq<Write>,
     newer: Seq<NewerWrite>,
 ) -> NodeStep
-    ensures { result ≡ cut after (NodeStep.Install txn number writes newer) }
+    ensures { result ≡ cut_step after (NodeStep.Install txn number writes newer) }
 {
     if after <= newer.len() {
         let mut newer = newer.into_vec();
@@ -182,7 +182,12 @@ fn cut_install(
 }
 
 /// The records of the end of a vote, of which these writes came.
-fn ending(alloc: Global, txn: u64, number: u64, newer: &[NewerWrite]) -> Result<Vec<Record>, Memory>
+fn records_of_end(
+    alloc: Global,
+    txn: u64,
+    number: u64,
+    newer: &[NewerWrite],
+) -> Result<Vec<Record>, Memory>
     ensures { IfOk result (λ records. records.items ≡ end_records newer.now txn number) }
 {
     let mut records = copies(alloc, newer)?;

@@ -5,7 +5,7 @@ ghost use Rattle.tq_locks.specs.Locks.{blocker};
 ghost use Rattle.tq_node.specs.Records as spec;
 ghost use Rattle.tq_node.specs.Node as node;
 ghost use Rattle.tq_node.specs.Node.{HasOnlyKept, IsKept};
-ghost use Rattle.tq_node.specs.NodeChanges.{left, node_change, node_changed, unfinished, voted};
+ghost use Rattle.tq_node.specs.NodeChanges.{server_at_stop, node_change, node_changed, server_in_vote, server_after_vote};
 ghost use Rattle.tq_node.specs.NodeChanges.{Installs, Locks, NodeFits, StepsCopies, Takes, TakesOrNotes};
 ghost use Rattle.tq_node.specs.Plans.{planned_stop, work_replied, write_of};
 ghost use Rattle.tq_node.specs.Plans.{IsEndPlan, IsLockPlan, IsRefreshPlan, IsWorkPlan};
@@ -80,7 +80,7 @@ impl Node {
     /// A server of the tree that is up and has stored nothing.
     pub fn new(alloc: Global, levels: Levels, server: ServerId) -> Node
         requires { server.levels ≡ levels }
-        ensures { result ≡ node.opening levels server.number }
+        ensures { result ≡ node.opening_server levels server.number }
     {
         Node {
             server,
@@ -163,7 +163,7 @@ impl Node {
     /// What `answer` would reply to the ask. It changes nothing.
     pub fn foresee(&self, alloc: Global, number: u64, ask: &NodeAsk) -> Result<NodeReply, Memory>
         requires { self.now.last < number }
-        ensures { IfOk result (λ reply. reply ≡ node.replied self.now ask.now) }
+        ensures { IfOk result (λ reply. reply ≡ node.reply_to_ask self.now ask.now) }
     {
         let plan = self.plan(alloc, number, ask)?;
         Ok(plan.reply)
@@ -179,20 +179,20 @@ impl Node {
         ask: &NodeAsk,
     ) -> Result<Plan<NodeReply, NodeChange>, Memory>
         requires { self.now.last < number }
-        ensures reply { IfOk result (λ plan. plan.reply ≡ node.replied self.now ask.now) }
+        ensures reply { IfOk result (λ plan. plan.reply ≡ node.reply_to_ask self.now ask.now) }
         ensures change { IfOk result (λ plan. plan.change ≡ node_change self.now number ask.now) }
     {
         if let Some(reason) = self.refusal(ask) {
-            let refused = NodeReply::refused(alloc, reason)?;
-            return Ok(planned(number, refused, NodeStep::Nothing));
+            let refused = NodeReply::of_refusal(alloc, reason)?;
+            return Ok(plan_with(number, refused, NodeStep::Nothing));
         }
         match ask {
             NodeAsk::Work(work) => {
                 let plan = self.plan_work(alloc, number, work.get())?;
-                Ok(planned(number, plan.reply, plan.change))
+                Ok(plan_with(number, plan.reply, plan.change))
             }
-            NodeAsk::Crash => Ok(planned(number, NodeReply::Crashed, NodeStep::Crash)),
-            NodeAsk::Return => Ok(planned(number, NodeReply::Returned, NodeStep::Return)),
+            NodeAsk::Crash => Ok(plan_with(number, NodeReply::Crashed, NodeStep::Crash)),
+            NodeAsk::Return => Ok(plan_with(number, NodeReply::Returned, NodeStep::Return)),
             NodeAsk::CrashIn { ask, after } => {
                 let step = self.plan_stop(alloc, number, ask.get(), *after)?;
                 Ok(Plan {
@@ -524,7 +524,8 @@ impl Node {
         requires rises { self.old.last < number }
         requires closed { fin.get self.old.state.records.votes txn ≡ None }
         requires locks { locks ≡ spec.kept_locks_of self.old.state.records.locks txn }
-        ensures after { OnOk result (self.new ≡ voted self.old number txn writes locks) }
+        ensures after { OnOk result
+            (self.new ≡ server_after_vote self.old number txn writes locks) }
         ensures err { OnErr result (self.new ≡ self.old) }
     {
         self.intents.prepare(alloc, txn, number, writes, locks)?;
@@ -537,7 +538,7 @@ impl Node {
     fn leave_unfinished(&mut self, number: u64, records: Seq<Record>) -> Result<(), Memory>
         requires rises { self.old.last < number }
         requires dead { AreDead number records }
-        ensures after { OnOk result (self.new ≡ unfinished self.old number records) }
+        ensures after { OnOk result (self.new ≡ server_in_vote self.old number records) }
         ensures err { OnErr result (self.new ≡ self.old) }
     {
         self.intents.push_unfinished(records)?;
@@ -711,7 +712,7 @@ impl Node {
 
     /// Where it stops, goes down with what its stable records keep.
     fn leave(&mut self, stops: bool)
-        ensures after { self.new ≡ left stops self.old }
+        ensures after { self.new ≡ server_at_stop stops self.old }
         ensures copies { self.new.state.records.copies ≡ self.old.state.records.copies }
     {
         if stops {
@@ -730,7 +731,7 @@ impl Node {
     /// Notes the number of the ask that is being answered.
     fn note(&mut self, last: u64)
         requires { self.old.last ≤ last }
-        ensures { self.new ≡ node.numbered last self.old }
+        ensures { self.new ≡ node.with_last last self.old }
     {
         self.last = last;
     }
@@ -738,8 +739,8 @@ impl Node {
     /// The step: the refusal where there is one, and else the answer.
     fn respond(&mut self, alloc: Global, number: u64, ask: &NodeAsk) -> Result<NodeReply, Memory>
         requires { self.old.last < number }
-        ensures reply { IfOk result (λ reply. reply ≡ node.replied self.old ask.now) }
-        ensures after { OnOk result (self.new ≡ node.answered self.old number ask.now) }
+        ensures reply { IfOk result (λ reply. reply ≡ node.reply_to_ask self.old ask.now) }
+        ensures after { OnOk result (self.new ≡ node.server_after self.old number ask.now) }
         ensures err { OnErr result (self.new ≡ self.old) }
     {
         let plan = self.plan(alloc, number, ask)?;
@@ -752,8 +753,8 @@ impl Node {
     /// Where memory is wanting the server is as it was, and the ask may be put again.
     pub fn answer(&mut self, alloc: Global, number: u64, ask: &NodeAsk) -> Result<NodeReply, Memory>
         requires { self.old.last < number }
-        ensures reply { IfOk result (λ reply. reply ≡ node.replied self.old ask.now) }
-        ensures after { OnOk result (self.new ≡ node.answered self.old number ask.now) }
+        ensures reply { IfOk result (λ reply. reply ≡ node.reply_to_ask self.old ask.now) }
+        ensures after { OnOk result (self.new ≡ node.server_after self.old number ask.now) }
         ensures err { OnErr result (self.new ≡ self.old) }
 
         // The same as a relation, one case for each refusal and each answer; no other reply and no other records are in it.
@@ -771,7 +772,7 @@ impl Node {
 }
 
 /// The plan of an ask of that number.
-fn planned(number: u64, reply: NodeReply, step: NodeStep) -> Plan<NodeReply, NodeChange>
+fn plan_with(number: u64, reply: NodeReply, step: NodeStep) -> Plan<NodeReply, NodeChange>
     ensures reply { result.reply ≡ reply }
     ensures change { result.change ≡ record { number = number; step = step; stops = false } }
 {

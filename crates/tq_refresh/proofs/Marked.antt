@@ -4,7 +4,7 @@ use Rattle.std.specs.List.{All}
 use Rattle.std.proofs.lemmas.Bool.{eq-eqb, eqb-true}
 use Rattle.std.proofs.lemmas.List.{append-nil}
 use Rattle.std.proofs.lemmas.List.Elements.{All-cons, All-filter, All-head, All-nil, All-tail, filter-append}
-use Rattle.tq_shape.specs.ServerSet.{Servers, has_number, numbered}
+use Rattle.tq_shape.specs.ServerSet.{Servers, has_number, servers_of_numbers}
 use Rattle.tq_shape.specs.Tree.{IsServer, Server}
 use Rattle.tq_live.specs.Live.{Live, is_up}
 use Rattle.tq_live.specs.View.{upwards}
@@ -97,18 +97,18 @@ has-up live number is =
 -- ---- sets of a tree's servers: where two tests agree on the numbers, and that the set of those that are up agrees with the marks
 
 module _ (p q : ℕ → Bool) (levels : ℕ) where
-  find-same : (numbers : List ℕ) → All (λ number. p number ≡ q number) numbers → find (λ server. p server.number) (numbered levels numbers) ≡ find (λ server. q server.number) (numbered levels numbers)
+  find-same : (numbers : List ℕ) → All (λ number. p number ≡ q number) numbers → find (λ server. p server.number) (servers_of_numbers levels numbers) ≡ find (λ server. q server.number) (servers_of_numbers levels numbers)
   find-same [] all = refl
   find-same (n ∷ ns) all =
       let server : Server = record { number = n; levels = levels } in
-      ap (λ b. cond b (Some server) (find (λ (s : Server). p s.number) (numbered levels ns))) (All-head (λ number. p number ≡ q number) n ns all)
+      ap (λ b. cond b (Some server) (find (λ (s : Server). p s.number) (servers_of_numbers levels ns))) (All-head (λ number. p number ≡ q number) n ns all)
       ∙ ap (λ found. cond (q n) (Some server) found) (find-same ns (All-tail (λ number. p number ≡ q number) n ns all))
 
-  filter-same : (numbers : List ℕ) → All (λ number. p number ≡ q number) numbers → filter (λ server. p server.number) (numbered levels numbers) ≡ filter (λ server. q server.number) (numbered levels numbers)
+  filter-same : (numbers : List ℕ) → All (λ number. p number ≡ q number) numbers → filter (λ server. p server.number) (servers_of_numbers levels numbers) ≡ filter (λ server. q server.number) (servers_of_numbers levels numbers)
   filter-same [] all = refl
   filter-same (n ∷ ns) all =
       let server : Server = record { number = n; levels = levels } in
-      ap (λ b. cond b (server ∷ filter (λ (s : Server). p s.number) (numbered levels ns)) (filter (λ (s : Server). p s.number) (numbered levels ns))) (All-head (λ number. p number ≡ q number) n ns all)
+      ap (λ b. cond b (server ∷ filter (λ (s : Server). p s.number) (servers_of_numbers levels ns)) (filter (λ (s : Server). p s.number) (servers_of_numbers levels ns))) (All-head (λ number. p number ≡ q number) n ns all)
       ∙ ap (λ rest. cond (q n) (server ∷ rest) rest) (filter-same ns (All-tail (λ number. p number ≡ q number) n ns all))
 
 module _ (live : Live) (up set : Servers) (is : up ≡ servers_up live) (levels : set.levels ≡ up.levels) (of_tree : All (IsServer set.levels) set.numbers) where

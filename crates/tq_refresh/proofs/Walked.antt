@@ -6,10 +6,10 @@ use Rattle.std.proofs.lemmas.Grind.{flat_map-append}
 use Rattle.std.proofs.lemmas.List.{append-nil, drop_all, drop_more}
 use Rattle.std.proofs.lemmas.List.Elements.{All-map, All-tail}
 use Rattle.tq_shape.specs.Tree.{Server}
-use Rattle.tq_shape.specs.ServerSet.{numbered}
+use Rattle.tq_shape.specs.ServerSet.{servers_of_numbers}
 
 -- the servers of a set are all of its tree
-pub of_one_tree : (own levels : ℕ) (numbers : List ℕ) (servers : List Server) → servers ≡ numbered own numbers → own ≡ levels → All (λ server. server.levels ≡ levels) servers
+pub of_one_tree : (own levels : ℕ) (numbers : List ℕ) (servers : List Server) → servers ≡ servers_of_numbers own numbers → own ≡ levels → All (λ server. server.levels ≡ levels) servers
 of_one_tree own levels numbers servers is same =
     subst (All (λ server. server.levels ≡ levels)) (sym is) (All-map (λ server. server.levels ≡ levels) (λ number. record { number = number; levels = own }) numbers (λ k d h. same))
 

@@ -2,7 +2,7 @@
 use Rattle.std.specs.Prelude.{◌≡◌, ℕ, ◌-◌, ◌^◌, List, [], map, find, filter, Option, Some, None}
 use Rattle.std.specs.List.{All, flat_map}
 use Rattle.tq_shape.specs.Tree.{Server}
-use Rattle.tq_shape.specs.ServerSet.{Servers, has_number, numbered}
+use Rattle.tq_shape.specs.ServerSet.{Servers, has_number, servers_of_numbers}
 use Rattle.tq_live.specs.Live.{Live, is_up}
 use Rattle.tq_live.specs.View.{upwards}
 use Rattle.tq_asks.specs.declared.ask.NodeAsk.{NodeAsk}
@@ -18,7 +18,7 @@ use Rattle.tq_refresh.specs.declared.job.Job.{Job}
 
 -- the servers of a set, upwards
 abbrev pub servers_in : Servers → List Server
-servers_in set = numbered set.levels set.numbers
+servers_in set = servers_of_numbers set.levels set.numbers
 
 -- the servers of a tree that are marked up
 abbrev pub servers_up : Live → Servers

@@ -6,7 +6,7 @@ use Rattle.std.specs.Int.Count.{count_trailing_zeros}
 use Rattle.std.proofs.lemmas.Bool.{ne_eqb, cases_lt}
 use Rattle.std.proofs.lemmas.Nat.{pow_below}
 use Rattle.std.proofs.lemmas.Nat.Bits.{bit_at_lowest, bit_at-suc, bit_at-lt, bit_at_or, bit_at_and, bit_at_not, bit_at-pow_same, bit_at-pow_other, bit_at-trailing_zeros, and_pow}
-use Rattle.tq_shape.specs.ServerSet.{marked, marks_of, marks_of_word}
+use Rattle.tq_shape.specs.ServerSet.{marked_numbers, marks_of, marks_of_word}
 
 -- ---- the marks of a number's bits
 
@@ -47,11 +47,11 @@ pub word-length : (word : ℕ) → length (marks_of_word word) ≡ 64
 unfolding marks_of_word
 word-length word = marks_of-length 64 word
 
-no_bits : (count first : ℕ) → marked first (marks_of count 0) ≡ []
+no_bits : (count first : ℕ) → marked_numbers first (marks_of count 0) ≡ []
 no_bits zero first = refl
 no_bits (suc count) first = no_bits count (first + 1)
 
-pub word-none : (first : ℕ) → marked first (marks_of_word 0) ≡ []
+pub word-none : (first : ℕ) → marked_numbers first (marks_of_word 0) ≡ []
 unfolding marks_of_word
 word-none first = no_bits 64 first
 
@@ -134,14 +134,14 @@ without_lowest bits place lowest = (omega (arith, bit_at_and bits (bits - 1) pla
               omega (arith, bit_at_and bits (bits - 1) i, (one_less bits place lowest).1 i above)
         ]
 
-first_bit : (count first bits place after : ℕ) → place < count → IsLowest bits place → IsWithout bits place after → marked first (marks_of count bits) ≡ (first + place) ∷ marked first (marks_of count after)
+first_bit : (count first bits place after : ℕ) → place < count → IsLowest bits place → IsWithout bits place after → marked_numbers first (marks_of count bits) ≡ (first + place) ∷ marked_numbers first (marks_of count after)
 first_bit zero first bits place after less lowest without = absurd (omega (arith, less))
 first_bit (suc count) first bits zero after less lowest without =
     let odd : bits % 2 ≡ 1 = sym (bit_at_lowest bits) ∙ lowest.0 in
     let even : after % 2 ≡ 0 = sym (bit_at_lowest after) ∙ without.0 in
     let rest : marks_of count (after / 2) ≡ marks_of count (bits / 2) =
     marks_of-same count (after / 2) (bits / 2) (λ i below. sym (bit_at-suc after i) ∙ (without.1 (suc i) (λ e. absurd (omega (arith, e))) ∙ bit_at-suc bits i)) in
-    rw (odd, even, rest) (ap (λ number. number ∷ marked (first + 1) (marks_of count (bits / 2))) (omega arith))
+    rw (odd, even, rest) (ap (λ number. number ∷ marked_numbers (first + 1) (marks_of count (bits / 2))) (omega arith))
 first_bit (suc count) first bits (suc place) after less lowest without =
     let even : bits % 2 ≡ 0 = sym (bit_at_lowest bits) ∙ lowest.1 0 (omega arith) in
     let even_after : after % 2 ≡ 0 = sym (bit_at_lowest after) ∙ (without.1 0 (λ e. absurd (omega (arith, e))) ∙ lowest.1 0 (omega arith)) in
@@ -150,7 +150,7 @@ first_bit (suc count) first bits (suc place) after less lowest without =
     rw (even, even_after, ← next) (first_bit count (first + 1) (bits / 2) place (after / 2) (omega (arith, less)) (half-lowest bits place lowest) half)
 
 -- the lowest bit's place is the first number, and the others are those of the rest
-pub word-first : (first word place : ℕ) → 0 < word → word < 2 ^ 64 → place ≡ count_trailing_zeros 64 word → marked first (marks_of_word word) ≡ (first + place) ∷ marked first (marks_of_word (bit_and word (word - 1)))
+pub word-first : (first word place : ℕ) → 0 < word → word < 2 ^ 64 → place ≡ count_trailing_zeros 64 word → marked_numbers first (marks_of_word word) ≡ (first + place) ∷ marked_numbers first (marks_of_word (bit_and word (word - 1)))
 unfolding marks_of_word
 word-first first word place some fits is =
     let after = bit_and word (word - 1) in

@@ -7,7 +7,7 @@ use Rattle.std.specs.Int.Count.{count_trailing_zeros}
 use Rattle.std.proofs.Math.Nat.{zero-add}
 use Rattle.std.proofs.lemmas.List.{length-append, length-set, length-replicate, get_or_append_left, get_or-append-add, nil_from_length, set-append_left, set-append_right}
 use Rattle.std.proofs.lemmas.List.Elements.{All-nil, All-head, All-tail, All-filter}
-use Rattle.tq_shape.specs.ServerSet.{Ascends, AreLeft, AreWordsOf, has_number, marked, marks_in, marks_of_word, numbered, numbers_left, numbers_of, with_number, without_number}
+use Rattle.tq_shape.specs.ServerSet.{Ascends, AreLeft, AreWordsOf, has_number, marked_numbers, marks_in, marks_of_word, servers_of_numbers, numbers_left, numbers_of, with_number, without_number}
 use Rattle.tq_shape.specs.Tree.{IsServer, Server}
 use Rattle.tq_shape.proofs.Marks.{has_number-marked, marked-with, marked-without, marked-append, marked-ascends, All-with_number}
 use Rattle.tq_shape.proofs.SetBits.{word-length, word-none, word-has, word-with, word-without, word-first}
@@ -53,7 +53,7 @@ by_test false there is = ap not is
 module _ (words : List ℕ) (number : ℕ) (within : number / 64 < length words) where
   set-says : has_number (numbers_of words) number ≡ slice_index_or (marks_in words) number false
   unfolding numbers_of
-  set-says = ap (has_number (marked 0 (marks_in words))) (sym (zero-add number)) ∙ has_number-marked 0 (marks_in words) number
+  set-says = ap (has_number (marked_numbers 0 (marks_in words))) (sym (zero-add number)) ∙ has_number-marked 0 (marks_in words) number
 
   pub set-has : not (bit_and (slice_index_or words (number / 64) 0) (2 ^ (number % 64)) == 0) ≡ has_number (numbers_of words) number
   set-has =
@@ -78,15 +78,15 @@ module _ (words : List ℕ) (number : ℕ) (within : number / 64 < length words)
   unfolding numbers_of
   set-with =
       let before = slice_index_or words (number / 64) 0 in
-      ap (marked 0) (set-marked (bit_or before (2 ^ (number % 64))) true (word-with before (number % 64) (omega arith)))
-      ∙ (marked-with 0 (marks_in words) number long ∙ ap (λ n. with_number n (marked 0 (marks_in words))) (zero-add number))
+      ap (marked_numbers 0) (set-marked (bit_or before (2 ^ (number % 64))) true (word-with before (number % 64) (omega arith)))
+      ∙ (marked-with 0 (marks_in words) number long ∙ ap (λ n. with_number n (marked_numbers 0 (marks_in words))) (zero-add number))
 
   pub set-without : numbers_of (slice_set words (number / 64) (bit_and (slice_index_or words (number / 64) 0) (bit_not w64 (2 ^ (number % 64))))) ≡ without_number number (numbers_of words)
   unfolding numbers_of
   set-without =
       let before = slice_index_or words (number / 64) 0 in
-      ap (marked 0) (set-marked (bit_and before (bit_not w64 (2 ^ (number % 64)))) false (word-without before (number % 64) (omega arith)))
-      ∙ (marked-without 0 (marks_in words) number long ∙ ap (λ n. without_number n (marked 0 (marks_in words))) (zero-add number))
+      ap (marked_numbers 0) (set-marked (bit_and before (bit_not w64 (2 ^ (number % 64)))) false (word-without before (number % 64) (omega arith)))
+      ∙ (marked-without 0 (marks_in words) number long ∙ ap (λ n. without_number n (marked_numbers 0 (marks_in words))) (zero-add number))
 
   pub AreWordsOf-with : (levels : ℕ) → AreWordsOf levels words → IsServer levels number
       → AreWordsOf levels (slice_set words (number / 64) (bit_or (slice_index_or words (number / 64) 0) (2 ^ (number % 64))))
@@ -114,11 +114,11 @@ has_place levels own number words are same server = omega (arith, are.room, serv
 
 -- ---- no number
 
-none-marked : (count first : ℕ) → marked first (marks_in (replicate count 0)) ≡ []
+none-marked : (count first : ℕ) → marked_numbers first (marks_in (replicate count 0)) ≡ []
 none-marked zero first = refl
 none-marked (suc count) first =
     marked-append first (marks_of_word 0) (marks_in (replicate count 0))
-    ∙ (ap (λ numbers. numbers ++ marked (first + length (marks_of_word 0)) (marks_in (replicate count 0))) (word-none first)
+    ∙ (ap (λ numbers. numbers ++ marked_numbers (first + length (marks_of_word 0)) (marks_in (replicate count 0))) (word-none first)
     ∙ none-marked count (first + length (marks_of_word 0)))
 
 pub numbers_of-none : (count : ℕ) → numbers_of (replicate count 0) ≡ []
@@ -135,9 +135,9 @@ AreWordsOf-none levels count room short =
 
 -- ---- the numbers ascend
 
-ascends : (levels : ℕ) (marks : List Bool) → All (IsServer levels) (marked 0 marks) → Ascends 0 (marked 0 marks)
+ascends : (levels : ℕ) (marks : List Bool) → All (IsServer levels) (marked_numbers 0 marks) → Ascends 0 (marked_numbers 0 marks)
 ascends levels [] all = tt
-ascends levels (true ∷ marks) all = absurd (omega (arith, (All-head (IsServer levels) 0 (marked (0 + 1) marks) all).0))
+ascends levels (true ∷ marks) all = absurd (omega (arith, (All-head (IsServer levels) 0 (marked_numbers (0 + 1) marks) all).0))
 ascends levels (false ∷ marks) all = marked-ascends 0 (0 + 1) marks (omega arith)
 
 pub numbers_of-ascend : (levels : ℕ) (words : List ℕ) → AreWordsOf levels words → Ascends 0 (numbers_of words)
@@ -165,14 +165,14 @@ unfolding numbers_left
 left-over base next behind =
     let at : base + length (marks_of_word 0) ≡ base + 64 = omega (arith, word-length 0) in
     marked-append base (marks_of_word 0) (marks_in (next ∷ behind))
-    ∙ (ap (λ numbers. numbers ++ marked (base + length (marks_of_word 0)) (marks_in (next ∷ behind))) (word-none base)
-    ∙ ap (λ n. marked n (marks_in (next ∷ behind))) at)
+    ∙ (ap (λ numbers. numbers ++ marked_numbers (base + length (marks_of_word 0)) (marks_in (next ∷ behind))) (word-none base)
+    ∙ ap (λ n. marked_numbers n (marks_in (next ∷ behind))) at)
 
 left-none : (base : ℕ) → numbers_left base 0 [] ≡ []
 unfolding numbers_left
 left-none base =
     marked-append base (marks_of_word 0) (marks_in [])
-    ∙ ap (λ numbers. numbers ++ marked (base + length (marks_of_word 0)) (marks_in [])) (word-none base)
+    ∙ ap (λ numbers. numbers ++ marked_numbers (base + length (marks_of_word 0)) (marks_in [])) (word-none base)
 
 -- none of them stands in a word of no mark
 pub left-skip : (base word next : ℕ) (rest behind : List ℕ) → word ≡ 0 → rest ≡ next ∷ behind → numbers_left base word rest ≡ numbers_left (base + 64) next behind
@@ -197,9 +197,9 @@ left-next base word place rest some fits is =
     let after = bit_and word (word - 1) in
     let long : length (marks_of_word word) ≡ length (marks_of_word after) = word-length word ∙ sym (word-length after) in
     marked-append base (marks_of_word word) (marks_in rest)
-    ∙ (ap (λ numbers. numbers ++ marked (base + length (marks_of_word word)) (marks_in rest)) (word-first base word place some fits is)
+    ∙ (ap (λ numbers. numbers ++ marked_numbers (base + length (marks_of_word word)) (marks_in rest)) (word-first base word place some fits is)
     ∙ ap (λ numbers. (base + place) ∷ numbers)
-    (ap (λ n. marked base (marks_of_word after) ++ marked (base + n) (marks_in rest)) long ∙ sym (marked-append base (marks_of_word after) (marks_in rest))))
+    (ap (λ n. marked_numbers base (marks_of_word after) ++ marked_numbers (base + n) (marks_in rest)) long ∙ sym (marked-append base (marks_of_word after) (marks_in rest))))
 
 -- it is that of a server, and the others are left
 pub record IsNext (levels base word number after : ℕ) (rest : List ℕ) : Type 0 where
@@ -221,5 +221,5 @@ next-left levels base word place rest are some fits at =
     }
 
 pub next_servers : (levels base word number after : ℕ) (rest : List ℕ) (server : Server) → numbers_left base word rest ≡ number ∷ numbers_left base after rest
-    → server ≡ record { number = number; levels = levels } → numbered levels (numbers_left base word rest) ≡ server ∷ numbered levels (numbers_left base after rest)
-next_servers levels base word number after rest server is made = ap (numbered levels) is ∙ ap (λ s. s ∷ numbered levels (numbers_left base after rest)) (sym made)
+    → server ≡ record { number = number; levels = levels } → servers_of_numbers levels (numbers_left base word rest) ≡ server ∷ servers_of_numbers levels (numbers_left base after rest)
+next_servers levels base word number after rest server is made = ap (servers_of_numbers levels) is ∙ ap (λ s. s ∷ servers_of_numbers levels (numbers_left base after rest)) (sym made)

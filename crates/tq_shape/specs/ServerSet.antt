@@ -46,8 +46,8 @@ abbrev pub AreBelow : ℕ → List ℕ → Type 0
 AreBelow number numbers = All (λ other. other < number) numbers
 
 -- the servers of a tree of those levels with these numbers
-abbrev pub numbered : ℕ → List ℕ → List Server
-numbered levels numbers = map (λ number. record { number = number; levels = levels }) numbers
+abbrev pub servers_of_numbers : ℕ → List ℕ → List Server
+servers_of_numbers levels numbers = map (λ number. record { number = number; levels = levels }) numbers
 
 -- both lists have servers of the same numbers
 abbrev pub have_same_numbers : List Server → List Server → Bool
@@ -59,10 +59,10 @@ first_of [] = None
 first_of (first ∷ rest) = Some first
 
 -- the numbers that are marked, where the marks begin at the first number
-abbrev pub marked : ℕ → List Bool → List ℕ
-marked first [] = []
-marked first (true ∷ marks) = first ∷ marked (first + 1) marks
-marked first (false ∷ marks) = marked (first + 1) marks
+abbrev pub marked_numbers : ℕ → List Bool → List ℕ
+marked_numbers first [] = []
+marked_numbers first (true ∷ marks) = first ∷ marked_numbers (first + 1) marks
+marked_numbers first (false ∷ marks) = marked_numbers (first + 1) marks
 
 -- whether each bit of a number is set, the lowest first
 abbrev pub marks_of : ℕ → ℕ → List Bool
@@ -80,7 +80,7 @@ marks_in (word ∷ words) = marks_of_word word ++ marks_in words
 
 -- the places that are marked
 unfoldable pub numbers_of : List ℕ → List ℕ
-numbers_of words = marked 0 (marks_in words)
+numbers_of words = marked_numbers 0 (marks_in words)
 
 -- there are words for all servers of the tree, and none but those of servers are marked
 pub record AreWordsOf (levels : ℕ) (words : List ℕ) : Type 0 where
@@ -90,7 +90,7 @@ pub record AreWordsOf (levels : ℕ) (words : List ℕ) : Type 0 where
 
 -- the numbers that are left to walk: those of a word, whose first place has a number, and of the words behind it
 unfoldable pub numbers_left : ℕ → ℕ → List ℕ → List ℕ
-numbers_left base word rest = marked base (marks_in (word ∷ rest))
+numbers_left base word rest = marked_numbers base (marks_in (word ∷ rest))
 
 -- the same, of servers of a tree
 pub record AreLeft (levels base word : ℕ) (rest : List ℕ) : Type 0 where

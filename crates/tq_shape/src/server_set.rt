@@ -1,7 +1,7 @@
 ghost use Rattle.std.specs.Prelude.{◌≡◌, ◌++◌, ◌<◌, ◌/◌, ◌%◌, ◌^◌, ◌↔◌, not, nat_eq, [], ◌∷◌, All, IfOk, IsTrue};
 ghost use Rattle.std.specs.Cmp.Lexicographic.{pointwise};
 ghost use Rattle.tq_shape.specs.Tree.{IsServer};
-ghost use Rattle.tq_shape.specs.ServerSet.{AreBelow, Ascends, has_number, have_same_numbers, numbered, first_of};
+ghost use Rattle.tq_shape.specs.ServerSet.{AreBelow, Ascends, has_number, have_same_numbers, servers_of_numbers, first_of};
 ghost use Rattle.tq_shape.specs.ServerSet.{set_with, set_with_last, set_without};
 
 use crate::words::Words;
@@ -104,7 +104,7 @@ impl ServerSet {
 
     /// The least server of the set.
     pub fn first(&self) -> Option<ServerId>
-        ensures { result ≡ first_of (numbered self.now.levels self.now.numbers) }
+        ensures { result ≡ first_of (servers_of_numbers self.now.levels self.now.numbers) }
     {
         self.iter().next()
     }
@@ -131,7 +131,7 @@ impl ServerSet {
 
     /// The servers, upwards.
     pub fn iter(&self) -> ServerSetIter<'_>
-        ensures servers { result ≡ numbered self.now.levels self.now.numbers }
+        ensures servers { result ≡ servers_of_numbers self.now.levels self.now.numbers }
         ensures of_tree { All (IsServer self.now.levels) self.now.numbers }
         ensures ascending { Ascends 0 self.now.numbers }
     {
@@ -159,11 +159,11 @@ pub struct ServerSetIter<'a> {
 impl<'a> Model for ServerSetIter<'a> {
     ghost use Rattle.std.specs.Prelude.{List};
     ghost use Rattle.tq_shape.specs.Tree.{Server};
-    ghost use Rattle.tq_shape.specs.ServerSet.{AreLeft, numbered, numbers_left};
+    ghost use Rattle.tq_shape.specs.ServerSet.{AreLeft, servers_of_numbers, numbers_left};
 
     ghost Value = { List Server };
 
-    ghost view = { λ it. numbered it.levels (numbers_left it.base it.word it.rest.now) };
+    ghost view = { λ it. servers_of_numbers it.levels (numbers_left it.base it.word it.rest.now) };
 
     ghost invariant = { λ it. AreLeft it.levels it.base it.word it.rest.now };
 }

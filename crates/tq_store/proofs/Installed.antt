@@ -9,7 +9,7 @@ use Rattle.std.specs.Ordering.{eq_by_cmp}
 use Rattle.tq_shape.proofs.Orderings.{is_eq-Equal}
 use Rattle.tq_store.specs.declared.copies.FileCopy.{FileCopy}
 use Rattle.tq_store.specs.declared.write.Write.{Write}
-use Rattle.tq_store.specs.Copies.{Files, Installs, OnlyRises, name_cmp, copy_at, copy_of, copy_in, installed, installed_all}
+use Rattle.tq_store.specs.Copies.{Files, Installs, OnlyRises, name_cmp, copy_at, copy_of, copy_in, copies_after_install, installed_all}
 
 -- what a file has after a copy comes
 abbrev pub arrives : Option FileCopy → FileCopy → Option FileCopy
@@ -35,7 +35,7 @@ pub at_name : (files : Files) (name q : List ℕ) (f : Option FileCopy → Optio
 at_name files name q f true h x = ap f (fin.get_tied nat_list_cmp_total files q name (is_eq-Equal (name_cmp q name) h))
 at_name files name q f false h x = refl
 
-pub get-installed : (files : Files) (name : List ℕ) (copy : FileCopy) (q : List ℕ) → fin.get (installed files name copy) q ≡ cond (eq_by_cmp name_cmp q name) (arrives (fin.get files q) copy) (fin.get files q)
+pub get-installed : (files : Files) (name : List ℕ) (copy : FileCopy) (q : List ℕ) → fin.get (copies_after_install files name copy) q ≡ cond (eq_by_cmp name_cmp q name) (arrives (fin.get files q) copy) (fin.get files q)
 get-installed files name copy q =
     put_where files name copy q (nat_lt (copy_of files name).version copy.version)
     ∙ at_name files name q (λ had. cond (nat_lt (copy_at had).version copy.version) (Some copy) (fin.get files q)) (eq_by_cmp name_cmp q name) refl (fin.get files q)
@@ -47,7 +47,7 @@ arrives_rises false had copy = omega arith
 arrives_rises true None copy = grind (arith, nat_tests)
 arrives_rises true (Some c) copy = grind (arith, nat_tests)
 
-pub rises-installed : (files : Files) (name : List ℕ) (copy : FileCopy) → OnlyRises files (installed files name copy)
+pub rises-installed : (files : Files) (name : List ℕ) (copy : FileCopy) → OnlyRises files (copies_after_install files name copy)
 rises-installed files name copy q = subst (λ had. (copy_at (fin.get files q)).version ≤ (copy_at had).version) (sym (get-installed files name copy q)) (arrives_rises (eq_by_cmp name_cmp q name) (fin.get files q) copy)
 
 pub rises_then : (a b c : ℕ) → a ≤ b → b ≤ c → a ≤ c
@@ -56,7 +56,7 @@ rises_then a b c h k = omega (arith, h, k)
 pub rises-installed_all : (files : Files) (writes : List Write) → OnlyRises files (installed_all files writes)
 rises-installed_all files [] q = omega arith
 rises-installed_all files (write ∷ rest) q =
-    rises_then _ _ _ (rises-installed files write.file (copy_in write) q) (rises-installed_all (installed files write.file (copy_in write)) rest q)
+    rises_then _ _ _ (rises-installed files write.file (copy_in write) q) (rises-installed_all (copies_after_install files write.file (copy_in write)) rest q)
 
 -- ---- the greater version stays
 
@@ -72,14 +72,14 @@ arrives-newer had copy h = ap (λ b. copy_at (cond b (Some copy) had)) (lt-true 
 arrives-no_newer : (had : Option FileCopy) (copy : FileCopy) → copy.version ≤ (copy_at had).version → copy_at (arrives had copy) ≡ copy_at had
 arrives-no_newer had copy h = ap (λ b. copy_at (cond b (Some copy) had)) (lt-false _ _ h)
 
-copy_of-own : (files : Files) (name : List ℕ) (copy : FileCopy) → copy_of (installed files name copy) name ≡ copy_at (arrives (fin.get files name) copy)
+copy_of-own : (files : Files) (name : List ℕ) (copy : FileCopy) → copy_of (copies_after_install files name copy) name ≡ copy_at (arrives (fin.get files name) copy)
 copy_of-own files name copy = ap copy_at (get-installed files name copy name ∙ ap (λ b. cond b (arrives (fin.get files name) copy) (fin.get files name)) (name_itself name))
 
-copy_of-other : (files : Files) (name : List ℕ) (copy : FileCopy) (other : List ℕ) (b : Bool) → eq_by_cmp name_cmp other name ≡ b → other ≢ name → copy_of (installed files name copy) other ≡ copy_of files other
+copy_of-other : (files : Files) (name : List ℕ) (copy : FileCopy) (other : List ℕ) (b : Bool) → eq_by_cmp name_cmp other name ≡ b → other ≢ name → copy_of (copies_after_install files name copy) other ≡ copy_of files other
 copy_of-other files name copy other true e h = absurd (h (same_name other name e))
 copy_of-other files name copy other false e h = ap copy_at (get-installed files name copy other ∙ ap (λ b. cond b (arrives (fin.get files other) copy) (fin.get files other)) e)
 
-pub Installs-installed : (files : Files) (name : List ℕ) (copy : FileCopy) → Installs files (installed files name copy) name copy
+pub Installs-installed : (files : Files) (name : List ℕ) (copy : FileCopy) → Installs files (copies_after_install files name copy) name copy
 Installs-installed files name copy = record {
   newer = λ h. copy_of-own files name copy ∙ arrives-newer (fin.get files name) copy h;
   no_newer = λ h. copy_of-own files name copy ∙ arrives-no_newer (fin.get files name) copy h;

@@ -7,7 +7,7 @@ use Rattle.std.specs.Ordering.{eq_by_cmp}
 use Rattle.std.specs.Map.{lookup, set_value}
 use Rattle.std.specs.Option.{IsSome}
 use Rattle.std.proofs.lemmas.Map.{lookup-set_value}
-use Rattle.tq_store.specs.Copies.{name_cmp, Files, copy_of, installed}
+use Rattle.tq_store.specs.Copies.{name_cmp, Files, copy_of, copies_after_install}
 use Rattle.tq_store.specs.declared.copies.FileCopy.{FileCopy}
 use Rattle.std.proofs.lemmas.Bool.Decides.{nat_tests}
 
@@ -34,9 +34,9 @@ module _ {X : Type 0} where
   one_written es name had x found = one_given es _ name x (λ q. lookup-set_value nat_list_eq_equiv (pointwise nat_eq name) (nat_list_eq_equiv.congr name) q x es (subst IsSome (sym found) refl))
 
 -- a greater version is put in
-pub installed-greater : (files : Files) (name : List ℕ) (copy : FileCopy) → (copy_of files name).version < copy.version → insert files name copy ≡ installed files name copy
+pub installed-greater : (files : Files) (name : List ℕ) (copy : FileCopy) → (copy_of files name).version < copy.version → insert files name copy ≡ copies_after_install files name copy
 installed-greater files name copy h = grind (arith, nat_tests, h)
 
 -- one that is no greater is not
-pub installed-no_greater : (files : Files) (name : List ℕ) (copy : FileCopy) → copy.version ≤ (copy_of files name).version → files ≡ installed files name copy
+pub installed-no_greater : (files : Files) (name : List ℕ) (copy : FileCopy) → copy.version ≤ (copy_of files name).version → files ≡ copies_after_install files name copy
 installed-no_greater files name copy h = grind (arith, nat_tests, h)

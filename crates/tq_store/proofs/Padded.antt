@@ -9,7 +9,7 @@ use Rattle.std.specs.Cmp.{nat_cmp_is}
 use Rattle.std.specs.Cmp.Lexicographic.{slice_cmp}
 use Rattle.std.specs.List.{list_all, position_or_len}
 use Rattle.std.specs.Ordering.{nat_cmp, ordering_then}
-use Rattle.tq_store.specs.Names.{is_file_name, is_name_byte, name_in, padded, starts_with_letter}
+use Rattle.tq_store.specs.Names.{is_file_name, is_name_byte, name_in, padded_name, starts_with_letter}
 
 pub both : (a b : Bool) → (a && b) ≡ true → (a ≡ true) × (b ≡ true)
 both a b h = grind (arith, nat_tests, h)
@@ -44,15 +44,15 @@ first_zero (c ∷ rest) n h =
     ∙ ap (λ k. 1 + k) (first_zero rest n parts.1)
     ∙ one_more (length rest)
 
-pub name_in-padded : (name : List ℕ) → IsTrue (is_file_name name) → name_in (padded name) ≡ name
+pub name_in-padded : (name : List ℕ) → IsTrue (is_file_name name) → name_in (padded_name name) ≡ name
 unfolding name_in
 name_in-padded name h =
-    ap (λ n. take n (padded name)) (first_zero name (32 - length name) (bytes_of_name name h))
+    ap (λ n. take n (padded_name name)) (first_zero name (32 - length name) (bytes_of_name name h))
     ∙ take-append_seam name (replicate (32 - length name) 0)
 
 -- ---- its bytes
 
-pub length-padded : (name : List ℕ) → IsTrue (is_file_name name) → length (padded name) ≡ 32
+pub length-padded : (name : List ℕ) → IsTrue (is_file_name name) → length (padded_name name) ≡ 32
 length-padded name h =
     let fits = fits_name name h in
     length-append name (replicate (32 - length name) 0) ∙ ap (λ n. length name + n) (length-replicate (32 - length name) 0) ∙ omega (arith, fits)
@@ -67,7 +67,7 @@ small_bytes [] n k h = small_zeros n k
 small_bytes (c ∷ rest) n zero h = omega (arith, (byte_of_name c (both (is_name_byte c) (list_all is_name_byte rest) h).0).1)
 small_bytes (c ∷ rest) n (suc k) h = small_bytes rest n k (both (is_name_byte c) (list_all is_name_byte rest) h).1
 
-pub byte-padded : (name : List ℕ) → IsTrue (is_file_name name) → (k : ℕ) → slice_index (padded name) k < 256
+pub byte-padded : (name : List ℕ) → IsTrue (is_file_name name) → (k : ℕ) → slice_index (padded_name name) k < 256
 byte-padded name h k = small_bytes name (32 - length name) k (bytes_of_name name h)
 
 -- ---- order: a zero stands before each byte of a name
@@ -93,7 +93,7 @@ filled_cmp (x ∷ xs) (y ∷ ys) m n ha hb e =
     let in_b = (both (is_name_byte y) (list_all is_name_byte ys) hb).1 in
     ap (ordering_then (nat_cmp x y)) (filled_cmp xs ys m n in_a in_b (omega (arith, e)))
 
-pub padded_cmp : (a b : List ℕ) → IsTrue (is_file_name a) → IsTrue (is_file_name b) → slice_cmp nat_cmp (padded a) (padded b) ≡ slice_cmp nat_cmp a b
+pub padded_cmp : (a b : List ℕ) → IsTrue (is_file_name a) → IsTrue (is_file_name b) → slice_cmp nat_cmp (padded_name a) (padded_name b) ≡ slice_cmp nat_cmp a b
 padded_cmp a b ha hb =
     let fits_a = fits_name a ha in
     let fits_b = fits_name b hb in

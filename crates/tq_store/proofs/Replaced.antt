@@ -6,7 +6,7 @@ use Rattle.std.specs.Map.{lookup, set_value}
 use Rattle.std.specs.Option.{IsSome}
 use Rattle.std.proofs.lemmas.Map.{lookup-set_value}
 use Rattle.std.proofs.lemmas.Map.Steps.{set_value_same}
-use Rattle.tq_store.specs.Copies.{copy_at, copy_of, installed}
+use Rattle.tq_store.specs.Copies.{copy_at, copy_of, copies_after_install}
 use Rattle.tq_store.specs.declared.copies.FileCopy.{FileCopy}
 use Rattle.tq_store.proofs.Installed.{lt-false, lt-true}
 use Rattle.tq_store.proofs.Kept.{get_name, one_given, one_written, installed-greater, installed-no_greater}
@@ -27,7 +27,7 @@ module _ (es : List (List ℕ × FileCopy)) (name : List ℕ) (copy : FileCopy) 
   is-no_newer less = sym (lt-false _ _ (subst (λ (h : FileCopy). copy.version ≤ h.version) (sym copy-had) less))
 
   pub put-in : (fs : List (List ℕ × FileCopy)) → ((q : List ℕ) → lookup (pointwise nat_eq q) fs ≡ cond (pointwise nat_eq name q) (Some copy) (lookup (pointwise nat_eq q) es))
-      → (copy_at had).version < copy.version → from_entries fs ≡ installed (from_entries es) name copy
+      → (copy_at had).version < copy.version → from_entries fs ≡ copies_after_install (from_entries es) name copy
   put-in fs put less =
       one_given es fs name copy put
       ∙ installed-greater (from_entries es) name copy (subst (λ (h : FileCopy). h.version < copy.version) (sym copy-had) less)
@@ -36,7 +36,7 @@ module _ (es : List (List ℕ × FileCopy)) (name : List ℕ) (copy : FileCopy) 
 pub put-back : (es fs : List (List ℕ × FileCopy)) (name : List ℕ) (copy before : FileCopy) → lookup (pointwise nat_eq name) es ≡ Some before
     → ((q : List ℕ) → lookup (pointwise nat_eq q) fs ≡ cond (pointwise nat_eq name q) (Some copy) (lookup (pointwise nat_eq q) es))
     → lookup (pointwise nat_eq name) fs ≡ Some copy → copy.version ≤ before.version
-    → from_entries (set_value (pointwise nat_eq name) fs before) ≡ installed (from_entries es) name copy
+    → from_entries (set_value (pointwise nat_eq name) fs before) ≡ copies_after_install (from_entries es) name copy
 put-back es fs name copy before found put stands less =
     let again : from_entries (set_value (pointwise nat_eq name) fs before) ≡ insert (from_entries es) name before =
     one_given es (set_value (pointwise nat_eq name) fs before) name before (λ q.

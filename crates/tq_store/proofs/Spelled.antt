@@ -8,7 +8,7 @@ use Rattle.std.specs.Cmp.Lexicographic.{pointwise, slice_cmp, texts_ties}
 use Rattle.std.specs.declared.cmp.Ordering.{Ordering}
 use Rattle.std.specs.declared.cmp.Ordering.TheVariants.{Less, Equal, Greater}
 use Rattle.std.specs.Ordering.{MatchOrdering, nat_cmp, ordering_then, is_eq}
-use Rattle.tq_store.specs.Names.{is_file_name, padded, word_at}
+use Rattle.tq_store.specs.Names.{is_file_name, padded_name, word_at}
 use Rattle.tq_store.proofs.Padded.{byte-padded, length-padded, padded_cmp}
 
 -- ---- a number of two digits
@@ -97,7 +97,7 @@ word_first at p q word hp hq lp lq =
 
 -- how the words at a place compare
 abbrev pub words : List ℕ → List ℕ → ℕ → Ordering
-words a b at = nat_cmp (word_at (padded a) at) (word_at (padded b) at)
+words a b at = nat_cmp (word_at (padded_name a) at) (word_at (padded_name b) at)
 
 nothing_past : (bytes : List ℕ) → length bytes ≡ 32 → drop 32 bytes ≡ []
 nothing_past bytes long =
@@ -106,8 +106,8 @@ nothing_past bytes long =
 
 pub cmp_words : (a b : List ℕ) → IsTrue (is_file_name a) → IsTrue (is_file_name b) → ordering_then (words a b 0) (ordering_then (words a b 8) (ordering_then (words a b 16) (words a b 24))) ≡ slice_cmp nat_cmp a b
 cmp_words a b ha hb =
-    let p = padded a in
-    let q = padded b in
+    let p = padded_name a in
+    let q = padded_name b in
     let long_p = length-padded a ha in
     let long_q = length-padded b hb in
     let step = λ (at : ℕ) (word : IsSpelled at) (l : at + 8 ≤ 32). word_first at p q word (byte-padded a ha) (byte-padded b hb) (omega (arith, l, long_p)) (omega (arith, l, long_q)) in
@@ -121,7 +121,7 @@ cmp_words a b ha hb =
 
 -- whether the words at a place are the same
 abbrev pub same_words : List ℕ → List ℕ → ℕ → Bool
-same_words a b at = word_at (padded a) at == word_at (padded b) at
+same_words a b at = word_at (padded_name a) at == word_at (padded_name b) at
 
 turned : (a b c d : Bool) → (((a && b) && c) && d) ≡ (a && (b && (c && d)))
 turned true true c d = refl
@@ -130,7 +130,7 @@ turned false b c d = refl
 
 pub eq_words : (a b : List ℕ) → IsTrue (is_file_name a) → IsTrue (is_file_name b) → (((same_words a b 0 && same_words a b 8) && same_words a b 16) && same_words a b 24) ≡ pointwise nat_eq a b
 eq_words a b ha hb =
-    let tied = λ (at : ℕ). unsigned_tied (word_at (padded a) at) (word_at (padded b) at) in
+    let tied = λ (at : ℕ). unsigned_tied (word_at (padded_name a) at) (word_at (padded_name b) at) in
     let third = sym (tied_then (words a b 16) (words a b 24)) ∙ (λ i. tied 16 i && tied 24 i) in
     let second = sym (tied_then (words a b 8) (ordering_then (words a b 16) (words a b 24))) ∙ (λ i. tied 8 i && third i) in
     let first = sym (tied_then (words a b 0) (ordering_then (words a b 8) (ordering_then (words a b 16) (words a b 24)))) ∙ (λ i. tied 0 i && second i) in
@@ -140,7 +140,7 @@ eq_words a b ha hb =
 
 -- the words of two names at a place
 abbrev pub Same : List ℕ → List ℕ → ℕ → Type 0
-Same a b at = word_at (padded a) at ≡ word_at (padded b) at
+Same a b at = word_at (padded_name a) at ≡ word_at (padded_name b) at
 
 pub same : (x y u v : ℕ) → x ≡ u → y ≡ v → x ≡ y → u ≡ v
 same x y u v p q e = sym p ∙ e ∙ q
@@ -153,9 +153,9 @@ module _ (a b : List ℕ) (ha : IsTrue (is_file_name a)) (hb : IsTrue (is_file_n
   leave at rest e = ap (λ o. ordering_then o rest) (nat_cmp_is _ _ Equal e)
 
   decide : (at : ℕ) (rest : Ordering) → (Same a b at → ⊥) → words a b at ≡ ordering_then (words a b at) rest
-  decide at rest n = by (words a b at) (ranks (word_at (padded a) at) (word_at (padded b) at))
+  decide at rest n = by (words a b at) (ranks (word_at (padded_name a) at) (word_at (padded_name b) at))
     where
-      by : (o : Ordering) → MatchOrdering o (word_at (padded a) at < word_at (padded b) at) (Same a b at) (word_at (padded b) at < word_at (padded a) at) → o ≡ ordering_then o rest
+      by : (o : Ordering) → MatchOrdering o (word_at (padded_name a) at < word_at (padded_name b) at) (Same a b at) (word_at (padded_name b) at < word_at (padded_name a) at) → o ≡ ordering_then o rest
       by Less h = refl
       by Equal h = absurd (n h)
       by Greater h = refl

@@ -30,8 +30,8 @@ abbrev pub copy_of : Files → List ℕ → FileCopy
 copy_of files name = copy_at (map.get files name)
 
 -- the files after a copy comes: the greater version stays, at equal ones the copy that is there
-abbrev pub installed : Files → List ℕ → FileCopy → Files
-installed files name copy = if nat_lt (copy_of files name).version copy.version then map.insert files name copy else files
+abbrev pub copies_after_install : Files → List ℕ → FileCopy → Files
+copies_after_install files name copy = if nat_lt (copy_of files name).version copy.version then map.insert files name copy else files
 
 -- no file has a lower version than before
 abbrev pub OnlyRises : Files → Files → Type 0
@@ -50,7 +50,7 @@ copy_in write = record { version = write.version; content = write.content }
 -- the files after the writes come, one after another
 abbrev pub installed_all : Files → List Write → Files
 installed_all files [] = files
-installed_all files (write ∷ writes) = installed_all (installed files write.file (copy_in write)) writes
+installed_all files (write ∷ writes) = installed_all (copies_after_install files write.file (copy_in write)) writes
 
 -- the write's version is above that of the copy
 abbrev pub is_newer : Files → Write → Bool

@@ -21,8 +21,8 @@ abbrev pub is_file_name : List ℕ → Bool
 is_file_name name = starts_with_letter name && list_all is_name_byte name && nat_le (length name) 32
 
 -- the name in an array of the greatest length, filled up with zeros
-abbrev pub padded : List ℕ → List ℕ
-padded name = name ++ replicate (32 - length name) 0
+abbrev pub padded_name : List ℕ → List ℕ
+padded_name name = name ++ replicate (32 - length name) 0
 
 -- the name that such an array holds: its bytes before the first zero
 unfoldable pub name_in : List ℕ → List ℕ
@@ -37,8 +37,8 @@ word_at bytes at = from_be_bytes w64
 -- what a hash of a name is fed: its words, in order, and the first alone where it has no more than eight bytes
 abbrev pub hashed_words : List ℕ → HashWrites
 hashed_words name =
-    fed.u64 (word_at (padded name) 0)
-    ++ (if word_at (padded name) 8 == 0 then [] else fed.u64 (word_at (padded name) 8) ++ fed.u64 (word_at (padded name) 16) ++ fed.u64 (word_at (padded name) 24))
+    fed.u64 (word_at (padded_name name) 0)
+    ++ (if word_at (padded_name name) 8 == 0 then [] else fed.u64 (word_at (padded_name name) 8) ++ fed.u64 (word_at (padded_name name) 16) ++ fed.u64 (word_at (padded_name name) 24))
 
 -- two names, or two contents, are the same bytes
 abbrev pub same_name : List ℕ → List ℕ → Bool

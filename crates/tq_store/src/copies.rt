@@ -59,7 +59,7 @@ impl Model for Copies {
 }
 
 impl Copies {
-    ghost use Rattle.tq_store.specs.Copies.{Installs, OnlyRises, copy_of, copy_with, installed};
+    ghost use Rattle.tq_store.specs.Copies.{Installs, OnlyRises, copy_of, copy_with, copies_after_install};
 
     /// No file was written.
     pub fn new(alloc: Global) -> Copies
@@ -160,7 +160,8 @@ impl Copies {
     /// Keeps the greater version, at equal ones the copy that is there. It takes no memory.
     pub fn install(&mut self, name: FileName, version: u64, content: Content)
         requires { 0 < self.old.room }
-        ensures files { self.new.files ≡ installed self.old.files name (copy_with version content) }
+        ensures files { self.new.files
+            ≡ copies_after_install self.old.files name (copy_with version content) }
         ensures installs { Installs self.old.files self.new.files name (copy_with version content) }
         ensures rises { OnlyRises self.old.files self.new.files }
         ensures room { self.old.room ≤ self.new.room + 1 }
@@ -172,7 +173,8 @@ impl Copies {
     pub fn install_newer(&mut self, name: FileName, version: u64, content: Content) -> bool
         requires { 0 < self.old.room }
         ensures newer { result ≡ nat_lt (copy_of self.old.files name).version version }
-        ensures files { self.new.files ≡ installed self.old.files name (copy_with version content) }
+        ensures files { self.new.files
+            ≡ copies_after_install self.old.files name (copy_with version content) }
         ensures installs { Installs self.old.files self.new.files name (copy_with version content) }
         ensures rises { OnlyRises self.old.files self.new.files }
         ensures room { self.old.room ≤ self.new.room + 1 }

@@ -1,7 +1,7 @@
 ghost use Rattle.std.specs.Prelude.{◌≡◌, ◌↔◌, ◌+◌, ◌≤◌, ◌==◌, IfSome, IsSome, IsTrue, length, nat_eq};
 ghost use Rattle.std.specs.Ordering.{nat_cmp};
 ghost use Rattle.std.specs.Cmp.Lexicographic.{pointwise, slice_cmp};
-ghost use Rattle.tq_store.specs.Names.{is_file_name, padded, word_at};
+ghost use Rattle.tq_store.specs.Names.{is_file_name, padded_name, word_at};
 ghost use Rattle.tq_store.specs.Names as names;
 ghost use Rattle.std.specs.List.{list_all, position_or_len};
 
@@ -28,7 +28,7 @@ pub struct FileName {
 impl Model for FileName {
     ghost use Rattle.std.specs.Prelude.{◌≡◌, List, [], ℕ, IsTrue};
     ghost use Rattle.std.specs.Coded.{coded_list, coded_ℕ};
-    ghost use Rattle.tq_store.specs.Names.{is_file_name, name_in, padded};
+    ghost use Rattle.tq_store.specs.Names.{is_file_name, name_in, padded_name};
 
     ghost Value = { List ℕ };
 
@@ -36,9 +36,10 @@ impl Model for FileName {
 
     ghost view = { λ a. name_in a.bytes };
 
-    ghost invariant = { λ a. (padded (name_in a.bytes) ≡ a.bytes) × IsTrue (is_file_name (name_in a.bytes)) × ([] ≡ a.words) };
+    ghost invariant = { λ a. (padded_name (name_in a.bytes) ≡ a.bytes)
+        × IsTrue (is_file_name (name_in a.bytes)) × ([] ≡ a.words) };
 
-    ghost inverse = { λ name. record { bytes = padded name; words = [] } };
+    ghost inverse = { λ name. record { bytes = padded_name name; words = [] } };
 
     ghost inverse_ok = { λ a h. λ i. record { bytes = h.0 i; words = h.2 i } };
 }
@@ -80,7 +81,7 @@ impl FileName {
     /// The eight bytes from this place on, as a number that orders as they do.
     fn word(&self, at: usize) -> u64
         requires { at + 8 ≤ 32 }
-        ensures value { result ≡ word_at (padded self.now) at }
+        ensures value { result ≡ word_at (padded_name self.now) at }
         ensures name { IsTrue (is_file_name self.now) }
     {
         let bytes = &self.bytes;

@@ -24,7 +24,7 @@ use Rattle.tq_desk.specs.DecisionLog.{is_written}
 use Rattle.tq_store.proofs.SameName.{same_name-is, same_name-refl, same_name-sym}
 use Rattle.tq_desk.proofs.WrittenNames.{written-is}
 use Rattle.tq_tables.specs.Rows.{files_in, files_of}
-use Rattle.tq_tables.specs.Counted.{counted, count_in, names_of, with_one, with_each}
+use Rattle.tq_tables.specs.Counted.{commit_counts, count_in, names_of, with_one, with_each}
 use Rattle.tq_tables.proofs.Names.{is_in, Apart, or_parts, or-false, either, or_comm, filter_agree, without, without-more, is_in-filter, Apart-filter, Apart-append, Apart-keys}
 
 -- ---- names listed with a number each
@@ -252,7 +252,7 @@ count-more name commit earlier =
     by (Some op) = omega arith
 
 -- one commit more
-pub counted-more : (commit : Commit) (earlier : List Commit) → with_each (counted earlier) (names_of commit.ops) ≡ counted (commit ∷ earlier)
+pub counted-more : (commit : Commit) (earlier : List Commit) → with_each (commit_counts earlier) (names_of commit.ops) ≡ commit_counts (commit ∷ earlier)
 counted-more commit earlier =
     let n : List ℕ → ℕ = λ name. count name earlier in
     each-listed (names_of commit.ops) n (files_in earlier) (Apart-keys (with_files fin.empty commit.ops)) (Apart-files_in earlier)
@@ -262,7 +262,7 @@ counted-more commit earlier =
     (filter_agree (λ name. not (is_in name (files_in earlier))) (λ name. not (is_written earlier name)) (λ name. ap not (is_in-files_in name earlier)) (names_of commit.ops))
 
 -- what a file is counted as
-pub count_in-counted : (list : List Commit) (name : List ℕ) → count_in (counted list) name ≡ count name list
+pub count_in-counted : (list : List Commit) (name : List ℕ) → count_in (commit_counts list) name ≡ count name list
 count_in-counted list name = count_in-listed (λ n. count n list) name (files_in list) (λ none. count-absent name list (sym (is_in-files_in name list) ∙ none))
 
 -- there are no more commits than entries
@@ -286,7 +286,7 @@ commits-most (e ∷ earlier) = by e.ask e.reply (commits-most earlier)
     by asks.Begin reply h = omega (arith, h)
     by (asks.Resolve txn) reply h = omega (arith, h)
 
-pub counted-most : (journal : List DeskEntry) (name : List ℕ) → count_in (counted (commits journal)) name ≤ length journal
+pub counted-most : (journal : List DeskEntry) (name : List ℕ) → count_in (commit_counts (commits journal)) name ≤ length journal
 counted-most journal name =
     let a = count-most name (commits journal) in
     let b = commits-most journal in

@@ -14,7 +14,7 @@ use Rattle.tq_store.proofs.SameName.{same_name-is, same_name-refl, same_name-sym
 use Rattle.tq_node.specs.Node.{NodeView}
 use Rattle.tq_tables.specs.declared.file_row.FileRow.{FileRow}
 use Rattle.tq_tables.specs.Counted.{count_in, version_of}
-use Rattle.tq_tables.specs.Files.{AreExact, AreFiles, AreOfLevels, all_stood, moved, names_in, row_in, stood, stood_at, version_in, with_row, with_rows, IsOfLevels, by_file}
+use Rattle.tq_tables.specs.Files.{AreExact, AreFiles, AreOfLevels, all_stood, row_after_move, names_in, row_in, row_by_copy, stood_at, version_in, with_row, with_rows, IsOfLevels, by_file}
 use Rattle.tq_tables.specs.NamesApart.{is_in, Apart}
 use Rattle.tq_tables.specs.Rows.{has_version, row_at}
 use Rattle.tq_tables.proofs.Names.{differ, or_parts, or-true}
@@ -76,31 +76,31 @@ of_tree-with_row levels (first ∷ rows) row of_tree is = by (same_name row.file
 
 -- ---- a server that stands in a row
 
-pub stood-file : (node : NodeView) (row : FileRow) → (stood node row).file ≡ row.file
+pub stood-file : (node : NodeView) (row : FileRow) → (row_by_copy node row).file ≡ row.file
 stood-file node row = by (has_version row.file row.version node)
   where
-    by : (b : Bool) → (moved b node.server row).file ≡ row.file
+    by : (b : Bool) → (row_after_move b node.server row).file ≡ row.file
     by true = refl
     by false = refl
 
-pub stood-levels : (levels : ℕ) (node : NodeView) (row : FileRow) → IsOfLevels levels row → IsOfLevels levels (stood node row)
+pub stood-levels : (levels : ℕ) (node : NodeView) (row : FileRow) → IsOfLevels levels row → IsOfLevels levels (row_by_copy node row)
 stood-levels levels node row has = by (has_version row.file row.version node)
   where
-    by : (b : Bool) → IsOfLevels levels (moved b node.server row)
+    by : (b : Bool) → IsOfLevels levels (row_after_move b node.server row)
     by true = has
     by false = has
 
 stood_at-file : (node : NodeView) (file : List ℕ) (row : FileRow) → (stood_at node file row).file ≡ row.file
 stood_at-file node file row = by (same_name file row.file)
   where
-    by : (b : Bool) → (cond b (stood node row) row).file ≡ row.file
+    by : (b : Bool) → (cond b (row_by_copy node row) row).file ≡ row.file
     by true = stood-file node row
     by false = refl
 
 stood_at-levels : (levels : ℕ) (node : NodeView) (file : List ℕ) (row : FileRow) → IsOfLevels levels row → IsOfLevels levels (stood_at node file row)
 stood_at-levels levels node file row has = by (same_name file row.file)
   where
-    by : (b : Bool) → IsOfLevels levels (cond b (stood node row) row)
+    by : (b : Bool) → IsOfLevels levels (cond b (row_by_copy node row) row)
     by true = stood-levels levels node row has
     by false = has
 
@@ -120,7 +120,7 @@ pub absent-stood : (node : NodeView) (file : List ℕ) (rows : List FileRow) →
 absent-stood node file [] none = refl
 absent-stood node file (row ∷ rows) none =
     let both = or_parts (same_name file row.file) (is_in file (names_in rows)) none in
-    λ i. cond (both.0 i) (stood node row) row ∷ absent-stood node file rows both.1 i
+    λ i. cond (both.0 i) (row_by_copy node row) row ∷ absent-stood node file rows both.1 i
 
 -- a file has a row where one is found
 pub has_row-found : (file : List ℕ) (rows : List FileRow) → is_some (lookup (same_name file) (by_file rows)) ≡ is_in file (names_in rows)

@@ -11,7 +11,7 @@ use Rattle.tq_store.specs.Names.{same_name}
 use Rattle.tq_store.proofs.SameName.{same_name-is, same_name-refl}
 use Rattle.tq_node.specs.Node.{NodeView}
 use Rattle.tq_tables.specs.declared.file_row.FileRow.{FileRow}
-use Rattle.tq_tables.specs.Files.{AreFiles, AreOfLevels, names_in, stood, stood_at, IsOfLevels, by_file, HasRowAt}
+use Rattle.tq_tables.specs.Files.{AreFiles, AreOfLevels, names_in, row_by_copy, stood_at, IsOfLevels, by_file, HasRowAt}
 use Rattle.tq_tables.specs.NamesApart.{is_in, Apart}
 use Rattle.tq_tables.proofs.Kept.{file-found, absent-stood, stood-file}
 
@@ -59,7 +59,7 @@ module _ (file : List ℕ) (row : FileRow) where
 
   -- the server stands in that row alone
   pub stand-placed : (node : NodeView) (rows : List FileRow) (place : ℕ) → Apart (names_in rows) → slice_get (by_file rows) place ≡ Some (file, row)
-      → set_value_at (by_file rows) place (stood node row) ≡ by_file (map (stood_at node file) rows)
+      → set_value_at (by_file rows) place (row_by_copy node row) ≡ by_file (map (stood_at node file) rows)
   stand-placed node [] zero apart at = absurd (cc)
   stand-placed node [] (suc place) apart at = absurd (cc)
   stand-placed node (first ∷ rows) zero apart at =
@@ -68,17 +68,17 @@ module _ (file : List ℕ) (row : FileRow) where
       let name : first.file ≡ file = ap (λ (p : List ℕ × FileRow). p.0) is in
       let here : same_name file first.file ≡ true = ap (same_name file) name ∙ same_name-refl file in
       let none : is_in file (names_in rows) ≡ false = ap (λ (o : List ℕ). is_in o (names_in rows)) (sym name) ∙ apart.0 in
-      let stands : stood_at node file first ≡ stood node row = ap (λ b. cond b (stood node first) first) here ∙ ap (stood node) same in
-      (λ i. (first.file, stood node row) ∷ by_file (sym (absent-stood node file rows none) i))
-      ∙ (λ i. (sym (stood-file node first) i, stood node row) ∷ by_file (map (stood_at node file) rows))
-      ∙ ap (λ (r : FileRow). ((stood node first).file, r) ∷ by_file (map (stood_at node file) rows)) (sym stands)
-      ∙ ap (λ (n : List ℕ). (n, stood_at node file first) ∷ by_file (map (stood_at node file) rows)) (ap (λ (r : FileRow). r.file) (ap (stood node) same ∙ sym stands))
+      let stands : stood_at node file first ≡ row_by_copy node row = ap (λ b. cond b (row_by_copy node first) first) here ∙ ap (row_by_copy node) same in
+      (λ i. (first.file, row_by_copy node row) ∷ by_file (sym (absent-stood node file rows none) i))
+      ∙ (λ i. (sym (stood-file node first) i, row_by_copy node row) ∷ by_file (map (stood_at node file) rows))
+      ∙ ap (λ (r : FileRow). ((row_by_copy node first).file, r) ∷ by_file (map (stood_at node file) rows)) (sym stands)
+      ∙ ap (λ (n : List ℕ). (n, stood_at node file first) ∷ by_file (map (stood_at node file) rows)) (ap (λ (r : FileRow). r.file) (ap (row_by_copy node) same ∙ sym stands))
   stand-placed node (first ∷ rows) (suc place) apart at =
       let there = named-at rows place at in
       by (same_name file first.file) refl (stand-placed node rows place apart.1 at)
     where
-      by : (b : Bool) → same_name file first.file ≡ b → set_value_at (by_file rows) place (stood node row) ≡ by_file (map (stood_at node file) rows)
-          → (first.file, first) ∷ set_value_at (by_file rows) place (stood node row) ≡ ((cond b (stood node first) first).file, cond b (stood node first) first) ∷ by_file (map (stood_at node file) rows)
+      by : (b : Bool) → same_name file first.file ≡ b → set_value_at (by_file rows) place (row_by_copy node row) ≡ by_file (map (stood_at node file) rows)
+          → (first.file, first) ∷ set_value_at (by_file rows) place (row_by_copy node row) ≡ ((cond b (row_by_copy node first) first).file, cond b (row_by_copy node first) first) ∷ by_file (map (stood_at node file) rows)
       by true s rest = absurd (
           let other : is_in file (names_in rows) ≡ false = ap (λ (o : List ℕ). is_in o (names_in rows)) (same_name-is file first.file s) ∙ apart.0 in
           let there = named-at rows place at in cc)
@@ -89,9 +89,9 @@ pub placed : (levels : ℕ) (entries : List (List ℕ × FileRow)) (place : ℕ)
 placed levels entries place file row are at = at-row file row levels (map (λ entry. entry.1) entries) place are.of_tree (ap (λ es. slice_get es place) (sym are.named) ∙ at)
 
 pub stand-entries-placed : (levels : ℕ) (node : NodeView) (entries : List (List ℕ × FileRow)) (place : ℕ) (file : List ℕ) (row : FileRow) → AreFiles levels entries → slice_get entries place ≡ Some (file, row)
-    → set_value_at entries place (stood node row) ≡ by_file (map (stood_at node file) (map (λ entry. entry.1) entries))
+    → set_value_at entries place (row_by_copy node row) ≡ by_file (map (stood_at node file) (map (λ entry. entry.1) entries))
 stand-entries-placed levels node entries place file row are at =
-    ap (λ es. set_value_at es place (stood node row)) are.named
+    ap (λ es. set_value_at es place (row_by_copy node row)) are.named
     ∙ stand-placed file row node (map (λ entry. entry.1) entries) place are.apart (ap (λ es. slice_get es place) (sym are.named) ∙ at)
 
 -- where the entry of the file is found at the place, its row stands there

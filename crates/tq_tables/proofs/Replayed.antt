@@ -7,7 +7,7 @@ use Rattle.tq_shape.specs.Journal.{state_from}
 use Rattle.tq_shape.proofs.Joined.{state-push, state-reverse}
 use Rattle.tq_node.specs.Records.{NodeState, node_reply, node_after}
 use Rattle.tq_node.specs.Node as node
-use Rattle.tq_node.specs.Node.{NodeView, answered}
+use Rattle.tq_node.specs.Node.{NodeView, server_after}
 use Rattle.tq_desk.specs.declared.ask.DeskAsk.{DeskAsk}
 use Rattle.tq_desk.specs.declared.ask.DeskAsk.TheVariants as desk_asks
 use Rattle.tq_desk.specs.declared.ask.DeskRefusal.{DeskRefusal}
@@ -39,22 +39,22 @@ AreOfTree-nodes_at levels first (x ∷ servers) = ((refl, refl), AreOfTree-nodes
 
 -- a server after one entry more
 pub answered-push : (levels server : ℕ) (entries : List NodeEntry) (e : NodeEntry)
-    → answered (node_after_all levels server entries) (suc (length entries)) e.ask ≡ node_after_all levels server (entries ++ e ∷ [])
+    → server_after (node_after_all levels server entries) (suc (length entries)) e.ask ≡ node_after_all levels server (entries ++ e ∷ [])
 answered-push levels server entries e =
     let state : node_at server (entries ++ e ∷ []) ≡ node_after server (node_at server entries) (suc (length entries)) e.ask =
-    state-push (λ old number ask. node_reply server old ask) (node_after server) (node.opening 0 server).state entries e in
+    state-push (λ old number ask. node_reply server old ask) (node_after server) (node.opening_server 0 server).state entries e in
     let count : length (entries ++ e ∷ []) ≡ suc (length entries) = length_push entries e ∙ omega arith in
     ap (λ (s : NodeState). let v : NodeView = record { levels = levels; server = server; state = s; last = suc (length entries) } in v) (sym state)
     ∙ ap (λ (n : ℕ). let v : NodeView = record { levels = levels; server = server; state = node_at server (entries ++ e ∷ []); last = n } in v) (sym count)
 
 module _ (levels server : ℕ) (entries : List NodeEntry) (i : ℕ) (e : NodeEntry) (less : i < length entries) (is : e ≡ get_or entries i e) where
-  pub node-next : (old new : NodeView) (number : ℕ) → old ≡ node_after_all levels server (take i entries) → number ≡ i + 1 → new ≡ answered old number e.ask
+  pub node-next : (old new : NodeView) (number : ℕ) → old ≡ node_after_all levels server (take i entries) → number ≡ i + 1 → new ≡ server_after old number e.ask
       → new ≡ node_after_all levels server (take (i + 1) entries)
   node-next old new number so_far count stands =
       let length_is = length-take-le i entries (omega (arith, less)) in
       let at : number ≡ suc (length (take i entries)) = omega (arith, count, length_is) in
       stands
-      ∙ (λ j. answered (so_far j) (at j) e.ask)
+      ∙ (λ j. server_after (so_far j) (at j) e.ask)
       ∙ answered-push levels server (take i entries) e
       ∙ ap (node_after_all levels server) (sym (take-next entries i e less is))
 
@@ -85,10 +85,10 @@ begun_from s n (e ∷ entries) =
 
 -- there are no more transactions than entries
 pub begun-bound : (levels : ℕ) (limits : LimitsView) (entries : List DeskEntry) → (desk_at levels limits entries).begun ≤ length entries
-begun-bound levels limits entries = let b = begun_from (desk.opening levels limits) 1 entries in omega arith
+begun-bound levels limits entries = let b = begun_from (desk.opening_desk levels limits) 1 entries in omega arith
 
 pub desk-push : (levels : ℕ) (limits : LimitsView) (entries : List DeskEntry) (e : DeskEntry) → desk_at levels limits (entries ++ e ∷ []) ≡ desk_after (desk_at levels limits entries) e.ask
-desk-push levels limits entries e = state-push (λ old number ask. desk_reply old ask) (λ old number ask. desk_after old ask) (desk.opening levels limits) entries e
+desk-push levels limits entries e = state-push (λ old number ask. desk_reply old ask) (λ old number ask. desk_after old ask) (desk.opening_desk levels limits) entries e
 
 pub desk-next : (levels : ℕ) (limits : LimitsView) (entries : List DeskEntry) (i : ℕ) (e : DeskEntry) → i < length entries → e ≡ get_or entries i e
     → (old new : DeskView) → old ≡ desk_at levels limits (take i entries) → new ≡ desk_after old e.ask → new ≡ desk_at levels limits (take (i + 1) entries)
@@ -102,7 +102,7 @@ desk-room levels limits entries i old most so_far =
 
 -- the desk as the log says, the newest entry first
 pub desk_at-is : (levels : ℕ) (limits : LimitsView) (entries : List DeskEntry) → desk_at levels limits entries ≡ desk_state (bounds_of levels limits) (reverse entries)
-desk_at-is levels limits entries = state-reverse step_reply step_after (desk.opening levels limits) entries
+desk_at-is levels limits entries = state-reverse step_reply step_after (desk.opening_desk levels limits) entries
 
 -- it is still that of these bounds
 pub desk-bounds : (levels : ℕ) (limits : LimitsView) (entries : List DeskEntry) (d : DeskView) → IsLegalDesk (bounds_of levels limits) (reverse entries) → d ≡ desk_at levels limits entries

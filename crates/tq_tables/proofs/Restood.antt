@@ -3,7 +3,7 @@ use Rattle.std.specs.Prelude.{reverse}
 use Rattle.std.proofs.Common.{◌≡◌, ◌+◌, ◌-◌, ◌<◌, ◌≤◌, ℕ, zero, suc, false, List, [], ◌∷◌, ◌++◌, length, set, get_or, refl, ap, ◌∙◌, arith}
 use Rattle.std.proofs.lemmas.List.{get_or_default}
 use Rattle.tq_desk.specs.DeskJournal.{commits}
-use Rattle.tq_node.specs.Node.{NodeView, answered}
+use Rattle.tq_node.specs.Node.{NodeView, server_after}
 use Rattle.tq_node.specs.NodeJournal.{NodeEntry}
 use Rattle.tq_store.specs.Copies.{copy_of}
 use Rattle.tq_tables.specs.declared.file_row.FileRow.{FileRow}
@@ -73,12 +73,12 @@ module _ (journals : JournalsView) (server : ℕ) (tables : TablesView) (node : 
     last-is = ap (λ (n : NodeView). n.last) node_is
 
     module _ (e : NodeEntry) (legal : AreLegal (with_node journals server e)) (number : ℕ) (next : number ≡ node.last + 1) where
-      after_is : answered node number e.ask ≡ node_after_all journals.levels server (entries_of journals server ++ e ∷ [])
+      after_is : server_after node number e.ask ≡ node_after_all journals.levels server (entries_of journals server ++ e ∷ [])
       after_is =
           let count : number ≡ suc (length (entries_of journals server)) = omega (arith, next, last-is) in
-          (λ i. answered (node_is i) (count i) e.ask) ∙ answered-push journals.levels server (entries_of journals server) e
+          (λ i. server_after (node_is i) (count i) e.ask) ∙ answered-push journals.levels server (entries_of journals server) e
 
-      nodes_next : set (nodes_at journals.levels 1 journals.servers) (server - 1) (answered node number e.ask) ≡ nodes_at journals.levels 1 (with_node journals server e).servers
+      nodes_next : set (nodes_at journals.levels 1 journals.servers) (server - 1) (server_after node number e.ask) ≡ nodes_at journals.levels 1 (with_node journals server e).servers
       nodes_next =
           let entries = entries_of journals server ++ e ∷ [] in
           let number : server ≡ 1 + (server - 1) = omega (arith, positive) in
@@ -87,11 +87,11 @@ module _ (journals : JournalsView) (server : ℕ) (tables : TablesView) (node : 
           ∙ nodes_at-set journals.levels 1 journals.servers (server - 1) entries
 
       -- the tables with the servers so, and the rows of files that the servers then have
-      pub node-noted : (new : TablesView) (nodes : List NodeView) (files : List FileRow) → nodes ≡ set tables.nodes (server - 1) (answered node number e.ask)
+      pub node-noted : (new : TablesView) (nodes : List NodeView) (files : List FileRow) → nodes ≡ set tables.nodes (server - 1) (server_after node number e.ask)
           → files ≡ file_rows tables.view.levels nodes (commits (reverse journals.desk)) → new ≡ with_nodes tables nodes files → new ≡ tables_of (with_node journals server e)
       node-noted new nodes files nodes_are are is =
           let nodes_is : nodes ≡ nodes_at journals.levels 1 (with_node journals server e).servers =
-          nodes_are ∙ ap (λ (t : TablesView). set t.nodes (server - 1) (answered node number e.ask)) stand ∙ nodes_next in
+          nodes_are ∙ ap (λ (t : TablesView). set t.nodes (server - 1) (server_after node number e.ask)) stand ∙ nodes_next in
           let desk = desk_at journals.levels journals.limits journals.desk in
           let states = states-same (bounds_of journals.levels journals.limits) (reverse journals.desk) desk legal.desk (desk_at-is journals.levels journals.limits journals.desk) in
           let files_is = are ∙ (λ i. file_rows (stand i).view.levels (nodes_is i) (commits (reverse journals.desk))) in

@@ -5,13 +5,13 @@ use Rattle.std.specs.List.{All, fold}
 use Rattle.std.proofs.lemmas.Bool.{eqb-true}
 use Rattle.std.proofs.lemmas.List.{get_or_default}
 use Rattle.std.proofs.lemmas.List.Elements.{All-cons, All-filter, All-head, All-map, All-nil, All-tail}
-use Rattle.tq_shape.specs.ServerSet.{Ascends, has_number, numbered}
+use Rattle.tq_shape.specs.ServerSet.{Ascends, has_number, servers_of_numbers}
 use Rattle.tq_shape.specs.Tree.{Server}
 use Rattle.tq_store.specs.Copies.{copy_of}
 use Rattle.tq_node.specs.Node.{NodeView}
 use Rattle.tq_tables.specs.declared.file_row.FileRow.{FileRow}
 use Rattle.tq_tables.specs.Asked.{node_in}
-use Rattle.tq_tables.specs.Files.{moved, stood, stood_in, IsOfLevels}
+use Rattle.tq_tables.specs.Files.{row_after_move, row_by_copy, stood_in, IsOfLevels}
 use Rattle.tq_tables.specs.Parts.{AreOfTree, node_after_all}
 use Rattle.tq_tables.specs.Early.{OthersLack}
 use Rattle.tq_tables.specs.Rows.{has_version, row_at, servers_where}
@@ -76,7 +76,7 @@ module _ (some test : NodeView → Bool) (levels : ℕ) where
 
 -- the row where each of the servers stands anew
 abbrev stood_each : FileRow → List NodeView → FileRow
-stood_each row nodes = fold (λ (r : FileRow) (node : NodeView). stood node r) row nodes
+stood_each row nodes = fold (λ (r : FileRow) (node : NodeView). row_by_copy node r) row nodes
 
 -- and that with the numbers placed anew
 abbrev settled_row : FileRow → List ℕ → List ℕ → List NodeView → FileRow
@@ -93,9 +93,9 @@ stood-each row [] = refl
 stood-each row (n ∷ nodes) = by (has_version row.file row.version n) (λ r. stood-each r nodes)
   where
     by : (b : Bool) → ((r : FileRow) → stood_each r nodes ≡ settled_row r r.current.numbers r.stale.numbers nodes)
-        → stood_each (moved b n.server row) nodes ≡ settled_row row (placed b n.server row.current.numbers) (placed (not b) n.server row.stale.numbers) nodes
-    by true rest = rest (moved true n.server row)
-    by false rest = rest (moved false n.server row)
+        → stood_each (row_after_move b n.server row) nodes ≡ settled_row row (placed b n.server row.current.numbers) (placed (not b) n.server row.stale.numbers) nodes
+    by true rest = rest (row_after_move true n.server row)
+    by false rest = rest (row_after_move false n.server row)
 
 -- a row at the next version, before any server stands anew in it
 abbrev pub at_next : FileRow → FileRow
@@ -174,7 +174,7 @@ module _ (levels : ℕ) (nodes : List NodeView) (of_tree : AreOfTree levels 1 no
 
   -- each server is found under its number
   found-each : (some : NodeView → Bool) (first : ℕ) (rest : List NodeView) → AreOfTree levels first rest → ((i : ℕ) (d : NodeView) → i < length rest → node_in nodes (first + i) ≡ get_or rest i d) → (row : FileRow)
-      → stood_in nodes row (numbered levels (passing some rest)) ≡ stood_each row (filter some rest)
+      → stood_in nodes row (servers_of_numbers levels (passing some rest)) ≡ stood_each row (filter some rest)
   found-each some first [] of_rest found row = refl
   found-each some first (n ∷ rest) of_rest found row = by (some n) (λ r. found-each some (first + 1) rest of_rest.1 later r)
     where
@@ -184,9 +184,9 @@ module _ (levels : ℕ) (nodes : List NodeView) (of_tree : AreOfTree levels 1 no
       later : (i : ℕ) (d : NodeView) → i < length rest → node_in nodes (first + 1 + i) ≡ get_or rest i d
       later i d less = ap (node_in nodes) (omega arith) ∙ found (suc i) d (omega (arith, less))
 
-      by : (b : Bool) → ((r : FileRow) → stood_in nodes r (numbered levels (passing some rest)) ≡ stood_each r (filter some rest))
-          → stood_in nodes row (numbered levels (map (λ node. node.server) (cond b (n ∷ filter some rest) (filter some rest)))) ≡ stood_each row (cond b (n ∷ filter some rest) (filter some rest))
-      by true all = ap (λ (node : NodeView). stood_in nodes (stood node row) (numbered levels (passing some rest))) here ∙ all (stood n row)
+      by : (b : Bool) → ((r : FileRow) → stood_in nodes r (servers_of_numbers levels (passing some rest)) ≡ stood_each r (filter some rest))
+          → stood_in nodes row (servers_of_numbers levels (map (λ node. node.server) (cond b (n ∷ filter some rest) (filter some rest)))) ≡ stood_each row (cond b (n ∷ filter some rest) (filter some rest))
+      by true all = ap (λ (node : NodeView). stood_in nodes (row_by_copy node row) (servers_of_numbers levels (passing some rest))) here ∙ all (row_by_copy n row)
       by false all = all row
 
   found-at : (i : ℕ) (d : NodeView) → i < length nodes → node_in nodes (1 + i) ≡ get_or nodes i d
@@ -195,15 +195,15 @@ module _ (levels : ℕ) (nodes : List NodeView) (of_tree : AreOfTree levels 1 no
       ap (λ (k : ℕ). get_or nodes k (node_after_all 0 0 [])) place ∙ get_or_default nodes i (node_after_all 0 0 []) d less
 
   -- where the current servers stand anew at the next version, the row is exact
-  pub next-exact : (row : FileRow) → row ≡ row_at levels nodes row.file row.version → stood_in nodes (at_next row) (numbered levels row.current.numbers) ≡ row_at levels nodes row.file (row.version + 1)
+  pub next-exact : (row : FileRow) → row ≡ row_at levels nodes row.file row.version → stood_in nodes (at_next row) (servers_of_numbers levels row.current.numbers) ≡ row_at levels nodes row.file (row.version + 1)
   next-exact row exact =
-      (λ i. stood_in nodes (at_next (exact i)) (numbered levels (exact i).current.numbers))
+      (λ i. stood_in nodes (at_next (exact i)) (servers_of_numbers levels (exact i).current.numbers))
       ∙ found-each (has_version row.file row.version) 1 nodes of_tree found-at (at_next (row_at levels nodes row.file row.version))
       ∙ stood-then row.file row.version
 
   -- where none is current and some servers stand, of which is each that has a copy, the row is exact
   pub first-exact : (file numbers : List ℕ) → Ascends 0 numbers → All (λ number. number ≤ length nodes) numbers → OthersLack file numbers nodes
-      → stood_in nodes (first_of_all levels nodes file) (numbered levels numbers) ≡ row_at levels nodes file 1
+      → stood_in nodes (first_of_all levels nodes file) (servers_of_numbers levels numbers) ≡ row_at levels nodes file 1
   first-exact file numbers ascends within lack =
       let some : NodeView → Bool = λ node. has_number numbers node.server in
       let has = has_version file 1 in
@@ -212,7 +212,7 @@ module _ (levels : ℕ) (nodes : List NodeView) (of_tree : AreOfTree levels 1 no
       ap (λ (before : List ℕ). settled has before (filter some nodes)) (sym (none-passes nodes))
       ∙ settled-are some has levels (λ node. false) 1 nodes (λ k d h out. sym (lack k d h out)) of_tree in
       let stale = settled-are some (λ node. not (has node)) levels (λ node. true) 1 nodes (λ k d h out. sym (ap not (lack k d h out))) of_tree in
-      ap (λ (list : List ℕ). stood_in nodes row (numbered levels list)) (are-passing levels some 0 nodes numbers of_tree ascends (λ k d h. let fit = within k d h in omega (arith, fit)) (λ node above. refl))
+      ap (λ (list : List ℕ). stood_in nodes row (servers_of_numbers levels list)) (are-passing levels some 0 nodes numbers of_tree ascends (λ k d h. let fit = within k d h in omega (arith, fit)) (λ node above. refl))
       ∙ found-each some 1 nodes of_tree found-at row
       ∙ stood-each row (filter some nodes)
       ∙ (λ i. record { file = file; version = 1; current = those levels (current i); stale = those levels (stale i) })
@@ -233,11 +233,11 @@ are-within levels some nodes of_tree =
     (All-filter some (λ (node : NodeView). node.server ≤ length nodes) nodes
     (λ k d h. let place = (at-place levels 1 nodes of_tree k (get_or nodes k d) h (get_or_default nodes k d (get_or nodes k d) h)).1 in omega (arith, place, h)))
 
-pub are-places-of : (levels count low : ℕ) (numbers : List ℕ) → Ascends low numbers → All (λ number. number ≤ count) numbers → All (IsPlace count) (numbered levels numbers)
+pub are-places-of : (levels count low : ℕ) (numbers : List ℕ) → Ascends low numbers → All (λ number. number ≤ count) numbers → All (IsPlace count) (servers_of_numbers levels numbers)
 are-places-of levels count low [] ascends within = All-nil (IsPlace count)
 are-places-of levels count low (first ∷ rest) ascends within =
     let fits = All-head (λ number. number ≤ count) first rest within in
-    All-cons (IsPlace count) (record { number = first; levels = levels }) (numbered levels rest) (omega (arith, ascends.0), fits)
+    All-cons (IsPlace count) (record { number = first; levels = levels }) (servers_of_numbers levels rest) (omega (arith, ascends.0), fits)
     (are-places-of levels count first rest ascends.1 (All-tail (λ number. number ≤ count) first rest within))
 
 -- the servers that are left lead to the same row, and each is there

@@ -13,7 +13,7 @@ use Rattle.tq_store.proofs.SameName.{same_name-sym}
 use Rattle.tq_desk.specs.DeskJournal.{Commit, count}
 use Rattle.tq_node.specs.Node.{NodeView}
 use Rattle.tq_tables.specs.declared.file_row.FileRow.{FileRow}
-use Rattle.tq_tables.specs.Files.{all_stood, moved, stood, stood_at}
+use Rattle.tq_tables.specs.Files.{all_stood, row_after_move, row_by_copy, stood_at}
 use Rattle.tq_tables.specs.NamesApart.{is_in}
 use Rattle.tq_tables.specs.Parts.{AreOfTree}
 use Rattle.tq_tables.specs.Rows.{file_row, file_rows, files_in, has_version, row_at}
@@ -134,7 +134,7 @@ those levels numbers = record { levels = levels; numbers = numbers }
 
 module _ (levels : ℕ) (nodes : List NodeView) (place : ℕ) (node : NodeView) (of_tree : AreOfTree levels 1 nodes) (less : place < length nodes) (number : node.server ≡ 1 + place) where
   -- the row with the server in its place is the row before in which it stands
-  row-cases : (file : List ℕ) (version : ℕ) (b : Bool) → has_version file version node ≡ b → moved b node.server (row_at levels nodes file version) ≡ row_at levels (set nodes place node) file version
+  row-cases : (file : List ℕ) (version : ℕ) (b : Bool) → has_version file version node ≡ b → row_after_move b node.server (row_at levels nodes file version) ≡ row_at levels (set nodes place node) file version
   row-cases file version true passes =
       let has = has_version file version in
       let lacks : NodeView → Bool = λ n. not (has_version file version n) in
@@ -148,7 +148,7 @@ module _ (levels : ℕ) (nodes : List NodeView) (place : ℕ) (node : NodeView) 
       let stale = placed-set levels lacks node 1 nodes place of_tree less number true (ap not fails) in
       λ i. record { file = file; version = version; current = those levels (sym current i); stale = those levels (sym stale i) }
 
-  pub row-stood : (file : List ℕ) (version : ℕ) → stood node (row_at levels nodes file version) ≡ row_at levels (set nodes place node) file version
+  pub row-stood : (file : List ℕ) (version : ℕ) → row_by_copy node (row_at levels nodes file version) ≡ row_at levels (set nodes place node) file version
   row-stood file version = row-cases file version (has_version file version node) refl
 
   -- where its copy of the file is as before, the row is
@@ -178,7 +178,7 @@ all-steps node [] rows = sym (map-id rows)
 all-steps node (file ∷ files) rows = all-steps node files (map (stood_at node file) rows) ∙ map-map (λ (row : FileRow). steps node row files) (stood_at node file) rows
 
 module _ (levels : ℕ) (nodes : List NodeView) (place : ℕ) (node : NodeView) (of_tree : AreOfTree levels 1 nodes) (less : place < length nodes) (tree : node.levels ≡ levels) (number : node.server ≡ 1 + place) where
-  row-again : (file : List ℕ) (version : ℕ) → stood node (row_at levels (set nodes place node) file version) ≡ row_at levels (set nodes place node) file version
+  row-again : (file : List ℕ) (version : ℕ) → row_by_copy node (row_at levels (set nodes place node) file version) ≡ row_at levels (set nodes place node) file version
   row-again file version =
       let count = length-set nodes place node in
       row-stood levels (set nodes place node) place node (AreOfTree-set levels 1 nodes place node of_tree tree number) (omega (arith, less, count)) number file version
@@ -189,7 +189,7 @@ module _ (levels : ℕ) (nodes : List NodeView) (place : ℕ) (node : NodeView) 
   steps-after file version (first ∷ files) =
       ap (λ (row : FileRow). steps node row files) (by (same_name first file)) ∙ steps-after file version files
     where
-      by : (b : Bool) → cond b (stood node (row_at levels (set nodes place node) file version)) (row_at levels (set nodes place node) file version) ≡ row_at levels (set nodes place node) file version
+      by : (b : Bool) → cond b (row_by_copy node (row_at levels (set nodes place node) file version)) (row_at levels (set nodes place node) file version) ≡ row_at levels (set nodes place node) file version
       by true = row-again file version
       by false = refl
 
@@ -200,7 +200,7 @@ module _ (levels : ℕ) (nodes : List NodeView) (place : ℕ) (node : NodeView) 
     where
       by : (b : Bool) → same_name first file ≡ b
           → ((is_in file files ≡ false → row_at levels nodes file version ≡ row_at levels (set nodes place node) file version) → steps node (row_at levels nodes file version) files ≡ row_at levels (set nodes place node) file version)
-          → steps node (cond b (stood node (row_at levels nodes file version)) (row_at levels nodes file version)) files ≡ row_at levels (set nodes place node) file version
+          → steps node (cond b (row_by_copy node (row_at levels nodes file version)) (row_at levels nodes file version)) files ≡ row_at levels (set nodes place node) file version
       by true s rest = ap (λ (row : FileRow). steps node row files) (row-stood levels nodes place node of_tree less number file version) ∙ steps-after file version files
       by false s rest = rest (λ none. kept (λ i. (same_name-sym file first ∙ s) i || none i))
 

@@ -17,7 +17,7 @@ use Rattle.tq_desk.specs.DeskStep.{with_files}
 use Rattle.tq_desk.specs.DeskJournal.{Commit, count, with_commit}
 use Rattle.tq_node.specs.Node.{NodeView}
 use Rattle.tq_tables.specs.declared.file_row.FileRow.{FileRow}
-use Rattle.tq_tables.specs.Counted.{count_in, counted, names_of, version_of, with_each, with_one}
+use Rattle.tq_tables.specs.Counted.{count_in, commit_counts, names_of, version_of, with_each, with_one}
 use Rattle.tq_tables.specs.Files.{AreOfLevels, IsOfLevels, committed_ops, version_in, with_row, with_rows}
 use Rattle.tq_tables.specs.NamesApart.{is_in, Apart}
 use Rattle.tq_tables.specs.Rows.{file_rows, files_in, row_at}
@@ -69,16 +69,16 @@ module _ (levels : ℕ) (nodes : List NodeView) where
           next other (ap (λ (b : Bool). same_name other name || b) there ∙ or-true (same_name other name))
           ∙ ap (λ (k : ℕ). k + 1) (sym (count_in-other counts name other (differ names name other apart.0 there)))
 
-  rows-are : (list : List Commit) → file_rows levels nodes list ≡ rows_of (counted list)
+  rows-are : (list : List Commit) → file_rows levels nodes list ≡ rows_of (commit_counts list)
   rows-are list = sym (rows-counted levels nodes (λ file. count file list) (files_in list))
 
-  version-is : (list : List Commit) (file : List ℕ) → version_in (file_rows levels nodes list) file ≡ count_in (counted list) file
-  version-is list file = ap (λ (rows : List FileRow). version_in rows file) (rows-are list) ∙ ap (λ (counts : List (List ℕ × ℕ)). count_in counts file) (versions-of (counted list))
+  version-is : (list : List Commit) (file : List ℕ) → version_in (file_rows levels nodes list) file ≡ count_in (commit_counts list) file
+  version-is list file = ap (λ (rows : List FileRow). version_in rows file) (rows-are list) ∙ ap (λ (counts : List (List ℕ × ℕ)). count_in counts file) (versions-of (commit_counts list))
 
   commit-rows : (commit : Commit) (list : List Commit) → with_rows (file_rows levels nodes list) (rows_next (file_rows levels nodes list) (names_of commit.ops)) ≡ file_rows levels nodes (commit ∷ list)
   commit-rows commit list =
       ap (λ (rows : List FileRow). with_rows rows (rows_next (file_rows levels nodes list) (names_of commit.ops))) (rows-are list)
-      ∙ put-each (λ file. version_in (file_rows levels nodes list) file + 1) (counted list) (names_of commit.ops) (Apart-keys (with_files fin.empty commit.ops))
+      ∙ put-each (λ file. version_in (file_rows levels nodes list) file + 1) (commit_counts list) (names_of commit.ops) (Apart-keys (with_files fin.empty commit.ops))
       (λ name there. ap (λ (k : ℕ). k + 1) (version-is list name))
       ∙ ap rows_of (counted-more commit list)
       ∙ sym (rows-are (commit ∷ list))

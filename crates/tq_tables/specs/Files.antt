@@ -103,21 +103,21 @@ abbrev pub taken_out : ℕ → Servers → Servers
 taken_out server set = record { levels = set.levels; numbers = without_number server set.numbers }
 
 -- the row with a server among the current ones, or else among the stale ones
-abbrev pub moved : Bool → ℕ → FileRow → FileRow
-moved true server row = record { file = row.file; version = row.version; current = put_in server row.current; stale = taken_out server row.stale }
-moved false server row = record { file = row.file; version = row.version; current = taken_out server row.current; stale = put_in server row.stale }
+abbrev pub row_after_move : Bool → ℕ → FileRow → FileRow
+row_after_move true server row = record { file = row.file; version = row.version; current = put_in server row.current; stale = taken_out server row.stale }
+row_after_move false server row = record { file = row.file; version = row.version; current = taken_out server row.current; stale = put_in server row.stale }
 
 -- the row with a server where its copy of the file says
-abbrev pub stood : NodeView → FileRow → FileRow
-stood node row = moved (has_version row.file row.version node) node.server row
+abbrev pub row_by_copy : NodeView → FileRow → FileRow
+row_by_copy node row = row_after_move (has_version row.file row.version node) node.server row
 
 -- the row with each of the servers where its copy says
 abbrev pub stood_in : List NodeView → FileRow → List Server → FileRow
-stood_in nodes row servers = fold (λ (r : FileRow) (server : Server). stood (node_in nodes server.number) r) row servers
+stood_in nodes row servers = fold (λ (r : FileRow) (server : Server). row_by_copy (node_in nodes server.number) r) row servers
 
 -- that for one file alone
 abbrev pub stood_at : NodeView → List ℕ → FileRow → FileRow
-stood_at node file row = cond (same_name file row.file) (stood node row) row
+stood_at node file row = cond (same_name file row.file) (row_by_copy node row) row
 
 -- the rows with a server where its copies of these files say
 abbrev pub all_stood : NodeView → List FileRow → List (List ℕ) → List FileRow
@@ -149,7 +149,7 @@ FitsRowAt entries place node = (file : List ℕ) (row : FileRow) → slice_get e
 
 -- the server stands there where its copy says, and nothing else changes
 abbrev pub StandsAt : List (List ℕ × FileRow) → List (List ℕ × FileRow) → ℕ → NodeView → Type 0
-StandsAt old new place node = (file : List ℕ) (row : FileRow) → slice_get old place ≡ Some (file, row) → new ≡ set_value_at old place (stood node row)
+StandsAt old new place node = (file : List ℕ) (row : FileRow) → slice_get old place ≡ Some (file, row) → new ≡ set_value_at old place (row_by_copy node row)
 
 -- ---- what changes
 

@@ -25,10 +25,10 @@ use Rattle.tq_tables.specs.Journals.{JournalsView, ViewEntry}
 
 -- the raw records of a server after the entries of its journal
 abbrev pub node_at : ℕ → List NodeEntry → NodeState
-node_at server entries = state_from (node_after server) (node.opening 0 server).state 1 entries
+node_at server entries = state_from (node_after server) (node.opening_server 0 server).state 1 entries
 
 abbrev pub desk_at : ℕ → LimitsView → List DeskEntry → DeskView
-desk_at levels limits entries = state_from (λ old number ask. desk_after old ask) (desk.opening levels limits) 1 entries
+desk_at levels limits entries = state_from (λ old number ask. desk_after old ask) (desk.opening_desk levels limits) 1 entries
 
 abbrev pub view_at : ℕ → List ViewEntry → Live
 view_at levels entries = view_state levels entries
@@ -82,8 +82,8 @@ pub record AreLegal (journals : JournalsView) : Type 0 where
 -- ---- one part further
 
 -- the server after the entries, one that has stored nothing before
-abbrev pub replayed : NodeView → List NodeEntry → NodeView
-replayed node entries = node_after_all node.levels node.server entries
+abbrev pub server_of_entries : NodeView → List NodeEntry → NodeView
+server_of_entries node entries = node_after_all node.levels node.server entries
 
 -- the desk stands as a legal journal with these entries, the oldest first, leaves it
 pub record StandsAfter (desk : DeskView) (entries : List DeskEntry) : Type 0 where

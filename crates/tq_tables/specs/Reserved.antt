@@ -28,8 +28,8 @@ abbrev pub reserved_entry : Option (Box Ready) → Option ReadyEntry
 reserved_entry ready = option_map (λ ready. ready.value.entry) ready
 
 -- what is reserved, where anything is
-abbrev pub unboxed : Option (Box Ready) → Option Ready
-unboxed ready = option_map (λ ready. ready.value) ready
+abbrev pub reserve_in : Option (Box Ready) → Option Ready
+reserve_in ready = option_map (λ ready. ready.value) ready
 
 -- the entry of that part, of that number, is reserved: a note of it takes no memory
 abbrev pub IsReadyFor : TablesView → Part → ℕ → PartEntry → Type 0

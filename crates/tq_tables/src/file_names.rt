@@ -39,7 +39,7 @@ impl FileNames {
     }
 
     /// The names of the files that the ops write.
-    pub(crate) fn written(alloc: Global, ops: &[Op]) -> Result<FileNames, Memory>
+    pub(crate) fn of_ops(alloc: Global, ops: &[Op]) -> Result<FileNames, Memory>
         ensures { IfOk result (λ names. names ≡ spec.with_files fin.empty ops.now) }
     {
         let mut names = FileNames::new(alloc);

@@ -1,8 +1,8 @@
 ghost use Rattle.std.specs.Prelude.{◌≡◌, ◌+◌, ◌<◌, ◌≤◌, ◌^◌, length, IfOk};
 ghost use Rattle.std.specs.List.{All};
-ghost use Rattle.tq_shape.specs.ServerSet.{Ascends, numbered};
+ghost use Rattle.tq_shape.specs.ServerSet.{Ascends, servers_of_numbers};
 ghost use Rattle.tq_store.specs.Copies.{copy_of};
-ghost use Rattle.tq_tables.specs.Files.{IsExact, next_row, stood, stood_in};
+ghost use Rattle.tq_tables.specs.Files.{IsExact, next_row, row_by_copy, stood_in};
 ghost use Rattle.tq_tables.specs.Parts.{AreOfTree};
 
 use tq_node::Node;
@@ -68,7 +68,7 @@ impl FileRow {
         requires levels { self.old.stale.levels ≡ self.old.current.levels }
         requires within { All (λ number. number ≤ length nodes.now) servers.now.numbers }
         ensures stands { self.new
-            ≡ stood_in nodes.now self.old (numbered servers.now.levels servers.now.numbers) }
+            ≡ stood_in nodes.now self.old (servers_of_numbers servers.now.levels servers.now.numbers) }
         ensures ascending { Ascends 0 servers.now.numbers }
     {
         for server in servers.iter() {
@@ -83,7 +83,7 @@ impl FileRow {
         requires least { least ≤ (copy_of node.now.state.records.copies self.old.file).version }
         requires current { node.now.levels ≡ self.old.current.levels }
         requires stale { node.now.levels ≡ self.old.stale.levels }
-        ensures { self.new ≡ stood node.now self.old }
+        ensures { self.new ≡ row_by_copy node.now self.old }
     {
         let server = node.server();
         if least >= self.version || node.copies().get(&self.file).version >= self.version {

@@ -72,7 +72,7 @@ fn rows_of_ops(
     ensures { IfOk result (λ rows. rows.items
         ≡ map (written_row table.now.levels nodes.now table.now.rows) (names_of ops.now)) }
 {
-    let names = FileNames::written(alloc, ops)?;
+    let names = FileNames::of_ops(alloc, ops)?;
     let mut rows = Vec::new(alloc);
     for (file, _) in names.iter() {
         rows.push(next_row(alloc, nodes, holders, table, file)?)?;

@@ -48,8 +48,8 @@ fn replay_node(
 
 /// Asks a server what its journal has.
 fn ask_node(alloc: Global, node: &mut Node, entries: &[NodeEntry]) -> Result<(), Memory>
-    requires { node.old ≡ spec.replayed node.old [] }
-    ensures { OnOk result (node.new ≡ spec.replayed node.old entries.now) }
+    requires { node.old ≡ spec.server_of_entries node.old [] }
+    ensures { OnOk result (node.new ≡ spec.server_of_entries node.old entries.now) }
 {
     let mut number = 0;
     for entry in entries {

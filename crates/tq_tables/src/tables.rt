@@ -2,7 +2,7 @@ ghost use Rattle.std.specs.Prelude.{◌≡◌, ◌+◌, ◌^◌, ◌↔◌, Some
 ghost use Rattle.std.specs.List.{All};
 ghost use Rattle.tq_tables.specs.Asked.{FollowsDesk, FollowsNode, FollowsView, MayAskDesk, MayAskNode};
 ghost use Rattle.tq_tables.specs.Asked.{desk_replies, node_replies, view_replies};
-ghost use Rattle.tq_tables.specs.Reserved.{ready_entry, reserved_entry, unboxed};
+ghost use Rattle.tq_tables.specs.Reserved.{ready_entry, reserved_entry, reserve_in};
 
 use crate::live_tables::LiveTables;
 use crate::ready::Ready;
@@ -277,7 +277,7 @@ impl Tables {
 
 /// What is reserved, with tables of its own memory.
 fn copy_ready(alloc: Global, ready: &Option<Box<Ready>>) -> Result<Option<Box<Ready>>, Memory>
-    ensures { IfOk result (λ copy. unboxed copy ≡ unboxed ready.now) }
+    ensures { IfOk result (λ copy. reserve_in copy ≡ reserve_in ready.now) }
 {
     match ready {
         Some(ready) => Ok(Some(Box::new(alloc, ready.copy(alloc)?)?)),

@@ -48,8 +48,9 @@ impl WriteCounts {
     /// Counts the entry, if it records a commit.
     pub(crate) fn note(&mut self, alloc: Global, entry: &DeskEntry) -> Result<(), Memory>
         requires { (file : List ℕ) → spec.count_in self.old file + 1 < 2 ^ 64 }
-        ensures { OnOk result ((earlier : List Commit) → self.old ≡ spec.counted earlier
-            → self.new ≡ spec.counted (log.with_commit entry.now.ask entry.now.reply earlier)) }
+        ensures { OnOk result ((earlier : List Commit) → self.old ≡ spec.commit_counts earlier
+            → self.new
+            ≡ spec.commit_counts (log.with_commit entry.now.ask entry.now.reply earlier)) }
     {
         match &entry.ask {
             DeskAsk::Commit { ops, .. } => match &entry.reply {
@@ -65,7 +66,7 @@ impl WriteCounts {
         requires { (file : List ℕ) → spec.count_in self.old file + 1 < 2 ^ 64 }
         ensures { OnOk result (self.new ≡ spec.with_each self.old (spec.names_of ops.now)) }
     {
-        let names = FileNames::written(alloc, ops)?;
+        let names = FileNames::of_ops(alloc, ops)?;
         for (name, _) in names.iter() {
             self.count(*name)?;
         }

@@ -32,12 +32,12 @@ use Rattle.tq_txn.specs.declared.fault.LineFault.{LineFault}
 use Rattle.tq_txn.specs.declared.fault.LineFault.TheVariants as faults
 use Rattle.tq_txn.specs.declared.txn.Txn.{Txn}
 use Rattle.tq_txn.specs.declared.txn.Txn.TheVariants as states
-use Rattle.tq_txn.specs.Aborts.{resolved, ending_of, abort_end, abort_line}
+use Rattle.tq_txn.specs.Aborts.{txn_after_resolve, ending_of, abort_end, abort_line}
 use Rattle.tq_txn.specs.Commits.{prepares_line, decide_line, decide_and_end_line, commit_end, commit_line}
-use Rattle.tq_txn.specs.Dialogue.{Told, Dialogue, Ends, AsksNode, AsksDesk, AsksView, Makes, Follows, IsUnasked, IsUnended, IsUnfailed, WouldEnd, is_untaken, LineEnd, done, and_then, ended_by, fault_of_ask, fault_of_txn, desk_exchange, view_exchange, node_line, desk_line, view_line}
+use Rattle.tq_txn.specs.Dialogue.{Told, Dialogue, Ends, AsksNode, AsksDesk, AsksView, Makes, Follows, IsUnasked, IsUnended, IsUnfailed, WouldEnd, is_untaken, LineEnd, line_done, and_then, ended_by, fault_of_ask, fault_of_txn, desk_exchange, view_exchange, node_line, desk_line, view_line}
 use Rattle.tq_live.specs.declared.view.ViewAsk.TheVariants.{Mark}
 use Rattle.tq_txn_states.specs.Voting.{prepare_ask, evidence_of}
-use Rattle.tq_txn.specs.Lines.{any_line, is_nothing_here, release_line, end_line, ending_line, prepare_line, applied, down_line, stop_line, prepare_stop_line, apply_line}
+use Rattle.tq_txn.specs.Lines.{any_line, is_nothing_here, release_line, end_line, ending_line, prepare_line, apply_answer, down_line, stop_line, prepare_stop_line, apply_line}
 use Rattle.tq_txn.specs.States.{number_of}
 use Rattle.tq_txn.proofs.CommitLaws.{missing, there}
 use Rattle.tq_txn.proofs.LineLaws.{follows_end, follows_on, refused_desk, refused_node, refused_view, stopped, told_desk}
@@ -136,7 +136,7 @@ module _ {A S : Type 0} (result : Result A LineFault) (after : S) (line : Dialog
 -- ---- the ending
 
 pub release_asks : (txn server : ℕ) (wanted : Bool) (told : List Exchange) → wanted ≡ true → IsUnended {A = Unit {0}} (Err faults.Memory) tt (release_line txn server wanted) told told
-release_asks txn server wanted told is = rw is (asks_server server (Work (Release txn)) (λ answer. done tt tt) told)
+release_asks txn server wanted told is = rw is (asks_server server (Work (Release txn)) (λ answer. line_done tt tt) told)
 
 pub end_asks : (ended : EndedView) (server : ℕ) (told : List Exchange) → IsUnended {A = Unit {0}} (Err faults.Memory) tt (end_line ended server) told told
 end_asks ended server told = asks_server server (decide_ask ended) _ told
@@ -166,10 +166,10 @@ module _ (ended : EndedView) (servers rest : List Server) (server : Server) (is 
 
 -- the ending is the last of its line
 ending_last : {A T : Type 0} (ended : EndedView) (numbers : List ℕ) (answer : A) (after : T) (fault : LineFault) (told new : List Exchange) → IsUnended {A = Unit {0}} (Err fault) tt (ending_line ended numbers) told new
-    → IsUnended {A = A} (Err fault) after (and_then (ending_line ended numbers) (λ none. after) (λ all none. done answer after)) told new
-ending_last {A} {T} ended numbers answer after faults.Memory told new (Err fault, is) = (Err fault, fails (ending_line ended numbers) (λ none. after) (λ all none. done answer after) fault tt told new is)
+    → IsUnended {A = A} (Err fault) after (and_then (ending_line ended numbers) (λ none. after) (λ all none. line_done answer after)) told new
+ending_last {A} {T} ended numbers answer after faults.Memory told new (Err fault, is) = (Err fault, fails (ending_line ended numbers) (λ none. after) (λ all none. line_done answer after) fault tt told new is)
 ending_last {A} {T} ended numbers answer after faults.Memory told new (Ok a, (first, rest, untaken, follows)) =
-    (Ok answer, (first, rest, untaken, follows_on (ending_line ended numbers) (λ none. after) (λ all none. done answer after) a tt told (new ++ first ∷ rest) (new ++ first ∷ rest) (Some (record { answer = Ok answer; after = after })) follows (follows_end _ (new ++ first ∷ rest))))
+    (Ok answer, (first, rest, untaken, follows_on (ending_line ended numbers) (λ none. after) (λ all none. line_done answer after) a tt told (new ++ first ∷ rest) (new ++ first ∷ rest) (Some (record { answer = Ok answer; after = after })) follows (follows_end _ (new ++ first ∷ rest))))
 ending_last ended numbers answer after fault told new is = tt
 
 -- ---- votes
@@ -303,25 +303,25 @@ module _ (old : Txn) (number : ℕ) (is : number ≡ number_of old) (told after 
       by : (fault : AskFault) → after ≡ told ++ desk_exchange (asks.Resolve number) (Err fault) → IsUnended {A = Unit {0}} (Err (fault_of_ask fault)) old (abort_line old) told after
       by ask_faults.Memory grown =
           unended_first (Err faults.Memory) old (abort_line old) told after
-          (unended_of (Err faults.Memory) old (abort_line old) told told (desk_fails (asks.Resolve (number_of old)) (λ none. old) (λ answer none. abort_end answer.reply (resolved old answer)) told)) (grown ∙ append-nil told)
+          (unended_of (Err faults.Memory) old (abort_line old) told told (desk_fails (asks.Resolve (number_of old)) (λ none. old) (λ answer none. abort_end answer.reply (txn_after_resolve old answer)) told)) (grown ∙ append-nil told)
       by (ask_faults.JournalFull part) grown = tt
       by (ask_faults.Unfounded part n) grown = tt
 
   pub abort_unended : (mid : List Exchange) (answer : DeskTold) (result : Result (Unit {0}) LineFault) (left : Txn) → mid ≡ told ++ desk_exchange (asks.Resolve number) (Ok answer) → answer.ask ≡ asks.Resolve number
-      → IsUnended result left (abort_end answer.reply (resolved old answer)) mid after → IsUnended result left (abort_line old) told after
+      → IsUnended result left (abort_end answer.reply (txn_after_resolve old answer)) mid after → IsUnended result left (abort_line old) told after
   abort_unended mid answer result left grown asked rest =
       let Q : ℕ → Type 0 = λ n. Follows (desk_line (asks.Resolve n)) told mid (Some (record { answer = Ok answer; after = tt })) in
-      unended_on (desk_line (asks.Resolve (number_of old))) (λ none. old) (λ a none. abort_end a.reply (resolved old a)) result left answer tt told mid after (subst Q is (told_desk (asks.Resolve number) answer told mid grown asked)) rest
+      unended_on (desk_line (asks.Resolve (number_of old))) (λ none. old) (λ a none. abort_end a.reply (txn_after_resolve old a)) result left answer tt told mid after (subst Q is (told_desk (asks.Resolve number) answer told mid grown asked)) rest
 
 -- ---- one ask of a server
 
-applied_said : (server : ℕ) (reply : NodeReply) (before later : List Exchange) → IsUnasked (applied server reply) before later
+applied_said : (server : ℕ) (reply : NodeReply) (before later : List Exchange) → IsUnasked (apply_answer server reply) before later
 applied_said server replies.Installed before later = tt
 applied_said server replies.Discarded before later = tt
 applied_said server (replies.Refused refusal) before later = tt
 applied_said server reply before later = tt
 
-pub applied_unended : (server : ℕ) (reply : NodeReply) (result : Result Applied LineFault) (line : Dialogue (LineEnd Applied (Unit {0}))) (old new : List Exchange) → result ≡ applied server reply → IsUnfailed result tt line old new
+pub applied_unended : (server : ℕ) (reply : NodeReply) (result : Result Applied LineFault) (line : Dialogue (LineEnd Applied (Unit {0}))) (old new : List Exchange) → result ≡ apply_answer server reply → IsUnfailed result tt line old new
 applied_unended server reply result line old new is =
     unfailed_never result tt line old new (λ before later. let P : Result Applied LineFault → Type 0 = λ r. IsUnasked r before later in subst P (sym is) (applied_said server reply before later))
 
@@ -333,7 +333,7 @@ apply_asks txn verdict cite server told = node_fails server _ (λ none. none) _ 
 down_asks : (server : ℕ) (told : List Exchange) → IsUnfailed {A = Unit {0}} (Err faults.Memory) tt (down_line server) told told
 down_asks server told =
     let first = exchanges.View (Mark server false) (Err full) in
-    (fault_of_ask full, fails (view_line (Mark server false)) (λ none. none) (λ answer none. done tt none) (fault_of_ask full) tt told told (first, [], refl, refused_view (Mark server false) full told (told ++ first ∷ []) refl))
+    (fault_of_ask full, fails (view_line (Mark server false)) (λ none. none) (λ answer none. line_done tt none) (fault_of_ask full) tt told told (first, [], refl, refused_view (Mark server false) full told (told ++ first ∷ []) refl))
 
 pub down_unended : (server : ℕ) (fault : AskFault) (line_fault : LineFault) (told new : List Exchange) → line_fault ≡ fault_of_ask fault → new ≡ told ++ view_exchange (Mark server false) (Err fault) → IsUnfailed {A = Unit {0}} (Err line_fault) tt (down_line server) told new
 down_unended server fault line_fault told new is grown =
@@ -362,7 +362,7 @@ stop_asks server ask after told =
     (last.0, (first, ran.0 ∷ ran.1, ran.2, subst P (append_assoc told (first ∷ []) (ran.0 ∷ ran.1)) ran.3))
 
 pub stopping_asks : (old : VotingView) (server after : ℕ) (told : List Exchange) → has_vote old.votes server ≡ false → ask_fault old.txn server ≡ None → IsUnfailed {A = Bool} (Err faults.Memory) old (prepare_stop_line old server after) told told
-stopping_asks old server after told none may = rw (none, may) (unfailed_off (stop_line server (prepare_work old.txn server) after) (λ none. old) (λ all none. done false old) faults.Memory tt told told (stop_asks server (prepare_work old.txn server) after told))
+stopping_asks old server after told none may = rw (none, may) (unfailed_off (stop_line server (prepare_work old.txn server) after) (λ none. old) (λ all none. line_done false old) faults.Memory tt told told (stop_asks server (prepare_work old.txn server) after told))
 
 -- the stop was not asked for: the transaction is no voter's, or memory ran out
 pub stopping_refused : (old : VotingView) (server after : ℕ) (fault : TxnFault) (line_fault : LineFault) (told : List Exchange) → line_fault ≡ fault_of_txn fault → has_vote old.votes server ≡ false → (fault ≡ txn_faults.Memory → ask_fault old.txn server ≡ None) → IsUnfailed {A = Bool} (Err line_fault) old (prepare_stop_line old server after) told told
@@ -379,4 +379,4 @@ pub stopping_unended : (old : VotingView) (server after : ℕ) (ask : WorkAsk) (
 stopping_unended old server after ask fault told new none may asks first =
     let P : WorkAsk → Type 0 = λ a. IsUnfailed {A = Unit {0}} (Err fault) tt (stop_line server a after) told new in
     rw (none, may)
-    (unfailed_off (stop_line server (prepare_work old.txn server) after) (λ none. old) (λ all none. done false old) fault tt told new (subst P asks first))
+    (unfailed_off (stop_line server (prepare_work old.txn server) after) (λ none. old) (λ all none. line_done false old) fault tt told new (subst P asks first))

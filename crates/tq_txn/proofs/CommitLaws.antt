@@ -11,9 +11,9 @@ use Rattle.tq_txn_states.specs.declared.fault.TxnFault.TheVariants as txn_faults
 use Rattle.tq_txn_states.specs.declared.told.DeskTold.{DeskTold}
 use Rattle.tq_txn.specs.declared.txn.Txn.{Txn}
 use Rattle.tq_txn.specs.declared.txn.Txn.TheVariants as states
-use Rattle.tq_txn.specs.Commits.{prepares_line, committed, decided, ready_line, decide_line, commit_end, decide_and_end_line, commit_line}
+use Rattle.tq_txn.specs.Commits.{prepares_line, commit_answer, txn_after_answer, ready_line, decide_line, commit_end, decide_and_end_line, commit_line}
 use Rattle.tq_txn_states.specs.Ended.{EndedView}
-use Rattle.tq_txn.specs.Dialogue.{LineEnd, Follows, done, ended_by, desk_line}
+use Rattle.tq_txn.specs.Dialogue.{LineEnd, Follows, line_done, ended_by, desk_line}
 use Rattle.tq_txn.specs.Lines.{answers, prepare_line, ending_line}
 use Rattle.tq_txn_states.specs.Voting.{VotingView, has_votes, ready_fault, evidence_of}
 use Rattle.tq_txn.proofs.LineLaws.{follows_end, follows_answer, follows_on, follows_off}
@@ -27,19 +27,19 @@ module _ (servers rest : List Server) (server : Server) (old new : VotingView) (
   prepares_on told mid after end first more =
       rw is (follows_on (prepare_line old server.number) (λ s. s) (λ all s. prepares_line (numbers_of rest) s) tt new told mid after end first more)
 
-decision_follows : (old : VotingView) (told : DeskTold) (answer : Result ℕ LineFault) (after : Txn) (exchanges : List Exchange) → answer ≡ committed told.reply → after ≡ decided old told → Follows (answers (committed told.reply) (decided old told)) exchanges exchanges (ended_by answer after)
+decision_follows : (old : VotingView) (told : DeskTold) (answer : Result ℕ LineFault) (after : Txn) (exchanges : List Exchange) → answer ≡ commit_answer told.reply → after ≡ txn_after_answer old told → Follows (answers (commit_answer told.reply) (txn_after_answer old told)) exchanges exchanges (ended_by answer after)
 decision_follows old told answer after exchanges is leaves =
-    let P : Result ℕ LineFault → Type 0 = λ a. Follows (answers (committed told.reply) (decided old told)) exchanges exchanges (ended_by a (decided old told)) in
-    let Q : Txn → Type 0 = λ t. Follows (answers (committed told.reply) (decided old told)) exchanges exchanges (ended_by answer t) in
-    subst Q (sym leaves) (subst P (sym is) (follows_answer (committed told.reply) (decided old told) exchanges))
+    let P : Result ℕ LineFault → Type 0 = λ a. Follows (answers (commit_answer told.reply) (txn_after_answer old told)) exchanges exchanges (ended_by a (txn_after_answer old told)) in
+    let Q : Txn → Type 0 = λ t. Follows (answers (commit_answer told.reply) (txn_after_answer old told)) exchanges exchanges (ended_by answer t) in
+    subst Q (sym leaves) (subst P (sym is) (follows_answer (commit_answer told.reply) (txn_after_answer old told) exchanges))
 
 module _ (old : VotingView) (ask : DeskAsk) (asks : ask ≡ evidence_of old) where
   asked : (exchanges after : List Exchange) (end : Option (LineEnd DeskTold (Unit {0}))) → Follows (desk_line ask) exchanges after end → Follows (desk_line (evidence_of old)) exchanges after end
   asked exchanges after end first = let P : DeskAsk → Type 0 = λ a. Follows (desk_line a) exchanges after end in subst P asks first
 
-  pub ready_on : (told : DeskTold) (answer : Result ℕ LineFault) (left : Txn) (exchanges after : List Exchange) → Follows (desk_line ask) exchanges after (Some (record { answer = Ok told; after = tt })) → answer ≡ committed told.reply → left ≡ decided old told → Follows (ready_line old) exchanges after (ended_by answer left)
+  pub ready_on : (told : DeskTold) (answer : Result ℕ LineFault) (left : Txn) (exchanges after : List Exchange) → Follows (desk_line ask) exchanges after (Some (record { answer = Ok told; after = tt })) → answer ≡ commit_answer told.reply → left ≡ txn_after_answer old told → Follows (ready_line old) exchanges after (ended_by answer left)
   ready_on told answer left exchanges after first is leaves =
-      follows_on (desk_line (evidence_of old)) (λ none. states.Voting old) (λ t none. answers (committed t.reply) (decided old t)) told tt exchanges after after (ended_by answer left)
+      follows_on (desk_line (evidence_of old)) (λ none. states.Voting old) (λ t none. answers (commit_answer t.reply) (txn_after_answer old t)) told tt exchanges after after (ended_by answer left)
       (asked exchanges after (Some (record { answer = Ok told; after = tt })) first) (decision_follows old told answer left after is leaves)
 
 pub missing : (old : VotingView) (fault : TxnFault) → ready_fault old ≡ Some fault → (has_votes old ≡ false) × (fault ≡ txn_faults.VotesMissing)
@@ -69,13 +69,13 @@ module _ (serial : ℕ) (txn : Txn) (ended : EndedView) (is : txn ≡ states.End
   end_off fault first =
       let P : List ℕ → Type 0 = λ ns. Follows (ending_line ended ns) told after (ended_by (Err fault) tt) in
       let Q : Txn → Type 0 = λ t. Follows (commit_end serial t) told after (ended_by (Err fault) (states.Ended ended)) in
-      subst Q (sym is) (follows_off (ending_line ended ended.servers) (λ none. states.Ended ended) (λ all none. done serial (states.Ended ended)) fault tt (states.Ended ended) told after refl (subst P numbers first))
+      subst Q (sym is) (follows_off (ending_line ended ended.servers) (λ none. states.Ended ended) (λ all none. line_done serial (states.Ended ended)) fault tt (states.Ended ended) told after refl (subst P numbers first))
 
   pub end_on : Follows (ending_line ended (numbers_of ids)) told after (Some (record { answer = Ok tt; after = tt })) → Follows (commit_end serial txn) told after (Some (record { answer = Ok serial; after = states.Ended ended }))
   end_on first =
       let P : List ℕ → Type 0 = λ ns. Follows (ending_line ended ns) told after (Some (record { answer = Ok tt; after = tt })) in
       let Q : Txn → Type 0 = λ t. Follows (commit_end serial t) told after (Some (record { answer = Ok serial; after = states.Ended ended })) in
-      subst Q (sym is) (follows_on (ending_line ended ended.servers) (λ none. states.Ended ended) (λ all none. done serial (states.Ended ended)) tt tt told after after (Some (record { answer = Ok serial; after = states.Ended ended })) (subst P numbers first) (follows_end _ after))
+      subst Q (sym is) (follows_on (ending_line ended ended.servers) (λ none. states.Ended ended) (λ all none. line_done serial (states.Ended ended)) tt tt told after after (Some (record { answer = Ok serial; after = states.Ended ended })) (subst P numbers first) (follows_end _ after))
 
 module _ (old : VotingView) (answer : Result ℕ LineFault) (left : Txn) (told mid : List Exchange) (first : Follows (decide_line old) told mid (ended_by answer left)) where
   pub decide_off : (fault : LineFault) → answer ≡ Err fault → Follows (decide_and_end_line old) told mid (ended_by (Err fault) left)

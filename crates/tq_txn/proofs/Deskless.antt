@@ -14,10 +14,10 @@ use Rattle.tq_txn.specs.declared.asker.Exchange.TheVariants as exchanges
 use Rattle.tq_txn.specs.declared.fault.LineFault.{LineFault}
 use Rattle.tq_txn.specs.declared.txn.Txn.{Txn}
 use Rattle.tq_txn.specs.declared.txn.Txn.TheVariants as states
-use Rattle.tq_txn.specs.Aborts.{is_abort, aborted, end_aborted, abort_end}
+use Rattle.tq_txn.specs.Aborts.{is_abort, abort_answer, end_aborted, abort_end}
 use Rattle.tq_txn.specs.Commits.{prepares_line, commit_end}
-use Rattle.tq_txn.specs.Dialogue.{Told, Dialogue, Ends, AsksNode, AsksDesk, AsksView, Makes, Begins, Follows, LineEnd, then_line, done, go_on, and_then, unless, on_told, node_line}
-use Rattle.tq_txn.specs.Lines.{answers, refusal_in, refused_at, voted, first_prepare, prepare_line, any_line, is_nothing_here, release_line, end_line, ending_line}
+use Rattle.tq_txn.specs.Dialogue.{Told, Dialogue, Ends, AsksNode, AsksDesk, AsksView, Makes, Begins, Follows, LineEnd, then_line, line_done, go_on, and_then, unless, on_told, node_line}
+use Rattle.tq_txn.specs.Lines.{answers, refusal_in, refused_at, vote_answer, first_prepare, prepare_line, any_line, is_nothing_here, release_line, end_line, ending_line}
 use Rattle.tq_txn.specs.Told.{CitesTold, CitesSince, tells_end}
 use Rattle.tq_txn.proofs.EndLaws.{Untold}
 
@@ -110,18 +110,18 @@ deskless_told told_as (Err fault) = tt
 
 -- ---- the votes
 
-deskless_voted : (old : VotingView) (told : NodeTold) → IsDeskless (voted old told)
+deskless_voted : (old : VotingView) (told : NodeTold) → IsDeskless (vote_answer old told)
 deskless_voted old told =
-    deskless_refused told.server (refusal_in told.reply) old (unless (vote_fault old told) old (done tt (vote_after old told))) (deskless_unless (vote_fault old told) old (done tt (vote_after old told)) tt)
+    deskless_refused told.server (refusal_in told.reply) old (unless (vote_fault old told) old (line_done tt (vote_after old told))) (deskless_unless (vote_fault old told) old (line_done tt (vote_after old told)) tt)
 
 deskless_first : (old : VotingView) (server : ℕ) → IsDeskless (first_prepare old server)
 deskless_first old server =
-    deskless_unless (ask_fault old.txn server) old (and_then (node_line server (prepare_ask old.txn server)) (λ none. old) (λ told none. voted old told))
-    (deskless_on (node_line server (prepare_ask old.txn server)) (λ none. old) (λ told none. voted old told) (λ answer. deskless_told _ answer) (λ told none. deskless_voted old told))
+    deskless_unless (ask_fault old.txn server) old (and_then (node_line server (prepare_ask old.txn server)) (λ none. old) (λ told none. vote_answer old told))
+    (deskless_on (node_line server (prepare_ask old.txn server)) (λ none. old) (λ told none. vote_answer old told) (λ answer. deskless_told _ answer) (λ told none. deskless_voted old told))
 
 deskless_prepare : (old : VotingView) (server : ℕ) → IsDeskless (prepare_line old server)
 deskless_prepare old server =
-    elim (has_vote old.votes server) as (λ b. IsDeskless (cond b (done tt old) (first_prepare old server))) [
+    elim (has_vote old.votes server) as (λ b. IsDeskless (cond b (line_done tt old) (first_prepare old server))) [
       | true ↦ tt
       | false ↦ deskless_first old server
     ]
@@ -145,18 +145,18 @@ deskless_ending old [] = tt
 deskless_ending old (server ∷ servers) = deskless_on (end_line old server) (λ none. none) (λ all none. ending_line old servers) (deskless_end old server) (λ all none. deskless_ending old servers)
 
 pub deskless_commit_end : (serial : ℕ) (txn : Txn) → IsDeskless (commit_end serial txn)
-deskless_commit_end serial (states.Ended ended) = deskless_on (ending_line ended ended.servers) (λ none. states.Ended ended) (λ all none. done serial (states.Ended ended)) (deskless_ending ended ended.servers) (λ all none. tt)
+deskless_commit_end serial (states.Ended ended) = deskless_on (ending_line ended ended.servers) (λ none. states.Ended ended) (λ all none. line_done serial (states.Ended ended)) (deskless_ending ended ended.servers) (λ all none. tt)
 deskless_commit_end serial (states.Open old) = tt
 deskless_commit_end serial (states.Voting old) = tt
 
 deskless_end_aborted : (reply : DeskReply) (txn : Txn) → IsDeskless (end_aborted reply txn)
-deskless_end_aborted reply (states.Ended ended) = deskless_on (ending_line ended ended.servers) (λ none. states.Ended ended) (λ all none. done tt (states.Ended ended)) (deskless_ending ended ended.servers) (λ all none. tt)
+deskless_end_aborted reply (states.Ended ended) = deskless_on (ending_line ended ended.servers) (λ none. states.Ended ended) (λ all none. line_done tt (states.Ended ended)) (deskless_ending ended ended.servers) (λ all none. tt)
 deskless_end_aborted reply (states.Open old) = tt
 deskless_end_aborted reply (states.Voting old) = tt
 
 pub deskless_abort_end : (reply : DeskReply) (txn : Txn) → IsDeskless (abort_end reply txn)
 deskless_abort_end reply txn =
-    elim (is_abort reply) as (λ b. IsDeskless (cond b (end_aborted reply txn) (answers (aborted reply) txn))) [
+    elim (is_abort reply) as (λ b. IsDeskless (cond b (end_aborted reply txn) (answers (abort_answer reply) txn))) [
       | true ↦ deskless_end_aborted reply txn
       | false ↦ tt
     ]

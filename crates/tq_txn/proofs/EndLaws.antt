@@ -20,8 +20,8 @@ use Rattle.tq_txn.specs.declared.asker.Exchange.{Exchange}
 use Rattle.tq_txn.specs.declared.fault.LineFault.{LineFault}
 use Rattle.tq_txn.specs.declared.txn.Txn.{Txn}
 use Rattle.tq_txn.specs.declared.txn.Txn.TheVariants as states
-use Rattle.tq_txn.specs.Aborts.{resolved_by, resolved_with, resolved}
-use Rattle.tq_txn.specs.Commits.{committed}
+use Rattle.tq_txn.specs.Aborts.{resolved_by, resolved_with, txn_after_resolve}
+use Rattle.tq_txn.specs.Commits.{commit_answer}
 use Rattle.tq_txn.specs.Dialogue.{IsUnasked, fault_of_ask, fault_of_desk, desk_exchange}
 use Rattle.tq_txn.specs.States.{number_of, levels_of, IsStill}
 use Rattle.tq_txn.specs.Told.{IsAnswered, is_ended, tells_end, EndsWhereTold}
@@ -38,7 +38,7 @@ pub commit_told : (old : VotingView) (told : DeskTold) → told.ask ≡ evidence
 commit_told old told asked =
     ap (λ ask. verdict_by old.txn.txn ask told.reply) asked ∙ ap (λ b. cond b (commit_verdict old.votes told.reply) None) (eq-eqb old.txn.txn old.txn.txn refl)
 
-pub resolved_told : (txn : Txn) (told : DeskTold) → told.ask ≡ asks.Resolve (number_of txn) → resolved_with txn told.number (resolve_verdict told.reply) ≡ resolved txn told
+pub resolved_told : (txn : Txn) (told : DeskTold) → told.ask ≡ asks.Resolve (number_of txn) → resolved_with txn told.number (resolve_verdict told.reply) ≡ txn_after_resolve txn told
 resolved_told (states.Open old) told asked = ap (resolved_by (states.Open old) old told.number) (sym (resolve_told old.txn told asked))
 resolved_told (states.Voting old) told asked = ap (resolved_by (states.Voting old) old.txn told.number) (sym (resolve_told old.txn.txn told asked))
 resolved_told (states.Ended old) told asked = refl
@@ -53,7 +53,7 @@ voting_answered : (old : VotingView) (told : DeskTold) (verdict : Option Verdict
 voting_answered old told None is = refl
 voting_answered old told (Some verdict) is = (is, refl)
 
-pub resolved_answered : (txn : Txn) (told : DeskTold) → IsAnswered txn told (resolved txn told)
+pub resolved_answered : (txn : Txn) (told : DeskTold) → IsAnswered txn told (txn_after_resolve txn told)
 resolved_answered (states.Open old) told = open_answered old told (verdict_in old.txn told) refl
 resolved_answered (states.Voting old) told = voting_answered old told (verdict_in old.txn.txn told) refl
 resolved_answered (states.Ended old) told = refl
@@ -66,7 +66,7 @@ voting_still : (old : VotingView) (cite : ℕ) (verdict : Option Verdict) → Is
 voting_still old cite None = voted_on_same old old refl
 voting_still old cite (Some verdict) = record { levels = refl; txn = refl; servers = refl }
 
-pub resolved_still : (txn : Txn) (told : DeskTold) → IsStill txn (resolved txn told)
+pub resolved_still : (txn : Txn) (told : DeskTold) → IsStill txn (txn_after_resolve txn told)
 resolved_still (states.Open old) told = open_still old told.number (verdict_in old.txn told)
 resolved_still (states.Voting old) told = voting_still old told.number (verdict_in old.txn.txn told)
 resolved_still (states.Ended old) told = refl
@@ -75,7 +75,7 @@ by_levels : (before : Txn) (old : OpenView) (cite : ℕ) (verdict : Option Verdi
 by_levels before old cite None same = refl
 by_levels before old cite (Some verdict) same = sym same
 
-pub resolved_levels : (txn : Txn) (told : DeskTold) → levels_of (resolved txn told) ≡ levels_of txn
+pub resolved_levels : (txn : Txn) (told : DeskTold) → levels_of (txn_after_resolve txn told) ≡ levels_of txn
 resolved_levels (states.Open old) told = by_levels (states.Open old) old told.number (verdict_in old.txn told) refl
 resolved_levels (states.Voting old) told = by_levels (states.Voting old) old.txn told.number (verdict_in old.txn.txn told) refl
 resolved_levels (states.Ended old) told = refl
@@ -84,7 +84,7 @@ by_ends : (before : Txn) (old : OpenView) (cite : ℕ) (verdict : Option Verdict
 by_ends before old cite None some = cc
 by_ends before old cite (Some verdict) some = refl
 
-pub resolved_ends : (txn : Txn) (told : DeskTold) → is_some (verdict_in (number_of txn) told) ≡ true → is_ended (resolved txn told) ≡ true
+pub resolved_ends : (txn : Txn) (told : DeskTold) → is_some (verdict_in (number_of txn) told) ≡ true → is_ended (txn_after_resolve txn told) ≡ true
 resolved_ends (states.Open old) told some = by_ends (states.Open old) old told.number (verdict_in old.txn told) some
 resolved_ends (states.Voting old) told some = by_ends (states.Voting old) old.txn told.number (verdict_in old.txn.txn told) some
 resolved_ends (states.Ended old) told some = refl
@@ -148,11 +148,11 @@ unasked_desk : (refusal : DeskRefusal) (old new : List Exchange) → IsUnasked {
 unasked_desk (Decided verdict) old new = tt
 unasked_desk refusal old new = tt
 
-unasked_committed : (reply : DeskReply) (old new : List Exchange) → IsUnasked (committed reply) old new
+unasked_committed : (reply : DeskReply) (old new : List Exchange) → IsUnasked (commit_answer reply) old new
 unasked_committed (replies.Committed serial) old new = tt
 unasked_committed (replies.Refused refusal) old new = unasked_desk refusal old new
 unasked_committed (replies.Txn number) old new = tt
 unasked_committed (replies.Verdict verdict) old new = tt
 
-pub unasked_answered : (reply : DeskReply) (answer : Result ℕ LineFault) (old new : List Exchange) → answer ≡ committed reply → IsUnasked answer old new
+pub unasked_answered : (reply : DeskReply) (answer : Result ℕ LineFault) (old new : List Exchange) → answer ≡ commit_answer reply → IsUnasked answer old new
 unasked_answered reply answer old new is = subst (λ a. IsUnasked a old new) (sym is) (unasked_committed reply old new)

@@ -20,44 +20,44 @@ use Rattle.tq_evidence.specs.declared.op.Op.{Op}
 use Rattle.tq_evidence.specs.Evidence.{granters, is_exclusively_granted, is_write, writes_file}
 use Rattle.tq_txn_states.specs.declared.told.NodeTold.{NodeTold}
 use Rattle.tq_txn_states.specs.Cited.{answers_of, grant_told}
-use Rattle.tq_txn_states.specs.Granting.{GrantingView, IsGrown, noted}
+use Rattle.tq_txn_states.specs.Granting.{GrantingView, IsGrown, txn_with_grants}
 use Rattle.tq_txn_states.specs.Sets.{with_number}
-use Rattle.tq_txn_states.specs.Open.{OpenView, IsTouched, has_all_ops, is_member, is_read_of, is_used, is_written, pending, seen, touched_by, written}
+use Rattle.tq_txn_states.specs.Open.{OpenView, IsTouched, has_all_ops, is_member, is_read_of, is_used, is_written, pending_content, op_read, touched_by, op_written}
 use Rattle.tq_txn_states.proofs.Tested.{a_member, rise_too}
 use Rattle.tq_txn.specs.declared.asker.Exchange.{Exchange}
 use Rattle.tq_txn.specs.declared.fault.LineFault.{LineFault}
 use Rattle.tq_txn.specs.declared.fault.LineFault.TheVariants as faults
-use Rattle.tq_txn.specs.Dialogue.{Follows, IsUnasked, done, ended_by, node_line}
-use Rattle.tq_txn.specs.Lines.{AreOf, LocksView, answers, grant_answer, granted, lock_ask, lock_line, next_lock}
+use Rattle.tq_txn.specs.Dialogue.{Follows, IsUnasked, line_done, ended_by, node_line}
+use Rattle.tq_txn.specs.Lines.{AreOf, LocksView, answers, grant_answer, lock_answer, lock_ask, lock_line, next_lock}
 use Rattle.tq_txn.specs.Told.{answers_in}
 use Rattle.tq_txn.proofs.LineLaws.{follows_answer, follows_end, follows_on}
 
 -- ---- a lock at a server
 
-granted_is : (told : NodeTold) (reply : NodeReply) (answer : NodeTold) → granted told reply ≡ Ok answer → told ≡ answer
+granted_is : (told : NodeTold) (reply : NodeReply) (answer : NodeTold) → lock_answer told reply ≡ Ok answer → told ≡ answer
 granted_is told (replies.Granted version content) answer is = cc
 granted_is told (replies.Refused refusal) answer is = cc
 granted_is told reply answer is = cc
 
-pub heard_at : (txn : ℕ) (file : List ℕ) (told : NodeTold) (result : Result (Grant × NodeAsk) LineFault) (new : List Exchange) → granted told told.reply ≡ grant_answer txn file result → Contains (answers_in new) told → IfOk result (λ locked. Contains (answers_in new) (grant_told txn file locked.0))
+pub heard_at : (txn : ℕ) (file : List ℕ) (told : NodeTold) (result : Result (Grant × NodeAsk) LineFault) (new : List Exchange) → lock_answer told told.reply ≡ grant_answer txn file result → Contains (answers_in new) told → IfOk result (λ locked. Contains (answers_in new) (grant_told txn file locked.0))
 heard_at txn file told (Ok locked) new is here = subst (Contains (answers_in new)) (granted_is told told.reply (grant_told txn file locked.0) is) here
 heard_at txn file told (Err fault) new is here = tt
 
 -- an answer is not want of memory
-no_want : (told : NodeTold) (reply : NodeReply) → granted told reply ≡ Err faults.Memory → ⊥
+no_want : (told : NodeTold) (reply : NodeReply) → lock_answer told reply ≡ Err faults.Memory → ⊥
 no_want told (replies.Granted version content) is = cc
 no_want told (replies.Refused refusal) is = cc
 no_want told reply is = cc
 
-pub unasked_lock : (txn : ℕ) (file : List ℕ) (told : NodeTold) (result : Result (Grant × NodeAsk) LineFault) (old new : List Exchange) → granted told told.reply ≡ grant_answer txn file result → IsUnasked result old new
+pub unasked_lock : (txn : ℕ) (file : List ℕ) (told : NodeTold) (result : Result (Grant × NodeAsk) LineFault) (old new : List Exchange) → lock_answer told told.reply ≡ grant_answer txn file result → IsUnasked result old new
 unasked_lock txn file told (Ok locked) old new is = tt
 unasked_lock txn file told (Err faults.Memory) old new is = absurd (no_want told told.reply is)
 unasked_lock txn file told (Err fault) old new is = tt
 
-pub asked_lock : (txn : ℕ) (file : List ℕ) (mode : Mode) (server : ℕ) (told : NodeTold) (result : Result (Grant × NodeAsk) LineFault) (old new : List Exchange) → Follows (node_line server (lock_ask txn file mode)) old new (Some (record { answer = Ok told; after = tt })) → granted told told.reply ≡ grant_answer txn file result → Follows (lock_line txn file mode server) old new (ended_by (grant_answer txn file result) tt)
+pub asked_lock : (txn : ℕ) (file : List ℕ) (mode : Mode) (server : ℕ) (told : NodeTold) (result : Result (Grant × NodeAsk) LineFault) (old new : List Exchange) → Follows (node_line server (lock_ask txn file mode)) old new (Some (record { answer = Ok told; after = tt })) → lock_answer told told.reply ≡ grant_answer txn file result → Follows (lock_line txn file mode server) old new (ended_by (grant_answer txn file result) tt)
 asked_lock txn file mode server told result old new first is =
     let P : Result NodeTold LineFault → Type 0 = λ answer. Follows (lock_line txn file mode server) old new (ended_by answer tt) in
-    subst P is (follows_on (node_line server (lock_ask txn file mode)) (λ none. none) (λ t none. answers (granted t t.reply) none) told tt old new new (ended_by (granted told told.reply) tt) first (follows_answer (granted told told.reply) tt new))
+    subst P is (follows_on (node_line server (lock_ask txn file mode)) (λ none. none) (λ t none. answers (lock_answer t t.reply) none) told tt old new new (ended_by (lock_answer told told.reply) tt) first (follows_answer (lock_answer told told.reply) tt new))
 
 -- ---- one server more
 
@@ -71,7 +71,7 @@ pub modes_push : (mode : Mode) (before after : List Grant) (grant : Grant) → a
 modes_push mode before after grant is same all = subst (AreOf mode) (sym is) (All-push (λ (g : Grant). g.mode ≡ mode) before grant all same)
 
 -- its server is noted with it
-pub noted_push : (open_txn : OpenView) (before after : GrantingView) (server : ℕ) → IsGrown before after → after.touched.servers ≡ with_number before.touched.servers server → noted open_txn after ≡ touched_by (noted open_txn before) server
+pub noted_push : (open_txn : OpenView) (before after : GrantingView) (server : ℕ) → IsGrown before after → after.touched.servers ≡ with_number before.touched.servers server → txn_with_grants open_txn after ≡ touched_by (txn_with_grants open_txn before) server
 noted_push open_txn before after server grown is =
     λ i. record open_txn { ops = grown.ops i; voters = (grown.voters i).servers; touched = is i }
 
@@ -81,7 +81,7 @@ next_locked file mode server txn old new answer told mid same more noted first =
     let is : made ≡ new = λ i. record { answers = sym more i; txn = sym noted i } in
     let P : ℕ → Type 0 = λ t. Follows (lock_line t file mode server) told mid (Some (record { answer = Ok answer; after = tt })) in
     let Q : LocksView → Type 0 = λ view. Follows (next_lock file mode server old) told mid (Some (record { answer = Ok tt; after = view })) in
-    subst Q is (follows_on (lock_line old.txn.txn file mode server) (λ none. old) (λ t none. done tt (record { answers = old.answers ++ t ∷ []; txn = touched_by old.txn server })) answer tt told mid mid (Some (record { answer = Ok tt; after = made })) (subst P same first) (follows_end _ mid))
+    subst Q is (follows_on (lock_line old.txn.txn file mode server) (λ none. old) (λ t none. line_done tt (record { answers = old.answers ++ t ∷ []; txn = touched_by old.txn server })) answer tt told mid mid (Some (record { answer = Ok tt; after = made })) (subst P same first) (follows_end _ mid))
 
 -- the servers that granted, with those that are left, are all
 pub servers_left : (before after : List Grant) (server : Server) (all rest : List Server) → granters after ≡ granters before ++ server.number ∷ [] → all ≡ server ∷ rest → granters after ++ numbers_of rest ≡ granters before ++ numbers_of all
@@ -146,8 +146,8 @@ unmapped : {X Y : Type 0} (f : X → Y) (found : Option X) → option_map f foun
 unmapped f None none = refl
 unmapped f (Some x) none = cc
 
-pub unused : (old : OpenView) (file : List ℕ) → pending old file ≡ None → seen old file ≡ None → is_used old.ops file ≡ false
-unused old file unwritten unread = unused_in file old.ops unread (unmapped (λ (op : Op). op.content) (written old file) unwritten)
+pub unused : (old : OpenView) (file : List ℕ) → pending_content old file ≡ None → op_read old file ≡ None → is_used old.ops file ≡ false
+unused old file unwritten unread = unused_in file old.ops unread (unmapped (λ (op : Op). op.content) (op_written old file) unwritten)
 
-pub unwritten : (old : OpenView) (file : List ℕ) → written old file ≡ None → is_written old.ops file ≡ false
+pub unwritten : (old : OpenView) (file : List ℕ) → op_written old file ≡ None → is_written old.ops file ≡ false
 unwritten old file none = none_found (writes_file file) old.ops none

@@ -14,7 +14,7 @@ use Rattle.tq_txn_states.specs.Open.{OpenView}
 use Rattle.tq_txn.specs.declared.txn.Txn.{Txn}
 use Rattle.tq_txn.specs.declared.txn.Txn.TheVariants as states
 use Rattle.tq_txn.specs.States.{IsEndOf, IsGathered, IsStill}
-use Rattle.tq_txn_states.specs.Voting.{VotingView, IsVotedOn, has_vote, with_vote, voted, voted_by, vote_after}
+use Rattle.tq_txn_states.specs.Voting.{VotingView, IsVotedOn, has_vote, with_vote, txn_after_vote, voted_by, vote_after}
 
 Contains-first : {X : Type 0} (x : X) (xs : List X) → Contains (x ∷ xs) x
 Contains-first x xs = (0, omega arith, refl)
@@ -46,10 +46,10 @@ voted_on_on old mid new first second = record {
   votes = All-weaker (Contains mid.votes) (Contains new.votes) (λ vote. All-contains (Contains new.votes) mid.votes vote second.votes) old.votes first.votes;
 }
 
-voted_on_by : (old : VotingView) (server number : ℕ) (ask : NodeAsk) (reply : NodeReply) → has_vote old.votes server ≡ false → IsVotedOn old (voted old (voted_by old.txn.txn server number ask reply))
+voted_on_by : (old : VotingView) (server number : ℕ) (ask : NodeAsk) (reply : NodeReply) → has_vote old.votes server ≡ false → IsVotedOn old (txn_after_vote old (voted_by old.txn.txn server number ask reply))
 voted_on_by old server number (Work (Prepare voter asked)) (Yes held writes) none =
     let vote : Vote = record { server = server; number = number; held = held; writes = writes } in
-    elim (voter == old.txn.txn) as (λ b. IsVotedOn old (voted old (cond b (Some vote) None))) [
+    elim (voter == old.txn.txn) as (λ b. IsVotedOn old (txn_after_vote old (cond b (Some vote) None))) [
       | true ↦ record { txn = refl; votes = new_vote_keeps vote old.votes none }
       | false ↦ voted_on_same old old refl
     ]

@@ -24,15 +24,15 @@ use Rattle.tq_locks.specs.declared.mode.Mode.{Mode}
 use Rattle.tq_shape.specs.Tree.{Server}
 use Rattle.tq_coterie.specs.Coterie.{numbers_of}
 use Rattle.tq_txn_states.specs.Ended.{EndedView, decide_ask}
-use Rattle.tq_txn.specs.Lines.{LocksView, purpose_of, choose_line, next_lock, locks_line, quorum_line, read_end, quorum_read, read_line, write_end, quorum_write, write_line, refusal_in, voted, prepare_line, any_line, is_nothing_here, release_line, end_line, ending_line}
+use Rattle.tq_txn.specs.Lines.{LocksView, purpose_of, choose_line, next_lock, locks_line, quorum_line, read_end, quorum_read, read_line, write_end, quorum_write, write_line, refusal_in, vote_answer, prepare_line, any_line, is_nothing_here, release_line, end_line, ending_line}
 use Rattle.tq_store.specs.declared.copies.FileCopy.{FileCopy}
 use Rattle.tq_evidence.specs.declared.op.OpKind.TheVariants as kinds
 use Rattle.tq_evidence.specs.Evidence.{greatest}
 use Rattle.tq_txn.specs.declared.read_answer.ReadAnswer.{ReadAnswer}
 use Rattle.tq_txn.specs.declared.read_answer.ReadAnswer.TheVariants.{Copy}
 use Rattle.tq_txn_states.specs.Voting.{VotingView, has_vote, ask_fault, prepare_ask, vote_fault, vote_after}
-use Rattle.tq_txn_states.specs.Open.{OpenView, ComesOf, has_all_ops, pending, seen, written, read_fault, read_copy, read_after, write_fault, write_after, grants_of}
-use Rattle.tq_txn.specs.Dialogue.{Told, Dialogue, Ends, AsksNode, AsksDesk, AsksView, Makes, Begins, Follows, then_line, LineEnd, done, go_on, and_then, unless, ended_by, fault_of_ask, fault_of_txn, line_result, node_exchange, desk_exchange, view_exchange, node_line, desk_line, view_line}
+use Rattle.tq_txn_states.specs.Open.{OpenView, ComesOf, has_all_ops, pending_content, op_read, op_written, read_fault, read_copy, read_after, write_fault, write_after, grants_of}
+use Rattle.tq_txn.specs.Dialogue.{Told, Dialogue, Ends, AsksNode, AsksDesk, AsksView, Makes, Begins, Follows, then_line, LineEnd, line_done, go_on, and_then, unless, ended_by, fault_of_ask, fault_of_txn, line_result, node_exchange, desk_exchange, view_exchange, node_line, desk_line, view_line}
 
 begins_none : {A : Type 0} (line : Dialogue A) → Begins line []
 begins_none (Ends a) = refl
@@ -181,7 +181,7 @@ asked_view ask (Err fault) old new grown same = refused_view ask fault old new g
 
 -- ---- parts of the lines
 
-pub follows_unless : {A S : Type 0} (cause : Option TxnFault) (a : A) (before after : S) (old : List Exchange) → cause ≡ None → Follows (unless cause before (done a after)) old old (Some (record { answer = Ok a; after = after }))
+pub follows_unless : {A S : Type 0} (cause : Option TxnFault) (a : A) (before after : S) (old : List Exchange) → cause ≡ None → Follows (unless cause before (line_done a after)) old old (Some (record { answer = Ok a; after = after }))
 follows_unless cause a before after old none = rw none (follows_end _ old)
 
 -- what is left of a list from a place on: the value there, and those behind it
@@ -208,7 +208,7 @@ module _ (file : List ℕ) (mode : Mode) (levels : ℕ) (old : OpenView) (same :
 
   pub quorum_off : (fault : LineFault) (told after : List Exchange) → Follows (choose_line levels purpose) told after (ended_by (Err fault) tt) → Follows (quorum_line file mode old) told after (ended_by (Err fault) old)
   quorum_off fault told after first =
-      follows_off (choose_line old.levels (purpose_of mode)) (λ none. old) (λ servers none. and_then (locks_line file mode servers (record { answers = []; txn = old })) (λ new. new.txn) (λ all new. done new.answers new.txn)) fault tt old told after refl
+      follows_off (choose_line old.levels (purpose_of mode)) (λ none. old) (λ servers none. and_then (locks_line file mode servers (record { answers = []; txn = old })) (λ new. new.txn) (λ all new. line_done new.answers new.txn)) fault tt old told after refl
       (chosen_line told after (ended_by (Err fault) tt) first)
 
   module _ (servers : List ℕ) (ids : List Server) (none : List NodeTold) (numbers : numbers_of ids ≡ servers) (empty : none ≡ []) (told mid : List Exchange) (first : Follows (choose_line levels purpose) told mid (Some (record { answer = Ok servers; after = tt }))) where
@@ -219,15 +219,15 @@ module _ (file : List ℕ) (mode : Mode) (levels : ℕ) (old : OpenView) (same :
 
     pub quorum_stopped : (fault : LineFault) (new : LocksView) (after : List Exchange) → Follows (locks_line file mode (numbers_of ids) (record { answers = none; txn = old })) mid after (ended_by (Err fault) new) → Follows (quorum_line file mode old) told after (ended_by (Err fault) new.txn)
     quorum_stopped fault new after more =
-        follows_on (choose_line old.levels (purpose_of mode)) (λ none. old) (λ servers none. and_then (locks_line file mode servers (record { answers = []; txn = old })) (λ s. s.txn) (λ all s. done s.answers s.txn)) servers tt told mid after (ended_by (Err fault) new.txn)
+        follows_on (choose_line old.levels (purpose_of mode)) (λ none. old) (λ servers none. and_then (locks_line file mode servers (record { answers = []; txn = old })) (λ s. s.txn) (λ all s. line_done s.answers s.txn)) servers tt told mid after (ended_by (Err fault) new.txn)
         (chosen_line told mid (Some record { answer = Ok servers; after = tt }) first)
-        (follows_off (locks_line file mode servers (record { answers = []; txn = old })) (λ s. s.txn) (λ all s. done s.answers s.txn) fault new new.txn mid after refl (locked after (ended_by (Err fault) new) more))
+        (follows_off (locks_line file mode servers (record { answers = []; txn = old })) (λ s. s.txn) (λ all s. line_done s.answers s.txn) fault new new.txn mid after refl (locked after (ended_by (Err fault) new) more))
 
     pub quorum_locked : (new : LocksView) (after : List Exchange) → Follows (locks_line file mode (numbers_of ids) (record { answers = none; txn = old })) mid after (Some (record { answer = Ok tt; after = new })) → Follows (quorum_line file mode old) told after (Some (record { answer = Ok new.answers; after = new.txn }))
     quorum_locked new after more =
-        follows_on (choose_line old.levels (purpose_of mode)) (λ none. old) (λ servers none. and_then (locks_line file mode servers (record { answers = []; txn = old })) (λ s. s.txn) (λ all s. done s.answers s.txn)) servers tt told mid after (Some (record { answer = Ok new.answers; after = new.txn }))
+        follows_on (choose_line old.levels (purpose_of mode)) (λ none. old) (λ servers none. and_then (locks_line file mode servers (record { answers = []; txn = old })) (λ s. s.txn) (λ all s. line_done s.answers s.txn)) servers tt told mid after (Some (record { answer = Ok new.answers; after = new.txn }))
         (chosen_line told mid (Some record { answer = Ok servers; after = tt }) first)
-        (follows_on (locks_line file mode servers (record { answers = []; txn = old })) (λ s. s.txn) (λ all s. done s.answers s.txn) tt new mid after after (Some (record { answer = Ok new.answers; after = new.txn })) (locked after (Some record { answer = Ok tt; after = new }) more) (follows_end _ after))
+        (follows_on (locks_line file mode servers (record { answers = []; txn = old })) (λ s. s.txn) (λ all s. line_done s.answers s.txn) tt new mid after after (Some (record { answer = Ok new.answers; after = new.txn })) (locked after (Some record { answer = Ok tt; after = new }) more) (follows_end _ after))
 
 -- a server is told the verdict by an ask that says it, and is then asked to release the locks where nothing was prepared
 pub end_told : (ended : EndedView) (server : ℕ) (ask : NodeAsk) (reply : Option NodeReply) (txn : ℕ) (wanted : Bool) (result : Result (Unit {0}) LineFault) (told mid new : List Exchange) → ask ≡ decide_ask ended → txn ≡ ended.txn → wanted ≡ is_nothing_here reply
@@ -249,10 +249,10 @@ module _ (ended : EndedView) (servers rest : List Server) (server : Server) (is 
 
 -- ---- what was not read or written before
 
-pub first_of_reads : (old : OpenView) (file : List ℕ) (told new : List Exchange) (end : Option (LineEnd ReadAnswer OpenView)) → pending old file ≡ None → seen old file ≡ None → has_all_ops old ≡ false → Follows (quorum_read old file) told new end → Follows (read_line old file) told new end
+pub first_of_reads : (old : OpenView) (file : List ℕ) (told new : List Exchange) (end : Option (LineEnd ReadAnswer OpenView)) → pending_content old file ≡ None → op_read old file ≡ None → has_all_ops old ≡ false → Follows (quorum_read old file) told new end → Follows (read_line old file) told new end
 first_of_reads old file told new end unwritten unread few follows = rw (unwritten, unread, few) follows
 
-pub first_of_writes : (old : OpenView) (file content : List ℕ) (told new : List Exchange) (end : Option (LineEnd ℕ OpenView)) → written old file ≡ None → has_all_ops old ≡ false → Follows (quorum_write old file content) told new end → Follows (write_line old file content) told new end
+pub first_of_writes : (old : OpenView) (file content : List ℕ) (told new : List Exchange) (end : Option (LineEnd ℕ OpenView)) → op_written old file ≡ None → has_all_ops old ≡ false → Follows (quorum_write old file content) told new end → Follows (write_line old file content) told new end
 first_of_writes old file content told new end unwritten few follows = rw (unwritten, few) follows
 
 -- ---- how a read, a write and a vote end
@@ -270,7 +270,7 @@ read_refused file answers given old new fault line_fault told same comes news fa
     let Q : LineFault → Type 0 = λ x. Follows (read_end file given old) told told (ended_by (Err x) old) in
     let R : OpenView → Type 0 = λ v. Follows (read_end file given old) told told (ended_by (Err line_fault) v) in
     let S : List NodeTold → Type 0 = λ xs. Follows (read_end file xs old) told told (ended_by (Err line_fault) new) in
-    subst S same (subst R (sym news) (subst Q (sym faults_are) (follows_fault (read_fault old file given) fault old (done (Copy (read_copy (grants_of kinds.Read old.txn file given))) (read_after old file given)) told comes)))
+    subst S same (subst R (sym news) (subst Q (sym faults_are) (follows_fault (read_fault old file given) fault old (line_done (Copy (read_copy (grants_of kinds.Read old.txn file given))) (read_after old file given)) told comes)))
 
 pub write_ended : (file content : List ℕ) (answers given : List NodeTold) (old new : OpenView) (version : ℕ) (told : List Exchange) → given ≡ answers → write_fault old file given ≡ None → version ≡ greatest (grants_of kinds.Write old.txn file given) + 1 → new ≡ write_after old file content given → Follows (write_end file content answers old) told told (Some (record { answer = Ok version; after = new }))
 write_ended file content answers given old new version told same none versions news =
@@ -285,15 +285,15 @@ write_refused file content answers given old new fault line_fault told same come
     let Q : LineFault → Type 0 = λ x. Follows (write_end file content given old) told told (ended_by (Err x) old) in
     let R : OpenView → Type 0 = λ v. Follows (write_end file content given old) told told (ended_by (Err line_fault) v) in
     let S : List NodeTold → Type 0 = λ xs. Follows (write_end file content xs old) told told (ended_by (Err line_fault) new) in
-    subst S same (subst R (sym news) (subst Q (sym faults_are) (follows_fault (write_fault old file given) fault old (done (greatest (grants_of kinds.Write old.txn file given) + 1) (write_after old file content given)) told comes)))
+    subst S same (subst R (sym news) (subst Q (sym faults_are) (follows_fault (write_fault old file given) fault old (line_done (greatest (grants_of kinds.Write old.txn file given) + 1) (write_after old file content given)) told comes)))
 
-pub vote_refused : (old new : VotingView) (answer : NodeTold) (fault : TxnFault) (line_fault : LineFault) (told : List Exchange) → refusal_in answer.reply ≡ None → ComesOf (vote_fault old answer) fault → new ≡ old → line_fault ≡ fault_of_txn fault → Follows (voted old answer) told told (ended_by (Err line_fault) new)
+pub vote_refused : (old new : VotingView) (answer : NodeTold) (fault : TxnFault) (line_fault : LineFault) (told : List Exchange) → refusal_in answer.reply ≡ None → ComesOf (vote_fault old answer) fault → new ≡ old → line_fault ≡ fault_of_txn fault → Follows (vote_answer old answer) told told (ended_by (Err line_fault) new)
 vote_refused old new answer fault line_fault told none comes news faults_are =
-    let Q : LineFault → Type 0 = λ x. Follows (voted old answer) told told (ended_by (Err x) old) in
-    let R : VotingView → Type 0 = λ v. Follows (voted old answer) told told (ended_by (Err line_fault) v) in
-    subst R (sym news) (subst Q (sym faults_are) (rw none (follows_fault (vote_fault old answer) fault old (done tt (vote_after old answer)) told comes)))
+    let Q : LineFault → Type 0 = λ x. Follows (vote_answer old answer) told told (ended_by (Err x) old) in
+    let R : VotingView → Type 0 = λ v. Follows (vote_answer old answer) told told (ended_by (Err line_fault) v) in
+    subst R (sym news) (subst Q (sym faults_are) (rw none (follows_fault (vote_fault old answer) fault old (line_done tt (vote_after old answer)) told comes)))
 
-pub vote_asked : (old new : VotingView) (server : ℕ) (ask : NodeAsk) (answer : NodeTold) (result : Result (Unit {0}) LineFault) (told after : List Exchange) → has_vote old.votes server ≡ false → ask_fault old.txn server ≡ None → ask ≡ prepare_ask old.txn server → Follows (node_line server ask) told after (Some (record { answer = Ok answer; after = tt })) → Follows (voted old answer) after after (ended_by result new) → Follows (prepare_line old server) told after (ended_by result new)
+pub vote_asked : (old new : VotingView) (server : ℕ) (ask : NodeAsk) (answer : NodeTold) (result : Result (Unit {0}) LineFault) (told after : List Exchange) → has_vote old.votes server ≡ false → ask_fault old.txn server ≡ None → ask ≡ prepare_ask old.txn server → Follows (node_line server ask) told after (Some (record { answer = Ok answer; after = tt })) → Follows (vote_answer old answer) after after (ended_by result new) → Follows (prepare_line old server) told after (ended_by result new)
 vote_asked old new server ask answer result told after new_voter may asks first last =
     let P : NodeAsk → Type 0 = λ a. Follows (node_line server a) told after (Some (record { answer = Ok answer; after = tt })) in
-    rw (new_voter, may) (follows_on (node_line server (prepare_ask old.txn server)) (λ none. old) (λ t none. voted old t) answer tt told after after (ended_by result new) (subst P asks first) last)
+    rw (new_voter, may) (follows_on (node_line server (prepare_ask old.txn server)) (λ none. old) (λ t none. vote_answer old t) answer tt told after after (ended_by result new) (subst P asks first) last)

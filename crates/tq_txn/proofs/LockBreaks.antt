@@ -9,7 +9,7 @@ use Rattle.tq_live.specs.declared.view.ViewAsk.TheVariants.{Choose}
 use Rattle.tq_live.specs.declared.view.ViewReply.TheVariants as view_replies
 use Rattle.tq_locks.specs.declared.mode.Mode.{Mode}
 use Rattle.tq_evidence.specs.declared.op.Op.{Op}
-use Rattle.tq_txn_states.specs.Open.{OpenView, has_all_ops, rewritten, touched_by, written}
+use Rattle.tq_txn_states.specs.Open.{OpenView, has_all_ops, txn_after_rewrite, touched_by, op_written}
 use Rattle.tq_txn_states.specs.declared.fault.TxnFault.TheVariants.{TooManyOps}
 use Rattle.tq_txn_states.specs.declared.told.NodeTold.{NodeTold}
 use Rattle.tq_txn_states.proofs.Tested.{a_member, empty_set}
@@ -17,8 +17,8 @@ use Rattle.tq_txn.specs.declared.asker.Exchange.{Exchange}
 use Rattle.tq_txn.specs.declared.asker.Exchange.TheVariants as exchanges
 use Rattle.tq_txn.specs.declared.fault.LineFault.{LineFault}
 use Rattle.tq_txn.specs.declared.fault.LineFault.TheVariants as faults
-use Rattle.tq_txn.specs.Dialogue.{Dialogue, LineEnd, Follows, IsUnasked, IsUnfailed, and_then, done, failed, fault_of_ask, view_line}
-use Rattle.tq_txn.specs.Lines.{IsNoted, LocksView, answers, granted, chosen, choose_line, lock_ask, lock_line, locks_line, next_lock, purpose_of, quorum_line, quorum_write, first_write, write_line, written_again}
+use Rattle.tq_txn.specs.Dialogue.{Dialogue, LineEnd, Follows, IsUnasked, IsUnfailed, and_then, line_done, line_failed, fault_of_ask, view_line}
+use Rattle.tq_txn.specs.Lines.{IsNoted, LocksView, answers, lock_answer, quorum_answer, choose_line, lock_ask, lock_line, locks_line, next_lock, purpose_of, quorum_line, quorum_write, first_write, write_line, written_again}
 use Rattle.tq_txn.proofs.BreakLaws.{fails, full, node_fails, unfailed_first, unfailed_off, unfailed_on, unfailed_same}
 use Rattle.tq_txn.proofs.LineLaws.{refused_view}
 
@@ -27,14 +27,14 @@ use Rattle.tq_txn.proofs.LineLaws.{refused_view}
 choose_asks : (levels : ℕ) (purpose : Purpose) (told : List Exchange) → IsUnfailed {A = List ℕ} (Err faults.Memory) tt (choose_line levels purpose) told told
 choose_asks levels purpose told =
     let first = exchanges.View (Choose purpose) (Err full) in
-    (fault_of_ask full, fails (view_line (Choose purpose)) (λ none. none) (λ t none. answers (chosen levels t.reply) none) (fault_of_ask full) tt told told (first, [], refl, refused_view (Choose purpose) full told (told ++ first ∷ []) refl))
+    (fault_of_ask full, fails (view_line (Choose purpose)) (λ none. none) (λ t none. answers (quorum_answer levels t.reply) none) (fault_of_ask full) tt told told (first, [], refl, refused_view (Choose purpose) full told (told ++ first ∷ []) refl))
 
 -- ---- locks
 
 lock_asks : (file : List ℕ) (mode : Mode) (server : ℕ) (old : LocksView) (told : List Exchange) → IsUnfailed {A = Unit {0}} (Err faults.Memory) old (next_lock file mode server old) told told
 lock_asks file mode server old told =
-    unfailed_off (lock_line old.txn.txn file mode server) (λ none. old) (λ t none. done tt (record { answers = old.answers ++ t ∷ []; txn = touched_by old.txn server })) faults.Memory tt told told
-    (node_fails server (lock_ask old.txn.txn file mode) (λ none. none) (λ t none. answers (granted t t.reply) none) told)
+    unfailed_off (lock_line old.txn.txn file mode server) (λ none. old) (λ t none. line_done tt (record { answers = old.answers ++ t ∷ []; txn = touched_by old.txn server })) faults.Memory tt told told
+    (node_fails server (lock_ask old.txn.txn file mode) (λ none. none) (λ t none. answers (lock_answer t t.reply) none) told)
 
 pub next_unfailed : (file : List ℕ) (mode : Mode) (server : ℕ) (old : LocksView) (fault : LineFault) (told new : List Exchange) → IsUnasked {A = Unit {0}} (Err fault) told new → IsUnfailed {A = Unit {0}} (Err fault) old (next_lock file mode server old) told new
 next_unfailed file mode server old fault told new unasked = unfailed_first (Err fault) old (next_lock file mode server old) told new (lock_asks file mode server old told) unasked
@@ -57,7 +57,7 @@ locks_ask file mode tree (first ∷ rest) old told is = locks_stopped file mode 
 
 module _ (file : List ℕ) (mode : Mode) (old : OpenView) where
   pub quorum_asks : (told : List Exchange) → IsUnfailed {A = List NodeTold} (Err faults.Memory) old (quorum_line file mode old) told told
-  quorum_asks told = unfailed_off (choose_line old.levels (purpose_of mode)) (λ none. old) (λ servers none. and_then (locks_line file mode servers (record { answers = []; txn = old })) (λ new. new.txn) (λ all new. done new.answers new.txn)) faults.Memory tt told told (choose_asks old.levels (purpose_of mode) told)
+  quorum_asks told = unfailed_off (choose_line old.levels (purpose_of mode)) (λ none. old) (λ servers none. and_then (locks_line file mode servers (record { answers = []; txn = old })) (λ new. new.txn) (λ all new. line_done new.answers new.txn)) faults.Memory tt told told (choose_asks old.levels (purpose_of mode) told)
 
   -- nothing was told
   pub quorum_same : (result : Result (List NodeTold) LineFault) (told : List Exchange) → IsUnfailed result old (quorum_line file mode old) told told
@@ -79,8 +79,8 @@ module _ (file : List ℕ) (mode : Mode) (old : OpenView) where
         let view : record { answers = none; txn = start } ≡ record { answers = []; txn = old } = λ i. record { answers = empty i; txn = same_start i } in
         let P : List ℕ → Type 0 = λ ns. IsUnfailed {A = Unit {0}} (Err fault) new (locks_line file mode ns (record { answers = []; txn = old })) mid after in
         let Q : LocksView → Type 0 = λ v. IsUnfailed {A = Unit {0}} (Err fault) new (locks_line file mode (numbers_of ids) v) mid after in
-        unfailed_on (choose_line old.levels (purpose_of mode)) (λ none. old) (λ servers none. and_then (locks_line file mode servers (record { answers = []; txn = old })) (λ s. s.txn) (λ all s. done s.answers s.txn)) (Err fault) new.txn servers tt told mid after chosen_first
-        (unfailed_off (locks_line file mode servers (record { answers = []; txn = old })) (λ s. s.txn) (λ all s. done s.answers s.txn) fault new mid after (subst P numbers (subst Q view more)))
+        unfailed_on (choose_line old.levels (purpose_of mode)) (λ none. old) (λ servers none. and_then (locks_line file mode servers (record { answers = []; txn = old })) (λ s. s.txn) (λ all s. line_done s.answers s.txn)) (Err fault) new.txn servers tt told mid after chosen_first
+        (unfailed_off (locks_line file mode servers (record { answers = []; txn = old })) (λ s. s.txn) (λ all s. line_done s.answers s.txn) fault new mid after (subst P numbers (subst Q view more)))
 
     -- or before the first of them
     pub quorum_unlocked : (tree : ℕ) → IsMemberList tree ids → (left : OpenView) → left ≡ old → IsUnfailed {A = List NodeTold} (Err faults.Memory) left (quorum_line file mode old) told mid
@@ -109,9 +109,9 @@ noted_same result file mode old told = tt
 -- ---- a write
 
 -- where the file was not written before, want of memory in the quorum's locks is one in the line
-pub unfailed_writes : (old : OpenView) (file content : List ℕ) (result : Result ℕ LineFault) (after : OpenView) (told new : List Exchange) → written old file ≡ None → has_all_ops old ≡ false
+pub unfailed_writes : (old : OpenView) (file content : List ℕ) (result : Result ℕ LineFault) (after : OpenView) (told new : List Exchange) → op_written old file ≡ None → has_all_ops old ≡ false
     → IsUnfailed result after (quorum_write old file content) told new → IsUnfailed result after (write_line old file content) told new
 unfailed_writes old file content result after told new unwritten few is =
-    let P : Option Op → Type 0 = λ found. IsUnfailed result after (written_again found (rewritten old file content) (first_write old file content)) told new in
-    let Q : Bool → Type 0 = λ full. IsUnfailed result after (if full then failed (faults.Txn TooManyOps) old else quorum_write old file content) told new in
+    let P : Option Op → Type 0 = λ found. IsUnfailed result after (written_again found (txn_after_rewrite old file content) (first_write old file content)) told new in
+    let Q : Bool → Type 0 = λ full. IsUnfailed result after (if full then line_failed (faults.Txn TooManyOps) old else quorum_write old file content) told new in
     subst P (sym unwritten) (subst Q (sym few) is)

@@ -7,7 +7,7 @@ use Rattle.tq_txn_states.specs.Voting.{VotingView, has_vote, ask_fault, prepare_
 use Rattle.tq_txn.specs.declared.asker.Exchange.{Exchange}
 use Rattle.tq_txn.specs.declared.fault.LineFault.{LineFault}
 use Rattle.tq_txn.specs.declared.fault.LineFault.TheVariants as faults
-use Rattle.tq_txn.specs.Dialogue.{Follows, LineEnd, done, ended_by}
+use Rattle.tq_txn.specs.Dialogue.{Follows, LineEnd, line_done, ended_by}
 use Rattle.tq_txn.specs.Lines.{any_line, down_line, stop_line, prepare_stop_line}
 use Rattle.tq_txn.proofs.LineLaws.{follows_on, follows_off}
 
@@ -29,4 +29,4 @@ pub vote_unstopped : (old : VotingView) (server after : ℕ) (ask : WorkAsk) (fa
 vote_unstopped old server after ask fault told new new_voter may asks first =
     let P : WorkAsk → Type 0 = λ a. Follows (stop_line server a after) told new (ended_by (Err fault) tt) in
     rw (new_voter, may)
-    (follows_off (stop_line server (prepare_work old.txn server) after) (λ none. old) (λ all none. done false old) fault tt old told new refl (subst P asks first))
+    (follows_off (stop_line server (prepare_work old.txn server) after) (λ none. old) (λ all none. line_done false old) fault tt old told new refl (subst P asks first))

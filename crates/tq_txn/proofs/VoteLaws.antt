@@ -11,7 +11,7 @@ use Rattle.tq_txn_states.specs.declared.fault.TxnFault.{TxnFault}
 use Rattle.tq_txn_states.specs.declared.fault.TxnFault.TheVariants as txn_faults
 use Rattle.tq_txn_states.specs.declared.told.NodeTold.{NodeTold}
 use Rattle.tq_txn_states.specs.Open.{ComesOf}
-use Rattle.tq_txn_states.specs.Voting.{VotingView, lost, vote_fault, vote_of, vote_refusal, writes_in}
+use Rattle.tq_txn_states.specs.Voting.{VotingView, lost_file, vote_fault, vote_of, vote_refusal, writes_in}
 use Rattle.tq_txn.specs.declared.asker.Exchange.{Exchange}
 use Rattle.tq_txn.specs.declared.fault.LineFault.{LineFault}
 use Rattle.tq_txn.specs.Dialogue.{IsUnasked, fault_of_ask, fault_of_txn, node_exchange}
@@ -35,7 +35,7 @@ other_writes false found = other_loss found
 
 other_refusal : (ops : List Op) (vote : Option Vote) → IsOther (vote_refusal ops vote)
 other_refusal ops None = λ old new. tt
-other_refusal ops (Some vote) = other_writes (not (has_writes (writes_in ops) vote)) (lost ops vote)
+other_refusal ops (Some vote) = other_writes (not (has_writes (writes_in ops) vote)) (lost_file ops vote)
 
 other_fault : (voter : Bool) (rest : Option TxnFault) → IsOther rest → IsOther (refuse (not voter) txn_faults.NotAVoter rest)
 other_fault true rest is = is

@@ -66,15 +66,15 @@ pub record LineEnd (A S : Type 0) : Type 0 where
   pub answer : Result A LineFault
   pub after : S
 
-abbrev pub done : {A S : Type 0} → A → S → Dialogue (LineEnd A S)
-done a after = Ends (record { answer = Ok a; after = after })
+abbrev pub line_done : {A S : Type 0} → A → S → Dialogue (LineEnd A S)
+line_done a after = Ends (record { answer = Ok a; after = after })
 
-abbrev pub failed : {A S : Type 0} → LineFault → S → Dialogue (LineEnd A S)
-failed fault after = Ends (record { answer = Err fault; after = after })
+abbrev pub line_failed : {A S : Type 0} → LineFault → S → Dialogue (LineEnd A S)
+line_failed fault after = Ends (record { answer = Err fault; after = after })
 
 abbrev pub go_on : {A B T : Type 0} → Result A LineFault → T → (A → Dialogue (LineEnd B T)) → Dialogue (LineEnd B T)
 go_on (Ok a) after next = next a
-go_on (Err fault) after next = failed fault after
+go_on (Err fault) after next = line_failed fault after
 
 -- the line goes on, unless its first part was refused
 abbrev pub and_then : {A S B T : Type 0} → Dialogue (LineEnd A S) → (S → T) → (A → S → Dialogue (LineEnd B T)) → Dialogue (LineEnd B T)
@@ -83,7 +83,7 @@ and_then line left next = then_line line (λ end. go_on end.answer (left end.aft
 -- the line goes on, unless there is a cause for a fault
 abbrev pub unless : {A S : Type 0} → Option TxnFault → S → Dialogue (LineEnd A S) → Dialogue (LineEnd A S)
 unless None after line = line
-unless (Some fault) after line = failed (faults.Txn fault) after
+unless (Some fault) after line = line_failed (faults.Txn fault) after
 
 -- how a call ended: no end of the line where memory ran out
 abbrev pub ended_by : {A S : Type 0} → Result A LineFault → S → Option (LineEnd A S)
@@ -174,8 +174,8 @@ view_exchange ask (Err fault) = unless_memory fault (exchanges.View ask (Err fau
 
 -- where an ask was not taken the line ends
 abbrev pub on_told : {R T : Type 0} → (ℕ → R → T) → Told R → Dialogue (LineEnd T (Unit {0}))
-on_told told_as (Ok answered) = done (told_as answered.number answered.reply) tt
-on_told told_as (Err fault) = failed (fault_of_ask fault) tt
+on_told told_as (Ok answered) = line_done (told_as answered.number answered.reply) tt
+on_told told_as (Err fault) = line_failed (fault_of_ask fault) tt
 
 abbrev pub node_line : ℕ → NodeAsk → Dialogue (LineEnd NodeTold (Unit {0}))
 node_line server ask = AsksNode server ask (on_told (λ number reply. record { server = server; number = number; ask = ask; reply = reply }))

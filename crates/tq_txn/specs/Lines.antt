@@ -36,10 +36,10 @@ use Rattle.tq_txn.specs.declared.applying.Applied.TheVariants.{Installed, Discar
 use Rattle.tq_txn_states.specs.Cited.{answers_of, grant_told}
 use Rattle.tq_txn_states.specs.Ended.{EndedView, decide_ask}
 use Rattle.tq_txn.specs.declared.asker.Exchange.{Exchange}
-use Rattle.tq_txn.specs.Dialogue.{Told, Dialogue, LineEnd, Ends, AsksNode, Follows, IsUnfailed, done, ended_by, failed, and_then, unless, node_line, view_line}
+use Rattle.tq_txn.specs.Dialogue.{Told, Dialogue, LineEnd, Ends, AsksNode, Follows, IsUnfailed, line_done, ended_by, line_failed, and_then, unless, node_line, view_line}
 use Rattle.tq_txn.specs.Told.{AreHeard}
-use Rattle.tq_txn_states.specs.Granting.{GrantingView, IsGrown, noted}
-use Rattle.tq_txn_states.specs.Open.{OpenView, pending, seen, written, has_all_ops, read_fault, read_copy, read_after, write_fault, write_after, grants_of, touched_by, rewritten}
+use Rattle.tq_txn_states.specs.Granting.{GrantingView, IsGrown, txn_with_grants}
+use Rattle.tq_txn_states.specs.Open.{OpenView, pending_content, op_read, op_written, has_all_ops, read_fault, read_copy, read_after, write_fault, write_after, grants_of, touched_by, txn_after_rewrite}
 use Rattle.tq_txn_states.specs.Voting.{VotingView, has_vote, ask_fault, prepare_work, prepare_ask, vote_fault, vote_after}
 
 -- what a function of the answer says ends the line
@@ -49,10 +49,10 @@ answers result after = Ends (record { answer = result; after = after })
 -- ---- a quorum from the view
 
 -- the servers of the quorum chosen, which has to be of the transaction's tree
-abbrev pub chosen : ℕ → ViewReply → Result (List ℕ) LineFault
-chosen levels (view_replies.Chosen quorum cost) = if quorum.levels == levels then Ok quorum.servers else Err (faults.Txn NotAMember)
-chosen levels (view_replies.Refused refusal) = Err (faults.View refusal)
-chosen levels reply = Err (faults.WrongReply parts.View)
+abbrev pub quorum_answer : ℕ → ViewReply → Result (List ℕ) LineFault
+quorum_answer levels (view_replies.Chosen quorum cost) = if quorum.levels == levels then Ok quorum.servers else Err (faults.Txn NotAMember)
+quorum_answer levels (view_replies.Refused refusal) = Err (faults.View refusal)
+quorum_answer levels reply = Err (faults.WrongReply parts.View)
 
 abbrev pub servers_of : Result ServerList LineFault → Result (List ℕ) LineFault
 servers_of (Ok quorum) = Ok quorum.servers
@@ -65,17 +65,17 @@ purpose_of Exclusive = purposes.Write
 
 -- the view is asked for a quorum for this purpose
 abbrev pub choose_line : ℕ → Purpose → Dialogue (LineEnd (List ℕ) (Unit {0}))
-choose_line levels purpose = and_then (view_line (Choose purpose)) (λ none. none) (λ told none. answers (chosen levels told.reply) none)
+choose_line levels purpose = and_then (view_line (Choose purpose)) (λ none. none) (λ told none. answers (quorum_answer levels told.reply) none)
 
 -- ---- locks at its servers
 
 abbrev pub lock_ask : ℕ → List ℕ → Mode → NodeAsk
 lock_ask txn file mode = Work (Lock txn file mode)
 
-abbrev pub granted : NodeTold → NodeReply → Result NodeTold LineFault
-granted told (replies.Granted version content) = Ok told
-granted told (replies.Refused refusal) = Err (faults.Server told.server refusal)
-granted told reply = Err (faults.WrongReply (parts.Server told.server))
+abbrev pub lock_answer : NodeTold → NodeReply → Result NodeTold LineFault
+lock_answer told (replies.Granted version content) = Ok told
+lock_answer told (replies.Refused refusal) = Err (faults.Server told.server refusal)
+lock_answer told reply = Err (faults.WrongReply (parts.Server told.server))
 
 -- the answer that granted the transaction a lock on the file, or why there is none
 abbrev pub grant_answer : ℕ → List ℕ → Result (Grant × NodeAsk) LineFault → Result NodeTold LineFault
@@ -88,9 +88,9 @@ granting_answer txn file (Ok granting) = Ok (answers_of txn file granting.grants
 granting_answer txn file (Err fault) = Err fault
 
 -- the transaction after the locks, which were handed out what it keeps, unless there was a fault
-abbrev pub locked : OpenView → Result GrantingView LineFault → OpenView
-locked after (Ok granting) = noted after granting
-locked after (Err fault) = after
+abbrev pub txn_after_locks : OpenView → Result GrantingView LineFault → OpenView
+txn_after_locks after (Ok granting) = txn_with_grants after granting
+txn_after_locks after (Err fault) = after
 
 -- how a call ended that hands its ask back
 abbrev pub without_ask : Result NodeAsk LineFault → Result (Unit {0}) LineFault
@@ -106,7 +106,7 @@ abbrev pub AreOf : Mode → List Grant → Type 0
 AreOf mode grants = All (λ grant. grant.mode ≡ mode) grants
 
 abbrev pub lock_line : ℕ → List ℕ → Mode → ℕ → Dialogue (LineEnd NodeTold (Unit {0}))
-lock_line txn file mode server = and_then (node_line server (lock_ask txn file mode)) (λ none. none) (λ told none. answers (granted told told.reply) none)
+lock_line txn file mode server = and_then (node_line server (lock_ask txn file mode)) (λ none. none) (λ told none. answers (lock_answer told told.reply) none)
 
 -- the answers of the servers asked so far, and the transaction, which notes each server that granted a lock
 pub record LocksView : Type 0 where
@@ -115,17 +115,17 @@ pub record LocksView : Type 0 where
 
 -- the same of grants that come in for what a transaction handed out
 abbrev pub locks_of : List ℕ → OpenView → GrantingView → LocksView
-locks_of file open_txn granting = record { answers = answers_of open_txn.txn file granting.grants; txn = noted open_txn granting }
+locks_of file open_txn granting = record { answers = answers_of open_txn.txn file granting.grants; txn = txn_with_grants open_txn granting }
 
 -- a lock at one more server
 abbrev pub next_lock : List ℕ → Mode → ℕ → LocksView → Dialogue (LineEnd (Unit {0}) LocksView)
 next_lock file mode server old =
     and_then (lock_line old.txn.txn file mode server) (λ none. old)
-    (λ told none. done tt (record { answers = old.answers ++ told ∷ []; txn = touched_by old.txn server }))
+    (λ told none. line_done tt (record { answers = old.answers ++ told ∷ []; txn = touched_by old.txn server }))
 
 -- a lock at each of the servers, in their order; the first refusal ends it, and locks granted before it stay
 abbrev pub locks_line : List ℕ → Mode → List ℕ → LocksView → Dialogue (LineEnd (Unit {0}) LocksView)
-locks_line file mode [] old = done tt old
+locks_line file mode [] old = line_done tt old
 locks_line file mode (server ∷ servers) old = and_then (next_lock file mode server old) (λ new. new) (λ all new. locks_line file mode servers new)
 
 -- by this line the servers were asked for the lock that is wanted: each that granted it is noted, its answer was told, and
@@ -142,7 +142,7 @@ pub record IsLocking (txn : OpenView) (want : WantedLock) (line : LocksView → 
 abbrev pub quorum_line : List ℕ → Mode → OpenView → Dialogue (LineEnd (List NodeTold) OpenView)
 quorum_line file mode old =
     and_then (choose_line old.levels (purpose_of mode)) (λ none. old)
-    (λ servers none. and_then (locks_line file mode servers (record { answers = []; txn = old })) (λ new. new.txn) (λ all new. done new.answers new.txn))
+    (λ servers none. and_then (locks_line file mode servers (record { answers = []; txn = old })) (λ new. new.txn) (λ all new. line_done new.answers new.txn))
 
 -- where memory ran out in an operation, its quorum still had an ask to come, or each of its servers has granted the lock and only
 -- the operation is not there; each server that granted a lock is noted
@@ -155,47 +155,47 @@ IsNoted result after quorum old new = Unit {0}
 
 abbrev pub read_end : List ℕ → List NodeTold → OpenView → Dialogue (LineEnd ReadAnswer OpenView)
 read_end file told old =
-    unless (read_fault old file told) old (done (Copy (read_copy (grants_of kinds.Read old.txn file told))) (read_after old file told))
+    unless (read_fault old file told) old (line_done (Copy (read_copy (grants_of kinds.Read old.txn file told))) (read_after old file told))
 
 -- shared locks at a quorum
 abbrev pub quorum_read : OpenView → List ℕ → Dialogue (LineEnd ReadAnswer OpenView)
 quorum_read old file = and_then (quorum_line file Shared old) (λ new. new) (λ told new. read_end file told new)
 
 abbrev pub first_read : OpenView → List ℕ → Dialogue (LineEnd ReadAnswer OpenView)
-first_read old file = if has_all_ops old then failed (faults.Txn TooManyOps) old else quorum_read old file
+first_read old file = if has_all_ops old then line_failed (faults.Txn TooManyOps) old else quorum_read old file
 
 abbrev pub copy_read : Op → FileCopy
 copy_read op = record { version = op.version; content = op.content }
 
 -- what the transaction has written or read is answered again, with no ask
 abbrev pub read_again : Option (List ℕ) → Option Op → OpenView → Dialogue (LineEnd ReadAnswer OpenView) → Dialogue (LineEnd ReadAnswer OpenView)
-read_again (Some content) op old first = done (Pending content) old
-read_again None (Some op) old first = done (Copy (copy_read op)) old
+read_again (Some content) op old first = line_done (Pending content) old
+read_again None (Some op) old first = line_done (Copy (copy_read op)) old
 read_again None None old first = first
 
 abbrev pub read_line : OpenView → List ℕ → Dialogue (LineEnd ReadAnswer OpenView)
-read_line old file = read_again (pending old file) (seen old file) old (first_read old file)
+read_line old file = read_again (pending_content old file) (op_read old file) old (first_read old file)
 
 -- ---- write
 
 abbrev pub write_end : List ℕ → List ℕ → List NodeTold → OpenView → Dialogue (LineEnd ℕ OpenView)
 write_end file content told old =
-    unless (write_fault old file told) old (done (greatest (grants_of kinds.Write old.txn file told) + 1) (write_after old file content told))
+    unless (write_fault old file told) old (line_done (greatest (grants_of kinds.Write old.txn file told) + 1) (write_after old file content told))
 
 -- exclusive locks at a quorum
 abbrev pub quorum_write : OpenView → List ℕ → List ℕ → Dialogue (LineEnd ℕ OpenView)
 quorum_write old file content = and_then (quorum_line file Exclusive old) (λ new. new) (λ told new. write_end file content told new)
 
 abbrev pub first_write : OpenView → List ℕ → List ℕ → Dialogue (LineEnd ℕ OpenView)
-first_write old file content = if has_all_ops old then failed (faults.Txn TooManyOps) old else quorum_write old file content
+first_write old file content = if has_all_ops old then line_failed (faults.Txn TooManyOps) old else quorum_write old file content
 
 -- what is written again is replaced, with no ask and the same version
 abbrev pub written_again : Option Op → OpenView → Dialogue (LineEnd ℕ OpenView) → Dialogue (LineEnd ℕ OpenView)
 written_again None new first = first
-written_again (Some op) new first = done op.version new
+written_again (Some op) new first = line_done op.version new
 
 abbrev pub write_line : OpenView → List ℕ → List ℕ → Dialogue (LineEnd ℕ OpenView)
-write_line old file content = written_again (written old file) (rewritten old file content) (first_write old file content)
+write_line old file content = written_again (op_written old file) (txn_after_rewrite old file content) (first_write old file content)
 
 -- ---- prepare
 
@@ -205,19 +205,19 @@ refusal_in reply = None
 
 abbrev pub refused_at : {A S : Type 0} → ℕ → Option NodeRefusal → S → Dialogue (LineEnd A S) → Dialogue (LineEnd A S)
 refused_at server None after line = line
-refused_at server (Some refusal) after line = failed (faults.Server server refusal) after
+refused_at server (Some refusal) after line = line_failed (faults.Server server refusal) after
 
-abbrev pub voted : VotingView → NodeTold → Dialogue (LineEnd (Unit {0}) VotingView)
-voted old told = refused_at told.server (refusal_in told.reply) old (unless (vote_fault old told) old (done tt (vote_after old told)))
+abbrev pub vote_answer : VotingView → NodeTold → Dialogue (LineEnd (Unit {0}) VotingView)
+vote_answer old told = refused_at told.server (refusal_in told.reply) old (unless (vote_fault old told) old (line_done tt (vote_after old told)))
 
 abbrev pub first_prepare : VotingView → ℕ → Dialogue (LineEnd (Unit {0}) VotingView)
 first_prepare old server =
     unless (ask_fault old.txn server) old
-    (and_then (node_line server (prepare_ask old.txn server)) (λ none. old) (λ told none. voted old told))
+    (and_then (node_line server (prepare_ask old.txn server)) (λ none. old) (λ told none. vote_answer old told))
 
 -- a vote that is there is answered with no ask
 abbrev pub prepare_line : VotingView → ℕ → Dialogue (LineEnd (Unit {0}) VotingView)
-prepare_line old server = if has_vote old.votes server then done tt old else first_prepare old server
+prepare_line old server = if has_vote old.votes server then line_done tt old else first_prepare old server
 
 -- ---- the ending
 
@@ -227,7 +227,7 @@ reply_in (Ok answered) = Some answered.reply
 reply_in (Err fault) = None
 
 abbrev pub any_line : ℕ → NodeAsk → Dialogue (LineEnd (Option NodeReply) (Unit {0}))
-any_line server ask = AsksNode server ask (λ answer. done (reply_in answer) tt)
+any_line server ask = AsksNode server ask (λ answer. line_done (reply_in answer) tt)
 
 abbrev pub is_nothing_here : Option NodeReply → Bool
 is_nothing_here (Some (replies.Refused NothingHere)) = true
@@ -235,8 +235,8 @@ is_nothing_here reply = false
 
 -- the release of the locks, where nothing is prepared
 abbrev pub release_line : ℕ → ℕ → Bool → Dialogue (LineEnd (Unit {0}) (Unit {0}))
-release_line txn server true = and_then (any_line server (Work (Release txn))) (λ none. none) (λ reply none. done tt none)
-release_line txn server false = done tt tt
+release_line txn server true = and_then (any_line server (Work (Release txn))) (λ none. none) (λ reply none. line_done tt none)
+release_line txn server false = line_done tt tt
 
 -- the verdict, and where nothing is prepared there, the release of the locks; whatever is answered
 abbrev pub end_line : EndedView → ℕ → Dialogue (LineEnd (Unit {0}) (Unit {0}))
@@ -244,26 +244,26 @@ end_line old server = and_then (any_line server (decide_ask old)) (λ none. none
 
 -- at each of the servers, in their order
 abbrev pub ending_line : EndedView → List ℕ → Dialogue (LineEnd (Unit {0}) (Unit {0}))
-ending_line old [] = done tt tt
+ending_line old [] = line_done tt tt
 ending_line old (server ∷ servers) = and_then (end_line old server) (λ none. none) (λ all none. ending_line old servers)
 
 -- ---- apply
 
-abbrev pub applied : ℕ → NodeReply → Result Applied LineFault
-applied server replies.Installed = Ok Installed
-applied server replies.Discarded = Ok Discarded
-applied server (replies.Refused refusal) = Err (faults.Server server refusal)
-applied server reply = Err (faults.WrongReply (parts.Server server))
+abbrev pub apply_answer : ℕ → NodeReply → Result Applied LineFault
+apply_answer server replies.Installed = Ok Installed
+apply_answer server replies.Discarded = Ok Discarded
+apply_answer server (replies.Refused refusal) = Err (faults.Server server refusal)
+apply_answer server reply = Err (faults.WrongReply (parts.Server server))
 
 abbrev pub apply_line : ℕ → Verdict → ℕ → ℕ → Dialogue (LineEnd Applied (Unit {0}))
 apply_line txn verdict cite server =
-    and_then (node_line server (Work (Decide txn verdict cite))) (λ none. none) (λ told none. answers (applied told.server told.reply) none)
+    and_then (node_line server (Work (Decide txn verdict cite))) (λ none. none) (λ told none. answers (apply_answer told.server told.reply) none)
 
 -- ---- a stop in the midst of an ask
 
 -- the server is marked down
 abbrev pub down_line : ℕ → Dialogue (LineEnd (Unit {0}) (Unit {0}))
-down_line server = and_then (view_line (Mark server false)) (λ none. none) (λ told none. done tt none)
+down_line server = and_then (view_line (Mark server false)) (λ none. none) (λ told none. line_done tt none)
 
 -- the server stops in the work, behind so many of its records, and is marked down, whatever is answered
 abbrev pub stop_line : ℕ → WorkAsk → ℕ → Dialogue (LineEnd (Unit {0}) (Unit {0}))
@@ -273,8 +273,8 @@ stop_line server ask after = and_then (any_line server (CrashIn after ask)) (λ 
 abbrev pub first_prepare_stop : VotingView → ℕ → ℕ → Dialogue (LineEnd Bool VotingView)
 first_prepare_stop old server after =
     unless (ask_fault old.txn server) old
-    (and_then (stop_line server (prepare_work old.txn server) after) (λ none. old) (λ all none. done false old))
+    (and_then (stop_line server (prepare_work old.txn server) after) (λ none. old) (λ all none. line_done false old))
 
 -- whether the vote is there, which is answered with no ask
 abbrev pub prepare_stop_line : VotingView → ℕ → ℕ → Dialogue (LineEnd Bool VotingView)
-prepare_stop_line old server after = if has_vote old.votes server then done true old else first_prepare_stop old server after
+prepare_stop_line old server after = if has_vote old.votes server then line_done true old else first_prepare_stop old server after

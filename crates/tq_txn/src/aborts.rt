@@ -34,7 +34,7 @@ pub(crate) fn resolved_voting(voting: Voting, verdict: Option<Verdict>, cite: u6
 }
 
 /// The transaction after the desk's answer. It takes no memory: what the desk told stands in its state.
-fn resolved(txn: Txn, verdict: Option<Verdict>, cite: u64) -> Txn
+fn txn_after_resolve(txn: Txn, verdict: Option<Verdict>, cite: u64) -> Txn
     ensures { result ≡ spec.resolved_with txn cite verdict }
 {
     match txn {
@@ -55,7 +55,7 @@ struct Resolution {
 
 fn resolution_in(reply: DeskReply) -> Resolution
     ensures aborts { result.aborts ≡ spec.is_abort reply }
-    ensures answer { result.answer ≡ spec.aborted reply }
+    ensures answer { result.answer ≡ spec.abort_answer reply }
     ensures verdict { result.verdict ≡ ending.resolve_verdict reply }
 {
     match reply {
@@ -75,7 +75,7 @@ fn resolution_in(reply: DeskReply) -> Resolution
 
 fn told_verdict(verdict: Verdict) -> Resolution
     ensures aborts { result.aborts ≡ spec.is_abort (DeskReply.Verdict verdict) }
-    ensures answer { result.answer ≡ spec.aborted (DeskReply.Verdict verdict) }
+    ensures answer { result.answer ≡ spec.abort_answer (DeskReply.Verdict verdict) }
     ensures verdict { result.verdict ≡ Some verdict }
 {
     let committed = is_commit(&verdict);
@@ -115,7 +115,8 @@ fn end_where_aborted<A: Asker>(
     txn: Txn,
 ) -> Abortion
     requires { states.levels_of txn ≡ A.levels asker.old }
-    ensures asked { (reply : DeskReply) → aborts ≡ spec.is_abort reply → answer ≡ spec.aborted reply
+    ensures asked { (reply : DeskReply) → aborts ≡ spec.is_abort reply
+        → answer ≡ spec.abort_answer reply
         → line.IsAsked (spec.abort_end reply txn)
         (A.told asker.old) (A.told asker.new) result.answer result.txn }
     ensures same { result.txn ≡ txn }
@@ -168,9 +169,9 @@ pub fn abort<A: Asker>(asker: &mut A, alloc: Global, txn: Txn) -> Abortion
 fn resolve_and_end<A: Asker>(asker: &mut A, alloc: Global, txn: Txn, told: DeskTold) -> Abortion
     requires tree { states.levels_of txn ≡ A.levels asker.old }
     requires asked { told.ask ≡ DeskAsk.Resolve (states.number_of txn) }
-    ensures asked { line.IsAsked (spec.abort_end told.reply (spec.resolved txn told))
+    ensures asked { line.IsAsked (spec.abort_end told.reply (spec.txn_after_resolve txn told))
         (A.told asker.old) (A.told asker.new) result.answer result.txn }
-    ensures value { result.txn ≡ spec.resolved txn told }
+    ensures value { result.txn ≡ spec.txn_after_resolve txn told }
     ensures tree { A.levels asker.new ≡ A.levels asker.old }
 {
     let DeskTold {
@@ -183,6 +184,6 @@ fn resolve_and_end<A: Asker>(asker: &mut A, alloc: Global, txn: Txn, told: DeskT
         answer,
         verdict,
     } = resolution_in(reply);
-    let txn = resolved(txn, verdict, number);
+    let txn = txn_after_resolve(txn, verdict, number);
     end_where_aborted(asker, alloc, aborts, answer, txn)
 }

@@ -49,8 +49,8 @@ struct Ruling {
 
 /// What the desk's answer to a commit says, which cites these votes. It takes no memory.
 fn ruling_in(reply: DeskReply, cited: SharedSeq<CitedVote>) -> Ruling
-    ensures answer { result.answer ≡ spec.committed reply }
-    ensures verdict { (votes : List Vote) → cited ≡ log.cited votes
+    ensures answer { result.answer ≡ spec.commit_answer reply }
+    ensures verdict { (votes : List Vote) → cited ≡ log.cited_votes votes
         → result.verdict ≡ ending.commit_verdict votes reply }
 {
     match reply {
@@ -58,7 +58,7 @@ fn ruling_in(reply: DeskReply, cited: SharedSeq<CitedVote>) -> Ruling
             answer: Ok(serial),
             verdict: Some(Verdict::Commit { votes: cited }),
         },
-        DeskReply::Refused(refusal) => refused(refusal),
+        DeskReply::Refused(refusal) => refusal_ruling(refusal),
         _ => Ruling {
             answer: Err(LineFault::WrongReply { part: Part::Desk }),
             verdict: None,
@@ -66,7 +66,7 @@ fn ruling_in(reply: DeskReply, cited: SharedSeq<CitedVote>) -> Ruling
     }
 }
 
-fn refused(refusal: DeskRefusal) -> Ruling
+fn refusal_ruling(refusal: DeskRefusal) -> Ruling
     ensures answer { result.answer ≡ Err (line.fault_of_desk refusal) }
     ensures verdict { (votes : List Vote)
         → result.verdict ≡ ending.commit_verdict votes (DeskReply.Refused refusal) }
@@ -86,11 +86,11 @@ fn refused(refusal: DeskRefusal) -> Ruling
 }
 
 /// The transaction after the desk's answer to its commit. It takes no memory: what the desk told stands in its state.
-fn decided(ready: Ready, told: DeskTold, cited: SharedSeq<CitedVote>) -> Decision
+fn decision_of(ready: Ready, told: DeskTold, cited: SharedSeq<CitedVote>) -> Decision
     requires asked { told.ask ≡ evidence_of ready }
-    requires cited { cited ≡ log.cited ready.votes }
-    ensures answer { result.answer ≡ spec.committed told.reply }
-    ensures txn { result.txn ≡ spec.decided ready told }
+    requires cited { cited ≡ log.cited_votes ready.votes }
+    ensures answer { result.answer ≡ spec.commit_answer told.reply }
+    ensures txn { result.txn ≡ spec.txn_after_answer ready told }
 {
     let DeskTold {
         number,
@@ -143,7 +143,7 @@ pub fn decide<A: Asker>(asker: &mut A, alloc: Global, voting: Voting) -> Decisio
         },
     };
     match asker.desk(alloc, ask) {
-        Ok(told) => decided(ready, told, cited),
+        Ok(told) => decision_of(ready, told, cited),
         Err(fault) => Decision {
             answer: Err(LineFault::from(fault)),
             txn: Txn::Voting(ready.into_voting()),

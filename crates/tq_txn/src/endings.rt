@@ -72,7 +72,7 @@ fn take_vote(voting: &mut Voting, ballots: Ballots, told: NodeTold) -> Result<()
     requires good { IsVoting (with_ballots voting.old ballots) }
     requires room { 1 ≤ ballots.room }
     ensures asks { (exchanges : List Exchange)
-        → line.Follows (spec.voted (with_ballots voting.old ballots) told)
+        → line.Follows (spec.vote_answer (with_ballots voting.old ballots) told)
         exchanges exchanges (line.ended_by result voting.new) }
     ensures txn { voting.new.txn ≡ voting.old.txn }
     ensures kept { has_vote ballots.votes told.server ≡ false
@@ -224,8 +224,8 @@ pub(crate) fn end_at_each<A: Asker>(
 }
 
 /// What a server did with the verdict.
-fn applied(server: u64, reply: &NodeReply) -> Result<Applied, LineFault>
-    ensures { result ≡ spec.applied server reply.now }
+fn apply_answer(server: u64, reply: &NodeReply) -> Result<Applied, LineFault>
+    ensures { result ≡ spec.apply_answer server reply.now }
 {
     match reply {
         NodeReply::Installed => Ok(Applied::Installed),
@@ -259,7 +259,7 @@ pub fn apply_at<A: Asker>(
     let decide = WorkAsk::Decide { txn, verdict, cite };
     let ask = NodeAsk::Work(Shared::new(alloc, decide)?);
     match asker.node(alloc, server, ask) {
-        Ok(told) => applied(told.server, &told.reply),
+        Ok(told) => apply_answer(told.server, &told.reply),
         Err(fault) => Err(LineFault::from(fault)),
     }
 }

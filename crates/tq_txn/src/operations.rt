@@ -32,8 +32,8 @@ fn are_of(levels: Levels, servers: &[ServerId]) -> bool
 
 /// The quorum that the view chose.
 #[inline(always)]
-fn chosen(levels: Levels, reply: ViewReply) -> Result<Quorum, LineFault>
-    ensures value { spec.servers_of result ≡ spec.chosen levels reply }
+fn chosen_quorum(levels: Levels, reply: ViewReply) -> Result<Quorum, LineFault>
+    ensures value { spec.servers_of result ≡ spec.quorum_answer levels reply }
     ensures tree { IfOk result (λ quorum. quorum.levels ≡ levels) }
 {
     match reply {
@@ -72,7 +72,7 @@ fn choose<A: Asker>(
     ensures tree { A.levels asker.new ≡ A.levels asker.old }
 {
     match asker.view(alloc, ViewAsk::Choose { purpose }) {
-        Ok(told) => chosen(levels, told.reply),
+        Ok(told) => chosen_quorum(levels, told.reply),
         Err(fault) => Err(LineFault::from(fault)),
     }
 }
@@ -86,9 +86,9 @@ struct WantedLock {
 
 /// The lock of this mode that a server's answer grants, with the ask once more.
 #[inline(always)]
-fn granted(mode: Mode, told: NodeTold) -> Result<(Grant, NodeAsk), LineFault>
+fn granted_lock(mode: Mode, told: NodeTold) -> Result<(Grant, NodeAsk), LineFault>
     ensures told { (txn : ℕ) (file : List ℕ) → told.ask ≡ spec.lock_ask txn file mode
-        → spec.granted told told.reply ≡ spec.grant_answer txn file result }
+        → spec.lock_answer told told.reply ≡ spec.grant_answer txn file result }
     ensures grant { IfOk result (λ locked. spec.IsLockAt told.server mode locked.0) }
     ensures ask { IfOk result (λ locked. locked.1 ≡ told.ask) }
 {
@@ -141,7 +141,7 @@ fn lock_at<A: Asker>(
     ensures tree { A.levels asker.new ≡ A.levels asker.old }
 {
     match asker.node(alloc, server, ask) {
-        Ok(told) => granted(lock.mode, told),
+        Ok(told) => granted_lock(lock.mode, told),
         Err(fault) => Err(LineFault::from(fault)),
     }
 }
@@ -233,16 +233,16 @@ fn lock_quorum<A: Asker>(
     requires { open.old.levels ≡ A.levels asker.old }
     ensures asked { line.IsTried (spec.quorum_line file.now mode open.old)
         (A.told asker.old) (A.told asker.new)
-        (spec.granting_answer open.old.txn file.now result) (spec.locked open.new result) }
+        (spec.granting_answer open.old.txn file.now result) (spec.txn_after_locks open.new result) }
     ensures levels { open.new.levels ≡ open.old.levels }
-    ensures kept { open_spec.IsTouched open.old (spec.locked open.new result) }
+    ensures kept { open_spec.IsTouched open.old (spec.txn_after_locks open.new result) }
     ensures heard { IfOk result (λ granting.
         AreHeard open.old.txn file.now (A.told asker.new) granting.grants) }
     ensures member { IfOk result (λ it. open_spec.is_member open.old.levels it.grants ≡ true) }
     ensures modes { IfOk result (λ granting. spec.AreOf mode granting.grants) }
     ensures take { IfOk result (λ granting. handed.CanTake granting (granters granting.grants)) }
     ensures of_tree { IfOk result (λ granting. handed.IsOfTree open.new.levels granting) }
-    ensures good { OnOk result (open_spec.IsOpen (spec.locked open.new result)) }
+    ensures good { OnOk result (open_spec.IsOpen (spec.txn_after_locks open.new result)) }
     ensures tree { A.levels asker.new ≡ A.levels asker.old }
 {
     let ask = lock_ask(alloc, open, file, mode)?;
@@ -346,7 +346,7 @@ pub fn write_file<A: Asker>(
     ensures knows { IsKnown Txn.Open (A.told asker.old) (A.told asker.new) open.old open.new }
     ensures tree { A.levels asker.new ≡ A.levels asker.old }
 {
-    if let Some(op) = open.written(file) {
+    if let Some(op) = open.op_written(file) {
         let version = op.version;
         open.rewrite(file, content);
         return Ok(version);

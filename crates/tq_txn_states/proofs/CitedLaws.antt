@@ -21,10 +21,10 @@ use Rattle.tq_evidence.specs.declared.vote.Vote.{Vote}
 use Rattle.tq_store.specs.Names.{same_name}
 use Rattle.tq_txn_states.specs.declared.told.NodeTold.{NodeTold}
 use Rattle.tq_txn_states.specs.Cited.{grant_told, answers_of, vote_told, AddsOnly, AddsVote, CitesOnly, IsOpTold, IsVoteTold, KeepsOnly, VotesOnly}
-use Rattle.tq_txn_states.specs.Open.{OpenView, fits, granted_by, grant_of, grants_of, taken, rewritten}
+use Rattle.tq_txn_states.specs.Open.{OpenView, fits, granted_by, grant_of, grants_of, txn_after_op, txn_after_rewrite}
 use Rattle.tq_evidence.specs.Evidence.{writes_file}
-use Rattle.tq_txn_states.specs.Sets.{put, changed}
-use Rattle.tq_txn_states.specs.Voting.{VotingView, voted_by, vote_of, with_vote, closed, evidence_of, has_vote, is_of_server, voted, vote_after}
+use Rattle.tq_txn_states.specs.Sets.{put, with_first_changed}
+use Rattle.tq_txn_states.specs.Voting.{VotingView, voted_by, vote_of, with_vote, voting_of, evidence_of, has_vote, is_of_server, txn_after_vote, vote_after}
 
 -- ---- lists
 
@@ -40,12 +40,12 @@ module _ {X : Type 0} (P : X → Type 0) where
         | false ↦ All-cons P first (put later x rest) (All-head P first rest all) (all_put later x rest here (All-tail P first rest all))
       ]
 
-  all_changed : (test : X → Bool) (change : X → X) → ((x : X) → P x → P (change x)) → (xs : List X) → All P xs → All P (changed test change xs)
+  all_changed : (test : X → Bool) (change : X → X) → ((x : X) → P x → P (change x)) → (xs : List X) → All P xs → All P (with_first_changed test change xs)
   all_changed test change keeps [] all = all
   all_changed test change keeps (first ∷ rest) all =
-      elim (test first) as (λ b. All P (cond b (change first ∷ rest) (first ∷ changed test change rest))) [
+      elim (test first) as (λ b. All P (cond b (change first ∷ rest) (first ∷ with_first_changed test change rest))) [
         | true ↦ All-cons P (change first) rest (keeps first (All-head P first rest all)) (All-tail P first rest all)
-        | false ↦ All-cons P first (changed test change rest) (All-head P first rest all) (all_changed test change keeps rest (All-tail P first rest all))
+        | false ↦ All-cons P first (with_first_changed test change rest) (All-head P first rest all) (all_changed test change keeps rest (All-tail P first rest all))
       ]
 
 -- ---- more is told
@@ -105,11 +105,11 @@ all_told txn file (first ∷ rest) =
 
 -- ---- a transaction that reads and writes
 
-taken_keeps : (old : OpenView) (op : Op) (told answers : List NodeTold) → IsOpTold old.txn (told ++ answers) op → KeepsOnly told old → KeepsOnly (told ++ answers) (taken old op)
+taken_keeps : (old : OpenView) (op : Op) (told answers : List NodeTold) → IsOpTold old.txn (told ++ answers) op → KeepsOnly told old → KeepsOnly (told ++ answers) (txn_after_op old op)
 taken_keeps old op told answers here is =
     (all_put (IsOpTold old.txn (told ++ answers)) (λ (other : Op). is_lt (name_cmp op.file other.file)) op old.ops here (All-weaker (IsOpTold old.txn told) (IsOpTold old.txn (told ++ answers)) (op_more old.txn told answers) old.ops is.0), All-nil (IsVoteTold old.txn (told ++ answers)))
 
-pub rewrite_keeps : (old : OpenView) (file content : List ℕ) (told : List NodeTold) → KeepsOnly told old → KeepsOnly told (rewritten old file content)
+pub rewrite_keeps : (old : OpenView) (file content : List ℕ) (told : List NodeTold) → KeepsOnly told old → KeepsOnly told (txn_after_rewrite old file content)
 rewrite_keeps old file content told is =
     (all_changed (IsOpTold old.txn told) (writes_file file) (λ (op : Op). record op { content = content }) (λ op here. here) old.ops is.0, All-nil (IsVoteTold old.txn told))
 
@@ -127,7 +127,7 @@ voted_is txn server number ask reply vote is = cc
 
 votes_keep : (P : Vote → Type 0) (vote : Vote) (votes : List Vote) → P vote → All P votes → All P (with_vote vote votes)
 votes_keep P vote votes here all =
-    elim (has_vote votes vote.server) as (λ b. All P (cond b (changed (is_of_server vote.server) (λ other. vote) votes) (put (λ (other : Vote). nat_lt vote.server other.server) vote votes))) [
+    elim (has_vote votes vote.server) as (λ b. All P (cond b (with_first_changed (is_of_server vote.server) (λ other. vote) votes) (put (λ (other : Vote). nat_lt vote.server other.server) vote votes))) [
       | true ↦ all_changed P (is_of_server vote.server) (λ other. vote) (λ other there. here) votes all
       | false ↦ all_put P (λ (other : Vote). nat_lt vote.server other.server) vote votes here all
     ]
@@ -138,7 +138,7 @@ vote_keeps old answer told is =
     let txn = old.txn.txn in
     let ops = All-weaker (IsOpTold txn told) (IsOpTold txn all) (op_more txn told (answer ∷ [])) old.txn.ops is.0 in
     let votes = All-weaker (IsVoteTold txn told) (IsVoteTold txn all) (vote_more txn told (answer ∷ [])) old.votes is.1 in
-    elim (vote_of txn answer) as (λ o. vote_of txn answer ≡ o → VotesOnly all (voted old o)) [
+    elim (vote_of txn answer) as (λ o. vote_of txn answer ≡ o → VotesOnly all (txn_after_vote old o)) [
       | None ↦ λ e. (ops, votes)
       | Some vote ↦ λ e.
           let same = voted_is txn answer.server answer.number answer.ask answer.reply vote e in
@@ -148,14 +148,14 @@ vote_keeps old answer told is =
 
 -- ---- the same, of what a call leaves
 
-pub taken_cited : (kind : OpKind) (old new : OpenView) (op : Op) (answers : List NodeTold) → new ≡ taken old op → op.grants ≡ grants_of kind old.txn op.file answers → AddsOnly answers old new
+pub taken_cited : (kind : OpKind) (old new : OpenView) (op : Op) (answers : List NodeTold) → new ≡ txn_after_op old op → op.grants ≡ grants_of kind old.txn op.file answers → AddsOnly answers old new
 taken_cited kind old new op answers is grants told kept =
     let P : List Grant → Type 0 = λ gs. All (λ grant. Contains (told ++ answers) (grant_told old.txn op.file grant)) gs in
     let here : IsOpTold old.txn (told ++ answers) op = subst P (sym grants) (op_told kind old.txn op.file told answers) in
     subst (KeepsOnly (told ++ answers)) (sym is) (taken_keeps old op told answers here kept)
 
 -- the same, by the answers that told of its grants
-pub granted_cited : (old new : OpenView) (op : Op) (grants : List Grant) → new ≡ taken old op → op.grants ≡ grants → AddsOnly (answers_of old.txn op.file grants) old new
+pub granted_cited : (old new : OpenView) (op : Op) (grants : List Grant) → new ≡ txn_after_op old op → op.grants ≡ grants → AddsOnly (answers_of old.txn op.file grants) old new
 granted_cited old new op grants is same told kept =
     let answers = answers_of old.txn op.file grants in
     let P : List Grant → Type 0 = λ gs. All (λ grant. Contains (told ++ answers) (grant_told old.txn op.file grant)) gs in
@@ -164,13 +164,13 @@ granted_cited old new op grants is same told kept =
     (λ grant here. Contains-append_right told answers (grant_told old.txn op.file grant) here) grants (all_told old.txn op.file grants) in
     subst (KeepsOnly (told ++ answers)) (sym is) (taken_keeps old op told answers (subst P (sym same) all) kept)
 
-pub close_cited : (old : OpenView) (new : VotingView) → new ≡ closed old → (told : List NodeTold) → KeepsOnly told old → VotesOnly told new
+pub close_cited : (old : OpenView) (new : VotingView) → new ≡ voting_of old → (told : List NodeTold) → KeepsOnly told old → VotesOnly told new
 close_cited old new is told kept = subst (VotesOnly told) (sym is) kept
 
 pub vote_cited : (old new : VotingView) (answer : NodeTold) (txn : ℕ) (vote : Vote) → txn ≡ old.txn.txn → vote_of txn answer ≡ Some vote → new ≡ record old { votes = with_vote vote old.votes } → AddsVote answer old new
 vote_cited old new answer txn vote same found is told kept =
     let P : ℕ → Type 0 = λ number. vote_of number answer ≡ Some vote in
-    let by : vote_after old answer ≡ record old { votes = with_vote vote old.votes } = ap (voted old) (subst P same found) in
+    let by : vote_after old answer ≡ record old { votes = with_vote vote old.votes } = ap (txn_after_vote old) (subst P same found) in
     subst (VotesOnly (told ++ answer ∷ [])) (by ∙ sym is) (vote_keeps old answer told kept)
 
 pub evidence_cited : (old : VotingView) (txn : ℕ) (ops : List Op) (votes : List Vote) → txn ≡ old.txn.txn → ops ≡ old.txn.ops → votes ≡ old.votes → (told : List NodeTold) → VotesOnly told old → CitesOnly told (Commit txn ops votes)

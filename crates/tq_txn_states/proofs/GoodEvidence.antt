@@ -12,7 +12,7 @@ use Rattle.tq_evidence.specs.declared.grant.Grant.{Grant}
 use Rattle.tq_evidence.specs.declared.op.Op.{Op}
 use Rattle.tq_evidence.specs.declared.rule.Rule.{Rule}
 use Rattle.tq_evidence.specs.declared.vote.Vote.{Vote}
-use Rattle.tq_evidence.specs.Evidence.{is_write, covers, is_grant_covered, is_covered, are_grants_covered, are_covered, has_server, is_server_of, put_op, writes_by_file, have_writes, stands_before, ops_rise, failed, IsGood}
+use Rattle.tq_evidence.specs.Evidence.{is_write, covers, is_grant_covered, is_covered, are_grants_covered, are_covered, has_server, is_server_of, put_op, writes_by_file, have_writes, stands_before, ops_rise, rule_unless, IsGood}
 use Rattle.tq_txn_states.specs.Open.{IsOpen}
 use Rattle.tq_txn_states.specs.Voting.{VotingView, IsVoting, covers_grant, covers_op, has_vote, has_votes, writes_in}
 use Rattle.tq_txn_states.proofs.NumberSets.{has-all}
@@ -130,7 +130,7 @@ sorted done (op ∷ ops) up all =
     ] refl
 
 -- the rules one after another
-passes : (holds : Bool) (rule : Rule) (next : Option Rule) → holds ≡ true → next ≡ None → failed holds rule next ≡ None
+passes : (holds : Bool) (rule : Rule) (next : Option Rule) → holds ≡ true → next ≡ None → rule_unless holds rule next ≡ None
 passes true rule next is none = none
 passes false rule next is none = absurd (false≢true is)
 

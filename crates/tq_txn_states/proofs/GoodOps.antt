@@ -12,7 +12,7 @@ use Rattle.tq_evidence.specs.declared.op.Op.{Op}
 use Rattle.tq_evidence.specs.Evidence.{is_write, servers_of, has_server, stands_before, ops_rise, has_quorum, has_exclusive_grants, has_version, writes_file}
 use Rattle.tq_store.specs.Names.{same_name}
 use Rattle.tq_txn_states.specs.Sets.{with_numbers}
-use Rattle.tq_txn_states.specs.Open.{OpenView, IsOpen, IsGoodOp, is_written, is_used, with_op, with_content, taken, rewritten}
+use Rattle.tq_txn_states.specs.Open.{OpenView, IsOpen, IsGoodOp, is_written, is_used, with_op, with_content, txn_after_op, txn_after_rewrite}
 use Rattle.tq_txn_states.proofs.NumberSets.{has-map, has-with_numbers}
 use Rattle.tq_txn_states.proofs.Puts.{list_all-put, list_any-put, list_all-changed, list_any-changed}
 
@@ -69,7 +69,7 @@ ops_rise-with_op (first ∷ rest) op fresh up =
     ] refl
 
 -- a good operation more
-pub IsOpen-taken : (old : OpenView) (op : Op) → IsGoodOp old op → IsOpen old → IsOpen (taken old op)
+pub IsOpen-taken : (old : OpenView) (op : Op) → IsGoodOp old op → IsOpen old → IsOpen (txn_after_op old op)
 IsOpen-taken old op good all =
     record {
       rise = ops_rise-with_op old.ops op good.fresh all.rise;
@@ -110,7 +110,7 @@ module _ (file content : List ℕ) where
   kept false x y z is h = absurd (false≢true is)
 
   -- a transaction that writes other content
-  pub IsOpen-rewritten : (old : OpenView) → IsOpen old → IsOpen (rewritten old file content)
+  pub IsOpen-rewritten : (old : OpenView) → IsOpen old → IsOpen (txn_after_rewrite old file content)
   IsOpen-rewritten old all =
       let change : Op → Op = λ op. record op { content = content } in
       record {

@@ -7,8 +7,8 @@ use Rattle.std.proofs.lemmas.Bool.{eqb-true}
 use Rattle.tq_evidence.specs.declared.op.Op.{Op}
 use Rattle.tq_evidence.specs.declared.vote.Vote.{Vote}
 use Rattle.tq_evidence.specs.Evidence.{rises, votes_rise, has_writes, is_server_of}
-use Rattle.tq_txn_states.specs.Sets.{put, changed}
-use Rattle.tq_txn_states.specs.Voting.{VotingView, with_vote, covers_op, writes_in, has_vote, is_of_server, lost, IsVoting, IsGoodVote}
+use Rattle.tq_txn_states.specs.Sets.{put, with_first_changed}
+use Rattle.tq_txn_states.specs.Voting.{VotingView, with_vote, covers_op, writes_in, has_vote, is_of_server, lost_file, IsVoting, IsGoodVote}
 use Rattle.tq_txn_states.proofs.NumberSets.{has-map, map-put, rises-with_server, none_below, put_above}
 use Rattle.tq_txn_states.proofs.Puts.{list_all-put, list_all-changed}
 use Rattle.tq_txn_states.proofs.Searched.{found_at, put_at, changed_at}
@@ -42,10 +42,10 @@ pub appended : (vote : Vote) (votes : List Vote) → list_all (λ other. nat_lt 
 appended vote votes all =
     rw (none_below (λ (v : Vote). v.server) vote.server votes all) (put_above (λ (v : Vote). v.server) vote votes all)
 
-same_servers : (vote : Vote) (votes : List Vote) → map (λ v. v.server) (changed (is_of_server vote.server) (λ other. vote) votes) ≡ map (λ v. v.server) votes
+same_servers : (vote : Vote) (votes : List Vote) → map (λ v. v.server) (with_first_changed (is_of_server vote.server) (λ other. vote) votes) ≡ map (λ v. v.server) votes
 same_servers vote [] = refl
 same_servers vote (first ∷ rest) =
-    elim (first.server == vote.server) as (λ b. (first.server == vote.server) ≡ b → map (λ v. v.server) (cond b (vote ∷ rest) (first ∷ changed (is_of_server vote.server) (λ other. vote) rest)) ≡ first.server ∷ map (λ v. v.server) rest) [
+    elim (first.server == vote.server) as (λ b. (first.server == vote.server) ≡ b → map (λ v. v.server) (cond b (vote ∷ rest) (first ∷ with_first_changed (is_of_server vote.server) (λ other. vote) rest)) ≡ first.server ∷ map (λ v. v.server) rest) [
       | true ↦ λ is. ap (λ s. s ∷ map (λ v. v.server) rest) (sym (eqb-true first.server vote.server is))
       | false ↦ λ is. ap (λ ss. first.server ∷ ss) (same_servers vote rest)
     ] refl
@@ -53,15 +53,15 @@ same_servers vote (first ∷ rest) =
 pub votes_rise-with_vote : (vote : Vote) (votes : List Vote) → votes_rise votes ≡ true → votes_rise (with_vote vote votes) ≡ true
 votes_rise-with_vote vote votes up =
     let up_numbers = sym (votes_rise-map votes) ∙ up in
-    elim (has_vote votes vote.server) as (λ b. has_vote votes vote.server ≡ b → votes_rise (cond b (changed (is_of_server vote.server) (λ other. vote) votes) (put (λ other. nat_lt vote.server other.server) vote votes)) ≡ true) [
-      | true ↦ λ is. votes_rise-map (changed (is_of_server vote.server) (λ other. vote) votes) ∙ ap rises (same_servers vote votes) ∙ up_numbers
+    elim (has_vote votes vote.server) as (λ b. has_vote votes vote.server ≡ b → votes_rise (cond b (with_first_changed (is_of_server vote.server) (λ other. vote) votes) (put (λ other. nat_lt vote.server other.server) vote votes)) ≡ true) [
+      | true ↦ λ is. votes_rise-map (with_first_changed (is_of_server vote.server) (λ other. vote) votes) ∙ ap rises (same_servers vote votes) ∙ up_numbers
       | false ↦ λ is. votes_rise-map (put (λ other. nat_lt vote.server other.server) vote votes) ∙ ap rises (map-put (λ (v : Vote). v.server) vote votes)
           ∙ rises-with_server vote.server (map (λ v. v.server) votes) (has-map (λ (v : Vote). v.server) votes vote.server ∙ is) up_numbers
     ] refl
 
 pub list_all-with_vote : (p : Vote → Bool) (vote : Vote) (votes : List Vote) → p vote ≡ true → list_all p votes ≡ true → list_all p (with_vote vote votes) ≡ true
 list_all-with_vote p vote votes here all =
-    elim (has_vote votes vote.server) as (λ b. list_all p (cond b (changed (is_of_server vote.server) (λ other. vote) votes) (put (λ other. nat_lt vote.server other.server) vote votes)) ≡ true) [
+    elim (has_vote votes vote.server) as (λ b. list_all p (cond b (with_first_changed (is_of_server vote.server) (λ other. vote) votes) (put (λ other. nat_lt vote.server other.server) vote votes)) ≡ true) [
       | true ↦ list_all-changed (is_of_server vote.server) (λ other. vote) p votes (λ x is was. here) all
       | false ↦ list_all-put (λ other. nat_lt vote.server other.server) p vote votes here all
     ]
@@ -78,7 +78,7 @@ IsVoting-with_vote old vote good all =
     }
 
 -- a vote that lost no lock covers each grant
-pub none_lost : (ops : List Op) (vote : Vote) → lost ops vote ≡ None → list_all (covers_op vote) ops ≡ true
+pub none_lost : (ops : List Op) (vote : Vote) → lost_file ops vote ≡ None → list_all (covers_op vote) ops ≡ true
 none_lost [] vote none = refl
 none_lost (op ∷ ops) vote none =
     elim (covers_op vote op) as (λ b. option_map (λ o. o.file) (cond (not b) (Some op) (find (λ o. not (covers_op vote o)) ops)) ≡ None → (b && list_all (covers_op vote) ops) ≡ true) [

@@ -10,8 +10,8 @@ use Rattle.tq_evidence.specs.declared.op.Op.{Op}
 use Rattle.tq_evidence.specs.Evidence.{granters, greatest, servers_of}
 use Rattle.tq_txn_states.specs.declared.granting.Kept.{Kept}
 use Rattle.tq_txn_states.specs.declared.fault.TxnFault.TheVariants.{VersionFull}
-use Rattle.tq_txn_states.specs.Open.{OpenView, IsGoodOp, IsOpen, IsTouched, is_full, taken, version_after, version_fault, with_op}
-use Rattle.tq_txn_states.specs.Granting.{GrantingView, CanGrant, CanPut, CanTake, Fits, IsGrown, IsKept, IsOfTree, are_noted, keeping, noted}
+use Rattle.tq_txn_states.specs.Open.{OpenView, IsGoodOp, IsOpen, IsTouched, is_full, txn_after_op, version_after, version_fault, with_op}
+use Rattle.tq_txn_states.specs.Granting.{GrantingView, CanGrant, CanPut, CanTake, Fits, IsGrown, IsKept, IsOfTree, are_noted, txn_with_kept, txn_with_grants}
 use Rattle.tq_txn_states.specs.Sets.{IsReady, IsWithin, RoomySet, with_number, with_numbers}
 use Rattle.tq_txn_states.proofs.NumberSets.{has-with_number, with_numbers-held, within-with_number}
 
@@ -63,7 +63,7 @@ pub noted_push : (touched : List ℕ) (before after : List Grant) (grant : Grant
 noted_push touched before after grant is all here = subst (λ gs. are_noted touched gs ≡ true) (sym is) (noted_more touched before grant all here)
 
 -- a transaction that takes back what grew is touched at most
-pub touched_by_grown : (open_txn : OpenView) (old new : GrantingView) → IsGrown old new → IsTouched (noted open_txn old) (noted open_txn new)
+pub touched_by_grown : (open_txn : OpenView) (old new : GrantingView) → IsGrown old new → IsTouched (txn_with_grants open_txn old) (txn_with_grants open_txn new)
 touched_by_grown open_txn old new grown = record {
   levels = refl;
   limits = refl;
@@ -139,11 +139,11 @@ version_refused grants is = by_fault (is_full (greatest grants)) (greatest grant
 -- ---- what is kept
 
 -- the transaction that keeps what was handed out is the one that has taken it back
-pub kept_as : (old : OpenView) (kept : Kept) (granting : GrantingView) → IsKept kept granting → keeping old kept ≡ noted old granting
+pub kept_as : (old : OpenView) (kept : Kept) (granting : GrantingView) → IsKept kept granting → txn_with_kept old kept ≡ txn_with_grants old granting
 kept_as old kept granting is = λ i. record old { ops = is.ops i; voters = (is.voters i).servers; touched = (is.touched i).servers }
 
 -- what was handed out fits as it is taken back
-pub fits_back : (old : OpenView) (kept : Kept) (granting : GrantingView) → IsKept kept granting → IsOfTree old.levels granting → IsOpen (noted old granting) → Fits old kept
+pub fits_back : (old : OpenView) (kept : Kept) (granting : GrantingView) → IsKept kept granting → IsOfTree old.levels granting → IsOpen (txn_with_grants old granting) → Fits old kept
 fits_back old kept granting is of good = record {
   voters = ap (λ (set : RoomySet). set.levels) is.voters ∙ of.voters;
   touched = ap (λ (set : RoomySet). set.levels) is.touched ∙ of.touched;
@@ -156,8 +156,8 @@ place_left kept granting is some =
     omega arith
 
 -- an operation by the grants that came in can be taken
-pub can_put : (old : OpenView) (kept : Kept) (granting : GrantingView) (op : Op) → IsKept kept granting → IsOfTree old.levels granting → IsOpen (noted old granting) → CanTake granting (granters granting.grants)
-    → op.grants ≡ granting.grants → are_noted granting.touched.servers granting.grants ≡ true → IsGoodOp (noted old granting) op → CanPut old kept op
+pub can_put : (old : OpenView) (kept : Kept) (granting : GrantingView) (op : Op) → IsKept kept granting → IsOfTree old.levels granting → IsOpen (txn_with_grants old granting) → CanTake granting (granters granting.grants)
+    → op.grants ≡ granting.grants → are_noted granting.touched.servers granting.grants ≡ true → IsGoodOp (txn_with_grants old granting) op → CanPut old kept op
 can_put old kept granting op is of opened can grants noted good =
     let P : RoomySet → List Grant → Type 0 = λ set gs. are_noted set.servers gs ≡ true in
     let Q : RoomySet → Bool → List Grant → Type 0 = λ set grows gs. IsReady set grows (granters gs) in
@@ -171,6 +171,6 @@ can_put old kept granting op is of opened can grants noted good =
 
 -- an operation that is put there, each of whose servers is noted
 pub taken_by : (old : OpenView) (op : Op) (ops : List Op) (voters touched : List ℕ) → ops ≡ with_op old.ops op → voters ≡ with_numbers old.voters (servers_of op) → touched ≡ old.touched → are_noted old.touched op.grants ≡ true
-    → record old { ops = ops; voters = voters; touched = touched } ≡ taken old op
+    → record old { ops = ops; voters = voters; touched = touched } ≡ txn_after_op old op
 taken_by old op ops voters touched put grown same noted =
     λ i. record old { ops = put i; voters = grown i; touched = (same ∙ sym (with_numbers-held old.touched (granters op.grants) noted)) i }

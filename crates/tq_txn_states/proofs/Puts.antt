@@ -5,7 +5,7 @@ use Rattle.std.specs.Option.{unwrap_or}
 use Rattle.std.proofs.lemmas.Bool.{cases_lt, lt-ltb, le-ltb, and_parts, and_from, false≢true}
 use Rattle.std.proofs.lemmas.List.Sums.{prefix_len-le-length}
 use Rattle.tq_txn_states.specs.Places.{place_before}
-use Rattle.tq_txn_states.specs.Sets.{put, changed}
+use Rattle.tq_txn_states.specs.Sets.{put, with_first_changed}
 
 unwrapped : (place len : ℕ) → place ≤ len → unwrap_or (cond (ltb place len) (Some place) None) len ≡ place
 unwrapped place len within =
@@ -73,10 +73,10 @@ module _ {X : Type 0} (test : X → Bool) (change : X → X) where
       let e : 1 + place ≡ suc place = omega arith in
       rw (is, e) refl
 
-  set_len : (xs : List X) (d : X) → prefix_len (λ y. not (test y)) xs < length xs → set xs (prefix_len (λ y. not (test y)) xs) (change (get_or xs (prefix_len (λ y. not (test y)) xs) d)) ≡ changed test change xs
+  set_len : (xs : List X) (d : X) → prefix_len (λ y. not (test y)) xs < length xs → set xs (prefix_len (λ y. not (test y)) xs) (change (get_or xs (prefix_len (λ y. not (test y)) xs) d)) ≡ with_first_changed test change xs
   set_len [] d within = absurd (omega arith)
   set_len (first ∷ rest) d within =
-      elim (test first) as (λ b. cond (not b) (1 + prefix_len (λ y. not (test y)) rest) 0 < suc (length rest) → set (first ∷ rest) (cond (not b) (1 + prefix_len (λ y. not (test y)) rest) 0) (change (get_or (first ∷ rest) (cond (not b) (1 + prefix_len (λ y. not (test y)) rest) 0) d)) ≡ cond b (change first ∷ rest) (first ∷ changed test change rest)) [
+      elim (test first) as (λ b. cond (not b) (1 + prefix_len (λ y. not (test y)) rest) 0 < suc (length rest) → set (first ∷ rest) (cond (not b) (1 + prefix_len (λ y. not (test y)) rest) 0) (change (get_or (first ∷ rest) (cond (not b) (1 + prefix_len (λ y. not (test y)) rest) 0) d)) ≡ cond b (change first ∷ rest) (first ∷ with_first_changed test change rest)) [
         | true ↦ λ _. refl
         | false ↦ λ less. set_more first rest (prefix_len (λ y. not (test y)) rest) _ d refl ∙ ap (λ ys. first ∷ ys) (set_len rest d (omega arith))
       ] within
@@ -94,24 +94,24 @@ module _ {X : Type 0} (test : X → Bool) (change : X → X) where
       ]
 
   -- the value at the place that was found, changed
-  pub set-changed : (xs : List X) (place : ℕ) (d : X) → position test xs ≡ Some place → set xs place (change (get_or xs place d)) ≡ changed test change xs
+  pub set-changed : (xs : List X) (place : ℕ) (d : X) → position test xs ≡ Some place → set xs place (change (get_or xs place d)) ≡ with_first_changed test change xs
   set-changed xs place d is =
       let at = found_place xs place is in
       rw at.0 (set_len xs d (rw (← at.0) at.1))
 
-  pub list_all-changed : (p : X → Bool) (xs : List X) → ((x : X) → test x ≡ true → p x ≡ true → p (change x) ≡ true) → list_all p xs ≡ true → list_all p (changed test change xs) ≡ true
+  pub list_all-changed : (p : X → Bool) (xs : List X) → ((x : X) → test x ≡ true → p x ≡ true → p (change x) ≡ true) → list_all p xs ≡ true → list_all p (with_first_changed test change xs) ≡ true
   list_all-changed p [] stays all = refl
   list_all-changed p (first ∷ rest) stays all =
       let parts = and_parts (p first) (list_all p rest) all in
-      elim (test first) as (λ b. test first ≡ b → list_all p (cond b (change first ∷ rest) (first ∷ changed test change rest)) ≡ true) [
+      elim (test first) as (λ b. test first ≡ b → list_all p (cond b (change first ∷ rest) (first ∷ with_first_changed test change rest)) ≡ true) [
         | true ↦ λ is. and_from (p (change first)) (list_all p rest) (stays first is parts.0) parts.1
-        | false ↦ λ is. and_from (p first) (list_all p (changed test change rest)) parts.0 (list_all-changed p rest stays parts.1)
+        | false ↦ λ is. and_from (p first) (list_all p (with_first_changed test change rest)) parts.0 (list_all-changed p rest stays parts.1)
       ] refl
 
-  pub list_any-changed : (p : X → Bool) (xs : List X) → ((x : X) → p (change x) ≡ p x) → list_any p (changed test change xs) ≡ list_any p xs
+  pub list_any-changed : (p : X → Bool) (xs : List X) → ((x : X) → p (change x) ≡ p x) → list_any p (with_first_changed test change xs) ≡ list_any p xs
   list_any-changed p [] same = refl
   list_any-changed p (first ∷ rest) same =
-      elim (test first) as (λ b. list_any p (cond b (change first ∷ rest) (first ∷ changed test change rest)) ≡ (p first || list_any p rest)) [
+      elim (test first) as (λ b. list_any p (cond b (change first ∷ rest) (first ∷ with_first_changed test change rest)) ≡ (p first || list_any p rest)) [
         | true ↦ ap (λ b. b || list_any p rest) (same first)
         | false ↦ ap (λ b. p first || b) (list_any-changed p rest same)
       ]

@@ -6,7 +6,7 @@ use Rattle.std.specs.Option.{option_map_or}
 use Rattle.std.proofs.lemmas.Bool.{and_parts, or_parts, false≢true}
 use Rattle.std.proofs.lemmas.Bool.Decides.{nat_tests}
 use Rattle.tq_evidence.specs.Evidence.{rises}
-use Rattle.tq_txn_states.specs.Sets.{put, changed}
+use Rattle.tq_txn_states.specs.Sets.{put, with_first_changed}
 use Rattle.tq_txn_states.proofs.NumberSets.{rises_from, rises-from, rises_rest, lower, other_below, not_above}
 
 or_none : (a b : Bool) → b ≡ false → (a || b) ≡ a
@@ -76,7 +76,7 @@ module _ {X : Type 0} (number : X → ℕ) where
 
   -- a value goes in place of that of its number, which stands at the place
   pub changed_at : (x : X) (xs : List X) (place : ℕ) → IsPartitionPoint (λ y. nat_lt (number y) (number x) ≡ true) (λ y. nat_lt (number y) (number x) ≡ false) xs place → option_map_or (λ y. number y == number x) (slice_get xs place) false ≡ true
-      → set xs place x ≡ changed (λ y. number y == number x) (λ y. x) xs
+      → set xs place x ≡ with_first_changed (λ y. number y == number x) (λ y. x) xs
   changed_at x [] place point is = absurd (false≢true is)
   changed_at x (first ∷ rest) zero point is = rw is refl
   changed_at x (first ∷ rest) (suc place) point is =

@@ -11,7 +11,7 @@ use Rattle.tq_desk.specs.declared.ask.DeskReply.{DeskReply}
 use Rattle.tq_desk.specs.declared.ask.DeskReply.TheVariants as replies
 use Rattle.tq_desk.specs.declared.ask.DeskRefusal.TheVariants.{Decided}
 use Rattle.tq_evidence.specs.declared.vote.Vote.{Vote}
-use Rattle.tq_desk.specs.DeskStep.{cited}
+use Rattle.tq_desk.specs.DeskStep.{cited_votes}
 use Rattle.tq_txn_states.specs.declared.told.DeskTold.{DeskTold}
 use Rattle.tq_txn_states.specs.declared.fault.TxnFault.{TxnFault}
 use Rattle.tq_txn_states.specs.declared.fault.TxnFault.TheVariants.{NotMyVerdict}
@@ -27,7 +27,7 @@ pub record EndedView : Type 0 where
 
 -- the verdict that an answer to a commit tells: its own, or the one that stands already
 abbrev pub commit_verdict : List Vote → DeskReply → Option Verdict
-commit_verdict votes (replies.Committed serial) = Some (verdicts.Commit (cited votes))
+commit_verdict votes (replies.Committed serial) = Some (verdicts.Commit (cited_votes votes))
 commit_verdict votes (replies.Refused (Decided verdict)) = Some verdict
 commit_verdict votes reply = None
 

@@ -22,8 +22,8 @@ pub record GrantingView : Type 0 where
   pub left : ℕ
 
 -- the transaction once it has taken back what it keeps: each server that granted a lock is noted
-abbrev pub noted : OpenView → GrantingView → OpenView
-noted old granting =
+abbrev pub txn_with_grants : OpenView → GrantingView → OpenView
+txn_with_grants old granting =
     record old { ops = granting.ops; voters = granting.voters.servers; touched = granting.touched.servers }
 
 -- the sets are of servers of a tree of these levels
@@ -68,19 +68,19 @@ pub record IsKept (kept : Kept) (granting : GrantingView) : Type 0 where
   pub touched : kept.touched ≡ granting.touched
 
 -- the transaction once it keeps these operations and servers
-abbrev pub keeping : OpenView → Kept → OpenView
-keeping old kept = record old { ops = kept.ops.items; voters = kept.voters.servers; touched = kept.touched.servers }
+abbrev pub txn_with_kept : OpenView → Kept → OpenView
+txn_with_kept old kept = record old { ops = kept.ops.items; voters = kept.voters.servers; touched = kept.touched.servers }
 
 -- they fit the transaction: the servers are of its tree, and the operations are good evidence as far as they go
 pub record Fits (old : OpenView) (kept : Kept) : Type 0 where
   pub voters : kept.voters.levels ≡ old.levels
   pub touched : kept.touched.levels ≡ old.levels
-  pub good : IsOpen (keeping old kept)
+  pub good : IsOpen (txn_with_kept old kept)
 
 -- with them the transaction can take the operation with no memory
 pub record CanPut (old : OpenView) (kept : Kept) (op : Op) : Type 0 where
   pub fits : Fits old kept
-  pub good : IsGoodOp (keeping old kept) op
+  pub good : IsGoodOp (txn_with_kept old kept) op
   pub noted : are_noted kept.touched.servers op.grants ≡ true
   pub room : IsReady kept.voters kept.grows (granters op.grants)
   pub place : vec_len kept.ops < vec_capacity kept.ops

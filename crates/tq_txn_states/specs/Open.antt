@@ -23,7 +23,7 @@ use Rattle.tq_store.specs.Names.{same_name}
 use Rattle.tq_txn_states.specs.declared.told.NodeTold.{NodeTold}
 use Rattle.tq_txn_states.specs.declared.fault.TxnFault.{TxnFault}
 use Rattle.tq_txn_states.specs.declared.fault.TxnFault.TheVariants.{Memory, AlreadyThere, TooManyOps, NotAGrant, NotAMember, VersionFull, NoOps}
-use Rattle.tq_txn_states.specs.Sets.{IsWithin, put, changed, with_number, with_numbers}
+use Rattle.tq_txn_states.specs.Sets.{IsWithin, put, with_first_changed, with_number, with_numbers}
 use Rattle.tq_shape.specs.Steps.{refuse, refuse_for, or_else}
 use Rattle.tq_shape.specs.Journal.{is_empty}
 
@@ -38,8 +38,8 @@ pub record OpenView : Type 0 where
   pub touched : List ℕ
 
 -- the transaction that did nothing yet
-abbrev pub opening : ℕ → LimitsView → ℕ → OpenView
-opening levels limits txn = record { levels = levels; limits = limits; txn = txn; ops = []; voters = []; touched = [] }
+abbrev pub opening_txn : ℕ → LimitsView → ℕ → OpenView
+opening_txn levels limits txn = record { levels = levels; limits = limits; txn = txn; ops = []; voters = []; touched = [] }
 
 -- the servers of the operations are the voters, and no other
 abbrev pub HasVoters : OpenView → Type 0
@@ -106,15 +106,15 @@ abbrev pub is_written : List Op → List ℕ → Bool
 is_written ops file = list_any (writes_file file) ops
 
 -- the transaction's read of a file, and its write to it
-abbrev pub seen : OpenView → List ℕ → Option Op
-seen old file = find (is_read_of file) old.ops
+abbrev pub op_read : OpenView → List ℕ → Option Op
+op_read old file = find (is_read_of file) old.ops
 
-abbrev pub written : OpenView → List ℕ → Option Op
-written old file = find (writes_file file) old.ops
+abbrev pub op_written : OpenView → List ℕ → Option Op
+op_written old file = find (writes_file file) old.ops
 
 -- the content that the transaction writes to the file
-abbrev pub pending : OpenView → List ℕ → Option (List ℕ)
-pending old file = option_map (λ op. op.content) (written old file)
+abbrev pub pending_content : OpenView → List ℕ → Option (List ℕ)
+pending_content old file = option_map (λ op. op.content) (op_written old file)
 
 -- the copy that a grant answered, version 0 and no content where there is none
 abbrev pub copy_in : Option Grant → FileCopy
@@ -173,8 +173,8 @@ abbrev pub with_op : List Op → Op → List Op
 with_op ops op = put (λ other. is_lt (name_cmp op.file other.file)) op ops
 
 -- the transaction after an operation: its servers vote, and have granted a lock
-abbrev pub taken : OpenView → Op → OpenView
-taken old op =
+abbrev pub txn_after_op : OpenView → Op → OpenView
+txn_after_op old op =
     record old {
       ops = with_op old.ops op;
       voters = with_numbers old.voters (servers_of op);
@@ -182,10 +182,10 @@ taken old op =
     }
 
 abbrev pub read_after : OpenView → List ℕ → List NodeTold → OpenView
-read_after old file answers = taken old (read_op file (grants_of Read old.txn file answers))
+read_after old file answers = txn_after_op old (read_op file (grants_of Read old.txn file answers))
 
 abbrev pub write_after : OpenView → List ℕ → List ℕ → List NodeTold → OpenView
-write_after old file content answers = taken old (write_op file content (grants_of Write old.txn file answers))
+write_after old file content answers = txn_after_op old (write_op file content (grants_of Write old.txn file answers))
 
 abbrev pub touched_by : OpenView → ℕ → OpenView
 touched_by old server = record old { touched = with_number old.touched server }
@@ -201,10 +201,10 @@ pub record IsTouched (old after : OpenView) : Type 0 where
 
 -- the operations with other content to write to the file
 abbrev pub with_content : List ℕ → List ℕ → List Op → List Op
-with_content file content ops = changed (writes_file file) (λ op. record op { content = content }) ops
+with_content file content ops = with_first_changed (writes_file file) (λ op. record op { content = content }) ops
 
-abbrev pub rewritten : OpenView → List ℕ → List ℕ → OpenView
-rewritten old file content = record old { ops = with_content file content old.ops }
+abbrev pub txn_after_rewrite : OpenView → List ℕ → List ℕ → OpenView
+txn_after_rewrite old file content = record old { ops = with_content file content old.ops }
 
 abbrev pub close_fault : OpenView → Option TxnFault
 close_fault old = refuse (is_empty old.ops) NoOps None

@@ -37,9 +37,9 @@ abbrev pub with_id : Server → List Server → List Server
 with_id server ids = put (λ id. nat_lt server.number id.number) server ids
 
 -- the list with the first value that passes the test changed
-abbrev pub changed : {X : Type 0} → (X → Bool) → (X → X) → List X → List X
-changed test change [] = []
-changed test change (first ∷ rest) = if test first then change first ∷ rest else first ∷ changed test change rest
+abbrev pub with_first_changed : {X : Type 0} → (X → Bool) → (X → X) → List X → List X
+with_first_changed test change [] = []
+with_first_changed test change (first ∷ rest) = if test first then change first ∷ rest else first ∷ with_first_changed test change rest
 
 -- the servers strictly ascend, and are of a tree of these levels
 pub record IsServerSet (levels : ℕ) (ids : List Server) : Type 0 where

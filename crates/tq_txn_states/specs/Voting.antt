@@ -20,7 +20,7 @@ use Rattle.tq_txn_states.specs.declared.fault.TxnFault.{TxnFault}
 use Rattle.tq_txn_states.specs.declared.fault.TxnFault.TheVariants.{Memory, NotAVoter, NotMyVote, LostLock, VotesMissing}
 use Rattle.tq_txn_states.specs.Open.{OpenView}
 use Rattle.tq_shape.specs.Steps.{refuse, refuse_for}
-use Rattle.tq_txn_states.specs.Sets.{put, changed}
+use Rattle.tq_txn_states.specs.Sets.{put, with_first_changed}
 
 -- a transaction that takes no more operations, and the votes that it was told, ascending by server
 pub record VotingView : Type 0 where
@@ -28,8 +28,8 @@ pub record VotingView : Type 0 where
   pub votes : List Vote
 
 -- the transaction as it closes
-abbrev pub closed : OpenView → VotingView
-closed old = record { txn = old; votes = [] }
+abbrev pub voting_of : OpenView → VotingView
+voting_of old = record { txn = old; votes = [] }
 
 -- the writes of the operations, by file
 abbrev pub writes_in : List Op → List Op
@@ -83,13 +83,13 @@ abbrev pub covers_op : Vote → Op → Bool
 covers_op vote op = list_all (covers_grant vote op.file) op.grants
 
 -- the least file of which the vote does not cover a grant: the operations ascend by file
-abbrev pub lost : List Op → Vote → Option (List ℕ)
-lost ops vote = option_map (λ op. op.file) (find (λ op. not (covers_op vote op)) ops)
+abbrev pub lost_file : List Op → Vote → Option (List ℕ)
+lost_file ops vote = option_map (λ op. op.file) (find (λ op. not (covers_op vote op)) ops)
 
 -- what a vote is refused for: other writes, or a lock that was lost
 abbrev pub vote_refusal : List Op → Option Vote → Option TxnFault
 vote_refusal ops None = Some NotMyVote
-vote_refusal ops (Some vote) = refuse (not (has_writes (writes_in ops) vote)) NotMyVote (refuse_for (lost ops vote) LostLock None)
+vote_refusal ops (Some vote) = refuse (not (has_writes (writes_in ops) vote)) NotMyVote (refuse_for (lost_file ops vote) LostLock None)
 
 abbrev pub vote_fault : VotingView → NodeTold → Option TxnFault
 vote_fault old told = refuse (not (is_server_of old.txn.ops told.server)) NotAVoter (vote_refusal old.txn.ops (vote_of old.txn.txn told))
@@ -108,15 +108,15 @@ is_of_server server vote = vote.server == server
 -- the votes with one more, in place of that of its server, or before those of greater servers
 abbrev pub with_vote : Vote → List Vote → List Vote
 with_vote vote votes =
-    if has_vote votes vote.server then changed (is_of_server vote.server) (λ other. vote) votes
+    if has_vote votes vote.server then with_first_changed (is_of_server vote.server) (λ other. vote) votes
     else put (λ other. nat_lt vote.server other.server) vote votes
 
-abbrev pub voted : VotingView → Option Vote → VotingView
-voted old None = old
-voted old (Some vote) = record old { votes = with_vote vote old.votes }
+abbrev pub txn_after_vote : VotingView → Option Vote → VotingView
+txn_after_vote old None = old
+txn_after_vote old (Some vote) = record old { votes = with_vote vote old.votes }
 
 abbrev pub vote_after : VotingView → NodeTold → VotingView
-vote_after old told = voted old (vote_of old.txn.txn told)
+vote_after old told = txn_after_vote old (vote_of old.txn.txn told)
 
 -- each voter has voted
 abbrev pub has_votes : VotingView → Bool

@@ -159,7 +159,7 @@ fn commit_verdict(
 {
     match reply {
         DeskReply::Committed { .. } => Ok(Some(Verdict::Commit {
-            votes: SharedSeq::from_vec(cited(alloc, votes)?)?,
+            votes: SharedSeq::from_vec(cited_votes(alloc, votes)?)?,
         })),
         DeskReply::Refused(DeskRefusal::Decided(verdict)) => Ok(Some(verdict.clone()?)),
         _ => Ok(None),
@@ -177,8 +177,8 @@ fn resolve_verdict(reply: &DeskReply) -> Result<Option<Verdict>, Memory>
 }
 
 /// The votes as a commit's record cites them.
-pub(crate) fn cited(alloc: Global, votes: &[Vote]) -> Result<Vec<CitedVote>, Memory>
-    ensures { IfOk result (λ list. list.items ≡ log.cited votes.now) }
+pub(crate) fn cited_votes(alloc: Global, votes: &[Vote]) -> Result<Vec<CitedVote>, Memory>
+    ensures { IfOk result (λ list. list.items ≡ log.cited_votes votes.now) }
 {
     votes.iter().map(|vote| citation(vote)).collect(alloc)
 }

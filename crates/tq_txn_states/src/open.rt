@@ -13,8 +13,8 @@ ghost use Rattle.tq_txn_states.specs.Ended as ending;
 ghost use Rattle.tq_txn_states.specs.Granting as handed;
 ghost use Rattle.tq_txn_states.specs.Granting.{CanGrant};
 ghost use Rattle.tq_txn_states.specs.Open as spec;
-ghost use Rattle.tq_txn_states.specs.Open.{ComesOf, IsBack, close_fault, grants_fault, taken, write_after, write_op};
-ghost use Rattle.tq_txn_states.specs.Voting.{closed};
+ghost use Rattle.tq_txn_states.specs.Open.{ComesOf, IsBack, close_fault, grants_fault, txn_after_op, write_after, write_op};
+ghost use Rattle.tq_txn_states.specs.Voting.{voting_of};
 
 use crate::ended::verdict_of;
 use crate::granting::{Granting, Kept};
@@ -83,7 +83,7 @@ impl Model for Open {
 impl Open {
     /// A transaction that did nothing yet. It takes no memory yet.
     pub fn new(alloc: Global, levels: Levels, limits: Limits, txn: u64) -> Open
-        ensures value { result ≡ spec.opening levels limits txn }
+        ensures value { result ≡ spec.opening_txn levels limits txn }
         ensures cited { KeepsOnly [] result }
     {
         Open {
@@ -127,23 +127,23 @@ impl Open {
 
     /// The transaction's read of a file.
     pub fn seen(&self, file: &FileName) -> Option<&Op>
-        ensures { option_copied result ≡ spec.seen self.now file.now }
+        ensures { option_copied result ≡ spec.op_read self.now file.now }
     {
         self.ops.iter().find(|op| is_read_of(file, op))
     }
 
     /// The transaction's write to a file.
-    pub fn written(&self, file: &FileName) -> Option<&Op>
-        ensures { option_copied result ≡ spec.written self.now file.now }
+    pub fn op_written(&self, file: &FileName) -> Option<&Op>
+        ensures { option_copied result ≡ spec.op_written self.now file.now }
     {
         self.ops.iter().find(|op| op.writes(file))
     }
 
     /// The content that the transaction writes to a file.
     pub fn pending(&self, file: &FileName) -> Option<&Content>
-        ensures { option_copied result ≡ spec.pending self.now file.now }
+        ensures { option_copied result ≡ spec.pending_content self.now file.now }
     {
-        match self.written(file) {
+        match self.op_written(file) {
             Some(op) => Some(&op.content),
             None => None,
         }
@@ -182,7 +182,8 @@ impl Open {
     /// Hands out what it keeps of its operations, with room for locks of these servers and for the operation that is to
     /// rest on them. Out of memory leaves the transaction as it was.
     pub fn room_for(&mut self, servers: &[ServerId]) -> Result<Granting, Memory>
-        ensures value { IfOk result (λ granting. handed.noted self.new granting ≡ self.old) }
+        ensures value { IfOk result
+            (λ granting. handed.txn_with_grants self.new granting ≡ self.old) }
         ensures grants { IfOk result (λ granting. granting.grants ≡ []) }
         ensures room { IfOk result (λ it. CanGrant self.new.levels it (numbers_of servers.now)) }
         ensures take { IfOk result (λ granting. handed.CanTake granting (numbers_of servers.now)) }
@@ -207,8 +208,8 @@ impl Open {
     /// Takes back what was handed out: the servers that granted a lock are now noted. It takes no memory.
     pub fn take_back(&mut self, granting: Granting)
         requires tree { handed.IsOfTree self.old.levels granting }
-        requires good { spec.IsOpen (handed.noted self.old granting) }
-        ensures { self.new ≡ handed.noted self.old granting }
+        requires good { spec.IsOpen (handed.txn_with_grants self.old granting) }
+        ensures { self.new ≡ handed.txn_with_grants self.old granting }
     {
         let (kept, _grants) = granting.into_parts();
         self.keep(kept);
@@ -217,7 +218,7 @@ impl Open {
     /// Keeps these operations and servers.
     fn keep(&mut self, kept: Kept)
         requires { handed.Fits self.old kept }
-        ensures { self.new ≡ handed.keeping self.old kept }
+        ensures { self.new ≡ handed.txn_with_kept self.old kept }
     {
         let Kept {
             ops,
@@ -233,7 +234,7 @@ impl Open {
     /// Takes an operation for which there is room, and each of whose servers is noted. It takes no memory.
     fn put(&mut self, kept: Kept, op: Op)
         requires { handed.CanPut self.old kept op }
-        ensures { self.new ≡ taken (handed.keeping self.old kept) op }
+        ensures { self.new ≡ txn_after_op (handed.txn_with_kept self.old kept) op }
     {
         let mut kept = kept;
         kept.voters.grow(kept.grows, op.grants.as_slice());
@@ -245,14 +246,15 @@ impl Open {
     /// granted a lock are noted. It takes no memory but what a clone of a content may want.
     pub fn read_locked(&mut self, file: &FileName, granting: Granting) -> Result<FileCopy, Memory>
         requires tree { handed.IsOfTree self.old.levels granting }
-        requires open { spec.IsOpen (handed.noted self.old granting) }
+        requires open { spec.IsOpen (handed.txn_with_grants self.old granting) }
         requires take { handed.CanTake granting (granters_of granting.grants) }
         requires fresh { spec.is_used granting.ops file.now ≡ false }
         requires member { spec.is_member self.old.levels granting.grants ≡ true }
         ensures value { IfOk result (λ copy. copy ≡ spec.read_copy granting.grants) }
         ensures after { OnOk result (self.new
-            ≡ taken (handed.noted self.old granting) (spec.read_op file.now granting.grants)) }
-        ensures err { OnErr result (self.new ≡ handed.noted self.old granting) }
+            ≡ txn_after_op (handed.txn_with_grants self.old granting)
+            (spec.read_op file.now granting.grants)) }
+        ensures err { OnErr result (self.new ≡ handed.txn_with_grants self.old granting) }
     {
         let given = match read_twice(granting.grants()) {
             Ok(given) => given,
@@ -286,15 +288,16 @@ impl Open {
         granting: Granting,
     ) -> Option<u64>
         requires tree { handed.IsOfTree self.old.levels granting }
-        requires open { spec.IsOpen (handed.noted self.old granting) }
+        requires open { spec.IsOpen (handed.txn_with_grants self.old granting) }
         requires take { handed.CanTake granting (granters_of granting.grants) }
         requires fresh { spec.is_written granting.ops file.now ≡ false }
         requires member { spec.is_member self.old.levels granting.grants ≡ true }
         requires exclusive { evidence.is_exclusively_granted granting.grants ≡ true }
         ensures value { spec.version_after granting.grants ≡ result }
         ensures after { OnSome result (self.new
-            ≡ taken (handed.noted self.old granting) (write_op file.now content granting.grants)) }
-        ensures full { result ≡ None → self.new ≡ handed.noted self.old granting }
+            ≡ txn_after_op (handed.txn_with_grants self.old granting)
+            (write_op file.now content granting.grants)) }
+        ensures full { result ≡ None → self.new ≡ handed.txn_with_grants self.old granting }
     {
         let Some(version) = greatest_version(granting.grants()).checked_add(1) else {
             self.take_back(granting);
@@ -382,8 +385,8 @@ impl Open {
 
     /// Replaces the content that the transaction writes to a file. It takes no memory.
     pub fn rewrite(&mut self, file: &FileName, content: Content)
-        requires { IsSome (spec.written self.old file.now) }
-        ensures after { self.new ≡ spec.rewritten self.old file.now content }
+        requires { IsSome (spec.op_written self.old file.now) }
+        ensures after { self.new ≡ spec.txn_after_rewrite self.old file.now content }
         ensures cited { (told : List NodeTold) → KeepsOnly told self.old → KeepsOnly told self.new }
     {
         rewrite_in(&mut self.ops, file, content);
@@ -391,7 +394,7 @@ impl Open {
 
     /// Ends the reading and writing, if there was any. It takes no memory.
     pub fn close(self) -> Result<Voting, (Open, TxnFault)>
-        ensures succeeds { IfOk result (λ it. (close_fault self ≡ None) × (it ≡ closed self)) }
+        ensures succeeds { IfOk result (λ it. (close_fault self ≡ None) × (it ≡ voting_of self)) }
         ensures cited { IfOk result (λ it.
             (told : List NodeTold) → KeepsOnly told self → VotesOnly told it) }
         ensures fault { IfErr result (IsBack self (λ fault. close_fault self ≡ Some fault)) }
@@ -486,7 +489,7 @@ impl Open {
     /// Takes an operation. Out of memory leaves the transaction as it was.
     fn take(&mut self, op: Op) -> Result<(), Memory>
         requires { spec.IsGoodOp self.old op }
-        ensures after { OnOk result (self.new ≡ spec.taken self.old op) }
+        ensures after { OnOk result (self.new ≡ spec.txn_after_op self.old op) }
         ensures err { OnErr result (self.new ≡ self.old) }
     {
         let more = op.grants.as_slice().len();

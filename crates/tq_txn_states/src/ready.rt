@@ -6,7 +6,7 @@ ghost use Rattle.tq_txn_states.specs.Ended as ending;
 ghost use Rattle.tq_txn_states.specs.Open.{ComesOf, IsBack};
 ghost use Rattle.tq_txn_states.specs.Voting as spec;
 
-use crate::ended::{cited, verdict_of};
+use crate::ended::{cited_votes, verdict_of};
 use crate::{DeskTold, Ended, NodeTold, TxnFault, Voting};
 use std::alloc::Global;
 use std::marker::Model;
@@ -82,9 +82,9 @@ impl Ready {
     /// The votes as the commit's record cites them: made before the commit is asked for, so that the answer takes no
     /// memory.
     pub fn citations(&self, alloc: Global) -> Result<SharedSeq<CitedVote>, Memory>
-        ensures { IfOk result (λ list. list ≡ log.cited self.now.votes) }
+        ensures { IfOk result (λ list. list ≡ log.cited_votes self.now.votes) }
     {
-        Ok(SharedSeq::from_vec(cited(alloc, self.voting.votes())?)?)
+        Ok(SharedSeq::from_vec(cited_votes(alloc, self.voting.votes())?)?)
     }
 
     /// Ends the transaction by the desk's verdict on it, and hands it back after a fault.

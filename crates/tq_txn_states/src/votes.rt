@@ -198,14 +198,14 @@ pub(crate) fn are_writes_at(server: u64, voted: &[Write], ops: &[Op], place: usi
 
 /// The least file of which the vote does not cover a grant. The grants of its server likely stand at the place, and the
 /// vote's locks where the operations stand.
-pub(crate) fn lost<'a>(
+pub(crate) fn lost_file<'a>(
     ops: &'a [Op],
     vote: &Vote,
     place: usize,
     lock: usize,
 ) -> Option<&'a FileName>
     requires { spec.have_order ops.now ≡ true }
-    ensures { option_copied result ≡ spec.lost ops.now vote.now }
+    ensures { option_copied result ≡ spec.lost_file ops.now vote.now }
 {
     match ops {
         [] => None,
@@ -213,7 +213,7 @@ pub(crate) fn lost<'a>(
             if !covers_op(vote, op, place, lock) {
                 return Some(&op.file);
             }
-            lost(&ops[1..], vote, place, lock.wrapping_add(1))
+            lost_file(&ops[1..], vote, place, lock.wrapping_add(1))
         }
     }
 }

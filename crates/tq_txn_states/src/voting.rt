@@ -13,7 +13,7 @@ use crate::ended::verdict_of;
 use crate::open::copy_of;
 use crate::told::told_again;
 use crate::votes::{
-    Cast, are_writes_at, cast_in, has_vote, has_votes, is_ask_at, is_server_of, lost,
+    Cast, are_writes_at, cast_in, has_vote, has_votes, is_ask_at, is_server_of, lost_file,
     place_of_server, put_vote, writes_all_at, writes_at,
 };
 use crate::{Ballots, DeskTold, Ended, NodeTold, Open, Ready, TxnFault};
@@ -57,7 +57,7 @@ impl Voting {
     /// A transaction that has operations, and no vote yet.
     pub(crate) fn new(txn: Open) -> Voting
         requires { evidence.is_some_op txn.ops ≡ true }
-        ensures { result ≡ spec.closed txn }
+        ensures { result ≡ spec.voting_of txn }
     {
         let votes = Vec::new(txn.allocator());
         Voting {
@@ -234,7 +234,7 @@ impl Voting {
         if !are_writes_at(vote.server, vote.writes.as_slice(), ops, place) {
             return Err(TxnFault::NotMyVote);
         }
-        if let Some(file) = lost(ops, vote, place, 0) {
+        if let Some(file) = lost_file(ops, vote, place, 0) {
             return Err(TxnFault::LostLock { file: *file });
         }
         Ok(cast)

@@ -13,7 +13,7 @@ use Rattle.tq_evidence.specs.declared.grant.Grant.{Grant}
 use Rattle.tq_evidence.specs.declared.op.Op.{Op}
 use Rattle.tq_evidence.specs.declared.vote.Vote.{Vote}
 use Rattle.tq_evidence.specs.Evidence.{is_write, servers_of}
-use Rattle.tq_desk.specs.DeskStep.{cited}
+use Rattle.tq_desk.specs.DeskStep.{cited_votes}
 use Rattle.tq_shape.specs.Journal.{entry_at, Has}
 use Rattle.tq_node.specs.NodeJournal.{NodeEntry, IsCited, HasHeld}
 use Rattle.tq_desk.specs.DeskJournal.{DeskBounds, DeskEntry, IsLegalDesk, final, Commit, with_commit, commits, count, last_write, IsNumbered, AreNumbered, IsWritten}
@@ -27,9 +27,9 @@ use Rattle.tq_world.proofs.Worlds.{legal_nodes, legal_desk, founded_commits}
 use Rattle.tq_world.proofs.Told.{IsTold, shown_commits, decided, told}
 
 -- a vote of the list is cited by its record
-vote-cited : (votes : List Vote) (vote : Vote) (s : ℕ) → Has votes vote → vote.server ≡ s → IsCited (verdicts.Commit (cited votes)) s vote.number
+vote-cited : (votes : List Vote) (vote : Vote) (s : ℕ) → Has votes vote → vote.server ≡ s → IsCited (verdicts.Commit (cited_votes votes)) s vote.number
 vote-cited votes vote s h e =
-    Has-any (λ (v : CitedVote). v.server == s && v.number == vote.number) (cited votes) (record { server = vote.server; number = vote.number })
+    Has-any (λ (v : CitedVote). v.server == s && v.number == vote.number) (cited_votes votes) (record { server = vote.server; number = vote.number })
     (map-Has (λ (v : Vote). record { server = v.server; number = v.number }) votes vote h)
     (and_from _ _ (eq-eqb vote.server s e) (eq-eqb vote.number vote.number refl))
 
@@ -68,7 +68,7 @@ module _ (bounds : DeskBounds) (nodes : NodeLaws) (desk : DeskLaws bounds) (meet
       let shown_c = shown_commits bounds nodes desk D legal_d c has_c in
       let founded_c = founded_commits bounds world run c has_c in
       let stands = desk.stands D c has_c in
-      let final_c = desk.told D legal_d stands.0 c.txn (verdicts.Commit (cited c.votes)) stands.1 in
+      let final_c = desk.told D legal_d stands.0 c.txn (verdicts.Commit (cited_votes c.votes)) stands.1 in
       let m = meets (servers_of op) (servers_of w) (shown.members op has) (shown_c.members w has_w) in
       let s = m.0 in
       let a = at_server ops votes shown op has s m.1 in
@@ -78,7 +78,7 @@ module _ (bounds : DeskBounds) (nodes : NodeLaws) (desk : DeskLaws bounds) (meet
       let k1 = a.2.2 in
       let v2 = b.2.0 in
       let k2 = b.2.2 in
-      let apart : t ≢ c.txn = λ e. let u : Path (Option Verdict) None (Some (verdicts.Commit (cited c.votes))) = sym undecided ∙ ap (λ (x : ℕ). final D x) e ∙ final_c in cc in
+      let apart : t ≢ c.txn = λ e. let u : Path (Option Verdict) None (Some (verdicts.Commit (cited_votes c.votes))) = sym undecided ∙ ap (λ (x : ℕ). final D x) e ∙ final_c in cc in
       let y1 = founded.each_vote v1 k1.has_vote in
       let y2 = founded_c.each_vote v2 k2.has_vote in (
         g,
@@ -90,7 +90,7 @@ module _ (bounds : DeskBounds) (nodes : NodeLaws) (desk : DeskLaws bounds) (meet
             v2.number v2.held v2.writes w.version w.content (record { asked = y2.asked; is_there = at world s v2.server v2.number _ k2.vote_server y2.is_there })
             (record { is_there = subst (λ (f : List ℕ). Has v2.writes (record { file = f; version = w.version; content = w.content })) same_file (shown_c.in_vote v2 k2.has_vote w has_w writes (subst (λ (x : ℕ). Has (servers_of w) x) (sym k2.vote_server) m.2)) })
             (λ d verdict decision.
-            let e : verdicts.Commit (cited c.votes) ≡ verdict = Some-same (sym final_c ∙ decided bounds nodes desk world run s d c.txn verdict decision) in
+            let e : verdicts.Commit (cited_votes c.votes) ≡ verdict = Some-same (sym final_c ∙ decided bounds nodes desk world run s d c.txn verdict decision) in
             subst (λ (x : Verdict). IsCited x s v2.number) e (vote-cited c.votes v2 s k2.has_vote k2.vote_server)),
       )
 

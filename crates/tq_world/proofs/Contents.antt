@@ -43,7 +43,7 @@ cites-is a b same =
     let both = and_parts _ _ same in
     λ i. record { server = eqb-true a.server b.server both.0 i; number = eqb-true a.number b.number both.1 i }
 
-commit-is : (verdict : Verdict) (votes : List Vote) → cites_votes verdict votes ≡ true → verdict ≡ verdicts.Commit (log.cited votes)
+commit-is : (verdict : Verdict) (votes : List Vote) → cites_votes verdict votes ≡ true → verdict ≡ verdicts.Commit (log.cited_votes votes)
 commit-is verdicts.Abort votes same = absurd (false≢true same)
 commit-is (verdicts.Commit cited) votes same = ap (λ v. verdicts.Commit v) (pairs-is cites citation cites-is cited votes same)
 

@@ -22,7 +22,7 @@ use Rattle.tq_evidence.specs.declared.grant.Grant.{Grant}
 use Rattle.tq_evidence.specs.declared.op.Op.{Op}
 use Rattle.tq_evidence.specs.declared.vote.Vote.{Vote}
 use Rattle.tq_desk.specs.DeskStep.{DeskView, desk_reply}
-use Rattle.tq_desk.specs.DeskJournal.{DeskBounds, desk_state, opened, step_reply, step_after, VerdictAt, DeskEntry}
+use Rattle.tq_desk.specs.DeskJournal.{DeskBounds, desk_state, opened_desk, step_reply, step_after, VerdictAt, DeskEntry}
 use Rattle.tq_tables.specs.Journals.{JournalsView}
 use Rattle.tq_world.specs.declared.answer.Refusal.{Refusal}
 use Rattle.tq_world.specs.declared.answer.Step.{Step}
@@ -31,7 +31,7 @@ use Rattle.tq_world.specs.declared.citation.Citation.{Citation}
 use Rattle.tq_world.specs.World.{item_at, server_entry, empty_world, node_at, desk_at}
 use Rattle.tq_world.specs.Founded.{is_founded_grant, is_founded_vote, is_founded_copy, is_founded_verdict, is_granted, is_voted, is_peeked, is_ended, cited_grant, cited_vote, unless, unfounded_grant, unfounded_op, unfounded_vote, unfounded_in_desk_ask, unfounded_in_node_ask, unfounded_in_work}
 use Rattle.tq_shape.specs.Steps.{state_at}
-use Rattle.tq_world.specs.Steps.{refuse_unfounded, refuse_at, refusal, server_journal, node_entry, desk_entry, grown, world_after, run_from, run}
+use Rattle.tq_world.specs.Steps.{refuse_unfounded, refuse_at, refusal, server_journal, node_entry, desk_entry, world_with_step, world_after, run_from, run}
 use Rattle.tq_world.proofs.Contents.{granted-is, voted-is, peeked-is, ended-is, tested-is}
 use Rattle.tq_world.proofs.Events.{Event, AtNode, AtDesk, node_journal, desk_journal, IsFoundedGrant, IsFoundedVote, IsFoundedSource, IsFoundedWork, IsFoundedAsk, IsRun}
 use Rattle.tq_world.proofs.Rooms.{HasRoom, node_room, item_above}
@@ -202,10 +202,10 @@ node_state-is : (server : ℕ) (entries : List NodeEntry) → node_at server ent
 node_state-is server entries = state-reverse (λ old number ask. node_reply server old ask) (node_after server) nothing_stored entries
 
 desk_state-is : (bounds : DeskBounds) (entries : List DeskEntry) → desk_at bounds.levels bounds.limits entries ≡ desk_state bounds (reverse entries)
-desk_state-is bounds entries = state-reverse step_reply step_after (opened bounds) entries
+desk_state-is bounds entries = state-reverse step_reply step_after (opened_desk bounds) entries
 
 node_step : (events : List Event) (world : JournalsView) (server : ℕ) (ask : NodeAsk) → IsJournaled events world → refusal world (steps.Node server ask) ≡ None
-    → IsJournaled (AtNode server (node_entry world server ask) ∷ events) (grown world (steps.Node server ask))
+    → IsJournaled (AtNode server (node_entry world server ask) ∷ events) (world_with_step world (steps.Node server ask))
 node_step events world server ask journaled none =
     let room = node_room world server (unfounded_in_node_ask world ask) none in
     let founded = node_ask-is events world journaled ask (passed_at world server (item_at world.servers server) (unfounded_in_node_ask world ask) none) in
@@ -218,14 +218,14 @@ node_step events world server ask journaled none =
     }
   where
     by : (other : ℕ) → HasRoom world server → (b : Bool) → eqb server other ≡ b
-        → cond b (node_entry world server ask ∷ node_journal events other) (node_journal events other) ≡ reverse (server_journal (grown world (steps.Node server ask)) other)
+        → cond b (node_entry world server ask ∷ node_journal events other) (node_journal events other) ≡ reverse (server_journal (world_with_step world (steps.Node server ask)) other)
     by other room true t =
         let same = eqb-true server other t in
         ap (λ (J : List NodeEntry). node_entry world server ask ∷ J) (ap (node_journal events) (sym same) ∙ journaled.nodes server)
         ∙ sym (reverse-push (server_journal world server) (node_entry world server ask))
         ∙ ap (λ (o : Option (List NodeEntry)). reverse (unwrap_or o []))
         (sym (item_set_same world.servers server (server_journal world server ++ node_entry world server ask ∷ []) room.above room.within))
-        ∙ ap (λ (n : ℕ). reverse (server_journal (grown world (steps.Node server ask)) n)) same
+        ∙ ap (λ (n : ℕ). reverse (server_journal (world_with_step world (steps.Node server ask)) n)) same
     by other room false t =
         let apart : server ≢ other = λ same. absurd (false≢true (sym t ∙ eq-eqb server other same)) in
         journaled.nodes other
@@ -233,7 +233,7 @@ node_step events world server ask journaled none =
         (sym (item_set_other world.servers server other (server_journal world server ++ node_entry world server ask ∷ []) room.above apart))
 
 desk_step : (events : List Event) (world : JournalsView) (ask : DeskAsk) → IsJournaled events world → refusal world (steps.Desk ask) ≡ None
-    → IsJournaled (AtDesk (desk_entry world ask) ∷ events) (grown world (steps.Desk ask))
+    → IsJournaled (AtDesk (desk_entry world ask) ∷ events) (world_with_step world (steps.Desk ask))
 desk_step events world ask journaled none =
     let founded = desk_ask-is events world journaled ask (passed (nat_le world.limits.entries (length world.desk)) Rattle.tq_shape.specs.declared.part.Part.TheVariants.Desk (unfounded_in_desk_ask world ask) none) in
     let state : desk_at world.levels world.limits world.desk ≡ desk_state (bounds_of world) (desk_journal events) =
@@ -248,7 +248,7 @@ desk_step events world ask journaled none =
 abbrev pub HasEvents : JournalsView → Type 0
 HasEvents world = (events : List Event) × IsJournaled events world
 
-grown_step : (world : JournalsView) (step : Step) → HasEvents world → refusal world step ≡ None → HasEvents (grown world step)
+grown_step : (world : JournalsView) (step : Step) → HasEvents world → refusal world step ≡ None → HasEvents (world_with_step world step)
 grown_step world (steps.Node server ask) has none = (AtNode server (node_entry world server ask) ∷ has.0, node_step has.0 world server ask has.1 none)
 grown_step world (steps.Desk ask) has none = (AtDesk (desk_entry world ask) ∷ has.0, desk_step has.0 world ask has.1 none)
 grown_step world (steps.View ask) has none = (has.0, record { ran = has.1.ran; nodes = has.1.nodes; desk = has.1.desk })
@@ -256,7 +256,7 @@ grown_step world (steps.View ask) has none = (has.0, record { ran = has.1.ran; n
 one_step : (world : JournalsView) (step : Step) → HasEvents world → HasEvents (world_after world step)
 one_step world step has = by (refusal world step) refl
   where
-    by : (refused : Option Refusal) → refusal world step ≡ refused → HasEvents (state_at refused world (grown world step))
+    by : (refused : Option Refusal) → refusal world step ≡ refused → HasEvents (state_at refused world (world_with_step world step))
     by None none = grown_step world step has none
     by (Some reason) is = has
 

@@ -23,7 +23,7 @@ use Rattle.tq_world.specs.Headline.{AreOffered, Headline}
 use Rattle.tq_world.specs.Offered.{OffersBest}
 use Rattle.tq_world.specs.Steps.{IsOfRun}
 use Rattle.tq_world.specs.World.{empty_world, item_at}
-use Rattle.tq_world.specs.Steps.{answer, refusal, grown, world_after, run_from, run, view_entry, server_journal, told_at, is_memory, IsTold, AreTold}
+use Rattle.tq_world.specs.Steps.{answer, refusal, world_with_step, world_after, run_from, run, view_entry, server_journal, told_at, is_memory, IsTold, AreTold}
 use Rattle.tq_shape.specs.Steps.{state_at}
 use Rattle.tq_world.proofs.Journaled.{bounds_of, HasEvents, run_events}
 use Rattle.tq_world.proofs.Offers.{view_offers}
@@ -39,7 +39,7 @@ view_grown world ask legal =
     legal-push view_reply_at view_after_at (view_state world.levels []) world.view (view_entry world ask) legal
     (ap (λ (l : Live). view_reply l ask) (sym (replays world.levels world.view legal)))
 
-grown_view : (world : JournalsView) (step : Step) → HasLegalView world → HasLegalView (grown world step)
+grown_view : (world : JournalsView) (step : Step) → HasLegalView world → HasLegalView (world_with_step world step)
 unfolding HasLegalView
 grown_view world (steps.Node server ask) legal = legal
 grown_view world (steps.Desk ask) legal = legal
@@ -48,7 +48,7 @@ grown_view world (steps.View ask) legal = view_grown world ask legal
 one_view : (world : JournalsView) (step : Step) → HasLegalView world → HasLegalView (world_after world step)
 one_view world step legal = by (refusal world step)
   where
-    by : (refused : Option Refusal) → HasLegalView (state_at refused world (grown world step))
+    by : (refused : Option Refusal) → HasLegalView (state_at refused world (world_with_step world step))
     by None = grown_view world step legal
     by (Some reason) = legal
 

@@ -13,7 +13,7 @@ use Rattle.tq_world.specs.declared.answer.Step.TheVariants as steps
 use Rattle.tq_world.specs.declared.citation.Citation.{Citation}
 use Rattle.tq_world.specs.World.{item_at}
 use Rattle.tq_world.specs.Founded.{unfounded_in_node_ask, unfounded_in_desk_ask}
-use Rattle.tq_world.specs.Steps.{refuse_unfounded, refuse_at, refusal, answer, grown, told_at, world_after, run_from, is_memory, taken, IsTold, AreTold}
+use Rattle.tq_world.specs.Steps.{refuse_unfounded, refuse_at, refusal, answer, world_with_step, told_at, world_after, run_from, is_memory, taken_steps, IsTold, AreTold}
 use Rattle.tq_shape.specs.Steps.{state_at}
 
 -- ---- no step is refused for want of memory
@@ -60,13 +60,13 @@ told_refusal world step reason is = told_reason world step reason (sym is) (ap i
 pub told_answer : (world : JournalsView) (step : Step) (answered : Answer) → refusal world step ≡ None → answered ≡ answer world step → IsTold world step (Ok answered)
 told_answer world step answered none is = ap (λ a. Ok a) is ∙ sym (ap (λ r. told_at r (answer world step)) none)
 
-pub world_grown : (world : JournalsView) (step : Step) → refusal world step ≡ None → world_after world step ≡ grown world step
-world_grown world step none = ap (λ r. state_at r world (grown world step)) none
+pub world_grown : (world : JournalsView) (step : Step) → refusal world step ≡ None → world_after world step ≡ world_with_step world step
+world_grown world step none = ap (λ r. state_at r world (world_with_step world step)) none
 
 -- ---- steps
 
 pub told-push : (world : JournalsView) (steps : List Step) (results : List (Result Answer Refusal)) (step : Step) (result : Result Answer Refusal)
-    → AreTold world steps results → IsTold (run_from world (taken steps results)) step result
+    → AreTold world steps results → IsTold (run_from world (taken_steps steps results)) step result
     → AreTold world (steps ++ step ∷ []) (results ++ result ∷ [])
 told-push world [] [] step result told is = (is, tt)
 told-push world [] (r ∷ rs) step result told is = absurd told
@@ -75,9 +75,9 @@ told-push world (s ∷ ss) (r ∷ rs) step result told is =
     (told.0, by (is_memory r) told.1 is (λ t i. told-push world ss rs step result t i) (λ t i. told-push (world_after world s) ss rs step result t i))
   where
     by : (memory : Bool) → AreTold (if memory then world else world_after world s) ss rs
-        → IsTold (run_from world (if memory then taken ss rs else s ∷ taken ss rs)) step result
-        → (AreTold world ss rs → IsTold (run_from world (taken ss rs)) step result → AreTold world (ss ++ step ∷ []) (rs ++ result ∷ []))
-        → (AreTold (world_after world s) ss rs → IsTold (run_from (world_after world s) (taken ss rs)) step result → AreTold (world_after world s) (ss ++ step ∷ []) (rs ++ result ∷ []))
+        → IsTold (run_from world (if memory then taken_steps ss rs else s ∷ taken_steps ss rs)) step result
+        → (AreTold world ss rs → IsTold (run_from world (taken_steps ss rs)) step result → AreTold world (ss ++ step ∷ []) (rs ++ result ∷ []))
+        → (AreTold (world_after world s) ss rs → IsTold (run_from (world_after world s) (taken_steps ss rs)) step result → AreTold (world_after world s) (ss ++ step ∷ []) (rs ++ result ∷ []))
         → AreTold (if memory then world else world_after world s) (ss ++ step ∷ []) (rs ++ result ∷ [])
     by true t i same next = same t i
     by false t i same next = next t i
@@ -85,7 +85,7 @@ told-push world (s ∷ ss) (r ∷ rs) step result told is =
 -- the steps taken, with one more
 pub taken-push : (world : JournalsView) (steps : List Step) (results : List (Result Answer Refusal)) (step : Step) (result : Result Answer Refusal)
     → AreTold world steps results
-    → taken (steps ++ step ∷ []) (results ++ result ∷ []) ≡ taken steps results ++ (if is_memory result then [] else step ∷ [])
+    → taken_steps (steps ++ step ∷ []) (results ++ result ∷ []) ≡ taken_steps steps results ++ (if is_memory result then [] else step ∷ [])
 taken-push world [] [] step result told = refl
 taken-push world [] (r ∷ rs) step result told = absurd told
 taken-push world (s ∷ ss) [] step result told = absurd told
@@ -93,10 +93,10 @@ taken-push world (s ∷ ss) (r ∷ rs) step result told =
     by (is_memory r) told.1 (λ t. taken-push world ss rs step result t) (λ t. taken-push (world_after world s) ss rs step result t)
   where
     by : (memory : Bool) → AreTold (if memory then world else world_after world s) ss rs
-        → (AreTold world ss rs → taken (ss ++ step ∷ []) (rs ++ result ∷ []) ≡ taken ss rs ++ (if is_memory result then [] else step ∷ []))
-        → (AreTold (world_after world s) ss rs → taken (ss ++ step ∷ []) (rs ++ result ∷ []) ≡ taken ss rs ++ (if is_memory result then [] else step ∷ []))
-        → (if memory then taken (ss ++ step ∷ []) (rs ++ result ∷ []) else s ∷ taken (ss ++ step ∷ []) (rs ++ result ∷ []))
-        ≡ (if memory then taken ss rs else s ∷ taken ss rs) ++ (if is_memory result then [] else step ∷ [])
+        → (AreTold world ss rs → taken_steps (ss ++ step ∷ []) (rs ++ result ∷ []) ≡ taken_steps ss rs ++ (if is_memory result then [] else step ∷ []))
+        → (AreTold (world_after world s) ss rs → taken_steps (ss ++ step ∷ []) (rs ++ result ∷ []) ≡ taken_steps ss rs ++ (if is_memory result then [] else step ∷ []))
+        → (if memory then taken_steps (ss ++ step ∷ []) (rs ++ result ∷ []) else s ∷ taken_steps (ss ++ step ∷ []) (rs ++ result ∷ []))
+        ≡ (if memory then taken_steps ss rs else s ∷ taken_steps ss rs) ++ (if is_memory result then [] else step ∷ [])
     by true t same next = same t
     by false t same next = ap (λ rest. s ∷ rest) (next t)
 
@@ -106,13 +106,13 @@ run_from-append world first next = fold-append world_after world first next
 -- the world after one step more
 pub run-push : (world : JournalsView) (steps : List Step) (results : List (Result Answer Refusal)) (step : Step) (result : Result Answer Refusal)
     → AreTold world steps results
-    → run_from world (taken (steps ++ step ∷ []) (results ++ result ∷ [])) ≡ (if is_memory result then run_from world (taken steps results) else world_after (run_from world (taken steps results)) step)
+    → run_from world (taken_steps (steps ++ step ∷ []) (results ++ result ∷ [])) ≡ (if is_memory result then run_from world (taken_steps steps results) else world_after (run_from world (taken_steps steps results)) step)
 run-push world steps results step result told =
     ap (run_from world) (taken-push world steps results step result told)
-    ∙ run_from-append world (taken steps results) (if is_memory result then [] else step ∷ [])
+    ∙ run_from-append world (taken_steps steps results) (if is_memory result then [] else step ∷ [])
     ∙ by (is_memory result)
   where
-    by : (memory : Bool) → run_from (run_from world (taken steps results)) (if memory then [] else step ∷ []) ≡ (if memory then run_from world (taken steps results) else world_after (run_from world (taken steps results)) step)
+    by : (memory : Bool) → run_from (run_from world (taken_steps steps results)) (if memory then [] else step ∷ []) ≡ (if memory then run_from world (taken_steps steps results) else world_after (run_from world (taken_steps steps results)) step)
     by true = refl
     by false = refl
 
@@ -125,24 +125,24 @@ told_after : (now after : JournalsView) (step : Step) (result : Result Answer Re
     → after ≡ (if is_memory result then now else world_after now step)
 told_after now after step (Ok answered) told ok err = ok
 told_after now after step (Err Memory) told ok err = err
-told_after now after step (Err NoSuchServer) told ok err = err ∙ sym (told_same now (grown now step) (refusal now step) (answer now step) NoSuchServer told)
-told_after now after step (Err (JournalFull part)) told ok err = err ∙ sym (told_same now (grown now step) (refusal now step) (answer now step) (JournalFull part) told)
-told_after now after step (Err (Unfounded part number)) told ok err = err ∙ sym (told_same now (grown now step) (refusal now step) (answer now step) (Unfounded part number) told)
+told_after now after step (Err NoSuchServer) told ok err = err ∙ sym (told_same now (world_with_step now step) (refusal now step) (answer now step) NoSuchServer told)
+told_after now after step (Err (JournalFull part)) told ok err = err ∙ sym (told_same now (world_with_step now step) (refusal now step) (answer now step) (JournalFull part) told)
+told_after now after step (Err (Unfounded part number)) told ok err = err ∙ sym (told_same now (world_with_step now step) (refusal now step) (answer now step) (Unfounded part number) told)
 
 -- one step more
 pub told-next : (start now : JournalsView) (steps : List Step) (results more : List (Result Answer Refusal)) (step : Step) (result : Result Answer Refusal)
-    → AreTold start steps results → now ≡ run_from start (taken steps results) → IsTold now step result → more ≡ results ++ result ∷ []
+    → AreTold start steps results → now ≡ run_from start (taken_steps steps results) → IsTold now step result → more ≡ results ++ result ∷ []
     → AreTold start (steps ++ step ∷ []) more
 told-next start now steps results more step result told is next pushed =
     subst (λ (rs : List (Result Answer Refusal)). AreTold start (steps ++ step ∷ []) rs) (sym pushed)
     (told-push start steps results step result told (subst (λ (w : JournalsView). IsTold w step result) is next))
 
 pub run-next : (start now after : JournalsView) (steps : List Step) (results more : List (Result Answer Refusal)) (step : Step) (result : Result Answer Refusal)
-    → AreTold start steps results → now ≡ run_from start (taken steps results) → IsTold now step result
+    → AreTold start steps results → now ≡ run_from start (taken_steps steps results) → IsTold now step result
     → OnOk result (after ≡ world_after now step) → OnErr result (after ≡ now) → more ≡ results ++ result ∷ []
-    → after ≡ run_from start (taken (steps ++ step ∷ []) more)
+    → after ≡ run_from start (taken_steps (steps ++ step ∷ []) more)
 run-next start now after steps results more step result told is next ok err pushed =
     told_after now after step result next ok err
     ∙ ap (λ (w : JournalsView). if is_memory result then w else world_after w step) is
     ∙ sym (run-push start steps results step result told)
-    ∙ ap (λ (rs : List (Result Answer Refusal)). run_from start (taken (steps ++ step ∷ []) rs)) (sym pushed)
+    ∙ ap (λ (rs : List (Result Answer Refusal)). run_from start (taken_steps (steps ++ step ∷ []) rs)) (sym pushed)

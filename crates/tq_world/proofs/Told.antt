@@ -16,7 +16,7 @@ use Rattle.tq_desk.specs.declared.ask.DeskReply.TheVariants as replies
 use Rattle.tq_evidence.specs.declared.op.Op.{Op}
 use Rattle.tq_evidence.specs.declared.vote.Vote.{Vote}
 use Rattle.tq_evidence.specs.Evidence.{is_write}
-use Rattle.tq_desk.specs.DeskStep.{cited}
+use Rattle.tq_desk.specs.DeskStep.{cited_votes}
 use Rattle.tq_shape.specs.Journal.{Has}
 use Rattle.tq_node.specs.NodeJournal.{NodeEntry, IsLegalNode, IsCited, inner, TellsAt, YesAt, InnerAt, DecisionAt, HasWrite}
 use Rattle.tq_desk.specs.DeskJournal.{DeskBounds, DeskEntry, IsLegalDesk, final, Commit, with_commit, commits, IsWritten}
@@ -29,9 +29,9 @@ use Rattle.tq_shape.proofs.Places.{at-before, at-bound, at-old, at-same, any-Has
 use Rattle.tq_world.proofs.Worlds.{legal_nodes, legal_desk, founded_inner, founded_decision, founded_commits}
 
 -- a vote that a Commit's verdict cites
-pub cited-vote : (votes : List Vote) (s n : ℕ) → IsCited (verdicts.Commit (cited votes)) s n → (vote : Vote) × Has votes vote × (vote.server ≡ s) × (vote.number ≡ n)
+pub cited-vote : (votes : List Vote) (s n : ℕ) → IsCited (verdicts.Commit (cited_votes votes)) s n → (vote : Vote) × Has votes vote × (vote.server ≡ s) × (vote.number ≡ n)
 cited-vote votes s n h =
-    let a = any-Has (λ (v : CitedVote). v.server == s && v.number == n) (cited votes) h in
+    let a = any-Has (λ (v : CitedVote). v.server == s && v.number == n) (cited_votes votes) h in
     let p = and_parts (eqb (a.0).server s) (eqb (a.0).number n) a.2 in
     let m = Has-map (λ (vote : Vote). record { server = vote.server; number = vote.number }) votes a.0 a.1 in
     (m.0, m.1, ap (λ (v : CitedVote). v.server) m.2 ∙ eqb-true _ _ p.0, ap (λ (v : CitedVote). v.number) m.2 ∙ eqb-true _ _ p.1)
@@ -115,7 +115,7 @@ module _ (bounds : DeskBounds) (nodes : NodeLaws) (desk : DeskLaws bounds) where
           of_commit world run s e legal t n writes file version content c has_c (shown_commits (desk_journal world) (legal_desk bounds world run) c has_c) k.0 k.1
           (YesAt-moved world (k.0).server s (k.0).number n c.txn (k.0).held (k.0).writes k.2 k.3 ((founded_commits bounds world run c has_c).each_vote k.0 k.1)) asked has
 
-      by_commit : (c : Commit) × Has (commits (desk_journal world)) c × (c.txn ≡ t) × (v ≡ verdicts.Commit (cited c.votes)) → IsWritten (commits (desk_journal world)) file version content
+      by_commit : (c : Commit) × Has (commits (desk_journal world)) c × (c.txn ≡ t) × (v ≡ verdicts.Commit (cited_votes c.votes)) → IsWritten (commits (desk_journal world)) file version content
       by_commit k = by_vote k.0 k.1 (cited-vote (k.0).votes s n (subst (λ (x : Verdict). IsCited x s n) k.3 is_cited))
 
   inner_before : (e : NodeEntry) (K : List NodeEntry) (n : ℕ) (a : WorkAsk) → n < suc (length K) → InnerAt (e ∷ K) n a → InnerAt K n a

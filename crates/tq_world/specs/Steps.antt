@@ -65,10 +65,10 @@ answer world (steps.Desk ask) = record { number = suc (length world.desk); reply
 answer world (steps.View ask) = record { number = suc (length world.view); reply = replies.View (view_entry world ask).reply }
 
 -- the world with the ask and its reply at the end of the part's journal
-abbrev pub grown : JournalsView → Step → JournalsView
-grown world (steps.Node server ask) = record world { servers = slice_set world.servers (server - 1) (server_journal world server ++ node_entry world server ask ∷ []) }
-grown world (steps.Desk ask) = record world { desk = world.desk ++ desk_entry world ask ∷ [] }
-grown world (steps.View ask) = record world { view = world.view ++ view_entry world ask ∷ [] }
+abbrev pub world_with_step : JournalsView → Step → JournalsView
+world_with_step world (steps.Node server ask) = record world { servers = slice_set world.servers (server - 1) (server_journal world server ++ node_entry world server ask ∷ []) }
+world_with_step world (steps.Desk ask) = record world { desk = world.desk ++ desk_entry world ask ∷ [] }
+world_with_step world (steps.View ask) = record world { view = world.view ++ view_entry world ask ∷ [] }
 
 -- ---- a step, and a run
 
@@ -82,7 +82,7 @@ outcome world step = told_at (refusal world step) (answer world step)
 
 -- the world after the step: a refusal leaves it as it was
 abbrev pub world_after : JournalsView → Step → JournalsView
-world_after world step = state_at (refusal world step) world (grown world step)
+world_after world step = state_at (refusal world step) world (world_with_step world step)
 
 abbrev pub run_from : JournalsView → List Step → JournalsView
 run_from world steps = fold world_after world steps
@@ -103,10 +103,10 @@ is_memory (Err Memory) = true
 is_memory result = false
 
 -- the steps that were taken: those that were not answered Memory
-abbrev pub taken : List Step → List (Result Answer Refusal) → List Step
-taken [] results = []
-taken (step ∷ steps) [] = []
-taken (step ∷ steps) (result ∷ results) = if is_memory result then taken steps results else step ∷ taken steps results
+abbrev pub taken_steps : List Step → List (Result Answer Refusal) → List Step
+taken_steps [] results = []
+taken_steps (step ∷ steps) [] = []
+taken_steps (step ∷ steps) (result ∷ results) = if is_memory result then taken_steps steps results else step ∷ taken_steps steps results
 
 -- the step was told what it is to be told, or that memory was refused, which comes only where it would be answered
 abbrev pub IsTold : JournalsView → Step → Result Answer Refusal → Type 0

@@ -61,7 +61,7 @@ impl HeldSince {
     }
 
     fn note(&mut self, file: FileName, since: u64) -> Result<(), Memory>
-        ensures { OnOk result (self.new ≡ spec.noted self.old file since) }
+        ensures { OnOk result (self.new ≡ spec.with_since self.old file since) }
     {
         let least = self.least_with(file, since);
         let _replaced = self.least.insert(file, least)?;

@@ -254,6 +254,6 @@ fn weight(cost: u64, up: bool) -> Weight
     if up {
         Weight::of(cost)
     } else {
-        Weight::missing()
+        Weight::no_weight()
     }
 }

@@ -24,9 +24,10 @@ impl Node {
     #[inline(always)]
     pub fn tell(&mut self, alloc: Global, number: u64, ask: &NodeAsk) -> Result<Telling, Memory>
         requires { self.old.last < number }
-        ensures entered { IfOk result (λ telling. telling.entered ≡ node.replied self.old ask.now) }
-        ensures told { IfOk result (λ telling. telling.told ≡ node.replied self.old ask.now) }
-        ensures after { OnOk result (self.new ≡ node.answered self.old number ask.now) }
+        ensures entered { IfOk result
+            (λ telling. telling.entered ≡ node.reply_to_ask self.old ask.now) }
+        ensures told { IfOk result (λ telling. telling.told ≡ node.reply_to_ask self.old ask.now) }
+        ensures after { OnOk result (self.new ≡ node.server_after self.old number ask.now) }
         ensures raised { IfOk result (KeepsUntold self.old self.new ask.now) }
         ensures reached { IfOk result (ReachesTold self.new ask.now) }
         ensures err { OnErr result (self.new ≡ self.old) }
@@ -136,11 +137,11 @@ impl Node {
         requires { self.old.last < number }
         ensures entered { IfOk result (λ telling. telling.entered ≡ NodeReply.Refused reason) }
         ensures told { IfOk result (λ telling. telling.told ≡ NodeReply.Refused reason) }
-        ensures after { OnOk result (self.new ≡ node.numbered number self.old) }
+        ensures after { OnOk result (self.new ≡ node.with_last number self.old) }
         ensures raised { IfOk result (λ telling. telling.raised ≡ Raised.Written []) }
         ensures err { OnErr result (self.new ≡ self.old) }
     {
-        let telling = refused(alloc, reason)?;
+        let telling = refusal_telling(alloc, reason)?;
         self.note(number);
         Ok(telling)
     }
@@ -312,7 +313,7 @@ impl Node {
         ensures err { OnErr result (self.new ≡ self.old) }
     {
         let kept = content.clone()?;
-        let written = SharedWrite::told(ask.clone()?);
+        let written = SharedWrite::of_refresh(ask.clone()?);
         self.copies.reserve(alloc, 1)?;
         self.intents.reserve(1)?;
         if !self.copies.install_newer(*file, version, kept) {
@@ -329,12 +330,12 @@ impl Node {
 }
 
 /// A refusal, which raises no copy.
-fn refused(alloc: Global, reason: NodeRefusal) -> Result<Telling, Memory>
+fn refusal_telling(alloc: Global, reason: NodeRefusal) -> Result<Telling, Memory>
     ensures entered { IfOk result (λ telling. telling.entered ≡ NodeReply.Refused reason) }
     ensures told { IfOk result (λ telling. telling.told ≡ NodeReply.Refused reason) }
     ensures raised { IfOk result (λ telling. telling.raised ≡ Raised.Written []) }
 {
-    let entered = NodeReply::refused(alloc, reason)?;
+    let entered = NodeReply::of_refusal(alloc, reason)?;
     let told = entered.clone()?;
     Ok(Telling {
         entered,

@@ -1,5 +1,5 @@
 use Rattle.std.proofs.Common.{◌≤◌, length}
-use Rattle.tq_json.specs.Behind.{closed}
+use Rattle.tq_json.specs.Behind.{tokens_behind}
 use Rattle.tq_json.proofs.Behind.{AreOpen}
 use Rattle.tq_json.proofs.passing.+pass_open.Given as goal
 
@@ -8,7 +8,7 @@ decreases-pass_open l = l.depth
 
 abbrev pub invariant-tokens : goal.invariant-tokens
 invariant-tokens l =
-    AreOpen (closed l.fn.kind l.depth l.initial.reader) l.depth l.kinds l.inside l.reader
+    AreOpen (tokens_behind l.fn.kind l.depth l.initial.reader) l.depth l.kinds l.inside l.reader
     × (l.inside ≤ 127) × (length l.reader ≤ length l.initial.reader)
 
 abbrev pub decreases-tokens : goal.decreases-tokens

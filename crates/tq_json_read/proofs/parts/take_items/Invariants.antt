@@ -2,7 +2,7 @@ use Rattle.std.proofs.Common.{◌≡◌, ◌≤◌, List, length, Some}
 use Rattle.json.specs.Json.{parse_map}
 use Rattle.serde_json.specs.Data.{Data}
 use Rattle.tq_json.specs.Next.{next_items}
-use Rattle.tq_json_read.specs.Objects.{capped}
+use Rattle.tq_json_read.specs.Objects.{within_cap}
 use Rattle.tq_json_read.proofs.Rows.{before, Goes}
 use Rattle.tq_json_read.proofs.parts.take_items.Given as goal
 
@@ -10,7 +10,7 @@ use Rattle.tq_json_read.proofs.parts.take_items.Given as goal
 abbrev pub invariant-items : goal.invariant-items
 invariant-items g l =
     (front : List Data) × (next_items l.depth l.initial.reader ≡ parse_map (before front) (next_items l.depth l.reader))
-    × Goes (λ value. g.T.FromReader.at l.plan (Some value)) front l.found.items × (capped l.most (Some l.found.items) ≡ Some l.found.items)
+    × Goes (λ value. g.T.FromReader.at l.plan (Some value)) front l.found.items × (within_cap l.most (Some l.found.items) ≡ Some l.found.items)
     × (length l.reader ≤ length l.initial.reader)
 
 abbrev pub decreases-items : goal.decreases-items

@@ -3,7 +3,7 @@ use Rattle.std.specs.Cmp.Lexicographic.{pointwise}
 use Rattle.std.proofs.lemmas.Bool.{eq-eqb, not-false}
 use Rattle.std.proofs.lemmas.Bool.Decides.{nat_tests}
 use Rattle.tq_shape.specs.Tree.{Server}
-use Rattle.tq_shape.specs.ServerSet.{numbered}
+use Rattle.tq_shape.specs.ServerSet.{servers_of_numbers}
 use Rattle.tq_coterie.specs.Coterie.{is_same, numbers_of}
 use Rattle.tq_coterie.proofs.Parts.{numbers_of-servers_of}
 use Rattle.tq_live.proofs.tree.is_of.Goals as goal
@@ -22,7 +22,7 @@ pub loop-server-init : goal.loop-server-init
 loop-server-init c =
     let servers = c.args.servers.now in
     let walked = c.into_iter-server-iterator.result in
-    let are : walked ≡ numbered servers.levels servers.numbers = c.into_iter-server-iterator.ensures.into_iter_gives ∙ c.iter-server-items.ensures.servers in
+    let are : walked ≡ servers_of_numbers servers.levels servers.numbers = c.into_iter-server-iterator.ensures.into_iter_gives ∙ c.iter-server-items.ensures.servers in
     let numbers : numbers_of walked ≡ servers.numbers = ap numbers_of are ∙ numbers_of-servers_of servers.levels servers.numbers in
     ap (λ some. pointwise nat_eq some (numbers_of walked)) c.servers-left.ensures.numbers ∙ ap (pointwise nat_eq c.args.quorum.now.servers) numbers
 

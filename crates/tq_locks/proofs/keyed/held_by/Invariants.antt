@@ -1,9 +1,9 @@
 use Rattle.std.proofs.Common.{◌≡◌}
 use Rattle.std.specs.Option.{option_copied}
-use Rattle.tq_locks.specs.Keys.{keys_in, told}
-use Rattle.tq_locks.specs.Kept.{decided}
+use Rattle.tq_locks.specs.Keys.{keys_in, entries_of}
+use Rattle.tq_locks.specs.Kept.{first_blocker}
 use Rattle.tq_locks.proofs.keyed.held_by.Given as goal
 
 -- the entries that were passed are the transaction's own
 abbrev pub invariant-loop-entry : goal.invariant-loop-entry
-invariant-loop-entry l = decided l.txn l.mode l.entry-iterator ≡ decided l.txn l.mode (told l.entries (keys_in (option_copied l.list)))
+invariant-loop-entry l = first_blocker l.txn l.mode l.entry-iterator ≡ first_blocker l.txn l.mode (entries_of l.entries (keys_in (option_copied l.list)))

@@ -1,6 +1,6 @@
 use Rattle.std.proofs.Common.{◌+◌, drop, sym, ◌∙◌}
 use Rattle.std.proofs.lemmas.List.{at_drop_more}
-use Rattle.tq_locks.specs.Loose.{steadied}
+use Rattle.tq_locks.specs.Loose.{entry_after_steady}
 use Rattle.tq_locks.proofs.Steadied.{steadied-more}
 use Rattle.tq_locks.proofs.keyed.stabilise_each.Goals as goal
 
@@ -9,5 +9,5 @@ loop-key-preserved c j =
     let keys = c.args.keys.now in
     let i = c.loop-key.key-index in
     steadied-more c.loop-key.entries c.stabilise.new.self _ (drop (i + 1) keys) c.stabilise.ensures j
-    ∙ sym (at_drop_more (λ ks. steadied c.loop-key.entries ks j) keys i _ c.loop-key-test.true)
+    ∙ sym (at_drop_more (λ ks. entry_after_steady c.loop-key.entries ks j) keys i _ c.loop-key-test.true)
     ∙ c.loop-key.invariant j

@@ -1,7 +1,7 @@
 use Rattle.std.proofs.Common.{◌≡◌, ◌-◌, ◌*◌, ◌≤◌, ◌<◌, length, ap, sym, ◌∙◌, arith, option_to_list, Some, None, ℕ, List, Option, zero, suc, refl, IsSome, IfNone, [], ◌∷◌}
 use mathlib.Core.Bool.{false≢true}
 use Rattle.std.proofs.lemmas.List.{length-take}
-use Rattle.tq_locks.specs.Keys.{turned}
+use Rattle.tq_locks.specs.Keys.{turned_keys}
 use Rattle.tq_locks.proofs.Blocks.{behind_blocks, length-turned}
 use Rattle.tq_locks.proofs.keys.pop.Goals as goal
 
@@ -20,7 +20,7 @@ pub returns-clause-none : goal.returns-clause-none
 returns-clause-none c =
     let starts = c.args.starts.now.items in
     let places = c.args.places.now.items in
-    emptied c.pop.result (turned starts places) (λ some. c.pop.ensures.variant.1 (omega (arith, some, length-turned starts places, c.settle.ensures.len)))
+    emptied c.pop.result (turned_keys starts places) (λ some. c.pop.ensures.variant.1 (omega (arith, some, length-turned starts places, c.settle.ensures.len)))
 
 pub returns-clause-last : goal.returns-clause-last
 returns-clause-last c =
@@ -29,5 +29,5 @@ returns-clause-last c =
     let rest = c.pop.new.self.items in
     let one_less : length rest ≡ length places - 1 = ap length c.pop.ensures.rest ∙ omega (arith, length-take (length places - 1) places) in
     sym c.settle.ensures.same
-    ∙ ap (turned starts) c.pop.ensures.items
+    ∙ ap (turned_keys starts) c.pop.ensures.items
     ∙ behind_blocks starts rest (option_to_list c.pop.result) (behind (2048 * length starts) (length places) (length rest) c.settle.ensures.blocks.0 c.settle.ensures.behind one_less)

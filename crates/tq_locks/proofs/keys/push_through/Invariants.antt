@@ -1,6 +1,6 @@
 use Rattle.std.proofs.Common.{length, ◌-◌, ◌≡◌, ◌*◌, ◌≤◌}
 use Rattle.std.specs.List.{insert}
-use Rattle.tq_locks.specs.Keys.{HasBlocks, turned}
+use Rattle.tq_locks.specs.Keys.{HasBlocks, turned_keys}
 use Rattle.tq_locks.proofs.keys.push_through.Given as goal
 
 -- the key that is carried comes before the next block
@@ -10,7 +10,7 @@ invariant-loop-block l = record {
   starts : length l.starts ≡ length l.fn.starts;
   places : length l.places ≡ length l.fn.places;
   within : l.block ≤ length l.starts;
-  put : insert (turned l.starts l.places) (2048 * l.block) l.carried ≡ insert (turned l.fn.starts l.fn.places) l.fn.place l.fn.key;
+  put : insert (turned_keys l.starts l.places) (2048 * l.block) l.carried ≡ insert (turned_keys l.fn.starts l.fn.places) l.fn.place l.fn.key;
 }
 
 abbrev pub decreases-loop-block : goal.decreases-loop-block

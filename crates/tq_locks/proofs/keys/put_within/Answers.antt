@@ -1,6 +1,6 @@
 use Rattle.std.proofs.Common.{◌≡◌, ◌*◌, length, ap, refl, ◌∙◌, arith}
 use Rattle.std.specs.List.{insert}
-use Rattle.tq_locks.specs.Keys.{turned}
+use Rattle.tq_locks.specs.Keys.{turned_keys}
 use Rattle.tq_locks.proofs.Blocks.{put_behind, refilled}
 use Rattle.tq_locks.proofs.keys.put_within.Goals as goal
 
@@ -14,7 +14,7 @@ returns-clause-put c =
     let starts_len : length new_starts ≡ length starts = c.push_through-last.auto.starts ∙ ap length c.as_mut_slice.ensures.value in
     let places_len : length new_places ≡ length places = c.push_through-last.auto.places ∙ ap length c.as_mut_slice-2.ensures.value in
     let count : c.len.result ≡ length new_starts = omega (arith, c.len.ensures, starts_len) in
-    (λ i. turned (refilled starts new_starts c.args.starts.now.len starts_len (omega arith) i) (c.put_plain.ensures i))
-    ∙ (λ i. turned new_starts (insert (refilled places new_places (length places) places_len refl i) (count i * 2048) last))
+    (λ i. turned_keys (refilled starts new_starts c.args.starts.now.len starts_len (omega arith) i) (c.put_plain.ensures i))
+    ∙ (λ i. turned_keys new_starts (insert (refilled places new_places (length places) places_len refl i) (count i * 2048) last))
     ∙ put_behind new_starts new_places starts places c.args.place c.args.key last c.push_through-last.ensures.blocks.0
-    (c.push_through-last.ensures.put ∙ (λ i. insert (turned (c.as_mut_slice.ensures.value i) (c.as_mut_slice-2.ensures.value i)) c.args.place c.args.key))
+    (c.push_through-last.ensures.put ∙ (λ i. insert (turned_keys (c.as_mut_slice.ensures.value i) (c.as_mut_slice-2.ensures.value i)) c.args.place c.args.key))

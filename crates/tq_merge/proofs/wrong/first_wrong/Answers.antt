@@ -2,7 +2,7 @@ use Rattle.std.specs.Prelude.{reverse}
 use Rattle.std.proofs.Common.{◌≡◌, ℕ, List, subst}
 use Rattle.tq_shape.specs.Limits.{LimitsView}
 use Rattle.tq_shape.proofs.Joined.{legal-reverse}
-use Rattle.tq_desk.specs.DeskJournal.{IsLegalDesk, step_reply, step_after, opened}
+use Rattle.tq_desk.specs.DeskJournal.{IsLegalDesk, step_reply, step_after, opened_desk}
 use Rattle.tq_live.specs.View.{IsLegalView}
 use Rattle.tq_desk.specs.DeskJournal.{DeskEntry}
 use Rattle.tq_tables.specs.Journals.{ViewEntry}
@@ -15,7 +15,7 @@ desk_legal levels other limits same entries all tree bound are legal =
     subst (λ (es : List DeskEntry). IsLegalDesk (bounds_of levels limits) (reverse es)) are
     (subst (λ (l : LimitsView). IsLegalDesk (bounds_of levels l) (reverse entries)) bound
     (subst (λ (n : ℕ). IsLegalDesk (bounds_of n same) (reverse entries)) tree
-    (legal-reverse step_reply step_after (opened (bounds_of other same)) entries legal)))
+    (legal-reverse step_reply step_after (opened_desk (bounds_of other same)) entries legal)))
 
 pub returns-in-Some-3 : goal.returns-in-Some-3
 returns-in-Some-3 c =

@@ -1,5 +1,5 @@
 use Rattle.std.proofs.Common.{ℕ, ap, sym, subst, ◌∙◌}
-use Rattle.tq_shape.specs.ServerSet.{Servers, numbered}
+use Rattle.tq_shape.specs.ServerSet.{Servers, servers_of_numbers}
 use Rattle.tq_tables.specs.Files.{stood_in}
 use Rattle.tq_tables.specs.Parts.{AreOfTree}
 use Rattle.tq_tables.proofs.Settled.{first-exact}
@@ -18,5 +18,5 @@ returns c =
     let early = c.args.holders.now.early in
     let stale = c.in_ok-stale.ensures.cases ∙ c.requires.all in
     c.stand_each.ensures.stands
-    ∙ (λ i. stood_in nodes (record { file = file; version = 1; current = c.in_ok-current.ensures i; stale = stale i }) (numbered (c.requires.early i) early.numbers))
+    ∙ (λ i. stood_in nodes (record { file = file; version = 1; current = c.in_ok-current.ensures i; stale = stale i }) (servers_of_numbers (c.requires.early i) early.numbers))
     ∙ first-exact c.args.levels nodes c.requires.of_tree file early.numbers c.stand_each.ensures.ascending c.requires.within c.requires.others

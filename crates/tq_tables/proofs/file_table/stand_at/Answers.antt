@@ -25,7 +25,7 @@ pub returns-in-Some : goal.returns-in-Some
 returns-in-Some c = λ file row here.
     let at = value-at c.args.rows.now.entries c.args.place c.in-Some.row.now (sym c.in-Some.ensures.value) in
     let same : c.in-Some.row.now ≡ row = ap (λ (p : List ℕ × FileRow). p.1) (same_Some (at.0, c.in-Some.row.now) (file, row) (sym at.1 ∙ here)) in
-    ap (set_value_at c.args.rows.now.entries c.args.place) (c.stand.ensures ∙ ap (spec.stood c.args.node.now) same)
+    ap (set_value_at c.args.rows.now.entries c.args.place) (c.stand.ensures ∙ ap (spec.row_by_copy c.args.node.now) same)
 
 pub returns-in_default : goal.returns-in_default
 returns-in_default c = λ file row here. absurd (no-value-at c.args.rows.now.entries c.args.place (file, row) (sym c.in_default.ensures.value) here)

@@ -2,7 +2,7 @@ use Rattle.tq_txn.specs.Dialogue.{desk_exchange}
 use Rattle.std.proofs.Common.{Ok, Err}
 use Rattle.tq_txn.proofs.KnownLaws.{knows_grow, knows_answered}
 use Rattle.tq_desk.specs.declared.ask.DeskAsk.TheVariants.{Resolve}
-use Rattle.tq_txn.specs.Aborts.{abort_end, resolved}
+use Rattle.tq_txn.specs.Aborts.{abort_end, txn_after_resolve}
 use Rattle.tq_txn.proofs.ToldLaws.{grown_along, ends_as_told, ends_unasked}
 use Rattle.tq_txn.proofs.KeptVotes.{still_same}
 use Rattle.std.proofs.Common.{◌≡◌, is_some, true, refl, sym, ap, ◌∙◌, subst}
@@ -45,7 +45,7 @@ returns-in-Ok-clause-ends g c =
     let after = c.resolve_and_end.result.txn in
     let told = c.in-Ok.told in
     let number = number_of c.args.txn in
-    let left = resolved c.args.txn told in
+    let left = txn_after_resolve c.args.txn told in
     let ends : is_some (verdict_in number told) ≡ true → is_ended after ≡ true = λ some. ap is_ended c.resolve_and_end.ensures.value ∙ resolved_ends c.args.txn told some in
     let ending = deskless_untold number (abort_end told.reply left) asked new (ended_by c.resolve_and_end.result.answer after) (deskless_abort_end told.reply left) c.resolve_and_end.ensures.asked.asks in
     ends_before number now asked new after (ends_answered number (Resolve c.number-number.result) told now asked after c.in-Ok.ensures.same c.in-Ok.ensures.exchanges ends) ending
@@ -61,7 +61,7 @@ returns-in-Ok-clause-verdict g c =
     let new = g.A.Asker.told c.resolve_and_end.new.asker in
     let after = c.resolve_and_end.result.txn in
     let answered = subst (IsAnswered c.args.txn c.in-Ok.told) (sym c.resolve_and_end.ensures.value) (resolved_answered c.args.txn c.in-Ok.told) in
-    let more = grown_along (abort_end c.in-Ok.told.reply (resolved c.args.txn c.in-Ok.told)) asked new (ended_by c.resolve_and_end.result.answer after) c.resolve_and_end.ensures.asked.asks in
+    let more = grown_along (abort_end c.in-Ok.told.reply (txn_after_resolve c.args.txn c.in-Ok.told)) asked new (ended_by c.resolve_and_end.result.answer after) c.resolve_and_end.ensures.asked.asks in
     ends_as_told (Resolve c.number-number.result) c.in-Ok.told c.in-Ok.ensures.same now asked new c.in-Ok.ensures.exchanges more c.args.txn after answered
 
 pub returns-in-Err-clause-verdict : goal.returns-in-Err-clause-verdict
@@ -74,7 +74,7 @@ returns-in-Ok-clause-knows g c =
     let new = g.A.Asker.told c.resolve_and_end.new.asker in
     let after = c.resolve_and_end.result.txn in
     let told = c.in-Ok.told in
-    let more = grown_along (abort_end told.reply (resolved c.args.txn told)) asked new (ended_by c.resolve_and_end.result.answer after) c.resolve_and_end.ensures.asked.asks in
+    let more = grown_along (abort_end told.reply (txn_after_resolve c.args.txn told)) asked new (ended_by c.resolve_and_end.result.answer after) c.resolve_and_end.ensures.asked.asks in
     let first = knows_grow now asked (desk_exchange (Resolve c.number-number.result) (Ok told), c.in-Ok.ensures.exchanges) c.args.txn in
     let answered = subst (IsAnswered c.args.txn told) (sym c.resolve_and_end.ensures.value) (resolved_answered c.args.txn told) in
     λ is. knows_answered new c.args.txn after told answered (knows_grow asked new more c.args.txn (first is))

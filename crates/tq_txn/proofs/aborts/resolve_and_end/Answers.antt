@@ -8,16 +8,16 @@ use Rattle.tq_txn.proofs.aborts.resolve_and_end.Goals as goal
 
 pub end_where_aborted-requires : goal.end_where_aborted-requires
 end_where_aborted-requires g c =
-    let is = c.resolved-txn.ensures ∙ ap (resolved_with c.args.txn c.args.told.number) c.resolution_in-aborts.ensures.verdict ∙ resolved_told c.args.txn c.args.told c.requires.asked in
+    let is = c.txn_after_resolve-txn.ensures ∙ ap (resolved_with c.args.txn c.args.told.number) c.resolution_in-aborts.ensures.verdict ∙ resolved_told c.args.txn c.args.told c.requires.asked in
     ap levels_of is ∙ resolved_levels c.args.txn c.args.told ∙ c.requires.tree
 
 pub returns-clause-value : goal.returns-clause-value
 returns-clause-value g c =
-    c.end_where_aborted.ensures.same ∙ c.resolved-txn.ensures ∙ ap (resolved_with c.args.txn c.args.told.number) c.resolution_in-aborts.ensures.verdict ∙ resolved_told c.args.txn c.args.told c.requires.asked
+    c.end_where_aborted.ensures.same ∙ c.txn_after_resolve-txn.ensures ∙ ap (resolved_with c.args.txn c.args.told.number) c.resolution_in-aborts.ensures.verdict ∙ resolved_told c.args.txn c.args.told c.requires.asked
 
 pub returns-clause-asked : goal.returns-clause-asked
 returns-clause-asked g c =
-    let is = c.resolved-txn.ensures ∙ ap (resolved_with c.args.txn c.args.told.number) c.resolution_in-aborts.ensures.verdict ∙ resolved_told c.args.txn c.args.told c.requires.asked in
+    let is = c.txn_after_resolve-txn.ensures ∙ ap (resolved_with c.args.txn c.args.told.number) c.resolution_in-aborts.ensures.verdict ∙ resolved_told c.args.txn c.args.told c.requires.asked in
     let reply = c.args.told.reply in
     let P : Txn → Type 0 = λ t. IsAsked (abort_end reply t) (g.A.Asker.told c.args.asker.now) (g.A.Asker.told c.end_where_aborted.new.asker) c.end_where_aborted.result.answer c.end_where_aborted.result.txn in
     subst P is (c.end_where_aborted.ensures.asked reply c.resolution_in-aborts.ensures.aborts c.resolution_in-aborts.ensures.answer)

@@ -29,29 +29,29 @@ returns-in-Err-evidence-clause-kept g c = voted_on_same c.args.voting c.into_vot
 pub returns-in-Err-desk-clause-kept : goal.returns-in-Err-desk-clause-kept
 returns-in-Err-desk-clause-kept g c = voted_on_same c.args.voting c.into_voting-in-Err-desk.result (c.into_voting-in-Err-desk.ensures ∙ c.in-Ok.ensures.succeeds.1)
 
-pub decided-requires-clause-asked : goal.decided-requires-clause-asked
-decided-requires-clause-asked g c = c.in-Ok-desk.ensures.same ∙ c.in-Ok-evidence.ensures.value
+pub decision_of-requires-clause-asked : goal.decision_of-requires-clause-asked
+decision_of-requires-clause-asked g c = c.in-Ok-desk.ensures.same ∙ c.in-Ok-evidence.ensures.value
 
 pub returns-in-Ok-desk-clause-verdict : goal.returns-in-Ok-desk-clause-verdict
 returns-in-Ok-desk-clause-verdict g c =
     let now = g.A.Asker.told c.args.asker.now in
     let new = g.A.Asker.told c.desk.new.self in
-    let after = c.decided.result.txn in
+    let after = c.decision_of.result.txn in
     let told = c.in-Ok-desk.told in
     let P : VotingView → Type 0 = λ v. EndsAsTold (states.Voting v) now new after in
-    let answered = subst (IsAnswered (states.Voting c.in-Ok.ready) told) (sym c.decided.ensures.txn) (resolved_answered (states.Voting c.in-Ok.ready) told) in
+    let answered = subst (IsAnswered (states.Voting c.in-Ok.ready) told) (sym c.decision_of.ensures.txn) (resolved_answered (states.Voting c.in-Ok.ready) told) in
     subst P c.in-Ok.ensures.succeeds.1
     (ends_as_told c.in-Ok-evidence.ask told c.in-Ok-desk.ensures.same now new new c.in-Ok-desk.ensures.exchanges ([], sym (append-nil new)) (states.Voting c.in-Ok.ready) after answered)
 
 pub returns-in-Ok-desk-clause-kept : goal.returns-in-Ok-desk-clause-kept
 returns-in-Ok-desk-clause-kept g c =
     let ready = c.in-Ok.ready in
-    let P : VotingView → Type 0 = λ v. IsGathered v c.decided.result.txn in
-    subst P c.in-Ok.ensures.succeeds.1 (subst (IsGathered ready) (sym c.decided.ensures.txn) (resolved_still (states.Voting ready) c.in-Ok-desk.told))
+    let P : VotingView → Type 0 = λ v. IsGathered v c.decision_of.result.txn in
+    subst P c.in-Ok.ensures.succeeds.1 (subst (IsGathered ready) (sym c.decision_of.ensures.txn) (resolved_still (states.Voting ready) c.in-Ok-desk.told))
 
 pub returns-in-Ok-desk-clause-levels : goal.returns-in-Ok-desk-clause-levels
 returns-in-Ok-desk-clause-levels g c =
-    ap levels_of c.decided.ensures.txn ∙ resolved_levels (states.Voting c.in-Ok.ready) c.in-Ok-desk.told ∙ ap (λ (v : VotingView). v.txn.levels) c.in-Ok.ensures.succeeds.1
+    ap levels_of c.decision_of.ensures.txn ∙ resolved_levels (states.Voting c.in-Ok.ready) c.in-Ok-desk.told ∙ ap (λ (v : VotingView). v.txn.levels) c.in-Ok.ensures.succeeds.1
 
 pub returns-in-Ok-desk-clause-asks : goal.returns-in-Ok-desk-clause-asks
 returns-in-Ok-desk-clause-asks g c =
@@ -60,13 +60,13 @@ returns-in-Ok-desk-clause-asks g c =
     let ready = c.in-Ok.ready in
     let ask = c.in-Ok-evidence.ask in
     let told = c.in-Ok-desk.told in
-    decide_ready c.args.voting ready c.decided.result.answer c.decided.result.txn now new c.in-Ok.ensures.succeeds.0 c.in-Ok.ensures.succeeds.1
-    (ready_on ready ask c.in-Ok-evidence.ensures.value told c.decided.result.answer c.decided.result.txn now new
-    (told_desk ask told now new c.in-Ok-desk.ensures.exchanges c.in-Ok-desk.ensures.same) c.decided.ensures.answer c.decided.ensures.txn)
+    decide_ready c.args.voting ready c.decision_of.result.answer c.decision_of.result.txn now new c.in-Ok.ensures.succeeds.0 c.in-Ok.ensures.succeeds.1
+    (ready_on ready ask c.in-Ok-evidence.ensures.value told c.decision_of.result.answer c.decision_of.result.txn now new
+    (told_desk ask told now new c.in-Ok-desk.ensures.exchanges c.in-Ok-desk.ensures.same) c.decision_of.ensures.answer c.decision_of.ensures.txn)
 
 pub returns-in-Ok-desk-clause-unasked : goal.returns-in-Ok-desk-clause-unasked
 returns-in-Ok-desk-clause-unasked g c =
-    unasked_answered c.in-Ok-desk.told.reply c.decided.result.answer (g.A.Asker.told c.args.asker.now) (g.A.Asker.told c.desk.new.self) c.decided.ensures.answer
+    unasked_answered c.in-Ok-desk.told.reply c.decision_of.result.answer (g.A.Asker.told c.args.asker.now) (g.A.Asker.told c.desk.new.self) c.decision_of.ensures.answer
 
 pub returns-in-Err-desk-clause-unasked : goal.returns-in-Err-desk-clause-unasked
 returns-in-Err-desk-clause-unasked g c =
@@ -91,9 +91,9 @@ returns-in-Ok-desk-clause-ends g c =
     let new = g.A.Asker.told c.desk.new.self in
     let ready = c.in-Ok.ready in
     let told = c.in-Ok-desk.told in
-    let after = c.decided.result.txn in
+    let after = c.decision_of.result.txn in
     let P : VotingView → Type 0 = λ v. EndsWhereTold v.txn.txn now new after in
-    let ends : is_some (verdict_in ready.txn.txn told) ≡ true → is_ended after ≡ true = λ some. ap is_ended c.decided.ensures.txn ∙ resolved_ends (states.Voting ready) told some in
+    let ends : is_some (verdict_in ready.txn.txn told) ≡ true → is_ended after ≡ true = λ some. ap is_ended c.decision_of.ensures.txn ∙ resolved_ends (states.Voting ready) told some in
     subst P c.in-Ok.ensures.succeeds.1 (ends_answered ready.txn.txn c.in-Ok-evidence.ask told now new after c.in-Ok-desk.ensures.same c.in-Ok-desk.ensures.exchanges ends)
 
 pub returns-in-Err-citations-clause-kept : goal.returns-in-Err-citations-clause-kept
@@ -121,8 +121,8 @@ returns-in-Ok-desk-clause-knows g c =
     let new = g.A.Asker.told c.desk.new.self in
     let more = knows_grow now new (desk_exchange c.in-Ok-evidence.ask (Ok c.in-Ok-desk.told), c.in-Ok-desk.ensures.exchanges) (states.Voting c.args.voting) in
     let ready = states.Voting c.in-Ok.ready in
-    let answered = subst (IsAnswered ready c.in-Ok-desk.told) (sym c.decided.ensures.txn) (resolved_answered ready c.in-Ok-desk.told) in
-    λ is. knows_answered new ready c.decided.result.txn c.in-Ok-desk.told answered (subst (VotesOnly (answers_in new)) (sym c.in-Ok.ensures.succeeds.1) (more is))
+    let answered = subst (IsAnswered ready c.in-Ok-desk.told) (sym c.decision_of.ensures.txn) (resolved_answered ready c.in-Ok-desk.told) in
+    λ is. knows_answered new ready c.decision_of.result.txn c.in-Ok-desk.told answered (subst (VotesOnly (answers_in new)) (sym c.in-Ok.ensures.succeeds.1) (more is))
 
 pub returns-in-Ok-desk-clause-cited : goal.returns-in-Ok-desk-clause-cited
 returns-in-Ok-desk-clause-cited g c =
@@ -151,8 +151,8 @@ returns-in-Err-citations-clause-memory g c =
 
 pub returns-in-Ok-desk-clause-memory : goal.returns-in-Ok-desk-clause-memory
 returns-in-Ok-desk-clause-memory g c =
-    unfailed_never c.decided.result.answer c.decided.result.txn (decide_line c.args.voting) (g.A.Asker.told c.args.asker.now) (g.A.Asker.told c.desk.new.self)
-    (λ before later. unasked_answered c.in-Ok-desk.told.reply c.decided.result.answer before later c.decided.ensures.answer)
+    unfailed_never c.decision_of.result.answer c.decision_of.result.txn (decide_line c.args.voting) (g.A.Asker.told c.args.asker.now) (g.A.Asker.told c.desk.new.self)
+    (λ before later. unasked_answered c.in-Ok-desk.told.reply c.decision_of.result.answer before later c.decision_of.ensures.answer)
 
 pub returns-in-Err-desk-clause-memory : goal.returns-in-Err-desk-clause-memory
 returns-in-Err-desk-clause-memory g c =

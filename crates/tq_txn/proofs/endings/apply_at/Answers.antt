@@ -11,7 +11,7 @@ returns-in_err-new-clause-memory g c =
 
 pub returns-in-Ok-clause-memory : goal.returns-in-Ok-clause-memory
 returns-in-Ok-clause-memory g c =
-    applied_unended c.in-Ok.told.server c.in-Ok.told.reply c.applied.result (apply_line c.args.txn c.args.verdict c.args.cite c.args.server.number) (g.A.Asker.told c.args.asker.now) (g.A.Asker.told c.node.new.self) c.applied.ensures
+    applied_unended c.in-Ok.told.server c.in-Ok.told.reply c.apply_answer.result (apply_line c.args.txn c.args.verdict c.args.cite c.args.server.number) (g.A.Asker.told c.args.asker.now) (g.A.Asker.told c.node.new.self) c.apply_answer.ensures
 
 pub returns-in-Err-clause-memory : goal.returns-in-Err-clause-memory
 returns-in-Err-clause-memory g c =

@@ -5,7 +5,7 @@ use Rattle.tq_txn_states.specs.Voting.{VotingView, IsVotedOn, IsVoting, has_vote
 use Rattle.tq_txn.specs.declared.txn.Txn.TheVariants as states
 use Rattle.tq_txn.specs.Dialogue.{Follows, IsUnfailed, ended_by, node_exchange}
 use Rattle.tq_txn.specs.declared.fault.LineFault.TheVariants.{Memory}
-use Rattle.tq_txn.specs.Lines.{prepare_line, voted}
+use Rattle.tq_txn.specs.Lines.{prepare_line, vote_answer}
 use Rattle.tq_txn.proofs.BreakLaws.{prepare_asks, prepare_refused, unfailed_first, unfailed_never}
 use Rattle.tq_txn.specs.Told.{Knows, answers_in}
 use Rattle.tq_txn.proofs.KnownLaws.{answers_more, knows_grow}
@@ -23,7 +23,7 @@ take_vote-requires-clause-good g c = subst IsVoting (sym c.in-Ok-room_for_vote.e
 pub returns-in-Ok-node-clause-asks : goal.returns-in-Ok-node-clause-asks
 returns-in-Ok-node-clause-asks g c =
     let new = g.A.Asker.told c.node.new.self in
-    let P : VotingView → Type 0 = λ v. Follows (voted v c.in-Ok-node.told) new new (ended_by c.take_vote.result c.take_vote.new.voting) in
+    let P : VotingView → Type 0 = λ v. Follows (vote_answer v c.in-Ok-node.told) new new (ended_by c.take_vote.result c.take_vote.new.voting) in
     vote_asked c.args.voting.now c.take_vote.new.voting c.args.server.number c.in-Ok.ask c.in-Ok-node.told c.take_vote.result (g.A.Asker.told c.args.asker.now) new
     (sym c.has_vote.ensures ∙ c.if-has_vote.false) c.in-Ok.ensures.succeeds c.in-Ok.ensures.value
     (told_node c.args.server.number c.in-Ok.ask c.in-Ok-node.told (g.A.Asker.told c.args.asker.now) new c.in-Ok-node.ensures.exchanges c.in-Ok-node.ensures.same.0 c.in-Ok-node.ensures.same.1)

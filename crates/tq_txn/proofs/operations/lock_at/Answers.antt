@@ -14,16 +14,16 @@ returns-in-Ok-clause-asks g c =
     let new = g.A.Asker.told c.node.new.self in
     let P : NodeAsk → Type 0 = λ ask. Follows (node_line c.args.server.number ask) old new (Some (record { answer = Ok c.in-Ok.told; after = tt })) in
     let first = told_node c.args.server.number c.args.ask c.in-Ok.told old new c.in-Ok.ensures.exchanges c.in-Ok.ensures.same.0 c.in-Ok.ensures.same.1 in
-    asked_lock c.args.txn file mode c.args.server.number c.in-Ok.told c.granted.result old new (subst P c.requires.ask first) (c.granted.ensures.told c.args.txn file (c.in-Ok.ensures.same.1 ∙ c.requires.ask))
+    asked_lock c.args.txn file mode c.args.server.number c.in-Ok.told c.granted_lock.result old new (subst P c.requires.ask first) (c.granted_lock.ensures.told c.args.txn file (c.in-Ok.ensures.same.1 ∙ c.requires.ask))
 
 pub returns-in-Ok-clause-heard : goal.returns-in-Ok-clause-heard
 returns-in-Ok-clause-heard g c =
     let file = c.args.lock.now.file in
     let new = g.A.Asker.told c.node.new.self in
-    heard_at c.args.txn file c.in-Ok.told c.granted.result new (c.granted.ensures.told c.args.txn file (c.in-Ok.ensures.same.1 ∙ c.requires.ask))
+    heard_at c.args.txn file c.in-Ok.told c.granted_lock.result new (c.granted_lock.ensures.told c.args.txn file (c.in-Ok.ensures.same.1 ∙ c.requires.ask))
     (told_last c.args.server.number c.args.ask c.in-Ok.told (g.A.Asker.told c.args.asker.now) new c.in-Ok.ensures.exchanges c.in-Ok.ensures.same.0 c.in-Ok.ensures.same.1)
 
 pub returns-in-Ok-clause-unasked : goal.returns-in-Ok-clause-unasked
 returns-in-Ok-clause-unasked g c =
     let file = c.args.lock.now.file in
-    unasked_lock c.args.txn file c.in-Ok.told c.granted.result (g.A.Asker.told c.args.asker.now) (g.A.Asker.told c.node.new.self) (c.granted.ensures.told c.args.txn file (c.in-Ok.ensures.same.1 ∙ c.requires.ask))
+    unasked_lock c.args.txn file c.in-Ok.told c.granted_lock.result (g.A.Asker.told c.args.asker.now) (g.A.Asker.told c.node.new.self) (c.granted_lock.ensures.told c.args.txn file (c.in-Ok.ensures.same.1 ∙ c.requires.ask))

@@ -5,7 +5,7 @@ use Rattle.tq_txn_states.specs.Open.{touched_by}
 use Rattle.tq_txn_states.specs.declared.told.NodeTold.{NodeTold}
 use Rattle.tq_txn.specs.Lines.{LocksView, lock_line, locks_of}
 use Rattle.tq_txn.specs.Told.{answers_in}
-use Rattle.tq_txn.specs.Dialogue.{Follows, done, ended_by}
+use Rattle.tq_txn.specs.Dialogue.{Follows, line_done, ended_by}
 use Rattle.tq_txn.proofs.GrantLaws.{answers_push, granters_push, modes_push, next_locked, noted_push}
 use Rattle.tq_txn.proofs.KnownLaws.{told_same, told_push}
 use Rattle.tq_txn.proofs.LineLaws.{follows_off}
@@ -36,7 +36,7 @@ returns-in-Err-clause-locks g c =
     let asked = subst P c.txn.ensures c.in-Err.ensures.asks in
     let more = grown_along (lock_line txn file mode number) told after (ended_by {A = NodeTold} (Err c.in-Err.fault) tt) asked in
     record {
-      asks = follows_off (lock_line txn file mode number) (λ none. old) (λ told none. done tt (record { answers = old.answers ++ told ∷ []; txn = touched_by old.txn number })) c.in-Err.fault tt old told after refl asked;
+      asks = follows_off (lock_line txn file mode number) (λ none. old) (λ told none. line_done tt (record { answers = old.answers ++ told ∷ []; txn = touched_by old.txn number })) c.in-Err.fault tt old told after refl asked;
       memory = next_unfailed file mode number old c.in-Err.fault told after c.in-Err.ensures.unasked;
       grown = grown_same c.args.granting.now;
       heard = told_same told after old.answers old.answers refl more;

@@ -10,11 +10,11 @@ use Rattle.tq_locks.specs.declared.mode.Mode.{Mode}
 use Rattle.tq_txn.specs.declared.asker.Exchange.{Exchange}
 use Rattle.tq_txn.specs.Dialogue.{Follows, IsTried, IsUnfailed, LineEnd, ended_by}
 use Rattle.tq_txn.specs.Told.{AreTold, answers_in}
-use Rattle.tq_txn.specs.Lines.{AreOf, LocksView, granting_answer, lock_ask, locked, locks_line, locks_of, quorum_line}
+use Rattle.tq_txn.specs.Lines.{AreOf, LocksView, granting_answer, lock_ask, txn_after_locks, locks_line, locks_of, quorum_line}
 use Rattle.tq_evidence.specs.declared.grant.Grant.{Grant}
 use Rattle.tq_evidence.specs.Evidence.{granters}
 use Rattle.tq_txn_states.specs.Cited.{answers_of}
-use Rattle.tq_txn_states.specs.Granting.{GrantingView, IsGrown, noted}
+use Rattle.tq_txn_states.specs.Granting.{GrantingView, IsGrown, txn_with_grants}
 use Rattle.tq_txn_states.specs.Open.{OpenView, IsTouched}
 use Rattle.tq_txn_states.proofs.GrantingLaws.{can_take_grown, of_tree_grown, open_touched, touched_by_grown}
 use Rattle.tq_txn_states.proofs.Tested.{of_tree}
@@ -30,13 +30,13 @@ started file mode servers none start old same mid after end first =
     subst P same first
 
 -- a transaction that handed out what it keeps, and takes it back as it grew, is touched at most
-kept : (old handed : OpenView) (start new : GrantingView) → noted handed start ≡ old → IsGrown start new → IsTouched old (noted handed new)
+kept : (old handed : OpenView) (start new : GrantingView) → txn_with_grants handed start ≡ old → IsGrown start new → IsTouched old (txn_with_grants handed new)
 kept old handed start new before grown =
-    let P : OpenView → Type 0 = λ txn. IsTouched txn (noted handed new) in
+    let P : OpenView → Type 0 = λ txn. IsTouched txn (txn_with_grants handed new) in
     subst P before (touched_by_grown handed start new grown)
 
 -- where nothing was told, the transaction is as it was
-unasked : (file : List ℕ) (mode : Mode) (old : OpenView) (result : Result GrantingView LineFault) (told : List Exchange) → IsUnfailed (granting_answer old.txn file result) (locked old result) (quorum_line file mode old) told told
+unasked : (file : List ℕ) (mode : Mode) (old : OpenView) (result : Result GrantingView LineFault) (told : List Exchange) → IsUnfailed (granting_answer old.txn file result) (txn_after_locks old result) (quorum_line file mode old) told told
 unasked file mode old (Ok granting) told = tt
 unasked file mode old (Err fault) told = quorum_same file mode old (Err fault) told
 
@@ -58,7 +58,7 @@ take_back-requires-clause-tree g c = of_tree_grown c.room_for.new.self.levels c.
 pub take_back-requires-clause-good : goal.take_back-requires-clause-good
 take_back-requires-clause-good g c =
     let touched = kept c.args.open.now c.room_for.new.self c.in-Ok-room_for.granting c.lock_each.new.granting c.in-Ok-room_for.ensures.value c.lock_each.ensures.locks.grown in
-    open_touched c.args.open.now (noted c.room_for.new.self c.lock_each.new.granting) touched c.in-Ok-room_for.ensures.good
+    open_touched c.args.open.now (txn_with_grants c.room_for.new.self c.lock_each.new.granting) touched c.in-Ok-room_for.ensures.good
 
 pub returns-in-Ok-lock_each-clause-heard : goal.returns-in-Ok-lock_each-clause-heard
 returns-in-Ok-lock_each-clause-heard g c =
@@ -96,7 +96,7 @@ returns-in-Ok-lock_each-clause-of_tree g c = of_tree_grown c.room_for.new.self.l
 pub returns-in-Ok-lock_each-clause-good : goal.returns-in-Ok-lock_each-clause-good
 returns-in-Ok-lock_each-clause-good g c =
     let touched = kept c.args.open.now c.room_for.new.self c.in-Ok-room_for.granting c.lock_each.new.granting c.in-Ok-room_for.ensures.value c.lock_each.ensures.locks.grown in
-    open_touched c.args.open.now (noted c.room_for.new.self c.lock_each.new.granting) touched c.in-Ok-room_for.ensures.good
+    open_touched c.args.open.now (txn_with_grants c.room_for.new.self c.lock_each.new.granting) touched c.in-Ok-room_for.ensures.good
 
 pub returns-in-Ok-lock_each-clause-kept : goal.returns-in-Ok-lock_each-clause-kept
 returns-in-Ok-lock_each-clause-kept g c =
@@ -150,7 +150,7 @@ returns-in-Ok-lock_each-clause-asked g c =
     let empty : none ≡ [] = ap (answers_of handed.txn file) c.in-Ok-room_for.ensures.grants in
     let same : handed.txn ≡ old.txn = ap (λ (v : OpenView). v.txn) c.in-Ok-room_for.ensures.value in
     let new : LocksView = locks_of file handed c.lock_each.new.granting in
-    let all_locked = started file c.args.mode (numbers_of c.servers-servers.result.now) none (noted handed start) old c.in-Ok-room_for.ensures.value mid after (Some (record { answer = Ok tt; after = new })) c.in-Ok-lock_each.ensures.locks.asks in
+    let all_locked = started file c.args.mode (numbers_of c.servers-servers.result.now) none (txn_with_grants handed start) old c.in-Ok-room_for.ensures.value mid after (Some (record { answer = Ok tt; after = new })) c.in-Ok-lock_each.ensures.locks.asks in
     let all = quorum_locked file c.args.mode c.levels.result old c.levels.ensures c.purpose_of.result c.purpose_of.ensures c.in-Ok.quorum.servers c.servers-servers.result.now none c.servers-servers.ensures.numbers empty told mid c.in-Ok.ensures.asks new after all_locked in
     let P : ℕ → Type 0 = λ txn. Follows (quorum_line file c.args.mode old) told after (Some (record { answer = Ok (answers_of txn file c.lock_each.new.granting.grants); after = new.txn })) in
     record { asks = subst P same all; memory = tt }
@@ -168,11 +168,11 @@ returns-clause-asked g c =
     let none = answers_of handed.txn file start.grants in
     let empty : none ≡ [] = ap (answers_of handed.txn file) c.in-Ok-room_for.ensures.grants in
     let new : LocksView = locks_of file handed c.lock_each.new.granting in
-    let all_locked = started file c.args.mode (numbers_of c.servers-servers.result.now) none (noted handed start) old c.in-Ok-room_for.ensures.value mid after (ended_by (Err fault) new) c.in-Err-lock_each.ensures.locks.asks in
+    let all_locked = started file c.args.mode (numbers_of c.servers-servers.result.now) none (txn_with_grants handed start) old c.in-Ok-room_for.ensures.value mid after (ended_by (Err fault) new) c.in-Err-lock_each.ensures.locks.asks in
     let P : OpenView → Type 0 = λ v. IsTried {A = List NodeTold} (quorum_line file c.args.mode old) told after (Err fault) v in
     subst P (sym c.take_back.ensures) record {
       asks = quorum_stopped file c.args.mode c.levels.result old c.levels.ensures c.purpose_of.result c.purpose_of.ensures c.in-Ok.quorum.servers c.servers-servers.result.now none c.servers-servers.ensures.numbers empty told mid c.in-Ok.ensures.asks
           fault new after all_locked;
       memory = quorum_unfailed file c.args.mode old c.levels.result c.levels.ensures c.purpose_of.result c.purpose_of.ensures c.in-Ok.quorum.servers c.servers-servers.result.now c.servers-servers.ensures.numbers told mid c.in-Ok.ensures.asks
-          none empty (noted handed start) c.in-Ok-room_for.ensures.value fault new after c.in-Err-lock_each.ensures.locks.memory;
+          none empty (txn_with_grants handed start) c.in-Ok-room_for.ensures.value fault new after c.in-Err-lock_each.ensures.locks.memory;
     }

@@ -7,8 +7,8 @@ use Rattle.tq_txn.proofs.ToldLaws.{grown_along}
 use Rattle.std.proofs.Common.{Some, Ok, Err, refl}
 use Rattle.tq_evidence.specs.declared.op.OpKind.TheVariants as kinds
 use Rattle.tq_locks.specs.declared.mode.Mode.TheVariants.{Shared}
-use Rattle.tq_txn_states.specs.Granting.{noted}
-use Rattle.tq_txn_states.specs.Open.{read_copy, read_op, taken}
+use Rattle.tq_txn_states.specs.Granting.{txn_with_grants}
+use Rattle.tq_txn_states.specs.Open.{read_copy, read_op, txn_after_op}
 use Rattle.tq_txn_states.proofs.CitedLaws.{granted_cited}
 use Rattle.tq_txn_states.specs.declared.fault.TxnFault.TheVariants as txn_faults
 use Rattle.tq_txn_states.proofs.Granted.{any_fit, grants_again, read_as_told}
@@ -23,10 +23,10 @@ use Rattle.tq_txn.proofs.LineLaws.{follows_off, follows_on, read_ended, read_ref
 use Rattle.tq_txn.proofs.operations.read_at_quorum.Goals as goal
 
 pub read_locked-requires-clause-fresh : goal.read_locked-requires-clause-fresh
-read_locked-requires-clause-fresh g c = still_unused c.args.open.now (noted c.lock_quorum.new.open c.in-Ok.granting) c.in-Ok.ensures.kept c.args.file.now c.requires.fresh
+read_locked-requires-clause-fresh g c = still_unused c.args.open.now (txn_with_grants c.lock_quorum.new.open c.in-Ok.granting) c.in-Ok.ensures.kept c.args.file.now c.requires.fresh
 
 pub read_locked-requires-clause-member : goal.read_locked-requires-clause-member
-read_locked-requires-clause-member g c = still_member c.args.open.now (noted c.lock_quorum.new.open c.in-Ok.granting) c.in-Ok.ensures.kept c.in-Ok.granting.grants c.in-Ok.ensures.member
+read_locked-requires-clause-member g c = still_member c.args.open.now (txn_with_grants c.lock_quorum.new.open c.in-Ok.granting) c.in-Ok.ensures.kept c.in-Ok.granting.grants c.in-Ok.ensures.member
 
 pub returns-in-Err-clause-asks : goal.returns-in-Err-clause-asks
 returns-in-Err-clause-asks g c =
@@ -37,7 +37,7 @@ returns-in-Ok-read_locked-clause-asks g c =
     let file = c.args.file.now in
     let grants = c.in-Ok.granting.grants in
     let old = c.args.open.now in
-    let now = noted c.lock_quorum.new.open c.in-Ok.granting in
+    let now = txn_with_grants c.lock_quorum.new.open c.in-Ok.granting in
     let kept = c.in-Ok.ensures.kept in
     let told = g.A.Asker.told c.lock_quorum.new.asker in
     let answers = answers_of old.txn file grants in
@@ -46,14 +46,14 @@ returns-in-Ok-read_locked-clause-asks g c =
     let none = read_as_told now file grants (still_unused old now kept file c.requires.fresh) (still_few old now kept c.requires.few) (still_member old now kept grants c.in-Ok.ensures.member) in
     follows_on (quorum_line c.args.file.now Shared c.args.open.now) (λ new. new) (λ told new. read_end c.args.file.now told new) answers now (g.A.Asker.told c.args.asker.now) told told
     (Some (record { answer = Ok (Copy c.in-Ok-read_locked.copy); after = c.read_locked.new.self })) c.in-Ok.ensures.asked.asks
-    (read_ended file answers given now c.read_locked.new.self c.in-Ok-read_locked.copy told (same_answers old now kept file grants) none (c.in-Ok-read_locked.ensures.value ∙ sym (ap read_copy again)) (c.in-Ok-read_locked.ensures.after ∙ sym (ap (λ gs. taken now (read_op file gs)) again)))
+    (read_ended file answers given now c.read_locked.new.self c.in-Ok-read_locked.copy told (same_answers old now kept file grants) none (c.in-Ok-read_locked.ensures.value ∙ sym (ap read_copy again)) (c.in-Ok-read_locked.ensures.after ∙ sym (ap (λ gs. txn_after_op now (read_op file gs)) again)))
 
 pub returns-in-Err-read_locked-clause-asks : goal.returns-in-Err-read_locked-clause-asks
 returns-in-Err-read_locked-clause-asks g c =
     let file = c.args.file.now in
     let grants = c.in-Ok.granting.grants in
     let old = c.args.open.now in
-    let now = noted c.lock_quorum.new.open c.in-Ok.granting in
+    let now = txn_with_grants c.lock_quorum.new.open c.in-Ok.granting in
     let kept = c.in-Ok.ensures.kept in
     let told = g.A.Asker.told c.lock_quorum.new.asker in
     let answers = answers_of old.txn file grants in
@@ -75,7 +75,7 @@ returns-in-Ok-read_locked-clause-knows g c =
     let new = g.A.Asker.told c.lock_quorum.new.asker in
     let file = c.args.file.now in
     let grants = c.in-Ok.granting.grants in
-    let now = noted c.lock_quorum.new.open c.in-Ok.granting in
+    let now = txn_with_grants c.lock_quorum.new.open c.in-Ok.granting in
     let more = grown_along (quorum_line file Shared c.args.open.now) old new (Some (record { answer = Ok (answers_of c.args.open.now.txn file grants); after = now })) c.in-Ok.ensures.asked.asks in
     let heard = subst (AreTold new) (sym (same_answers c.args.open.now now c.in-Ok.ensures.kept file grants)) c.in-Ok.ensures.heard in
     let cited = granted_cited now c.read_locked.new.self (read_op file grants) grants c.in-Ok-read_locked.ensures.after refl in
@@ -86,7 +86,7 @@ returns-in-Err-read_locked-clause-knows g c =
     let old = g.A.Asker.told c.args.asker.now in
     let new = g.A.Asker.told c.lock_quorum.new.asker in
     let grants = c.in-Ok.granting.grants in
-    let now = noted c.lock_quorum.new.open c.in-Ok.granting in
+    let now = txn_with_grants c.lock_quorum.new.open c.in-Ok.granting in
     let more = grown_along (quorum_line c.args.file.now Shared c.args.open.now) old new (Some (record { answer = Ok (answers_of c.args.open.now.txn c.args.file.now grants); after = now })) c.in-Ok.ensures.asked.asks in
     λ is. subst (KeepsOnly (answers_in new)) (sym c.in-Err-read_locked.ensures.err) (knows_touched old new c.args.open.now now more c.in-Ok.ensures.kept is)
 
@@ -97,4 +97,4 @@ returns-in-Err-clause-memory g c =
 pub returns-in-Err-read_locked-clause-memory : goal.returns-in-Err-read_locked-clause-memory
 returns-in-Err-read_locked-clause-memory g c =
     noted_last (quorum_line c.args.file.now Shared c.args.open.now) c.read_locked.new.self (g.A.Asker.told c.args.asker.now) (g.A.Asker.told c.lock_quorum.new.asker) ReadAnswer Memory
-    (answers_of c.args.open.now.txn c.args.file.now c.in-Ok.granting.grants) (noted c.lock_quorum.new.open c.in-Ok.granting) c.in-Ok.ensures.asked.asks c.in-Err-read_locked.ensures.err
+    (answers_of c.args.open.now.txn c.args.file.now c.in-Ok.granting.grants) (txn_with_grants c.lock_quorum.new.open c.in-Ok.granting) c.in-Ok.ensures.asked.asks c.in-Err-read_locked.ensures.err

@@ -5,8 +5,8 @@ use Rattle.tq_evidence.specs.declared.op.OpKind.TheVariants as kinds
 use Rattle.tq_locks.specs.declared.mode.Mode.TheVariants.{Exclusive}
 use Rattle.tq_txn_states.specs.declared.fault.TxnFault.TheVariants as txn_faults
 use Rattle.tq_txn_states.specs.Cited.{KeepsOnly, answers_of}
-use Rattle.tq_txn_states.specs.Granting.{noted}
-use Rattle.tq_txn_states.specs.Open.{taken, write_op}
+use Rattle.tq_txn_states.specs.Granting.{txn_with_grants}
+use Rattle.tq_txn_states.specs.Open.{txn_after_op, write_op}
 use Rattle.tq_txn_states.proofs.CitedLaws.{granted_cited}
 use Rattle.tq_txn_states.proofs.Granted.{grants_again, write_as_told}
 use Rattle.tq_txn_states.proofs.GrantingLaws.{version_made, version_refused}
@@ -22,10 +22,10 @@ use Rattle.tq_txn.proofs.ToldLaws.{grown_along}
 use Rattle.tq_txn.proofs.operations.write_at_quorum.Goals as goal
 
 pub write_locked-requires-clause-fresh : goal.write_locked-requires-clause-fresh
-write_locked-requires-clause-fresh g c = still_unwritten c.args.open.now (noted c.lock_quorum.new.open c.in-Ok.granting) c.in-Ok.ensures.kept c.args.file.now c.requires.fresh
+write_locked-requires-clause-fresh g c = still_unwritten c.args.open.now (txn_with_grants c.lock_quorum.new.open c.in-Ok.granting) c.in-Ok.ensures.kept c.args.file.now c.requires.fresh
 
 pub write_locked-requires-clause-member : goal.write_locked-requires-clause-member
-write_locked-requires-clause-member g c = still_member c.args.open.now (noted c.lock_quorum.new.open c.in-Ok.granting) c.in-Ok.ensures.kept c.in-Ok.granting.grants c.in-Ok.ensures.member
+write_locked-requires-clause-member g c = still_member c.args.open.now (txn_with_grants c.lock_quorum.new.open c.in-Ok.granting) c.in-Ok.ensures.kept c.in-Ok.granting.grants c.in-Ok.ensures.member
 
 pub write_locked-requires-clause-exclusive : goal.write_locked-requires-clause-exclusive
 write_locked-requires-clause-exclusive g c = all_exclusive c.in-Ok.granting.grants c.in-Ok.ensures.modes
@@ -39,7 +39,7 @@ returns-in-Some-clause-asks g c =
     let file = c.args.file.now in
     let grants = c.in-Ok.granting.grants in
     let old = c.args.open.now in
-    let now = noted c.lock_quorum.new.open c.in-Ok.granting in
+    let now = txn_with_grants c.lock_quorum.new.open c.in-Ok.granting in
     let kept = c.in-Ok.ensures.kept in
     let told = g.A.Asker.told c.lock_quorum.new.asker in
     let answers = answers_of old.txn file grants in
@@ -50,14 +50,14 @@ returns-in-Some-clause-asks g c =
     let made = version_made grants c.in-Some.version (c.write_locked.ensures.value ∙ c.in-Some.is) in
     follows_on (quorum_line file Exclusive old) (λ new. new) (λ told new. write_end file c.args.content told new) answers now (g.A.Asker.told c.args.asker.now) told told
     (Some (record { answer = Ok c.in-Some.version; after = c.write_locked.new.self })) c.in-Ok.ensures.asked.asks
-    (write_ended file c.args.content answers given now c.write_locked.new.self c.in-Some.version told (same_answers old now kept file grants) (fault ∙ made.0) (made.1 ∙ sym (ap (λ gs. greatest gs + 1) again)) (c.in-Some.ensures.after ∙ sym (ap (λ gs. taken now (write_op file c.args.content gs)) again)))
+    (write_ended file c.args.content answers given now c.write_locked.new.self c.in-Some.version told (same_answers old now kept file grants) (fault ∙ made.0) (made.1 ∙ sym (ap (λ gs. greatest gs + 1) again)) (c.in-Some.ensures.after ∙ sym (ap (λ gs. txn_after_op now (write_op file c.args.content gs)) again)))
 
 pub returns-in-None-clause-asks : goal.returns-in-None-clause-asks
 returns-in-None-clause-asks g c =
     let file = c.args.file.now in
     let grants = c.in-Ok.granting.grants in
     let old = c.args.open.now in
-    let now = noted c.lock_quorum.new.open c.in-Ok.granting in
+    let now = txn_with_grants c.lock_quorum.new.open c.in-Ok.granting in
     let kept = c.in-Ok.ensures.kept in
     let told = g.A.Asker.told c.lock_quorum.new.asker in
     let answers = answers_of old.txn file grants in
@@ -82,7 +82,7 @@ returns-in-Some-clause-knows g c =
     let new = g.A.Asker.told c.lock_quorum.new.asker in
     let file = c.args.file.now in
     let grants = c.in-Ok.granting.grants in
-    let now = noted c.lock_quorum.new.open c.in-Ok.granting in
+    let now = txn_with_grants c.lock_quorum.new.open c.in-Ok.granting in
     let more = grown_along (quorum_line file Exclusive c.args.open.now) old new (Some (record { answer = Ok (answers_of c.args.open.now.txn file grants); after = now })) c.in-Ok.ensures.asked.asks in
     let heard = subst (AreTold new) (sym (same_answers c.args.open.now now c.in-Ok.ensures.kept file grants)) c.in-Ok.ensures.heard in
     let cited = granted_cited now c.write_locked.new.self (write_op file c.args.content grants) grants c.in-Some.ensures.after refl in
@@ -93,7 +93,7 @@ returns-in-None-clause-knows g c =
     let old = g.A.Asker.told c.args.asker.now in
     let new = g.A.Asker.told c.lock_quorum.new.asker in
     let grants = c.in-Ok.granting.grants in
-    let now = noted c.lock_quorum.new.open c.in-Ok.granting in
+    let now = txn_with_grants c.lock_quorum.new.open c.in-Ok.granting in
     let more = grown_along (quorum_line c.args.file.now Exclusive c.args.open.now) old new (Some (record { answer = Ok (answers_of c.args.open.now.txn c.args.file.now grants); after = now })) c.in-Ok.ensures.asked.asks in
     λ is. subst (KeepsOnly (answers_in new)) (sym (c.write_locked.ensures.full c.in-None.is)) (knows_touched old new c.args.open.now now more c.in-Ok.ensures.kept is)
 

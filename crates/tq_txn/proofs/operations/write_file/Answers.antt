@@ -13,12 +13,12 @@ returns-in-Some-clause-knows g c = c.rewrite.ensures.cited (answers_in (g.A.Aske
 pub returns-clause-asks : goal.returns-clause-asks
 returns-clause-asks g c =
     first_of_writes c.args.open.now c.args.file.now c.args.content (g.A.Asker.told c.args.asker.now) (g.A.Asker.told c.write_at_quorum.new.asker) (ended_by c.write_at_quorum.result c.write_at_quorum.new.open)
-    (sym c.written.ensures ∙ ap option_copied c.in_default.is) (sym c.is_full.ensures ∙ c.if-is_full.false) c.write_at_quorum.ensures.asks
+    (sym c.op_written.ensures ∙ ap option_copied c.in_default.is) (sym c.is_full.ensures ∙ c.if-is_full.false) c.write_at_quorum.ensures.asks
 
 pub write_at_quorum-requires-clause-fresh : goal.write_at_quorum-requires-clause-fresh
-write_at_quorum-requires-clause-fresh g c = unwritten c.args.open.now c.args.file.now (sym c.written.ensures ∙ ap option_copied c.in_default.is)
+write_at_quorum-requires-clause-fresh g c = unwritten c.args.open.now c.args.file.now (sym c.op_written.ensures ∙ ap option_copied c.in_default.is)
 
 pub returns-clause-memory : goal.returns-clause-memory
 returns-clause-memory g c =
     unfailed_writes c.args.open.now c.args.file.now c.args.content c.write_at_quorum.result c.write_at_quorum.new.open (g.A.Asker.told c.args.asker.now) (g.A.Asker.told c.write_at_quorum.new.asker)
-    (sym c.written.ensures ∙ ap option_copied c.in_default.is) (sym c.is_full.ensures ∙ c.if-is_full.false) c.write_at_quorum.ensures.memory
+    (sym c.op_written.ensures ∙ ap option_copied c.in_default.is) (sym c.is_full.ensures ∙ c.if-is_full.false) c.write_at_quorum.ensures.memory

@@ -1,7 +1,7 @@
 use Rattle.std.proofs.Common.{◌∙◌, arith}
 use Rattle.std.proofs.lemmas.List.{length_push}
 use Rattle.tq_world.proofs.ReadsOfRun.{reads_of_run, reads_of_more, seen_run}
-use Rattle.tq_world.specs.Steps.{taken}
+use Rattle.tq_world.specs.Steps.{taken_steps}
 use Rattle.tq_world.proofs.Runs.{told-next, run-next}
 use Rattle.tq_core.proofs.service.Service.take.Goals as goal
 
@@ -24,4 +24,4 @@ pub returns-in_err-results-clause-committed_reads : goal.returns-in_err-results-
 returns-in_err-results-clause-committed_reads c = reads_of_run _ (seen_run _ _ c.self.view_is c.self.invariant.ran)
 
 pub returns-clause-committed_reads : goal.returns-clause-committed_reads
-returns-clause-committed_reads c = reads_of_more _ _ (seen_run _ _ c.self.view_is c.self.invariant.ran) (taken c.loop-step.yielded c.loop-step.results.items) c.loop-step.invariant.3
+returns-clause-committed_reads c = reads_of_more _ _ (seen_run _ _ c.self.view_is c.self.invariant.ran) (taken_steps c.loop-step.yielded c.loop-step.results.items) c.loop-step.invariant.3

@@ -8,6 +8,6 @@ invariant-loop-step l =
     (goal.iterator-loop-step).can_next l.step-iterator ×
     (goal.iterator-loop-step).is_finite l.step-iterator ×
     spec.AreTold l.initial.self l.yielded l.results.items ×
-    (l.self ≡ spec.run_from l.initial.self (spec.taken l.yielded l.results.items)) ×
+    (l.self ≡ spec.run_from l.initial.self (spec.taken_steps l.yielded l.results.items)) ×
     (Rattle.std.specs.Vec.vec_capacity l.results ≡ Rattle.std.specs.Vec.vec_capacity l.initial.results) ×
     (Rattle.std.specs.Vec.vec_len l.results ≡ length l.yielded)

@@ -2,7 +2,7 @@ use Rattle.std.proofs.Common.{ap, sym, ◌∙◌, Some}
 use Rattle.tq_shape.specs.Depth.{height_of}
 use Rattle.tq_shape.specs.ServerSet.{Ascends, Servers}
 use Rattle.tq_coterie.proofs.Members.{member-set}
-use Rattle.tq_live.specs.SearchFor.{cost_for, allowed_for, found}
+use Rattle.tq_live.specs.SearchFor.{cost_for, allowed_for, found_set}
 use Rattle.tq_live.specs.Kept.{found_in}
 use Rattle.tq_live.specs.Collected.{with_all}
 use Rattle.tq_live.proofs.Found.{some_is, least_member-in}
@@ -22,7 +22,7 @@ returns-clause-found c =
     let sought = c.args.sought in
     let number = c.args.server.number in
     let tree = c.node.result.now in
-    let there = some_is (found live sought number) c.requires.there in
+    let there = some_is (found_set live sought number) c.requires.there in
     let member = least_member-in (cost_for live sought) (allowed_for live sought) (height_of live.levels number) number there.0 there.1 in
     let positive = rw c.number-number.ensures.value at c.number-number.ensures.within.0 in
     let up : Ascends 0 there.0 = (member-set (height_of live.levels number) number there.0 member).ascends positive 0 positive in

@@ -1,7 +1,7 @@
 use Rattle.std.proofs.Common.{◌+◌, drop, rules, ap, sym, ◌∙◌}
 use Rattle.std.specs.List.{cons_option}
 use Rattle.slab.specs.Slab.{get}
-use Rattle.tq_locks.specs.Keys.{told}
+use Rattle.tq_locks.specs.Keys.{entries_of}
 use Rattle.tq_locks.proofs.Listed.{told-at}
 use Rattle.tq_locks.proofs.keyed.HeldLocksIterator.next.Goals as goal
 
@@ -12,7 +12,7 @@ returns-in-Some-clause-steps c =
     let keys = c.loop-self.self-inside.keys in
     sym c.loop-self.invariant
     ∙ told-at (get entries) keys at c.in_ok-key.key (sym c.in_ok-key.ensures)
-    ∙ ap (λ o. cons_option o (told entries (drop (at + 1) keys))) (sym c.in-Some.ensures)
+    ∙ ap (λ o. cons_option o (entries_of entries (drop (at + 1) keys))) (sym c.in-Some.ensures)
 
 pub returns-in-Some-clause-goes : goal.returns-in-Some-clause-goes
 returns-in-Some-clause-goes c = rw (returns-in-Some-clause-steps c) (search rules)
@@ -22,4 +22,4 @@ loop-self-preserved c =
     let entries = c.loop-self.self-inside.entries.now in
     let at = c.loop-self.self-inside.at in
     let keys = c.loop-self.self-inside.keys in
-    sym (told-at (get entries) keys at c.in_ok-key.key (sym c.in_ok-key.ensures) ∙ ap (λ o. cons_option o (told entries (drop (at + 1) keys))) (sym c.in_default.ensures)) ∙ c.loop-self.invariant
+    sym (told-at (get entries) keys at c.in_ok-key.key (sym c.in_ok-key.ensures) ∙ ap (λ o. cons_option o (entries_of entries (drop (at + 1) keys))) (sym c.in_default.ensures)) ∙ c.loop-self.invariant

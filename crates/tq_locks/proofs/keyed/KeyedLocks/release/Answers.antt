@@ -3,7 +3,7 @@ use Rattle.std.specs.FinMap as fin
 use Rattle.std.specs.List.{slice_get}
 use Rattle.std.specs.Option.{option_to_list}
 use Rattle.tq_locks.specs.declared.keyed.KeyedLocks.{KeyedLocks}
-use Rattle.tq_locks.specs.Locks.{released}
+use Rattle.tq_locks.specs.Locks.{locks_after_release}
 use Rattle.tq_locks.specs.Keys.{keys_under}
 use Rattle.tq_locks.specs.Kept.{locks_in, Agrees}
 use Rattle.tq_locks.proofs.Applied.{cond_same, entry_of_key, empty_keys}
@@ -32,8 +32,8 @@ loop-key-preserved c =
     Agrees-popped old new (locks_in old) txn keys rest c.in-Some.key e.0 c.loop-key.invariant.0 popped e.1 e.2
     (c.leave_file.ensures.left e.0.0 (e.0.1, e.2)) c.leave_file.ensures.entries c.leave_file.ensures.by_txn in (
       agreed_self left (fin.remove (locks_in old) e.0.0) agreed,
-      ap (λ m. released m txn) (locks_in-agreed left (fin.remove (locks_in old) e.0.0) agreed)
-          ∙ subst (λ t. released (fin.remove (locks_in old) e.0.0) t ≡ released (locks_in old) t) e.1 (released-remove (locks_in old) e.0.0)
+      ap (λ m. locks_after_release m txn) (locks_in-agreed left (fin.remove (locks_in old) e.0.0) agreed)
+          ∙ subst (λ t. locks_after_release (fin.remove (locks_in old) e.0.0) t ≡ locks_after_release (locks_in old) t) e.1 (released-remove (locks_in old) e.0.0)
           ∙ c.loop-key.invariant.1,
       ap (λ lists. keys_under nat_eq lists txn) c.leave_file.ensures.by_txn ∙ c.loop-key.invariant.2,
     )

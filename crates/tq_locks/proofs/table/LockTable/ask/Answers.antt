@@ -1,7 +1,7 @@
 use Rattle.std.proofs.Common.{◌≡◌, None, IfNone, IfSome, ap, sym, subst, ◌∙◌}
 use Rattle.std.specs.FinMap as fin
 use Rattle.tq_shape.specs.Steps.{state_at}
-use Rattle.tq_locks.specs.Locks.{IsTold, granted, lock_after, outcome, LocksView}
+use Rattle.tq_locks.specs.Locks.{IsTold, locks_after_grant, lock_after, outcome, LocksView}
 use Rattle.tq_locks.specs.Kept.{locks_in, lock_found, IsOf}
 use Rattle.tq_locks.proofs.Applied.{OnErr-any}
 use Rattle.tq_locks.proofs.Asked.{by_is, is_told, granted_whole, granted_value, asked_whole, asked_value}
@@ -25,7 +25,7 @@ returns-in-None-blocker-clause-after c =
     granted_value c.self.inside.kept c.set_lock.new.self c.args.self.now.locks c.args.file.now c.args.txn c.args.mode c.args.number c.args.version c.find-found.result.key c.lock_at.result c.after-lock.result
     (ap (λ (v : LocksView). v.locks) c.self.view_is) c.self.invariant c.find-found.ensures.some c.find-found.ensures.none c.lock_at.ensures c.after-lock.ensures (sym c.blocker.ensures.value ∙ c.in-None-blocker.is)
     (c.set_lock.ensures (c.args.file.now, c.args.txn) (subst (λ found. IfSome found (λ key. IsOf c.self.inside.kept.entries key (c.args.file.now, c.args.txn))) c.in-Some.is (c.find-found.ensures.some c.self.invariant.0)))
-    ∙ ap (λ o. state_at o c.args.self.now.locks (granted c.args.self.now.locks c.args.file.now c.args.txn c.args.mode c.args.number c.args.version)) (sym c.in-None-blocker.is ∙ c.blocker.ensures.value)
+    ∙ ap (λ o. state_at o c.args.self.now.locks (locks_after_grant c.args.self.now.locks c.args.file.now c.args.txn c.args.mode c.args.number c.args.version)) (sym c.in-None-blocker.is ∙ c.blocker.ensures.value)
 
 pub returns-in-None-blocker-clause-no_conflict : goal.returns-in-None-blocker-clause-no_conflict
 returns-in-None-blocker-clause-no_conflict c = (invariant_of-self c).1

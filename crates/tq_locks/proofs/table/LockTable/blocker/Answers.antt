@@ -1,7 +1,7 @@
 use Rattle.std.proofs.Common.{ℕ, Option, Some, refl, IfNone, IfSome, ◌≡◌, None, ap, sym, subst, ◌∙◌}
 use Rattle.tq_locks.specs.Locks.{blocker, IsFree, IsLeastBlocker, LocksView}
-use Rattle.tq_locks.specs.Keys.{keys_in, told}
-use Rattle.tq_locks.specs.Kept.{decided, locks_in}
+use Rattle.tq_locks.specs.Keys.{keys_in, entries_of}
+use Rattle.tq_locks.specs.Kept.{first_blocker, locks_in}
 use Rattle.tq_locks.proofs.Applied.{decided_on_file}
 use Rattle.tq_locks.proofs.Locked.{decided-blocker, least_blocker, no_blocker}
 use Rattle.tq_locks.proofs.table.LockTable.blocker.Goals as goal
@@ -11,7 +11,7 @@ returns-clause-value c =
     let kept = c.self.inside.kept in
     let all = decided_on_file kept (locks_in kept) c.self.invariant.0 c.args.file c.args.txn c.args.mode in
     c.held_by.ensures
-    ∙ ap (λ list. decided c.args.txn c.args.mode (told kept.entries (keys_in list))) c.get-list.ensures.value
+    ∙ ap (λ list. first_blocker c.args.txn c.args.mode (entries_of kept.entries (keys_in list))) c.get-list.ensures.value
     ∙ all
     ∙ decided-blocker (locks_in kept) c.args.file c.args.txn c.args.mode c.self.invariant.1
     ∙ ap (λ m. blocker m c.args.file c.args.txn c.args.mode) (ap (λ (v : LocksView). v.locks) c.self.view_is)

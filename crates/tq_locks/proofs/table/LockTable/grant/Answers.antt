@@ -35,7 +35,7 @@ returns-in_ok-_unblocked-in-None-clause-ok c =
     (subst (λ found. IfNone found (fin.get (locks_in c.self.inside.kept) (c.args.file, c.args.txn) ≡ None)) c.in-None.is (c.find-found.ensures.none c.self.invariant.0))
     (c.after-lock.ensures ∙ ap (λ o. spec.lock_after o c.args.mode c.args.number c.args.version) (c.lock_at.ensures ∙ ap (lock_found c.self.inside.kept.entries) c.in-None.is))
     c.in_ok-_unblocked-in-None.ensures.told c.in_ok-_unblocked-in-None.ensures.ok
-    ∙ ap (λ o. state_at o c.args.self.now.locks (spec.granted c.args.self.now.locks c.args.file c.args.txn c.args.mode c.args.number c.args.version)) c.requires
+    ∙ ap (λ o. state_at o c.args.self.now.locks (spec.locks_after_grant c.args.self.now.locks c.args.file c.args.txn c.args.mode c.args.number c.args.version)) c.requires
 
 pub returns-in_ok-_unblocked-in-None-clause-no_conflict : goal.returns-in_ok-_unblocked-in-None-clause-no_conflict
 returns-in_ok-_unblocked-in-None-clause-no_conflict c = (invariant_of-self-in-None c).1

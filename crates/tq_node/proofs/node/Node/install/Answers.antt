@@ -5,11 +5,11 @@ use Rattle.tq_store.specs.Copies.{installed_all, is_newer}
 use Rattle.tq_intents.specs.Kept.{kept_votes, vote_at}
 use Rattle.tq_intents.proofs.CopiesPush.{installed_all-newer}
 use Rattle.tq_intents.specs.declared.record.Record.TheVariants.{Copy, Gone}
-use Rattle.tq_locks.specs.Locks.{released}
+use Rattle.tq_locks.specs.Locks.{locks_after_release}
 use Rattle.tq_store.specs.declared.write.Write.{Write}
 use Rattle.tq_node.specs.Node.{NodeView}
 use Rattle.tq_node.specs.contracts.node.Node.{the_view}
-use Rattle.tq_node.specs.NodeChanges.{records_of, unnoted}
+use Rattle.tq_node.specs.NodeChanges.{records_of, server_after_step}
 use Rattle.tq_node.specs.declared.change.NodeStep.TheVariants.{Install}
 use Rattle.tq_node.proofs.Sound.{sound-as, sound-installed}
 use Rattle.tq_node.proofs.node.Node.install.Goals as goal
@@ -28,7 +28,7 @@ invariant_of-self-2 c =
 
 -- the newer writes leave the server that all of them would
 installs_newer : (old : NodeView) (number txn vote : ℕ) (writes newer : List Write) → newer ≡ filter (is_newer old.state.records.copies) writes
-    → unnoted old number (Install txn vote newer newer) ≡ unnoted old number (Install txn vote writes newer)
+    → server_after_step old number (Install txn vote newer newer) ≡ server_after_step old number (Install txn vote writes newer)
 installs_newer old number txn vote writes newer is =
     let files = old.state.records.copies in
     let same : installed_all files newer ≡ installed_all files writes = ap (λ list. installed_all files list) is ∙ installed_all-newer files writes in
@@ -36,7 +36,7 @@ installs_newer old number txn vote writes newer is =
       levels = old.levels;
       server = old.server;
       state = record {
-        records = record old.state.records { copies = same i; locks = released old.state.records.locks txn; votes = fin.remove old.state.records.votes txn };
+        records = record old.state.records { copies = same i; locks = locks_after_release old.state.records.locks txn; votes = fin.remove old.state.records.votes txn };
         stable = old.state.stable ++ records_of (Install txn vote writes newer);
       };
       last = old.last;
@@ -46,5 +46,5 @@ pub returns-clause-after : goal.returns-clause-after
 returns-clause-after c =
     let inside = c.self.inside in
     let first : the_view (record { server = inside.server; copies = c.install_copies.new.copies; locks = c.release.new.self; intents = c.finish.new.self; down = inside.down; last = inside.last })
-    ≡ unnoted c.args.self.now c.args.number (Install c.args.txn c.args.vote c.args.newer c.args.newer) = grind (arith, common_steps) in
+    ≡ server_after_step c.args.self.now c.args.number (Install c.args.txn c.args.vote c.args.newer c.args.newer) = grind (arith, common_steps) in
     first ∙ installs_newer c.args.self.now c.args.number c.args.txn c.args.vote c.args.writes.now c.args.newer c.requires.newer

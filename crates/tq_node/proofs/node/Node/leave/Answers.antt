@@ -1,6 +1,6 @@
 use Rattle.std.proofs.Common.{Bool, ap, sym, subst, ◌∙◌}
 use Rattle.tq_node.specs.Node.{IsKept, NodeView}
-use Rattle.tq_node.specs.NodeChanges.{left}
+use Rattle.tq_node.specs.NodeChanges.{server_at_stop}
 use Rattle.tq_node.proofs.Sound.{kept_is, left_is}
 use Rattle.tq_node.proofs.node.Node.leave.Goals as goal
 
@@ -8,4 +8,4 @@ pub returns-then-stops-clause-after : goal.returns-then-stops-clause-after
 returns-then-stops-clause-after c =
     let inside = c.self.inside in
     let kept = subst (λ (v : NodeView). IsKept v.state) c.self.view_is (kept_is inside.intents.records inside.last inside.copies.files inside.locks.locks c.self.invariant inside.down) in
-    c.crash.ensures ∙ left_is c.args.self.now inside.last kept ∙ ap (λ (b : Bool). left b c.args.self.now) (sym c.if-stops.true)
+    c.crash.ensures ∙ left_is c.args.self.now inside.last kept ∙ ap (λ (b : Bool). server_at_stop b c.args.self.now) (sym c.if-stops.true)

@@ -2,7 +2,7 @@ use Rattle.std.proofs.Common.{List, [], map, ap, sym, subst, ◌∙◌, rules}
 use Rattle.std.specs.List.{list_any}
 use Rattle.tq_asks.specs.declared.ask.NodeAsk.TheVariants.{Work}
 use Rattle.tq_asks.specs.declared.ask.WorkAsk.TheVariants.{Decide}
-use Rattle.tq_node.specs.Node.{NodeView, numbered}
+use Rattle.tq_node.specs.Node.{NodeView, with_last}
 use Rattle.tq_node.specs.declared.change.NodeStep.TheVariants.{Install}
 use Rattle.tq_store.specs.Copies.{copy_of, installed_all}
 use Rattle.tq_store.specs.Names.{same_name}
@@ -16,7 +16,7 @@ pub returns-clause-told : goal.returns-clause-told
 returns-clause-told c =
     let ask = Work (Decide c.args.txn c.args.verdict.now c.args._cite) in
     let old = c.args.self.now.state.records in
-    let after = c.note-2.ensures ∙ ap (numbered c.args.number) c.in_ok-install.ensures.after in
+    let after = c.note-2.ensures ∙ ap (with_last c.args.number) c.in_ok-install.ensures.after in
     record {
       entered = search rules;
       told = search rules;

@@ -1,6 +1,6 @@
 use Rattle.std.proofs.Common.{ap, sym, subst, ◌∙◌, rules}
 use Rattle.std.specs.List.{list_any}
-use Rattle.tq_node.specs.NodeChanges.{node_changed, stepped, NodeFits}
+use Rattle.tq_node.specs.NodeChanges.{node_changed, records_after_step, NodeFits}
 use Rattle.tq_node.specs.NodePlans.{change_fits, change_leads}
 use Rattle.tq_node.specs.declared.change.NodeChange.{NodeChange}
 use Rattle.tq_store.specs.Copies.{Files, copy_of}
@@ -27,5 +27,5 @@ returns-clause-told c =
           ∙ step-keeps c.args.ask.now _ _ _ file (sym (ap (λ (raised : Raised). list_any (same_name file) (raised_files c.args.ask.now raised)) c.in_ok-raised.ensures) ∙ none);
       reached =
           subst (λ (files : Files). AreReached c.args.ask.now c.in_ok-raised.raised files) (sym c.in_ok-apply.ensures.copies)
-          (subst (λ (raised : Raised). AreReached c.args.ask.now raised (stepped old.state.records c.in_ok-plan.plan.change.number c.in_ok-plan.plan.change.step).copies) (sym c.in_ok-raised.ensures) (step-reaches c.args.ask.now _ _ _));
+          (subst (λ (raised : Raised). AreReached c.args.ask.now raised (records_after_step old.state.records c.in_ok-plan.plan.change.number c.in_ok-plan.plan.change.step).copies) (sym c.in_ok-raised.ensures) (step-reaches c.args.ask.now _ _ _));
     }

@@ -2,7 +2,7 @@ use Rattle.std.proofs.Common.{◌≡◌, ℕ, [], ◌∷◌, ◌++◌, refl, sym
 use Rattle.tq_asks.specs.declared.ask.WorkAsk.{WorkAsk}
 use Rattle.tq_intents.specs.Sharing.{told_write}
 use Rattle.tq_intents.specs.declared.record.Record.TheVariants.{Copy}
-use Rattle.tq_store.specs.Copies.{installed}
+use Rattle.tq_store.specs.Copies.{copies_after_install}
 use Rattle.tq_store.specs.declared.write.Write.{Write}
 use Rattle.tq_node.specs.Node.{NodeView}
 use Rattle.tq_node.specs.Telling.{IsWorkTold}
@@ -16,10 +16,10 @@ invariant_of-self-2 c =
     let write : Write = record { file = c.args.file.now; version = c.args.version; content = c.args.content.now } in
     let stored : c.in_ok-kept.kept ≡ c.args.content.now = search rules in
     let shared : c.in_ok-clone.field-0 ≡ c.args.ask.now = search rules in
-    let told : c.told-written.result ≡ write = c.told-written.ensures ∙ ap told_write (shared ∙ c.requires.ask) in
+    let told : c.of_refresh-written.result ≡ write = c.of_refresh-written.ensures ∙ ap told_write (shared ∙ c.requires.ask) in
     sound-as (sound-copies inside.intents.records inside.last inside.copies.files inside.locks.locks c.self.invariant (write ∷ []))
     (c.push_copy.ensures.records ∙ (λ i. c.in_ok-reserve-2.ensures.records i ++ Copy (told i) ∷ []))
-    (c.install_newer.ensures.files ∙ (λ i. installed (c.in_ok-reserve.ensures.files i) write.file (record { version = write.version; content = stored i })))
+    (c.install_newer.ensures.files ∙ (λ i. copies_after_install (c.in_ok-reserve.ensures.files i) write.file (record { version = write.version; content = stored i })))
     refl
 
 told_as : (old new : NodeView) (number : ℕ) (ask same : WorkAsk) (telling : Telling) → ask ≡ same → IsWorkTold old new number same telling → IsWorkTold old new number ask telling

@@ -1,5 +1,5 @@
 use Rattle.std.proofs.Common.{◌≡◌, ◌∷◌, ap, ◌∙◌, sym}
-use Rattle.tq_shape.specs.ServerSet.{numbered}
+use Rattle.tq_shape.specs.ServerSet.{servers_of_numbers}
 use Rattle.tq_shape.proofs.SetWords.{AreLeft-all, left-all, numbers_of-ascend}
 use Rattle.tq_shape.proofs.server_set.ServerSet.iter.Goals as goal
 
@@ -11,7 +11,7 @@ invariant_of-result c = AreLeft-all c.self.inside.levels c.self.inside.words c.f
 
 pub returns-clause-servers : goal.returns-clause-servers
 returns-clause-servers c =
-    rw (← c.self.view_is) (ap (numbered c.self.inside.levels) (left-all c.self.inside.words c.first.result c.more.result.now (all c)))
+    rw (← c.self.view_is) (ap (servers_of_numbers c.self.inside.levels) (left-all c.self.inside.words c.first.result c.more.result.now (all c)))
 
 pub returns-clause-of_tree : goal.returns-clause-of_tree
 returns-clause-of_tree c = rw (← c.self.view_is) c.self.invariant.servers

@@ -1,12 +1,12 @@
 use Rattle.std.proofs.Common.{rules, ◌≡◌, [], ◌+◌, ◌-◌, ap, sym, ◌∙◌, arith, bit_and}
-use Rattle.tq_shape.specs.ServerSet.{numbered}
+use Rattle.tq_shape.specs.ServerSet.{servers_of_numbers}
 use Rattle.tq_shape.proofs.SetWords.{AreLeft-skip, left-end, left-skip, next-left, next_servers}
 use Rattle.tq_shape.proofs.server_set.ServerSetIterIterator.next.Goals as goal
 
 none : (c : goal.After-from_residual) → c.args.self.now ≡ []
 none c =
     rw (← c.self.view_is)
-    (ap (numbered c.self.inside.levels)
+    (ap (servers_of_numbers c.self.inside.levels)
     (sym c.loop-word.invariant.same ∙ left-end c.loop-word.base c.loop-word.word c.loop-word.rest.now c.loop-word-test.true c.in_err-next.ensures.cases))
 
 pub returns-in_err-next-clause-steps : goal.returns-in_err-next-clause-steps
@@ -53,7 +53,7 @@ pub returns-clause-steps : goal.returns-clause-steps
 returns-clause-steps c =
     let next = next-left c.self.inside.levels c.loop-word.base c.loop-word.word c.from-2.result c.loop-word.rest.now c.loop-word.invariant.left (omega (arith, c.loop-word-test.false)) (omega arith) c.from-2.ensures in
     rw (← c.self.view_is)
-    (ap (numbered c.self.inside.levels) (sym c.loop-word.invariant.same)
+    (ap (servers_of_numbers c.self.inside.levels) (sym c.loop-word.invariant.same)
     ∙ next_servers c.self.inside.levels c.loop-word.base c.loop-word.word (c.loop-word.base + c.from-2.result) (bit_and c.loop-word.word (c.loop-word.word - 1)) c.loop-word.rest.now c.new-2.result next.is c.new-2.ensures)
 
 pub returns-clause-goes : goal.returns-clause-goes

@@ -3,7 +3,7 @@ use Rattle.std.specs.Cmp.Lexicographic.{pointwise}
 use Rattle.std.specs.FinMap as map
 use Rattle.std.specs.Map.{lookup}
 use Rattle.std.specs.Option.{option_copied_mut}
-use Rattle.tq_store.specs.Copies.{CopiesView, Files, Installs, OnlyRises, copy_of, installed}
+use Rattle.tq_store.specs.Copies.{CopiesView, Files, Installs, OnlyRises, copy_of, copies_after_install}
 use Rattle.tq_store.specs.declared.copies.FileCopy.{FileCopy}
 use Rattle.tq_store.proofs.Installed.{Installs-installed, rises-installed}
 use Rattle.tq_store.proofs.Replaced.{is-newer, is-no_newer, put-back, put-in}
@@ -26,7 +26,7 @@ returns-in_default-clause-files c =
     let found : lookup (pointwise nat_eq c.args.name) entries ≡ None = sym (rw c.unwrap-replaced.ensures at c.insert.ensures.old) ∙ c.in_default.is in
     let updates = rw c.unwrap-replaced.ensures at c.insert.ensures.updates in
     put-in entries c.args.name copy None found c.insert.new.self.entries updates.0 (search rules)
-    ∙ ap (λ (v : CopiesView). installed v.files c.args.name copy) c.self.view_is
+    ∙ ap (λ (v : CopiesView). copies_after_install v.files c.args.name copy) c.self.view_is
 
 pub returns-in_default-clause-installs : goal.returns-in_default-clause-installs
 returns-in_default-clause-installs c =
@@ -54,7 +54,7 @@ returns-then-before-version-clause-files c =
     let found : lookup (pointwise nat_eq c.args.name) entries ≡ Some c.in-Some.before = sym (rw c.unwrap-replaced.ensures at c.insert.ensures.old) ∙ c.in-Some.is in
     let updates = rw c.unwrap-replaced.ensures at c.insert.ensures.updates in
     put-in entries c.args.name copy (Some c.in-Some.before) found c.insert.new.self.entries updates.0 c.if-before-version.true
-    ∙ ap (λ (v : CopiesView). installed v.files c.args.name copy) c.self.view_is
+    ∙ ap (λ (v : CopiesView). copies_after_install v.files c.args.name copy) c.self.view_is
 
 pub returns-then-before-version-clause-installs : goal.returns-then-before-version-clause-installs
 returns-then-before-version-clause-installs c =
@@ -86,7 +86,7 @@ returns-clause-files c =
           ap (λ x. map.from_entries x.files.entries) w.self-inside-is
           ∙ ap (λ es. map.from_entries es) (c.get_mut.follows.holds c.in-Some.before).0
           ∙ put-back entries c.insert.new.self.entries c.args.name copy c.in-Some.before found updates.0 updates.1 c.if-before-version.false
-          ∙ ap (λ (v : CopiesView). installed v.files c.args.name copy) c.self.view_is
+          ∙ ap (λ (v : CopiesView). copies_after_install v.files c.args.name copy) c.self.view_is
       | in_default-get_mut w ↦
           let none : lookup (pointwise nat_eq c.args.name) c.insert.new.self.entries ≡ None = sym c.get_mut.ensures.value ∙ ap option_copied_mut w.in_default-get_mut.is in
           let some : lookup (pointwise nat_eq c.args.name) c.insert.new.self.entries ≡ Some copy = updates.1 in

@@ -1,6 +1,6 @@
 use Rattle.std.proofs.Common.{ℕ, ◌≤◌, length, ap, sym, subst, ◌∙◌}
 use Rattle.std.specs.List.{All}
-use Rattle.tq_shape.specs.ServerSet.{numbered}
+use Rattle.tq_shape.specs.ServerSet.{servers_of_numbers}
 use Rattle.tq_tables.specs.Files.{stood_in}
 use Rattle.tq_tables.specs.Parts.{AreOfTree}
 use Rattle.tq_tables.specs.Rows.{has_version}
@@ -26,5 +26,5 @@ returns c =
     let row = c.args.self.now in
     let nodes = c.args.nodes.now in
     c.stand_each.ensures.stands
-    ∙ (λ i. stood_in nodes (at_next (c.in_ok-row.ensures i)) (numbered row.current.levels row.current.numbers))
+    ∙ (λ i. stood_in nodes (at_next (c.in_ok-row.ensures i)) (servers_of_numbers row.current.levels row.current.numbers))
     ∙ next-exact row.current.levels nodes c.requires.of_tree row c.requires.exact

@@ -3,7 +3,7 @@ use Rattle.std.specs.List.{All}
 use Rattle.std.proofs.lemmas.List.Elements.{All-head, All-rest}
 use Rattle.tq_shape.specs.Tree.{Server}
 use Rattle.tq_node.specs.Node.{NodeView}
-use Rattle.tq_tables.specs.Files.{IsOfLevels, stood, stood_in}
+use Rattle.tq_tables.specs.Files.{IsOfLevels, row_by_copy, stood_in}
 use Rattle.tq_tables.specs.declared.file_row.FileRow.{FileRow}
 use Rattle.tq_tables.proofs.Kept.{stood-levels}
 use Rattle.tq_tables.proofs.RowLaws.{at-place}
@@ -56,7 +56,7 @@ loop-server-preserved c =
     record {
       of_tree = subst (λ (r : FileRow). IsOfLevels levels r) (sym c.stand.ensures) (stood-levels levels node c.loop-server.self c.loop-server.invariant.of_tree);
       places = All-rest (IsPlace (length nodes)) server rest c.loop-server.server-iterator steps c.loop-server.invariant.places;
-      same = ap (λ (r : FileRow). stood_in nodes r rest) (c.stand.ensures ∙ ap (λ (n : NodeView). stood n c.loop-server.self) found)
+      same = ap (λ (r : FileRow). stood_in nodes r rest) (c.stand.ensures ∙ ap (λ (n : NodeView). row_by_copy n c.loop-server.self) found)
           ∙ sym (ap (stood_in nodes c.loop-server.self) steps)
           ∙ c.loop-server.invariant.same;
     }

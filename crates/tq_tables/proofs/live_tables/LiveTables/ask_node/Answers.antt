@@ -2,7 +2,7 @@ use Rattle.std.specs.Prelude.{reverse}
 use Rattle.std.proofs.Common.{◌≡◌, ℕ, ◌-◌, ◌<◌, ◌≤◌, length, set, get_or, ap, sym, subst, ◌∙◌, refl, arith}
 use Rattle.std.proofs.lemmas.List.{get_or-set_same, length-set}
 use Rattle.tq_desk.specs.DeskJournal.{commits}
-use Rattle.tq_node.specs.Node.{NodeView, answered}
+use Rattle.tq_node.specs.Node.{NodeView, server_after}
 use Rattle.tq_node.specs.Records.{node_reply}
 use Rattle.tq_node.specs.Untouched.{AreReached, raised_files}
 use Rattle.tq_shape.specs.Journal.{entry}
@@ -42,7 +42,7 @@ node-node-requires c =
     let less : c.args.server - 1 < length parts.nodes = omega (arith, there.0, there.1, many) in
     let old = node_in parts.nodes c.args.server in
     let after = c.in_ok-entered.ensures.after old (node_in-at parts.nodes c.args.server less) in
-    let count = ap (λ (p : PartsView). length p.nodes) after ∙ length-set parts.nodes (c.args.server - 1) (answered old c.args.number c.args.ask.now) in
+    let count = ap (λ (p : PartsView). length p.nodes) after ∙ length-set parts.nodes (c.args.server - 1) (server_after old c.args.number c.args.ask.now) in
     (there.0, omega (arith, there.1, many, count))
 
 pub stand_all-found-requires-clause-levels : goal.stand_all-found-requires-clause-levels
@@ -66,7 +66,7 @@ stand_all-found-requires-clause-reached c =
     let less : server - 1 < length parts.nodes = omega (arith, there.0, there.1, many) in
     let old = node_in parts.nodes server in
     let at = node_in-at parts.nodes server less in
-    let node = answered old c.args.number c.args.ask.now in
+    let node = server_after old c.args.number c.args.ask.now in
     let after = c.in_ok-entered.ensures.after old at in
     let node_is : c.node-node.result.now ≡ node =
     c.node-node.ensures.value
@@ -105,7 +105,7 @@ invariant_of-self-2 c =
     let less : server - 1 < length parts.nodes = omega (arith, there.0, there.1, many) in
     let old = node_in parts.nodes server in
     let at = node_in-at parts.nodes server less in
-    let node = answered old c.args.number c.args.ask.now in
+    let node = server_after old c.args.number c.args.ask.now in
     let after = c.in_ok-entered.ensures.after old at in
     let raised = raised_files c.args.ask.now c.in_ok-entered.field-0.raised in
     let node_is : c.node-node.result.now ≡ node =
@@ -154,7 +154,7 @@ returns-clause-asked c = λ journals reply legal stand.
     let within : server ≤ length parts.nodes = omega (arith, there.1, many) in
     let old = node_in parts.nodes server in
     let at = node_in-at parts.nodes server less in
-    let node = answered old c.args.number ask in
+    let node = server_after old c.args.number ask in
     let after = c.in_ok-entered.ensures.after old at in
     let node_is : c.node-node.result.now ≡ node =
     c.node-node.ensures.value

@@ -1,14 +1,14 @@
 use Rattle.std.proofs.Common.{ℕ, ◌≡◌, ◌-◌, ◌<◌, length, ap, ◌∙◌, arith, Result, Ok, Err}
 use Rattle.std.specs.Prelude.{OnOk, OnErr}
 use Rattle.tq_asks.specs.declared.ask.NodeAsk.{NodeAsk}
-use Rattle.tq_node.specs.Node.{NodeView, answered}
+use Rattle.tq_node.specs.Node.{NodeView, server_after}
 use Rattle.tq_tables.specs.Parts.{PartsView}
 use Rattle.tq_tables.proofs.RowLaws.{at-place}
 use Rattle.tq_tables.proofs.Stood.{AreOfTree-set}
 use Rattle.tq_tables.proofs.parts.Parts.ask_node.Goals as goal
 
 -- whatever it answers, a server stays the same one of the same tree
-stays : {T E : Type 0} (result : Result T E) (old new : NodeView) (number : ℕ) (ask : NodeAsk) → OnOk result (new ≡ answered old number ask) → OnErr result (new ≡ old)
+stays : {T E : Type 0} (result : Result T E) (old new : NodeView) (number : ℕ) (ask : NodeAsk) → OnOk result (new ≡ server_after old number ask) → OnErr result (new ≡ old)
     → (new.levels ≡ old.levels) × (new.server ≡ old.server)
 stays (Ok told) old new number ask after same = (ap (λ (n : NodeView). n.levels) after, ap (λ (n : NodeView). n.server) after)
 stays (Err fault) old new number ask after same = (ap (λ (n : NodeView). n.levels) same, ap (λ (n : NodeView). n.server) same)

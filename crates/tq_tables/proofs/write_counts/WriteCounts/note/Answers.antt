@@ -14,7 +14,7 @@ returns-in-Committed c =
     kept c.count_all.result (λ is earlier same.
     is
     ∙ ap (λ counts. spec.with_each counts (spec.names_of c.as_slice.result.now)) same
-    ∙ ap (λ ops. spec.with_each (spec.counted earlier) (spec.names_of ops)) c.as_slice.ensures
+    ∙ ap (λ ops. spec.with_each (spec.commit_counts earlier) (spec.names_of ops)) c.as_slice.ensures
     ∙ counted-more (record { txn = c.in-Commit.txn; ops = c.in-Commit.ops; votes = c.in-Commit.votes }) earlier
-    ∙ (λ i. spec.counted (log.with_commit (sym c.in-Commit.is i) (sym c.in-Committed.is i) earlier)))
+    ∙ (λ i. spec.commit_counts (log.with_commit (sym c.in-Commit.is i) (sym c.in-Committed.is i) earlier)))
     c.count_all.ensures

@@ -21,7 +21,7 @@ note-requires c = λ file.
 pub loop-entry-preserved : goal.loop-entry-preserved
 loop-entry-preserved c =
     c.in_ok-note.ensures (commits (reverse (take c.loop-entry.entry-index c.args.entries.now))) c.loop-entry.invariant
-    ∙ ap spec.counted (commits-next c.args.entries.now c.loop-entry.entry-index c.entry-item.result c.loop-entry-test.true c.entry-item.is)
+    ∙ ap spec.commit_counts (commits-next c.args.entries.now c.loop-entry.entry-index c.entry-item.result c.loop-entry-test.true c.entry-item.is)
 
 pub returns : goal.returns
 returns c = grind (arith, common_steps)

@@ -2,7 +2,7 @@ use Rattle.std.proofs.Common.{◌≡◌, ◌∙◌, false, sym, ap, rules}
 use Rattle.tq_store.specs.declared.copies.FileCopy.{FileCopy}
 use Rattle.tq_evidence.specs.declared.op.OpKind.TheVariants as kinds
 use Rattle.tq_evidence.specs.declared.op.Op.{Op}
-use Rattle.tq_txn_states.specs.Open.{is_member, is_used, read_copy, taken}
+use Rattle.tq_txn_states.specs.Open.{is_member, is_used, read_copy, txn_after_op}
 use Rattle.tq_txn_states.proofs.CitedLaws.{taken_cited}
 use Rattle.tq_txn_states.proofs.GoodGrants.{good_read_of}
 use Rattle.tq_txn_states.proofs.open.Open.read.Goals as goal
@@ -24,7 +24,7 @@ returns-clause-after c =
     let given = c.in_ok-given.ensures ∙ ap read_copy (c.as_slice.ensures ∙ c.in_ok-grants.ensures.grants) in
     let kept : c.in_ok-kept.kept ≡ c.in_ok-given.given.content = search rules in
     let content = kept ∙ ap (λ (f : FileCopy). f.content) given in
-    c.in_ok-take.ensures.after ∙ λ i. taken c.args.self.now (record { file = file; kind = kinds.Read; version = (given i).version; content = content i; grants = all i })
+    c.in_ok-take.ensures.after ∙ λ i. txn_after_op c.args.self.now (record { file = file; kind = kinds.Read; version = (given i).version; content = content i; grants = all i })
 
 pub returns-clause-cited : goal.returns-clause-cited
 returns-clause-cited c =

@@ -2,7 +2,7 @@ use Rattle.std.proofs.Common.{◌≡◌, ◌∙◌, ◌+◌, false, sym, ap, rul
 use Rattle.tq_evidence.specs.declared.op.OpKind.TheVariants as kinds
 use Rattle.tq_evidence.specs.declared.op.Op.{Op}
 use Rattle.tq_evidence.specs.Evidence.{greatest, is_exclusively_granted}
-use Rattle.tq_txn_states.specs.Open.{is_written, taken}
+use Rattle.tq_txn_states.specs.Open.{is_written, txn_after_op}
 use Rattle.tq_txn_states.proofs.CitedLaws.{taken_cited}
 use Rattle.tq_txn_states.proofs.GoodGrants.{exclusive_grants, good_write_by}
 use Rattle.tq_txn_states.proofs.open.Open.write.Goals as goal
@@ -26,7 +26,7 @@ returns-clause-after c =
     let best = c.greatest_version.ensures ∙ ap greatest (c.as_slice.ensures ∙ all) in
     let version = next ∙ ap (λ n. n + 1) best in
     let grants = c.from_vec.ensures ∙ c.into_vec.ensures ∙ all in
-    c.in_ok-take.ensures.after ∙ λ i. taken c.args.self.now (record { file = c.args.file.now; kind = kinds.Write; version = version i; content = c.args.content; grants = grants i })
+    c.in_ok-take.ensures.after ∙ λ i. txn_after_op c.args.self.now (record { file = c.args.file.now; kind = kinds.Write; version = version i; content = c.args.content; grants = grants i })
 
 pub returns-clause-cited : goal.returns-clause-cited
 returns-clause-cited c =

@@ -2,20 +2,20 @@ use Rattle.std.proofs.Common.{◌≡◌, ◌∙◌, ℕ, Some, List, true, sym, 
 use Rattle.std.specs.Option.{option_copied}
 use Rattle.tq_evidence.specs.declared.op.Op.{Op}
 use Rattle.tq_evidence.specs.Evidence.{is_server_of, are_quorums, are_writes_at}
-use Rattle.tq_txn_states.specs.Voting.{lost, vote_of, writes_in}
+use Rattle.tq_txn_states.specs.Voting.{lost_file, vote_of, writes_in}
 use Rattle.tq_txn_states.proofs.GoodVotes.{none_lost}
 use Rattle.tq_txn_states.proofs.OneGrant.{quorums-order}
 use Rattle.tq_txn_states.proofs.voting.Voting.cast_by.Goals as goal
 
-pub lost-requires : goal.lost-requires
-lost-requires c = quorums-order c.self.inside.txn.levels c.ops-ops.result.now (ap (are_quorums c.self.inside.txn.levels) c.ops-ops.ensures.value ∙ c.ops-ops.ensures.good.quorums)
+pub lost_file-requires : goal.lost_file-requires
+lost_file-requires c = quorums-order c.self.inside.txn.levels c.ops-ops.result.now (ap (are_quorums c.self.inside.txn.levels) c.ops-ops.ensures.value ∙ c.ops-ops.ensures.good.quorums)
 
 pub returns-clause-good : goal.returns-clause-good
 returns-clause-good c =
     let vote = c.in-Some-cast_in.cast.vote in
     let ops = c.ops-ops.ensures.value in
     let voter : is_server_of c.self.inside.txn.ops c.args.told.server ≡ true = ap (λ (list : List Op). is_server_of list c.args.told.server) (sym ops) ∙ sym c.in-Some.ensures in
-    let none = ap (λ (list : List Op). lost list vote) (sym ops) ∙ sym c.lost.ensures ∙ ap option_copied c.in_default-lost.is in
+    let none = ap (λ (list : List Op). lost_file list vote) (sym ops) ∙ sym c.lost_file.ensures ∙ ap option_copied c.in_default-lost_file.is in
     let writes = (λ i. are_writes_at vote.server (sym c.as_slice.ensures i) (writes_in (sym ops i))) ∙ sym c.are_writes_at.ensures ∙ c.if-not-are_writes_at.false in
     rw (← c.self.view_is) record { voter = rw c.in-Some-cast_in.ensures.server voter; covered = none_lost c.self.inside.txn.ops vote none; writes = writes }
 

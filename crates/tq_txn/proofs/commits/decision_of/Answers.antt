@@ -3,7 +3,7 @@ use Rattle.tq_txn_states.specs.Voting.{VotingView}
 use Rattle.tq_txn.specs.Aborts.{resolved_by}
 use Rattle.tq_txn.specs.declared.txn.Txn.TheVariants as states
 use Rattle.tq_txn.proofs.EndLaws.{commit_told}
-use Rattle.tq_txn.proofs.commits.decided.Goals as goal
+use Rattle.tq_txn.proofs.commits.decision_of.Goals as goal
 
 pub returns-clause-txn : goal.returns-clause-txn
 returns-clause-txn c =

@@ -2,7 +2,7 @@ use Rattle.std.proofs.Common.{rules}
 use Rattle.std.proofs.lemmas.Iterator.{YieldsList-from_map, YieldsList-from_slice, items_from_collect}
 use Rattle.std.proofs.lemmas.Iterator.Consumers.{YieldsList-at}
 use Rattle.tq_desk.specs.DeskStep as log
-use Rattle.tq_txn_states.proofs.ended.cited.Goals as goal
+use Rattle.tq_txn_states.proofs.ended.cited_votes.Goals as goal
 
 pub returns : goal.returns
 returns c = items_from_collect _ c.collect.ensures.ran

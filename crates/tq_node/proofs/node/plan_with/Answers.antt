@@ -1,5 +1,5 @@
 use Rattle.std.proofs.Common.{rules}
-use Rattle.tq_node.proofs.node.planned.Goals as goal
+use Rattle.tq_node.proofs.node.plan_with.Goals as goal
 
 pub returns-clause-reply : goal.returns-clause-reply
 returns-clause-reply c = search rules

@@ -8,7 +8,7 @@ use Rattle.tq_json.specs.Next.{next}
 use Rattle.tq_json.specs.Behind.{behind}
 use Rattle.tq_json.proofs.Nexts.{next-string, next-boolean, next-null, next-number, next-no_number, some_number, no_number}
 use Rattle.tq_json.proofs.Behind.{array_begins, object_begins}
-use Rattle.tq_json.proofs.passing.opening.Goals as goal
+use Rattle.tq_json.proofs.passing.opening_kind.Goals as goal
 
 pub returns-in-String-clause-ok : goal.returns-in-String-clause-ok
 returns-in-String-clause-ok c depth ts = ap (λ t. behind (next depth (token_of t ∷ ts))) c.in-String.is ∙ ap behind (next-string depth c.in-String.field-0.now ts)

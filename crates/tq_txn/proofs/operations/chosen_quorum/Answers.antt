@@ -1,7 +1,7 @@
 use Rattle.std.proofs.Common.{◌∙◌, sym, refl}
 use Rattle.std.proofs.lemmas.Bool.{eqb-true}
 use Rattle.tq_txn_states.proofs.Tested.{same_tree}
-use Rattle.tq_txn.proofs.operations.chosen.Goals as goal
+use Rattle.tq_txn.proofs.operations.chosen_quorum.Goals as goal
 
 pub returns-then-not-are_of-clause-value : goal.returns-then-not-are_of-clause-value
 returns-then-not-are_of-clause-value c =
