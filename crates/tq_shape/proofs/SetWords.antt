@@ -1,5 +1,6 @@
 -- A set's numbers as the places of the bits that are set in a list of words.
 use Rattle.std.proofs.Common.{◌≡◌, ℕ, ◌+◌, ◌-◌, ◌*◌, ◌/◌, ◌%◌, ◌^◌, ◌<◌, ◌≤◌, zero, suc, Bool, true, false, List, [], ◌∷◌, ◌++◌, length, replicate, refl, sym, ap, subst, ◌∙◌, arith}
+use mathlib.Core.Bool.{not-not}
 use Rattle.std.specs.Prelude.{slice_set, slice_index_or, not, ◌==◌, bit_and, bit_or}
 use Rattle.std.specs.List.{All}
 use Rattle.std.specs.Int.{bit_not, w64}
@@ -46,10 +47,6 @@ marks_in-set (word ∷ words) (suc place) bit after mark less within is =
 
 -- ---- one number of a set
 
-by_test : (none there : Bool) → not none ≡ there → none ≡ not there
-by_test true there is = ap not is
-by_test false there is = ap not is
-
 module _ (words : List ℕ) (number : ℕ) (within : number / 64 < length words) where
   set-says : has_number (numbers_of words) number ≡ slice_index_or (marks_in words) number false
   unfolding numbers_of
@@ -63,7 +60,7 @@ module _ (words : List ℕ) (number : ℕ) (within : number / 64 < length words)
       ∙ (ap (λ n. slice_index_or (marks_in words) n false) at ∙ sym set-says))
 
   pub is_new : (bit_and (slice_index_or words (number / 64) 0) (2 ^ (number % 64)) == 0) ≡ not (has_number (numbers_of words) number)
-  is_new = by_test (bit_and (slice_index_or words (number / 64) 0) (2 ^ (number % 64)) == 0) (has_number (numbers_of words) number) set-has
+  is_new = sym (not-not (bit_and (slice_index_or words (number / 64) 0) (2 ^ (number % 64)) == 0)) ∙ ap not set-has
 
   set-marked : (after : ℕ) (mark : Bool) → marks_of_word after ≡ slice_set (marks_of_word (slice_index_or words (number / 64) 0)) (number % 64) mark
       → marks_in (slice_set words (number / 64) after) ≡ slice_set (marks_in words) number mark
@@ -88,25 +85,23 @@ module _ (words : List ℕ) (number : ℕ) (within : number / 64 < length words)
       ap (marked_numbers 0) (set-marked (bit_and before (bit_not w64 (2 ^ (number % 64)))) false (word-without before (number % 64) (omega arith)))
       ∙ (marked-without 0 (marks_in words) number long ∙ ap (λ n. without_number n (marked_numbers 0 (marks_in words))) (zero-add number))
 
+  -- another word at the number's place makes words of a set, if their numbers are servers
+  are_words : (levels after : ℕ) → AreWordsOf levels words → All (IsServer levels) (numbers_of (slice_set words (number / 64) after)) → AreWordsOf levels (slice_set words (number / 64) after)
+  are_words levels after are all =
+      let same : length (slice_set words (number / 64) after) ≡ length words = length-set words (number / 64) after in
+      record { room = omega (arith, same, are.room); short = omega (arith, same, are.short); servers = all }
+
   pub AreWordsOf-with : (levels : ℕ) → AreWordsOf levels words → IsServer levels number
       → AreWordsOf levels (slice_set words (number / 64) (bit_or (slice_index_or words (number / 64) 0) (2 ^ (number % 64))))
   AreWordsOf-with levels are server =
-      let after = bit_or (slice_index_or words (number / 64) 0) (2 ^ (number % 64)) in
-      let same : length (slice_set words (number / 64) after) ≡ length words = length-set words (number / 64) after in record {
-        room = omega (arith, same, are.room);
-        short = omega (arith, same, are.short);
-        servers = rw set-with (All-with_number (IsServer levels) number (numbers_of words) server are.servers);
-      }
+      are_words levels (bit_or (slice_index_or words (number / 64) 0) (2 ^ (number % 64))) are
+      (rw set-with (All-with_number (IsServer levels) number (numbers_of words) server are.servers))
 
   pub AreWordsOf-without : (levels : ℕ) → AreWordsOf levels words
       → AreWordsOf levels (slice_set words (number / 64) (bit_and (slice_index_or words (number / 64) 0) (bit_not w64 (2 ^ (number % 64)))))
   AreWordsOf-without levels are =
-      let after = bit_and (slice_index_or words (number / 64) 0) (bit_not w64 (2 ^ (number % 64))) in
-      let same : length (slice_set words (number / 64) after) ≡ length words = length-set words (number / 64) after in record {
-        room = omega (arith, same, are.room);
-        short = omega (arith, same, are.short);
-        servers = rw set-without (All-filter (λ other. not (other == number)) (IsServer levels) (numbers_of words) are.servers);
-      }
+      are_words levels (bit_and (slice_index_or words (number / 64) 0) (bit_not w64 (2 ^ (number % 64)))) are
+      (rw set-without (All-filter (λ other. not (other == number)) (IsServer levels) (numbers_of words) are.servers))
 
 -- there is a word for each server
 pub has_place : (levels own number : ℕ) (words : List ℕ) → AreWordsOf levels words → own ≡ levels → IsServer own number → number / 64 < length words

@@ -22,13 +22,11 @@ loop-word-preserved c = record {
 
 pub new-requires : goal.new-requires
 new-requires c =
-    let next = next-left c.self.inside.levels c.self.inside.base c.self.inside.word c.from.result c.self.inside.rest.now c.self.invariant (omega (arith, c.if-here-ne0.true)) (omega arith) c.from.ensures in
-    next.server
+    (next-left c.self.inside.levels c.self.inside.base c.self.inside.word c.from.result c.self.inside.rest.now c.self.invariant (omega (arith, c.if-here-ne0.true)) (omega arith) c.from.ensures).server
 
 pub invariant_of-self : goal.invariant_of-self
 invariant_of-self c =
-    let next = next-left c.self.inside.levels c.self.inside.base c.self.inside.word c.from.result c.self.inside.rest.now c.self.invariant (omega (arith, c.if-here-ne0.true)) (omega arith) c.from.ensures in
-    next.left
+    (next-left c.self.inside.levels c.self.inside.base c.self.inside.word c.from.result c.self.inside.rest.now c.self.invariant (omega (arith, c.if-here-ne0.true)) (omega arith) c.from.ensures).left
 
 pub returns-then-here-ne0-clause-steps : goal.returns-then-here-ne0-clause-steps
 returns-then-here-ne0-clause-steps c =
@@ -41,13 +39,11 @@ returns-then-here-ne0-clause-goes c = rw (returns-then-here-ne0-clause-steps c) 
 
 pub new-requires-2 : goal.new-requires-2
 new-requires-2 c =
-    let next = next-left c.self.inside.levels c.loop-word.base c.loop-word.word c.from-2.result c.loop-word.rest.now c.loop-word.invariant.left (omega (arith, c.loop-word-test.false)) (omega arith) c.from-2.ensures in
-    next.server
+    (next-left c.self.inside.levels c.loop-word.base c.loop-word.word c.from-2.result c.loop-word.rest.now c.loop-word.invariant.left (omega (arith, c.loop-word-test.false)) (omega arith) c.from-2.ensures).server
 
 pub invariant_of-self-2 : goal.invariant_of-self-2
 invariant_of-self-2 c =
-    let next = next-left c.self.inside.levels c.loop-word.base c.loop-word.word c.from-2.result c.loop-word.rest.now c.loop-word.invariant.left (omega (arith, c.loop-word-test.false)) (omega arith) c.from-2.ensures in
-    next.left
+    (next-left c.self.inside.levels c.loop-word.base c.loop-word.word c.from-2.result c.loop-word.rest.now c.loop-word.invariant.left (omega (arith, c.loop-word-test.false)) (omega arith) c.from-2.ensures).left
 
 pub returns-clause-steps : goal.returns-clause-steps
 returns-clause-steps c =
