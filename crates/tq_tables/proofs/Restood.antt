@@ -1,7 +1,7 @@
 -- The tables with an entry more of a server.
 use Rattle.std.specs.Prelude.{reverse}
 use Rattle.std.proofs.Common.{◌≡◌, ◌+◌, ◌-◌, ◌<◌, ◌≤◌, ℕ, zero, suc, false, List, [], ◌∷◌, ◌++◌, length, set, get_or, refl, ap, ◌∙◌, arith}
-use Rattle.std.proofs.lemmas.List.{get_or_default}
+use Rattle.std.proofs.lemmas.List.{get_or-set_same, get_or_default}
 use Rattle.tq_desk.specs.DeskJournal.{commits}
 use Rattle.tq_node.specs.Node.{NodeView, server_after}
 use Rattle.tq_node.specs.NodeJournal.{NodeEntry}
@@ -113,6 +113,21 @@ next-number tables server number node next at =
     let there = is_there tables server number next in
     let last = last-is next.journals server tables node next.stand there.0 at there.1 in
     omega (arith, next.next, last)
+
+-- such a server among the parts that the tables follow
+module _ (parts : PartsView) (rows : List FileRow) (tables : TablesView) (view_is : tables_at parts rows ≡ tables) (server number : ℕ) (next : MayAskNode tables server number) where
+  pub below : server - 1 < length parts.nodes
+  below =
+      let there = is_there tables server number next in
+      let many = ap (λ (t : TablesView). length t.nodes) view_is in
+      omega (arith, there.0, there.1, many)
+
+  pub stands-at : node_in parts.nodes server ≡ get_or parts.nodes (server - 1) (node_in parts.nodes server)
+  stands-at = node_in-at parts.nodes server below
+
+  -- it is found there as it was put there
+  pub found-put : (new : PartsView) (node found : NodeView) → new ≡ record parts { nodes = set parts.nodes (server - 1) node } → found ≡ get_or new.nodes (server - 1) found → found ≡ node
+  found-put new node found after at = at ∙ ap (λ (p : PartsView). get_or p.nodes (server - 1) found) after ∙ get_or-set_same parts.nodes (server - 1) node found below
 
 -- ---- the rows of files, where the server stands in those of the files whose copies changed
 

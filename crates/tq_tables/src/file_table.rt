@@ -179,9 +179,9 @@ impl FileTable {
         ensures rows { self.new.rows ≡ map (spec.stood_at node.now file.now) self.old.rows }
         ensures found { result ≡ has_row self.old.rows file.now }
     {
-        let _levels = self.levels;
-        if has_row_at(&self.rows, self.last, file) {
-            self.stand_there(self.last, node, file, least);
+        let last = self.last;
+        if has_row_at(&self.rows, last, file) {
+            self.stand_there(last, node, file, least);
             return true;
         }
         self.stand_elsewhere(node, file, least)

@@ -14,7 +14,8 @@ use crate::lock_rows::lock_rows;
 use crate::quorum_rows::{least_into, quorum_rows};
 use crate::replies::{Replies, twice};
 use crate::{
-    DeskEntry, FileRow, IntentRow, Journals, LockRow, PartEntry, Parts, QuorumRow, ViewEntry,
+    DeskEntry, FileRow, IntentRow, Journals, LockRow, NodeEntry, PartEntry, Parts, QuorumRow,
+    ViewEntry,
 };
 use std::alloc::Global;
 use std::marker::Model;
@@ -72,10 +73,11 @@ impl Model for LiveTables {
 
 impl LiveTables {
     ghost use Rattle.tq_tables.specs.NextEntry.{IsNextEntry};
+    ghost use Rattle.tq_tables.specs.NextOfServer.{IsNextOfServer};
     ghost use Rattle.tq_tables.specs.Parts.{AreLegal, StandsAfter};
     ghost use Rattle.tq_tables.specs.Reserved.{LeadsTo, ask_of};
     ghost use Rattle.tq_tables.specs.Rows.{row_if, least_in};
-    ghost use Rattle.tq_tables.specs.Tables.{tables_of, tables_over};
+    ghost use Rattle.tq_tables.specs.Tables.{IsNextOfDesk, tables_of, tables_over};
 
     /// The tables of these journals, which are legal: each reply is the one that its part gives there.
     pub(crate) fn of(alloc: Global, journals: &Journals) -> Result<LiveTables, Memory>
@@ -222,17 +224,11 @@ impl LiveTables {
     {
         match part {
             Part::Server(server) => match entry {
-                PartEntry::Server(entry) => {
-                    self.ask_node(alloc, server, number, &entry.ask)?;
-                    Ok(())
-                }
+                PartEntry::Server(entry) => self.note_node(alloc, server, number, entry),
                 PartEntry::Desk(_) | PartEntry::View(_) => unreachable!(),
             },
             Part::Desk => match entry {
-                PartEntry::Desk(entry) => {
-                    self.ask_desk(alloc, &entry.ask)?;
-                    Ok(())
-                }
+                PartEntry::Desk(entry) => self.note_desk(alloc, entry),
                 PartEntry::Server(_) | PartEntry::View(_) => unreachable!(),
             },
             Part::View => match entry {
@@ -240,6 +236,23 @@ impl LiveTables {
                 PartEntry::Server(_) | PartEntry::Desk(_) => unreachable!(),
             },
         }
+    }
+
+    /// Follows the entry, of that number, that the server's journal got next, as `ask_node`.
+    fn note_node(
+        &mut self,
+        alloc: Global,
+        server: u64,
+        number: u64,
+        entry: &NodeEntry,
+    ) -> Result<(), Memory>
+        requires { IsNextOfServer self.old server number entry.now }
+        ensures noted { OnOk result (FollowsNode self.old self.new server entry.now.ask) }
+        ensures unchanged { OnErr result (self.new ≡ self.old) }
+        ensures none { self.new.ready ≡ None }
+    {
+        self.ask_node(alloc, server, number, &entry.ask)?;
+        Ok(())
     }
 
     /// Follows the entry that the view's journal got next, as `ask_view`.
@@ -253,6 +266,17 @@ impl LiveTables {
             return Ok(());
         }
         self.ask_view(alloc, &entry.ask)?;
+        Ok(())
+    }
+
+    /// Follows the entry that the desk's journal got next, as `ask_desk`.
+    fn note_desk(&mut self, alloc: Global, entry: &DeskEntry) -> Result<(), Memory>
+        requires { IsNextOfDesk self.old entry.now }
+        ensures noted { OnOk result (FollowsDesk self.old self.new entry.now.ask) }
+        ensures unchanged { OnErr result (self.new ≡ self.old) }
+        ensures none { self.new.ready ≡ None }
+    {
+        self.ask_desk(alloc, &entry.ask)?;
         Ok(())
     }
 

@@ -40,8 +40,10 @@ pairs-is test f same (x ∷ xs) (y ∷ ys) is =
 
 cites-is : (a : CitedVote) (b : Vote) → cites a b ≡ true → a ≡ citation b
 cites-is a b same =
-    let both = and_parts _ _ same in
-    λ i. record { server = eqb-true a.server b.server both.0 i; number = eqb-true a.number b.number both.1 i }
+    let both = and_parts (a.server == b.server) (a.number == b.number) same in
+    let server = eqb-true a.server b.server both.0 in
+    let number = eqb-true a.number b.number both.1 in
+    λ i. record { server = server i; number = number i }
 
 commit-is : (verdict : Verdict) (votes : List Vote) → cites_votes verdict votes ≡ true → verdict ≡ verdicts.Commit (log.cited_votes votes)
 commit-is verdicts.Abort votes same = absurd (false≢true same)
@@ -52,43 +54,52 @@ commit-is (verdicts.Commit cited) votes same = ap (λ v. verdicts.Commit v) (pai
 pub granted-is : (txn : ℕ) (file : List ℕ) (grant : Grant) (ask : NodeAsk) (reply : NodeReply) → is_granted txn file grant ask reply ≡ true
     → (ask ≡ node_asks.Work (work.Lock txn file grant.mode)) × (reply ≡ node_replies.Granted grant.version grant.content)
 granted-is txn file grant (node_asks.Work (work.Lock t f mode)) (node_replies.Granted version content) is =
-    let a = and_parts _ _ is in
-    let b = and_parts _ _ a.0 in (
+    let a = and_parts (t == txn && same_name f file && same_mode mode grant.mode && version == grant.version)
+    (same_name content grant.content) is in
+    let b = and_parts (t == txn && same_name f file && same_mode mode grant.mode) (version == grant.version) a.0 in (
       ap (λ ask. node_asks.Work ask) (work-is (work.Lock t f mode) (work.Lock txn file grant.mode) b.0),
-      node_reply-is (node_replies.Granted version content) (node_replies.Granted grant.version grant.content) (and_from _ _ b.1 a.1),
+      node_reply-is (node_replies.Granted version content) (node_replies.Granted grant.version grant.content)
+          (and_from (version == grant.version) (same_name content grant.content) b.1 a.1),
     )
 granted-is txn file grant ask reply is = absurd (false≢true is)
 
 pub voted-is : (txn : ℕ) (vote : Vote) (ask : NodeAsk) (reply : NodeReply) → is_voted txn vote ask reply ≡ true
     → (asked : List Write) × (ask ≡ node_asks.Work (work.Prepare txn asked)) × (reply ≡ node_replies.Yes vote.held vote.writes)
 voted-is txn vote (node_asks.Work (work.Prepare t asked)) (node_replies.Yes held writes) is =
-    let a = and_parts _ _ is in
-    let b = and_parts _ _ a.0 in
-    let reply_is = node_reply-is (node_replies.Yes held writes) (node_replies.Yes vote.held vote.writes) (and_from _ _ b.1 a.1) in
-    (asked, (λ i. node_asks.Work (work.Prepare (eqb-true t txn b.0 i) asked)), reply_is)
+    let a = and_parts (t == txn && pointwise same_lock held vote.held) (pointwise same_write writes vote.writes) is in
+    let b = and_parts (t == txn) (pointwise same_lock held vote.held) a.0 in
+    let t_is = eqb-true t txn b.0 in
+    let reply_is = node_reply-is (node_replies.Yes held writes) (node_replies.Yes vote.held vote.writes)
+    (and_from (pointwise same_lock held vote.held) (pointwise same_write writes vote.writes) b.1 a.1) in
+    (asked, (λ i. node_asks.Work (work.Prepare (t_is i) asked)), reply_is)
 voted-is txn vote ask reply is = absurd (false≢true is)
 
 pub peeked-is : (file : List ℕ) (version : ℕ) (content : List ℕ) (ask : NodeAsk) (reply : NodeReply) → is_peeked file version content ask reply ≡ true
     → (ask ≡ node_asks.Work (work.Peek file)) × (reply ≡ node_replies.Copy version content)
 peeked-is file version content (node_asks.Work (work.Peek f)) (node_replies.Copy v c) is =
-    let a = and_parts _ _ is in
-    let b = and_parts _ _ a.0 in (
+    let a = and_parts (same_name f file && v == version) (same_name c content) is in
+    let b = and_parts (same_name f file) (v == version) a.0 in (
       ap (λ ask. node_asks.Work ask) (work-is (work.Peek f) (work.Peek file) b.0),
-      node_reply-is (node_replies.Copy v c) (node_replies.Copy version content) (and_from _ _ b.1 a.1),
+      node_reply-is (node_replies.Copy v c) (node_replies.Copy version content)
+          (and_from (v == version) (same_name c content) b.1 a.1),
     )
 peeked-is file version content ask reply is = absurd (false≢true is)
 
 pub ended-is : (txn : ℕ) (verdict : Verdict) (ask : DeskAsk) (reply : DeskReply) → is_ended txn verdict ask reply ≡ true → gives_verdict (record { ask = ask; reply = reply }) txn verdict
 ended-is txn verdict (desk_asks.Commit t ops votes) (desk_replies.Committed serial) is =
-    let both = and_parts _ _ is in
-    inl (ops, votes, serial, (λ i. record { ask = desk_asks.Commit (eqb-true t txn both.0 i) ops votes; reply = desk_replies.Committed serial }), commit-is verdict votes both.1)
+    let both = and_parts (t == txn) (cites_votes verdict votes) is in
+    let t_is = eqb-true t txn both.0 in
+    inl (ops, votes, serial, (λ i. record { ask = desk_asks.Commit (t_is i) ops votes; reply = desk_replies.Committed serial }), commit-is verdict votes both.1)
 ended-is txn verdict (desk_asks.Commit t ops votes) (desk_replies.Refused (desk_refusals.Decided final)) is =
-    let both = and_parts _ _ is in
+    let both = and_parts (t == txn) (same_verdict final verdict) is in
+    let t_is = eqb-true t txn both.0 in
     let v_is = verdict-is final verdict both.1 in
-    inr (inr (ops, votes, λ i. record { ask = desk_asks.Commit (eqb-true t txn both.0 i) ops votes; reply = desk_replies.Refused (desk_refusals.Decided (v_is i)) }))
+    inr (inr (ops, votes, λ i. record { ask = desk_asks.Commit (t_is i) ops votes; reply = desk_replies.Refused (desk_refusals.Decided (v_is i)) }))
 ended-is txn verdict (desk_asks.Resolve t) (desk_replies.Verdict final) is =
-    let both = and_parts _ _ is in
-    inr (inl (λ i. record { ask = desk_asks.Resolve (eqb-true t txn both.0 i); reply = desk_replies.Verdict (verdict-is final verdict both.1 i) }))
+    let both = and_parts (t == txn) (same_verdict final verdict) is in
+    let t_is = eqb-true t txn both.0 in
+    let v_is = verdict-is final verdict both.1 in
+    inr (inl (λ i. record { ask = desk_asks.Resolve (t_is i); reply = desk_replies.Verdict (v_is i) }))
 ended-is txn verdict ask reply is = absurd (false≢true is)
 
 -- a test of the entry that was looked up

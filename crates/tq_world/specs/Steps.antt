@@ -66,9 +66,16 @@ answer world (steps.View ask) = record { number = suc (length world.view); reply
 
 -- the world with the ask and its reply at the end of the part's journal
 abbrev pub world_with_step : JournalsView → Step → JournalsView
-world_with_step world (steps.Node server ask) = record world { servers = slice_set world.servers (server - 1) (server_journal world server ++ node_entry world server ask ∷ []) }
-world_with_step world (steps.Desk ask) = record world { desk = world.desk ++ desk_entry world ask ∷ [] }
-world_with_step world (steps.View ask) = record world { view = world.view ++ view_entry world ask ∷ [] }
+world_with_step world (steps.Node server ask) =
+    record {
+      levels = world.levels;
+      limits = world.limits;
+      servers = slice_set world.servers (server - 1) (server_journal world server ++ node_entry world server ask ∷ []);
+      desk = world.desk;
+      view = world.view;
+    }
+world_with_step world (steps.Desk ask) = record { levels = world.levels; limits = world.limits; servers = world.servers; desk = world.desk ++ desk_entry world ask ∷ []; view = world.view }
+world_with_step world (steps.View ask) = record { levels = world.levels; limits = world.limits; servers = world.servers; desk = world.desk; view = world.view ++ view_entry world ask ∷ [] }
 
 -- ---- a step, and a run
 

@@ -1,9 +1,9 @@
 use Rattle.std.specs.Prelude.{slice_get}
-use Rattle.std.proofs.Common.{◌≡◌, ◌∙◌, ℕ, List, is_some, map, ap, refl, subst, sym}
+use Rattle.std.proofs.Common.{◌≡◌, ◌∙◌, ℕ, List, Option, is_some, map, ap, subst, sym}
 use Rattle.std.specs.Map.{lookup}
 use Rattle.tq_store.specs.Names.{same_name}
 use Rattle.tq_tables.specs.Early.{has_row}
-use Rattle.tq_tables.specs.Files.{FilesView, HasRowAt, by_file, stood_at}
+use Rattle.tq_tables.specs.Files.{FilesView, HasRowAt, by_file}
 use Rattle.tq_tables.specs.declared.file_row.FileRow.{FileRow}
 use Rattle.tq_tables.proofs.Kept.{absent-stood, has_row-found}
 use Rattle.tq_tables.proofs.Placed.{found-there}
@@ -18,5 +18,14 @@ stand_there-requires-clause-there c =
     (subst (λ (es : List (List ℕ × FileRow)). slice_get (map (λ entry. entry.1) es) place ≡ lookup (same_name file) es) c.self.invariant.named c.in-Some.ensures.value)
     (c.in-Some.ensures.found ∙ ap (λ es. is_some (lookup (same_name file) es)) c.self.invariant.named))
 
-pub returns-in-None-clause-rows : goal.returns-in-None-clause-rows
-returns-in-None-clause-rows c = ?
+pub returns-in_default-clause-found : goal.returns-in_default-clause-found
+returns-in_default-clause-found c =
+    let file = c.args.file.now in
+    sym (ap (λ (o : Option ℕ). is_some o) c.in_default.is)
+    ∙ c.get_index_of.ensures.found
+    ∙ ap (λ es. is_some (lookup (same_name file) es)) c.self.invariant.named
+    ∙ has_row-found file (map (λ entry. entry.1) c.self.inside.rows.entries)
+    ∙ ap (λ (v : FilesView). has_row v.rows file) c.self.view_is
+
+pub returns-in_default-clause-rows : goal.returns-in_default-clause-rows
+returns-in_default-clause-rows c = sym (absent-stood c.args.node.now c.args.file.now c.args.self.now.rows (sym (returns-in_default-clause-found c)))

@@ -1,6 +1,6 @@
 use Rattle.std.specs.Prelude.{reverse}
 use Rattle.std.proofs.Common.{◌≡◌, ℕ, ◌-◌, ◌<◌, ◌≤◌, length, set, get_or, ap, sym, subst, ◌∙◌, refl, arith}
-use Rattle.std.proofs.lemmas.List.{get_or-set_same, length-set}
+use Rattle.std.proofs.lemmas.List.{length-set}
 use Rattle.tq_desk.specs.DeskJournal.{commits}
 use Rattle.tq_node.specs.Node.{NodeView, server_after}
 use Rattle.tq_node.specs.Records.{node_reply}
@@ -17,7 +17,7 @@ use Rattle.tq_tables.specs.Tables.{TablesView, tables_at}
 use Rattle.tq_tables.proofs.Held.{held-asked, held-same}
 use Rattle.tq_tables.proofs.Noted.{rows-at}
 use Rattle.tq_tables.proofs.Replayed.{of_tree-at}
-use Rattle.tq_tables.proofs.Restood.{is_there, next-number, node-noted, node_in-at, rows-stand, with_nodes, with_nodes-at}
+use Rattle.tq_tables.proofs.Restood.{below, found-put, is_there, next-number, node-noted, node_in-at, rows-stand, stands-at, with_nodes, with_nodes-at}
 use Rattle.tq_tables.proofs.live_tables.LiveTables.ask_node.Goals as goal
 
 pub ask_node-requires-clause-there : goal.ask_node-requires-clause-there
@@ -38,40 +38,29 @@ node-node-requires c =
     let view_is = (λ i. tables_at (c.deref_mut-parts.ensures.value i) (c.deref_mut-files.ensures.value i).rows) ∙ c.self.view_is in
     let parts = c.deref_mut-parts.result.now in
     let there = is_there c.args.self.now c.args.server c.args.number c.requires in
-    let many = ap (λ (t : TablesView). length t.nodes) view_is in
-    let less : c.args.server - 1 < length parts.nodes = omega (arith, there.0, there.1, many) in
+    let less : c.args.server - 1 < length parts.nodes = below parts c.deref_mut-files.result.now.rows c.args.self.now view_is c.args.server c.args.number c.requires in
     let old = node_in parts.nodes c.args.server in
     let after = c.in_ok-entered.ensures.after old (node_in-at parts.nodes c.args.server less) in
     let count = ap (λ (p : PartsView). length p.nodes) after ∙ length-set parts.nodes (c.args.server - 1) (server_after old c.args.number c.args.ask.now) in
-    (there.0, omega (arith, there.1, many, count))
+    (there.0, omega (arith, there.0, less, count))
 
 pub stand_all-found-requires-clause-levels : goal.stand_all-found-requires-clause-levels
 stand_all-found-requires-clause-levels c =
     let view_is = (λ i. tables_at (c.deref_mut-parts.ensures.value i) (c.deref_mut-files.ensures.value i).rows) ∙ c.self.view_is in
     let same = ap (λ (p : PartsView). p.view.levels) c.deref_mut-parts.ensures.value ∙ c.self.invariant.0 ∙ sym (ap (λ (f : FilesView). f.levels) c.deref_mut-files.ensures.value) in
     let parts = c.deref_mut-parts.result.now in
-    let there = is_there c.args.self.now c.args.server c.args.number c.requires in
-    let many = ap (λ (t : TablesView). length t.nodes) view_is in
-    let less : c.args.server - 1 < length parts.nodes = omega (arith, there.0, there.1, many) in
-    let after = c.in_ok-entered.ensures.after (node_in parts.nodes c.args.server) (node_in-at parts.nodes c.args.server less) in
+    let at = stands-at parts c.deref_mut-files.result.now.rows c.args.self.now view_is c.args.server c.args.number c.requires in
+    let after = c.in_ok-entered.ensures.after (node_in parts.nodes c.args.server) at in
     c.node-node.ensures.of_tree ∙ ap (λ (p : PartsView). p.view.levels) after ∙ same
 
 pub stand_all-found-requires-clause-reached : goal.stand_all-found-requires-clause-reached
 stand_all-found-requires-clause-reached c =
     let view_is = (λ i. tables_at (c.deref_mut-parts.ensures.value i) (c.deref_mut-files.ensures.value i).rows) ∙ c.self.view_is in
-    let server = c.args.server in
     let parts = c.deref_mut-parts.result.now in
-    let there = is_there c.args.self.now server c.args.number c.requires in
-    let many = ap (λ (t : TablesView). length t.nodes) view_is in
-    let less : server - 1 < length parts.nodes = omega (arith, there.0, there.1, many) in
-    let old = node_in parts.nodes server in
-    let at = node_in-at parts.nodes server less in
-    let node = server_after old c.args.number c.args.ask.now in
-    let after = c.in_ok-entered.ensures.after old at in
-    let node_is : c.node-node.result.now ≡ node =
-    c.node-node.ensures.value
-    ∙ ap (λ (p : PartsView). get_or p.nodes (server - 1) c.node-node.result.now) after
-    ∙ get_or-set_same parts.nodes (server - 1) node c.node-node.result.now less in
+    let rows = c.deref_mut-files.result.now.rows in
+    let old = node_in parts.nodes c.args.server in
+    let at = stands-at parts rows c.args.self.now view_is c.args.server c.args.number c.requires in
+    let node_is = found-put parts rows c.args.self.now view_is c.args.server c.args.number c.requires c.ask_node.new.self (server_after old c.args.number c.args.ask.now) c.node-node.result.now (c.in_ok-entered.ensures.after old at) c.node-node.ensures.value in
     subst (λ (n : NodeView). AreReached c.args.ask.now c.in_ok-entered.field-0.raised n.state.records.copies) (sym node_is) (c.in_ok-entered.ensures.reached old at)
 
 pub hold-requires : goal.hold-requires
@@ -79,10 +68,8 @@ hold-requires c =
     let same = ap (λ (p : PartsView). p.view.levels) c.deref_mut-parts.ensures.value ∙ c.self.invariant.0 ∙ sym (ap (λ (f : FilesView). f.levels) c.deref_mut-files.ensures.value) in
     let view_is = (λ i. tables_at (c.deref_mut-parts.ensures.value i) (c.deref_mut-files.ensures.value i).rows) ∙ c.self.view_is in
     let parts = c.deref_mut-parts.result.now in
-    let there = is_there c.args.self.now c.args.server c.args.number c.requires in
-    let many = ap (λ (t : TablesView). length t.nodes) view_is in
-    let less : c.args.server - 1 < length parts.nodes = omega (arith, there.0, there.1, many) in
-    let after = c.in_ok-entered.ensures.after (node_in parts.nodes c.args.server) (node_in-at parts.nodes c.args.server less) in
+    let at = stands-at parts c.deref_mut-files.result.now.rows c.args.self.now view_is c.args.server c.args.number c.requires in
+    let after = c.in_ok-entered.ensures.after (node_in parts.nodes c.args.server) at in
     c.server.ensures.levels
     ∙ c.node-node.ensures.of_tree
     ∙ ap (λ (p : PartsView). p.view.levels) after
@@ -100,18 +87,13 @@ invariant_of-self-2 c =
     let rows = c.deref_mut-files.result.now.rows in
     let levels = c.deref_mut-files.result.now.levels in
     let holders = c.deref_mut-holders.result.now in
-    let there = is_there c.args.self.now server c.args.number c.requires in
-    let many = ap (λ (t : TablesView). length t.nodes) view_is in
-    let less : server - 1 < length parts.nodes = omega (arith, there.0, there.1, many) in
+    let less : c.args.server - 1 < length parts.nodes = below parts rows c.args.self.now view_is server c.args.number c.requires in
     let old = node_in parts.nodes server in
     let at = node_in-at parts.nodes server less in
     let node = server_after old c.args.number c.args.ask.now in
     let after = c.in_ok-entered.ensures.after old at in
     let raised = raised_files c.args.ask.now c.in_ok-entered.field-0.raised in
-    let node_is : c.node-node.result.now ≡ node =
-    c.node-node.ensures.value
-    ∙ ap (λ (p : PartsView). get_or p.nodes (server - 1) c.node-node.result.now) after
-    ∙ get_or-set_same parts.nodes (server - 1) node c.node-node.result.now less in
+    let node_is = found-put parts rows c.args.self.now view_is server c.args.number c.requires c.ask_node.new.self node c.node-node.result.now after c.node-node.ensures.value in
     let whole = view_is ∙ c.requires.stand in
     let of_tree : AreOfTree levels 1 parts.nodes =
     subst (λ (l : ℕ). AreOfTree l 1 parts.nodes) same
@@ -131,11 +113,8 @@ pub returns-clause-replies : goal.returns-clause-replies
 returns-clause-replies c =
     let view_is = (λ i. tables_at (c.deref_mut-parts.ensures.value i) (c.deref_mut-files.ensures.value i).rows) ∙ c.self.view_is in
     let server = c.args.server in
-    let nodes = c.deref_mut-parts.result.now.nodes in
-    let there = is_there c.args.self.now server c.args.number c.requires in
-    let many = ap (λ (t : TablesView). length t.nodes) view_is in
-    let less : server - 1 < length nodes = omega (arith, there.0, there.1, many) in
-    let told = c.in_ok-entered.ensures.replies (node_in nodes server) (node_in-at nodes server less) in
+    let parts = c.deref_mut-parts.result.now in
+    let told = c.in_ok-entered.ensures.replies (node_in parts.nodes server) (stands-at parts c.deref_mut-files.result.now.rows c.args.self.now view_is server c.args.number c.requires) in
     (λ i. record { entered = told.0 i; told = told.1 i })
     ∙ ap (λ (t : TablesView). both (node_reply (node_in t.nodes server).server (node_in t.nodes server).state c.args.ask.now)) view_is
 
@@ -149,17 +128,13 @@ returns-clause-asked c = λ journals reply legal stand.
     let parts = c.deref_mut-parts.result.now in
     let rows = c.deref_mut-files.result.now.rows in
     let there = is_there c.args.self.now server c.args.number c.requires in
-    let many = ap (λ (t : TablesView). length t.nodes) view_is in
-    let less : server - 1 < length parts.nodes = omega (arith, there.0, there.1, many) in
-    let within : server ≤ length parts.nodes = omega (arith, there.1, many) in
+    let less : c.args.server - 1 < length parts.nodes = below parts rows c.args.self.now view_is server c.args.number c.requires in
+    let within : server ≤ length parts.nodes = omega (arith, there.0, less) in
     let old = node_in parts.nodes server in
     let at = node_in-at parts.nodes server less in
     let node = server_after old c.args.number ask in
     let after = c.in_ok-entered.ensures.after old at in
-    let node_is : c.node-node.result.now ≡ node =
-    c.node-node.ensures.value
-    ∙ ap (λ (p : PartsView). get_or p.nodes (server - 1) c.node-node.result.now) after
-    ∙ get_or-set_same parts.nodes (server - 1) node c.node-node.result.now less in
+    let node_is = found-put parts rows c.args.self.now view_is server c.args.number c.requires c.ask_node.new.self node c.node-node.result.now after c.node-node.ensures.value in
     let whole = view_is ∙ stand in
     let of_tree = of_tree-at journals.levels journals.servers parts.nodes parts.view.levels (ap (λ (t : TablesView). t.nodes) whole) (ap (λ (t : TablesView). t.view.levels) whole) in
     let stands = rows-stand parts of_tree server there.0 within old node at refl refl (raised_files c.args.ask.now c.in_ok-entered.field-0.raised) (c.in_ok-entered.ensures.raised old at) rows journals
