@@ -17,6 +17,7 @@ use Rattle.tq_desk.specs.declared.ask.DeskAsk.TheVariants.{Commit}
 use Rattle.tq_evidence.specs.declared.grant.Grant.{Grant}
 use Rattle.tq_evidence.specs.declared.op.Op.{Op}
 use Rattle.tq_evidence.specs.declared.op.OpKind.{OpKind}
+use Rattle.tq_evidence.specs.declared.op.OpKind.TheVariants as kinds
 use Rattle.tq_evidence.specs.declared.vote.Vote.{Vote}
 use Rattle.tq_store.specs.Names.{same_name}
 use Rattle.tq_txn_states.specs.declared.told.NodeTold.{NodeTold}
@@ -25,6 +26,7 @@ use Rattle.tq_txn_states.specs.Open.{OpenView, fits, granted_by, grant_of, grant
 use Rattle.tq_evidence.specs.Evidence.{writes_file}
 use Rattle.tq_txn_states.specs.Sets.{put, with_first_changed}
 use Rattle.tq_txn_states.specs.Voting.{VotingView, voted_by, vote_of, with_vote, voting_of, evidence_of, has_vote, is_of_server, txn_after_vote, vote_after}
+use Rattle.tq_txn_states.proofs.Granted.{any_fit, grants_again}
 
 -- ---- lists
 
@@ -92,17 +94,6 @@ op_told kind txn file told answers =
     All-weaker (λ (grant : Grant). Contains answers (grant_told txn file grant)) (λ (grant : Grant). Contains (told ++ answers) (grant_told txn file grant))
     (λ grant here. Contains-append_right told answers (grant_told txn file grant) here) (grants_of kind txn file answers) (grants_told kind txn file answers)
 
--- the answers of grants tell each of them
-all_told : (txn : ℕ) (file : List ℕ) (grants : List Grant) → All (λ grant. Contains (answers_of txn file grants) (grant_told txn file grant)) grants
-all_told txn file [] = All-nil (λ (grant : Grant). Contains [] (grant_told txn file grant))
-all_told txn file (first ∷ rest) =
-    let told = grant_told txn file first in
-    let P : Grant → Type 0 = λ grant. Contains (told ∷ answers_of txn file rest) (grant_told txn file grant) in
-    let here : P first = Contains-append_left (told ∷ []) (answers_of txn file rest) told (Contains-push [] told) in
-    let later : All P rest =
-    All-weaker (λ (grant : Grant). Contains (answers_of txn file rest) (grant_told txn file grant)) P (λ grant is. Contains-append_right (told ∷ []) (answers_of txn file rest) (grant_told txn file grant) is) rest (all_told txn file rest) in
-    All-cons P first rest here later
-
 -- ---- a transaction that reads and writes
 
 taken_keeps : (old : OpenView) (op : Op) (told answers : List NodeTold) → IsOpTold old.txn (told ++ answers) op → KeepsOnly told old → KeepsOnly (told ++ answers) (txn_after_op old op)
@@ -156,13 +147,8 @@ taken_cited kind old new op answers is grants told kept =
 
 -- the same, by the answers that told of its grants
 pub granted_cited : (old new : OpenView) (op : Op) (grants : List Grant) → new ≡ txn_after_op old op → op.grants ≡ grants → AddsOnly (answers_of old.txn op.file grants) old new
-granted_cited old new op grants is same told kept =
-    let answers = answers_of old.txn op.file grants in
-    let P : List Grant → Type 0 = λ gs. All (λ grant. Contains (told ++ answers) (grant_told old.txn op.file grant)) gs in
-    let all : P grants =
-    All-weaker (λ (grant : Grant). Contains answers (grant_told old.txn op.file grant)) (λ (grant : Grant). Contains (told ++ answers) (grant_told old.txn op.file grant))
-    (λ grant here. Contains-append_right told answers (grant_told old.txn op.file grant) here) grants (all_told old.txn op.file grants) in
-    subst (KeepsOnly (told ++ answers)) (sym is) (taken_keeps old op told answers (subst P (sym same) all) kept)
+granted_cited old new op grants is same =
+    taken_cited kinds.Read old new op (answers_of old.txn op.file grants) is (same ∙ sym (grants_again kinds.Read old.txn op.file grants (any_fit grants)))
 
 pub close_cited : (old : OpenView) (new : VotingView) → new ≡ voting_of old → (told : List NodeTold) → KeepsOnly told old → VotesOnly told new
 close_cited old new is told kept = subst (VotesOnly told) (sym is) kept

@@ -7,6 +7,7 @@ use Rattle.std.specs.Ordering.{is_lt, is_eq, is_gt}
 use Rattle.std.specs.declared.cmp.Ordering.{Ordering}
 use Rattle.std.specs.declared.cmp.Ordering.TheVariants.{Less, Equal, Greater}
 use Rattle.std.proofs.lemmas.Bool.{and_parts, and_from, or_left, or_right, eq-eqb, false≢true}
+use Rattle.std.proofs.lemmas.List.Folds.{list_all-append}
 use Rattle.tq_store.specs.Copies.{name_cmp}
 use Rattle.tq_evidence.specs.declared.grant.Grant.{Grant}
 use Rattle.tq_evidence.specs.declared.op.Op.{Op}
@@ -93,40 +94,24 @@ after_write first (second ∷ rest) is up =
     let parts = and_parts (stands_before first second) (ops_rise (second ∷ rest)) up in
     later first.file second rest parts.1 (write_before (name_cmp first.file second.file) (is_write first) (is_write second) is parts.0)
 
-not_greater : (o : Ordering) → is_lt o ≡ true → not (is_gt o) ≡ true
-not_greater Less is = refl
-not_greater Equal is = absurd (false≢true is)
-not_greater Greater is = absurd (false≢true is)
-
-none_later : (op : Op) (ops done : List Op) → list_all (λ d. are_later d.file (op ∷ ops)) done ≡ true → list_all (λ d. not (is_gt (name_cmp d.file op.file))) done ≡ true
-none_later op ops [] all = refl
-none_later op ops (d ∷ done) all =
-    let parts = and_parts (are_later d.file (op ∷ ops)) (list_all (λ e. are_later e.file (op ∷ ops)) done) all in
-    and_from (not (is_gt (name_cmp d.file op.file))) _ (not_greater (name_cmp d.file op.file) (and_parts (is_lt (name_cmp d.file op.file)) (are_later d.file ops) parts.0).0) (none_later op ops done parts.1)
-
-still_later : (op : Op) (ops done : List Op) → list_all (λ d. are_later d.file (op ∷ ops)) done ≡ true → list_all (λ d. are_later d.file ops) done ≡ true
-still_later op ops [] all = refl
-still_later op ops (d ∷ done) all =
-    let parts = and_parts (are_later d.file (op ∷ ops)) (list_all (λ e. are_later e.file (op ∷ ops)) done) all in
-    and_from (are_later d.file ops) _ (and_parts (is_lt (name_cmp d.file op.file)) (are_later d.file ops) parts.0).1 (still_later op ops done parts.1)
-
-later_append : (p : Op → Bool) (done : List Op) (op : Op) → list_all p done ≡ true → p op ≡ true → list_all p (done ++ op ∷ []) ≡ true
-later_append p [] op all here = and_from (p op) true here refl
-later_append p (d ∷ done) op all here =
-    let parts = and_parts (p d) (list_all p done) all in
-    and_from (p d) (list_all p (done ++ op ∷ [])) parts.0 (later_append p done op parts.1 here)
+none_later : (file : List ℕ) (done : List Op) → list_all (λ d. is_lt (name_cmp d.file file)) done ≡ true → list_all (λ d. not (is_gt (name_cmp d.file file))) done ≡ true
+none_later file [] all = refl
+none_later file (d ∷ done) all =
+    let parts = and_parts (is_lt (name_cmp d.file file)) (list_all (λ e. is_lt (name_cmp e.file file)) done) all in
+    and_from (not (is_gt (name_cmp d.file file))) _ (rw (is_less (name_cmp d.file file) parts.0) refl) (none_later file done parts.1)
 
 sorted : (done ops : List Op) → ops_rise ops ≡ true → list_all (λ d. are_later d.file ops) done ≡ true → fold put_op done (filter is_write ops) ≡ done ++ filter is_write ops
 sorted done [] up all = sym (append-nil done)
 sorted done (op ∷ ops) up all =
     let rest = rest_rises op ops up in
+    let parts = all_split (λ (d : Op). is_lt (name_cmp d.file op.file)) (λ (d : Op). are_later d.file ops) done all in
     elim (is_write op) as (λ b. is_write op ≡ b → fold put_op done (cond b (op ∷ filter is_write ops) (filter is_write ops)) ≡ done ++ cond b (op ∷ filter is_write ops) (filter is_write ops)) [
       | true ↦ λ is.
-          let last : put_op done op ≡ done ++ op ∷ [] = insert_before (λ (o : Op). is_gt (name_cmp o.file op.file)) op done ∙ put-last (λ (o : Op). is_gt (name_cmp o.file op.file)) op done (none_later op ops done all) in
+          let last : put_op done op ≡ done ++ op ∷ [] = insert_before (λ (o : Op). is_gt (name_cmp o.file op.file)) op done ∙ put-last (λ (o : Op). is_gt (name_cmp o.file op.file)) op done (none_later op.file done parts.0) in
           ap (λ d. fold put_op d (filter is_write ops)) last
-          ∙ sorted (done ++ op ∷ []) ops rest (later_append (λ (d : Op). are_later d.file ops) done op (still_later op ops done all) (after_write op ops is up))
+          ∙ sorted (done ++ op ∷ []) ops rest (list_all-append (λ (d : Op). are_later d.file ops) done (op ∷ []) ∙ and_from _ _ parts.1 (and_from _ true (after_write op ops is up) refl))
           ∙ append_assoc done (op ∷ []) (filter is_write ops)
-      | false ↦ λ is. sorted done ops rest (still_later op ops done all)
+      | false ↦ λ is. sorted done ops rest parts.1
     ] refl
 
 -- the rules one after another

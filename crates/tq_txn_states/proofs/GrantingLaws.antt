@@ -15,9 +15,6 @@ use Rattle.tq_txn_states.specs.Granting.{GrantingView, CanGrant, CanPut, CanTake
 use Rattle.tq_txn_states.specs.Sets.{IsReady, IsWithin, RoomySet, with_number, with_numbers}
 use Rattle.tq_txn_states.proofs.NumberSets.{has-with_number, with_numbers-held, within-with_number}
 
-fewer : (number : ℕ) (more : List ℕ) (room : ℕ) → length (number ∷ more) ≤ room → length (number ∷ []) ≤ room
-fewer number more room is = omega arith
-
 all_within : (few many numbers : List ℕ) → IsWithin few many → list_all (has few) numbers ≡ true → list_all (has many) numbers ≡ true
 all_within few many [] within all = refl
 all_within few many (number ∷ rest) within all =
@@ -25,7 +22,7 @@ all_within few many (number ∷ rest) within all =
     and_from (has many number) (list_all (has many) rest) (within number parts.0) (all_within few many rest within parts.1)
 
 ready_first : (set : RoomySet) (grows : Bool) (number : ℕ) (more : List ℕ) → IsReady set grows (number ∷ more) → IsReady set grows (number ∷ [])
-ready_first set true number more is = fewer number more set.room is
+ready_first set true number more is = omega arith
 ready_first set false number more is = and_from (has set.servers number) true (and_parts (has set.servers number) (list_all (has set.servers) more) is).0 refl
 
 -- room for the locks of several servers is room for that of the first
@@ -33,7 +30,7 @@ pub can_grant_first : (levels : ℕ) (granting : GrantingView) (number : ℕ) (m
 can_grant_first levels granting number more can = record {
   tree = can.tree;
   noting = ready_first granting.touched granting.notes number more can.noting;
-  left = fewer number more granting.left can.left;
+  left = omega (arith, can.left);
 }
 
 -- a server that was put there leaves room for the rest
@@ -52,15 +49,12 @@ pub here_after : (before after : List ℕ) (number : ℕ) → after ≡ with_num
 here_after before after number is =
     ap (λ servers. has servers number) is ∙ has-with_number before number number ∙ ap (λ b. b || has before number) (eq-eqb number number refl)
 
-noted_more : (touched : List ℕ) (grants : List Grant) (grant : Grant) → are_noted touched grants ≡ true → has touched grant.server ≡ true → are_noted touched (grants ++ grant ∷ []) ≡ true
+-- a grant more, whose server is noted
+pub noted_more : (touched : List ℕ) (grants : List Grant) (grant : Grant) → are_noted touched grants ≡ true → has touched grant.server ≡ true → are_noted touched (grants ++ grant ∷ []) ≡ true
 noted_more touched [] grant all here = and_from (has touched grant.server) true here refl
 noted_more touched (first ∷ rest) grant all here =
     let parts = and_parts (has touched first.server) (are_noted touched rest) all in
     and_from (has touched first.server) (are_noted touched (rest ++ grant ∷ [])) parts.0 (noted_more touched rest grant parts.1 here)
-
--- a grant more, whose server is noted
-pub noted_push : (touched : List ℕ) (before after : List Grant) (grant : Grant) → after ≡ before ++ grant ∷ [] → are_noted touched before ≡ true → has touched grant.server ≡ true → are_noted touched after ≡ true
-noted_push touched before after grant is all here = subst (λ gs. are_noted touched gs ≡ true) (sym is) (noted_more touched before grant all here)
 
 -- a transaction that takes back what grew is touched at most
 pub touched_by_grown : (open_txn : OpenView) (old new : GrantingView) → IsGrown old new → IsTouched (txn_with_grants open_txn old) (txn_with_grants open_txn new)

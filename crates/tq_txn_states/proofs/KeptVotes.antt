@@ -1,13 +1,9 @@
 -- A vote that is put in takes away no other server's.
 use Rattle.std.proofs.Common.{◌≡◌, ◌==◌, ℕ, Bool, true, false, ◌||◌, cond, List, [], ◌∷◌, nat_lt, refl, subst}
-use Rattle.std.proofs.lemmas.Bool.{eqb-true, false≢true}
+use Rattle.std.proofs.lemmas.Bool.{eqb-true, false≢true, or_right}
 use Rattle.tq_evidence.specs.declared.vote.Vote.{Vote}
 use Rattle.tq_txn_states.specs.Sets.{put, with_first_changed}
 use Rattle.tq_txn_states.specs.Voting.{KeepsVotes, has_vote, is_of_server, with_vote}
-
-second : (a b : Bool) → b ≡ true → (a || b) ≡ true
-second true b h = refl
-second false b h = h
 
 either : (a b c : Bool) → (b ≡ true → c ≡ true) → (a || b) ≡ true → (a || c) ≡ true
 either true b c h is = refl
@@ -17,7 +13,7 @@ kept_put : (later : Vote → Bool) (vote : Vote) (votes : List Vote) → KeepsVo
 kept_put later vote [] n here = absurd (false≢true here)
 kept_put later vote (first ∷ rest) n here =
     elim (later first) as (λ b. has_vote (cond b (vote ∷ first ∷ rest) (first ∷ put later vote rest)) n ≡ true) [
-      | true ↦ second (vote.server == n) (has_vote (first ∷ rest) n) here
+      | true ↦ or_right (vote.server == n) (has_vote (first ∷ rest) n) here
       | false ↦ either (first.server == n) (has_vote rest n) (has_vote (put later vote rest) n) (kept_put later vote rest n) here
     ]
 

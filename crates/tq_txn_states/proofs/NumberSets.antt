@@ -1,7 +1,8 @@
 -- Sets of servers by their numbers.
 use Rattle.std.proofs.Common.{◌≡◌, ℕ, ◌-◌, ◌<◌, Bool, true, false, ◌&&◌, ◌||◌, ◌==◌, cond, List, [], ◌∷◌, ◌++◌, Some, length, take, drop, slice_get, nat_lt, map, refl, sym, ap, ◌∙◌, subst, arith}
 use Rattle.std.specs.List.{list_all, list_any}
-use Rattle.std.proofs.lemmas.Bool.{and_parts, and_from, eqb-true, lt-ltb, or_parts, false≢true}
+use Rattle.std.proofs.Math.Bool.{or_assoc, or_comm}
+use Rattle.std.proofs.lemmas.Bool.{and_parts, and_from, eqb-true, lt-ltb, or_parts, or_right, false≢true}
 use Rattle.std.proofs.lemmas.Bool.Decides.{nat_tests}
 use Rattle.tq_shape.specs.ServerSet.{Ascends}
 use Rattle.tq_shape.specs.Tree.{Server}
@@ -14,10 +15,6 @@ absorbed : (a b : Bool) → (a ≡ true → b ≡ true) → b ≡ (a || b)
 absorbed true b h = h refl
 absorbed false b h = refl
 
-held : (a b : Bool) → b ≡ true → (a || b) ≡ true
-held true b h = refl
-held false b h = h
-
 pub has-with_number : (xs : List ℕ) (y n : ℕ) → has (with_number xs y) n ≡ ((y == n) || has xs n)
 has-with_number xs y n =
     elim (has xs y) as (λ b. has xs y ≡ b → has (cond b xs (with_server y xs)) n ≡ ((y == n) || has xs n)) [
@@ -27,20 +24,14 @@ has-with_number xs y n =
 
 -- a set keeps its servers when one is put in
 pub within-with_number : (xs : List ℕ) (y : ℕ) → IsWithin xs (with_number xs y)
-within-with_number xs y n here = has-with_number xs y n ∙ held (y == n) (has xs n) here
-
-moved : (a b c : Bool) → (a || (b || c)) ≡ ((b || a) || c)
-moved true true c = refl
-moved true false c = refl
-moved false true c = refl
-moved false false c = refl
+within-with_number xs y n here = has-with_number xs y n ∙ or_right (y == n) (has xs n) here
 
 pub has-with_numbers : (xs ys : List ℕ) (n : ℕ) → has (with_numbers xs ys) n ≡ (has ys n || has xs n)
 has-with_numbers xs [] n = refl
 has-with_numbers xs (y ∷ ys) n =
     has-with_numbers (with_number xs y) ys n
     ∙ ap (λ b. has ys n || b) (has-with_number xs y n)
-    ∙ moved (has ys n) (y == n) (has xs n)
+    ∙ sym (or_assoc (has ys n) (y == n) (has xs n)) ∙ ap (λ b. b || has xs n) (or_comm (has ys n) (y == n))
 
 pub has-map : {X : Type 0} (number : X → ℕ) (xs : List X) (n : ℕ) → has (map number xs) n ≡ list_any (λ x. number x == n) xs
 has-map number [] n = refl
@@ -110,7 +101,7 @@ pub all_later : (first : ℕ) (set numbers : List ℕ) → list_all (has set) nu
 all_later first set [] all = refl
 all_later first set (number ∷ numbers) all =
     let parts = and_parts (has set number) (list_all (has set) numbers) all in
-    and_from (has (first ∷ set) number) (list_all (has (first ∷ set)) numbers) (held (first == number) (has set number) parts.0) (all_later first set numbers parts.1)
+    and_from (has (first ∷ set) number) (list_all (has (first ∷ set)) numbers) (or_right (first == number) (has set number) parts.0) (all_later first set numbers parts.1)
 
 pub all_after : (ids : List Server) (numbers : List ℕ) → list_all (has (numbers_of (take (length ids - 1) (drop 1 ids)))) numbers ≡ true → list_all (has (numbers_of ids)) numbers ≡ true
 all_after [] numbers all = all

@@ -1,7 +1,8 @@
 -- Of the grants of an operation, whose servers ascend, one at most is of a server.
 use Rattle.std.proofs.Common.{◌≡◌, ◌==◌, ◌∙◌, ℕ, zero, suc, Bool, true, false, not, ◌||◌, ◌&&◌, List, [], ◌∷◌, Some, None, slice_get, is_some, nat_lt, refl, sym, ap, subst, arith}
 use Rattle.std.specs.List.{list_all, list_any, position}
-use Rattle.std.proofs.lemmas.Bool.{and_parts, and_from, eq-eqb}
+use Rattle.std.proofs.Math.Bool.{and-true}
+use Rattle.std.proofs.lemmas.Bool.{and_parts, and_from, eq-eqb, le-ltb}
 use Rattle.std.proofs.lemmas.Option.{none-some}
 use Rattle.std.proofs.lemmas.Bool.Decides.{nat_tests}
 use Rattle.tq_evidence.specs.declared.grant.Grant.{Grant}
@@ -10,14 +11,12 @@ use Rattle.tq_evidence.specs.declared.vote.Vote.{Vote}
 use Rattle.tq_evidence.specs.Evidence.{covers, granters, rises, servers_of, has_quorum, are_quorums}
 use Rattle.tq_coterie.specs.Coterie.{is_quorum}
 use Rattle.tq_txn_states.specs.Voting.{covers_grant, have_order}
-use Rattle.tq_txn_states.proofs.NumberSets.{rises_from, rises-from, rises_rest}
+use Rattle.tq_txn_states.proofs.NumberSets.{lower, rises_from, rises-from, rises_rest}
 use Rattle.tq_txn_states.proofs.Puts.{any-placed, none-placed}
+use Rattle.tq_txn_states.proofs.Searched.{still_beyond}
 
-between : (a b c : ℕ) → nat_lt a b ≡ true → nat_lt b c ≡ true → nat_lt a c ≡ true
-between a b c less more = grind (arith, nat_tests)
-
-other_than : (a b : ℕ) → nat_lt a b ≡ true → (a == b) ≡ false
-other_than a b less = grind (arith, nat_tests)
+apart : (low next n : ℕ) → nat_lt low n ≡ false → nat_lt low next ≡ true → (n == next) ≡ false
+apart low next n from less = grind (arith, nat_tests)
 
 other_above : (a b : ℕ) → nat_lt b a ≡ true → (a == b) ≡ false
 other_above a b less = grind (arith, nat_tests)
@@ -26,19 +25,11 @@ passes : (vote : Vote) (file : List ℕ) (grant : Grant) → (vote.server == gra
 passes vote file grant other = ap (λ b. not b || covers file grant vote) other
 
 -- those of greater servers are covered
-later_pass : (vote : Vote) (file : List ℕ) (low : ℕ) (grants : List Grant) → nat_lt vote.server low ≡ true → rises_from low (granters grants) ≡ true → list_all (covers_grant vote file) grants ≡ true
-later_pass vote file low [] less up = refl
-later_pass vote file low (first ∷ rest) less up =
+later_pass : (vote : Vote) (file : List ℕ) (low : ℕ) (grants : List Grant) → nat_lt low vote.server ≡ false → rises_from low (granters grants) ≡ true → list_all (covers_grant vote file) grants ≡ true
+later_pass vote file low [] from up = refl
+later_pass vote file low (first ∷ rest) from up =
     let parts = and_parts (nat_lt low first.server) (rises_from first.server (granters rest)) up in
-    let here = between vote.server low first.server less parts.0 in
-    and_from (covers_grant vote file first) (list_all (covers_grant vote file) rest) (passes vote file first (other_than vote.server first.server here)) (later_pass vote file first.server rest here parts.1)
-
-above_pass : (vote : Vote) (file : List ℕ) (low : ℕ) (grants : List Grant) → vote.server ≡ low → rises_from low (granters grants) ≡ true → list_all (covers_grant vote file) grants ≡ true
-above_pass vote file low [] same up = refl
-above_pass vote file low (first ∷ rest) same up =
-    let parts = and_parts (nat_lt low first.server) (rises_from first.server (granters rest)) up in
-    let here = subst (λ n. nat_lt n first.server ≡ true) (sym same) parts.0 in
-    and_from (covers_grant vote file first) (list_all (covers_grant vote file) rest) (passes vote file first (other_than vote.server first.server here)) (later_pass vote file first.server rest here parts.1)
+    and_from (covers_grant vote file first) (list_all (covers_grant vote file) rest) (passes vote file first (apart low first.server vote.server from parts.0)) (later_pass vote file first.server rest (still_beyond low first.server vote.server from parts.0) parts.1)
 
 -- a grant further on is of a greater server
 further : (low : ℕ) (grants : List Grant) (place : ℕ) (grant : Grant) → rises_from low (granters grants) ≡ true → slice_get grants place ≡ Some grant → nat_lt low grant.server ≡ true
@@ -49,14 +40,7 @@ further low (first ∷ rest) zero grant up at =
     subst (λ (g : Grant). nat_lt low g.server ≡ true) same parts.0
 further low (first ∷ rest) (suc place) grant up at =
     let parts = and_parts (nat_lt low first.server) (rises_from first.server (granters rest)) up in
-    between low first.server grant.server parts.0 (further first.server rest place grant parts.1 at)
-
-covered_here : (a b : Bool) → a ≡ true → (not a || b) ≡ b
-covered_here a b same = ap (λ c. not c || b) same
-
-and_true : (a b : Bool) → b ≡ true → (a && b) ≡ a
-and_true true b is = is
-and_true false b is = refl
+    lower low first.server grant.server parts.0 (further first.server rest place grant parts.1 at)
 
 -- the grant of the vote's server is the one that it has to cover
 pub one_covers : (vote : Vote) (file : List ℕ) (grants : List Grant) (place : ℕ) (grant : Grant) → rises (granters grants) ≡ true → slice_get grants place ≡ Some grant → grant.server ≡ vote.server → covers file grant vote ≡ list_all (covers_grant vote file) grants
@@ -64,9 +48,9 @@ one_covers vote file [] place grant up at same = absurd (none-some grant at)
 one_covers vote file (first ∷ rest) zero grant up at same =
     let is : first ≡ grant = cc in
     let server : vote.server ≡ first.server = sym same ∙ ap (λ (g : Grant). g.server) (sym is) in
-    let others = above_pass vote file first.server rest server (sym (rises-from first.server (granters rest)) ∙ up) in
-    let here = covered_here (vote.server == first.server) (covers file first vote) (eq-eqb vote.server first.server server) in
-    sym (and_true (covers_grant vote file first) (list_all (covers_grant vote file) rest) others ∙ here ∙ ap (λ g. covers file g vote) is)
+    let others = later_pass vote file first.server rest (le-ltb first.server vote.server (omega (arith, server))) (sym (rises-from first.server (granters rest)) ∙ up) in
+    let here = ap (λ b. not b || covers file first vote) (eq-eqb vote.server first.server server) in
+    sym (ap (λ b. covers_grant vote file first && b) others ∙ and-true (covers_grant vote file first) ∙ here ∙ ap (λ g. covers file g vote) is)
 one_covers vote file (first ∷ rest) (suc place) grant up at same =
     let from = sym (rises-from first.server (granters rest)) ∙ up in
     let less = subst (λ n. nat_lt first.server n ≡ true) same (further first.server rest place grant from at) in

@@ -3,20 +3,17 @@ use Rattle.std.proofs.Common.{◌≡◌, ◌==◌, ◌∙◌, ℕ, zero, suc, �
 use Rattle.std.specs.List.{list_any, insert}
 use Rattle.std.specs.List.Sorted.{IsPartitionPoint, IsPartitionedBy}
 use Rattle.std.specs.Option.{option_map_or}
+use Rattle.std.proofs.Math.Bool.{or-false}
 use Rattle.std.proofs.lemmas.Bool.{and_parts, or_parts, false≢true}
 use Rattle.std.proofs.lemmas.Bool.Decides.{nat_tests}
 use Rattle.tq_evidence.specs.Evidence.{rises}
 use Rattle.tq_txn_states.specs.Sets.{put, with_first_changed}
 use Rattle.tq_txn_states.proofs.NumberSets.{rises_from, rises-from, rises_rest, lower, other_below, not_above}
 
-or_none : (a b : Bool) → b ≡ false → (a || b) ≡ a
-or_none true b none = refl
-or_none false b none = none
-
 beyond : (a b n : ℕ) → nat_lt a n ≡ false → nat_lt a b ≡ true → (b == n) ≡ false
 beyond a b n from less = grind (arith, nat_tests)
 
-still_beyond : (a b n : ℕ) → nat_lt a n ≡ false → nat_lt a b ≡ true → nat_lt b n ≡ false
+pub still_beyond : (a b n : ℕ) → nat_lt a n ≡ false → nat_lt a b ≡ true → nat_lt b n ≡ false
 still_beyond a b n from less = grind (arith, nat_tests)
 
 after : (a b : ℕ) → nat_lt a b ≡ false → (a == b) ≡ false → nat_lt b a ≡ true
@@ -53,8 +50,8 @@ module _ {X : Type 0} (number : X → ℕ) where
       → list_any (λ x. number x == n) xs ≡ option_map_or (λ x. number x == n) (slice_get xs place) false
   found_at n [] place up point = refl
   found_at n (first ∷ rest) zero up point =
-      or_none (number first == n) (list_any (λ x. number x == n) rest)
-      (none_beyond (number first) n rest (point.1 0 first (omega arith) (omega arith)) (sym (rises-from (number first) (map number rest)) ∙ up))
+      ap (λ b. (number first == n) || b) (none_beyond (number first) n rest (point.1 0 first (omega arith) (omega arith)) (sym (rises-from (number first) (map number rest)) ∙ up))
+      ∙ or-false (number first == n)
   found_at n (first ∷ rest) (suc place) up point =
       rw (other_below (number first) n (point.0 0 first (omega arith) (omega arith)))
       (found_at n rest place (rises_rest (number first) (map number rest) up)

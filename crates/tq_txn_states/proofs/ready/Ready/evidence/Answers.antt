@@ -6,18 +6,15 @@ use Rattle.tq_txn_states.proofs.ready.Ready.evidence.Goals as goal
 
 pub returns-in_err-ops-clause-good : goal.returns-in_err-ops-clause-good
 returns-in_err-ops-clause-good c =
-    let P : OpenView → Type 0 = λ v. IsOpen v in
-    rw (← c.self.view_is) (good_evidence c.self.inside.voting (subst P c.txn-txn.ensures c.ops-ops.ensures.good) c.votes-votes.ensures.good c.self.invariant)
+    rw (← c.self.view_is) (good_evidence c.self.inside.voting (subst IsOpen c.txn-txn.ensures c.ops-ops.ensures.good) c.votes-votes.ensures.good c.self.invariant)
 
 pub returns-in_err-votes-clause-good : goal.returns-in_err-votes-clause-good
 returns-in_err-votes-clause-good c =
-    let P : OpenView → Type 0 = λ v. IsOpen v in
-    rw (← c.self.view_is) (good_evidence c.self.inside.voting (subst P c.txn-txn.ensures c.ops-ops.ensures.good) c.votes-votes.ensures.good c.self.invariant)
+    rw (← c.self.view_is) (good_evidence c.self.inside.voting (subst IsOpen c.txn-txn.ensures c.ops-ops.ensures.good) c.votes-votes.ensures.good c.self.invariant)
 
 pub returns-clause-good : goal.returns-clause-good
 returns-clause-good c =
-    let P : OpenView → Type 0 = λ v. IsOpen v in
-    rw (← c.self.view_is) (good_evidence c.self.inside.voting (subst P c.txn-txn.ensures c.ops-ops.ensures.good) c.votes-votes.ensures.good c.self.invariant)
+    rw (← c.self.view_is) (good_evidence c.self.inside.voting (subst IsOpen c.txn-txn.ensures c.ops-ops.ensures.good) c.votes-votes.ensures.good c.self.invariant)
 
 pub returns-clause-cited : goal.returns-clause-cited
 returns-clause-cited c =
