@@ -18,6 +18,7 @@ use Rattle.tq_tables.specs.Journals.{ViewEntry, IsOfTree, AreJournals}
 use Rattle.tq_json.specs.declared.format.Format.{Format}
 use Rattle.tq_json.specs.Member.{◌>>=◌, text_at, number_at, items_at, each}
 use Rattle.tq_json_read.specs.Views as views
+use Rattle.tq_json_read.specs.declared.view_reply.Servers.{Servers}
 use Rattle.tq_json_read.specs.Entries.{count, few, within, journal, node_entry, desk_entry, view_entry}
 use Rattle.tq_json_read.specs.Frame as frame
 
@@ -79,41 +80,42 @@ journal-all P form h limit value = next-gives (All P) (within limit value) (λ v
 
 -- ---- members of the tree
 
-member-of-tree : (levels : ℕ) (value : Data) → Gives (views.member_at levels value) (λ list. list.levels ≡ levels)
-member-of-tree levels value =
-    let P : ServerList → Type 0 = λ list. list.levels ≡ levels in
-    next-gives P (views.servers_at value) (λ numbers. views.member_of levels numbers) (λ numbers.
-    cond-gives P (is_quorum levels numbers) (Some (record { servers = numbers; levels = levels })) None refl tt)
+member-of-tree : (levels : ℕ) (numbers : List ℕ) → Gives (views.member_of levels numbers) (λ list. list.levels ≡ levels)
+member-of-tree levels numbers = cond-gives (λ list. list.levels ≡ levels) (is_quorum levels numbers) (Some (record { servers = numbers; levels = levels })) None refl tt
 
-chosen-of-tree : (levels : ℕ) (value : Data) → Gives (views.chosen_reply levels value) (IsOfTree levels)
-chosen-of-tree levels value =
-    next-gives (IsOfTree levels) (number_at (codes "cost") value) (λ cost. views.member_at levels value >>= λ quorum. Some (Chosen quorum cost)) (λ cost.
-    then-gives (λ (list : ServerList). list.levels ≡ levels) (IsOfTree levels) (views.member_at levels value) (λ quorum. Some (Chosen quorum cost)) (member-of-tree levels value) (λ quorum e. e))
+chosen-of-tree : (levels : ℕ) (cost : Option ℕ) (servers : Option Servers) → Gives (views.chosen_reply levels cost servers) (IsOfTree levels)
+chosen-of-tree levels cost None = next-gives (IsOfTree levels) cost (λ cost. None) (λ cost. tt)
+chosen-of-tree levels cost (Some servers) =
+    let M : Option ServerList = views.member_of levels servers.numbers in
+    next-gives (IsOfTree levels) cost (λ cost. M >>= λ quorum. Some (Chosen quorum cost)) (λ cost.
+    then-gives (λ (list : ServerList). list.levels ≡ levels) (IsOfTree levels) M (λ quorum. Some (Chosen quorum cost)) (member-of-tree levels servers.numbers) (λ quorum e. e))
 
-blocked-of-tree : (levels : ℕ) (value : Data) → Gives (views.blocked_reply levels value) (IsOfTree levels)
-blocked-of-tree levels value =
-    then-gives (λ (list : ServerList). list.levels ≡ levels) (IsOfTree levels) (views.member_at levels value) (λ blocker. Some (Refused (Blocked blocker))) (member-of-tree levels value) (λ blocker e. e)
+blocked-of-tree : (levels : ℕ) (servers : Option Servers) → Gives (views.blocked_reply levels servers) (IsOfTree levels)
+blocked-of-tree levels None = tt
+blocked-of-tree levels (Some servers) =
+    then-gives (λ (list : ServerList). list.levels ≡ levels) (IsOfTree levels) (views.member_of levels servers.numbers) (λ blocker. Some (Refused (Blocked blocker))) (member-of-tree levels servers.numbers) (λ blocker e. e)
 
-refused-of-tree : (levels : ℕ) (value : Data) → Gives (views.view_refused levels value) (IsOfTree levels)
-refused-of-tree levels value =
+refused-of-tree : (levels : ℕ) (code : Option ℕ) (servers : Option Servers) → Gives (views.view_refused levels code servers) (IsOfTree levels)
+refused-of-tree levels code servers =
     let P : ViewReply → Type 0 = IsOfTree levels in
-    next-gives P (number_at (codes "code") value) (λ code. views.view_refused_by levels code value) (λ code.
-    cond-gives P (code == 31) _ _ tt (cond-gives P (code == 32) _ _ tt (cond-gives P (code == 33) _ _ (blocked-of-tree levels value) tt)))
+    next-gives P code (λ code. views.view_refused_by levels code servers) (λ code.
+    cond-gives P (code == 31) _ _ tt (cond-gives P (code == 32) _ _ tt (cond-gives P (code == 33) _ _ (blocked-of-tree levels servers) tt)))
 
 reply-of-tree : (levels : ℕ) (value : Data) → Gives (views.view_reply levels value) (IsOfTree levels)
 reply-of-tree levels value =
     let P : ViewReply → Type 0 = IsOfTree levels in
-    next-gives P (text_at (codes "is") value) (λ kind. views.view_reply_by levels kind value) (λ kind.
+    let servers : Option Servers = views.kept (views.servers_at value) in
+    next-gives P (text_at (codes "is") value) (λ kind. views.view_reply_by levels (Some kind) (number_at (codes "code") value) (number_at (codes "cost") value) servers) (λ kind.
     cond-gives P (bytes_eq kind (codes "costset")) _ _ tt (cond-gives P (bytes_eq kind (codes "marked")) _ _ tt
-    (cond-gives P (bytes_eq kind (codes "chosen")) _ _ (chosen-of-tree levels value) (cond-gives P (bytes_eq kind (codes "refused")) _ _ (refused-of-tree levels value) tt))))
+    (cond-gives P (bytes_eq kind (codes "chosen")) _ _ (chosen-of-tree levels (number_at (codes "cost") value) servers)
+    (cond-gives P (bytes_eq kind (codes "refused")) _ _ (refused-of-tree levels (number_at (codes "code") value) servers) tt))))
 
 entry-of-tree : (format : Format) (levels : ℕ) (value : Data) → Gives (view_entry format levels value) (λ entry. IsOfTree levels entry.reply)
 entry-of-tree format levels value =
     let P : ViewEntry → Type 0 = λ entry. IsOfTree levels entry.reply in
-    next-gives P (get (codes "ask") value) (λ asked. views.view_ask format asked >>= λ ask. get (codes "reply") value >>= λ replied. views.view_reply levels replied >>= λ reply. Some (record { ask = ask; reply = reply })) (λ asked.
-    next-gives P (views.view_ask format asked) (λ ask. get (codes "reply") value >>= λ replied. views.view_reply levels replied >>= λ reply. Some (record { ask = ask; reply = reply })) (λ ask.
-    next-gives P (get (codes "reply") value) (λ replied. views.view_reply levels replied >>= λ reply. Some (record { ask = ask; reply = reply })) (λ replied.
-    then-gives (IsOfTree levels) P (views.view_reply levels replied) (λ reply. Some (record { ask = ask; reply = reply })) (reply-of-tree levels replied) (λ reply h. h))))
+    let R : Option ViewReply = get (codes "reply") value >>= views.view_reply levels in
+    next-gives P (get (codes "ask") value >>= views.view_ask format) (λ ask. R >>= λ reply. Some (record { ask = ask; reply = reply })) (λ ask.
+    then-gives (IsOfTree levels) P R (λ reply. Some (record { ask = ask; reply = reply })) (next-gives (IsOfTree levels) (get (codes "reply") value) (views.view_reply levels) (reply-of-tree levels)) (λ reply h. h))
 
 -- ---- the journals of all parts
 

@@ -5,5 +5,4 @@ mod Rows
 mod Places
 mod Limited
 mod Planned
-mod Nested
 mod Short

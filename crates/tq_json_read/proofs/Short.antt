@@ -1,5 +1,5 @@
 -- A member of the coterie is no longer than the tree has leaves, so a longer list is none.
-use Rattle.std.proofs.Common.{◌≡◌, ◌+◌, ◌-◌, ◌^◌, ◌<◌, ◌≤◌, ◌==◌, ℕ, zero, suc, nat_lt, nat_le, Bool, true, false, cond, codes, List, [], ◌∷◌, length, Option, Some, None, option_map, refl, sym, ap, arith}
+use Rattle.std.proofs.Common.{◌≡◌, ◌+◌, ◌-◌, ◌^◌, ◌<◌, ◌≤◌, ◌==◌, ℕ, zero, suc, nat_lt, nat_le, Bool, true, false, cond, codes, List, [], ◌∷◌, length, Option, Some, None, refl, sym, ap, arith}
 use Rattle.std.specs.List.{All, Contains}
 use Rattle.std.specs.Str.{bytes_eq}
 use Rattle.std.specs.Cmp.Lexicographic.{same_text}
@@ -9,17 +9,13 @@ use Rattle.std.proofs.lemmas.Map.Views.{Contains-from_any}
 use Rattle.std.proofs.lemmas.Nat.{pow_pos}
 use native.Mathlib.Nat.{two-pow-succ}
 use Rattle.std.proofs.Math.Pow.{pow_mono}
-use Rattle.serde_json.specs.Data.{Data}
-use Rattle.serde_json.specs.Find.{get}
 use Rattle.tq_live.specs.declared.view.ViewReply.TheVariants.{CostSet, Marked, Chosen, Refused}
 use Rattle.tq_live.specs.declared.view.ViewRefusal.TheVariants.{NoSuchServer, BadCost, Blocked}
 use Rattle.tq_coterie.specs.Coterie.{ServerList, coterie, union_of, members, with_server, is_quorum}
 use Rattle.tq_coterie.proofs.Members.{members-all}
-use Rattle.tq_json.specs.Member.{◌>>=◌, number_of, number_at, text_at}
-use Rattle.tq_json_read.specs.Objects.{all_of, within_cap}
-use Rattle.tq_json_read.specs.Slots as slots
+use Rattle.tq_json.specs.Member.{◌>>=◌}
+use Rattle.tq_json_read.specs.Objects.{within_cap}
 use Rattle.tq_json_read.specs.Views as views
-use Rattle.tq_json_read.specs.declared.view_reply.Servers.{Servers}
 
 length-placed : (server first : ℕ) (rest more : List ℕ) (b : Bool) → length more ≡ suc (length rest) → length (cond b (server ∷ first ∷ rest) (first ∷ more)) ≡ suc (suc (length rest))
 length-placed server first rest more true e = refl
@@ -60,30 +56,31 @@ no_quorum levels numbers long =
 
 module _ {B : Type 0} (levels : ℕ) (f : ServerList → Option B) where
   by_length : (numbers : List ℕ) (b : Bool) → nat_le (length numbers) (2 ^ levels) ≡ b
-      → (option_map {U = Servers} (λ xs. record { numbers = xs }) (cond b (Some numbers) None) >>= λ s. views.member_of levels s.numbers >>= f) ≡ (views.member_of levels numbers >>= f)
+      → (views.kept (cond b (Some numbers) None) >>= λ s. views.member_of levels s.numbers >>= f) ≡ (views.member_of levels numbers >>= f)
   by_length numbers true e = refl
   by_length numbers false e = ap (λ b. cond b (Some (record { servers = numbers; levels = levels })) None >>= f) (sym (no_quorum levels numbers e))
 
   -- a list that is too long is left out, and is none of the members
-  by_list : (o : Option (List ℕ)) → (option_map {U = Servers} (λ xs. record { numbers = xs }) (within_cap (Some (2 ^ levels)) o) >>= λ s. views.member_of levels s.numbers >>= f) ≡ ((o >>= views.member_of levels) >>= f)
+  by_list : (o : Option (List ℕ)) → (views.kept (within_cap (Some (2 ^ levels)) o) >>= λ s. views.member_of levels s.numbers >>= f) ≡ (views.kept o >>= λ s. views.member_of levels s.numbers >>= f)
   by_list None = refl
   by_list (Some numbers) = by_length numbers (nat_le (length numbers) (2 ^ levels)) refl
 
-module _ (levels : ℕ) (d : Data) where
-  chosen_by : (cost : Option ℕ) → slots.chosen_slots levels cost (slots.servers_in levels (get (codes "servers") d)) ≡ (cost >>= λ cost. views.member_at levels d >>= λ quorum. Some (Chosen quorum cost))
+module _ (levels : ℕ) (o : Option (List ℕ)) where
+  chosen_by : (cost : Option ℕ) → views.chosen_reply levels cost (views.kept (within_cap (Some (2 ^ levels)) o)) ≡ views.chosen_reply levels cost (views.kept o)
   chosen_by None = refl
-  chosen_by (Some cost) = by_list levels (λ quorum. Some (Chosen quorum cost)) (all_of number_of (get (codes "servers") d))
+  chosen_by (Some cost) = by_list levels (λ quorum. Some (Chosen quorum cost)) o
 
-  blocked_by : slots.blocked_slots levels (slots.servers_in levels (get (codes "servers") d)) ≡ views.blocked_reply levels d
-  blocked_by = by_list levels (λ blocker. Some (Refused (Blocked blocker))) (all_of number_of (get (codes "servers") d))
-
-  refused_by : (code : Option ℕ) → slots.view_refused levels code (slots.servers_in levels (get (codes "servers") d)) ≡ (code >>= λ code. views.view_refused_by levels code d)
+  refused_by : (code : Option ℕ) → views.view_refused levels code (views.kept (within_cap (Some (2 ^ levels)) o)) ≡ views.view_refused levels code (views.kept o)
   refused_by None = refl
-  refused_by (Some code) = ap (λ o. cond (code == 31) (Some (Refused NoSuchServer)) (cond (code == 32) (Some (Refused BadCost)) (cond (code == 33) o None))) blocked_by
+  refused_by (Some code) =
+      ap (λ o. cond (code == 31) (Some (Refused NoSuchServer)) (cond (code == 32) (Some (Refused BadCost)) (cond (code == 33) o None)))
+      (by_list levels (λ blocker. Some (Refused (Blocked blocker))) o)
 
-  pub view_reply_read : (text_at (codes "is") d >>= λ kind. slots.view_reply_by levels kind (number_at (codes "code") d) (number_at (codes "cost") d) (slots.servers_in levels (get (codes "servers") d))) ≡ views.view_reply levels d
-  view_reply_read = λ i. text_at (codes "is") d >>= λ kind.
+  -- the reply is the same without lists that are too long
+  pub reply_read : (kind : Option (List ℕ)) (code cost : Option ℕ) → views.view_reply_by levels kind code cost (views.kept (within_cap (Some (2 ^ levels)) o)) ≡ views.view_reply_by levels kind code cost (views.kept o)
+  reply_read None code cost = refl
+  reply_read (Some kind) code cost = λ i.
       cond (bytes_eq kind (codes "costset")) (Some CostSet)
       (cond (bytes_eq kind (codes "marked")) (Some Marked)
-      (cond (bytes_eq kind (codes "chosen")) (chosen_by (number_at (codes "cost") d) i)
-      (cond (bytes_eq kind (codes "refused")) (refused_by (number_at (codes "code") d) i) None)))
+      (cond (bytes_eq kind (codes "chosen")) (chosen_by cost i)
+      (cond (bytes_eq kind (codes "refused")) (refused_by code i) None)))

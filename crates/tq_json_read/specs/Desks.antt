@@ -1,8 +1,11 @@
 -- What the desk is asked, and what it replies.
-use Rattle.std.specs.Prelude.{ℕ, ◌==◌, List, Option, Some, None, cond, codes}
+use Rattle.std.specs.Prelude.{ℕ, ◌==◌, List, Option, Some, None, option_map, cond, codes}
 use Rattle.std.specs.Str.{bytes_eq}
 use Rattle.serde_json.specs.Data.{Data}
+use Rattle.tq_asks.specs.declared.ask.Verdict as asks
 use Rattle.tq_evidence.specs.Rules.{rule_at}
+use Rattle.tq_evidence.specs.declared.op.Op.{Op}
+use Rattle.tq_evidence.specs.declared.vote.Vote.{Vote}
 use Rattle.tq_desk.specs.declared.ask.DeskAsk.{DeskAsk}
 use Rattle.tq_desk.specs.declared.ask.DeskAsk.TheVariants.{Begin, Commit, Resolve}
 use Rattle.tq_desk.specs.declared.ask.DeskRefusal.{DeskRefusal}
@@ -16,88 +19,53 @@ use Rattle.tq_json.specs.Member.{◌>>=◌, text_at, number_at}
 
 -- ---- asks
 
-abbrev pub commit_ask : Format → Data → Option DeskAsk
-commit_ask format value = do
-  txn ← number_at (codes "txn") value
-  ops ← ops_at format value
-  votes ← votes_at format value
+abbrev pub commit_ask : Option ℕ → Option (List Op) → Option (List Vote) → Option DeskAsk
+commit_ask txn ops votes = do
+  txn ← txn
+  ops ← ops
+  votes ← votes
   Some (Commit txn ops votes)
 
-abbrev pub resolve : Data → Option DeskAsk
-resolve value = do
-  txn ← number_at (codes "txn") value
-  Some (Resolve txn)
-
-abbrev pub desk_ask_by : Format → List ℕ → Data → Option DeskAsk
-desk_ask_by format kind value =
-    cond (bytes_eq kind (codes "begin")) (Some Begin)
-    (cond (bytes_eq kind (codes "commit")) (commit_ask format value)
-    (cond (bytes_eq kind (codes "resolve")) (resolve value) None))
+abbrev pub desk_ask_by : Option (List ℕ) → Option (List Op) → Option ℕ → Option (List Vote) → Option DeskAsk
+desk_ask_by kind ops txn votes = do
+  kind ← kind
+  cond (bytes_eq kind (codes "begin")) (Some Begin)
+      (cond (bytes_eq kind (codes "commit")) (commit_ask txn ops votes)
+      (cond (bytes_eq kind (codes "resolve")) (option_map Resolve txn) None))
 
 -- the ask of the desk that a value of the form is
 abbrev pub desk_ask : Format → Data → Option DeskAsk
-desk_ask format value = do
-  kind ← text_at (codes "is") value
-  desk_ask_by format kind value
+desk_ask format value = desk_ask_by (text_at (codes "is") value) (ops_at format value) (number_at (codes "txn") value) (votes_at format value)
 
 -- ---- refusals
 
-abbrev pub decided_refusal : Data → Option DeskRefusal
-decided_refusal value = do
-  verdict ← verdict_at value
-  Some (Decided verdict)
-
 -- one of the six rules of evidence
-abbrev pub bad_evidence : Data → Option DeskRefusal
-bad_evidence value = do
-  number ← number_at (codes "rule") value
+abbrev pub bad_evidence : Option ℕ → Option DeskRefusal
+bad_evidence number = do
+  number ← number
   rule ← rule_at number
   Some (BadEvidence rule)
 
-abbrev pub desk_refusal_by : ℕ → Data → Option DeskRefusal
-desk_refusal_by code value =
-    cond (code == 21) (Some NoSuchTxn)
-    (cond (code == 22) (decided_refusal value)
-    (cond (code == 23) (bad_evidence value)
-    (cond (code == 24) (Some TooManyOps)
-    (cond (code == 25) (Some TooManyFiles) None))))
-
-abbrev pub desk_refusal : Data → Option DeskRefusal
-desk_refusal value = do
-  code ← number_at (codes "code") value
-  desk_refusal_by code value
+abbrev pub desk_refusal : Option ℕ → Option ℕ → Option asks.Verdict → Option DeskRefusal
+desk_refusal code rule verdict = do
+  code ← code
+  cond (code == 21) (Some NoSuchTxn)
+      (cond (code == 22) (option_map Decided verdict)
+      (cond (code == 23) (bad_evidence rule)
+      (cond (code == 24) (Some TooManyOps)
+      (cond (code == 25) (Some TooManyFiles) None))))
 
 -- ---- replies
 
-abbrev pub begun_reply : Data → Option DeskReply
-begun_reply value = do
-  txn ← number_at (codes "txn") value
-  Some (Txn txn)
-
-abbrev pub committed_reply : Data → Option DeskReply
-committed_reply value = do
-  serial ← number_at (codes "serial") value
-  Some (Committed serial)
-
-abbrev pub verdict_reply : Data → Option DeskReply
-verdict_reply value = do
-  verdict ← verdict_at value
-  Some (Verdict verdict)
-
-abbrev pub desk_refused : Data → Option DeskReply
-desk_refused value = do
-  refusal ← desk_refusal value
-  Some (Refused refusal)
-
-abbrev pub desk_reply_by : List ℕ → Data → Option DeskReply
-desk_reply_by kind value =
-    cond (bytes_eq kind (codes "txn")) (begun_reply value)
-    (cond (bytes_eq kind (codes "committed_reply")) (committed_reply value)
-    (cond (bytes_eq kind (codes "verdict")) (verdict_reply value)
-    (cond (bytes_eq kind (codes "refused")) (desk_refused value) None)))
+abbrev pub desk_reply_by : Option (List ℕ) → Option ℕ → Option ℕ → Option ℕ → Option ℕ → Option asks.Verdict → Option DeskReply
+desk_reply_by kind code rule serial txn verdict = do
+  kind ← kind
+  cond (bytes_eq kind (codes "txn")) (option_map Txn txn)
+      (cond (bytes_eq kind (codes "committed")) (option_map Committed serial)
+      (cond (bytes_eq kind (codes "verdict")) (option_map Verdict verdict)
+      (cond (bytes_eq kind (codes "refused")) (option_map Refused (desk_refusal code rule verdict)) None)))
 
 -- the reply of the desk that a value of the form is
 abbrev pub desk_reply : Data → Option DeskReply
-desk_reply value = do
-  kind ← text_at (codes "is") value
-  desk_reply_by kind value
+desk_reply value =
+    desk_reply_by (text_at (codes "is") value) (number_at (codes "code") value) (number_at (codes "rule") value) (number_at (codes "serial") value) (number_at (codes "txn") value) (verdict_at value)

@@ -13,14 +13,15 @@ use Rattle.tq_json_read.specs.Desks.{desk_ask, desk_reply}
 use Rattle.tq_json_read.specs.Views.{view_ask, view_reply}
 use Rattle.tq_json.specs.Member.{◌>>=◌, each}
 
+abbrev pub entry_from : {A R : Type 0} → Option A → Option R → Option (Entry A R)
+entry_from ask reply = do
+  ask ← ask
+  reply ← reply
+  Some (record { ask = ask; reply = reply })
+
 -- an ask of one form with a reply of another
 abbrev pub entry : {A R : Type 0} → (Data → Option A) → (Data → Option R) → Data → Option (Entry A R)
-entry ask_form reply_form value = do
-  asked ← get (codes "ask") value
-  ask ← ask_form asked
-  replied ← get (codes "reply") value
-  reply ← reply_form replied
-  Some (record { ask = ask; reply = reply })
+entry ask_form reply_form value = entry_from (get (codes "ask") value >>= ask_form) (get (codes "reply") value >>= reply_form)
 
 abbrev pub node_entry : Format → Data → Option NodeEntry
 node_entry format = entry (node_ask format) (node_reply format)

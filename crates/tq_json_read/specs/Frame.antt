@@ -12,20 +12,23 @@ use Rattle.tq_json.specs.Member.{◌>>=◌, number_at, items_at, each}
 use Rattle.tq_json_read.specs.Entries.{journal, count, node_entry, desk_entry, view_entry}
 
 -- a number from 1 up to the most
-abbrev pub up_to_at : ℕ → List ℕ → Data → Option ℕ
-up_to_at most name value = do
-  number ← number_at name value
+abbrev pub up_to : ℕ → Option ℕ → Option ℕ
+up_to most slot = do
+  number ← slot
   cond (nat_le 1 number && nat_le number most) (Some number) None
 
 abbrev pub levels_at : Format → Data → Option ℕ
-levels_at format value = up_to_at (most_levels format) (codes "levels") value
+levels_at format value = up_to (most_levels format) (number_at (codes "levels") value)
+
+abbrev pub limits_from : Option ℕ → Option ℕ → Option ℕ → Option LimitsView
+limits_from entries files ops = do
+  entries ← up_to 1000000 entries
+  files ← up_to 1000 files
+  ops ← up_to 64 ops
+  Some (record { files = files; ops = ops; entries = entries })
 
 abbrev pub limits : Data → Option LimitsView
-limits value = do
-  entries ← up_to_at 1000000 (codes "entries") value
-  files ← up_to_at 1000 (codes "files") value
-  ops ← up_to_at 64 (codes "ops") value
-  Some (record { files = files; ops = ops; entries = entries })
+limits value = limits_from (number_at (codes "entries") value) (number_at (codes "files") value) (number_at (codes "ops") value)
 
 abbrev pub limits_at : Data → Option LimitsView
 limits_at value = do

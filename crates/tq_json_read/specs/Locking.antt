@@ -1,5 +1,5 @@
 -- Modes, locks that a vote lists, writes, citations and verdicts.
-use Rattle.std.specs.Prelude.{ℕ, List, Option, Some, None, cond, codes}
+use Rattle.std.specs.Prelude.{ℕ, List, Option, Some, None, option_map, cond, codes}
 use Rattle.std.specs.Str.{bytes_eq}
 use Rattle.serde_json.specs.Data.{Data}
 use Rattle.serde_json.specs.Find.{get}
@@ -24,58 +24,61 @@ mode_at value = do
   text ← text_at (codes "mode") value
   mode_of text
 
+abbrev pub held_lock_from : Option (List ℕ) → Option Mode → Option ℕ → Option HeldLock
+held_lock_from file mode since = do
+  file ← file
+  mode ← mode
+  since ← since
+  Some (record { file = file; mode = mode; since = since })
+
 -- a lock that a vote lists: its file, its mode, and the number of the entry that it is held since
 abbrev pub held_lock : Data → Option HeldLock
-held_lock value = do
-  file ← file_at (codes "file") value
-  mode ← mode_at value
-  since ← number_at (codes "since") value
-  Some (record { file = file; mode = mode; since = since })
+held_lock value = held_lock_from (file_at (codes "file") value) (mode_at value) (number_at (codes "since") value)
 
 abbrev pub held_at : Data → Option (List HeldLock)
 held_at value = do
   values ← items_at (codes "held") value
   each held_lock values
 
-abbrev pub write : Format → Data → Option Write
-write format value = do
-  content ← content_at format (codes "content") value
-  file ← file_at (codes "file") value
-  version ← number_at (codes "version") value
+abbrev pub write_from : Option (List ℕ) → Option (List ℕ) → Option ℕ → Option Write
+write_from content file version = do
+  content ← content
+  file ← file
+  version ← version
   Some (record { file = file; version = version; content = content })
+
+abbrev pub write : Format → Data → Option Write
+write format value = write_from (content_at format (codes "content") value) (file_at (codes "file") value) (number_at (codes "version") value)
 
 abbrev pub writes_at : Format → Data → Option (List Write)
 writes_at format value = do
   values ← items_at (codes "writes") value
   each (write format) values
 
+abbrev pub citation_from : Option ℕ → Option ℕ → Option CitedVote
+citation_from number server = do
+  number ← number
+  server ← server
+  Some (record { server = server; number = number })
+
 -- a citation: an entry of a server by its number
 abbrev pub citation : Data → Option CitedVote
-citation value = do
-  number ← number_at (codes "number") value
-  server ← number_at (codes "server") value
-  Some (record { server = server; number = number })
+citation value = citation_from (number_at (codes "number") value) (number_at (codes "server") value)
 
 abbrev pub cited_at : Data → Option (List CitedVote)
 cited_at value = do
   values ← items_at (codes "votes") value
   each citation values
 
--- the verdict that commits, with the votes that it cites
-abbrev pub commit : Data → Option Verdict
-commit value = do
-  votes ← cited_at value
-  Some (Commit votes)
-
-abbrev pub verdict_by : List ℕ → Data → Option Verdict
-verdict_by kind value =
-    cond (bytes_eq kind (codes "abort")) (Some Abort)
-    (cond (bytes_eq kind (codes "commit")) (commit value) None)
+-- the verdict that commits has the votes that it cites
+abbrev pub verdict_by : Option (List ℕ) → Option (List CitedVote) → Option Verdict
+verdict_by kind votes = do
+  kind ← kind
+  cond (bytes_eq kind (codes "abort")) (Some Abort)
+      (cond (bytes_eq kind (codes "commit")) (option_map Commit votes) None)
 
 abbrev pub verdict : Data → Option Verdict
-verdict value = do
-  kind ← text_at (codes "is") value
-  verdict_by kind value
+verdict value = verdict_by (text_at (codes "is") value) (cited_at value)
 
 abbrev pub verdict_at : Data → Option Verdict
 verdict_at value = do

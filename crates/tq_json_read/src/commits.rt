@@ -1,6 +1,5 @@
 ghost use Rattle.std.specs.Prelude.{◌≡◌, refl};
 ghost use Rattle.tq_json_read.specs.Objects.{made_by};
-ghost use Rattle.tq_json_read.specs.Slots as slots;
 ghost use Rattle.tq_json_read.specs.Commits as spec;
 
 use crate::object::take_object;
@@ -40,7 +39,7 @@ fn grant_from(
     server: Option<u64>,
     version: Option<u64>,
 ) -> Option<Grant>
-    ensures { result ≡ slots.grant_from content mode number server version }
+    ensures { result ≡ spec.grant_from content mode number server version }
 {
     let mode = mode?;
     let number = number?;
@@ -78,7 +77,7 @@ fn op_from(
     kind: Option<OpKind>,
     version: Option<u64>,
 ) -> Option<Op>
-    ensures { result ≡ slots.op_from content file grants kind version }
+    ensures { result ≡ spec.op_from content file grants kind version }
 {
     let file = file?;
     let kind = kind?;
@@ -115,7 +114,7 @@ fn vote_from(
     server: Option<u64>,
     writes: Option<SharedSeq<Write>>,
 ) -> Option<Vote>
-    ensures { result ≡ slots.vote_from held number server writes }
+    ensures { result ≡ spec.vote_from held number server writes }
 {
     let number = number?;
     let server = server?;

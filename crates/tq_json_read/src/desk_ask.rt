@@ -1,6 +1,5 @@
 ghost use Rattle.std.specs.Prelude.{◌≡◌, refl};
 ghost use Rattle.tq_json_read.specs.Objects.{made_by};
-ghost use Rattle.tq_json_read.specs.Slots as slots;
 ghost use Rattle.tq_json_read.specs.Desks as spec;
 
 use crate::object::take_object;
@@ -28,21 +27,19 @@ impl<'a> FromReader<'a> for DeskAsk {
             reader,
             depth,
         )?;
-        let Some(kind) = kind else {
-            return Ok(None);
-        };
-        Ok(desk_ask_by(&kind, ops, txn, votes))
+        Ok(desk_ask_by(kind, ops, txn, votes))
     }
 }
 
 fn desk_ask_by(
-    kind: &Word<'_>,
+    kind: Option<Word<'_>>,
     ops: Option<SharedSeq<Op>>,
     txn: Option<u64>,
     votes: Option<SharedSeq<Vote>>,
 ) -> Option<DeskAsk>
-    ensures { result ≡ slots.desk_ask_by kind.now ops txn votes }
+    ensures { result ≡ spec.desk_ask_by kind.entry ops txn votes }
 {
+    let kind = kind?;
     if kind.is("begin") {
         return Some(DeskAsk::Begin);
     }
@@ -50,7 +47,8 @@ fn desk_ask_by(
         return commit_ask(txn, ops, votes);
     }
     if kind.is("resolve") {
-        return resolve(txn);
+        let txn = txn?;
+        return Some(DeskAsk::Resolve { txn });
     }
     None
 }
@@ -60,17 +58,10 @@ fn commit_ask(
     ops: Option<SharedSeq<Op>>,
     votes: Option<SharedSeq<Vote>>,
 ) -> Option<DeskAsk>
-    ensures { result ≡ slots.commit_ask txn ops votes }
+    ensures { result ≡ spec.commit_ask txn ops votes }
 {
     let txn = txn?;
     let ops = ops?;
     let votes = votes?;
     Some(DeskAsk::Commit { txn, ops, votes })
-}
-
-fn resolve(txn: Option<u64>) -> Option<DeskAsk>
-    ensures { result ≡ slots.resolve txn }
-{
-    let txn = txn?;
-    Some(DeskAsk::Resolve { txn })
 }

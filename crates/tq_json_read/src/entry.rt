@@ -1,8 +1,7 @@
 //! An entry of a journal: an ask and its reply.
 ghost use Rattle.std.specs.Prelude.{◌≡◌, Some, refl};
 ghost use Rattle.tq_json_read.specs.Objects.{made_by};
-ghost use Rattle.tq_json_read.specs.Slots as slots;
-ghost use Rattle.tq_json_read.specs.Entries.{entry};
+ghost use Rattle.tq_json_read.specs.Entries.{entry, entry_from};
 
 use crate::object::take_object;
 use crate::parts::{FromReader, Taken};
@@ -31,7 +30,7 @@ impl<'a, A: FromReader<'a>, R: FromReader<'a>> FromReader<'a> for Entry<A, R> {
 }
 
 fn entry_from<A: Drop, R: Drop>(ask: Option<A>, reply: Option<R>) -> Option<Entry<A, R>>
-    ensures { result ≡ slots.entry_from ask reply }
+    ensures { result ≡ entry_from ask reply }
 {
     let ask = ask?;
     let reply = reply?;

@@ -7,6 +7,7 @@ ghost use Rattle.tq_json.specs.Format.{most_levels};
 ghost use Rattle.tq_json_read.specs.Entries.{journal, node_entry};
 ghost use Rattle.tq_json_read.specs.Frame as frame;
 ghost use Rattle.tq_json_read.specs.Objects.{made_by, names_of};
+ghost use Rattle.tq_json_read.specs.Plans as plans;
 ghost use Rattle.tq_json_read.specs.Slots as slots;
 
 use crate::object::take_object;
@@ -31,7 +32,7 @@ impl<'a> FromReader<'a> for Limits {
 }
 
 fn limits_from(entries: Option<u64>, files: Option<u64>, ops: Option<u64>) -> Option<Limits>
-    ensures { result ≡ slots.limits_from entries files ops }
+    ensures { result ≡ frame.limits_from entries files ops }
 {
     let entries = up_to(MOST_ENTRIES, entries)?;
     let files = up_to(MOST_FILES, files)?;
@@ -41,7 +42,7 @@ fn limits_from(entries: Option<u64>, files: Option<u64>, ops: Option<u64>) -> Op
 
 /// The number, where it is from 1 up to the most.
 fn up_to(most: u32, number: Option<u64>) -> Option<u32>
-    ensures value { result ≡ slots.up_to most number }
+    ensures value { result ≡ frame.up_to most number }
     ensures within { IfSome result (λ number. (1 ≤ number) × (number ≤ most)) }
 {
     let number = number?;
@@ -72,8 +73,7 @@ struct ServerJournals {
 }
 
 impl<'a> FromReader<'a> for ServerJournals {
-    ghost at = { λ plan o. option_map
-        (λ lists. record { lists = lists }) (slots.server_lists plan o) };
+    ghost at = { λ plan place. slots.kept (slots.server_lists plan place) };
 
     ghost none = { λ plan. refl };
 
@@ -85,20 +85,17 @@ impl<'a> FromReader<'a> for ServerJournals {
     ) -> Taken<ServerJournals> {
         let servers = plan.levels.servers() as usize;
         let lists = take_list(alloc, plan, Some(servers), reader, depth)?;
-        let Some(lists) = one_each(servers, lists) else {
-            return Ok(None);
-        };
-        Ok(Some(ServerJournals { lists }))
+        Ok(one_each(servers, lists))
     }
 }
 
 /// The lists, where they are so many.
-fn one_each<T: Drop>(servers: usize, lists: Option<Seq<T>>) -> Option<Seq<T>>
-    ensures { result ≡ slots.of_count servers lists }
+fn one_each(servers: usize, lists: Option<Seq<Seq<NodeEntry>>>) -> Option<ServerJournals>
+    ensures { result ≡ slots.kept (slots.of_count servers lists) }
 {
     let lists = lists?;
     if lists.len() == servers {
-        return Some(lists);
+        return Some(ServerJournals { lists });
     }
     None
 }
@@ -150,7 +147,7 @@ pub(crate) fn take_file(
 }
 
 fn levels_of(format: Format, number: Option<u64>) -> Option<Levels>
-    ensures { result ≡ slots.up_to (most_levels format) number }
+    ensures { result ≡ frame.up_to (most_levels format) number }
 {
     let count = up_to(format.most_levels(), number)?;
     Levels::new(count)
@@ -162,7 +159,7 @@ pub(crate) fn plan_from(
     levels: Option<u64>,
     limits: Option<Limits>,
 ) -> Option<Plan>
-    ensures { result ≡ slots.plan_from format levels limits }
+    ensures { result ≡ plans.plan_from format levels limits }
 {
     let number = format?;
     let format = Format::of_number(number)?;
@@ -179,7 +176,7 @@ pub(crate) fn plan_from(
 impl FileFields {
     /// The plan that the file gives.
     pub(crate) fn plan(&self) -> Option<Plan>
-        ensures { result ≡ slots.plan_from self.now.format self.now.levels self.now.limits }
+        ensures { result ≡ plans.plan_from self.now.format self.now.levels self.now.limits }
     {
         plan_from(self.format, self.levels, self.limits)
     }

@@ -1,6 +1,5 @@
 ghost use Rattle.std.specs.Prelude.{◌≡◌, refl};
 ghost use Rattle.tq_json_read.specs.Objects.{made_by};
-ghost use Rattle.tq_json_read.specs.Slots as slots;
 ghost use Rattle.tq_json_read.specs.Locking as spec;
 
 use crate::object::take_object;
@@ -32,7 +31,7 @@ fn held_lock_from(
     mode: Option<Mode>,
     since: Option<u64>,
 ) -> Option<HeldLock>
-    ensures { result ≡ slots.held_lock_from file mode since }
+    ensures { result ≡ spec.held_lock_from file mode since }
 {
     let file = file?;
     let mode = mode?;
@@ -64,7 +63,7 @@ fn write_from(
     file: Option<FileName>,
     version: Option<u64>,
 ) -> Option<Write>
-    ensures { result ≡ slots.write_from content file version }
+    ensures { result ≡ spec.write_from content file version }
 {
     let content = content?;
     let file = file?;
@@ -90,7 +89,7 @@ impl<'a> FromReader<'a> for CitedVote {
 }
 
 fn citation_from(number: Option<u64>, server: Option<u64>) -> Option<CitedVote>
-    ensures { result ≡ slots.citation_from number server }
+    ensures { result ≡ spec.citation_from number server }
 {
     let number = number?;
     let server = server?;
@@ -106,28 +105,20 @@ impl<'a> FromReader<'a> for Verdict {
 
     fn read(alloc: Global, plan: &Plan, reader: &mut Reader<'a>, depth: usize) -> Taken<Verdict> {
         let (kind, (votes, ())) = take_object(alloc, plan, VERDICT_NAMES, reader, depth)?;
-        let Some(kind) = kind else {
-            return Ok(None);
-        };
-        Ok(verdict_by(&kind, votes))
+        Ok(verdict_by(kind, votes))
     }
 }
 
-fn verdict_by(kind: &Word<'_>, votes: Option<SharedSeq<CitedVote>>) -> Option<Verdict>
-    ensures { result ≡ slots.verdict_by kind.now votes }
+fn verdict_by(kind: Option<Word<'_>>, votes: Option<SharedSeq<CitedVote>>) -> Option<Verdict>
+    ensures { result ≡ spec.verdict_by kind.entry votes }
 {
+    let kind = kind?;
     if kind.is("abort") {
         return Some(Verdict::Abort);
     }
     if kind.is("commit") {
-        return commit_of(votes);
+        let votes = votes?;
+        return Some(Verdict::Commit { votes });
     }
     None
-}
-
-fn commit_of(votes: Option<SharedSeq<CitedVote>>) -> Option<Verdict>
-    ensures { result ≡ slots.commit_of votes }
-{
-    let votes = votes?;
-    Some(Verdict::Commit { votes })
 }

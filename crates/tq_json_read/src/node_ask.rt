@@ -1,6 +1,5 @@
 ghost use Rattle.std.specs.Prelude.{◌≡◌, refl, IfOk};
 ghost use Rattle.tq_json_read.specs.Objects.{made_by};
-ghost use Rattle.tq_json_read.specs.Slots as slots;
 ghost use Rattle.tq_json_read.specs.NodeAsks as spec;
 
 use crate::object::take_object;
@@ -57,10 +56,7 @@ impl<'a> FromReader<'a> for WorkAsk {
             version,
             writes,
         };
-        let Some(kind) = kind else {
-            return Ok(None);
-        };
-        Ok(work_by(&kind, members))
+        Ok(work_by(kind, members))
     }
 }
 
@@ -114,17 +110,15 @@ impl<'a> FromReader<'a> for NodeAsk {
             version,
             writes,
         };
-        let Some(kind) = kind else {
-            return Ok(None);
-        };
-        Ok(node_by(alloc, &kind, after, inside, members)?)
+        Ok(node_by(alloc, kind, after, inside, members)?)
     }
 }
 
 #[inline(always)]
-fn work_by(kind: &Word<'_>, members: WorkMembers) -> Option<WorkAsk>
-    ensures { result ≡ slots.work_by kind.now members }
+fn work_by(kind: Option<Word<'_>>, members: WorkMembers) -> Option<WorkAsk>
+    ensures { result ≡ spec.work_by kind.entry members }
 {
+    let kind = kind?;
     if kind.is("lock") {
         return lock(members);
     }
@@ -135,10 +129,12 @@ fn work_by(kind: &Word<'_>, members: WorkMembers) -> Option<WorkAsk>
         return decide(members);
     }
     if kind.is("release") {
-        return release(members);
+        let txn = members.txn?;
+        return Some(WorkAsk::Release { txn });
     }
     if kind.is("peek") {
-        return peek(members);
+        let file = members.file?;
+        return Some(WorkAsk::Peek { file });
     }
     if kind.is("refresh") {
         return refresh(members);
@@ -148,7 +144,7 @@ fn work_by(kind: &Word<'_>, members: WorkMembers) -> Option<WorkAsk>
 
 #[inline(always)]
 fn lock(members: WorkMembers) -> Option<WorkAsk>
-    ensures { result ≡ slots.lock members }
+    ensures { result ≡ spec.lock members }
 {
     let WorkMembers {
         file,
@@ -164,7 +160,7 @@ fn lock(members: WorkMembers) -> Option<WorkAsk>
 
 #[inline(always)]
 fn prepare(members: WorkMembers) -> Option<WorkAsk>
-    ensures { result ≡ slots.prepare members }
+    ensures { result ≡ spec.prepare members }
 {
     let WorkMembers { txn, writes, .. } = members;
     let txn = txn?;
@@ -174,7 +170,7 @@ fn prepare(members: WorkMembers) -> Option<WorkAsk>
 
 #[inline(always)]
 fn decide(members: WorkMembers) -> Option<WorkAsk>
-    ensures { result ≡ slots.decide members }
+    ensures { result ≡ spec.decide members }
 {
     let WorkMembers {
         cite,
@@ -189,24 +185,8 @@ fn decide(members: WorkMembers) -> Option<WorkAsk>
 }
 
 #[inline(always)]
-fn release(members: WorkMembers) -> Option<WorkAsk>
-    ensures { result ≡ slots.release members }
-{
-    let txn = members.txn?;
-    Some(WorkAsk::Release { txn })
-}
-
-#[inline(always)]
-fn peek(members: WorkMembers) -> Option<WorkAsk>
-    ensures { result ≡ slots.peek members }
-{
-    let file = members.file?;
-    Some(WorkAsk::Peek { file })
-}
-
-#[inline(always)]
 fn refresh(members: WorkMembers) -> Option<WorkAsk>
-    ensures { result ≡ slots.refresh members }
+    ensures { result ≡ spec.refresh members }
 {
     let WorkMembers {
         content,
@@ -230,13 +210,16 @@ fn refresh(members: WorkMembers) -> Option<WorkAsk>
 #[inline(always)]
 fn node_by(
     alloc: Global,
-    kind: &Word<'_>,
+    kind: Option<Word<'_>>,
     after: Option<u64>,
     inside: Option<Shared<WorkAsk>>,
     members: WorkMembers,
 ) -> Result<Option<NodeAsk>, Memory>
-    ensures { IfOk result (λ ask. ask ≡ slots.node_by kind.now after inside members) }
+    ensures { IfOk result (λ ask. ask ≡ spec.node_by kind.entry after inside members) }
 {
+    let Some(kind) = kind else {
+        return Ok(None);
+    };
     if kind.is("crash") {
         return Ok(Some(NodeAsk::Crash));
     }
@@ -246,12 +229,12 @@ fn node_by(
     if kind.is("crashin") {
         return Ok(stop(after, inside));
     }
-    work(alloc, kind, members)
+    work(alloc, Some(kind), members)
 }
 
 /// A stop: in which work, and behind how many of its records.
 fn stop(after: Option<u64>, inside: Option<Shared<WorkAsk>>) -> Option<NodeAsk>
-    ensures { result ≡ slots.stop after inside }
+    ensures { result ≡ spec.stop after inside }
 {
     let after = count_of(after)?;
     let ask = inside?;
@@ -260,7 +243,7 @@ fn stop(after: Option<u64>, inside: Option<Shared<WorkAsk>>) -> Option<NodeAsk>
 
 /// Behind how many records a server stops: a number of 32 bits.
 fn count_of(after: Option<u64>) -> Option<u32>
-    ensures { result ≡ slots.count_of after }
+    ensures { result ≡ spec.count_of after }
 {
     let after = after?;
     if after > u32::MAX as u64 {
@@ -270,8 +253,12 @@ fn count_of(after: Option<u64>) -> Option<u32>
 }
 
 #[inline(always)]
-fn work(alloc: Global, kind: &Word<'_>, members: WorkMembers) -> Result<Option<NodeAsk>, Memory>
-    ensures { IfOk result (λ ask. ask ≡ slots.work kind.now members) }
+fn work(
+    alloc: Global,
+    kind: Option<Word<'_>>,
+    members: WorkMembers,
+) -> Result<Option<NodeAsk>, Memory>
+    ensures { IfOk result (λ ask. ask ≡ spec.work kind.entry members) }
 {
     let Some(ask) = work_by(kind, members) else {
         return Ok(None);

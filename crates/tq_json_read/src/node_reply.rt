@@ -1,6 +1,5 @@
 ghost use Rattle.std.specs.Prelude.{◌≡◌, refl, IfOk};
 ghost use Rattle.tq_json_read.specs.Objects.{made_by};
-ghost use Rattle.tq_json_read.specs.Slots as slots;
 ghost use Rattle.tq_json_read.specs.NodeReplies as spec;
 
 use crate::object::take_object;
@@ -51,20 +50,20 @@ impl<'a> FromReader<'a> for NodeReply {
             version,
             writes,
         };
-        let Some(kind) = kind else {
-            return Ok(None);
-        };
-        Ok(reply_by(alloc, &kind, members)?)
+        Ok(reply_by(alloc, kind, members)?)
     }
 }
 
 fn reply_by(
     alloc: Global,
-    kind: &Word<'_>,
+    kind: Option<Word<'_>>,
     members: ReplyMembers,
 ) -> Result<Option<NodeReply>, Memory>
-    ensures { IfOk result (λ reply. reply ≡ slots.reply_by kind.now members) }
+    ensures { IfOk result (λ reply. reply ≡ spec.reply_by kind.entry members) }
 {
+    let Some(kind) = kind else {
+        return Ok(None);
+    };
     if kind.is("granted") {
         return Ok(granted_reply(members.version, members.content));
     }
@@ -77,7 +76,7 @@ fn reply_by(
     if kind.is("refused") {
         return refused_reply(alloc, members.code, members.by, members.file);
     }
-    Ok(bare_reply(kind))
+    Ok(bare_reply(&kind))
 }
 
 /// The replies without further members.
@@ -106,7 +105,7 @@ fn bare_reply(kind: &Word<'_>) -> Option<NodeReply>
 }
 
 fn granted_reply(version: Option<u64>, content: Option<Content>) -> Option<NodeReply>
-    ensures { result ≡ slots.granted_slots version content }
+    ensures { result ≡ spec.granted_reply version content }
 {
     let version = version?;
     let content = content?;
@@ -114,7 +113,7 @@ fn granted_reply(version: Option<u64>, content: Option<Content>) -> Option<NodeR
 }
 
 fn copy(version: Option<u64>, content: Option<Content>) -> Option<NodeReply>
-    ensures { result ≡ slots.copy version content }
+    ensures { result ≡ spec.copy version content }
 {
     let version = version?;
     let content = content?;
@@ -125,7 +124,7 @@ fn yes_vote(
     held: Option<SharedSeq<HeldLock>>,
     writes: Option<SharedSeq<Write>>,
 ) -> Option<NodeReply>
-    ensures { result ≡ slots.yes_vote held writes }
+    ensures { result ≡ spec.yes_vote held writes }
 {
     let held = held?;
     let writes = writes?;
@@ -138,7 +137,7 @@ fn refused_reply(
     by: Option<u64>,
     file: Option<FileName>,
 ) -> Result<Option<NodeReply>, Memory>
-    ensures { IfOk result (λ reply. reply ≡ slots.refused_slots code by file) }
+    ensures { IfOk result (λ reply. reply ≡ spec.refused code by file) }
 {
     let Some(refusal) = refusal(code, by, file) else {
         return Ok(None);
@@ -148,30 +147,18 @@ fn refused_reply(
 }
 
 fn refusal(code: Option<u64>, by: Option<u64>, file: Option<FileName>) -> Option<NodeRefusal>
-    ensures { result ≡ slots.refusal code by file }
+    ensures { result ≡ spec.refusal code by file }
 {
     let code = code?;
     if code == 14 {
-        return held_by(by);
+        let by = by?;
+        return Some(NodeRefusal::Held { by });
     }
     if code == 16 {
-        return not_locked(file);
+        let file = file?;
+        return Some(NodeRefusal::NotLocked { file });
     }
     code_refusal(code)
-}
-
-fn held_by(by: Option<u64>) -> Option<NodeRefusal>
-    ensures { result ≡ slots.held_by by }
-{
-    let by = by?;
-    Some(NodeRefusal::Held { by })
-}
-
-fn not_locked(file: Option<FileName>) -> Option<NodeRefusal>
-    ensures { result ≡ slots.not_locked file }
-{
-    let file = file?;
-    Some(NodeRefusal::NotLocked { file })
 }
 
 /// The refusals that tell no more than their code.

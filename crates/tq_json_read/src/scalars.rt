@@ -122,10 +122,7 @@ impl<'a> FromReader<'a> for Mode {
     ghost none = { λ plan. refl };
 
     fn read(_alloc: Global, _plan: &Plan, reader: &mut Reader<'a>, depth: usize) -> Taken<Mode> {
-        match take_text(reader, depth)? {
-            Some(text) => Ok(mode_of(text)),
-            None => Ok(None),
-        }
+        Ok(take_text(reader, depth)?.and_then(mode_of))
     }
 }
 
@@ -147,10 +144,7 @@ impl<'a> FromReader<'a> for OpKind {
     ghost none = { λ plan. refl };
 
     fn read(_alloc: Global, _plan: &Plan, reader: &mut Reader<'a>, depth: usize) -> Taken<OpKind> {
-        match take_text(reader, depth)? {
-            Some(text) => Ok(kind_of(text)),
-            None => Ok(None),
-        }
+        Ok(take_text(reader, depth)?.and_then(kind_of))
     }
 }
 

@@ -1,6 +1,5 @@
 ghost use Rattle.std.specs.Prelude.{◌≡◌, refl};
 ghost use Rattle.tq_json_read.specs.Objects.{made_by};
-ghost use Rattle.tq_json_read.specs.Slots as slots;
 ghost use Rattle.tq_json_read.specs.Views as spec;
 
 use crate::object::take_object;
@@ -45,16 +44,14 @@ impl<'a> FromReader<'a> for ViewAsk {
             up,
             write,
         };
-        let Some(kind) = kind else {
-            return Ok(None);
-        };
-        Ok(view_ask_by(plan.format, &kind, members))
+        Ok(view_ask_by(plan.format, kind, members))
     }
 }
 
-fn view_ask_by(format: Format, kind: &Word<'_>, members: ViewMembers) -> Option<ViewAsk>
-    ensures { result ≡ slots.view_ask_by format kind.now members }
+fn view_ask_by(format: Format, kind: Option<Word<'_>>, members: ViewMembers) -> Option<ViewAsk>
+    ensures { result ≡ spec.view_ask_by format kind.entry members }
 {
+    let kind = kind?;
     if kind.is("setcost") {
         return set_cost(format, members);
     }
@@ -68,7 +65,7 @@ fn view_ask_by(format: Format, kind: &Word<'_>, members: ViewMembers) -> Option<
 }
 
 fn set_cost(format: Format, members: ViewMembers) -> Option<ViewAsk>
-    ensures { result ≡ slots.set_cost format members }
+    ensures { result ≡ spec.set_cost format members }
 {
     match format {
         Format::One => set_one_cost(members.cost, members.server),
@@ -78,7 +75,7 @@ fn set_cost(format: Format, members: ViewMembers) -> Option<ViewAsk>
 
 /// One cost, for reading and for writing.
 fn set_one_cost(cost: Option<u64>, server: Option<u64>) -> Option<ViewAsk>
-    ensures { result ≡ slots.set_one_cost cost server }
+    ensures { result ≡ spec.set_one_cost cost server }
 {
     let cost = cost?;
     let server = server?;
@@ -90,7 +87,7 @@ fn set_one_cost(cost: Option<u64>, server: Option<u64>) -> Option<ViewAsk>
 }
 
 fn set_costs(read: Option<u64>, server: Option<u64>, write: Option<u64>) -> Option<ViewAsk>
-    ensures { result ≡ slots.set_costs read server write }
+    ensures { result ≡ spec.set_costs read server write }
 {
     let read = read?;
     let server = server?;
@@ -103,7 +100,7 @@ fn set_costs(read: Option<u64>, server: Option<u64>, write: Option<u64>) -> Opti
 }
 
 fn mark(server: Option<u64>, up: Option<bool>) -> Option<ViewAsk>
-    ensures { result ≡ slots.mark server up }
+    ensures { result ≡ spec.mark server up }
 {
     let server = server?;
     let up = up?;
@@ -111,19 +108,15 @@ fn mark(server: Option<u64>, up: Option<bool>) -> Option<ViewAsk>
 }
 
 fn choose(format: Format, purpose: Option<Purpose>) -> Option<ViewAsk>
-    ensures { result ≡ slots.choose format purpose }
+    ensures { result ≡ spec.choose format purpose }
 {
     match format {
         Format::One => Some(ViewAsk::Choose {
             purpose: Purpose::Read,
         }),
-        Format::Two => choose_for(purpose),
+        Format::Two => {
+            let purpose = purpose?;
+            Some(ViewAsk::Choose { purpose })
+        }
     }
-}
-
-fn choose_for(purpose: Option<Purpose>) -> Option<ViewAsk>
-    ensures { result ≡ slots.choose_for purpose }
-{
-    let purpose = purpose?;
-    Some(ViewAsk::Choose { purpose })
 }

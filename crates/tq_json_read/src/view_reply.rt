@@ -8,7 +8,7 @@ use crate::parts::{FromReader, Taken, take_list};
 use crate::plan::Plan;
 use crate::scalars::Word;
 use std::alloc::Global;
-use tq_coterie::{Blocker, Quorum};
+use tq_coterie::Member;
 use tq_json::{NotRead, Reader};
 use tq_live::{ViewRefusal, ViewReply};
 use tq_shape::{Levels, Memory, Seq};
@@ -48,24 +48,24 @@ impl<'a> FromReader<'a> for ViewReply {
             reader,
             depth,
         )?;
-        let Some(kind) = kind else {
-            return Ok(None);
-        };
-        Ok(view_reply_by(alloc, plan.levels, &kind, code, cost, servers)?)
+        Ok(view_reply_by(alloc, plan.levels, kind, code, cost, servers)?)
     }
 }
 
 fn view_reply_by(
     alloc: Global,
     levels: Levels,
-    kind: &Word<'_>,
+    kind: Option<Word<'_>>,
     code: Option<u64>,
     cost: Option<u64>,
     servers: Option<Servers>,
 ) -> Result<Option<ViewReply>, Memory>
     ensures { IfOk result
-        (λ reply. reply ≡ slots.view_reply_by levels kind.now code cost servers) }
+        (λ reply. reply ≡ spec.view_reply_by levels kind.entry code cost servers) }
 {
+    let Some(kind) = kind else {
+        return Ok(None);
+    };
     if kind.is("costset") {
         return Ok(Some(ViewReply::CostSet));
     }
@@ -87,7 +87,7 @@ fn chosen_reply(
     cost: Option<u64>,
     servers: Option<Servers>,
 ) -> Result<Option<ViewReply>, Memory>
-    ensures { IfOk result (λ reply. reply ≡ slots.chosen_slots levels cost servers) }
+    ensures { IfOk result (λ reply. reply ≡ spec.chosen_reply levels cost servers) }
 {
     let Some(cost) = cost else {
         return Ok(None);
@@ -95,7 +95,7 @@ fn chosen_reply(
     let Some(servers) = servers else {
         return Ok(None);
     };
-    let Some(quorum) = quorum_of(alloc, levels, servers.numbers.as_slice())? else {
+    let Some(quorum) = member_of(alloc, levels, servers.numbers.as_slice())? else {
         return Ok(None);
     };
     Ok(Some(ViewReply::Chosen { quorum, cost }))
@@ -107,7 +107,7 @@ fn refused_reply(
     code: Option<u64>,
     servers: Option<Servers>,
 ) -> Result<Option<ViewReply>, Memory>
-    ensures { IfOk result (λ reply. reply ≡ slots.view_refused levels code servers) }
+    ensures { IfOk result (λ reply. reply ≡ spec.view_refused levels code servers) }
 {
     let Some(code) = code else {
         return Ok(None);
@@ -129,25 +129,23 @@ fn blocked_reply(
     levels: Levels,
     servers: Option<Servers>,
 ) -> Result<Option<ViewReply>, Memory>
-    ensures { IfOk result (λ reply. reply ≡ slots.blocked_slots levels servers) }
+    ensures { IfOk result (λ reply. reply ≡ spec.blocked_reply levels servers) }
 {
     let Some(servers) = servers else {
         return Ok(None);
     };
-    let Some(blocker) = blocker_of(alloc, levels, servers.numbers.as_slice())? else {
+    let Some(blocker) = member_of(alloc, levels, servers.numbers.as_slice())? else {
         return Ok(None);
     };
     Ok(Some(ViewReply::Refused(ViewRefusal::Blocked(blocker))))
 }
 
-fn quorum_of(alloc: Global, levels: Levels, numbers: &[u64]) -> Result<Option<Quorum>, Memory>
-    ensures { IfOk result (λ quorum. quorum ≡ spec.member_of levels numbers.now) }
+fn member_of<Role>(
+    alloc: Global,
+    levels: Levels,
+    numbers: &[u64],
+) -> Result<Option<Member<Role>>, Memory>
+    ensures { IfOk result (λ member. member ≡ spec.member_of levels numbers.now) }
 {
-    Ok(Quorum::of(alloc, levels, numbers)?)
-}
-
-fn blocker_of(alloc: Global, levels: Levels, numbers: &[u64]) -> Result<Option<Blocker>, Memory>
-    ensures { IfOk result (λ blocker. blocker ≡ spec.member_of levels numbers.now) }
-{
-    Ok(Blocker::of(alloc, levels, numbers)?)
+    Ok(Member::of(alloc, levels, numbers)?)
 }

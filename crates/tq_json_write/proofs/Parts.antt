@@ -89,43 +89,29 @@ work-again : (w : WorkAsk) → IsWork w → asks.work_at Two (nodes.work_value w
 work-again (work.Lock txn file m) h = rw (name-again file h, mode-again m)
 work-again (work.Prepare txn writes) h = rw (writes-again writes h)
 work-again (work.Decide txn v cite) h = rw (verdict-again v)
-work-again (work.Release txn) h = refl
 work-again (work.Peek file) h = rw (name-again file h)
 work-again (work.Refresh file version content from) h = rw (name-again file h.0, content-again content h.1)
+work-again _ h = refl
 
 node-ask-again : (a : NodeAsk) → IsNodeAsk a → asks.node_ask Two (nodes.node_ask_value a) ≡ Some a
 node-ask-again (ask.Work (work.Lock txn file m)) h = rw (name-again file h, mode-again m)
 node-ask-again (ask.Work (work.Prepare txn writes)) h = rw (writes-again writes h)
 node-ask-again (ask.Work (work.Decide txn v cite)) h = rw (verdict-again v)
-node-ask-again (ask.Work (work.Release txn)) h = refl
 node-ask-again (ask.Work (work.Peek file)) h = rw (name-again file h)
 node-ask-again (ask.Work (work.Refresh file version content from)) h = rw (name-again file h.0, content-again content h.1)
-node-ask-again ask.Crash h = refl
-node-ask-again ask.Return h = refl
 node-ask-again (ask.CrashIn after a) h = rw (le-leb after 4294967295 h.1, work-again a h.0)
+node-ask-again _ h = refl
 
 node-refusal-again : (r : NodeRefusal) → IsNodeRefusal r → replies.node_reply Two (nodes.node_refusal_value r) ≡ Some (reply.Refused r)
-node-refusal-again refusal.Down h = refl
-node-refusal-again refusal.AlreadyUp h = refl
-node-refusal-again refusal.AlreadyDown h = refl
-node-refusal-again (refusal.Held by) h = refl
-node-refusal-again refusal.Prepared h = refl
 node-refusal-again (refusal.NotLocked file) h = rw (name-again file h)
-node-refusal-again refusal.BadWrites h = refl
-node-refusal-again refusal.NotNewer h = refl
-node-refusal-again refusal.NothingHere h = refl
+node-refusal-again _ h = refl
 
 node-reply-again : (r : NodeReply) → IsNodeReply r → replies.node_reply Two (nodes.node_reply_value r) ≡ Some r
 node-reply-again (reply.Granted version content) h = rw (content-again content h)
 node-reply-again (reply.Yes held writes) h = rw (locks-again held h.0, writes-again writes h.1)
-node-reply-again reply.Installed h = refl
-node-reply-again reply.Discarded h = refl
-node-reply-again reply.Released h = refl
 node-reply-again (reply.Copy version content) h = rw (content-again content h)
-node-reply-again reply.Refreshed h = refl
-node-reply-again reply.Crashed h = refl
-node-reply-again reply.Returned h = refl
 node-reply-again (reply.Refused r) h = node-refusal-again r h
+node-reply-again _ h = refl
 
 pub node-entry-again : (entry : NodeEntry) → IsNodeEntry entry → node_entry Two (nodes.node_entry_value entry) ≡ Some entry
 node-entry-again entry h =
@@ -156,30 +142,22 @@ cast-votes-again : (votes : List Vote) → AllByRecursion IsVote votes → each 
 cast-votes-again votes h = each-again (commits.vote Two) desks.vote_value IsVote vote-again votes h
 
 desk-ask-again : (a : DeskAsk) → IsDeskAsk a → desk_form.desk_ask Two (desks.desk_ask_value a) ≡ Some a
-desk-ask-again desk.Begin h = refl
 desk-ask-again (desk.Commit txn ops votes) h = rw (ops-again ops h.0, cast-votes-again votes h.1)
-desk-ask-again (desk.Resolve txn) h = refl
+desk-ask-again _ h = refl
 
 rule-again : (rule : Rule) → rule_at (rule_number rule) ≡ Some rule
 rule-again rules.Quorum = refl
-rule-again rules.Exclusive = refl
-rule-again rules.Covered = refl
-rule-again rules.Writes = refl
-rule-again rules.Versions = refl
-rule-again rules.SomeOp = refl
+rule-again _ = refl
 
 desk-refusal-again : (r : DeskRefusal) → desk_form.desk_reply (desks.desk_refusal_value r) ≡ Some (desk_reply.Refused r)
-desk-refusal-again desk_refusal.NoSuchTxn = refl
 desk-refusal-again (desk_refusal.Decided v) = rw (verdict-again v)
-desk-refusal-again desk_refusal.TooManyOps = refl
 desk-refusal-again (desk_refusal.BadEvidence rule) = rw (rule-again rule)
-desk-refusal-again desk_refusal.TooManyFiles = refl
+desk-refusal-again _ = refl
 
 desk-reply-again : (r : DeskReply) → desk_form.desk_reply (desks.desk_reply_value r) ≡ Some r
-desk-reply-again (desk_reply.Txn txn) = refl
 desk-reply-again (desk_reply.Verdict v) = rw (verdict-again v)
-desk-reply-again (desk_reply.Committed serial) = refl
 desk-reply-again (desk_reply.Refused r) = desk-refusal-again r
+desk-reply-again _ = refl
 
 pub desk-entry-again : (entry : DeskEntry) → IsDeskEntry entry → desk_entry Two (desks.desk_entry_value entry) ≡ Some entry
 desk-entry-again entry h =
@@ -194,12 +172,9 @@ view-ask-again (view.Choose purpose.Read) = refl
 view-ask-again (view.Choose purpose.Write) = refl
 
 view-reply-again : (levels : ℕ) (r : ViewReply) → IsViewReply r × IsOfTree levels r → view_form.view_reply levels (views.view_reply_value r) ≡ Some r
-view-reply-again levels view_reply.CostSet h = refl
-view-reply-again levels view_reply.Marked h = refl
 view-reply-again levels (view_reply.Chosen quorum cost) h = rw (numbers-again quorum.servers, sym h.1, h.0)
-view-reply-again levels (view_reply.Refused view_refusal.NoSuchServer) h = refl
-view-reply-again levels (view_reply.Refused view_refusal.BadCost) h = refl
 view-reply-again levels (view_reply.Refused (view_refusal.Blocked blocker)) h = rw (numbers-again blocker.servers, sym h.1, h.0)
+view-reply-again levels _ h = refl
 
 pub view-entry-again : (levels : ℕ) (entry : ViewEntry) → IsViewEntry entry × IsOfTree levels entry.reply → view_entry Two levels (views.view_entry_value entry) ≡ Some entry
 view-entry-again levels entry h =

@@ -81,20 +81,13 @@ work-shaped levels deep (work.Refresh file version content from) =
 
 node-ask-shaped : (a : NodeAsk) → IsShaped (nodes.node_ask_value a) 123
 node-ask-shaped (ask.Work a) = work-shaped 123 (omega arith) a
-node-ask-shaped ask.Crash = kind-shaped 123 (omega arith) _
-node-ask-shaped ask.Return = kind-shaped 123 (omega arith) _
 node-ask-shaped (ask.CrashIn after a) = (omega arith, (tt, (work-shaped 122 (omega arith) a, (tt, tt))), refl)
+node-ask-shaped _ = kind-shaped 123 (omega arith) _
 
 node-refusal-shaped : (r : NodeRefusal) → IsShaped (nodes.node_refusal_value r) 123
-node-refusal-shaped refusal.Down = code-shaped 123 (omega arith) 11
-node-refusal-shaped refusal.AlreadyUp = code-shaped 123 (omega arith) 12
-node-refusal-shaped refusal.AlreadyDown = code-shaped 123 (omega arith) 13
 node-refusal-shaped (refusal.Held by) = (omega arith, (tt, (tt, (tt, tt))), refl)
-node-refusal-shaped refusal.Prepared = code-shaped 123 (omega arith) 15
 node-refusal-shaped (refusal.NotLocked file) = (omega arith, (tt, (tt, (tt, tt))), refl)
-node-refusal-shaped refusal.BadWrites = code-shaped 123 (omega arith) 17
-node-refusal-shaped refusal.NotNewer = code-shaped 123 (omega arith) 18
-node-refusal-shaped refusal.NothingHere = code-shaped 123 (omega arith) 19
+node-refusal-shaped _ = code-shaped 123 (omega arith) _
 
 copy-shaped : (kind : List ℕ) (version : ℕ) (content : List ℕ) → IsShaped (nodes.copy_value kind version content) 123
 copy-shaped kind version content = (omega arith, (tt, (tt, (tt, tt))), refl)
@@ -103,14 +96,9 @@ node-reply-shaped : (r : NodeReply) → IsShaped (nodes.node_reply_value r) 123
 node-reply-shaped (reply.Granted version content) = copy-shaped _ version content
 node-reply-shaped (reply.Yes held writes) =
     (omega arith, (list-shaped nodes.held_value 122 (omega arith) (held-shaped 121 (omega arith)) held, (tt, (list-shaped nodes.write_value 122 (omega arith) (write-shaped 121 (omega arith)) writes, tt))), refl)
-node-reply-shaped reply.Installed = kind-shaped 123 (omega arith) _
-node-reply-shaped reply.Discarded = kind-shaped 123 (omega arith) _
-node-reply-shaped reply.Released = kind-shaped 123 (omega arith) _
 node-reply-shaped (reply.Copy version content) = copy-shaped _ version content
-node-reply-shaped reply.Refreshed = kind-shaped 123 (omega arith) _
-node-reply-shaped reply.Crashed = kind-shaped 123 (omega arith) _
-node-reply-shaped reply.Returned = kind-shaped 123 (omega arith) _
 node-reply-shaped (reply.Refused r) = node-refusal-shaped r
+node-reply-shaped _ = kind-shaped 123 (omega arith) _
 
 entry-shaped : {A R : Type 0} (levels : ℕ) (ask_value : A → Data) (reply_value : R → Data) → 0 < levels → ((a : A) → IsShaped (ask_value a) (levels - 1)) → ((r : R) → IsShaped (reply_value r) (levels - 1))
     → (entry : Entry A R) → IsShaped (entry_value ask_value reply_value entry) levels
@@ -138,17 +126,14 @@ desk-ask-shaped (desk.Commit txn ops votes) =
 desk-ask-shaped (desk.Resolve txn) = (omega arith, (tt, (tt, tt)), refl)
 
 desk-refusal-shaped : (r : DeskRefusal) → IsShaped (desks.desk_refusal_value r) 124
-desk-refusal-shaped desk_refusal.NoSuchTxn = code-shaped 124 (omega arith) 21
 desk-refusal-shaped (desk_refusal.Decided v) = (omega arith, (tt, (tt, (verdict-shaped 123 (omega arith) v, tt))), refl)
-desk-refusal-shaped desk_refusal.TooManyOps = code-shaped 124 (omega arith) 24
 desk-refusal-shaped (desk_refusal.BadEvidence rule) = (omega arith, (tt, (tt, (tt, tt))), refl)
-desk-refusal-shaped desk_refusal.TooManyFiles = code-shaped 124 (omega arith) 25
+desk-refusal-shaped _ = code-shaped 124 (omega arith) _
 
 desk-reply-shaped : (r : DeskReply) → IsShaped (desks.desk_reply_value r) 124
-desk-reply-shaped (desk_reply.Txn txn) = (omega arith, (tt, (tt, tt)), refl)
 desk-reply-shaped (desk_reply.Verdict v) = (omega arith, (tt, (verdict-shaped 123 (omega arith) v, tt)), refl)
-desk-reply-shaped (desk_reply.Committed serial) = (omega arith, (tt, (tt, tt)), refl)
 desk-reply-shaped (desk_reply.Refused r) = desk-refusal-shaped r
+desk-reply-shaped _ = (omega arith, (tt, (tt, tt)), refl)
 
 desk-entry-shaped : (entry : DeskEntry) → IsShaped (desks.desk_entry_value entry) 125
 desk-entry-shaped = entry-shaped 125 desks.desk_ask_value desks.desk_reply_value (omega arith) desk-ask-shaped desk-reply-shaped
@@ -164,15 +149,13 @@ view-ask-shaped (view.Mark server up) = (omega arith, (tt, (tt, (tt, tt))), refl
 view-ask-shaped (view.Choose purpose) = (omega arith, (tt, (tt, tt)), refl)
 
 view-refusal-shaped : (r : ViewRefusal) → IsShaped (views.view_refusal_value r) 124
-view-refusal-shaped view_refusal.NoSuchServer = code-shaped 124 (omega arith) 31
-view-refusal-shaped view_refusal.BadCost = code-shaped 124 (omega arith) 32
 view-refusal-shaped (view_refusal.Blocked blocker) = (omega arith, (tt, (tt, (servers-shaped blocker, tt))), refl)
+view-refusal-shaped _ = code-shaped 124 (omega arith) _
 
 view-reply-shaped : (r : ViewReply) → IsShaped (views.view_reply_value r) 124
-view-reply-shaped view_reply.CostSet = kind-shaped 124 (omega arith) _
-view-reply-shaped view_reply.Marked = kind-shaped 124 (omega arith) _
 view-reply-shaped (view_reply.Chosen quorum cost) = (omega arith, (tt, (tt, (servers-shaped quorum, tt))), refl)
 view-reply-shaped (view_reply.Refused r) = view-refusal-shaped r
+view-reply-shaped _ = kind-shaped 124 (omega arith) _
 
 view-entry-shaped : (entry : ViewEntry) → IsShaped (views.view_entry_value entry) 125
 view-entry-shaped = entry-shaped 125 views.view_ask_value views.view_reply_value (omega arith) view-ask-shaped view-reply-shaped

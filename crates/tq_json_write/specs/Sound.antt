@@ -58,16 +58,14 @@ IsHeldLock lock = IsFile lock.file
 abbrev pub IsWork : WorkAsk → Type 0
 IsWork (work.Lock txn file mode) = IsFile file
 IsWork (work.Prepare txn writes) = AllByRecursion IsWrite writes
-IsWork (work.Decide txn verdict cite) = ⊤
-IsWork (work.Release txn) = ⊤
 IsWork (work.Peek file) = IsFile file
 IsWork (work.Refresh file version content from) = IsFile file × IsContent content
+IsWork other = ⊤
 
 abbrev pub IsNodeAsk : NodeAsk → Type 0
 IsNodeAsk (ask.Work a) = IsWork a
-IsNodeAsk ask.Crash = ⊤
-IsNodeAsk ask.Return = ⊤
 IsNodeAsk (ask.CrashIn after a) = IsWork a × (after ≤ 4294967295)
+IsNodeAsk other = ⊤
 
 abbrev pub IsNodeRefusal : NodeRefusal → Type 0
 IsNodeRefusal (refusal.NotLocked file) = IsFile file
@@ -95,9 +93,8 @@ abbrev pub IsVote : Vote → Type 0
 IsVote vote = AllByRecursion IsHeldLock vote.held × AllByRecursion IsWrite vote.writes
 
 abbrev pub IsDeskAsk : DeskAsk → Type 0
-IsDeskAsk desk.Begin = ⊤
 IsDeskAsk (desk.Commit txn ops votes) = AllByRecursion IsOp ops × AllByRecursion IsVote votes
-IsDeskAsk (desk.Resolve txn) = ⊤
+IsDeskAsk other = ⊤
 
 abbrev pub IsDeskEntry : DeskEntry → Type 0
 IsDeskEntry = IsEntry IsDeskAsk IsAny
@@ -105,15 +102,13 @@ IsDeskEntry = IsEntry IsDeskAsk IsAny
 -- ---- the view
 
 abbrev pub IsViewRefusal : ViewRefusal → Type 0
-IsViewRefusal view_refusal.NoSuchServer = ⊤
-IsViewRefusal view_refusal.BadCost = ⊤
 IsViewRefusal (view_refusal.Blocked blocker) = IsMember blocker
+IsViewRefusal other = ⊤
 
 abbrev pub IsViewReply : ViewReply → Type 0
-IsViewReply view_reply.CostSet = ⊤
-IsViewReply view_reply.Marked = ⊤
 IsViewReply (view_reply.Chosen quorum cost) = IsMember quorum
 IsViewReply (view_reply.Refused r) = IsViewRefusal r
+IsViewReply other = ⊤
 
 abbrev pub IsViewEntry : ViewEntry → Type 0
 IsViewEntry = IsEntry IsAny IsViewReply

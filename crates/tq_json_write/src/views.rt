@@ -9,7 +9,7 @@ ghost use Rattle.tq_json_write.specs.Written.{Adds};
 use crate::codes;
 use crate::out::Out;
 use crate::to_json::{ToJson, put_after, put_code, put_list};
-use tq_coterie::{Blocker, Quorum};
+use tq_coterie::Member;
 use tq_live::{ViewAsk, ViewRefusal, ViewReply};
 use tq_shape::ServerId;
 
@@ -23,21 +23,7 @@ fn put_servers<O: Out>(out: &mut O, servers: &[ServerId]) -> Result<(), O::Fault
     Ok(())
 }
 
-impl ToJson for Quorum {
-    ghost use Rattle.tq_json_write.specs.Views.{servers_value};
-    ghost use Rattle.tq_json_write.specs.Sound.{IsMember};
-
-    ghost value = { servers_value };
-
-    ghost sound = { IsMember };
-
-    fn put<O: Out>(&self, out: &mut O) -> Result<(), O::Fault> {
-        put_servers(out, self.servers())?;
-        Ok(())
-    }
-}
-
-impl ToJson for Blocker {
+impl<Role> ToJson for Member<Role> {
     ghost use Rattle.tq_json_write.specs.Views.{servers_value};
     ghost use Rattle.tq_json_write.specs.Sound.{IsMember};
 

@@ -28,13 +28,11 @@ IsDeskless (AsksNode server ask next) = (answer : Told NodeReply) → IsDeskless
 IsDeskless (AsksDesk ask next) = ⊥
 IsDeskless (AsksView ask next) = (answer : Told ViewReply) → IsDeskless (next answer)
 
-makes_cites : {A : Type 0} (line : Dialogue A) (before more : List Exchange) (end : A) → IsDeskless line → Makes line more end → CitesTold before more
-makes_cites (Ends a) before more end none made = subst (CitesTold before) (sym made.0) tt
-makes_cites (AsksNode server ask next) before more end none made =
-    subst (CitesTold before) (sym made.2) (tt, makes_cites (next made.0) (before ++ exchanges.Node server ask made.0 ∷ []) made.1 end (none made.0) made.3)
-makes_cites (AsksDesk ask next) before more end none made = absurd none
-makes_cites (AsksView ask next) before more end none made =
-    subst (CitesTold before) (sym made.2) (tt, makes_cites (next made.0) (before ++ exchanges.View ask made.0 ∷ []) made.1 end (none made.0) made.3)
+makes_begins : {A : Type 0} (line : Dialogue A) (told : List Exchange) (end : A) → Makes line told end → Begins line told
+makes_begins (Ends a) told end made = made.0
+makes_begins (AsksNode server ask next) told end made = inr (made.0, made.1, made.2, makes_begins (next made.0) made.1 end made.3)
+makes_begins (AsksDesk ask next) told end made = inr (made.0, made.1, made.2, makes_begins (next made.0) made.1 end made.3)
+makes_begins (AsksView ask next) told end made = inr (made.0, made.1, made.2, makes_begins (next made.0) made.1 end made.3)
 
 begins_cites : {A : Type 0} (line : Dialogue A) (before more : List Exchange) → IsDeskless line → Begins line more → CitesTold before more
 begins_cites (Ends a) before more none begun = subst (CitesTold before) (sym begun) tt
@@ -52,16 +50,10 @@ begins_cites (AsksView ask next) before more none begun =
 
 pub deskless_cites : {A : Type 0} (line : Dialogue A) (old new : List Exchange) (end : Option A) → IsDeskless line → Follows line old new end → CitesSince old new
 deskless_cites line old new None none follows = (follows.0, follows.1, begins_cites line old follows.0 none follows.2)
-deskless_cites line old new (Some end) none follows = (follows.0, follows.1, makes_cites line old follows.0 end none follows.2)
+deskless_cites line old new (Some end) none follows = (follows.0, follows.1, begins_cites line old follows.0 none (makes_begins line follows.0 end follows.2))
 
 -- so it tells of no end
 module _ (number : ℕ) where
-  makes_untold : {A : Type 0} (line : Dialogue A) (more : List Exchange) (end : A) → IsDeskless line → Makes line more end → list_any (tells_end number) more ≡ false
-  makes_untold (Ends a) more end none made = ap (list_any (tells_end number)) made.0
-  makes_untold (AsksNode server ask next) more end none made = ap (list_any (tells_end number)) made.2 ∙ makes_untold (next made.0) made.1 end (none made.0) made.3
-  makes_untold (AsksDesk ask next) more end none made = absurd none
-  makes_untold (AsksView ask next) more end none made = ap (list_any (tells_end number)) made.2 ∙ makes_untold (next made.0) made.1 end (none made.0) made.3
-
   begins_untold : {A : Type 0} (line : Dialogue A) (more : List Exchange) → IsDeskless line → Begins line more → list_any (tells_end number) more ≡ false
   begins_untold (Ends a) more none begun = ap (list_any (tells_end number)) begun
   begins_untold (AsksNode server ask next) more none begun =
@@ -78,7 +70,7 @@ module _ (number : ℕ) where
 
   pub deskless_untold : {A : Type 0} (line : Dialogue A) (old new : List Exchange) (end : Option A) → IsDeskless line → Follows line old new end → Untold number old new
   deskless_untold line old new None none follows = (follows.0, follows.1, begins_untold line follows.0 none follows.2)
-  deskless_untold line old new (Some end) none follows = (follows.0, follows.1, makes_untold line follows.0 end none follows.2)
+  deskless_untold line old new (Some end) none follows = (follows.0, follows.1, begins_untold line follows.0 none (makes_begins line follows.0 end follows.2))
 
 -- ---- parts after one another
 

@@ -1,6 +1,7 @@
 -- What the desk's answer makes of a transaction, and where it was told how the transaction ended.
 use Rattle.std.proofs.Common.{◌≡◌, ◌||◌, ℕ, Bool, true, false, cond, is_some, List, [], ◌++◌, Option, Some, None, Result, Ok, Err, refl, sym, ap, ◌∙◌, subst, append-nil}
 use Rattle.std.specs.List.{list_any}
+use Rattle.std.proofs.Math.Bool.{or-false}
 use Rattle.std.proofs.lemmas.Bool.{eq-eqb}
 use Rattle.std.proofs.lemmas.List.Folds.{list_any-append}
 use Rattle.tq_part.specs.declared.fault.AskFault.{AskFault}
@@ -22,7 +23,7 @@ use Rattle.tq_txn.specs.declared.txn.Txn.{Txn}
 use Rattle.tq_txn.specs.declared.txn.Txn.TheVariants as states
 use Rattle.tq_txn.specs.Aborts.{resolved_by, resolved_with, txn_after_resolve}
 use Rattle.tq_txn.specs.Commits.{commit_answer}
-use Rattle.tq_txn.specs.Dialogue.{IsUnasked, fault_of_ask, fault_of_desk, desk_exchange}
+use Rattle.tq_txn.specs.Dialogue.{IsUnasked, fault_of_desk, desk_exchange}
 use Rattle.tq_txn.specs.States.{number_of, levels_of, IsStill}
 use Rattle.tq_txn.specs.Told.{IsAnswered, is_ended, tells_end, EndsWhereTold}
 use Rattle.tq_txn.proofs.LineLaws.{further}
@@ -103,46 +104,26 @@ ends_refused number ask (ask_faults.Unfounded part n) old new after grown = (des
 abbrev pub Untold : ℕ → List Exchange → List Exchange → Type 0
 Untold number old new = (more : List Exchange) × (new ≡ old ++ more) × (list_any (tells_end number) more ≡ false)
 
-neither : (a b : Bool) → a ≡ false → (a || b) ≡ b
-neither true b none = cc
-neither false b none = refl
-
-either : (a b : Bool) → b ≡ false → (a || b) ≡ a
-either true b none = refl
-either false b none = none
-
 module _ (number : ℕ) (old mid new : List Exchange) (after : Txn) where
   pub ends_after : Untold number old mid → EndsWhereTold number mid new after → EndsWhereTold number old new after
   ends_after first rest =
-      let same = list_any-append (tells_end number) first.0 rest.0 ∙ neither (list_any (tells_end number) first.0) (list_any (tells_end number) rest.0) first.2 in
+      let same = list_any-append (tells_end number) first.0 rest.0 ∙ ap (λ (told : Bool). told || list_any (tells_end number) rest.0) first.2 in
       (first.0 ++ rest.0, further old mid new first.0 rest.0 first.1 rest.1, λ told. rest.2 (sym same ∙ told))
 
   pub ends_before : EndsWhereTold number old mid after → Untold number mid new → EndsWhereTold number old new after
   ends_before first rest =
-      let same = list_any-append (tells_end number) first.0 rest.0 ∙ either (list_any (tells_end number) first.0) (list_any (tells_end number) rest.0) rest.2 in
+      let same = list_any-append (tells_end number) first.0 rest.0 ∙ ap (λ (told : Bool). list_any (tells_end number) first.0 || told) rest.2 ∙ or-false (list_any (tells_end number) first.0) in
       (first.0 ++ rest.0, further old mid new first.0 rest.0 first.1 rest.1, λ told. first.2 (sym same ∙ told))
-
-or_none : (b : Bool) → (b || false) ≡ b
-or_none true = refl
-or_none false = refl
 
 -- the desk's answer
 pub ends_answered : (number : ℕ) (ask : DeskAsk) (told : DeskTold) (old new : List Exchange) (after : Txn) → told.ask ≡ ask → new ≡ old ++ desk_exchange ask (Ok told)
     → (is_some (verdict_in number told) ≡ true → is_ended after ≡ true) → EndsWhereTold number old new after
 ends_answered number ask told old new after asked grown ends =
     let same : is_some (verdict_in number told) ≡ list_any (tells_end number) (desk_exchange ask (Ok told)) =
-    ap (λ a. is_some (verdict_by number a told.reply)) asked ∙ sym (or_none (is_some (verdict_by number ask told.reply))) in
+    ap (λ a. is_some (verdict_by number a told.reply)) asked ∙ sym (or-false (is_some (verdict_by number ask told.reply))) in
     (desk_exchange ask (Ok told), grown, λ some. ends (same ∙ some))
 
 -- ---- where memory ran out
-
-pub unasked_refused : (ask : DeskAsk) (fault : AskFault) (line_fault : LineFault) (old new : List Exchange) → line_fault ≡ fault_of_ask fault → new ≡ old ++ desk_exchange ask (Err fault) → IsUnasked {A = ℕ} (Err line_fault) old new
-unasked_refused ask fault line_fault old new is grown = subst (λ f. IsUnasked {A = ℕ} (Err f) old new) (sym is) (by fault grown)
-  where
-    by : (fault : AskFault) → new ≡ old ++ desk_exchange ask (Err fault) → IsUnasked {A = ℕ} (Err (fault_of_ask fault)) old new
-    by ask_faults.Memory grown = grown ∙ append-nil old
-    by (ask_faults.JournalFull part) grown = tt
-    by (ask_faults.Unfounded part n) grown = tt
 
 unasked_desk : (refusal : DeskRefusal) (old new : List Exchange) → IsUnasked {A = ℕ} (Err (fault_of_desk refusal)) old new
 unasked_desk (Decided verdict) old new = tt

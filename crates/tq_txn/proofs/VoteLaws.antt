@@ -1,7 +1,6 @@
 -- A vote that a server told is taken with no memory.
 use Rattle.std.proofs.Common.{◌≡◌, ℕ, Bool, true, false, not, List, ◌++◌, Option, Some, None, Err, sym, ◌∙◌, subst, append-nil}
 use Rattle.tq_shape.specs.Steps.{refuse, refuse_for}
-use Rattle.tq_asks.specs.declared.ask.NodeAsk.{NodeAsk}
 use Rattle.tq_part.specs.declared.fault.AskFault.{AskFault}
 use Rattle.tq_part.specs.declared.fault.AskFault.TheVariants as ask_faults
 use Rattle.tq_evidence.specs.declared.op.Op.{Op}
@@ -14,7 +13,7 @@ use Rattle.tq_txn_states.specs.Open.{ComesOf}
 use Rattle.tq_txn_states.specs.Voting.{VotingView, lost_file, vote_fault, vote_of, vote_refusal, writes_in}
 use Rattle.tq_txn.specs.declared.asker.Exchange.{Exchange}
 use Rattle.tq_txn.specs.declared.fault.LineFault.{LineFault}
-use Rattle.tq_txn.specs.Dialogue.{IsUnasked, fault_of_ask, fault_of_txn, node_exchange}
+use Rattle.tq_txn.specs.Dialogue.{IsUnasked, fault_of_ask, fault_of_txn, unless_memory}
 
 pub comes_from : (cause : Option TxnFault) (fault : TxnFault) → cause ≡ Some fault → ComesOf cause fault
 comes_from cause txn_faults.Memory is = tt
@@ -49,13 +48,11 @@ vote_faults voting answer fault line_fault old new is from =
     let P : LineFault → Type 0 = λ f. IsUnasked {A = Unit {0}} (Err f) old new in
     subst P (sym from) (subst IsOther is other old new)
 
-unasked_by : (server : ℕ) (ask : NodeAsk) (fault : AskFault) (old new : List Exchange) → new ≡ old ++ node_exchange server ask (Err fault) → IsUnasked {A = Unit {0}} (Err (fault_of_ask fault)) old new
-unasked_by server ask ask_faults.Memory old new grown = grown ∙ append-nil old
-unasked_by server ask (ask_faults.JournalFull part) old new grown = tt
-unasked_by server ask (ask_faults.Unfounded part number) old new grown = tt
-
 -- an ask that met want of memory was not told
-pub unasked_node : (server : ℕ) (ask : NodeAsk) (fault : AskFault) (line_fault : LineFault) (old new : List Exchange) → line_fault ≡ fault_of_ask fault → new ≡ old ++ node_exchange server ask (Err fault) → IsUnasked {A = Unit {0}} (Err line_fault) old new
-unasked_node server ask fault line_fault old new is grown =
-    let P : LineFault → Type 0 = λ f. IsUnasked {A = Unit {0}} (Err f) old new in
-    subst P (sym is) (unasked_by server ask fault old new grown)
+pub unasked_ask : (A : Type 0) (ask : Exchange) (fault : AskFault) (line_fault : LineFault) (old new : List Exchange) → line_fault ≡ fault_of_ask fault → new ≡ old ++ unless_memory fault ask → IsUnasked {A = A} (Err line_fault) old new
+unasked_ask A ask fault line_fault old new is grown = subst (λ f. IsUnasked {A = A} (Err f) old new) (sym is) (by fault grown)
+  where
+    by : (fault : AskFault) → new ≡ old ++ unless_memory fault ask → IsUnasked {A = A} (Err (fault_of_ask fault)) old new
+    by ask_faults.Memory grown = grown ∙ append-nil old
+    by (ask_faults.JournalFull part) grown = tt
+    by (ask_faults.Unfounded part number) grown = tt

@@ -1,7 +1,7 @@
 use Rattle.tq_txn_states.specs.Cited.{VotesOnly}
 use Rattle.tq_txn.specs.Told.{answers_in}
 use Rattle.tq_txn.specs.Dialogue.{desk_exchange}
-use Rattle.std.proofs.Common.{Ok, Err, refl}
+use Rattle.std.proofs.Common.{rules, ℕ, Ok, Err, refl}
 use Rattle.tq_txn.proofs.KnownLaws.{knows_grow, knows_answered, cites_ask}
 use Rattle.tq_txn.specs.declared.txn.Txn.TheVariants as states
 use Rattle.tq_txn.specs.States.{levels_of, IsGathered}
@@ -11,7 +11,8 @@ use Rattle.tq_txn.specs.declared.fault.LineFault.TheVariants.{Memory}
 use Rattle.tq_txn.specs.Commits.{decide_line}
 use Rattle.tq_txn.proofs.BreakLaws.{decide_unended, missing_unended, unfailed_never}
 use Rattle.tq_txn.proofs.CommitLaws.{decide_ready, ready_on}
-use Rattle.tq_txn.proofs.EndLaws.{resolved_answered, resolved_still, resolved_levels, resolved_ends, ends_nothing, ends_refused, ends_answered, unasked_refused, unasked_answered}
+use Rattle.tq_txn.proofs.VoteLaws.{unasked_ask}
+use Rattle.tq_txn.proofs.EndLaws.{resolved_answered, resolved_still, resolved_levels, resolved_ends, ends_nothing, ends_refused, ends_answered, unasked_answered}
 use Rattle.tq_txn_states.specs.Voting.{VotingView}
 use Rattle.std.proofs.Common.{◌≡◌, is_some, true, [], sym, subst, append-nil, ap}
 use Rattle.tq_txn_states.specs.Ended.{verdict_in}
@@ -26,51 +27,8 @@ returns-in-Err-clause-kept g c = voted_on_same c.args.voting c.in-Err.back.0 c.i
 pub returns-in-Err-evidence-clause-kept : goal.returns-in-Err-evidence-clause-kept
 returns-in-Err-evidence-clause-kept g c = voted_on_same c.args.voting c.into_voting.result (c.into_voting.ensures ∙ c.in-Ok.ensures.succeeds.1)
 
-pub returns-in-Err-desk-clause-kept : goal.returns-in-Err-desk-clause-kept
-returns-in-Err-desk-clause-kept g c = voted_on_same c.args.voting c.into_voting-in-Err-desk.result (c.into_voting-in-Err-desk.ensures ∙ c.in-Ok.ensures.succeeds.1)
-
 pub decision_of-requires-clause-asked : goal.decision_of-requires-clause-asked
 decision_of-requires-clause-asked g c = c.in-Ok-desk.ensures.same ∙ c.in-Ok-evidence.ensures.value
-
-pub returns-in-Ok-desk-clause-verdict : goal.returns-in-Ok-desk-clause-verdict
-returns-in-Ok-desk-clause-verdict g c =
-    let now = g.A.Asker.told c.args.asker.now in
-    let new = g.A.Asker.told c.desk.new.self in
-    let after = c.decision_of.result.txn in
-    let told = c.in-Ok-desk.told in
-    let P : VotingView → Type 0 = λ v. EndsAsTold (states.Voting v) now new after in
-    let answered = subst (IsAnswered (states.Voting c.in-Ok.ready) told) (sym c.decision_of.ensures.txn) (resolved_answered (states.Voting c.in-Ok.ready) told) in
-    subst P c.in-Ok.ensures.succeeds.1
-    (ends_as_told c.in-Ok-evidence.ask told c.in-Ok-desk.ensures.same now new new c.in-Ok-desk.ensures.exchanges ([], sym (append-nil new)) (states.Voting c.in-Ok.ready) after answered)
-
-pub returns-in-Ok-desk-clause-kept : goal.returns-in-Ok-desk-clause-kept
-returns-in-Ok-desk-clause-kept g c =
-    let ready = c.in-Ok.ready in
-    let P : VotingView → Type 0 = λ v. IsGathered v c.decision_of.result.txn in
-    subst P c.in-Ok.ensures.succeeds.1 (subst (IsGathered ready) (sym c.decision_of.ensures.txn) (resolved_still (states.Voting ready) c.in-Ok-desk.told))
-
-pub returns-in-Ok-desk-clause-levels : goal.returns-in-Ok-desk-clause-levels
-returns-in-Ok-desk-clause-levels g c =
-    ap levels_of c.decision_of.ensures.txn ∙ resolved_levels (states.Voting c.in-Ok.ready) c.in-Ok-desk.told ∙ ap (λ (v : VotingView). v.txn.levels) c.in-Ok.ensures.succeeds.1
-
-pub returns-in-Ok-desk-clause-asks : goal.returns-in-Ok-desk-clause-asks
-returns-in-Ok-desk-clause-asks g c =
-    let now = g.A.Asker.told c.args.asker.now in
-    let new = g.A.Asker.told c.desk.new.self in
-    let ready = c.in-Ok.ready in
-    let ask = c.in-Ok-evidence.ask in
-    let told = c.in-Ok-desk.told in
-    decide_ready c.args.voting ready c.decision_of.result.answer c.decision_of.result.txn now new c.in-Ok.ensures.succeeds.0 c.in-Ok.ensures.succeeds.1
-    (ready_on ready ask c.in-Ok-evidence.ensures.value told c.decision_of.result.answer c.decision_of.result.txn now new
-    (told_desk ask told now new c.in-Ok-desk.ensures.exchanges c.in-Ok-desk.ensures.same) c.decision_of.ensures.answer c.decision_of.ensures.txn)
-
-pub returns-in-Ok-desk-clause-unasked : goal.returns-in-Ok-desk-clause-unasked
-returns-in-Ok-desk-clause-unasked g c =
-    unasked_answered c.in-Ok-desk.told.reply c.decision_of.result.answer (g.A.Asker.told c.args.asker.now) (g.A.Asker.told c.desk.new.self) c.decision_of.ensures.answer
-
-pub returns-in-Err-desk-clause-unasked : goal.returns-in-Err-desk-clause-unasked
-returns-in-Err-desk-clause-unasked g c =
-    unasked_refused c.in-Ok-evidence.ask c.in-Err-desk.fault c.from-in-Err-desk.result (g.A.Asker.told c.args.asker.now) (g.A.Asker.told c.desk.new.self) c.from-in-Err-desk.ensures c.in-Err-desk.ensures.exchanges
 
 pub returns-in-Err-clause-ends : goal.returns-in-Err-clause-ends
 returns-in-Err-clause-ends g c = ends_nothing c.args.voting.txn.txn (g.A.Asker.told c.args.asker.now) (states.Voting c.in-Err.back.0)
@@ -80,21 +38,6 @@ returns-in-Err-evidence-clause-ends g c = ends_nothing c.args.voting.txn.txn (g.
 
 pub returns-in-Err-citations-clause-ends : goal.returns-in-Err-citations-clause-ends
 returns-in-Err-citations-clause-ends g c = ends_nothing c.args.voting.txn.txn (g.A.Asker.told c.args.asker.now) (states.Voting c.into_voting-in-Err-citations.result)
-
-pub returns-in-Err-desk-clause-ends : goal.returns-in-Err-desk-clause-ends
-returns-in-Err-desk-clause-ends g c =
-    ends_refused c.args.voting.txn.txn c.in-Ok-evidence.ask c.in-Err-desk.fault (g.A.Asker.told c.args.asker.now) (g.A.Asker.told c.desk.new.self) (states.Voting c.into_voting-in-Err-desk.result) c.in-Err-desk.ensures.exchanges
-
-pub returns-in-Ok-desk-clause-ends : goal.returns-in-Ok-desk-clause-ends
-returns-in-Ok-desk-clause-ends g c =
-    let now = g.A.Asker.told c.args.asker.now in
-    let new = g.A.Asker.told c.desk.new.self in
-    let ready = c.in-Ok.ready in
-    let told = c.in-Ok-desk.told in
-    let after = c.decision_of.result.txn in
-    let P : VotingView → Type 0 = λ v. EndsWhereTold v.txn.txn now new after in
-    let ends : is_some (verdict_in ready.txn.txn told) ≡ true → is_ended after ≡ true = λ some. ap is_ended c.decision_of.ensures.txn ∙ resolved_ends (states.Voting ready) told some in
-    subst P c.in-Ok.ensures.succeeds.1 (ends_answered ready.txn.txn c.in-Ok-evidence.ask told now new after c.in-Ok-desk.ensures.same c.in-Ok-desk.ensures.exchanges ends)
 
 pub returns-in-Err-citations-clause-kept : goal.returns-in-Err-citations-clause-kept
 returns-in-Err-citations-clause-kept g c = voted_on_same c.args.voting c.into_voting-in-Err-citations.result (c.into_voting-in-Err-citations.ensures ∙ c.in-Ok.ensures.succeeds.1)
@@ -107,34 +50,6 @@ returns-in-Err-clause-knows g c = λ is. subst (VotesOnly (answers_in (g.A.Asker
 
 pub returns-in-Err-evidence-clause-knows : goal.returns-in-Err-evidence-clause-knows
 returns-in-Err-evidence-clause-knows g c = λ is. subst (VotesOnly (answers_in (g.A.Asker.told c.args.asker.now))) (sym (c.into_voting.ensures ∙ c.in-Ok.ensures.succeeds.1)) is
-
-pub returns-in-Err-desk-clause-knows : goal.returns-in-Err-desk-clause-knows
-returns-in-Err-desk-clause-knows g c =
-    let now = g.A.Asker.told c.args.asker.now in
-    let new = g.A.Asker.told c.desk.new.self in
-    let more = knows_grow now new (desk_exchange c.in-Ok-evidence.ask (Err c.in-Err-desk.fault), c.in-Err-desk.ensures.exchanges) (states.Voting c.args.voting) in
-    λ is. subst (VotesOnly (answers_in new)) (sym (c.into_voting-in-Err-desk.ensures ∙ c.in-Ok.ensures.succeeds.1)) (more is)
-
-pub returns-in-Ok-desk-clause-knows : goal.returns-in-Ok-desk-clause-knows
-returns-in-Ok-desk-clause-knows g c =
-    let now = g.A.Asker.told c.args.asker.now in
-    let new = g.A.Asker.told c.desk.new.self in
-    let more = knows_grow now new (desk_exchange c.in-Ok-evidence.ask (Ok c.in-Ok-desk.told), c.in-Ok-desk.ensures.exchanges) (states.Voting c.args.voting) in
-    let ready = states.Voting c.in-Ok.ready in
-    let answered = subst (IsAnswered ready c.in-Ok-desk.told) (sym c.decision_of.ensures.txn) (resolved_answered ready c.in-Ok-desk.told) in
-    λ is. knows_answered new ready c.decision_of.result.txn c.in-Ok-desk.told answered (subst (VotesOnly (answers_in new)) (sym c.in-Ok.ensures.succeeds.1) (more is))
-
-pub returns-in-Ok-desk-clause-cited : goal.returns-in-Ok-desk-clause-cited
-returns-in-Ok-desk-clause-cited g c =
-    let now = g.A.Asker.told c.args.asker.now in
-    let new = g.A.Asker.told c.desk.new.self in
-    λ is. cites_ask now new c.in-Ok-evidence.ask (Ok c.in-Ok-desk.told) c.in-Ok-desk.ensures.exchanges (c.in-Ok-evidence.ensures.cited (answers_in now) (subst (VotesOnly (answers_in now)) (sym c.in-Ok.ensures.succeeds.1) is))
-
-pub returns-in-Err-desk-clause-cited : goal.returns-in-Err-desk-clause-cited
-returns-in-Err-desk-clause-cited g c =
-    let now = g.A.Asker.told c.args.asker.now in
-    let new = g.A.Asker.told c.desk.new.self in
-    λ is. cites_ask now new c.in-Ok-evidence.ask (Err c.in-Err-desk.fault) c.in-Err-desk.ensures.exchanges (c.in-Ok-evidence.ensures.cited (answers_in now) (subst (VotesOnly (answers_in now)) (sym c.in-Ok.ensures.succeeds.1) is))
 
 pub returns-in-Err-clause-memory : goal.returns-in-Err-clause-memory
 returns-in-Err-clause-memory g c = missing_unended c.args.voting (states.Voting c.in-Err.back.0) (g.A.Asker.told c.args.asker.now) c.in-Err.back.1 c.from.result c.in-Err.ensures.fault.1 c.from.ensures
@@ -149,14 +64,66 @@ returns-in-Err-citations-clause-memory g c =
     let told = g.A.Asker.told c.args.asker.now in
     decide_unended c.args.voting c.into_voting-in-Err-citations.result (Err Memory) told told c.in-Ok.ensures.succeeds.0 (c.into_voting-in-Err-citations.ensures ∙ c.in-Ok.ensures.succeeds.1) refl
 
-pub returns-in-Ok-desk-clause-memory : goal.returns-in-Ok-desk-clause-memory
-returns-in-Ok-desk-clause-memory g c =
-    unfailed_never c.decision_of.result.answer c.decision_of.result.txn (decide_line c.args.voting) (g.A.Asker.told c.args.asker.now) (g.A.Asker.told c.desk.new.self)
-    (λ before later. unasked_answered c.in-Ok-desk.told.reply c.decision_of.result.answer before later c.decision_of.ensures.answer)
+pub returns-in-Err-desk-clause-kept : goal.returns-in-Err-desk-clause-kept
+returns-in-Err-desk-clause-kept g c = voted_on_same c.args.voting c.into_voting-in-Err-desk.result (c.into_voting-in-Err-desk.ensures ∙ c.in-Ok.ensures.succeeds.1)
+
+pub returns-in-Err-desk-clause-unasked : goal.returns-in-Err-desk-clause-unasked
+returns-in-Err-desk-clause-unasked g c =
+    unasked_ask ℕ _ c.in-Err-desk.fault c.from-in-Err-desk.result (g.A.Asker.told c.args.asker.now) (g.A.Asker.told c.desk.new.self) c.from-in-Err-desk.ensures c.in-Err-desk.ensures.exchanges
+
+pub returns-in-Err-desk-clause-ends : goal.returns-in-Err-desk-clause-ends
+returns-in-Err-desk-clause-ends g c =
+    ends_refused c.args.voting.txn.txn c.in-Ok-evidence.ask c.in-Err-desk.fault (g.A.Asker.told c.args.asker.now) (g.A.Asker.told c.desk.new.self) (states.Voting c.into_voting-in-Err-desk.result) c.in-Err-desk.ensures.exchanges
+
+pub returns-in-Err-desk-clause-knows : goal.returns-in-Err-desk-clause-knows
+returns-in-Err-desk-clause-knows g c =
+    let now = g.A.Asker.told c.args.asker.now in
+    let new = g.A.Asker.told c.desk.new.self in
+    let more = knows_grow now new (desk_exchange c.in-Ok-evidence.ask (Err c.in-Err-desk.fault), c.in-Err-desk.ensures.exchanges) (states.Voting c.args.voting) in
+    λ is. subst (VotesOnly (answers_in new)) (sym (c.into_voting-in-Err-desk.ensures ∙ c.in-Ok.ensures.succeeds.1)) (more is)
+
+pub returns-in-Err-desk-clause-cited : goal.returns-in-Err-desk-clause-cited
+returns-in-Err-desk-clause-cited g c =
+    let now = g.A.Asker.told c.args.asker.now in
+    let new = g.A.Asker.told c.desk.new.self in
+    λ is. cites_ask now new c.in-Ok-evidence.ask (Err c.in-Err-desk.fault) c.in-Err-desk.ensures.exchanges (c.in-Ok-evidence.ensures.cited (answers_in now) (subst (VotesOnly (answers_in now)) (sym c.in-Ok.ensures.succeeds.1) is))
 
 pub returns-in-Err-desk-clause-memory : goal.returns-in-Err-desk-clause-memory
 returns-in-Err-desk-clause-memory g c =
     let old = g.A.Asker.told c.args.asker.now in
     let new = g.A.Asker.told c.desk.new.self in
     decide_unended c.args.voting c.into_voting-in-Err-desk.result (Err c.from-in-Err-desk.result) old new c.in-Ok.ensures.succeeds.0 (c.into_voting-in-Err-desk.ensures ∙ c.in-Ok.ensures.succeeds.1)
-    (unasked_refused c.in-Ok-evidence.ask c.in-Err-desk.fault c.from-in-Err-desk.result old new c.from-in-Err-desk.ensures c.in-Err-desk.ensures.exchanges)
+    (unasked_ask ℕ _ c.in-Err-desk.fault c.from-in-Err-desk.result old new c.from-in-Err-desk.ensures c.in-Err-desk.ensures.exchanges)
+
+pub returns-in-Ok-desk : goal.returns-in-Ok-desk
+returns-in-Ok-desk g c =
+    let old = c.args.voting in
+    let ready = c.in-Ok.ready in
+    let now = g.A.Asker.told c.args.asker.now in
+    let new = g.A.Asker.told c.desk.new.self in
+    let ask = c.in-Ok-evidence.ask in
+    let told = c.in-Ok-desk.told in
+    let desk = c.in-Ok-desk.ensures in
+    let answer = c.decision_of.result.answer in
+    let after = c.decision_of.result.txn in
+    let is = c.decision_of.ensures in
+    let same = c.in-Ok.ensures.succeeds.1 in
+    let P : VotingView → Type 0 = λ v. EndsAsTold (states.Voting v) now new after in
+    let Q : VotingView → Type 0 = λ v. IsGathered v after in
+    let R : VotingView → Type 0 = λ v. EndsWhereTold v.txn.txn now new after in
+    let answered = subst (IsAnswered (states.Voting ready) told) (sym is.txn) (resolved_answered (states.Voting ready) told) in
+    let ends : is_some (verdict_in ready.txn.txn told) ≡ true → is_ended after ≡ true = λ some. ap is_ended is.txn ∙ resolved_ends (states.Voting ready) told some in
+    let more = knows_grow now new (desk_exchange ask (Ok told), desk.exchanges) (states.Voting old) in
+    record {
+      asks = decide_ready old ready answer after now new c.in-Ok.ensures.succeeds.0 same
+          (ready_on ready ask c.in-Ok-evidence.ensures.value told answer after now new (told_desk ask told now new desk.exchanges desk.same) is.answer is.txn);
+      memory = unfailed_never answer after (decide_line old) now new (λ before later. unasked_answered told.reply answer before later is.answer);
+      levels = ap levels_of is.txn ∙ resolved_levels (states.Voting ready) told ∙ ap (λ (v : VotingView). v.txn.levels) same;
+      kept = subst Q same (subst (IsGathered ready) (sym is.txn) (resolved_still (states.Voting ready) told));
+      verdict = subst P same (ends_as_told ask told desk.same now new new desk.exchanges ([], sym (append-nil new)) (states.Voting ready) after answered);
+      unasked = unasked_answered told.reply answer now new is.answer;
+      ends = subst R same (ends_answered ready.txn.txn ask told now new after desk.same desk.exchanges ends);
+      knows = λ known. knows_answered new (states.Voting ready) after told answered (subst (VotesOnly (answers_in new)) (sym same) (more known));
+      cited = λ known. cites_ask now new ask (Ok told) desk.exchanges (c.in-Ok-evidence.ensures.cited (answers_in now) (subst (VotesOnly (answers_in now)) (sym same) known));
+      tree = search rules;
+    }

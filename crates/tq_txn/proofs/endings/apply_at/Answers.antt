@@ -1,7 +1,7 @@
 use Rattle.std.proofs.Common.{Err}
 use Rattle.tq_txn.specs.Lines.{apply_line}
 use Rattle.tq_txn.proofs.BreakLaws.{applied_unended, apply_asks, unfailed_first, unfailed_same}
-use Rattle.tq_txn.proofs.VoteLaws.{unasked_node}
+use Rattle.tq_txn.proofs.VoteLaws.{unasked_ask}
 use Rattle.tq_txn.proofs.endings.apply_at.Goals as goal
 
 pub returns-in_err-new-clause-memory : goal.returns-in_err-new-clause-memory
@@ -18,4 +18,4 @@ returns-in-Err-clause-memory g c =
     let old = g.A.Asker.told c.args.asker.now in
     let new = g.A.Asker.told c.node.new.self in
     unfailed_first (Err c.from.result) tt (apply_line c.args.txn c.args.verdict c.args.cite c.args.server.number) old new (apply_asks c.args.txn c.args.verdict c.args.cite c.args.server.number old)
-    (unasked_node c.args.server.number _ c.in-Err.fault c.from.result old new c.from.ensures c.in-Err.ensures.exchanges)
+    (unasked_ask (Unit {0}) _ c.in-Err.fault c.from.result old new c.from.ensures c.in-Err.ensures.exchanges)

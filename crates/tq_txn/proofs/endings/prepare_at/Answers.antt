@@ -11,7 +11,7 @@ use Rattle.tq_txn.specs.Told.{Knows, answers_in}
 use Rattle.tq_txn.proofs.KnownLaws.{answers_more, knows_grow}
 use Rattle.tq_txn.proofs.KeptVotes.{voted_on_same}
 use Rattle.tq_txn.proofs.LineLaws.{told_node, vote_asked}
-use Rattle.tq_txn.proofs.VoteLaws.{unasked_node}
+use Rattle.tq_txn.proofs.VoteLaws.{unasked_ask}
 use Rattle.tq_txn.proofs.endings.prepare_at.Goals as goal
 
 pub put_back-requires : goal.put_back-requires
@@ -75,7 +75,7 @@ returns-in-Ok-node-clause-unasked g c = c.take_vote.ensures.unasked (g.A.Asker.t
 
 pub returns-in-Err-node-clause-unasked : goal.returns-in-Err-node-clause-unasked
 returns-in-Err-node-clause-unasked g c =
-    unasked_node c.args.server.number c.in-Ok.ask c.in-Err-node.fault c.from-in-Err-node.result (g.A.Asker.told c.args.asker.now) (g.A.Asker.told c.node.new.self) c.from-in-Err-node.ensures c.in-Err-node.ensures.exchanges
+    unasked_ask (Unit {0}) _ c.in-Err-node.fault c.from-in-Err-node.result (g.A.Asker.told c.args.asker.now) (g.A.Asker.told c.node.new.self) c.from-in-Err-node.ensures c.in-Err-node.ensures.exchanges
 
 pub returns-in-Err-clause-memory : goal.returns-in-Err-clause-memory
 returns-in-Err-clause-memory g c =
@@ -97,7 +97,7 @@ returns-in-Err-node-clause-memory g c =
     let P : VotingView → Type 0 = λ v. IsUnfailed {A = Unit {0}} (Err c.from-in-Err-node.result) v line old new in
     subst P (sym (c.put_back.ensures ∙ c.in-Ok-room_for_vote.ensures.value))
     (unfailed_first (Err c.from-in-Err-node.result) c.args.voting.now line old new asks
-    (unasked_node c.args.server.number c.in-Ok.ask c.in-Err-node.fault c.from-in-Err-node.result old new c.from-in-Err-node.ensures c.in-Err-node.ensures.exchanges))
+    (unasked_ask (Unit {0}) _ c.in-Err-node.fault c.from-in-Err-node.result old new c.from-in-Err-node.ensures c.in-Err-node.ensures.exchanges))
 
 pub returns-in-Ok-node-clause-memory : goal.returns-in-Ok-node-clause-memory
 returns-in-Ok-node-clause-memory g c =

@@ -60,48 +60,6 @@ take_back-requires-clause-good g c =
     let touched = kept c.args.open.now c.room_for.new.self c.in-Ok-room_for.granting c.lock_each.new.granting c.in-Ok-room_for.ensures.value c.lock_each.ensures.locks.grown in
     open_touched c.args.open.now (txn_with_grants c.room_for.new.self c.lock_each.new.granting) touched c.in-Ok-room_for.ensures.good
 
-pub returns-in-Ok-lock_each-clause-heard : goal.returns-in-Ok-lock_each-clause-heard
-returns-in-Ok-lock_each-clause-heard g c =
-    let file = c.args.file.now in
-    let told = g.A.Asker.told c.choose.new.asker in
-    let after = g.A.Asker.told c.lock_each.new.asker in
-    let handed = c.room_for.new.self in
-    let same : handed.txn ≡ c.args.open.now.txn = ap (λ (v : OpenView). v.txn) c.in-Ok-room_for.ensures.value in
-    let empty : answers_of handed.txn file c.in-Ok-room_for.granting.grants ≡ [] = ap (answers_of handed.txn file) c.in-Ok-room_for.ensures.grants in
-    let P : ℕ → Type 0 = λ txn. AreTold after (answers_of txn file c.lock_each.new.granting.grants) in
-    subst P same (c.lock_each.ensures.locks.heard (subst (AreTold told) (sym empty) (All-nil (Contains (answers_in told)))))
-
-pub returns-in-Ok-lock_each-clause-member : goal.returns-in-Ok-lock_each-clause-member
-returns-in-Ok-lock_each-clause-member g c =
-    let servers = c.servers-servers.result.now in
-    let none : granters c.in-Ok-room_for.granting.grants ≡ [] = ap granters c.in-Ok-room_for.ensures.grants in
-    let all : granters c.lock_each.new.granting.grants ≡ numbers_of servers = c.in-Ok-lock_each.ensures.locks.servers ∙ ap (λ numbers. numbers ++ numbers_of servers) none in
-    member_of c.args.open.now.levels c.in-Ok.quorum.levels servers c.lock_each.new.granting.grants c.servers-servers.ensures.member (c.in-Ok.ensures.quorum ∙ c.levels.ensures) all
-
-pub returns-in-Ok-lock_each-clause-take : goal.returns-in-Ok-lock_each-clause-take
-returns-in-Ok-lock_each-clause-take g c =
-    let servers = c.servers-servers.result.now in
-    let none : granters c.in-Ok-room_for.granting.grants ≡ [] = ap granters c.in-Ok-room_for.ensures.grants in
-    let all : granters c.lock_each.new.granting.grants ≡ numbers_of servers = c.in-Ok-lock_each.ensures.locks.servers ∙ ap (λ numbers. numbers ++ numbers_of servers) none in
-    can_take_grown c.in-Ok-room_for.granting c.lock_each.new.granting (numbers_of servers) (granters c.lock_each.new.granting.grants) c.lock_each.ensures.locks.grown all c.in-Ok-room_for.ensures.take
-
-pub returns-in-Ok-lock_each-clause-modes : goal.returns-in-Ok-lock_each-clause-modes
-returns-in-Ok-lock_each-clause-modes g c =
-    let mode = c.args.mode in
-    c.lock_each.ensures.locks.modes (subst (AreOf mode) (sym c.in-Ok-room_for.ensures.grants) (All-nil (λ (grant : Grant). grant.mode ≡ mode)))
-
-pub returns-in-Ok-lock_each-clause-of_tree : goal.returns-in-Ok-lock_each-clause-of_tree
-returns-in-Ok-lock_each-clause-of_tree g c = of_tree_grown c.room_for.new.self.levels c.in-Ok-room_for.granting c.lock_each.new.granting c.lock_each.ensures.locks.grown c.in-Ok-room_for.ensures.tree
-
-pub returns-in-Ok-lock_each-clause-good : goal.returns-in-Ok-lock_each-clause-good
-returns-in-Ok-lock_each-clause-good g c =
-    let touched = kept c.args.open.now c.room_for.new.self c.in-Ok-room_for.granting c.lock_each.new.granting c.in-Ok-room_for.ensures.value c.lock_each.ensures.locks.grown in
-    open_touched c.args.open.now (txn_with_grants c.room_for.new.self c.lock_each.new.granting) touched c.in-Ok-room_for.ensures.good
-
-pub returns-in-Ok-lock_each-clause-kept : goal.returns-in-Ok-lock_each-clause-kept
-returns-in-Ok-lock_each-clause-kept g c =
-    kept c.args.open.now c.room_for.new.self c.in-Ok-room_for.granting c.lock_each.new.granting c.in-Ok-room_for.ensures.value c.lock_each.ensures.locks.grown
-
 pub returns-clause-kept : goal.returns-clause-kept
 returns-clause-kept g c =
     let old = c.args.open.now in
@@ -137,24 +95,6 @@ returns-in-Err-room_for-clause-asked g c =
           c.in-Ok.quorum.levels c.servers-servers.ensures.member c.room_for.new.self c.in-Err-room_for.ensures.err;
     }
 
-pub returns-in-Ok-lock_each-clause-asked : goal.returns-in-Ok-lock_each-clause-asked
-returns-in-Ok-lock_each-clause-asked g c =
-    let file = c.args.file.now in
-    let told = g.A.Asker.told c.args.asker.now in
-    let mid = g.A.Asker.told c.choose.new.asker in
-    let after = g.A.Asker.told c.lock_each.new.asker in
-    let old = c.args.open.now in
-    let handed = c.room_for.new.self in
-    let start = c.in-Ok-room_for.granting in
-    let none = answers_of handed.txn file start.grants in
-    let empty : none ≡ [] = ap (answers_of handed.txn file) c.in-Ok-room_for.ensures.grants in
-    let same : handed.txn ≡ old.txn = ap (λ (v : OpenView). v.txn) c.in-Ok-room_for.ensures.value in
-    let new : LocksView = locks_of file handed c.lock_each.new.granting in
-    let all_locked = started file c.args.mode (numbers_of c.servers-servers.result.now) none (txn_with_grants handed start) old c.in-Ok-room_for.ensures.value mid after (Some (record { answer = Ok tt; after = new })) c.in-Ok-lock_each.ensures.locks.asks in
-    let all = quorum_locked file c.args.mode c.levels.result old c.levels.ensures c.purpose_of.result c.purpose_of.ensures c.in-Ok.quorum.servers c.servers-servers.result.now none c.servers-servers.ensures.numbers empty told mid c.in-Ok.ensures.asks new after all_locked in
-    let P : ℕ → Type 0 = λ txn. Follows (quorum_line file c.args.mode old) told after (Some (record { answer = Ok (answers_of txn file c.lock_each.new.granting.grants); after = new.txn })) in
-    record { asks = subst P same all; memory = tt }
-
 pub returns-clause-asked : goal.returns-clause-asked
 returns-clause-asked g c =
     let file = c.args.file.now in
@@ -175,4 +115,43 @@ returns-clause-asked g c =
           fault new after all_locked;
       memory = quorum_unfailed file c.args.mode old c.levels.result c.levels.ensures c.purpose_of.result c.purpose_of.ensures c.in-Ok.quorum.servers c.servers-servers.result.now c.servers-servers.ensures.numbers told mid c.in-Ok.ensures.asks
           none empty (txn_with_grants handed start) c.in-Ok-room_for.ensures.value fault new after c.in-Err-lock_each.ensures.locks.memory;
+    }
+
+pub returns-in-Ok-lock_each : goal.returns-in-Ok-lock_each
+returns-in-Ok-lock_each g c =
+    let file = c.args.file.now in
+    let mode = c.args.mode in
+    let old = c.args.open.now in
+    let told = g.A.Asker.told c.args.asker.now in
+    let mid = g.A.Asker.told c.choose.new.asker in
+    let after = g.A.Asker.told c.lock_each.new.asker in
+    let servers = c.servers-servers.result.now in
+    let member = c.servers-servers.ensures.member in
+    let handed = c.room_for.new.self in
+    let room = c.in-Ok-room_for.ensures in
+    let start = c.in-Ok-room_for.granting in
+    let granting = c.lock_each.new.granting in
+    let locks = c.lock_each.ensures.locks in
+    let locked = c.in-Ok-lock_each.ensures.locks in
+    let touched = kept old handed start granting room.value locks.grown in
+    let all : granters granting.grants ≡ numbers_of servers = locked.servers ∙ ap (λ grants. granters grants ++ numbers_of servers) room.grants in
+    let none = answers_of handed.txn file start.grants in
+    let empty : none ≡ [] = ap (answers_of handed.txn file) room.grants in
+    let same : handed.txn ≡ old.txn = ap (λ (v : OpenView). v.txn) room.value in
+    let new : LocksView = locks_of file handed granting in
+    let all_locked = started file mode (numbers_of servers) none (txn_with_grants handed start) old room.value mid after (Some (record { answer = Ok tt; after = new })) locked.asks in
+    let asks = quorum_locked file mode c.levels.result old c.levels.ensures c.purpose_of.result c.purpose_of.ensures c.in-Ok.quorum.servers servers none c.servers-servers.ensures.numbers empty told mid c.in-Ok.ensures.asks new after all_locked in
+    let P : ℕ → Type 0 = λ txn. Follows (quorum_line file mode old) told after (Some (record { answer = Ok (answers_of txn file granting.grants); after = new.txn })) in
+    let Q : ℕ → Type 0 = λ txn. AreTold after (answers_of txn file granting.grants) in
+    record {
+      asked = record { asks = subst P same asks; memory = tt };
+      levels = search rules;
+      kept = touched;
+      heard = subst Q same (locks.heard (subst (AreTold mid) (sym empty) (All-nil (Contains (answers_in mid)))));
+      member = member_of old.levels c.in-Ok.quorum.levels servers granting.grants member (c.in-Ok.ensures.quorum ∙ c.levels.ensures) all;
+      modes = locks.modes (subst (AreOf mode) (sym room.grants) (All-nil (λ (grant : Grant). grant.mode ≡ mode)));
+      take = can_take_grown start granting (numbers_of servers) (granters granting.grants) locks.grown all room.take;
+      of_tree = of_tree_grown handed.levels start granting locks.grown room.tree;
+      good = open_touched old (txn_with_grants handed granting) touched room.good;
+      tree = search rules;
     }
