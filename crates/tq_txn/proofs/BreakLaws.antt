@@ -1,5 +1,5 @@
 -- Where memory ran out in a line a further ask was to come in it, and so in the line that it is a part of.
-use Rattle.std.proofs.Common.{◌≡◌, ◌==◌, ◌∙◌, ℕ, Bool, true, false, not, cond, List, [], ◌∷◌, ◌++◌, Option, Some, None, Result, Ok, Err, refl, sym, ap, subst, append-nil, append_assoc, length}
+use Rattle.std.proofs.Common.{◌≡◌, ◌==◌, ◌∙◌, ℕ, Bool, true, false, not, cond, List, [], ◌∷◌, ◌++◌, Option, Some, None, Result, Ok, Err, refl, sym, ap, subst, append_assoc, length}
 use Rattle.std.specs.List.{list_all}
 use Rattle.std.proofs.lemmas.List.Folds.{list_all-append}
 use Rattle.tq_shape.specs.declared.part.Part.TheVariants as parts
@@ -40,6 +40,7 @@ use Rattle.tq_txn_states.specs.Voting.{prepare_ask, evidence_of}
 use Rattle.tq_txn.specs.Lines.{any_line, is_nothing_here, release_line, end_line, ending_line, prepare_line, apply_answer, down_line, stop_line, prepare_stop_line, apply_line}
 use Rattle.tq_txn.specs.States.{number_of}
 use Rattle.tq_txn.proofs.CommitLaws.{missing, there}
+use Rattle.tq_txn.proofs.VoteLaws.{unasked_ask}
 use Rattle.tq_txn.proofs.LineLaws.{follows_end, follows_on, refused_desk, refused_node, refused_view, stopped, told_desk}
 
 -- an ask for which there was no room in the part's journal
@@ -183,15 +184,17 @@ node_fails server ask left next told =
 pub prepare_asks : (old : VotingView) (server : ℕ) (told : List Exchange) → has_vote old.votes server ≡ false → ask_fault old.txn server ≡ None → IsUnfailed {A = Unit {0}} (Err faults.Memory) old (prepare_line old server) told told
 prepare_asks old server told none may = rw (none, may) (node_fails server (prepare_ask old.txn server) (λ none. old) _ told)
 
+-- no ask was made: there is another fault, or memory ran out before one that may be made
+refused : {A S : Type 0} (line : Dialogue (LineEnd A S)) (after : S) (told : List Exchange) (fault : TxnFault) (line_fault : LineFault) → line_fault ≡ fault_of_txn fault → (fault ≡ txn_faults.Memory → IsUnfailed {A = A} (Err faults.Memory) after line told told) → IsUnfailed {A = A} (Err line_fault) after line told told
+refused {A} {S} line after told fault line_fault is asks = subst (λ f. IsUnfailed {A = A} (Err f) after line told told) (sym is) (by fault asks)
+  where
+    by : (fault : TxnFault) → (fault ≡ txn_faults.Memory → IsUnfailed {A = A} (Err faults.Memory) after line told told) → IsUnfailed {A = A} (Err (fault_of_txn fault)) after line told told
+    by txn_faults.Memory asks = asks refl
+    by other asks = tt
+
 -- the vote was not asked for: the transaction is no voter's, or memory ran out
 pub prepare_refused : (old : VotingView) (server : ℕ) (fault : TxnFault) (line_fault : LineFault) (told : List Exchange) → line_fault ≡ fault_of_txn fault → has_vote old.votes server ≡ false → (fault ≡ txn_faults.Memory → ask_fault old.txn server ≡ None) → IsUnfailed {A = Unit {0}} (Err line_fault) old (prepare_line old server) told told
-prepare_refused old server fault line_fault told is none may =
-    let P : LineFault → Type 0 = λ f. IsUnfailed {A = Unit {0}} (Err f) old (prepare_line old server) told told in
-    subst P (sym is) (by fault may)
-  where
-    by : (fault : TxnFault) → (fault ≡ txn_faults.Memory → ask_fault old.txn server ≡ None) → IsUnfailed {A = Unit {0}} (Err (fault_of_txn fault)) old (prepare_line old server) told told
-    by txn_faults.Memory may = prepare_asks old server told none (may refl)
-    by other may = tt
+prepare_refused old server fault line_fault told is none may = refused (prepare_line old server) old told fault line_fault is (λ out. prepare_asks old server told none (may out))
 
 module _ (servers rest : List Server) (server : Server) (old new : VotingView) (is : servers ≡ server ∷ rest) where
   pub prepares_unended : (result : Result (Unit {0}) LineFault) (after : VotingView) (told mid last : List Exchange) → Follows (prepare_line old server.number) told mid (Some (record { answer = Ok tt; after = new })) → IsUnfailed result after (prepares_line (numbers_of rest) new) mid last → IsUnfailed result after (prepares_line (numbers_of servers) old) told last
@@ -297,15 +300,9 @@ aborted_unended ended ids numbers fault told after first =
 module _ (old : Txn) (number : ℕ) (is : number ≡ number_of old) (told after : List Exchange) where
   pub abort_unasked : (fault : AskFault) (line_fault : LineFault) → line_fault ≡ fault_of_ask fault → after ≡ told ++ desk_exchange (asks.Resolve number) (Err fault) → IsUnended {A = Unit {0}} (Err line_fault) old (abort_line old) told after
   abort_unasked fault line_fault faults_are grown =
-      let P : LineFault → Type 0 = λ f. IsUnended {A = Unit {0}} (Err f) old (abort_line old) told after in
-      subst P (sym faults_are) (by fault grown)
-    where
-      by : (fault : AskFault) → after ≡ told ++ desk_exchange (asks.Resolve number) (Err fault) → IsUnended {A = Unit {0}} (Err (fault_of_ask fault)) old (abort_line old) told after
-      by ask_faults.Memory grown =
-          unended_first (Err faults.Memory) old (abort_line old) told after
-          (unended_of (Err faults.Memory) old (abort_line old) told told (desk_fails (asks.Resolve (number_of old)) (λ none. old) (λ answer none. abort_end answer.reply (txn_after_resolve old answer)) told)) (grown ∙ append-nil told)
-      by (ask_faults.JournalFull part) grown = tt
-      by (ask_faults.Unfounded part n) grown = tt
+      unended_of (Err line_fault) old (abort_line old) told after
+      (unfailed_first (Err line_fault) old (abort_line old) told after (desk_fails (asks.Resolve (number_of old)) (λ none. old) (λ answer none. abort_end answer.reply (txn_after_resolve old answer)) told)
+      (unasked_ask (Unit {0}) (exchanges.Desk (asks.Resolve number) (Err fault)) fault line_fault told after faults_are grown))
 
   pub abort_unended : (mid : List Exchange) (answer : DeskTold) (result : Result (Unit {0}) LineFault) (left : Txn) → mid ≡ told ++ desk_exchange (asks.Resolve number) (Ok answer) → answer.ask ≡ asks.Resolve number
       → IsUnended result left (abort_end answer.reply (txn_after_resolve old answer)) mid after → IsUnended result left (abort_line old) told after
@@ -337,13 +334,7 @@ down_asks server told =
 
 pub down_unended : (server : ℕ) (fault : AskFault) (line_fault : LineFault) (told new : List Exchange) → line_fault ≡ fault_of_ask fault → new ≡ told ++ view_exchange (Mark server false) (Err fault) → IsUnfailed {A = Unit {0}} (Err line_fault) tt (down_line server) told new
 down_unended server fault line_fault told new is grown =
-    let P : LineFault → Type 0 = λ f. IsUnfailed {A = Unit {0}} (Err f) tt (down_line server) told new in
-    subst P (sym is) (by fault grown)
-  where
-    by : (fault : AskFault) → new ≡ told ++ view_exchange (Mark server false) (Err fault) → IsUnfailed {A = Unit {0}} (Err (fault_of_ask fault)) tt (down_line server) told new
-    by ask_faults.Memory grown = unfailed_first (Err faults.Memory) tt (down_line server) told new (down_asks server told) (grown ∙ append-nil told)
-    by (ask_faults.JournalFull part) grown = tt
-    by (ask_faults.Unfounded part n) grown = tt
+    unfailed_first (Err line_fault) tt (down_line server) told new (down_asks server told) (unasked_ask (Unit {0}) (exchanges.View (Mark server false) (Err fault)) fault line_fault told new is grown)
 
 -- memory ran out in the mark behind a stop
 pub stop_unended : (server : ℕ) (ask : WorkAsk) (after : ℕ) (reply : Option NodeReply) (result : Result (Unit {0}) LineFault) (old mid new : List Exchange)
@@ -367,12 +358,7 @@ stopping_asks old server after told none may = rw (none, may) (unfailed_off (sto
 -- the stop was not asked for: the transaction is no voter's, or memory ran out
 pub stopping_refused : (old : VotingView) (server after : ℕ) (fault : TxnFault) (line_fault : LineFault) (told : List Exchange) → line_fault ≡ fault_of_txn fault → has_vote old.votes server ≡ false → (fault ≡ txn_faults.Memory → ask_fault old.txn server ≡ None) → IsUnfailed {A = Bool} (Err line_fault) old (prepare_stop_line old server after) told told
 stopping_refused old server after fault line_fault told is none may =
-    let P : LineFault → Type 0 = λ f. IsUnfailed {A = Bool} (Err f) old (prepare_stop_line old server after) told told in
-    subst P (sym is) (by fault may)
-  where
-    by : (fault : TxnFault) → (fault ≡ txn_faults.Memory → ask_fault old.txn server ≡ None) → IsUnfailed {A = Bool} (Err (fault_of_txn fault)) old (prepare_stop_line old server after) told told
-    by txn_faults.Memory may = stopping_asks old server after told none (may refl)
-    by other may = tt
+    refused (prepare_stop_line old server after) old told fault line_fault is (λ out. stopping_asks old server after told none (may out))
 
 pub stopping_unended : (old : VotingView) (server after : ℕ) (ask : WorkAsk) (fault : LineFault) (told new : List Exchange) → has_vote old.votes server ≡ false → ask_fault old.txn server ≡ None → ask ≡ prepare_work old.txn server
     → IsUnfailed {A = Unit {0}} (Err fault) tt (stop_line server ask after) told new → IsUnfailed {A = Bool} (Err fault) old (prepare_stop_line old server after) told new

@@ -1,11 +1,11 @@
 -- Locks at the servers of a quorum, kept as the grants that their answers tell of.
 use Rattle.std.proofs.Common.{◌≡◌, ◌∙◌, ℕ, Bool, true, false, not, ◌&&◌, ◌||◌, cond, List, [], ◌∷◌, ◌++◌, Option, Some, None, Result, Ok, Err, refl, sym, ap, subst, append_assoc}
 use Rattle.std.specs.List.{Contains, find, list_any}
-use Rattle.std.specs.Option.{option_map}
 use Rattle.std.specs.Prelude.{IfOk}
 use Rattle.std.proofs.lemmas.Bool.{and_from}
 use Rattle.std.proofs.lemmas.List.{map-append}
 use Rattle.std.proofs.lemmas.List.Elements.{All-head, All-tail, All-push}
+use Rattle.tq_shape.proofs.Options.{map-none}
 use Rattle.tq_shape.specs.Tree.{Server}
 use Rattle.tq_store.specs.Names.{same_name}
 use Rattle.tq_locks.specs.Locks.{is_exclusive}
@@ -142,12 +142,8 @@ unused_in file (op ∷ ops) unread unwritten =
     let writes = none_first (writes_file file op) op (find (writes_file file) ops) unwritten in
     ap (λ b. b || is_used ops file) (neither (is_write op) (same_name op.file file) reads.0 writes.0) ∙ unused_in file ops reads.1 writes.1
 
-unmapped : {X Y : Type 0} (f : X → Y) (found : Option X) → option_map f found ≡ None → found ≡ None
-unmapped f None none = refl
-unmapped f (Some x) none = cc
-
 pub unused : (old : OpenView) (file : List ℕ) → pending_content old file ≡ None → op_read old file ≡ None → is_used old.ops file ≡ false
-unused old file unwritten unread = unused_in file old.ops unread (unmapped (λ (op : Op). op.content) (op_written old file) unwritten)
+unused old file unwritten unread = unused_in file old.ops unread (map-none (λ (op : Op). op.content) (op_written old file) unwritten)
 
 pub unwritten : (old : OpenView) (file : List ℕ) → op_written old file ≡ None → is_written old.ops file ≡ false
 unwritten old file none = none_found (writes_file file) old.ops none
