@@ -72,7 +72,7 @@ IsPullFault prefixes part more least (faults.Foreign there given) = (there ≡ p
 -- what comes of entries of the part, of which with its prefix there were to be that many at least: they stand behind the
 -- prefix, or all is as it was
 pub record IsTaken {T : Type 0} (old new : JournalsView) (part : Part) (more : Entries) (enough : ℕ) (result : Result T PullFault) : Type 0 where
-  pub grown : OnOk result (new ≡ grown old part more)
+  pub grown : OnOk result (new ≡ journals_with old part more)
   pub least : OnOk result (enough ≤ prefix_length new part)
   pub count : OnOk result (prefix_length new part ≡ prefix_length old part + count_of more)
   pub err : OnErr result (new ≡ old)
