@@ -118,24 +118,17 @@ module _ (world other : JournalsView) where
       ap (λ b. unless b (record { part = parts.Server from.server; number = from.number }))
       (test_stays (λ (e : NodeEntry). is_peeked file version content e.ask e.reply) (server_entry world from.server from.number) (server_entry other from.server from.number)
       (stay (record { part = parts.Server from.server; number = from.number }) (inl refl)) (unless_true (is_founded_copy world file version content from) _ none))
-  work_stays (work.Lock txn file mode) stay none = refl
-  work_stays (work.Prepare txn writes) stay none = refl
-  work_stays (work.Release txn) stay none = refl
-  work_stays (work.Peek file) stay none = refl
+  work_stays ask stay none = refl
 
   pub founded_stays : (step : Step) → ((c : Citation) → Has (cited_in step) c → Stays world other c) → unfounded_citation world step ≡ None → unfounded_citation other step ≡ None
   founded_stays (steps.Node server (node_asks.Work ask)) stay none = work_stays ask stay none
-  founded_stays (steps.Node server node_asks.Crash) stay none = refl
-  founded_stays (steps.Node server node_asks.Return) stay none = refl
   founded_stays (steps.Node server (node_asks.CrashIn after ask)) stay none = work_stays ask stay none
   founded_stays (steps.Desk (desk_asks.Commit txn ops votes)) stay none =
       let both = or_else-none (unfounded_op world txn ops) (unfounded_vote world txn votes) none in
       both_none (unfounded_op other txn ops) (unfounded_vote other txn votes)
       (ops_stay txn ops (λ c has. stay c (append-Has (cited_in_ops ops) (map cited_vote votes) c (inl has))) both.0)
       (votes_stay txn votes (λ c has. stay c (append-Has (cited_in_ops ops) (map cited_vote votes) c (inr has))) both.1)
-  founded_stays (steps.Desk desk_asks.Begin) stay none = refl
-  founded_stays (steps.Desk (desk_asks.Resolve txn)) stay none = refl
-  founded_stays (steps.View ask) stay none = refl
+  founded_stays step stay none = refl
 
 -- ---- where a step is founded, each entry stands that it cites
 
@@ -174,15 +167,10 @@ module _ (world : JournalsView) where
       let found = tested-is (λ (e : NodeEntry). is_peeked file version content e.ask e.reply) (server_entry world from.server from.number) (unless_true (is_founded_copy world file version content from) _ none) in
       subst (Stands world) same (found.0, found.1)
   work_stands (work.Refresh file version content from) none c (inr has) = absurd has
-  work_stands (work.Lock txn file mode) none c has = absurd has
-  work_stands (work.Prepare txn writes) none c has = absurd has
-  work_stands (work.Release txn) none c has = absurd has
-  work_stands (work.Peek file) none c has = absurd has
+  work_stands ask none c has = absurd has
 
   pub cited_stands : (step : Step) → unfounded_citation world step ≡ None → (c : Citation) → Has (cited_in step) c → Stands world c
   cited_stands (steps.Node server (node_asks.Work ask)) none c has = work_stands ask none c has
-  cited_stands (steps.Node server node_asks.Crash) none c has = absurd has
-  cited_stands (steps.Node server node_asks.Return) none c has = absurd has
   cited_stands (steps.Node server (node_asks.CrashIn after ask)) none c has = work_stands ask none c has
   cited_stands (steps.Desk (desk_asks.Commit txn ops votes)) none c has =
       let both = or_else-none (unfounded_op world txn ops) (unfounded_vote world txn votes) none in
@@ -190,9 +178,7 @@ module _ (world : JournalsView) where
         | inl here ↦ ops_stand txn ops both.0 c here
         | inr there ↦ votes_stand txn votes both.1 c there
       ]
-  cited_stands (steps.Desk desk_asks.Begin) none c has = absurd has
-  cited_stands (steps.Desk (desk_asks.Resolve txn)) none c has = absurd has
-  cited_stands (steps.View ask) none c has = absurd has
+  cited_stands step none c has = absurd has
 
 -- ---- the first entries of journals
 

@@ -1,14 +1,16 @@
 -- The last numbers of all parts.
 use Rattle.std.proofs.Common.{◌≡◌, ◌⊎◌, inl, inr, ◌<◌, ◌≤◌, ◌+◌, ℕ, List, [], ◌∷◌, ◌++◌, length, get_or, set, take, drop, refl, sym, ap, subst, ◌∙◌, arith, append_assoc, append-nil}
+use Rattle.std.proofs.Math.Path.{transport}
 use Rattle.std.proofs.lemmas.Bool.{cases_eq}
 use Rattle.std.specs.List.{All}
 use Rattle.std.proofs.lemmas.List.{get_or-set_same, get_or-set_other, get_or_default, take-append-drop, drop_more, take_more}
 use Rattle.std.proofs.lemmas.List.Elements.{All-get_or}
 use Rattle.tq_shape.specs.Journal.{Has}
+use Rattle.tq_shape.proofs.Places.{append-Has}
 use Rattle.tq_shape.specs.declared.part.Part.{Part}
 use Rattle.tq_merge.specs.declared.name.EntryName.{EntryName}
 use Rattle.tq_merge.specs.EntryNames.{place_of, IsAbove, RiseAfter, IsFallen, IsWithin}
-use Rattle.tq_merge.proofs.NamePlaces.{has_end, has_more, has_push, same_place, counted}
+use Rattle.tq_merge.proofs.NamePlaces.{has_push, same_place, counted}
 
 pub rise_more : (before names : List EntryName) (name : EntryName) → RiseAfter before names → IsAbove (before ++ names) name → RiseAfter before (names ++ name ∷ [])
 rise_more before [] name rise above = (subst (λ (l : List EntryName). IsAbove l name) (append-nil before) above, tt)
@@ -58,12 +60,12 @@ module _ (last : List ℕ) (seen : List EntryName) (keeps : KeepsLast last seen)
             let at : get_or (set last (place_of name.part) name.number) (place_of p) 0 ≡ name.number = ap (λ (k : ℕ). get_or (set last (place_of name.part) name.number) k 0) same ∙ here in
             let part = same_place p name.part same in
             let is : name ≡ record { part = p; number = get_or (set last (place_of name.part) name.number) (place_of p) 0 } = (λ i. record { part = sym part i; number = sym at i }) in
-            inr (subst (λ (e : EntryName). Has (seen ++ name ∷ []) e) is (has_end seen name))
+            inr (subst (λ (e : EntryName). Has (seen ++ name ∷ []) e) is (append-Has seen (name ∷ []) name (inr (inl refl))))
         | inr other ↦
             let at = get_or-set_other last (place_of name.part) (place_of p) name.number 0 other in
             elim (keeps.from p) [
               | inl none ↦ inl (at ∙ none)
-              | inr has ↦ inr (subst (λ (n : ℕ). Has (seen ++ name ∷ []) (record { part = p; number = n })) (sym at) (has_more seen (name ∷ []) _ has))
+              | inr has ↦ inr (subst (λ (n : ℕ). Has (seen ++ name ∷ []) (record { part = p; number = n })) (sym at) (append-Has seen (name ∷ []) _ (inl has)))
             ]
       ]
 
@@ -102,17 +104,12 @@ module _ (last counts : List ℕ) (names : List EntryName) (i : ℕ) (d : EntryN
       subst (λ (l : List EntryName). IsFallen l (get_or names i d)) (splits names i d within)
       (is_fallen last (take i names) keeps (get_or names i d) (drop (i + 1) names) good_here.0 (omega (arith, most, read_is)) rise)
 
-  next_above : read < (get_or names i d).number → get_or last (place_of (get_or names i d).part) 0 < (get_or names i d).number
-  next_above above = (let read_is = reads in omega (arith, above, read_is))
-
-  pub next_keeps : read < (get_or names i d).number → KeepsLast (set last place (get_or names i d).number) (take (i + 1) names)
-  next_keeps above =
+  pub next_rises : read < (get_or names i d).number → RiseAfter [] (take i names) → KeepsLast (set last place (get_or names i d).number) (take (i + 1) names) × RiseAfter [] (take (i + 1) names)
+  next_rises more rise =
       let here = stands_there in
-      subst (λ (k : ℕ). KeepsLast (set last k (get_or names i d).number) (take (i + 1) names)) (sym is_place)
-      (subst (λ (l : List EntryName). KeepsLast (set last (place_of (get_or names i d).part) (get_or names i d).number) l) (sym (take_more names i d within))
-      (keeps_more last (take i names) keeps (get_or names i d) (omega (arith, here, one_each)) (next_above above)))
-
-  pub next_rises : read < (get_or names i d).number → RiseAfter [] (take i names) → RiseAfter [] (take (i + 1) names)
-  next_rises above rise =
-      subst (λ (l : List EntryName). RiseAfter [] l) (sym (take_more names i d within))
-      (rise_more [] (take i names) (get_or names i d) rise (is_above last (take i names) keeps (get_or names i d) (next_above above)))
+      let read_is = reads in
+      let names_are = take_more names i d within in
+      let above : get_or last (place_of (get_or names i d).part) 0 < (get_or names i d).number = omega (arith, more, read_is) in (
+        transport (λ j. KeepsLast (set last (sym is_place j) (get_or names i d).number) (sym names_are j)) (keeps_more last (take i names) keeps (get_or names i d) (omega (arith, here, one_each)) above),
+        subst (λ (l : List EntryName). RiseAfter [] l) (sym names_are) (rise_more [] (take i names) (get_or names i d) rise (is_above last (take i names) keeps (get_or names i d) above)),
+      )

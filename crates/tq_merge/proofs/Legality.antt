@@ -1,5 +1,5 @@
 -- Replaying a journal: it is legal so far, or the first entry that is not is found.
-use Rattle.std.proofs.Common.{◌≡◌, ◌<◌, ◌+◌, ◌-◌, ℕ, suc, List, [], ◌∷◌, ◌++◌, length, map, take, reverse, get_or, Some, refl, sym, ap, subst, ◌∙◌, arith, length-take-le}
+use Rattle.std.proofs.Common.{◌≡◌, ◌<◌, ◌+◌, ◌-◌, ℕ, suc, List, [], ◌∷◌, ◌++◌, length, map, take, reverse, get_or, refl, sym, ap, subst, ◌∙◌, arith, length-take-le}
 use Rattle.std.specs.Option.{option_map}
 use Rattle.std.proofs.lemmas.Option.{slice_get_read, slice_get-map}
 use Rattle.std.proofs.lemmas.List.{length-map, map-append, take-map}
@@ -7,95 +7,34 @@ use Rattle.tq_shape.specs.Journal.{state_from, IsLegalFrom}
 use Rattle.tq_shape.specs.declared.entry.Entry.{Entry}
 use Rattle.tq_shape.proofs.Joined.{legal-push, legal-reverse}
 use Rattle.tq_node.specs.Records.{node_reply, node_after}
-use Rattle.tq_node.specs.Node.{NodeView}
 use Rattle.tq_node.specs.NodeJournal.{nothing_stored, IsLegalNode}
-use Rattle.tq_asks.specs.declared.ask.NodeReply.{NodeReply}
-use Rattle.tq_desk.specs.declared.ask.DeskReply.{DeskReply}
-use Rattle.tq_desk.specs.DeskJournal.{DeskBounds, step_reply, step_after, opened_desk}
-use Rattle.tq_desk.specs.DeskStep.{DeskView, desk_reply}
-use Rattle.tq_live.specs.Live.{Live}
-use Rattle.tq_live.specs.declared.view.ViewReply.{ViewReply}
-use Rattle.tq_live.specs.View.{view_reply, view_reply_at, view_after_at, view_state, IsLegalView}
 use Rattle.tq_node.specs.NodeJournal.{NodeEntry}
-use Rattle.tq_desk.specs.DeskJournal.{DeskEntry}
-use Rattle.tq_tables.specs.Journals.{ViewEntry}
-use Rattle.tq_tables.specs.Parts.{AreLegalServers, desk_at, node_after_all}
-use Rattle.tq_tables.proofs.Replayed.{view_from}
+use Rattle.tq_tables.specs.Parts.{AreLegalServers}
 use Rattle.tq_tables.proofs.RowLaws.{take-next}
 use Rattle.tq_world.specs.World.{item_at}
-use Rattle.tq_merge.specs.Wrong.{IsFirstWrong, IsLegalServer, IsWrongOfServer, IsLegalDeskFrom, IsWrongOfDesk, IsWrongOfView, IsWrongOfServers}
+use Rattle.tq_merge.specs.Wrong.{IsFirstWrong, IsLegalServer, IsWrongOfServer, IsWrongOfServers}
 use Rattle.tq_merge.proofs.Places.{item_at-suc}
 
--- the item that a loop reads
-pub read_item : {E : Type 0} (items : List E) (i : ℕ) (e : E) → i < length items → e ≡ get_or items i e → item_at items (i + 1) ≡ Some e
-read_item items i e less is =
-    let at : i + 1 ≡ suc i = omega arith in
-    ap (item_at items) at ∙ item_at-suc items i ∙ slice_get_read items (length items) i e refl less is
+-- ---- one entry more, and what was told at its ask
 
-module _ {S A R : Type 0} (reply : S → ℕ → A → R) (after : S → ℕ → A → S) (opening : S) where
-  legal_next : (entries : List (Entry A R)) (i : ℕ) (e : Entry A R) → i < length entries → e ≡ get_or entries i e → IsLegalFrom reply after opening 1 (take i entries)
-      → e.reply ≡ reply (state_from after opening 1 (take i entries)) (suc i) e.ask → IsLegalFrom reply after opening 1 (take (i + 1) entries)
-  legal_next entries i e less is legal gives =
+module _ {S A R : Type 0} (reply : S → ℕ → A → R) (after : S → ℕ → A → S) (opening : S) (entries : List (Entry A R)) (i : ℕ) (e : Entry A R) (less : i < length entries) (is : e ≡ get_or entries i e)
+    (legal : IsLegalFrom reply after opening 1 (take i entries)) (told : R) (told_is : told ≡ reply (state_from after opening 1 (take i entries)) (suc i) e.ask) where
+  pub legal_next : told ≡ e.reply → IsLegalFrom reply after opening 1 (take (i + 1) entries)
+  legal_next same =
       let count = length-take-le i entries (omega (arith, less)) in
       subst (IsLegalFrom reply after opening 1) (sym (take-next entries i e less is))
-      (legal-push reply after opening (take i entries) e legal (gives ∙ ap (λ (n : ℕ). reply (state_from after opening 1 (take i entries)) (suc n) e.ask) (sym count)))
+      (legal-push reply after opening (take i entries) e legal (sym same ∙ told_is ∙ ap (λ (n : ℕ). reply (state_from after opening 1 (take i entries)) (suc n) e.ask) (sym count)))
 
-  wrong_next : (entries : List (Entry A R)) (i : ℕ) (e : Entry A R) → i < length entries → e ≡ get_or entries i e → IsLegalFrom reply after opening 1 (take i entries)
-      → (e.reply ≡ reply (state_from after opening 1 (take i entries)) (suc i) e.ask → ⊥) → IsFirstWrong reply after opening entries (i + 1)
-  wrong_next entries i e less is legal never =
-      let at : (i + 1) - 1 ≡ i = omega arith in
-      let next : i + 1 ≡ suc i = omega arith in
+  pub wrong_next : (told ≡ e.reply → ⊥) → (number : ℕ) → number ≡ i + 1 → IsFirstWrong reply after opening entries number
+  wrong_next never number at =
+      let before : i ≡ number - 1 = omega (arith, at) in
+      let next : number ≡ suc i = omega (arith, at) in
       record {
         entry = e;
-        is_there = read_item entries i e less is;
-        legal_before = subst (λ (n : ℕ). IsLegalFrom reply after opening 1 (take n entries)) (sym at) legal;
-        wrong = λ same. never (same ∙ (λ j. reply (state_from after opening 1 (take (at j) entries)) (next j) e.ask));
+        is_there = ap (item_at entries) next ∙ item_at-suc entries i ∙ slice_get_read entries (length entries) i e refl less is;
+        legal_before = subst (λ (n : ℕ). IsLegalFrom reply after opening 1 (take n entries)) before legal;
+        wrong = λ same. never (told_is ∙ (λ j. reply (state_from after opening 1 (take (before j) entries)) (sym next j) e.ask) ∙ sym same);
       }
-
--- ---- a server
-
-module _ (levels server : ℕ) (entries : List NodeEntry) (i : ℕ) (e : NodeEntry) (less : i < length entries) (is : e ≡ get_or entries i e)
-    (legal : IsLegalServer server (take i entries)) (node : NodeView) (stands : node ≡ node_after_all levels server (take i entries)) (told : NodeReply) (told_is : told ≡ node_reply node.server node.state e.ask) where
-  node_told : told ≡ node_reply server (node_after_all levels server (take i entries)).state e.ask
-  node_told = told_is ∙ ap (λ (n : NodeView). node_reply n.server n.state e.ask) stands
-
-  pub node_legal : told ≡ e.reply → IsLegalServer server (take (i + 1) entries)
-  node_legal same = legal_next (λ old number ask. node_reply server old ask) (node_after server) nothing_stored entries i e less is legal (sym same ∙ node_told)
-
-  pub node_wrong : (told ≡ e.reply → ⊥) → (number : ℕ) → number ≡ i + 1 → IsWrongOfServer server entries number
-  node_wrong apart number at =
-      subst (λ (n : ℕ). IsWrongOfServer server entries n) (sym at)
-      (wrong_next (λ old n ask. node_reply server old ask) (node_after server) nothing_stored entries i e less is legal (λ same. apart (node_told ∙ sym same)))
-
--- ---- the desk
-
-module _ (bounds : DeskBounds) (entries : List DeskEntry) (i : ℕ) (e : DeskEntry) (less : i < length entries) (is : e ≡ get_or entries i e)
-    (legal : IsLegalDeskFrom bounds (take i entries)) (desk : DeskView) (stands : desk ≡ desk_at bounds.levels bounds.limits (take i entries)) (told : DeskReply) (told_is : told ≡ desk_reply desk e.ask) where
-  desk_told : told ≡ desk_reply (desk_at bounds.levels bounds.limits (take i entries)) e.ask
-  desk_told = told_is ∙ ap (λ (d : DeskView). desk_reply d e.ask) stands
-
-  pub desk_legal : told ≡ e.reply → IsLegalDeskFrom bounds (take (i + 1) entries)
-  desk_legal same = legal_next step_reply step_after (opened_desk bounds) entries i e less is legal (sym same ∙ desk_told)
-
-  pub desk_wrong : (told ≡ e.reply → ⊥) → (number : ℕ) → number ≡ i + 1 → IsWrongOfDesk bounds entries number
-  desk_wrong apart number at =
-      subst (λ (n : ℕ). IsWrongOfDesk bounds entries n) (sym at)
-      (wrong_next step_reply step_after (opened_desk bounds) entries i e less is legal (λ same. apart (desk_told ∙ sym same)))
-
--- ---- the view
-
-module _ (levels : ℕ) (entries : List ViewEntry) (i : ℕ) (e : ViewEntry) (less : i < length entries) (is : e ≡ get_or entries i e)
-    (legal : IsLegalView levels (take i entries)) (view : Live) (stands : view ≡ view_from levels (take i entries)) (told : ViewReply) (told_is : told ≡ view_reply view e.ask) where
-  view_told : told ≡ view_reply (view_from levels (take i entries)) e.ask
-  view_told = told_is ∙ ap (λ (l : Live). view_reply l e.ask) stands
-
-  pub view_legal : told ≡ e.reply → IsLegalView levels (take (i + 1) entries)
-  view_legal same = legal_next view_reply_at view_after_at (view_state levels []) entries i e less is legal (sym same ∙ view_told)
-
-  pub view_wrong : (told ≡ e.reply → ⊥) → (number : ℕ) → number ≡ i + 1 → IsWrongOfView levels entries number
-  view_wrong apart number at =
-      subst (λ (n : ℕ). IsWrongOfView levels entries n) (sym at)
-      (wrong_next view_reply_at view_after_at (view_state levels []) entries i e less is legal (λ same. apart (view_told ∙ sym same)))
 
 -- ---- all servers
 

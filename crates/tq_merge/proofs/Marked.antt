@@ -1,8 +1,10 @@
 -- The marks of the entries that are named.
 use Rattle.std.proofs.Common.{◌≡◌, inl, inr, ◌<◌, ◌≤◌, ◌+◌, ◌-◌, ◌==◌, ◌&&◌, ◌||◌, ℕ, zero, suc, Bool, true, false, not, cond, List, [], ◌∷◌, ◌++◌, length, get_or, set, take, drop, refl, sym, ap, subst, ◌∙◌, arith}
+use mathlib.Core.Bool.{not-not, or-false}
+use Rattle.std.proofs.Math.Path.{transport}
 use Rattle.std.specs.Prelude.{count_by}
 use Rattle.std.specs.List.{All, sum_by}
-use Rattle.std.proofs.lemmas.Bool.{cases_eq, cases_Bool, and_parts, and_from, and_left, and_right, or_left, or_right, or_cases, or_from, eqb-true, eq-eqb, ne_eqb, false_from_ne_true, false≢true}
+use Rattle.std.proofs.lemmas.Bool.{cases_eq, cases_Bool, and_parts, and_from, and_left, and_right, or_left, or_right, or_cases, eqb-true, eq-eqb, ne_eqb, false_from_ne_true, false≢true}
 use Rattle.std.proofs.lemmas.List.{get_or-set_same, get_or-set_other, get_or_default, length-set, take_more, take_all}
 use Rattle.std.proofs.lemmas.List.Elements.{All-get_or, All-from_get_or}
 use Rattle.std.proofs.lemmas.List.Folds.{list_any-append}
@@ -56,12 +58,8 @@ named_by_it seen name part number at is =
     let here : is_it part number name ≡ true = and_from (same_part name.part part) (name.number == number) (subst (λ (p : Part). same_part name.part p ≡ true) at (same_part-refl name.part)) (eq-eqb name.number number is) in
     named_more seen name part number ∙ or_right (is_named seen part number) (is_it part number name || false) (or_left (is_it part number name) false here)
 
-or_none : (a b : Bool) → b ≡ false → (a || (b || false)) ≡ a
-or_none true b none = refl
-or_none false b none = or_from b false none refl
-
 not_by_it : (seen : List EntryName) (name : EntryName) (part : Part) (number : ℕ) → is_it part number name ≡ false → is_named (seen ++ name ∷ []) part number ≡ is_named seen part number
-not_by_it seen name part number other = named_more seen name part number ∙ or_none (is_named seen part number) (is_it part number name) other
+not_by_it seen name part number other = named_more seen name part number ∙ ap (λ b. is_named seen part number || (b || false)) other ∙ or-false (is_named seen part number)
 
 other_number : (name : EntryName) (part : Part) (number : ℕ) → (name.number ≡ number → ⊥) → is_it part number name ≡ false
 other_number name part number other = and_right (same_part name.part part) (name.number == number) (ne_eqb name.number number other)
@@ -195,10 +193,6 @@ unnamed_is names counts marks keeps =
     (λ index within.
     ap (λ (n : ℕ). get_or (get_or marks n []) index false) (sym at) ∙ keeps.marked (part_at k) index (subst (λ (n : ℕ). index < get_or counts n 0) (sym at) within))))
 
-twice_not : (b : Bool) → not (not b) ≡ b
-twice_not true = refl
-twice_not false = refl
-
 -- ---- the next name of a list
 
 module _ (counts : List ℕ) (marks : List (List Bool)) (names : List EntryName) (i : ℕ) (d : EntryName) (place : ℕ) (read after : List Bool) (fresh : Bool)
@@ -214,25 +208,22 @@ module _ (counts : List ℕ) (marks : List (List Bool)) (names : List EntryName)
       is_read ∙ get_or_default marks place read [] (omega (arith, stand, many, is_place)) ∙ ap (λ (k : ℕ). get_or marks k []) is_place
 
   marks_there : not fresh ≡ get_or (get_or marks (place_of (get_or names i d).part) []) ((get_or names i d).number - 1) false
-  marks_there = ap not is_fresh ∙ twice_not (get_or read ((get_or names i d).number - 1) false) ∙ ap (λ (l : List Bool). get_or l ((get_or names i d).number - 1) false) reads
+  marks_there = ap not is_fresh ∙ not-not (get_or read ((get_or names i d).number - 1) false) ∙ ap (λ (l : List Bool). get_or l ((get_or names i d).number - 1) false) reads
 
   pub next_twice : fresh ≡ false → AreDifferent (take i names) → IsTwice names (get_or names i d)
   next_twice stale different =
       subst (λ (l : List EntryName). IsTwice l (get_or names i d)) (splits names i d within)
       (is_twice counts marks (take i names) keeps (get_or names i d) good_here (drop (i + 1) names) (sym marks_there ∙ ap not stale) different)
 
-  pub next_keeps : KeepsMarks counts (set marks place after) (take (i + 1) names)
-  next_keeps =
-      let now : set marks place after ≡ marked_new counts marks (take i names) keeps (get_or names i d) good_here =
-      (λ j. set marks (is_place j) ((is_after ∙ ap (λ (l : List Bool). set l ((get_or names i d).number - 1) true) reads) j)) in
-      subst (λ (m : List (List Bool)). KeepsMarks counts m (take (i + 1) names)) (sym now)
-      (subst (λ (l : List EntryName). KeepsMarks counts (marked_new counts marks (take i names) keeps (get_or names i d) good_here) l) (sym (take_more names i d within))
-      (keeps_more counts marks (take i names) keeps (get_or names i d) good_here))
-
-  pub next_different : fresh ≡ true → AreDifferent (take i names) → AreDifferent (take (i + 1) names)
-  next_different first different =
-      subst AreDifferent (sym (take_more names i d within))
-      (different_more (take i names) (get_or names i d) different (is_new counts marks (take i names) keeps (get_or names i d) good_here (sym marks_there ∙ ap not first)))
+  pub next_once : fresh ≡ true → AreDifferent (take i names) → KeepsMarks counts (set marks place after) (take (i + 1) names) × AreDifferent (take (i + 1) names)
+  next_once first different =
+      let marked : List Bool = set (get_or marks (place_of (get_or names i d).part) []) ((get_or names i d).number - 1) true in
+      let after_is : after ≡ marked = is_after ∙ ap (λ (l : List Bool). set l ((get_or names i d).number - 1) true) reads in
+      let names_are = take_more names i d within in (
+        transport (λ j. KeepsMarks counts (set marks (sym is_place j) (sym after_is j)) (sym names_are j)) (keeps_more counts marks (take i names) keeps (get_or names i d) good_here),
+        subst AreDifferent (sym names_are)
+            (different_more (take i names) (get_or names i d) different (is_new counts marks (take i names) keeps (get_or names i d) good_here (sym marks_there ∙ ap not first))),
+      )
 
 pub all_short : (counts : List ℕ) (marks : List (List Bool)) (names : List EntryName) → KeepsMarks counts marks names → All (λ (count : ℕ). count ≤ 1000000) counts
     → All (λ (named : List Bool). length named ≤ 1000000) marks

@@ -36,12 +36,11 @@ module _ (journals : JournalsView) (equal : HasEqualCosts journals) where
   explains_back order is = record { legal = legal_back is.legal; all = is.all; founded = is.founded }
 
   wrong_part : (part : Part) (number : ℕ) → IsWrong journals part number ↔ IsWrongByOne journals part number
-  wrong_part (parts.Server server) number = (λ is. is, λ is. is)
-  wrong_part parts.Desk number = (λ is. is, λ is. is)
   wrong_part parts.View number = (
     λ is. (is.0, is.1, (wrong_view number).0 is.2),
     λ is. (is.0, is.1, (wrong_view number).1 is.2),
   )
+  wrong_part part number = (λ is. is, λ is. is)
 
   stuck_there : (counts : Counts) → IsStuck journals counts → IsStuckByOne journals counts
   stuck_there counts is = record {

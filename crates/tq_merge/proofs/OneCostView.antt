@@ -1,5 +1,6 @@
 -- Where each SetCost has two equal costs, the view replies for either purpose what it replied while a server had one cost.
-use Rattle.std.proofs.Common.{◌≡◌, ◌-◌, ◌^◌, ◌==◌, ◌&&◌, ℕ, zero, suc, Bool, true, false, cond, List, [], ◌∷◌, map, Option, Some, None, get_or, sum_by, refl, sym, ap, ◌∙◌}
+use Rattle.std.proofs.Common.{◌≡◌, ◌-◌, ◌^◌, ◌==◌, ℕ, zero, suc, Bool, true, false, cond, List, [], ◌∷◌, map, Option, Some, None, get_or, sum_by, refl, sym, ap, ◌∙◌}
+use mathlib.Core.Bool.{and_self}
 use Rattle.std.specs.List.{All}
 use Rattle.std.proofs.lemmas.List.Elements.{All-head, All-tail, All-nil, All-push}
 use Rattle.tq_shape.specs.Journal.{entry}
@@ -16,7 +17,7 @@ use Rattle.tq_live.specs.declared.costs.Costs.{Costs}
 use Rattle.tq_live.specs.declared.view.ViewAsk.{ViewAsk}
 use Rattle.tq_live.specs.declared.view.ViewAsk.TheVariants.{SetCost, Mark, Choose}
 use Rattle.tq_live.specs.declared.view.ViewReply.{ViewReply}
-use Rattle.tq_live.specs.declared.view.ViewReply.TheVariants.{CostSet, Marked, Chosen, Refused}
+use Rattle.tq_live.specs.declared.view.ViewReply.TheVariants.{CostSet, Chosen, Refused}
 use Rattle.tq_live.specs.declared.view.ViewRefusal.TheVariants.{NoSuchServer, BadCost}
 use Rattle.tq_tables.specs.Journals.{ViewEntry}
 use Rattle.tq_merge.specs.OneCost.{TreeByOne, cost_by_one, up_by_one, best_by_one, choice_by_one, reply_by_one, cost_told, cost_since, journal_cost, tree_by_one, told_by_one, grown_by_one, AreEqual}
@@ -50,14 +51,10 @@ same_choice : (tree : TreeByOne) (purpose : Purpose) (found : Option (List ℕ))
 same_choice tree purpose None = refl
 same_choice tree purpose (Some servers) = ap (λ (cost : ℕ → ℕ). Chosen (record { servers = servers; levels = tree.levels }) (sum_by cost servers)) (same_cost tree purpose)
 
-both_are : (b : Bool) → (b && b) ≡ b
-both_are true = refl
-both_are false = refl
-
 pub same_reply : (tree : TreeByOne) (ask : ViewAsk) → AreEqual ask → view_reply (twice tree) ask ≡ reply_by_one tree ask
 same_reply tree (SetCost server read write) equal =
     ap (λ (good : Bool). cond (is_server tree.levels server) (cond good CostSet (Refused BadCost)) (Refused NoSuchServer))
-    (ap (are_costs read) (sym equal) ∙ both_are (is_cost read))
+    (ap (are_costs read) (sym equal) ∙ and_self (is_cost read))
 same_reply tree (Mark server up) equal = refl
 same_reply tree (Choose purpose) equal = ap (choice_reply (twice tree) purpose) (same_best tree purpose) ∙ same_choice tree purpose (best_by_one tree)
 
@@ -69,11 +66,7 @@ told_even server (SetCost other read write) CostSet before equal = by (other == 
     by : (here : Bool) → Path Costs (cond here (record { read = read; write = write }) (even_costs before)) (even_costs (cond here read before))
     by true = ap (λ (cost : ℕ). let costs : Costs = record { read = read; write = cost } in costs) (sym equal)
     by false = refl
-told_even server (SetCost other read write) Marked before equal = refl
-told_even server (SetCost other read write) (Chosen quorum cost) before equal = refl
-told_even server (SetCost other read write) (Refused refusal) before equal = refl
-told_even server (Mark other up) reply before equal = refl
-told_even server (Choose purpose) reply before equal = refl
+told_even server ask reply before equal = refl
 
 abbrev pub HasEqual : ViewEntry → Type 0
 HasEqual entry = AreEqual entry.ask

@@ -2,8 +2,8 @@
 use Rattle.std.specs.Prelude.{slice_get, slice_set, is_none}
 use Rattle.std.proofs.Common.{◌≡◌, ◌≢◌, ◌≤◌, ◌+◌, ◌-◌, ℕ, zero, suc, Bool, true, false, List, [], ◌∷◌, ◌++◌, length, take, Option, Some, None, refl, sym, ap, subst, ◌∙◌, nat_le, ◌⊎◌, inl, inr, arith}
 use Rattle.std.specs.Option.{option_map, option_map_or, option_and_then, option_to_list}
-use Rattle.std.proofs.lemmas.Bool.{false≢true, and_parts, and_from, leb-true}
-use Rattle.tq_tables.proofs.RowLaws.{le-true}
+use Rattle.std.proofs.lemmas.List.{take_all}
+use Rattle.std.proofs.lemmas.Bool.{false≢true, and_parts, and_from, le-leb, leb-true}
 use Rattle.tq_shape.specs.Journal.{Has}
 use Rattle.tq_shape.specs.declared.part.Part.{Part}
 use Rattle.tq_shape.specs.declared.part.Part.TheVariants as parts
@@ -24,7 +24,7 @@ use Rattle.tq_world.specs.Founded.{cited_in_work, unfounded_in_node_ask, unfound
 use Rattle.tq_merge.specs.Cited.{cited_in, cited_in_node_ask, entry_cited}
 use Rattle.tq_merge.specs.Order.{times, each_from, counts_of, placed_journals, step_at, unfounded_citation, IsNext}
 use Rattle.tq_merge.specs.Placing.{is_placed, is_citation_placed, is_placed_in_node_ask, is_ready, IsWanted, IsNextWanted, IsPlacing, sum_of, entries_left}
-use Rattle.tq_merge.proofs.Places.{times-more, times-same, times-other, item_at-suc, item_each, each_set, each_after, each_same, take_none, take_past}
+use Rattle.tq_merge.proofs.Places.{times-more, times-same, times-other, item_at-suc, item_each, each_set, each_after, each_same, take_none}
 use Rattle.tq_world.proofs.Rooms.{item_above}
 use Rattle.tq_merge.proofs.Founding.{cited_stands, entry_of_firsts, founded_whole, founded_cites, founded_firsts}
 use Rattle.tq_node.proofs.KeptLocks.{map-some}
@@ -57,7 +57,7 @@ module _ (journals : JournalsView) (order : List Part) (servers : List ℕ) (cou
   number_placed entry es there most =
       ap (λ (o : Option ℕ). option_map_or (λ count. nat_le entry.number count) o false)
       (count_at entry.server ∙ ap (option_map (λ (es : List NodeEntry). times order (parts.Server entry.server))) there)
-      ∙ le-true entry.number (times order (parts.Server entry.server)) most
+      ∙ le-leb entry.number (times order (parts.Server entry.server)) most
 
   -- an entry of a server that is cited by what is founded is placed
   pub cited_placed : (step : Step) → unfounded_citation (placed_journals journals order) step ≡ None → (entry : CitedVote) → Has (cited_in step) (entry_cited entry) → is_placed servers entry ≡ true
@@ -75,16 +75,12 @@ module _ (journals : JournalsView) (order : List Part) (servers : List ℕ) (cou
   work_numbers desk is (work.Decide txn verdict cite) ready c (inr none) = absurd none
   work_numbers desk is (work.Refresh file version content from) ready c (inl same) = subst (λ (x : Citation). x.number ≤ times order x.part) same (placed_number from ready)
   work_numbers desk is (work.Refresh file version content from) ready c (inr none) = absurd none
-  work_numbers desk is (work.Lock txn file mode) ready c has = absurd has
-  work_numbers desk is (work.Prepare txn writes) ready c has = absurd has
-  work_numbers desk is (work.Release txn) ready c has = absurd has
-  work_numbers desk is (work.Peek file) ready c has = absurd has
+  work_numbers desk is ask ready c has = absurd has
 
   node_numbers : (desk : ℕ) → desk ≡ times order parts.Desk → (ask : NodeAsk) → is_placed_in_node_ask servers desk ask ≡ true → (c : Citation) → Has (cited_in_node_ask ask) c → c.number ≤ times order c.part
   node_numbers desk is (node_asks.Work ask) ready c has = work_numbers desk is ask ready c has
-  node_numbers desk is node_asks.Crash ready c has = absurd has
-  node_numbers desk is node_asks.Return ready c has = absurd has
   node_numbers desk is (node_asks.CrashIn after ask) ready c has = work_numbers desk is ask ready c has
+  node_numbers desk is ask ready c has = absurd has
 
   pub ready_founded : (desk : ℕ) → desk ≡ times order parts.Desk → (server : ℕ) (ask : NodeAsk) → is_ready journals servers desk ask ≡ true → unfounded_citation (placed_journals journals order) (steps.Node server ask) ≡ None
   ready_founded desk is server ask ready =
@@ -94,18 +90,14 @@ module _ (journals : JournalsView) (order : List Part) (servers : List ℕ) (cou
   work_placed : (desk : ℕ) → desk ≡ times order parts.Desk → (server : ℕ) (ask : WorkAsk) → unfounded_citation (placed_journals journals order) (steps.Node server (node_asks.Work ask)) ≡ None → option_map_or (is_citation_placed servers desk) (cited_in_work ask) true ≡ true
   work_placed desk is server (work.Decide txn verdict cite) none =
       let most = founded_cites journals (times order) (steps.Node server (node_asks.Work (work.Decide txn verdict cite))) none (record { part = parts.Desk; number = cite }) (inl refl) in
-      le-true cite desk (omega (arith, most, is))
+      le-leb cite desk (omega (arith, most, is))
   work_placed desk is server (work.Refresh file version content from) none = cited_placed (steps.Node server (node_asks.Work (work.Refresh file version content from))) none from (inl refl)
-  work_placed desk is server (work.Lock txn file mode) none = refl
-  work_placed desk is server (work.Prepare txn writes) none = refl
-  work_placed desk is server (work.Release txn) none = refl
-  work_placed desk is server (work.Peek file) none = refl
+  work_placed desk is server ask none = refl
 
   node_placed : (desk : ℕ) → desk ≡ times order parts.Desk → (server : ℕ) (ask : NodeAsk) → unfounded_citation (placed_journals journals order) (steps.Node server ask) ≡ None → is_placed_in_node_ask servers desk ask ≡ true
   node_placed desk is server (node_asks.Work ask) none = work_placed desk is server ask none
-  node_placed desk is server node_asks.Crash none = refl
-  node_placed desk is server node_asks.Return none = refl
   node_placed desk is server (node_asks.CrashIn after ask) none = work_placed desk is server ask none
+  node_placed desk is server ask none = refl
 
   pub founded_ready : (desk : ℕ) → desk ≡ times order parts.Desk → (server : ℕ) (ask : NodeAsk) → unfounded_citation (placed_journals journals order) (steps.Node server ask) ≡ None → is_ready journals servers desk ask ≡ true
   founded_ready desk is server ask none =
@@ -286,7 +278,7 @@ module _ (journals : JournalsView) (order : List Part) (servers : List ℕ) (des
     step = steps.Desk e.ask;
     is_there = desk_step e there;
     founded = wanted_founded journals order servers is.of_servers stands wanted e (is.next e (item_at-suc journals.desk desk ∙ there)) holds
-        (λ entry has. is.seen entry (subst (λ (xs : List CitedVote). Has xs entry) (sym (take_past wanted met all)) has));
+        (λ entry has. is.seen entry (subst (λ (xs : List CitedVote). Has xs entry) (sym (take_all met wanted all)) has));
   }
 
   desk_founded : (e : DeskEntry) → slice_get journals.desk desk ≡ Some e → IsNext journals order parts.Desk → unfounded_citation (placed_journals journals order) (steps.Desk e.ask) ≡ None

@@ -16,14 +16,9 @@ use Rattle.tq_merge.specs.Order.{same_part, times, each_from}
 
 pub same_part-is : (a b : Part) → same_part a b ≡ true → a ≡ b
 same_part-is (Server a) (Server b) same = ap Server (eqb-true a b same)
-same_part-is (Server a) Desk same = absurd (false≢true same)
-same_part-is (Server a) View same = absurd (false≢true same)
-same_part-is Desk (Server b) same = absurd (false≢true same)
 same_part-is Desk Desk same = refl
-same_part-is Desk View same = absurd (false≢true same)
-same_part-is View (Server b) same = absurd (false≢true same)
-same_part-is View Desk same = absurd (false≢true same)
 same_part-is View View same = refl
+same_part-is a b same = absurd (false≢true same)
 
 pub same_part-refl : (a : Part) → same_part a a ≡ true
 same_part-refl (Server a) = eq-eqb a a refl
@@ -93,12 +88,6 @@ take_next items count x is =
 pub take_none : {E : Type 0} (items : List E) → take 0 items ≡ []
 take_none [] = refl
 take_none (y ∷ items) = refl
-
-pub take_past : {E : Type 0} (items : List E) (count : ℕ) → length items ≤ count → take count items ≡ items
-take_past [] zero less = refl
-take_past [] (suc count) less = refl
-take_past (y ∷ items) zero less = absurd (omega (arith, less))
-take_past (y ∷ items) (suc count) less = ap (λ rest. y ∷ rest) (take_past items count (omega (arith, less)))
 
 -- ---- lists made item by item
 

@@ -1,5 +1,6 @@
 -- Rounds: each part in its turn, until nothing can be placed.
 use Rattle.std.proofs.Common.{◌≡◌, ◌≤◌, ◌<◌, ◌+◌, ◌-◌, ℕ, suc, Bool, true, false, List, length, refl, sym, subst, ◌∙◌, nat_lt, ◌⊎◌, inl, inr, arith}
+use Rattle.std.proofs.Math.Path.{transport}
 use Rattle.std.proofs.lemmas.Bool.{false≢true, cases_Bool}
 use Rattle.tq_shape.specs.declared.part.Part.{Part}
 use Rattle.tq_shape.specs.declared.part.Part.TheVariants as parts
@@ -29,22 +30,19 @@ module _ (first now after : JournalsView) (began order then : List Part) (place 
       by (inl t) = let l = fewer t in omega (arith, l)
       by (inr f) = let e : entries_left now order ≡ entries_left first began = (λ i. entries_left (same i) ((still f).0 i)) in omega (arith, e)
 
-  pub turn_placed : placed ≡ true → (newly : Bool) → newly ≡ true
+  pub turn : (newly : Bool) → ((placed ≡ true) × (newly ≡ true)) ⊎ ((placed ≡ false) × (newly ≡ moved))
       → (after ≡ first) × (newly ≡ true → entries_left after then < entries_left first began) × (newly ≡ false → (then ≡ began) × AreBlocked first began (place + 1))
-  turn_placed is newly newly_is = (
+  turn newly (inl is) = (
     kept ∙ same,
-    (λ _. let l = less is in let m = at_most in omega (arith, l, m)),
-    (λ f. absurd (false≢true (sym f ∙ newly_is))),
+    (λ _. let l = less is.0 in let m = at_most in omega (arith, l, m)),
+    (λ f. absurd (false≢true (sym f ∙ is.1))),
   )
-
-  pub turn_still : placed ≡ false → (newly : Bool) → newly ≡ moved
-      → (after ≡ first) × (newly ≡ true → entries_left after then < entries_left first began) × (newly ≡ false → (then ≡ began) × AreBlocked first began (place + 1))
-  turn_still is newly newly_is =
-      let order_is = none is in
+  turn newly (inr is) =
+      let order_is = none is.0 in
       let left_is : entries_left after then ≡ entries_left now order = (λ i. entries_left (kept i) (order_is i)) in (
         kept ∙ same,
-        (λ t. let l = fewer (sym newly_is ∙ t) in omega (arith, l, left_is)),
-        (λ f. let old = still (sym newly_is ∙ f) in (order_is ∙ old.0, more (order_is ∙ old.0) old.1)),
+        (λ t. let l = fewer (sym is.1 ∙ t) in omega (arith, l, left_is)),
+        (λ f. let old = still (sym is.1 ∙ f) in (order_is ∙ old.0, more (order_is ∙ old.0) old.1)),
       )
     where
       more : then ≡ began → AreBlocked first began place → AreBlocked first began (place + 1)
@@ -54,9 +52,7 @@ module _ (first now after : JournalsView) (began order then : List Part) (place 
           by k next true t less = old k (grind (arith, t)) next
           by k next false t less =
               let at : k ≡ place = grind (arith, t, less) in
-              let w : IsNext after then (parts.Server (suc place)) = (let P : JournalsView → List Part → ℕ → Type 0 = λ j o n. IsNext j o (parts.Server (suc n)) in
-              subst (λ (n : ℕ). P after then n) at (subst (λ (o : List Part). P after o k) (sym order_is) (subst (λ (j : JournalsView). P j began k) (sym (kept ∙ same)) next))) in
-              blocked w
+              blocked (transport (λ i. IsNext (sym (kept ∙ same) i) (sym order_is i) (parts.Server (suc (at i)))) next)
 
 -- every server, the desk and the view
 pub all_done : (journals : JournalsView) (order : List Part) (count : ℕ) → count ≡ length journals.servers → AreBlocked journals order count → (IsNext journals order parts.Desk → ⊥) → (IsNext journals order parts.View → ⊥)

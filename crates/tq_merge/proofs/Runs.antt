@@ -2,7 +2,7 @@
 use Rattle.std.specs.Prelude.{slice_get, slice_set, if◌then◌else◌}
 use Rattle.std.proofs.Common.{◌≡◌, ◌≢◌, ◌≤◌, ◌<◌, ◌+◌, ◌-◌, ◌^◌, ℕ, zero, suc, false, List, [], ◌∷◌, ◌++◌, length, take, replicate, reverse, Option, Some, None, refl, sym, ap, subst, ◌∙◌, nat_le, arith, append_assoc, length-take-le}
 use Rattle.std.specs.Option.{option_map, option_and_then, option_to_list, unwrap_or}
-use Rattle.std.proofs.lemmas.List.{append-nil}
+use Rattle.std.proofs.lemmas.List.{append-nil, take_all}
 use Rattle.std.proofs.lemmas.Option.{get_or_from_slice_get}
 use Rattle.tq_shape.specs.Journal.{state_from, IsLegalFrom, entry}
 use Rattle.tq_shape.specs.declared.entry.Entry.{Entry}
@@ -35,7 +35,7 @@ use Rattle.tq_world.specs.Steps.{IsOfRun}
 use Rattle.tq_world.proofs.Runs.{world_grown}
 use Rattle.tq_node.proofs.KeptLocks.{map-some}
 use Rattle.tq_merge.specs.Order.{times, entries_of, firsts, placed_journals, step_at, unfounded_citation, ArePlaced, Explains, steps_from, asks_of}
-use Rattle.tq_merge.proofs.Places.{times-same, times-other, item_at-suc, item_each, take_next, take_none, take_past, each_same, each_set, each_is, each_none}
+use Rattle.tq_merge.proofs.Places.{times-same, times-other, item_at-suc, item_each, take_next, take_none, each_same, each_set, each_is, each_none}
 use Rattle.tq_world.proofs.Rooms.{item_above}
 use Rattle.std.proofs.lemmas.Option.{slice_get_within}
 
@@ -157,10 +157,8 @@ module _ (journals : JournalsView) (are : AreJournals journals) (legal : AreLega
       let servers : slice_set (firsts journals count).servers (server - 1) (server_journal (firsts journals count) server ++ node_entry (firsts journals count) server e.ask ∷ []) ≡ (firsts journals other).servers =
       ap (λ (es : List NodeEntry). slice_set (firsts journals count).servers (server - 1) es) (server_next (firsts journals count) server (take (count (parts.Server server)) entries) e there gives)
       ∙ servers_more server entries e here is more same in
-      let desk : take (count parts.Desk) journals.desk ≡ take (other parts.Desk) journals.desk =
-      ap (λ (n : ℕ). take n journals.desk) (sym (same parts.Desk (λ e. let h : Path Part parts.Desk (parts.Server server) = e in cc))) in
-      let view : take (count parts.View) journals.view ≡ take (other parts.View) journals.view =
-      ap (λ (n : ℕ). take n journals.view) (sym (same parts.View (λ e. let h : Path Part parts.View (parts.Server server) = e in cc))) in
+      let desk = ap (λ (n : ℕ). take n journals.desk) (sym (same parts.Desk (λ e. let h : Path Part parts.Desk (parts.Server server) = e in cc))) in
+      let view = ap (λ (n : ℕ). take n journals.view) (sym (same parts.View (λ e. let h : Path Part parts.View (parts.Server server) = e in cc))) in
       world_grown (firsts journals count) (steps.Node server e.ask)
       (server_free (firsts journals count) server (take (count (parts.Server server)) entries) e.ask there (omega (arith, short, is.less, fits)) none)
       ∙ (λ i. record { levels = journals.levels; limits = journals.limits; servers = servers i; desk = desk i; view = view i })
@@ -177,11 +175,9 @@ module _ (journals : JournalsView) (are : AreJournals journals) (legal : AreLega
       ap (λ (r : DeskReply). take (count parts.Desk) journals.desk ++ entry e.ask r ∷ []) (sym gives)
       ∙ sym (take_next journals.desk (count parts.Desk) e is.is_there)
       ∙ ap (λ (n : ℕ). take n journals.desk) (sym more) in
-      let servers : (firsts journals count).servers ≡ (firsts journals other).servers =
-      each_same (λ n (es : List NodeEntry). take (count (parts.Server n)) es) (λ n (es : List NodeEntry). take (other (parts.Server n)) es) 1 journals.servers
+      let servers = each_same (λ n (es : List NodeEntry). take (count (parts.Server n)) es) (λ n (es : List NodeEntry). take (other (parts.Server n)) es) 1 journals.servers
       (λ n es. ap (λ (c : ℕ). take c es) (sym (same (parts.Server n) (λ e. let h : Path Part (parts.Server n) parts.Desk = e in cc)))) in
-      let view : take (count parts.View) journals.view ≡ take (other parts.View) journals.view =
-      ap (λ (n : ℕ). take n journals.view) (sym (same parts.View (λ e. let h : Path Part parts.View parts.Desk = e in cc))) in
+      let view = ap (λ (n : ℕ). take n journals.view) (sym (same parts.View (λ e. let h : Path Part parts.View parts.Desk = e in cc))) in
       world_grown (firsts journals count) (steps.Desk e.ask)
       (not_refused (firsts journals count) parts.Desk (length (take (count parts.Desk) journals.desk)) (unfounded_in_desk_ask (firsts journals count) e.ask)
       (room journals.limits.entries (length (take (count parts.Desk) journals.desk)) (omega (arith, short, is.less, are.desk_fits))) none)
@@ -200,11 +196,9 @@ module _ (journals : JournalsView) (are : AreJournals journals) (legal : AreLega
       ap (λ (r : ViewReply). take (count parts.View) journals.view ++ entry e.ask r ∷ []) (sym gives)
       ∙ sym (take_next journals.view (count parts.View) e is.is_there)
       ∙ ap (λ (n : ℕ). take n journals.view) (sym more) in
-      let servers : (firsts journals count).servers ≡ (firsts journals other).servers =
-      each_same (λ n (es : List NodeEntry). take (count (parts.Server n)) es) (λ n (es : List NodeEntry). take (other (parts.Server n)) es) 1 journals.servers
+      let servers = each_same (λ n (es : List NodeEntry). take (count (parts.Server n)) es) (λ n (es : List NodeEntry). take (other (parts.Server n)) es) 1 journals.servers
       (λ n es. ap (λ (c : ℕ). take c es) (sym (same (parts.Server n) (λ e. let h : Path Part (parts.Server n) parts.View = e in cc)))) in
-      let desk : take (count parts.Desk) journals.desk ≡ take (other parts.Desk) journals.desk =
-      ap (λ (n : ℕ). take n journals.desk) (sym (same parts.Desk (λ e. let h : Path Part parts.Desk parts.View = e in cc))) in
+      let desk = ap (λ (n : ℕ). take n journals.desk) (sym (same parts.Desk (λ e. let h : Path Part parts.Desk parts.View = e in cc))) in
       world_grown (firsts journals count) (steps.View e.ask)
       (not_refused (firsts journals count) parts.View (length (take (count parts.View) journals.view)) None
       (room journals.limits.entries (length (take (count parts.View) journals.view)) (omega (arith, short, is.less, are.view_fits))) refl)
@@ -233,20 +227,18 @@ module _ (journals : JournalsView) (are : AreJournals journals) (legal : AreLega
 nothing_first : (journals : JournalsView) → AreJournals journals → firsts journals (times []) ≡ empty_world journals.levels journals.limits
 nothing_first journals are =
     let number : length journals.servers ≡ 2 ^ journals.levels - 1 = (let one = are.one_each in omega (arith, one)) in
-    let servers : (firsts journals (times [])).servers ≡ replicate (2 ^ journals.levels - 1) [] =
-    each_none (λ n (es : List NodeEntry). take (times [] (parts.Server n)) es) 1 journals.servers (λ n es. take_none es) ∙ ap (λ (n : ℕ). replicate n []) number in
+    let servers = each_none (λ n (es : List NodeEntry). take (times [] (parts.Server n)) es) 1 journals.servers (λ n es. take_none es) ∙ ap (λ (n : ℕ). replicate n []) number in
     λ i. record { levels = journals.levels; limits = journals.limits; servers = servers i; desk = take_none journals.desk i; view = take_none journals.view i }
 
 all_first : (journals : JournalsView) (count : Part → ℕ) → ((part : Part) → count part ≡ entries_of journals part) → firsts journals count ≡ journals
 all_first journals count all =
-    let servers : (firsts journals count).servers ≡ journals.servers =
-    each_is (λ n (es : List NodeEntry). take (count (parts.Server n)) es) 1 journals.servers
+    let servers = each_is (λ n (es : List NodeEntry). take (count (parts.Server n)) es) 1 journals.servers
     (λ place es is.
     let journal : server_journal journals (1 + place) ≡ es =
     ap (λ (o : Option (List NodeEntry)). unwrap_or o []) (ap (item_at journals.servers) (omega arith) ∙ item_at-suc journals.servers place ∙ is) in
-    ap (λ (n : ℕ). take n es) (all (parts.Server (1 + place)) ∙ ap length journal) ∙ take_past es (length es) (omega arith)) in
-    let desk = ap (λ (n : ℕ). take n journals.desk) (all parts.Desk) ∙ take_past journals.desk (length journals.desk) (omega arith) in
-    let view = ap (λ (n : ℕ). take n journals.view) (all parts.View) ∙ take_past journals.view (length journals.view) (omega arith) in
+    ap (λ (n : ℕ). take n es) (all (parts.Server (1 + place)) ∙ ap length journal) ∙ take_all (length es) es (omega arith)) in
+    let desk = ap (λ (n : ℕ). take n journals.desk) (all parts.Desk) ∙ take_all (length journals.desk) journals.desk (omega arith) in
+    let view = ap (λ (n : ℕ). take n journals.view) (all parts.View) ∙ take_all (length journals.view) journals.view (omega arith) in
     λ i. record { levels = journals.levels; limits = journals.limits; servers = servers i; desk = desk i; view = view i }
 
 runs_from : (journals : JournalsView) → AreJournals journals → AreLegal journals → (before order : List Part) → ArePlaced journals before order

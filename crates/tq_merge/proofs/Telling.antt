@@ -1,5 +1,5 @@
 -- What one more exchange tells, and what one more caller was told.
-use Rattle.std.proofs.Common.{◌≡◌, inl, inr, ◌<◌, ◌≤◌, ◌+◌, ◌-◌, ℕ, zero, suc, List, [], ◌∷◌, ◌++◌, length, get_or, take, map, Option, Some, None, Ok, Err, refl, sym, ap, subst, ◌∙◌, arith, append-nil}
+use Rattle.std.proofs.Common.{◌≡◌, inl, inr, ◌<◌, ◌≤◌, ◌+◌, ◌-◌, ℕ, zero, suc, List, [], ◌∷◌, ◌++◌, length, get_or, take, map, Option, Some, None, Ok, refl, sym, ap, subst, ◌∙◌, arith, append-nil}
 use Rattle.std.specs.Prelude.{slice_get}
 use Rattle.std.specs.List.{All}
 use Rattle.std.specs.Option.{option_map, option_and_then, is_some}
@@ -30,11 +30,9 @@ some_name name none = (let n : 1 ≡ 0 = ap length none in omega (arith, n))
 
 pub nameless_stands : (journals : JournalsView) (e : Exchange) → names_in e ≡ [] → Stands journals e
 nameless_stands journals (exchanges.Node server ask (Ok told)) none = absurd (some_name _ none)
-nameless_stands journals (exchanges.Node server ask (Err fault)) none = tt
 nameless_stands journals (exchanges.Desk ask (Ok told)) none = absurd (some_name _ none)
-nameless_stands journals (exchanges.Desk ask (Err fault)) none = tt
 nameless_stands journals (exchanges.View ask (Ok told)) none = absurd (some_name _ none)
-nameless_stands journals (exchanges.View ask (Err fault)) none = tt
+nameless_stands journals e none = tt
 
 pub next_item : {A : Type 0} (xs : List A) (i : ℕ) (x : A) → i < length xs → x ≡ get_or xs i x → take (i + 1) xs ≡ take i xs ++ x ∷ []
 next_item xs i x within is = take_more xs i x within ∙ ap (λ y. take i xs ++ y ∷ []) (sym is)
@@ -93,11 +91,9 @@ within_one counts name within = All-cons (IsWithin counts) name [] within (All-n
 
 exchange_within : (journals : JournalsView) (e : Exchange) → Stands journals e → All (IsWithin (counts_of journals)) (names_in e)
 exchange_within journals (exchanges.Node server ask (Ok told)) stands = within_one (counts_of journals) _ (server_within journals server told.number _ (item_at journals.servers server) refl stands)
-exchange_within journals (exchanges.Node server ask (Err fault)) stands = All-nil (IsWithin (counts_of journals))
 exchange_within journals (exchanges.Desk ask (Ok told)) stands = within_one (counts_of journals) _ (item_within journals.desk told.number _ stands)
-exchange_within journals (exchanges.Desk ask (Err fault)) stands = All-nil (IsWithin (counts_of journals))
 exchange_within journals (exchanges.View ask (Ok told)) stands = within_one (counts_of journals) _ (item_within journals.view told.number _ stands)
-exchange_within journals (exchanges.View ask (Err fault)) stands = All-nil (IsWithin (counts_of journals))
+exchange_within journals e stands = All-nil (IsWithin (counts_of journals))
 
 pub told_within : (journals : JournalsView) (told : List Exchange) → All (Stands journals) told → All (IsWithin (counts_of journals)) (names_of told)
 told_within journals [] stand = All-nil (IsWithin (counts_of journals))

@@ -1,6 +1,7 @@
 -- Placing in the code's own words: its counts, its lists of journals, and where it begins.
 use Rattle.std.specs.Prelude.{slice_get, slice_set}
 use Rattle.std.proofs.Common.{◌≡◌, ◌≤◌, ◌<◌, ◌+◌, ◌-◌, ℕ, zero, suc, Bool, true, false, cond, List, [], ◌∷◌, ◌++◌, length, map, take, get_or, replicate, Some, refl, sym, ap, subst, ◌∙◌, ◌⊎◌, arith}
+use Rattle.std.proofs.Math.Path.{transport}
 use Rattle.std.specs.Option.{option_map}
 use Rattle.std.proofs.lemmas.Option.{slice_get_read, get_or_from_slice_get}
 use Rattle.std.proofs.lemmas.List.{length-map, replicate_more}
@@ -10,10 +11,11 @@ use Rattle.tq_shape.specs.declared.part.Part.TheVariants as parts
 use Rattle.tq_asks.specs.declared.ask.CitedVote.{CitedVote}
 use Rattle.tq_tables.specs.Journals.{JournalsView, ViewEntry}
 use Rattle.tq_node.specs.NodeJournal.{NodeEntry}
+use Rattle.tq_desk.specs.DeskJournal.{DeskEntry}
 use Rattle.tq_world.specs.declared.answer.Step.TheVariants as steps
 use Rattle.tq_world.specs.World.{item_at}
 use Rattle.tq_merge.specs.Order.{same_part, times, each_from, IsNext, ArePlaced}
-use Rattle.tq_merge.specs.Placing.{is_placed, is_ready, IsNextWanted, IsPlacing, entries_left}
+use Rattle.tq_merge.specs.Placing.{PlacingView, is_placed, is_ready, IsNextWanted, IsPlacing, entries_left}
 use Rattle.tq_merge.proofs.Places.{times-more, item_at-suc, length_each, get_each, take_none}
 use Rattle.tq_merge.proofs.Greedy.{placed-more}
 use Rattle.std.proofs.lemmas.Option.{slice_get-map}
@@ -85,12 +87,15 @@ server_here items vectors servers place v same less is =
     ∙ slice_get-map items vectors place ∙ ap (option_map items) (slice_get_read vectors (length vectors) place v refl (omega (arith, less, size, count)) is)
 
 module _ (journals : JournalsView) (order : List Part) (servers : List ℕ) (desk : ℕ) (stands : Bool) (wanted : List CitedVote) (met : ℕ) (is : IsPlacing journals order servers desk stands wanted met)
-    (place : ℕ) (less : place < length journals.servers) where
+    (v : PlacingView) (view_is : Path PlacingView (record { journals = journals; order = order }) v) (place : ℕ) (within : place < length v.journals.servers) where
+  less : place < length journals.servers
+  less = subst (λ (w : PlacingView). place < length w.journals.servers) (sym view_is) within
+
   pub in_counts : place < length servers
   in_counts = let size = ap length is.of_servers ∙ length_each (λ n (es : List NodeEntry). times order (parts.Server n)) 1 journals.servers in omega (arith, less, size)
 
   -- the count that is read is the server's
-  pub count_here : (count : ℕ) → count ≡ get_or servers place count → count ≡ times order (parts.Server (suc place))
+  count_here : (count : ℕ) → count ≡ get_or servers place count → count ≡ times order (parts.Server (suc place))
   count_here count at =
       let e = has_get journals.servers place less in
       at
@@ -100,69 +105,79 @@ module _ (journals : JournalsView) (order : List Part) (servers : List ℕ) (des
       ∙ ap (option_map (λ (es : List NodeEntry). times order (parts.Server (1 + place)))) e.1
       ∙ ap (λ (n : ℕ). Some (times order (parts.Server n))) (omega arith))
 
-  module _ (entries : List NodeEntry) (here : item_at journals.servers (suc place) ≡ Some entries) (count : ℕ) (at : count ≡ get_or servers place count) where
-    pub place_last : length entries ≤ count → IsNext journals order (parts.Server (suc place)) → ⊥
-    place_last short = let same = count_here count at in server_last journals order servers desk stands wanted met is (suc place) entries here (omega (arith, short, same))
+  -- the server's entries, and how many are placed, as they are read
+  module _ {V : Type 0} (items : V → List NodeEntry) (vectors : List V) (vector : V) (listed : map items vectors ≡ journals.servers) (vector_is : vector ≡ get_or vectors place vector)
+      (entries : List NodeEntry) (entries_are : entries ≡ items vector) (count : ℕ) (at : count ≡ get_or servers place count) where
+    here : item_at journals.servers (suc place) ≡ Some entries
+    here = server_here items vectors journals.servers place vector listed less vector_is ∙ ap (λ (es : List NodeEntry). Some es) (sym entries_are)
 
-    there : (e : NodeEntry) → count < length entries → e ≡ get_or entries count e → slice_get entries (times order (parts.Server (suc place))) ≡ Some e
-    there e within item = ap (slice_get entries) (sym (count_here count at)) ∙ slice_get_read entries (length entries) count e refl within item
+    pub place_last : length entries ≤ count → IsNext v.journals v.order (parts.Server (suc place)) → ⊥
+    place_last short =
+        let same = count_here count at in
+        subst (λ (w : PlacingView). IsNext w.journals w.order (parts.Server (suc place)) → ⊥) view_is
+        (server_last journals order servers desk stands wanted met is (suc place) entries here (omega (arith, short, same)))
 
-    pub place_waits : (e : NodeEntry) → count < length entries → e ≡ get_or entries count e → is_ready journals servers desk e.ask ≡ false → IsNext journals order (parts.Server (suc place)) → ⊥
-    place_waits e within item waits = server_waits journals order servers desk stands wanted met is (suc place) entries e here (there e within item) waits
+    -- the next one, and whether it can be placed
+    module _ (e : NodeEntry) (inside : count < length entries) (item : e ≡ get_or entries count e) (counts : List ℕ) (counts_are : counts ≡ servers) (ready : Bool) (ready_is : ready ≡ is_ready journals counts desk e.ask) where
+      there : slice_get entries (times order (parts.Server (suc place))) ≡ Some e
+      there = ap (slice_get entries) (sym (count_here count at)) ∙ slice_get_read entries (length entries) count e refl inside item
 
-    pub place_less : (e : NodeEntry) → count < length entries → e ≡ get_or entries count e → is_ready journals servers desk e.ask ≡ true → (after : List Part) → after ≡ order ++ parts.Server (place + 1) ∷ []
-        → suc (entries_left journals after) ≡ entries_left journals order
-    place_less e within item ready after entered =
-        let number : place + 1 ≡ suc place = omega arith in
-        ap (λ (o : List Part). suc (entries_left journals o)) (entered ∙ ap (λ (n : ℕ). order ++ parts.Server n ∷ []) number)
-        ∙ left_less journals order (parts.Server (suc place)) (λ e. let h : Path Part (parts.Server (suc place)) parts.View = e in cc)
-        (server_next journals order servers desk stands wanted met is (suc place) entries e here (there e within item) ready)
+      told : is_ready journals servers desk e.ask ≡ ready
+      told = sym (ready_is ∙ ap (λ (cs : List ℕ). is_ready journals cs desk e.ask) counts_are)
 
-    pub place_more : (e : NodeEntry) → count < length entries → e ≡ get_or entries count e → is_ready journals servers desk e.ask ≡ true → (after : List Part) → after ≡ order ++ parts.Server (place + 1) ∷ []
-        → IsPlacing journals after (slice_set servers place (count + 1)) desk stands wanted met
-    place_more e within item ready after entered =
-        let next = server_next journals order servers desk stands wanted met is (suc place) entries e here (there e within item) ready in
-        let number : place + 1 ≡ suc place = omega arith in
-        let before : suc place - 1 ≡ place = omega arith in
-        let one : count + 1 ≡ suc count = omega arith in
-        subst (λ (o : List Part). IsPlacing journals o (slice_set servers place (count + 1)) desk stands wanted met) (sym (entered ∙ ap (λ (n : ℕ). order ++ parts.Server n ∷ []) number))
-        (server_more journals order servers desk stands wanted met is (suc place) (slice_set servers place (count + 1)) next
-        ((λ i. slice_set servers (sym before i) (one i)) ∙ ap (λ (n : ℕ). slice_set servers (suc place - 1) (suc n)) (count_here count at)))
+      pub place_waits : ready ≡ false → IsNext v.journals v.order (parts.Server (suc place)) → ⊥
+      place_waits waits =
+          subst (λ (w : PlacingView). IsNext w.journals w.order (parts.Server (suc place)) → ⊥) view_is
+          (server_waits journals order servers desk stands wanted met is (suc place) entries e here there (told ∙ waits))
+
+      pub place_more : ready ≡ true → (after : List Part) → after ≡ order ++ parts.Server (place + 1) ∷ []
+          → IsPlacing journals after (slice_set servers place (count + 1)) desk stands wanted met × (suc (entries_left journals after) ≡ entries_left v.journals v.order)
+      place_more is_so after entered =
+          let next = server_next journals order servers desk stands wanted met is (suc place) entries e here there (told ∙ is_so) in
+          let number : place + 1 ≡ suc place = omega arith in
+          let before : suc place - 1 ≡ place = omega arith in
+          let one : count + 1 ≡ suc count = omega arith in
+          let order_is : after ≡ order ++ parts.Server (suc place) ∷ [] = entered ∙ ap (λ (n : ℕ). order ++ parts.Server n ∷ []) number in (
+            subst (λ (o : List Part). IsPlacing journals o (slice_set servers place (count + 1)) desk stands wanted met) (sym order_is)
+                (server_more journals order servers desk stands wanted met is (suc place) (slice_set servers place (count + 1)) next
+                ((λ i. slice_set servers (sym before i) (one i)) ∙ ap (λ (n : ℕ). slice_set servers (suc place - 1) (suc n)) (count_here count at))),
+            ap (λ (o : List Part). suc (entries_left journals o)) order_is
+                ∙ left_less journals order (parts.Server (suc place)) (λ e. let h : Path Part (parts.Server (suc place)) parts.View = e in cc) next
+                ∙ ap (λ (w : PlacingView). entries_left w.journals w.order) view_is,
+          )
 
 -- ---- the desk in the code's words
 
-module _ (journals : JournalsView) (order : List Part) (servers : List ℕ) (desk : ℕ) (stands : Bool) (wanted : List CitedVote) (met : ℕ) (is : IsPlacing journals order servers desk stands wanted met) where
-  pub never : desk < length journals.desk → stands ≡ false → IsNext journals order parts.Desk → ⊥
-  never less not_there = let e = has_get journals.desk desk less in desk_never journals order servers desk stands wanted met is e.0 e.1 not_there
+module _ (journals : JournalsView) (order : List Part) (servers : List ℕ) (desk : ℕ) (stands : Bool) (wanted : List CitedVote) (met : ℕ) (is : IsPlacing journals order servers desk stands wanted met)
+    (v : PlacingView) (view_is : Path PlacingView (record { journals = journals; order = order }) v) (entries : List DeskEntry) (entries_are : entries ≡ journals.desk) (less : desk < length entries) where
+  e_there : (e : DeskEntry) × (slice_get journals.desk desk ≡ Some e)
+  e_there = has_get journals.desk desk (subst (λ (es : List DeskEntry). desk < length es) entries_are less)
+
+  pub never : stands ≡ false → IsNext v.journals v.order parts.Desk → ⊥
+  never not_there =
+      subst (λ (w : PlacingView). IsNext w.journals w.order parts.Desk → ⊥) view_is
+      (desk_never journals order servers desk stands wanted met is e_there.0 e_there.1 not_there)
 
   module _ (cited : List CitedVote) (counts : List ℕ) (cited_is : cited ≡ wanted) (counts_are : counts ≡ servers) (found : ℕ) (fits : found ≤ length cited)
       (seen : (entry : CitedVote) → Has (take found cited) entry → Has (take met cited) entry ⊎ (is_placed counts entry ≡ true)) where
     pub seen_more : IsPlacing journals order servers desk stands wanted found
     seen_more =
         met_more journals order servers desk stands wanted met is found (subst (λ (w : List CitedVote). found ≤ length w) cited_is fits)
-        (subst (λ (cs : List ℕ). (entry : CitedVote) → Has (take found wanted) entry → Has (take met wanted) entry ⊎ (is_placed cs entry ≡ true)) counts_are
-        (subst (λ (w : List CitedVote). (entry : CitedVote) → Has (take found w) entry → Has (take met w) entry ⊎ (is_placed counts entry ≡ true)) cited_is seen))
+        (transport (λ i. (entry : CitedVote) → Has (take found (cited_is i)) entry → Has (take met (cited_is i)) entry ⊎ (is_placed (counts_are i) entry ≡ true)) seen)
 
-    pub waits : desk < length journals.desk → (entry : CitedVote) × Has cited entry × (is_placed counts entry ≡ false) → IsNext journals order parts.Desk → ⊥
-    waits less missing =
-        let e = has_get journals.desk desk less in
-        desk_waits journals order servers desk stands wanted met is e.0 e.1 missing.0 (subst (λ (w : List CitedVote). Has w missing.0) cited_is missing.1)
+    pub waits : (entry : CitedVote) × Has cited entry × (is_placed counts entry ≡ false) → IsNext journals order parts.Desk → ⊥
+    waits missing =
+        desk_waits journals order servers desk stands wanted met is e_there.0 e_there.1 missing.0 (subst (λ (w : List CitedVote). Has w missing.0) cited_is missing.1)
         (ap (λ (cs : List ℕ). is_placed cs missing.0) (sym counts_are) ∙ missing.2)
 
-    desk_ready : desk < length journals.desk → stands ≡ true → length cited ≤ found → IsNext journals order parts.Desk
-    desk_ready less there all =
-        let e = has_get journals.desk desk less in
-        desk_next journals order servers desk stands wanted found seen_more e.0 e.1 there (subst (λ (w : List CitedVote). length w ≤ found) cited_is all)
-
-    pub desk_placed : desk < length journals.desk → stands ≡ true → length cited ≤ found → (newly : Bool) (fresh : List CitedVote) → IsNextWanted journals (desk + 1) newly fresh
-        → (after : List Part) → after ≡ order ++ parts.Desk ∷ [] → IsPlacing journals after servers (desk + 1) newly fresh 0
-    desk_placed less there all newly fresh next after entered =
+    pub desk_placed : stands ≡ true → length cited ≤ found → (newly : Bool) (fresh : List CitedVote) → IsNextWanted journals (desk + 1) newly fresh → (after : List Part) → after ≡ order ++ parts.Desk ∷ []
+        → IsPlacing journals after servers (desk + 1) newly fresh 0 × (suc (entries_left journals after) ≡ entries_left v.journals v.order)
+    desk_placed there all newly fresh next after entered =
         let at : suc desk ≡ desk + 1 = omega arith in
-        subst (λ (o : List Part). IsPlacing journals o servers (desk + 1) newly fresh 0) (sym entered)
-        (subst (λ (n : ℕ). IsPlacing journals (order ++ parts.Desk ∷ []) servers n newly fresh 0) at
-        (desk_more journals order servers desk stands wanted found seen_more newly fresh (desk_ready less there all) (subst (λ (n : ℕ). IsNextWanted journals n newly fresh) (sym at) next)))
-
-    pub desk_less : desk < length journals.desk → stands ≡ true → length cited ≤ found → (after : List Part) → after ≡ order ++ parts.Desk ∷ [] → suc (entries_left journals after) ≡ entries_left journals order
-    desk_less less there all after entered =
-        ap (λ (o : List Part). suc (entries_left journals o)) entered
-        ∙ left_less journals order parts.Desk (λ e. let h : Path Part parts.Desk parts.View = e in cc) (desk_ready less there all)
+        let ready = desk_next journals order servers desk stands wanted found seen_more e_there.0 e_there.1 there (subst (λ (w : List CitedVote). length w ≤ found) cited_is all) in (
+          transport (λ i. IsPlacing journals (sym entered i) servers (at i) newly fresh 0)
+              (desk_more journals order servers desk stands wanted found seen_more newly fresh ready (subst (λ (n : ℕ). IsNextWanted journals n newly fresh) (sym at) next)),
+          ap (λ (o : List Part). suc (entries_left journals o)) entered
+              ∙ left_less journals order parts.Desk (λ e. let h : Path Part parts.Desk parts.View = e in cc) ready
+              ∙ ap (λ (w : PlacingView). entries_left w.journals w.order) view_is,
+        )

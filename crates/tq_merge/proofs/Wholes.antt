@@ -33,10 +33,6 @@ each_map f h first (x ∷ items) same =
     let at : first ≡ first + 0 = omega arith in
     λ i. (ap (λ (n : ℕ). f n x) at ∙ same 0 x refl) i ∷ each_map f h (first + 1) items (λ place y is. ap (λ (n : ℕ). f n y) (omega arith) ∙ same (suc place) y is) i
 
-pub lengths : {V : Type 0} (items : V → List NodeEntry) (vectors : List V) → map (λ v. length (items v)) vectors ≡ map length (map items vectors)
-lengths items [] = refl
-lengths items (v ∷ vectors) = ap (λ (rest : List ℕ). length (items v) ∷ rest) (lengths items vectors)
-
 module _ (journals : JournalsView) (order : List Part) (servers : List ℕ) (desk : ℕ) (stands : Bool) (wanted : List CitedVote) (met : ℕ) (is : IsPlacing journals order servers desk stands wanted met) where
   pub all_placed : desk ≡ length journals.desk → servers ≡ map length journals.servers → (part : Part) → times order part ≡ entries_of journals part
   all_placed desk_is servers_are (parts.Server server) =

@@ -3,7 +3,7 @@ use Rattle.std.specs.List.{All, sum_by}
 use Rattle.std.specs.Prelude.{not, count_by, take}
 use Rattle.std.proofs.lemmas.List.{take_all}
 use Rattle.tq_merge.specs.EntryNames.{AreDifferent}
-use Rattle.tq_merge.proofs.Marked.{KeepsMarks, next_twice, next_keeps, next_different, all_short, unnamed_is}
+use Rattle.tq_merge.proofs.Marked.{KeepsMarks, next_twice, next_once, all_short, unnamed_is}
 use Rattle.tq_merge.proofs.claimed.claim.Goals as goal
 
 pub returns-then-not-name : goal.returns-then-not-name
@@ -13,15 +13,9 @@ returns-then-not-name c =
 
 pub loop-name-preserved : goal.loop-name-preserved
 loop-name-preserved c =
-    record {
-      keeps =
-          next_keeps c.args.counts.now c.loop-name.marks.items c.args.names.now c.loop-name.name-index _ c.place_of-place.result c.index_mut.result.now c.name.new.self c.name.result
-          c.loop-name.invariant.keeps c.loop-name-test.true c.requires.within c.place_of-place.ensures.value c.index_mut.ensures.value c.name.ensures.fresh c.name.ensures.named;
-      different =
-          next_different c.args.counts.now c.loop-name.marks.items c.args.names.now c.loop-name.name-index _ c.place_of-place.result c.index_mut.result.now c.name.new.self c.name.result
-          c.loop-name.invariant.keeps c.loop-name-test.true c.requires.within c.place_of-place.ensures.value c.index_mut.ensures.value c.name.ensures.fresh c.name.ensures.named c.if-not-name.false
-          c.loop-name.invariant.different;
-    }
+    let now = next_once c.args.counts.now c.loop-name.marks.items c.args.names.now c.loop-name.name-index _ c.place_of-place.result c.index_mut.result.now c.name.new.self c.name.result
+    c.loop-name.invariant.keeps c.loop-name-test.true c.requires.within c.place_of-place.ensures.value c.index_mut.ensures.value c.name.ensures.fresh c.name.ensures.named c.if-not-name.false c.loop-name.invariant.different in
+    record { keeps = now.0; different = now.1 }
 
 pub unnamed_in-unclaimed-requires-clause-short : goal.unnamed_in-unclaimed-requires-clause-short
 unnamed_in-unclaimed-requires-clause-short c =

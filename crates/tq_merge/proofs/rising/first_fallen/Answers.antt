@@ -1,5 +1,5 @@
 use Rattle.std.proofs.Common.{◌≡◌, length, arith}
-use Rattle.tq_merge.proofs.LastNumbers.{next_fallen, next_keeps, next_rises}
+use Rattle.tq_merge.proofs.LastNumbers.{next_fallen, next_rises}
 use Rattle.tq_merge.proofs.rising.first_fallen.Goals as goal
 
 pub returns-then-name-index : goal.returns-then-name-index
@@ -13,12 +13,6 @@ pub loop-name-preserved : goal.loop-name-preserved
 loop-name-preserved c =
     let last = c.loop-name.last in
     let one_each : length last.items ≡ length c.args.counts.now = omega (arith, last.ok.0, c.loop-name.invariant.one_each) in
-    record {
-      one_each = c.loop-name.invariant.one_each;
-      rise =
-          next_rises last.items c.args.counts.now c.args.names.now c.loop-name.name-index _ c.place_of-place.result c.index.result.now c.loop-name.invariant.keeps c.loop-name-test.true
-          c.requires c.place_of-place.ensures.value c.index.ensures one_each (omega (arith, c.if-name-index.false)) c.loop-name.invariant.rise;
-      keeps =
-          next_keeps last.items c.args.counts.now c.args.names.now c.loop-name.name-index _ c.place_of-place.result c.index.result.now c.loop-name.invariant.keeps c.loop-name-test.true
-          c.requires c.place_of-place.ensures.value c.index.ensures one_each (omega (arith, c.if-name-index.false));
-    }
+    let now = next_rises last.items c.args.counts.now c.args.names.now c.loop-name.name-index _ c.place_of-place.result c.index.result.now c.loop-name.invariant.keeps c.loop-name-test.true
+    c.requires c.place_of-place.ensures.value c.index.ensures one_each (omega (arith, c.if-name-index.false)) c.loop-name.invariant.rise in
+    record { one_each = c.loop-name.invariant.one_each; rise = now.1; keeps = now.0 }

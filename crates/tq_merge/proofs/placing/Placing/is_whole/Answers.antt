@@ -6,7 +6,8 @@ use Rattle.tq_node.specs.NodeJournal.{NodeEntry}
 use Rattle.tq_merge.specs.Order.{times, entries_of}
 use Rattle.tq_merge.specs.Placing.{PlacingView}
 use Rattle.tq_merge.proofs.Places.{length_each}
-use Rattle.tq_merge.proofs.Wholes.{all_placed, not_desk, not_servers, lengths}
+use Rattle.tq_merge.proofs.Telling.{each_length}
+use Rattle.tq_merge.proofs.Wholes.{all_placed, not_desk, not_servers}
 use Rattle.tq_merge.proofs.placing.Placing.is_whole.Goals as goal
 
 pub returns-then-self-desk-clause-left : goal.returns-then-self-desk-clause-left
@@ -24,11 +25,11 @@ returns-clause-whole c = λ is.
     let counts = c.are_all.ensures.0 is in
     subst (λ (v : PlacingView). (part : Part) → times v.order part ≡ entries_of v.journals part) c.self.view_is
     (all_placed _ _ _ _ _ _ _ c.self.invariant (c.if-self-desk.false ∙ ap length c.desk.ensures.value)
-    (sym c.as_slice.ensures.value ∙ counts ∙ lengths (λ entries. entries.items) c.servers.result.now ∙ ap (λ (all : List (List NodeEntry)). map length all) c.servers.ensures.value))
+    (sym c.as_slice.ensures.value ∙ counts ∙ each_length (λ entries. entries.items) c.servers.result.now ∙ ap (λ (all : List (List NodeEntry)). map length all) c.servers.ensures.value))
 
 pub returns-clause-left : goal.returns-clause-left
 returns-clause-left c = λ is.
     subst (λ (v : PlacingView). ((part : Part) → times v.order part ≡ entries_of v.journals part) → ⊥) c.self.view_is
     (not_servers _ _ _ _ _ _ _ c.self.invariant (λ same.
     false≢true (sym is ∙ c.are_all.ensures.1
-    (c.as_slice.ensures.value ∙ same ∙ ap (λ (all : List (List NodeEntry)). map length all) (sym c.servers.ensures.value) ∙ sym (lengths (λ entries. entries.items) c.servers.result.now)))))
+    (c.as_slice.ensures.value ∙ same ∙ ap (λ (all : List (List NodeEntry)). map length all) (sym c.servers.ensures.value) ∙ sym (each_length (λ entries. entries.items) c.servers.result.now)))))
