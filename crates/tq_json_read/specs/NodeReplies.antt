@@ -70,7 +70,7 @@ bare_reply kind =
 abbrev pub reply_by : Option (List ℕ) → ReplyMembers → Option NodeReply
 reply_by kind members = do
   kind ← kind
-  cond (bytes_eq kind (codes "granted_reply")) (granted_reply members.version members.content)
+  cond (bytes_eq kind (codes "granted")) (granted_reply members.version members.content)
       (cond (bytes_eq kind (codes "yes")) (yes_vote members.held members.writes)
       (cond (bytes_eq kind (codes "copy")) (copy members.version members.content)
       (cond (bytes_eq kind (codes "refused")) (refused members.code members.by members.file) (bare_reply kind))))

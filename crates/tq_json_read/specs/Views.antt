@@ -116,7 +116,7 @@ view_reply_by levels kind code cost servers = do
   kind ← kind
   cond (bytes_eq kind (codes "costset")) (Some CostSet)
       (cond (bytes_eq kind (codes "marked")) (Some Marked)
-      (cond (bytes_eq kind (codes "chosen_reply")) (chosen_reply levels cost servers)
+      (cond (bytes_eq kind (codes "chosen")) (chosen_reply levels cost servers)
       (cond (bytes_eq kind (codes "refused")) (view_refused levels code servers) None)))
 
 -- the reply that a value of the form is
